@@ -1,0 +1,119 @@
+-- Lists that are a set's members.
+use Rattle.std.specs.Prelude.{◌≡◌, ℕ, zero, suc, ◌≤◌, List, [], ◌∷◌, ◌++◌, take, drop, map, Some, max, slice_get, length, ◌<◌}
+use Rattle.std.proofs.Common.{slice_index_or}
+use Rattle.std.specs.List.{AllByRecursion, insert, remove}
+use Rattle.std.specs.List.Sorted.{IsStrictlySortedBy}
+use Rattle.std.specs.declared.cmp.Ordering.TheVariants.{Less}
+use Rattle.std.specs.Option.{unwrap_or, option_map}
+use Rattle.std.proofs.Common.{arith, ap, sym, ◌∙◌, subst}
+use Rattle.std.proofs.lemmas.Option.{none-some, slice_get-map}
+use Rattle.std.specs.Result.{OnOk, OnErr, IfOk}
+use Rattle.std.specs.Prelude.{Result, Ok, Err}
+use Rattle.setl_value.specs.declared.Value.{Value}
+use Rattle.setl_value.specs.Shown.{datum}
+use Rattle.std.proofs.lemmas.List.{map-append, take-map, drop-map}
+use Rattle.setl_value.specs.Datum.{Datum, set, depth, members_depth, members_of, member_list-members_of}
+use Rattle.setl_value.specs.Order.{order, IsRising}
+use Rattle.setl_value.specs.Stands.{Stands, MembersStand, IsValue, IsSetList}
+
+-- a member of some set
+abbrev pub IsMember : Datum → Type 0
+IsMember d = Stands d × (depth d ≤ 499)
+
+members_in : (ds : List Datum) → MembersStand (members_of ds) → members_depth (members_of ds) ≤ 499 → AllByRecursion IsMember ds
+members_in [] s p = tt
+members_in (d ∷ ds) s p = ((s.0, omega arith), members_in ds s.1 (omega arith))
+
+members_out : (ds : List Datum) → AllByRecursion IsMember ds → MembersStand (members_of ds) × (members_depth (members_of ds) ≤ 499)
+members_out [] a = (tt, omega arith)
+members_out (d ∷ ds) a = let r = members_out ds a.1 in ((a.0.0, r.0), omega (arith, a.0.1, r.1))
+
+pub set_facts : (ds : List Datum) → IsSetList ds → AllByRecursion IsMember ds × IsRising ds
+set_facts ds h = (members_in ds h.0.0 (omega (arith, h.1)), subst IsRising (member_list-members_of ds) h.0.1)
+
+pub set_made : (ds : List Datum) → AllByRecursion IsMember ds → IsRising ds → IsSetList ds
+set_made ds a r = let m = members_out ds a in ((m.0, subst IsRising (sym (member_list-members_of ds)) r), omega (arith, m.1))
+
+pub set_empty : IsSetList []
+unfolding IsStrictlySortedBy
+set_empty = set_made [] tt tt
+
+-- ---- lists
+
+pub all_at : {X : Type 0} (P : X → Type 0) (xs : List X) (i : ℕ) (x : X) → AllByRecursion P xs → slice_get xs i ≡ Some x → P x
+all_at P [] i x a e = absurd (none-some x e)
+all_at P (y ∷ xs) zero x a e = subst P (ap (λ o. unwrap_or o y) e) a.0
+all_at P (y ∷ xs) (suc i) x a e = all_at P xs i x a.1 e
+
+pub all_remove : {X : Type 0} (P : X → Type 0) (xs : List X) (i : ℕ) → AllByRecursion P xs → AllByRecursion P (remove xs i)
+all_remove P [] zero a = tt
+all_remove P [] (suc i) a = tt
+all_remove P (x ∷ xs) zero a = a.1
+all_remove P (x ∷ xs) (suc i) a = (a.0, all_remove P xs i a.1)
+
+pub sorted_remove : (xs : List Datum) (i : ℕ) → IsRising xs → IsRising (remove xs i)
+unfolding IsStrictlySortedBy
+sorted_remove [] zero a = tt
+sorted_remove [] (suc i) a = tt
+sorted_remove (x ∷ xs) zero a = a.1
+sorted_remove (x ∷ xs) (suc i) a = (all_remove (λ y. order x y ≡ Less) xs i a.0, sorted_remove xs i a.1)
+
+pub map-insert : {X Y : Type 0} (f : X → Y) (xs : List X) (i : ℕ) (x : X) → map f (insert xs i x) ≡ insert (map f xs) i (f x)
+map-insert f xs i x = map-append f (take i xs) (x ∷ drop i xs) ∙ (λ k. sym (take-map f i xs) k ++ f x ∷ sym (drop-map f i xs) k)
+
+pub map-remove : {X Y : Type 0} (f : X → Y) (xs : List X) (i : ℕ) → map f (remove xs i) ≡ remove (map f xs) i
+map-remove f xs i = map-append f (take i xs) (drop (suc i) xs) ∙ (λ k. sym (take-map f i xs) k ++ sym (drop-map f (suc i) xs) k)
+
+pub set_at : (ds : List Datum) (i : ℕ) (d : Datum) → IsSetList ds → slice_get ds i ≡ Some d → IsValue d
+set_at ds i d h e = let m = all_at IsMember ds i d (set_facts ds h).0 e in (m.0, omega (arith, m.1))
+
+pub set_remove : (ds : List Datum) (i : ℕ) → IsSetList ds → IsSetList (remove ds i)
+set_remove ds i h = let f = set_facts ds h in set_made (remove ds i) (all_remove IsMember ds i f.0) (sorted_remove ds i f.1)
+
+-- the invariant after a change that may be refused
+pub set_after : {A E : Type 0} (r : Result A E) (new old fine : List Value) → OnOk r (new ≡ fine) → OnErr r (new ≡ old) → IsSetList (map datum fine) → IsSetList (map datum old) → IsSetList (map datum new)
+set_after (Ok a) new old fine e f g h = subst (λ l. IsSetList (map datum l)) (sym e) g
+set_after (Err a) new old fine e f g h = subst (λ l. IsSetList (map datum l)) (sym f) h
+
+pub ok_then : {A E P Q : Type 0} (r : Result A E) → OnOk r P → (P → Q) → OnOk r Q
+ok_then (Ok a) p f = f p
+ok_then (Err e) p f = tt
+
+pub cut_told : {E : Type 0} (r : Result Value E) (xs new : List Value) (i : ℕ) (ds : List Datum) → map datum xs ≡ ds
+    → IfOk r (λ v. slice_get xs i ≡ Some v) → OnOk r (new ≡ remove xs i)
+    → IfOk r (λ v. (slice_get ds i ≡ Some (datum v)) × (map datum new ≡ remove ds i))
+cut_told (Ok v) xs new i ds w t e = (
+  ap (λ l. slice_get l i) (sym w) ∙ slice_get-map datum xs i ∙ ap (option_map datum) t,
+  ap (map datum) e ∙ map-remove datum xs i ∙ ap (λ l. remove l i) w,
+)
+cut_told (Err e) xs new i ds w t f = tt
+
+-- a member that is there
+pub member_there : {X : Type 0} (xs : List X) (i : ℕ) (x : X) → i < length xs → x ≡ slice_index_or xs i x → slice_get xs i ≡ Some x
+member_there [] i x p e = absurd (omega arith)
+member_there (y ∷ xs) zero x p e = ap Some (sym e)
+member_there (y ∷ xs) (suc i) x p e = member_there xs i x (omega arith) e
+
+pub all_insert : {X : Type 0} (P : X → Type 0) (xs : List X) (i : ℕ) (x : X) → AllByRecursion P xs → P x → AllByRecursion P (insert xs i x)
+all_insert P [] zero x a p = (p, tt)
+all_insert P [] (suc i) x a p = (p, tt)
+all_insert P (y ∷ xs) zero x a p = (p, a)
+all_insert P (y ∷ xs) (suc i) x a p = (a.0, all_insert P xs i x a.1 p)
+
+stand_in : (ds : List Datum) → MembersStand (members_of ds) → AllByRecursion Stands ds
+stand_in [] s = tt
+stand_in (d ∷ ds) s = (s.0, stand_in ds s.1)
+
+stand_out : (ds : List Datum) → AllByRecursion Stands ds → MembersStand (members_of ds)
+stand_out [] s = tt
+stand_out (d ∷ ds) s = (s.0, stand_out ds s.1)
+
+pub set_insert : (ds : List Datum) (i : ℕ) (d : Datum) → IsSetList ds → IsValue d → IsRising (insert ds i d) → depth (set (members_of (insert ds i d))) ≤ 500 → IsSetList (insert ds i d)
+set_insert ds i d h v r p =
+    ((stand_out (insert ds i d) (all_insert Stands ds i d (stand_in ds h.0.0) v.0), subst IsRising (sym (member_list-members_of (insert ds i d))) r), p)
+
+pub depth_insert : (ds : List Datum) (i : ℕ) (d : Datum) → members_depth (members_of (insert ds i d)) ≡ max (members_depth (members_of ds)) (depth d)
+depth_insert [] zero d = omega arith
+depth_insert [] (suc i) d = omega arith
+depth_insert (e ∷ ds) zero d = omega arith
+depth_insert (e ∷ ds) (suc i) d = omega (arith, depth_insert ds i d)

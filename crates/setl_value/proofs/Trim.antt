@@ -1,0 +1,166 @@
+-- Lists of components, without the `om` at their end.
+use Rattle.std.specs.Prelude.{◌≡◌, ℕ, zero, suc, ◌+◌, ◌≤◌, ◌<◌, List, [], ◌∷◌, ◌++◌, take, map, refl, length, Option, Some, None, is_some, true, false, max}
+use Rattle.std.proofs.Common.{arith, ap, sym, ◌∙◌, subst, slice_index_or}
+use Rattle.std.proofs.lemmas.Bool.{true≢false}
+use Rattle.std.proofs.lemmas.List.{map-append, length-map}
+use Rattle.std.proofs.lemmas.Option.{slice_get-map}
+use Rattle.std.specs.Option.{option_map}
+use Rattle.std.specs.List.{remove}
+use Rattle.std.specs.Prelude.{slice_get, IfOk, ◌-◌}
+use Rattle.setl_value.proofs.Bodies.{all_remove, map-remove}
+use Rattle.std.specs.List.{AllByRecursion}
+use Rattle.std.specs.Prelude.{slice_set, Result, Ok, Err, OnOk, OnErr}
+use Rattle.setl_value.specs.Datum.{Datum, tuple, depth, parts_depth, parts_of, part_list-parts_of}
+use Rattle.setl_value.specs.declared.Value.{Value}
+use Rattle.setl_value.specs.Shown.{part}
+use Rattle.setl_value.specs.Stands.{trim, trim_onto, PartStands, PartsStand, IsTrimmed, IsTupleList, put}
+
+pub take_next : {X : Type 0} (xs : List X) (i : ℕ) (x : X) → i < length xs → x ≡ slice_index_or xs i x → take (i + 1) xs ≡ take i xs ++ x ∷ []
+take_next xs i x p e = subst (λ j. take j xs ≡ take i xs ++ x ∷ []) {x = suc i} (omega arith) (next xs i x p e)
+  where
+    next : {X : Type 0} (xs : List X) (i : ℕ) (x : X) → i < length xs → x ≡ slice_index_or xs i x → take (suc i) xs ≡ take i xs ++ x ∷ []
+    next [] i x p e = absurd (omega arith)
+    next (y ∷ xs) zero x p e = ap (λ z. z ∷ []) (sym e)
+    next (y ∷ xs) (suc i) x p e = ap (λ l. y ∷ l) (next xs i x (omega arith) e)
+
+pub trim_om : (ps : List (Option Datum)) → trim (ps ++ None ∷ []) ≡ trim ps
+trim_om [] = refl
+trim_om (p ∷ ps) = ap (trim_onto p) (trim_om ps)
+
+onto_more : (p : Option Datum) (ps : List (Option Datum)) (d : Datum) → trim_onto p (ps ++ Some d ∷ []) ≡ p ∷ (ps ++ Some d ∷ [])
+onto_more (Some c) ps d = refl
+onto_more None [] d = refl
+onto_more None (q ∷ ps) d = refl
+
+pub trim_some : (ps : List (Option Datum)) (d : Datum) → trim (ps ++ Some d ∷ []) ≡ ps ++ Some d ∷ []
+trim_some [] d = refl
+trim_some (p ∷ ps) d = ap (trim_onto p) (trim_some ps d) ∙ onto_more p ps d
+
+pub next_there : (ps : List (Option Datum)) (p : Option Datum) → is_some p ≡ true → trim (ps ++ p ∷ []) ≡ ps ++ p ∷ []
+next_there ps None e = absurd (true≢false (sym e))
+next_there ps (Some d) e = trim_some ps d
+
+pub next_om : (ps : List (Option Datum)) (p : Option Datum) → is_some p ≡ false → trim (ps ++ p ∷ []) ≡ trim ps
+next_om ps None e = trim_om ps
+next_om ps (Some d) e = absurd (true≢false e)
+
+-- ---- what `trim` keeps
+
+onto_stands : (p : Option Datum) (ps : List (Option Datum)) → PartStands p → AllByRecursion PartStands ps → AllByRecursion PartStands (trim_onto p ps)
+onto_stands None [] s a = tt
+onto_stands None (q ∷ ps) s a = (s, a)
+onto_stands (Some d) ps s a = (s, a)
+
+trim_stands : (ps : List (Option Datum)) → AllByRecursion PartStands ps → AllByRecursion PartStands (trim ps)
+trim_stands [] a = tt
+trim_stands (p ∷ ps) a = onto_stands p (trim ps) a.0 (trim_stands ps a.1)
+
+onto_trimmed : (p : Option Datum) (ps : List (Option Datum)) → IsTrimmed ps → IsTrimmed (trim_onto p ps)
+onto_trimmed None [] s = tt
+onto_trimmed None (q ∷ ps) s = s
+onto_trimmed (Some d) [] s = tt
+onto_trimmed (Some d) (q ∷ ps) s = s
+
+trim_trimmed : (ps : List (Option Datum)) → IsTrimmed (trim ps)
+trim_trimmed [] = tt
+trim_trimmed (p ∷ ps) = onto_trimmed p (trim ps) (trim_trimmed ps)
+
+onto_depth : (p : Option Datum) (ps : List (Option Datum)) → parts_depth (parts_of (trim_onto p ps)) ≡ parts_depth (parts_of (p ∷ ps))
+onto_depth None [] = refl
+onto_depth None (q ∷ ps) = refl
+onto_depth (Some d) ps = refl
+
+pub trim_depth : (ps : List (Option Datum)) → parts_depth (parts_of (trim ps)) ≡ parts_depth (parts_of ps)
+trim_depth [] = refl
+trim_depth (None ∷ ps) = onto_depth None (trim ps) ∙ trim_depth ps
+trim_depth (Some d ∷ ps) = ap (max (depth d)) (trim_depth ps)
+
+parts_out : (ps : List (Option Datum)) → AllByRecursion PartStands ps → PartsStand (parts_of ps)
+parts_out [] a = tt
+parts_out (None ∷ ps) a = parts_out ps a.1
+parts_out (Some d ∷ ps) a = (a.0, parts_out ps a.1)
+
+pub tuple_made : (ps : List (Option Datum)) → AllByRecursion PartStands ps → depth (tuple (parts_of ps)) ≤ 500 → IsTupleList (trim ps)
+tuple_made ps a p = (
+  (parts_out (trim ps) (trim_stands ps a), subst IsTrimmed (sym (part_list-parts_of (trim ps))) (trim_trimmed ps)),
+  omega (arith, trim_depth ps, p),
+)
+
+-- ---- the loop of `kept`
+
+abbrev pub Kept : List (Option Value) → ℕ → ℕ → Type 0
+Kept xs n i = (map part (take n xs) ≡ trim (map part (take i xs))) × (n ≤ i)
+
+one_more : (xs : List (Option Value)) (i : ℕ) (x : Option Value) → i < length xs → x ≡ slice_index_or xs i x → map part (take (i + 1) xs) ≡ map part (take i xs) ++ part x ∷ []
+one_more xs i x p e = ap (map part) (take_next xs i x p e) ∙ map-append part (take i xs) (x ∷ [])
+
+pub kept_there : (xs : List (Option Value)) (n i m : ℕ) (x : Option Value) → i < length xs → x ≡ slice_index_or xs i x → is_some (part x) ≡ true → m ≡ i + 1 → Kept xs m (i + 1)
+kept_there xs n i m x p e t h =
+    let more = one_more xs i x p e in
+    subst (λ j. Kept xs j (i + 1)) (sym h)
+    (more ∙ sym (next_there (map part (take i xs)) (part x) t) ∙ sym (ap trim more), omega arith)
+
+pub kept_om : (xs : List (Option Value)) (n i m : ℕ) (x : Option Value) → i < length xs → x ≡ slice_index_or xs i x → is_some (part x) ≡ false → m ≡ n → Kept xs n i → Kept xs m (i + 1)
+kept_om xs n i m x p e t h k =
+    let more = one_more xs i x p e in
+    subst (λ j. Kept xs j (i + 1)) (sym h)
+    (k.0 ∙ sym (next_om (map part (take i xs)) (part x) t) ∙ sym (ap trim more), omega (arith, k.1))
+
+-- ---- `put`
+
+pub put_set : (xs : List (Option Value)) (i : ℕ) (v : Option Value) → i < length xs → map part (slice_set xs i v) ≡ put (map part xs) i (part v)
+put_set [] i v p = absurd (omega arith)
+put_set (x ∷ xs) zero v p = refl
+put_set (x ∷ xs) (suc i) v p = ap (λ l. part x ∷ l) (put_set xs i v (omega arith))
+
+pub put_push : (xs : List (Option Value)) (i : ℕ) (v : Option Value) → i ≤ length xs → length xs ≤ i → map part (xs ++ v ∷ []) ≡ put (map part xs) i (part v)
+put_push [] i v p q = refl
+put_push (x ∷ xs) zero v p q = absurd (omega arith)
+put_push (x ∷ xs) (suc i) v p q = ap (λ l. part x ∷ l) (put_push xs i v (omega arith) (omega arith))
+
+put_stands : (ps : List (Option Datum)) (i : ℕ) (p : Option Datum) → AllByRecursion PartStands ps → PartStands p → AllByRecursion PartStands (put ps i p)
+put_stands [] i p a s = (s, tt)
+put_stands (q ∷ ps) zero p a s = (s, a.1)
+put_stands (q ∷ ps) (suc i) p a s = (a.0, put_stands ps i p a.1 s)
+
+parts_in : (ps : List (Option Datum)) → PartsStand (parts_of ps) → AllByRecursion PartStands ps
+parts_in [] s = tt
+parts_in (None ∷ ps) s = (tt, parts_in ps s)
+parts_in (Some d ∷ ps) s = (s.0, parts_in ps s.1)
+
+pub tuple_put : (ps : List (Option Datum)) (i : ℕ) (p : Option Datum) → IsTupleList ps → PartStands p → depth (tuple (parts_of (put ps i p))) ≤ 500 → IsTupleList (trim (put ps i p))
+tuple_put ps i p h s d = tuple_made (put ps i p) (put_stands ps i p (parts_in ps h.0.0) s) d
+
+-- the invariant after a change that may be refused
+pub tuple_after : {A E : Type 0} (r : Result A E) (new old : List (Option Datum)) (fine : List (Option Datum)) → OnOk r (new ≡ fine) → OnErr r (new ≡ old) → IsTupleList fine → IsTupleList old → IsTupleList new
+tuple_after (Ok a) new old fine e f g h = subst IsTupleList (sym e) g
+tuple_after (Err a) new old fine e f g h = subst IsTupleList (sym f) h
+
+pub err_map : {A E : Type 0} (r : Result A E) (xs ys : List (Option Value)) → OnErr r (xs ≡ ys) → OnErr r (map part xs ≡ map part ys)
+err_map (Ok a) xs ys e = tt
+err_map (Err a) xs ys e = ap (map part) e
+
+less_deep : (ps : List (Option Datum)) (i n : ℕ) → parts_depth (parts_of ps) ≤ n → parts_depth (parts_of (remove ps i)) ≤ n
+less_deep [] zero n h = h
+less_deep [] (suc i) n h = h
+less_deep (None ∷ ps) zero n h = h
+less_deep (Some d ∷ ps) zero n h = omega (arith, h)
+less_deep (None ∷ ps) (suc i) n h = less_deep ps i n h
+less_deep (Some d ∷ ps) (suc i) n h = omega (arith, h, less_deep ps i n (omega (arith, h)))
+
+pub tuple_remove : (ps : List (Option Datum)) (i : ℕ) → IsTupleList ps → IsTupleList (trim (remove ps i))
+tuple_remove ps i h = tuple_made (remove ps i) (all_remove PartStands ps i (parts_in ps h.0.0)) (omega (arith, less_deep ps i 499 (omega (arith, h.1))))
+
+pub last_told : {E : Type 0} (r : Result (Option Value) E) (xs : List (Option Value)) (ps : List (Option Datum)) → map part xs ≡ ps
+    → IfOk r (λ p. slice_get xs (length xs - 1) ≡ Some p) → IfOk r (λ p. slice_get ps (length ps - 1) ≡ Some (part p))
+last_told (Ok p) xs ps w h =
+    let n : length ps ≡ length xs = ap length (sym w) ∙ length-map xs part in
+    ap (λ l. slice_get l (length ps - 1)) (sym w) ∙ ap (λ k. slice_get (map part xs) (k - 1)) n ∙ slice_get-map part xs (length xs - 1) ∙ ap (option_map part) h
+last_told (Err e) xs ps w h = tt
+
+pub last_cut : {A E : Type 0} (r : Result A E) (ys : List (Option Datum)) (xs : List (Option Value)) (ps : List (Option Datum)) → map part xs ≡ ps
+    → OnOk r (ys ≡ trim (map part (remove xs (length xs - 1)))) → OnOk r (ys ≡ trim (remove ps (length ps - 1)))
+last_cut (Ok a) ys xs ps w h =
+    let n : length xs ≡ length ps = sym (length-map xs part) ∙ ap length w in
+    h ∙ ap trim (map-remove part xs (length xs - 1) ∙ ap (λ l. remove l (length xs - 1)) w ∙ ap (λ k. remove ps (k - 1)) n)
+last_cut (Err e) ys xs ps w h = tt
