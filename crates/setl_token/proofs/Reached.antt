@@ -17,10 +17,10 @@ abbrev pub width : List Piece → ℕ
 width [] = 0
 width (p ∷ ps) = p.len + width ps
 
-abbrev fine : Piece → Result Piece Cause
+abbrev pub fine : Piece → Result Piece Cause
 fine p = Ok p
 
-abbrev faulty : Cause → Result Piece Cause
+abbrev pub faulty : Cause → Result Piece Cause
 faulty c = Err c
 
 pub piece_is : (p q : Piece) → fine p ≡ fine q → p ≡ q

@@ -24,7 +24,7 @@ abbrev pub Fits : List ℕ → Result Piece Cause → Type 0
 Fits z (Ok p) = (0 < p.len) × (p.len ≤ length z)
 Fits z (Err c) = Unit {0}
 
-prefix_some : (p : ℕ → Bool) (b : ℕ) (t : List ℕ) → p b ≡ true → 0 < prefix_len p (b ∷ t)
+pub prefix_some : (p : ℕ → Bool) (b : ℕ) (t : List ℕ) → p b ≡ true → 0 < prefix_len p (b ∷ t)
 prefix_some p b t e = rw e (omega arith)
 
 abbrev AfterAt : ℕ → List ℕ → Option ℕ → Type 0
