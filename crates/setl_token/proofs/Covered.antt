@@ -18,7 +18,7 @@ use Rattle.setl_token.specs.Pieces.{piece_at, piece, word_kind, string_end, stri
 use Rattle.setl_token.specs.Form.{IsForm, IsWordText, IsNumberText, IsStringText, doubled, signs}
 use Rattle.setl_token.proofs.Runs.{run_covers, run_first, run_is}
 use Rattle.setl_token.proofs.Strings.{string_end_step}
-use Rattle.setl_token.proofs.Within.{by_test}
+use Rattle.setl_token.proofs.Fits.{by_test}
 use Rattle.setl_token.proofs.Formed.{found_contains, contains_found, first_of}
 
 -- the piece is at least so long, and of this kind if it is just so long
@@ -26,7 +26,7 @@ abbrev pub CoveredBy : PieceKind → ℕ → Result Piece Cause → Type 0
 CoveredBy k n (Ok p) = (n ≤ p.len) × (n ≡ p.len → k ≡ p.kind)
 CoveredBy k n (Err c) = ⊥
 
-abbrev first : List ℕ → ℕ
+abbrev pub first : List ℕ → ℕ
 first z = get_or z 0 0
 
 at_blank : (z : List ℕ) → is_blank (first z) ≡ true → piece_at z ≡ Ok (piece is.Blank 1)
@@ -37,7 +37,7 @@ at_comment : (z : List ℕ) → first z ≡ 36 → piece_at z ≡ Ok (piece is.C
 unfolding piece_at
 at_comment z e = rw e refl
 
-at_letter : (z : List ℕ) → is_ascii_alphabetic (first z) ≡ true → piece_at z ≡ Ok (piece (is.Token (word_kind (take (prefix_len is_in_word z) z))) (prefix_len is_in_word z))
+pub at_letter : (z : List ℕ) → is_ascii_alphabetic (first z) ≡ true → piece_at z ≡ Ok (piece (is.Token (word_kind (take (prefix_len is_in_word z) z))) (prefix_len is_in_word z))
 unfolding piece_at
 at_letter z e =
     let blank : is_blank (first z) ≡ false = grind (arith, nat_tests) in
@@ -75,27 +75,28 @@ word_covered : (z : List ℕ) (n : ℕ) (k : TokenKind) → n ≤ length z → I
 word_covered z n k within form e =
     let some : 0 < n = omega (arith, form.0, length-take-le n z within) in
     subst (CoveredBy (is.Token k) n) (sym (at_letter z (ap is_ascii_alphabetic (sym (first_of z n some)) ∙ form.1)))
-        (run_covers is_in_word z n within form.2, λ same. ap is.Token (e ∙ ap (λ (m : ℕ). word_kind (take m z)) same))
+    (run_covers is_in_word z n within form.2, λ same. ap is.Token (e ∙ ap (λ (m : ℕ). word_kind (take m z)) same))
 
-is_word : (text : List ℕ) → Contains words (lower text) → kind.Word ≡ word_kind text
+pub is_word : (text : List ℕ) → Contains words (lower text) → kind.Word ≡ word_kind text
 is_word text c = let e = found_contains (lower text) words c in rw e refl
 
 not_reserved : (t : List ℕ) (b : Bool) → is_reserved t ≡ b → (Contains words t → ⊥) → is_reserved t ≡ false
 not_reserved t true e none = absurd (none (contains_found t words e))
 not_reserved t false e none = e
 
-is_name : (text : List ℕ) → (Contains words (lower text) → ⊥) → kind.Name ≡ word_kind text
+pub is_name : (text : List ℕ) → (Contains words (lower text) → ⊥) → kind.Name ≡ word_kind text
 is_name text none = let e = not_reserved (lower text) (is_reserved (lower text)) refl none in rw e refl
 
-number_covered : (z : List ℕ) (n : ℕ) (k : TokenKind) → n ≤ length z → IsNumberText (take n z) (drop n z) → k ≡ kind.Number (pos (value_of (take n z))) → CoveredBy (is.Token k) n (piece_at z)
-number_covered z n k within form e =
+pub number_here : (z : List ℕ) (n : ℕ) → n ≤ length z → IsNumberText (take n z) (drop n z) → piece_at z ≡ Ok (piece (is.Token (kind.Number (pos (value_of (take n z))))) n)
+number_here z n within form =
     let some : 0 < n = omega (arith, form.0, length-take-le n z within) in
     let digit : is_ascii_digit (first z) ≡ true = ap is_ascii_digit (sym (first_of z n some)) ∙ run_first is_ascii_digit (take n z) form.0 form.1 in
     let whole : n ≡ prefix_len is_ascii_digit z = run_is is_ascii_digit z n within form.1 form.2 in
     let fits : within_limit (value_of (take n z)) ≡ Some (value_of (take n z)) = let l = le-leb (value_of (take n z)) limit form.3 in rw l refl in
-    let here : piece_at z ≡ Ok (piece (is.Token (kind.Number (pos (value_of (take n z))))) n) =
-        at_digit z digit ∙ ap (λ (m : ℕ). number_piece m (within_limit (value_of (take m z)))) (sym whole) ∙ ap (number_piece n) fits in
-    subst (CoveredBy (is.Token k) n) (sym here) (omega arith, λ _. ap is.Token e)
+    at_digit z digit ∙ ap (λ (m : ℕ). number_piece m (within_limit (value_of (take m z)))) (sym whole) ∙ ap (number_piece n) fits
+
+number_covered : (z : List ℕ) (n : ℕ) (k : TokenKind) → n ≤ length z → IsNumberText (take n z) (drop n z) → k ≡ kind.Number (pos (value_of (take n z))) → CoveredBy (is.Token k) n (piece_at z)
+number_covered z n k within form e = subst (CoveredBy (is.Token k) n) (sym (number_here z n within form)) (omega arith, λ _. ap is.Token e)
 
 abbrev ends_at : ℕ → Option ℕ
 ends_at n = Some n
@@ -109,22 +110,26 @@ string_end_is at [] behind in_line closed = let e : at + 1 ≡ at + 0 + 1 = omeg
 string_end_is at (b ∷ body) behind in_line closed =
     let both = and_parts (is_in_line b) (list_all is_in_line body) in_line in
     by_test (λ (xs : List ℕ). string_end at (xs ++ 39 ∷ behind) ≡ ends_at (at + length xs + 1)) (b == 39) (39 ∷ 39 ∷ doubled body) (b ∷ doubled body)
-        (λ e. let len : at + 2 + length (doubled body) + 1 ≡ at + suc (suc (length (doubled body))) + 1 = omega arith in
-            string_end_is (at + 2) body behind both.1 closed ∙ ap ends_at len)
-        (λ e. let len : at + 1 + length (doubled body) + 1 ≡ at + suc (length (doubled body)) + 1 = omega arith in
-            let line : (b == 10) ≡ false = not-true (b == 10) both.0 in
-            string_end_step at b (doubled body ++ 39 ∷ behind) ∙ rw (e, line) (string_end_is (at + 1) body behind both.1 closed ∙ ap ends_at len))
+    (λ e. let len : at + 2 + length (doubled body) + 1 ≡ at + suc (suc (length (doubled body))) + 1 = omega arith in
+    string_end_is (at + 2) body behind both.1 closed ∙ ap ends_at len)
+    (λ e. let len : at + 1 + length (doubled body) + 1 ≡ at + suc (length (doubled body)) + 1 = omega arith in
+    let line : (b == 10) ≡ false = not-true (b == 10) both.0 in
+    string_end_step at b (doubled body ++ 39 ∷ behind) ∙ rw (e, line) (string_end_is (at + 1) body behind both.1 closed ∙ ap ends_at len))
 
-string_covered : (z : List ℕ) (n : ℕ) → n ≤ length z → IsStringText (take n z) (drop n z) → CoveredBy (is.Token kind.Str) n (piece_at z)
-string_covered z n within form =
+abbrev pub string_of : ℕ → Result Piece Cause
+string_of n = Ok (piece (is.Token kind.Str) n)
+
+pub string_here : (z : List ℕ) (n : ℕ) → n ≤ length z → IsStringText (take n z) (drop n z) → piece_at z ≡ string_of n
+string_here z n within form =
     let inner = doubled form.body in
     let behind = drop n z in
     let whole : z ≡ 39 ∷ (inner ++ 39 ∷ behind) =
-        sym (take-append-drop n z) ∙ ap (λ (y : List ℕ). y ++ behind) form.text_is ∙ ap (λ (y : List ℕ). 39 ∷ y) (append_assoc inner (39 ∷ []) behind) in
-    let len : n ≡ 1 + length inner + 1 = omega (arith, length-take-le n z within, ap length form.text_is, length-append inner (39 ∷ [])) in
-    let here : piece_at (39 ∷ (inner ++ 39 ∷ behind)) ≡ Ok (piece (is.Token kind.Str) (1 + length inner + 1)) =
-        at_quote (39 ∷ (inner ++ 39 ∷ behind)) refl ∙ ap string_piece (string_end_is 1 form.body behind form.in_line form.closed) in
-    subst (λ (y : List ℕ). CoveredBy (is.Token kind.Str) n (piece_at y)) (sym whole) (subst (CoveredBy (is.Token kind.Str) n) (sym here) (omega (arith, len), λ _. refl))
+    sym (take-append-drop n z) ∙ ap (λ (y : List ℕ). y ++ behind) form.text_is ∙ ap (λ (y : List ℕ). 39 ∷ y) (append_assoc inner (39 ∷ []) behind) in
+    let len : 1 + length inner + 1 ≡ n = omega (arith, length-take-le n z within, ap length form.text_is, length-append inner (39 ∷ [])) in
+    ap piece_at whole ∙ at_quote (39 ∷ (inner ++ 39 ∷ behind)) refl ∙ ap string_piece (string_end_is 1 form.body behind form.in_line form.closed) ∙ ap string_of len
+
+string_covered : (z : List ℕ) (n : ℕ) → n ≤ length z → IsStringText (take n z) (drop n z) → CoveredBy (is.Token kind.Str) n (piece_at z)
+string_covered z n within form = subst (CoveredBy (is.Token kind.Str) n) (sym (string_here z n within form)) (omega arith, λ _. refl)
 
 abbrev SignCovered : List ℕ → Type 0
 SignCovered s = (rest : List ℕ) → CoveredBy (is.Token kind.Sign) (length s) (piece_at (s ++ rest))
@@ -136,11 +141,61 @@ at_least_one false = (omega arith, λ _. refl)
 signs_covered : AllByRecursion SignCovered signs
 unfolding piece_at
 signs_covered =
-    let pair : (2 ≤ 2) × (2 ≡ 2 → is.Token kind.Sign ≡ is.Token kind.Sign) = (omega arith, λ _. refl) in
-    (λ r. pair, (λ r. pair, (λ r. pair, (λ r. pair, (λ r. pair, (λ r. pair,
-    (λ r. at_least_one _, (λ r. at_least_one _, (λ r. at_least_one _, (λ r. at_least_one _, (λ r. at_least_one _, (λ r. at_least_one _,
-    (λ r. at_least_one _, (λ r. at_least_one _, (λ r. at_least_one _, (λ r. at_least_one _, (λ r. at_least_one _, (λ r. at_least_one _,
-    (λ r. at_least_one _, (λ r. at_least_one _, (λ r. at_least_one _, (λ r. at_least_one _, (λ r. at_least_one _, (λ r. at_least_one _, tt))))))))))))))))))))))))
+    let pair : (2 ≤ 2) × (2 ≡ 2 → is.Token kind.Sign ≡ is.Token kind.Sign) = (omega arith, λ _. refl) in (
+      λ r. pair,
+      (
+        λ r. pair,
+        (
+          λ r. pair,
+          (
+            λ r. pair,
+            (
+              λ r. pair,
+              (
+                λ r. pair,
+                (
+                  λ r. at_least_one _,
+                  (
+                    λ r. at_least_one _,
+                    (
+                      λ r. at_least_one _,
+                      (
+                        λ r. at_least_one _,
+                        (
+                          λ r. at_least_one _,
+                          (
+                            λ r. at_least_one _,
+                            (
+                              λ r. at_least_one _,
+                              (
+                                λ r. at_least_one _,
+                                (
+                                  λ r. at_least_one _,
+                                  (
+                                    λ r. at_least_one _,
+                                    (
+                                      λ r. at_least_one _,
+                                      (
+                                        λ r. at_least_one _,
+                                        (λ r. at_least_one _, (λ r. at_least_one _, (λ r. at_least_one _, (λ r. at_least_one _, (λ r. at_least_one _, (λ r. at_least_one _, tt)))))),
+                                      ),
+                                    ),
+                                  ),
+                                ),
+                              ),
+                            ),
+                          ),
+                        ),
+                      ),
+                    ),
+                  ),
+                ),
+              ),
+            ),
+          ),
+        ),
+      ),
+    )
 
 sign_covered : (z : List ℕ) (n : ℕ) → n ≤ length z → Contains signs (take n z) → CoveredBy (is.Token kind.Sign) n (piece_at z)
 sign_covered z n within c =

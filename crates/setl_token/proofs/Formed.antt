@@ -21,7 +21,7 @@ use Rattle.setl_token.specs.Reserved.{words, is_reserved}
 use Rattle.setl_token.specs.Pieces.{piece_at, word_kind, string_end, string_piece, sign_len, sign_piece, number_piece, within_limit, value_of, limit, is_sign_pair, is_single_sign}
 use Rattle.setl_token.specs.Form.{IsForm, IsWordText, IsNumberText, IsStringText, doubled, signs}
 use Rattle.setl_token.proofs.Runs.{run_passes, run_ends}
-use Rattle.setl_token.proofs.Within.{by_test, prefix_some}
+use Rattle.setl_token.proofs.Fits.{by_test, prefix_some}
 
 -- the piece's bytes are of the form of its kind
 abbrev pub Formed : List ℕ → Result Piece Cause → Type 0
@@ -43,7 +43,7 @@ found_contains t ws c = list_any_at (bytes_eq t) ws c.0 t c.1 ((bytes_eq-Decides
 word_formed : (text behind : List ℕ) → IsWordText text → IsForm (is.Token (word_kind text)) text behind
 word_formed text behind w =
     by_test (λ (k : TokenKind). IsForm (is.Token k) text behind) (is_reserved (lower text)) kind.Word kind.Name
-        (λ e. (w, contains_found (lower text) words e)) (λ e. (w, λ c. false≢true (sym e ∙ found_contains (lower text) words c)))
+    (λ e. (w, contains_found (lower text) words e)) (λ e. (w, λ c. false≢true (sym e ∙ found_contains (lower text) words c)))
 
 number_formed : (z : List ℕ) (len : ℕ) → 0 < length (take len z) → list_all is_ascii_digit (take len z) ≡ true → is_ascii_digit (get_or (drop len z) 0 0) ≡ false → Formed z (number_piece len (within_limit (value_of (take len z))))
 number_formed z len some all ends =
@@ -62,10 +62,10 @@ no_pair b e = grind (arith, nat_tests)
 sign_formed : (b : ℕ) (t : List ℕ) → Formed (b ∷ t) (sign_piece (sign_len b (get_or t 0 0)))
 sign_formed b [] =
     by_test (λ (n : ℕ). Formed (b ∷ []) (sign_piece n)) (is_sign_pair b 0) 2 _ (λ e. absurd (no_pair b e))
-        (λ _. by_test (λ (n : ℕ). Formed (b ∷ []) (sign_piece n)) (is_single_sign b) 1 0 (λ e. contains_found (b ∷ []) signs (single_found b e)) (λ _. tt))
+    (λ _. by_test (λ (n : ℕ). Formed (b ∷ []) (sign_piece n)) (is_single_sign b) 1 0 (λ e. contains_found (b ∷ []) signs (single_found b e)) (λ _. tt))
 sign_formed b (c ∷ t) =
     by_test (λ (n : ℕ). Formed (b ∷ c ∷ t) (sign_piece n)) (is_sign_pair b c) 2 _ (λ e. contains_found (b ∷ c ∷ []) signs (pair_found b c e))
-        (λ _. by_test (λ (n : ℕ). Formed (b ∷ c ∷ t) (sign_piece n)) (is_single_sign b) 1 0 (λ e. contains_found (b ∷ []) signs (single_found b e)) (λ _. tt))
+    (λ _. by_test (λ (n : ℕ). Formed (b ∷ c ∷ t) (sign_piece n)) (is_single_sign b) 1 0 (λ e. contains_found (b ∷ []) signs (single_found b e)) (λ _. tt))
 
 -- Where a string ends of which `at` bytes were passed: its body, which the closing apostrophe follows.
 pub record Ends (at : ℕ) (z : List ℕ) (n : ℕ) : Type 0 where
@@ -110,8 +110,8 @@ string_ends at [] = tt
 string_ends at (b ∷ []) = by_test (EndsAt at (b ∷ [])) (b == 39) (Some (at + 1)) None (λ e. closing_here at b [] (eqb-true b 39 e) (λ h. omega arith)) (λ _. tt)
 string_ends at (b ∷ c ∷ z) =
     by_test (EndsAt at (b ∷ c ∷ z)) (b == 39) _ _
-        (λ e. by_test (EndsAt at (b ∷ c ∷ z)) (c == 39) _ _ (λ f. two_more at b c z (string_end (at + 2) z) (eqb-true b 39 e) (eqb-true c 39 f) (string_ends (at + 2) z)) (λ f. closing_here at b (c ∷ z) (eqb-true b 39 e) (eqb-false c 39 f)))
-        (λ e. by_test (EndsAt at (b ∷ c ∷ z)) (b == 10) _ _ (λ _. tt) (λ f. one_more at b (c ∷ z) (string_end (at + 1) (c ∷ z)) e f (string_ends (at + 1) (c ∷ z))))
+    (λ e. by_test (EndsAt at (b ∷ c ∷ z)) (c == 39) _ _ (λ f. two_more at b c z (string_end (at + 2) z) (eqb-true b 39 e) (eqb-true c 39 f) (string_ends (at + 2) z)) (λ f. closing_here at b (c ∷ z) (eqb-true b 39 e) (eqb-false c 39 f)))
+    (λ e. by_test (EndsAt at (b ∷ c ∷ z)) (b == 10) _ _ (λ _. tt) (λ f. one_more at b (c ∷ z) (string_end (at + 1) (c ∷ z)) e f (string_ends (at + 1) (c ∷ z))))
 
 string_formed : (t : List ℕ) (r : Option ℕ) → EndsAt 1 t r → Formed (39 ∷ t) (string_piece r)
 string_formed t (Some n) h =

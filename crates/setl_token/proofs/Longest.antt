@@ -10,10 +10,15 @@ use Rattle.setl_token.specs.declared.pieces.Piece.{Piece}
 use Rattle.setl_token.specs.Bytes.{is_blank}
 use Rattle.setl_token.specs.Pieces.{piece_at, string_end, string_piece, sign_len, sign_piece, number_piece, within_limit, value_of, limit}
 use Rattle.setl_token.specs.Form.{BeginsWith, IsLongest, IsBare, Stands}
-use Rattle.setl_token.proofs.Reached.{fine, faulty}
-use Rattle.setl_token.proofs.Within.{by_test, piece_fits, Fits}
+use Rattle.setl_token.proofs.Fits.{by_test, piece_fits, Fits}
 use Rattle.setl_token.proofs.Formed.{piece_formed, Formed}
 use Rattle.setl_token.proofs.Covered.{form_covered, CoveredBy}
+
+abbrev pub fine : Piece → Result Piece Cause
+fine p = Ok p
+
+abbrev pub faulty : Cause → Result Piece Cause
+faulty c = Err c
 
 begins : (z : List ℕ) (p : Piece) → 0 < length z → piece_at z ≡ Ok p → BeginsWith z p.kind p.len
 begins [] p some e = absurd (omega arith)
@@ -33,8 +38,8 @@ same_piece p q e f = λ i. record { kind = e i; len = f i }
 longest_is : (z : List ℕ) (p : Piece) → 0 < length z → IsLongest z p → (r : Result Piece Cause) → piece_at z ≡ r → CoveredBy p.kind p.len r → r ≡ Ok p
 longest_is z p some h (Ok q) e c =
     ⊎_elim (λ shorter. absurd (h.longest q.kind q.len shorter (begins z q some e)))
-        (λ longer. let len : p.len ≡ q.len = omega (arith, c.0, longer) in ap (λ (r : Piece). fine r) (sym (same_piece p q (c.1 len) len)))
-        (cases_lt p.len q.len)
+    (λ longer. let len : p.len ≡ q.len = omega (arith, c.0, longer) in ap fine (sym (same_piece p q (c.1 len) len)))
+    (cases_lt p.len q.len)
 longest_is z p some h (Err d) e c = absurd c
 
 pub of_longest : (z : List ℕ) (p : Piece) → 0 < length z → IsLongest z p → piece_at z ≡ Ok p
@@ -85,7 +90,7 @@ stands_of z cause.Byte some e = let w = why z cause.Byte some e in (w.0, w.1, ba
 stands_of z cause.OpenString some e = (why z cause.OpenString some e, bare_of z cause.OpenString e)
 stands_of z cause.WideNumber some e = let w = why z cause.WideNumber some e in (w.0, w.1, bare_of z cause.WideNumber e)
 
-bare : (c : Cause) (z : List ℕ) → Stands c z → IsBare z
+pub bare : (c : Cause) (z : List ℕ) → Stands c z → IsBare z
 bare cause.Byte z h = h.2
 bare cause.OpenString z h = h.1
 bare cause.WideNumber z h = h.2
@@ -103,7 +108,20 @@ same_cause cause.WideNumber cause.WideNumber z h w = refl
 
 stands_is : (z : List ℕ) (c : Cause) → 0 < length z → Stands c z → (r : Result Piece Cause) → piece_at z ≡ r → r ≡ Err c
 stands_is z c some h (Ok p) e = absurd (bare c z h p.kind p.len (begins z p some e))
-stands_is z c some h (Err d) e = ap (λ (x : Cause). faulty x) (same_cause c d z h (why z d some e))
+stands_is z c some h (Err d) e = ap faulty (same_cause c d z h (why z d some e))
 
 pub of_stands : (z : List ℕ) (c : Cause) → 0 < length z → Stands c z → piece_at z ≡ Err c
 of_stands z c some h = stands_is z c some h (piece_at z) refl
+
+piece_is : (p q : Piece) → fine p ≡ fine q → p ≡ q
+piece_is p q e = cc
+
+cause_is : (c d : Cause) → faulty c ≡ faulty d → c ≡ d
+cause_is c d e = cc
+
+-- the longest piece and the cause are determined
+pub one_piece : (z : List ℕ) (p q : Piece) → 0 < length z → IsLongest z p → IsLongest z q → p ≡ q
+one_piece z p q some a b = piece_is p q (sym (of_longest z p some a) ∙ of_longest z q some b)
+
+pub one_cause : (z : List ℕ) (c d : Cause) → 0 < length z → Stands c z → Stands d z → c ≡ d
+one_cause z c d some a b = cause_is c d (sym (of_stands z c some a) ∙ of_stands z d some b)

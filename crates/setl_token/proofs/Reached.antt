@@ -10,24 +10,13 @@ use Rattle.setl_token.specs.declared.Cause.TheVariants as cause
 use Rattle.setl_token.specs.declared.pieces.PieceKind.{PieceKind}
 use Rattle.setl_token.specs.declared.pieces.PieceKind.TheVariants as is
 use Rattle.setl_token.specs.declared.pieces.Piece.{Piece}
-use Rattle.setl_token.specs.Pieces.{piece_at}
+use Rattle.setl_token.specs.Form.{IsLongest, Stands}
 use Rattle.setl_token.specs.Lex.{Reaches, tokens_of, token_of, line_at, Spelled, LexFails, Tells, fault_of}
+use Rattle.setl_token.proofs.Longest.{bare, one_piece, one_cause}
 
 abbrev pub width : List Piece → ℕ
 width [] = 0
 width (p ∷ ps) = p.len + width ps
-
-abbrev pub fine : Piece → Result Piece Cause
-fine p = Ok p
-
-abbrev pub faulty : Cause → Result Piece Cause
-faulty c = Err c
-
-pub piece_is : (p q : Piece) → fine p ≡ fine q → p ≡ q
-piece_is p q e = cc
-
-cause_is : (c d : Cause) → faulty c ≡ faulty d → c ≡ d
-cause_is c d e = cc
 
 -- pieces up to a place, and the tokens among them
 pub record Found (source : List ℕ) (at : ℕ) (tokens : List Token) : Type 0 where
@@ -36,36 +25,40 @@ pub record Found (source : List ℕ) (at : ℕ) (tokens : List Token) : Type 0 w
   pub place : width pieces ≡ at
   pub among : tokens_of source 0 pieces ≡ tokens
 
-pub reaches_push : (z : List ℕ) (ps : List Piece) (rest : List ℕ) (p : Piece) → Reaches z ps rest → 0 < length rest → piece_at rest ≡ Ok p → Reaches z (ps ++ p ∷ []) (drop p.len rest)
-reaches_push z [] rest p before some next = subst (λ (y : List ℕ). (0 < length y) × (piece_at y ≡ Ok p) × (drop p.len y ≡ drop p.len rest)) (sym before) (some, next, refl)
+pub reaches_push : (z : List ℕ) (ps : List Piece) (rest : List ℕ) (p : Piece) → Reaches z ps rest → 0 < length rest → IsLongest rest p → Reaches z (ps ++ p ∷ []) (drop p.len rest)
+reaches_push z [] rest p before some next = subst (λ (y : List ℕ). (0 < length y) × IsLongest y p × (drop p.len y ≡ drop p.len rest)) (sym before) (some, next, refl)
 reaches_push z (q ∷ qs) rest p before some next = (before.0, before.1, reaches_push (drop q.len z) qs rest p before.2 some next)
 
+-- where a cause stands no piece begins
+not_both : (z y : List ℕ) (c : Cause) (p : Piece) → z ≡ y → Stands c y → IsLongest z p → ⊥
+not_both z y c p e stands longest = bare c z (subst (Stands c) (sym e) stands) p.kind p.len longest.begins
+
 -- the pieces from a place are determined
-pub same_pieces : (z : List ℕ) (ps qs : List Piece) → Reaches z ps [] → Reaches z qs [] → ps ≡ qs
+same_pieces : (z : List ℕ) (ps qs : List Piece) → Reaches z ps [] → Reaches z qs [] → ps ≡ qs
 same_pieces z [] [] a b = refl
 same_pieces z [] (q ∷ qs) a b = absurd (omega (arith, b.0, ap length a))
 same_pieces z (p ∷ ps) [] a b = absurd (omega (arith, a.0, ap length b))
 same_pieces z (p ∷ ps) (q ∷ qs) a b =
-    let e : p ≡ q = piece_is p q (sym a.1 ∙ b.1) in
+    let e : p ≡ q = one_piece z p q a.0 a.1 b.1 in
     let others : Reaches (drop p.len z) qs [] = subst (λ (r : Piece). Reaches (drop r.len z) qs []) (sym e) b.2 in
     ((λ i. e i ∷ same_pieces (drop p.len z) ps qs a.2 others i))
 
 -- pieces up to a fault stop where pieces up to any other fault do
-same_rest : (z : List ℕ) (ps qs : List Piece) (r s : List ℕ) (c d : Cause) → Reaches z ps r → piece_at r ≡ Err c → Reaches z qs s → piece_at s ≡ Err d → r ≡ s
+same_rest : (z : List ℕ) (ps qs : List Piece) (r s : List ℕ) (c d : Cause) → Reaches z ps r → Stands c r → Reaches z qs s → Stands d s → r ≡ s
 same_rest z [] [] r s c d a stands b stays = sym a ∙ b
-same_rest z [] (q ∷ qs) r s c d a stands b stays = let e : piece_at z ≡ Err c = ap piece_at a ∙ stands in let f = b.1 in absurd (cc (e, f))
-same_rest z (p ∷ ps) [] r s c d a stands b stays = let e : piece_at z ≡ Err d = ap piece_at b ∙ stays in let f = a.1 in absurd (cc (e, f))
+same_rest z [] (q ∷ qs) r s c d a stands b stays = absurd (not_both z r c q a stands b.1)
+same_rest z (p ∷ ps) [] r s c d a stands b stays = absurd (not_both z s d p b stays a.1)
 same_rest z (p ∷ ps) (q ∷ qs) r s c d a stands b stays =
-    let e : p ≡ q = piece_is p q (sym a.1 ∙ b.1) in
+    let e : p ≡ q = one_piece z p q a.0 a.1 b.1 in
     same_rest (drop p.len z) ps qs r s c d a.2 stands (subst (λ (t : Piece). Reaches (drop t.len z) qs s) (sym e) b.2) stays
 
 -- what is spelled doesn't fail
-pub no_fault : (z : List ℕ) (ps qs : List Piece) (rest : List ℕ) (c : Cause) → Reaches z ps [] → Reaches z qs rest → 0 < length rest → piece_at rest ≡ Err c → ⊥
+no_fault : (z : List ℕ) (ps qs : List Piece) (rest : List ℕ) (c : Cause) → Reaches z ps [] → Reaches z qs rest → 0 < length rest → Stands c rest → ⊥
 no_fault z [] [] rest c a b some stands = absurd (omega (arith, some, ap length a, ap length b))
 no_fault z [] (q ∷ qs) rest c a b some stands = absurd (omega (arith, b.0, ap length a))
-no_fault z (p ∷ ps) [] rest c a b some stands = let e : piece_at z ≡ Err c = ap piece_at b ∙ stands in let f = a.1 in absurd (cc (e, f))
+no_fault z (p ∷ ps) [] rest c a b some stands = not_both z rest c p b stands a.1
 no_fault z (p ∷ ps) (q ∷ qs) rest c a b some stands =
-    let e : p ≡ q = piece_is p q (sym a.1 ∙ b.1) in
+    let e : p ≡ q = one_piece z p q a.0 a.1 b.1 in
     no_fault (drop p.len z) ps qs rest c a.2 (subst (λ (r : Piece). Reaches (drop r.len z) qs rest) (sym e) b.2) some stands
 
 -- no source is spelled of two lists of tokens
@@ -80,7 +73,7 @@ spelled_or_fails source a c at s f = no_fault source s.pieces f.pieces f.rest c 
 pub one_fault : (source : List ℕ) (c d : Cause) (i j : ℕ) → LexFails source c i → LexFails source d j → (c ≡ d) × (i ≡ j)
 one_fault source c d i j f g =
     let e : f.rest ≡ g.rest = same_rest source f.pieces g.pieces f.rest g.rest c d f.before f.stands g.before g.stands in
-    (cause_is c d (sym f.stands ∙ ap piece_at e ∙ g.stands), omega (arith, f.place, g.place, ap length e))
+    (one_cause g.rest c d g.some (subst (Stands c) e f.stands) g.stands, omega (arith, f.place, g.place, ap length e))
 
 -- what the fault of a cause tells
 pub tells : (source : List ℕ) (c : Cause) (at : ℕ) → LexFails source c at → Tells source (fault_of c at)
@@ -108,7 +101,7 @@ width_push [] p = omega arith
 width_push (q ∷ qs) p = omega (arith, width_push qs p)
 
 -- one more piece
-pub found_push : (source : List ℕ) (at : ℕ) (tokens : List Token) (p : Piece) → Found source at tokens → at < length source → piece_at (drop at source) ≡ Ok p
+pub found_push : (source : List ℕ) (at : ℕ) (tokens : List Token) (p : Piece) → Found source at tokens → at < length source → IsLongest (drop at source) p
     → Found source (at + p.len) (tokens ++ token_of source at p.len p.kind [])
 found_push source at tokens p f below next = record {
   pieces = f.pieces ++ p ∷ [];
@@ -123,7 +116,7 @@ found_all source at tokens f end =
     record { pieces = f.pieces; all = subst (λ (z : List ℕ). Reaches source f.pieces z) none f.before; among = f.among }
 
 -- the fault at a place that pieces lead to
-pub found_fault : (source : List ℕ) (at : ℕ) (tokens : List Token) (c : Cause) → Found source at tokens → at < length source → piece_at (drop at source) ≡ Err c → LexFails source c at
+pub found_fault : (source : List ℕ) (at : ℕ) (tokens : List Token) (c : Cause) → Found source at tokens → at < length source → Stands c (drop at source) → LexFails source c at
 found_fault source at tokens c f below stands = record {
   pieces = f.pieces;
   rest = drop at source;

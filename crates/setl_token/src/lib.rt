@@ -9,9 +9,11 @@ ghost use Rattle.std.specs.Prelude.{◌≡◌, ◌==◌, ◌<◌, ◌≤◌, ◌
 ghost use Rattle.std.specs.Result.{IsErrAnd};
 ghost use Rattle.setl_token.specs.Lex.{Spelled, LexFails, Tells, fault_of};
 
+mod laws;
 mod pieces;
 mod reserved;
 
+pub use laws::{blank_ends_token, lexing_is_determined, piece_at_is_longest};
 use pieces::{PieceKind, cut};
 use reserved::reads_as;
 use std::alloc::{AllocError, AllocFailed, Global};

@@ -1,6 +1,6 @@
 use Rattle.std.proofs.Common.{arith, length, sym, refl}
 use Rattle.std.proofs.lemmas.Option.{slice_get_read}
-use Rattle.setl_token.proofs.Within.{token_within}
+use Rattle.setl_token.proofs.Order.{token_within}
 use Rattle.setl_token.proofs.TokenList.at.Goals as goal
 
 pub returns-clause-some : goal.returns-clause-some

@@ -1,4 +1,4 @@
--- Each piece has a byte at least and lies within what is left, so tokens lie within their source.
+-- Each piece has a byte at least, and no more than there are.
 use Rattle.std.proofs.Common.{◌≡◌, ℕ, zero, suc, ◌+◌, ◌<◌, ◌≤◌, ◌==◌, ◌^◌, Bool, true, false, cond, if◌then◌else◌, List, [], ◌∷◌, ◌++◌, length, take, drop, get_or, Option, Some, None, Result, Ok, Err, refl, sym, ap, subst, ◌∙◌, arith, length-drop}
 use Rattle.std.proofs.lemmas.Bool.Decides.{nat_tests}
 use Rattle.std.proofs.lemmas.List.Sums.{prefix_len-le-length}
@@ -67,52 +67,3 @@ piece_fits b t =
     (λ _. by_test (Fits (b ∷ t)) (is_ascii_digit b) _ _ (λ e. number_fits (b ∷ t) _ (within_limit (value_of (take (prefix_len (is_in class.Digit) (b ∷ t)) (b ∷ t)))) (prefix_some (is_in class.Digit) b t e) (prefix_len-le-length (is_in class.Digit) (b ∷ t)))
     (λ _. by_test (Fits (b ∷ t)) (b == 39) _ _ (λ _. string_piece_fits b t (string_end 1 t) (string_fits 1 t))
     (λ _. sign_fits (b ∷ t) (sign_len b (get_or t 0 0)) (sign_len_fits b t))))))
-
--- from a place up to an end the tokens stand in order, each with a byte at least
-abbrev pub InOrder : ℕ → ℕ → List Token → Type 0
-InOrder at end [] = Unit {0}
-InOrder at end (t ∷ ts) = (at ≤ t.from) × (t.from < t.to) × (t.to ≤ end) × InOrder t.to end ts
-
-from_earlier : (at later end : ℕ) (ts : List Token) → at ≤ later → InOrder later end ts → InOrder at end ts
-from_earlier at later end [] e h = tt
-from_earlier at later end (t ∷ ts) e h = (omega arith, h.1, h.2, h.3)
-
-in_order_of : (source : List ℕ) (at len : ℕ) (k : PieceKind) (others : List Token) → 0 < len → at + len ≤ length source → InOrder (at + len) (length source) others → InOrder at (length source) (token_of source at len k others)
-in_order_of source at len (is.Token k) others some within h = (omega arith, omega arith, within, h)
-in_order_of source at len is.Blank others some within h = from_earlier at (at + len) (length source) others (omega arith) h
-in_order_of source at len is.Comment others some within h = from_earlier at (at + len) (length source) others (omega arith) h
-
-in_order : (source z : List ℕ) (at : ℕ) (ps : List Piece) (rest : List ℕ) → Reaches z ps rest → at + length z ≡ length source → InOrder at (length source) (tokens_of source at ps)
-in_order source z at [] rest a e = tt
-in_order source [] at (p ∷ ps) rest a e = absurd (omega (arith, a.0))
-in_order source (b ∷ t) at (p ∷ ps) rest a e =
-    let fits : Fits (b ∷ t) (Ok p) = subst (Fits (b ∷ t)) a.1 (piece_fits b t) in
-    in_order_of source at p.len p.kind (tokens_of source (at + p.len) ps) fits.0 (omega (arith, fits.1))
-    (in_order source (drop p.len (b ∷ t)) (at + p.len) ps rest a.2 (omega (arith, fits.1, length-drop p.len (b ∷ t))))
-
-pub spelled_in_order : (source : List ℕ) (ts : List Token) → Spelled source ts → InOrder 0 (length source) ts
-spelled_in_order source ts s = subst (InOrder 0 (length source)) s.among (in_order source source 0 s.pieces [] s.all (omega arith))
-
-abbrev some_token : Token → Option Token
-some_token t = Some t
-
-token_is : (t u : Token) → some_token t ≡ some_token u → t ≡ u
-token_is t u e = cc
-
-at_in_order : (at end : ℕ) (ts : List Token) (i : ℕ) (t : Token) → InOrder at end ts → slice_get ts i ≡ Some t → (t.from < t.to) × (t.to ≤ end)
-at_in_order at end [] zero t h e = absurd (cc)
-at_in_order at end [] (suc i) t h e = absurd (cc)
-at_in_order at end (u ∷ us) zero t h e = let f : u ≡ t = token_is u t e in (subst (λ (v : Token). v.from < v.to) f h.1, subst (λ (v : Token). v.to ≤ end) f h.2)
-at_in_order at end (u ∷ us) (suc i) t h e = at_in_order u.to end us i t h.3 e
-
--- each token of a source lies within it
-pub token_within : (source : List ℕ) (ts : List Token) → Spelled source ts → (i : ℕ) (t : Token) → slice_get ts i ≡ Some t → (t.from < t.to) × (t.to ≤ length source)
-token_within source ts s i t e = at_in_order 0 (length source) ts i t (spelled_in_order source ts s) e
-
-few : (at end : ℕ) (ts : List Token) → at ≤ end → InOrder at end ts → at + length ts ≤ end
-few at end [] e h = omega arith
-few at end (t ∷ ts) e h = omega (arith, few t.to end ts h.2 h.3)
-
--- a source has no more tokens than bytes
-pub few_tokens : (source : List ℕ) (ts : List Token) → Spelled source ts → length ts ≤ length source
-few_tokens source ts s = omega (arith, few 0 (length source) ts (omega arith) (spelled_in_order source ts s))

@@ -1,0 +1,60 @@
+-- The tokens of a source stand in order within it.
+use Rattle.std.proofs.Common.{◌≡◌, ℕ, zero, suc, ◌+◌, ◌<◌, ◌≤◌, List, [], ◌∷◌, length, take, drop, Option, Some, None, Result, Ok, Err, refl, sym, subst, arith, length-drop}
+use Rattle.std.specs.List.{slice_get}
+use Rattle.setl_token.specs.declared.Token.{Token}
+use Rattle.setl_token.specs.declared.pieces.PieceKind.{PieceKind}
+use Rattle.setl_token.specs.declared.pieces.PieceKind.TheVariants as is
+use Rattle.setl_token.specs.declared.pieces.Piece.{Piece}
+use Rattle.setl_token.specs.Pieces.{piece_at}
+use Rattle.setl_token.specs.Lex.{Reaches, tokens_of, token_of, Spelled}
+use Rattle.setl_token.proofs.Fits.{Fits, piece_fits}
+use Rattle.setl_token.proofs.Longest.{of_longest}
+
+-- from a place up to an end the tokens stand in order, each with a byte at least
+abbrev pub InOrder : ℕ → ℕ → List Token → Type 0
+InOrder at end [] = Unit {0}
+InOrder at end (t ∷ ts) = (at ≤ t.from) × (t.from < t.to) × (t.to ≤ end) × InOrder t.to end ts
+
+from_earlier : (at later end : ℕ) (ts : List Token) → at ≤ later → InOrder later end ts → InOrder at end ts
+from_earlier at later end [] e h = tt
+from_earlier at later end (t ∷ ts) e h = (omega arith, h.1, h.2, h.3)
+
+in_order_of : (source : List ℕ) (at len : ℕ) (k : PieceKind) (others : List Token) → 0 < len → at + len ≤ length source → InOrder (at + len) (length source) others → InOrder at (length source) (token_of source at len k others)
+in_order_of source at len (is.Token k) others some within h = (omega arith, omega arith, within, h)
+in_order_of source at len is.Blank others some within h = from_earlier at (at + len) (length source) others (omega arith) h
+in_order_of source at len is.Comment others some within h = from_earlier at (at + len) (length source) others (omega arith) h
+
+in_order : (source z : List ℕ) (at : ℕ) (ps : List Piece) (rest : List ℕ) → Reaches z ps rest → at + length z ≡ length source → InOrder at (length source) (tokens_of source at ps)
+in_order source z at [] rest a e = tt
+in_order source [] at (p ∷ ps) rest a e = absurd (omega (arith, a.0))
+in_order source (b ∷ t) at (p ∷ ps) rest a e =
+    let fits : Fits (b ∷ t) (Ok p) = subst (Fits (b ∷ t)) (of_longest (b ∷ t) p a.0 a.1) (piece_fits b t) in
+    in_order_of source at p.len p.kind (tokens_of source (at + p.len) ps) fits.0 (omega (arith, fits.1))
+    (in_order source (drop p.len (b ∷ t)) (at + p.len) ps rest a.2 (omega (arith, fits.1, length-drop p.len (b ∷ t))))
+
+pub spelled_in_order : (source : List ℕ) (ts : List Token) → Spelled source ts → InOrder 0 (length source) ts
+spelled_in_order source ts s = subst (InOrder 0 (length source)) s.among (in_order source source 0 s.pieces [] s.all (omega arith))
+
+abbrev some_token : Token → Option Token
+some_token t = Some t
+
+token_is : (t u : Token) → some_token t ≡ some_token u → t ≡ u
+token_is t u e = cc
+
+at_in_order : (at end : ℕ) (ts : List Token) (i : ℕ) (t : Token) → InOrder at end ts → slice_get ts i ≡ Some t → (t.from < t.to) × (t.to ≤ end)
+at_in_order at end [] zero t h e = absurd (cc)
+at_in_order at end [] (suc i) t h e = absurd (cc)
+at_in_order at end (u ∷ us) zero t h e = let f : u ≡ t = token_is u t e in (subst (λ (v : Token). v.from < v.to) f h.1, subst (λ (v : Token). v.to ≤ end) f h.2)
+at_in_order at end (u ∷ us) (suc i) t h e = at_in_order u.to end us i t h.3 e
+
+-- each token of a source lies within it
+pub token_within : (source : List ℕ) (ts : List Token) → Spelled source ts → (i : ℕ) (t : Token) → slice_get ts i ≡ Some t → (t.from < t.to) × (t.to ≤ length source)
+token_within source ts s i t e = at_in_order 0 (length source) ts i t (spelled_in_order source ts s) e
+
+few : (at end : ℕ) (ts : List Token) → at ≤ end → InOrder at end ts → at + length ts ≤ end
+few at end [] e h = omega arith
+few at end (t ∷ ts) e h = omega (arith, few t.to end ts h.2 h.3)
+
+-- a source has no more tokens than bytes
+pub few_tokens : (source : List ℕ) (ts : List Token) → Spelled source ts → length ts ≤ length source
+few_tokens source ts s = omega (arith, few 0 (length source) ts (omega arith) (spelled_in_order source ts s))
