@@ -10,8 +10,8 @@ use Rattle.setl_token.specs.declared.pieces.Class.TheVariants as class
 use Rattle.setl_token.specs.declared.pieces.PieceKind.{PieceKind}
 use Rattle.setl_token.specs.declared.pieces.PieceKind.TheVariants as is
 use Rattle.setl_token.specs.declared.pieces.Piece.{Piece}
-use Rattle.setl_token.specs.Bytes.{is_blank, is_in}
-use Rattle.setl_token.specs.Pieces.{piece_at, string_end, string_piece, sign_len, sign_piece, number_piece, within_limit, value_of, is_sign_pair, is_single_sign}
+use Rattle.setl_token.specs.Bytes.{is_blank, is_in_line, is_in_word, value_of}
+use Rattle.setl_token.specs.Pieces.{piece_at, string_end, string_piece, sign_len, sign_piece, number_piece, within_limit, is_sign_pair, is_single_sign}
 use Rattle.setl_token.specs.Lex.{Reaches, tokens_of, token_of, Spelled}
 
 -- what holds of both branches holds of a choice
@@ -62,8 +62,8 @@ pub piece_fits : (b : ℕ) (t : List ℕ) → Fits (b ∷ t) (piece_at (b ∷ t)
 unfolding piece_at
 piece_fits b t =
     by_test (Fits (b ∷ t)) (is_blank b) _ _ (λ _. (omega arith, omega arith))
-    (λ _. by_test (Fits (b ∷ t)) (b == 36) _ _ (λ e. (prefix_some (is_in class.Line) b t (grind (arith, nat_tests)), prefix_len-le-length (is_in class.Line) (b ∷ t)))
-    (λ _. by_test (Fits (b ∷ t)) (is_ascii_alphabetic b) _ _ (λ e. (prefix_some (is_in class.Word) b t (grind (arith, nat_tests)), prefix_len-le-length (is_in class.Word) (b ∷ t)))
-    (λ _. by_test (Fits (b ∷ t)) (is_ascii_digit b) _ _ (λ e. number_fits (b ∷ t) _ (within_limit (value_of (take (prefix_len (is_in class.Digit) (b ∷ t)) (b ∷ t)))) (prefix_some (is_in class.Digit) b t e) (prefix_len-le-length (is_in class.Digit) (b ∷ t)))
+    (λ _. by_test (Fits (b ∷ t)) (b == 36) _ _ (λ e. (prefix_some is_in_line b t (grind (arith, nat_tests)), prefix_len-le-length is_in_line (b ∷ t)))
+    (λ _. by_test (Fits (b ∷ t)) (is_ascii_alphabetic b) _ _ (λ e. (prefix_some is_in_word b t (grind (arith, nat_tests)), prefix_len-le-length is_in_word (b ∷ t)))
+    (λ _. by_test (Fits (b ∷ t)) (is_ascii_digit b) _ _ (λ e. number_fits (b ∷ t) _ (within_limit (value_of (take (prefix_len is_ascii_digit (b ∷ t)) (b ∷ t)))) (prefix_some is_ascii_digit b t e) (prefix_len-le-length is_ascii_digit (b ∷ t)))
     (λ _. by_test (Fits (b ∷ t)) (b == 39) _ _ (λ _. string_piece_fits b t (string_end 1 t) (string_fits 1 t))
     (λ _. sign_fits (b ∷ t) (sign_len b (get_or t 0 0)) (sign_len_fits b t))))))

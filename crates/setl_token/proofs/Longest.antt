@@ -7,8 +7,8 @@ use Rattle.setl_token.specs.declared.Cause.{Cause}
 use Rattle.setl_token.specs.declared.Cause.TheVariants as cause
 use Rattle.setl_token.specs.declared.pieces.PieceKind.{PieceKind}
 use Rattle.setl_token.specs.declared.pieces.Piece.{Piece}
-use Rattle.setl_token.specs.Bytes.{is_blank}
-use Rattle.setl_token.specs.Pieces.{piece_at, string_end, string_piece, sign_len, sign_piece, number_piece, within_limit, value_of, limit}
+use Rattle.setl_token.specs.Bytes.{is_blank, value_of, limit}
+use Rattle.setl_token.specs.Pieces.{piece_at, string_end, string_piece, sign_len, sign_piece, number_piece, within_limit}
 use Rattle.setl_token.specs.Form.{BeginsWith, IsLongest, IsBare, Stands}
 use Rattle.setl_token.proofs.Fits.{by_test, piece_fits, Fits}
 use Rattle.setl_token.proofs.Formed.{piece_formed, Formed}
@@ -125,3 +125,8 @@ one_piece z p q some a b = piece_is p q (sym (of_longest z p some a) ∙ of_long
 
 pub one_cause : (z : List ℕ) (c d : Cause) → 0 < length z → Stands c z → Stands d z → c ≡ d
 one_cause z c d some a b = cause_is c d (sym (of_stands z c some a) ∙ of_stands z d some b)
+
+-- a piece has a byte at least
+pub piece_some : (z : List ℕ) (p : Piece) → 0 < length z → piece_at z ≡ Ok p → 0 < p.len
+piece_some [] p some e = absurd (omega arith)
+piece_some (b ∷ t) p some e = (subst (Fits (b ∷ t)) e (piece_fits b t)).0

@@ -1,5 +1,5 @@
 -- Pieces one after another.
-use Rattle.std.proofs.Common.{◌≡◌, ℕ, ◌+◌, ◌-◌, ◌<◌, ◌≤◌, ◌==◌, List, [], ◌∷◌, ◌++◌, length, take, drop, count_by, cond, Result, Ok, Err, refl, sym, ap, subst, ◌∙◌, arith, length-drop}
+use Rattle.std.proofs.Common.{◌≡◌, ◌⊎◌, inl, inr, ⊎_elim, ℕ, zero, suc, ◌+◌, ◌-◌, ◌<◌, ◌≤◌, ◌==◌, List, [], ◌∷◌, ◌++◌, length, take, drop, count_by, cond, Result, Ok, Err, refl, sym, ap, subst, ◌∙◌, arith, length-drop}
 use Rattle.std.proofs.lemmas.List.{append-nil, drop-drop, nil_from_length}
 use Rattle.std.proofs.Math.Seq.{take-add}
 use Rattle.std.proofs.lemmas.List.Sums.{sum_by-append}
@@ -12,7 +12,9 @@ use Rattle.setl_token.specs.declared.pieces.PieceKind.TheVariants as is
 use Rattle.setl_token.specs.declared.pieces.Piece.{Piece}
 use Rattle.setl_token.specs.Form.{IsLongest, Stands}
 use Rattle.setl_token.specs.Lex.{Reaches, tokens_of, token_of, line_at, Spelled, LexFails, Tells, fault_of}
-use Rattle.setl_token.proofs.Longest.{bare, one_piece, one_cause}
+use Rattle.setl_token.proofs.Longest.{bare, longest_of, one_cause, one_piece, piece_some, stands_of}
+use Rattle.setl_token.specs.Pieces.{piece_at}
+use Rattle.std.proofs.lemmas.Bool.{cases_lt}
 
 abbrev pub width : List Piece → ℕ
 width [] = 0
@@ -142,3 +144,26 @@ pub push_none : (source : List ℕ) (at len : ℕ) (k : PieceKind) (others : Lis
 push_none source at len (is.Token t) others none = absurd (none t refl)
 push_none source at len is.Blank others none = append-nil others
 push_none source at len is.Comment others none = append-nil others
+
+-- a source is spelled, or it fails
+abbrev pub Ends : List ℕ → Type 0
+Ends source = ((ts : List Token) × Spelled source ts) ⊎ ((c : Cause) × (at : ℕ) × LexFails source c at)
+
+goes_on : (source : List ℕ) (at : ℕ) (ts : List Token) → Found source at ts → at < length source → ((next : ℕ) (us : List Token) → at < next → Found source next us → Ends source)
+    → (r : Result Piece Cause) → piece_at (drop at source) ≡ r → Ends source
+goes_on source at ts f below later (Ok p) e =
+    let some : 0 < length (drop at source) = omega (arith, length-drop at source) in
+    later (at + p.len) (ts ++ token_of source at p.len p.kind []) (omega (arith, piece_some (drop at source) p some e)) (found_push source at ts p f below (longest_of (drop at source) p some e))
+goes_on source at ts f below later (Err c) e =
+    inr (c, at, found_fault source at ts c f below (stands_of (drop at source) c (omega (arith, length-drop at source)) e))
+
+reads_on : (left : ℕ) (source : List ℕ) (at : ℕ) (ts : List Token) → Found source at ts → length source < at + left → Ends source
+reads_on zero source at ts f end = inl (ts, found_all source at ts f (omega arith))
+reads_on (suc left) source at ts f end =
+    ⊎_elim
+    (λ below. goes_on source at ts f below (λ next us more g. reads_on left source next us g (omega arith)) (piece_at (drop at source)) refl)
+    (λ past. inl (ts, found_all source at ts f past))
+    (cases_lt at (length source))
+
+pub spelled_or_fault : (source : List ℕ) → Ends source
+spelled_or_fault source = reads_on (length source + 1) source 0 [] (record { pieces = []; before = refl; place = refl; among = refl }) (omega arith)

@@ -9,9 +9,8 @@ use Rattle.setl_token.specs.declared.Cause.TheVariants as cause
 use Rattle.setl_token.specs.declared.pieces.PieceKind.{PieceKind}
 use Rattle.setl_token.specs.declared.pieces.PieceKind.TheVariants as is
 use Rattle.setl_token.specs.declared.pieces.Piece.{Piece}
-use Rattle.setl_token.specs.Bytes.{is_blank, is_in_word, is_in_line, lower}
+use Rattle.setl_token.specs.Bytes.{is_blank, is_in_word, is_in_line, lower, value_of, limit}
 use Rattle.setl_token.specs.Reserved.{words}
-use Rattle.setl_token.specs.Pieces.{value_of, limit}
 
 abbrev pub signs : List (List ℕ)
 signs =

@@ -1,6 +1,6 @@
 //! Laws of the definitions, for those who build on them. The functions do nothing: what they ensure is the law.
 
-ghost use Rattle.std.specs.Prelude.{◌≡◌, ◌<◌, ◌↔◌, ℕ, IsTrue, List, ◌∷◌, ◌++◌, length, Ok, Err};
+ghost use Rattle.std.specs.Prelude.{◌≡◌, ◌<◌, ◌↔◌, ◌⊎◌, ℕ, IsTrue, List, ◌∷◌, ◌++◌, length, Ok, Err};
 ghost use Rattle.setl_token.specs.declared.Token.{Token};
 ghost use Rattle.setl_token.specs.declared.TokenKind.{TokenKind};
 ghost use Rattle.setl_token.specs.declared.Cause.{Cause};
@@ -11,10 +11,13 @@ ghost use Rattle.setl_token.specs.Form.{IsForm, IsLongest, Stands};
 ghost use Rattle.setl_token.specs.Lex.{Spelled, LexFails};
 ghost use Rattle.setl_token.specs.Pieces.{piece_at, piece};
 
-/// A source is spelled of at most one list of tokens, and has at most one first fault, and not both.
+/// A source is spelled of one list of tokens, or it has one first fault, and not both.
 pub fn lexing_is_determined()
     ensures one_spelling { (source : List ℕ) (ts us : List Token)
         → Spelled source ts → Spelled source us → ts ≡ us }
+    ensures either { (source : List ℕ)
+        → ((ts : List Token) × Spelled source ts)
+        ⊎ ((cause : Cause) × (place : ℕ) × LexFails source cause place) }
     ensures not_both { (source : List ℕ) (ts : List Token) (cause : Cause) (place : ℕ)
         → Spelled source ts → LexFails source cause place → ⊥ }
     ensures one_fault { (source : List ℕ) (c d : Cause) (i j : ℕ)

@@ -40,7 +40,7 @@ pub enum Class {
 }
 
 fn is_in(class: Class, b: u8) -> bool
-    ensures { result ≡ bytes.is_in class b }
+    ensures { result ≡ spec.is_in class b }
 {
     match class {
         Class::Digit => b.is_ascii_digit(),
@@ -57,7 +57,7 @@ fn is_blank(b: u8) -> bool
 
 /// How many bytes at the front are of the class.
 fn run(class: Class, z: &[u8]) -> usize
-    ensures value { result ≡ prefix_len (bytes.is_in class) z.now }
+    ensures value { result ≡ prefix_len (spec.is_in class) z.now }
     ensures within { result ≤ length z.now }
 {
     let mut end = 0;
@@ -102,7 +102,7 @@ const LIMIT: u128 = 170141183460469231731687303715884105727;
 
 /// The number that digits spell, unless it is above the limit.
 fn number(digits: &[u8]) -> Option<u128>
-    ensures value { result ≡ spec.within_limit (spec.value_of digits.now) }
+    ensures value { result ≡ spec.within_limit (bytes.value_of digits.now) }
     ensures within { IfSome result (λ n. n ≤ LIMIT) }
 {
     let mut value: u128 = 0;
