@@ -1,11 +1,11 @@
 -- No text at the front that has a form is longer than the piece that begins there.
-use Rattle.std.proofs.Common.{◌≡◌, ◌≢◌, ℕ, zero, suc, ◌+◌, ◌<◌, ◌≤◌, ◌==◌, pos, Bool, true, false, cond, ◌||◌, leb, List, [], ◌∷◌, ◌++◌, length, take, drop, get_or, Option, Some, None, Result, Ok, Err, Contains, refl, sym, ap, subst, ◌∙◌, arith}
+use Rattle.std.proofs.Common.{◌≡◌, ◌≢◌, ℕ, zero, suc, ◌+◌, ◌<◌, ◌≤◌, ◌==◌, pos, Bool, true, false, cond, List, [], ◌∷◌, ◌++◌, length, take, drop, get_or, Option, Some, Result, Ok, Err, Contains, refl, sym, ap, subst, ◌∙◌, arith}
 use Rattle.std.proofs.lemmas.Bool.{le-leb, ne_eqb, and_parts, not-true}
 use Rattle.std.proofs.lemmas.Bool.Decides.{nat_tests}
 use Rattle.std.proofs.lemmas.List.{length-take-le, take-append-drop, append_assoc, length-append}
 use Rattle.std.proofs.lemmas.List.Elements.{All-from_recursion}
 use Rattle.std.specs.Char.{is_ascii_digit, is_ascii_alphabetic}
-use Rattle.std.specs.List.{prefix_len, list_all, list_any, All, AllByRecursion}
+use Rattle.std.specs.List.{prefix_len, list_all, AllByRecursion}
 use Rattle.setl_token.specs.declared.TokenKind.{TokenKind}
 use Rattle.setl_token.specs.declared.TokenKind.TheVariants as kind
 use Rattle.setl_token.specs.declared.Cause.{Cause}
@@ -14,7 +14,7 @@ use Rattle.setl_token.specs.declared.pieces.PieceKind.TheVariants as is
 use Rattle.setl_token.specs.declared.pieces.Piece.{Piece}
 use Rattle.setl_token.specs.Bytes.{is_blank, is_in_line, is_in_word, lower, value_of, limit}
 use Rattle.setl_token.specs.Reserved.{words, is_reserved}
-use Rattle.setl_token.specs.Pieces.{piece_at, piece, word_kind, string_end, string_piece, sign_len, sign_piece, number_piece, within_limit, is_sign_pair, is_single_sign}
+use Rattle.setl_token.specs.Pieces.{piece_at, piece, word_kind, string_end, string_piece, sign_piece, number_piece, within_limit}
 use Rattle.setl_token.specs.Form.{IsForm, IsWordText, IsNumberText, IsStringText, doubled, signs}
 use Rattle.setl_token.proofs.Runs.{run_covers, run_first, run_is}
 use Rattle.setl_token.proofs.Strings.{string_end_step}

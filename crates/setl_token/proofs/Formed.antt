@@ -1,5 +1,5 @@
 -- The piece that begins at a place has the form of its kind.
-use Rattle.std.proofs.Common.{◌≡◌, ◌≢◌, ℕ, zero, suc, ◌+◌, ◌<◌, ◌≤◌, ◌==◌, pos, Bool, true, false, cond, ◌||◌, leb, List, [], ◌∷◌, ◌++◌, length, take, drop, get_or, Option, Some, None, Result, Ok, Err, Contains, refl, sym, ap, subst, ◌∙◌, arith}
+use Rattle.std.proofs.Common.{◌≡◌, ◌≢◌, ℕ, suc, ◌+◌, ◌<◌, ◌≤◌, ◌==◌, Bool, true, false, ◌||◌, leb, List, [], ◌∷◌, ◌++◌, length, take, drop, get_or, Option, Some, None, Result, Ok, Err, Contains, refl, sym, ap, subst, ◌∙◌, arith}
 use Rattle.std.proofs.lemmas.Bool.{false≢true, leb-true, eqb-true, eqb-false}
 use Rattle.std.proofs.lemmas.Bool.Decides.{nat_tests}
 use Rattle.std.proofs.lemmas.List.{get_or-take, length-take-le}
@@ -12,14 +12,12 @@ use Rattle.std.specs.Str.{bytes_eq}
 use Rattle.setl_token.specs.declared.TokenKind.{TokenKind}
 use Rattle.setl_token.specs.declared.TokenKind.TheVariants as kind
 use Rattle.setl_token.specs.declared.Cause.{Cause}
-use Rattle.setl_token.specs.declared.pieces.Class.TheVariants as class
-use Rattle.setl_token.specs.declared.pieces.PieceKind.{PieceKind}
 use Rattle.setl_token.specs.declared.pieces.PieceKind.TheVariants as is
 use Rattle.setl_token.specs.declared.pieces.Piece.{Piece}
 use Rattle.setl_token.specs.Bytes.{is_blank, is_in_line, is_in_word, lower, value_of, limit}
 use Rattle.setl_token.specs.Reserved.{words, is_reserved}
 use Rattle.setl_token.specs.Pieces.{piece_at, word_kind, string_end, string_piece, sign_len, sign_piece, number_piece, within_limit, is_sign_pair, is_single_sign}
-use Rattle.setl_token.specs.Form.{IsForm, IsWordText, IsNumberText, IsStringText, doubled, signs}
+use Rattle.setl_token.specs.Form.{IsForm, IsWordText, IsStringText, doubled, signs}
 use Rattle.setl_token.proofs.Runs.{run_passes, run_ends}
 use Rattle.setl_token.proofs.Fits.{by_test, prefix_some}
 

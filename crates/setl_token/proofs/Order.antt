@@ -1,11 +1,10 @@
 -- The tokens of a source stand in order within it.
-use Rattle.std.proofs.Common.{◌≡◌, ℕ, zero, suc, ◌+◌, ◌<◌, ◌≤◌, List, [], ◌∷◌, length, take, drop, Option, Some, None, Result, Ok, Err, refl, sym, subst, arith, length-drop}
+use Rattle.std.proofs.Common.{◌≡◌, ℕ, zero, suc, ◌+◌, ◌<◌, ◌≤◌, List, [], ◌∷◌, length, drop, Option, Some, Ok, subst, arith, length-drop}
 use Rattle.std.specs.List.{slice_get}
 use Rattle.setl_token.specs.declared.Token.{Token}
 use Rattle.setl_token.specs.declared.pieces.PieceKind.{PieceKind}
 use Rattle.setl_token.specs.declared.pieces.PieceKind.TheVariants as is
 use Rattle.setl_token.specs.declared.pieces.Piece.{Piece}
-use Rattle.setl_token.specs.Pieces.{piece_at}
 use Rattle.setl_token.specs.Lex.{Reaches, tokens_of, token_of, Spelled}
 use Rattle.setl_token.proofs.Fits.{Fits, piece_fits}
 use Rattle.setl_token.proofs.Longest.{of_longest}

@@ -1,7 +1,6 @@
 -- A source with its tokens, and what a token reads as.
 use Rattle.std.specs.Prelude.{◌≡◌, ℕ, List, slice_range, ◌≤◌, ◌^◌, length}
 use Rattle.setl_token.specs.declared.Token.{Token}
-use Rattle.setl_token.specs.declared.TokenKind.{TokenKind}
 use Rattle.setl_token.specs.declared.TokenKind.TheVariants as kind
 use Rattle.setl_token.specs.Bytes.{lower}
 use Rattle.setl_token.specs.Lex.{Spelled}

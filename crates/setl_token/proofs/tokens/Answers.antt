@@ -1,5 +1,5 @@
-use Rattle.std.proofs.Common.{◌≡◌, ℕ, take, drop, length, ◌-◌, ◌+◌, [], ◌++◌, sym, ap, subst, ◌∙◌, arith, length-drop, count_by, ◌==◌, inl}
-use Rattle.std.proofs.lemmas.List.{append-nil, take_rest}
+use Rattle.std.proofs.Common.{◌≡◌, ℕ, take, drop, ◌-◌, ◌+◌, [], ◌++◌, sym, ap, subst, ◌∙◌, arith, length-drop, count_by, ◌==◌, inl}
+use Rattle.std.proofs.lemmas.List.{take_rest}
 use Rattle.setl_token.specs.Pieces.{piece_at}
 use Rattle.setl_token.specs.Lex.{token_of, fault_of}
 use Rattle.setl_token.proofs.Longest.{longest_of, stands_of}

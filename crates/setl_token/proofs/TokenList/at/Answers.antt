@@ -1,4 +1,4 @@
-use Rattle.std.proofs.Common.{arith, length, sym, refl}
+use Rattle.std.proofs.Common.{length, refl}
 use Rattle.std.proofs.lemmas.Option.{slice_get_read}
 use Rattle.setl_token.proofs.Order.{token_within}
 use Rattle.setl_token.proofs.TokenList.at.Goals as goal
