@@ -8,7 +8,7 @@ use Rattle.setl_token.specs.declared.Cause.TheVariants as cause
 use Rattle.setl_token.specs.declared.pieces.Piece.{Piece}
 use Rattle.setl_token.specs.Bytes.{is_blank, value_of, limit}
 use Rattle.setl_token.specs.Pieces.{piece_at, string_end, string_piece, sign_len, sign_piece, number_piece, within_limit}
-use Rattle.setl_token.specs.Form.{BeginsWith, IsLongest, IsBare, Stands}
+use Rattle.setl_token.specs.Form.{BeginsWith, IsLongest, BeginsNone, IsCause}
 use Rattle.setl_token.proofs.Fits.{by_test, piece_fits, Fits}
 use Rattle.setl_token.proofs.Formed.{piece_formed, Formed}
 use Rattle.setl_token.proofs.Covered.{form_covered, CoveredBy}
@@ -81,20 +81,20 @@ why : (z : List ℕ) (c : Cause) → 0 < length z → piece_at z ≡ Err c → W
 why [] c some e = absurd (omega arith)
 why (b ∷ t) c some e = subst (WhyNot (b ∷ t)) e (why_not b t)
 
-bare_of : (z : List ℕ) (c : Cause) → piece_at z ≡ Err c → IsBare z
+bare_of : (z : List ℕ) (c : Cause) → piece_at z ≡ Err c → BeginsNone z
 bare_of z c e = λ k n other. subst (CoveredBy k n) e (form_covered z k n other.0 other.1)
 
-pub stands_of : (z : List ℕ) (c : Cause) → 0 < length z → piece_at z ≡ Err c → Stands c z
+pub stands_of : (z : List ℕ) (c : Cause) → 0 < length z → piece_at z ≡ Err c → IsCause c z
 stands_of z cause.Byte some e = let w = why z cause.Byte some e in (w.0, w.1, bare_of z cause.Byte e)
 stands_of z cause.OpenString some e = (why z cause.OpenString some e, bare_of z cause.OpenString e)
 stands_of z cause.WideNumber some e = let w = why z cause.WideNumber some e in (w.0, w.1, bare_of z cause.WideNumber e)
 
-pub bare : (c : Cause) (z : List ℕ) → Stands c z → IsBare z
+pub bare : (c : Cause) (z : List ℕ) → IsCause c z → BeginsNone z
 bare cause.Byte z h = h.2
 bare cause.OpenString z h = h.1
 bare cause.WideNumber z h = h.2
 
-same_cause : (c d : Cause) (z : List ℕ) → Stands c z → Why d z → d ≡ c
+same_cause : (c d : Cause) (z : List ℕ) → IsCause c z → Why d z → d ≡ c
 same_cause cause.Byte cause.Byte z h w = refl
 same_cause cause.Byte cause.OpenString z h w = absurd (h.1 w)
 same_cause cause.Byte cause.WideNumber z h w = absurd (false≢true (sym h.0 ∙ w.0))
@@ -105,11 +105,11 @@ same_cause cause.WideNumber cause.Byte z h w = absurd (false≢true (sym w.0 ∙
 same_cause cause.WideNumber cause.OpenString z h w = absurd (false≢true (ap is_ascii_digit (sym w) ∙ h.0))
 same_cause cause.WideNumber cause.WideNumber z h w = refl
 
-stands_is : (z : List ℕ) (c : Cause) → 0 < length z → Stands c z → (r : Result Piece Cause) → piece_at z ≡ r → r ≡ Err c
+stands_is : (z : List ℕ) (c : Cause) → 0 < length z → IsCause c z → (r : Result Piece Cause) → piece_at z ≡ r → r ≡ Err c
 stands_is z c some h (Ok p) e = absurd (bare c z h p.kind p.len (begins z p some e))
 stands_is z c some h (Err d) e = ap faulty (same_cause c d z h (why z d some e))
 
-pub of_stands : (z : List ℕ) (c : Cause) → 0 < length z → Stands c z → piece_at z ≡ Err c
+pub of_stands : (z : List ℕ) (c : Cause) → 0 < length z → IsCause c z → piece_at z ≡ Err c
 of_stands z c some h = stands_is z c some h (piece_at z) refl
 
 piece_is : (p q : Piece) → fine p ≡ fine q → p ≡ q
@@ -122,7 +122,7 @@ cause_is c d e = cc
 pub one_piece : (z : List ℕ) (p q : Piece) → 0 < length z → IsLongest z p → IsLongest z q → p ≡ q
 one_piece z p q some a b = piece_is p q (sym (of_longest z p some a) ∙ of_longest z q some b)
 
-pub one_cause : (z : List ℕ) (c d : Cause) → 0 < length z → Stands c z → Stands d z → c ≡ d
+pub one_cause : (z : List ℕ) (c d : Cause) → 0 < length z → IsCause c z → IsCause d z → c ≡ d
 one_cause z c d some a b = cause_is c d (sym (of_stands z c some a) ∙ of_stands z d some b)
 
 -- a piece has a byte at least

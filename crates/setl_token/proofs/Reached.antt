@@ -10,8 +10,8 @@ use Rattle.setl_token.specs.declared.Cause.TheVariants as cause
 use Rattle.setl_token.specs.declared.pieces.PieceKind.{PieceKind}
 use Rattle.setl_token.specs.declared.pieces.PieceKind.TheVariants as is
 use Rattle.setl_token.specs.declared.pieces.Piece.{Piece}
-use Rattle.setl_token.specs.Form.{IsLongest, Stands}
-use Rattle.setl_token.specs.Lex.{Reaches, tokens_of, token_of, line_at, Spelled, LexFails, Tells, fault_of}
+use Rattle.setl_token.specs.Form.{IsLongest, IsCause}
+use Rattle.setl_token.specs.Lex.{CutsInto, tokens_of, token_of, line_at, Spelled, LexFails, Tells, fault_of}
 use Rattle.setl_token.proofs.Longest.{bare, longest_of, one_cause, one_piece, piece_some, stands_of}
 use Rattle.setl_token.specs.Pieces.{piece_at}
 use Rattle.std.proofs.lemmas.Bool.{cases_lt}
@@ -23,45 +23,45 @@ width (p ∷ ps) = p.len + width ps
 -- pieces up to a place, and the tokens among them
 pub record Found (source : List ℕ) (at : ℕ) (tokens : List Token) : Type 0 where
   pub pieces : List Piece
-  pub before : Reaches source pieces (drop at source)
+  pub before : CutsInto source pieces (drop at source)
   pub place : width pieces ≡ at
   pub among : tokens_of source 0 pieces ≡ tokens
 
-pub reaches_push : (z : List ℕ) (ps : List Piece) (rest : List ℕ) (p : Piece) → Reaches z ps rest → 0 < length rest → IsLongest rest p → Reaches z (ps ++ p ∷ []) (drop p.len rest)
+pub reaches_push : (z : List ℕ) (ps : List Piece) (rest : List ℕ) (p : Piece) → CutsInto z ps rest → 0 < length rest → IsLongest rest p → CutsInto z (ps ++ p ∷ []) (drop p.len rest)
 reaches_push z [] rest p before some next = subst (λ (y : List ℕ). (0 < length y) × IsLongest y p × (drop p.len y ≡ drop p.len rest)) (sym before) (some, next, refl)
 reaches_push z (q ∷ qs) rest p before some next = (before.0, before.1, reaches_push (drop q.len z) qs rest p before.2 some next)
 
 -- where a cause stands no piece begins
-not_both : (z y : List ℕ) (c : Cause) (p : Piece) → z ≡ y → Stands c y → IsLongest z p → ⊥
-not_both z y c p e stands longest = bare c z (subst (Stands c) (sym e) stands) p.kind p.len longest.begins
+not_both : (z y : List ℕ) (c : Cause) (p : Piece) → z ≡ y → IsCause c y → IsLongest z p → ⊥
+not_both z y c p e stands longest = bare c z (subst (IsCause c) (sym e) stands) p.kind p.len longest.begins
 
 -- the pieces from a place are determined
-same_pieces : (z : List ℕ) (ps qs : List Piece) → Reaches z ps [] → Reaches z qs [] → ps ≡ qs
+same_pieces : (z : List ℕ) (ps qs : List Piece) → CutsInto z ps [] → CutsInto z qs [] → ps ≡ qs
 same_pieces z [] [] a b = refl
 same_pieces z [] (q ∷ qs) a b = absurd (omega (arith, b.0, ap length a))
 same_pieces z (p ∷ ps) [] a b = absurd (omega (arith, a.0, ap length b))
 same_pieces z (p ∷ ps) (q ∷ qs) a b =
     let e : p ≡ q = one_piece z p q a.0 a.1 b.1 in
-    let others : Reaches (drop p.len z) qs [] = subst (λ (r : Piece). Reaches (drop r.len z) qs []) (sym e) b.2 in
+    let others : CutsInto (drop p.len z) qs [] = subst (λ (r : Piece). CutsInto (drop r.len z) qs []) (sym e) b.2 in
     ((λ i. e i ∷ same_pieces (drop p.len z) ps qs a.2 others i))
 
 -- pieces up to a fault stop where pieces up to any other fault do
-same_rest : (z : List ℕ) (ps qs : List Piece) (r s : List ℕ) (c d : Cause) → Reaches z ps r → Stands c r → Reaches z qs s → Stands d s → r ≡ s
+same_rest : (z : List ℕ) (ps qs : List Piece) (r s : List ℕ) (c d : Cause) → CutsInto z ps r → IsCause c r → CutsInto z qs s → IsCause d s → r ≡ s
 same_rest z [] [] r s c d a stands b stays = sym a ∙ b
 same_rest z [] (q ∷ qs) r s c d a stands b stays = absurd (not_both z r c q a stands b.1)
 same_rest z (p ∷ ps) [] r s c d a stands b stays = absurd (not_both z s d p b stays a.1)
 same_rest z (p ∷ ps) (q ∷ qs) r s c d a stands b stays =
     let e : p ≡ q = one_piece z p q a.0 a.1 b.1 in
-    same_rest (drop p.len z) ps qs r s c d a.2 stands (subst (λ (t : Piece). Reaches (drop t.len z) qs s) (sym e) b.2) stays
+    same_rest (drop p.len z) ps qs r s c d a.2 stands (subst (λ (t : Piece). CutsInto (drop t.len z) qs s) (sym e) b.2) stays
 
 -- what is spelled doesn't fail
-no_fault : (z : List ℕ) (ps qs : List Piece) (rest : List ℕ) (c : Cause) → Reaches z ps [] → Reaches z qs rest → 0 < length rest → Stands c rest → ⊥
+no_fault : (z : List ℕ) (ps qs : List Piece) (rest : List ℕ) (c : Cause) → CutsInto z ps [] → CutsInto z qs rest → 0 < length rest → IsCause c rest → ⊥
 no_fault z [] [] rest c a b some stands = absurd (omega (arith, some, ap length a, ap length b))
 no_fault z [] (q ∷ qs) rest c a b some stands = absurd (omega (arith, b.0, ap length a))
 no_fault z (p ∷ ps) [] rest c a b some stands = not_both z rest c p b stands a.1
 no_fault z (p ∷ ps) (q ∷ qs) rest c a b some stands =
     let e : p ≡ q = one_piece z p q a.0 a.1 b.1 in
-    no_fault (drop p.len z) ps qs rest c a.2 (subst (λ (r : Piece). Reaches (drop r.len z) qs rest) (sym e) b.2) some stands
+    no_fault (drop p.len z) ps qs rest c a.2 (subst (λ (r : Piece). CutsInto (drop r.len z) qs rest) (sym e) b.2) some stands
 
 -- no source is spelled of two lists of tokens
 pub one_spelling : (source : List ℕ) (a b : List Token) → Spelled source a → Spelled source b → a ≡ b
@@ -75,7 +75,7 @@ spelled_or_fails source a c at s f = no_fault source s.pieces f.pieces f.rest c 
 pub one_fault : (source : List ℕ) (c d : Cause) (i j : ℕ) → LexFails source c i → LexFails source d j → (c ≡ d) × (i ≡ j)
 one_fault source c d i j f g =
     let e : f.rest ≡ g.rest = same_rest source f.pieces g.pieces f.rest g.rest c d f.before f.stands g.before g.stands in
-    (one_cause g.rest c d g.some (subst (Stands c) e f.stands) g.stands, omega (arith, f.place, g.place, ap length e))
+    (one_cause g.rest c d g.some (subst (IsCause c) e f.stands) g.stands, omega (arith, f.place, g.place, ap length e))
 
 -- what the fault of a cause tells
 pub tells : (source : List ℕ) (c : Cause) (at : ℕ) → LexFails source c at → Tells source (fault_of c at)
@@ -107,7 +107,7 @@ pub found_push : (source : List ℕ) (at : ℕ) (tokens : List Token) (p : Piece
     → Found source (at + p.len) (tokens ++ token_of source at p.len p.kind [])
 found_push source at tokens p f below next = record {
   pieces = f.pieces ++ p ∷ [];
-  before = subst (λ (z : List ℕ). Reaches source (f.pieces ++ p ∷ []) z) (drop_drop source at p.len) (reaches_push source f.pieces (drop at source) p f.before (omega (arith, length-drop at source)) next);
+  before = subst (λ (z : List ℕ). CutsInto source (f.pieces ++ p ∷ []) z) (drop_drop source at p.len) (reaches_push source f.pieces (drop at source) p f.before (omega (arith, length-drop at source)) next);
   place = width_push f.pieces p ∙ ap (λ (n : ℕ). n + p.len) f.place;
   among = let e : 0 + width f.pieces ≡ at = omega (arith, f.place) in tokens_push source f.pieces p 0 ∙ (λ i. f.among i ++ token_of source (e i) p.len p.kind []);
 }
@@ -115,10 +115,10 @@ found_push source at tokens p f below next = record {
 pub found_all : (source : List ℕ) (at : ℕ) (tokens : List Token) → Found source at tokens → length source ≤ at → Spelled source tokens
 found_all source at tokens f end =
     let none : drop at source ≡ [] = nil_from_length (drop at source) (omega (arith, length-drop at source)) in
-    record { pieces = f.pieces; all = subst (λ (z : List ℕ). Reaches source f.pieces z) none f.before; among = f.among }
+    record { pieces = f.pieces; all = subst (λ (z : List ℕ). CutsInto source f.pieces z) none f.before; among = f.among }
 
 -- the fault at a place that pieces lead to
-pub found_fault : (source : List ℕ) (at : ℕ) (tokens : List Token) (c : Cause) → Found source at tokens → at < length source → Stands c (drop at source) → LexFails source c at
+pub found_fault : (source : List ℕ) (at : ℕ) (tokens : List Token) (c : Cause) → Found source at tokens → at < length source → IsCause c (drop at source) → LexFails source c at
 found_fault source at tokens c f below stands = record {
   pieces = f.pieces;
   rest = drop at source;

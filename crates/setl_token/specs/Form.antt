@@ -11,6 +11,7 @@ use Rattle.setl_token.specs.declared.pieces.Piece.{Piece}
 use Rattle.setl_token.specs.Bytes.{is_blank, is_in_word, is_in_line, lower, value_of, limit}
 use Rattle.setl_token.specs.Reserved.{words}
 
+-- the signs
 abbrev pub signs : List (List ℕ)
 signs =
     codes ":=" ∷ codes ".." ∷ codes "/=" ∷ codes "<=" ∷ codes ">=" ∷ codes "**" ∷
@@ -57,11 +58,12 @@ pub record IsLongest (z : List ℕ) (p : Piece) : Type 0 where
   pub begins : BeginsWith z p.kind p.len
   pub longest : (k : PieceKind) (n : ℕ) → p.len < n → BeginsWith z k n → ⊥
 
-abbrev pub IsBare : List ℕ → Type 0
-IsBare z = (k : PieceKind) (n : ℕ) → BeginsWith z k n → ⊥
+-- no token, blank or comment begins at the front
+abbrev pub BeginsNone : List ℕ → Type 0
+BeginsNone z = (k : PieceKind) (n : ℕ) → BeginsWith z k n → ⊥
 
--- no token, blank or comment begins at the front, and the first byte tells why
-abbrev pub Stands : Cause → List ℕ → Type 0
-Stands cause.Byte z = (is_ascii_digit (slice_index z 0) ≡ false) × (slice_index z 0 ≢ 39) × IsBare z
-Stands cause.OpenString z = (slice_index z 0 ≡ 39) × IsBare z
-Stands cause.WideNumber z = IsTrue (is_ascii_digit (slice_index z 0)) × (limit < value_of (take (prefix_len is_ascii_digit z) z)) × IsBare z
+-- this is why no token, blank or comment begins at the front
+abbrev pub IsCause : Cause → List ℕ → Type 0
+IsCause cause.Byte z = (is_ascii_digit (slice_index z 0) ≡ false) × (slice_index z 0 ≢ 39) × BeginsNone z
+IsCause cause.OpenString z = (slice_index z 0 ≡ 39) × BeginsNone z
+IsCause cause.WideNumber z = IsTrue (is_ascii_digit (slice_index z 0)) × (limit < value_of (take (prefix_len is_ascii_digit z) z)) × BeginsNone z

@@ -8,12 +8,12 @@ use Rattle.setl_token.specs.declared.LexFault.TheVariants as fault
 use Rattle.setl_token.specs.declared.pieces.PieceKind.{PieceKind}
 use Rattle.setl_token.specs.declared.pieces.PieceKind.TheVariants as is
 use Rattle.setl_token.specs.declared.pieces.Piece.{Piece}
-use Rattle.setl_token.specs.Form.{IsLongest, Stands}
+use Rattle.setl_token.specs.Form.{IsLongest, IsCause}
 
--- from bytes the pieces lead to a rest: each piece is the longest that begins at its place
-abbrev pub Reaches : List ℕ → List Piece → List ℕ → Type 0
-Reaches z [] rest = z ≡ rest
-Reaches z (p ∷ ps) rest = (0 < length z) × IsLongest z p × Reaches (drop p.len z) ps rest
+-- bytes are these pieces, one after another, and a rest: each piece is the longest that begins at its place
+abbrev pub CutsInto : List ℕ → List Piece → List ℕ → Type 0
+CutsInto z [] rest = z ≡ rest
+CutsInto z (p ∷ ps) rest = (0 < length z) × IsLongest z p × CutsInto (drop p.len z) ps rest
 
 -- the line of a place: 1 plus the number of line feeds before it
 abbrev pub line_at : List ℕ → ℕ → ℕ
@@ -34,7 +34,7 @@ tokens_of source at (p ∷ ps) = token_of source at p.len p.kind (tokens_of sour
 -- these are the tokens among them.
 pub record Spelled (source : List ℕ) (tokens : List Token) : Type 0 where
   pub pieces : List Piece
-  pub all : Reaches source pieces []
+  pub all : CutsInto source pieces []
   pub among : tokens_of source 0 pieces ≡ tokens
 
 -- The bytes before a place are tokens, blanks and comments, each the longest that begins at its place, and at
@@ -42,9 +42,9 @@ pub record Spelled (source : List ℕ) (tokens : List Token) : Type 0 where
 pub record LexFails (source : List ℕ) (cause : Cause) (at : ℕ) : Type 0 where
   pub pieces : List Piece
   pub rest : List ℕ
-  pub before : Reaches source pieces rest
+  pub before : CutsInto source pieces rest
   pub some : 0 < length rest
-  pub stands : Stands cause rest
+  pub stands : IsCause cause rest
   pub place : at + length rest ≡ length source
 
 -- the fault that tells a cause at a place

@@ -7,7 +7,7 @@ ghost use Rattle.setl_token.specs.declared.Cause.{Cause};
 ghost use Rattle.setl_token.specs.declared.pieces.Piece.{Piece};
 ghost use Rattle.setl_token.specs.declared.pieces.PieceKind.TheVariants as is;
 ghost use Rattle.setl_token.specs.Bytes.{is_blank};
-ghost use Rattle.setl_token.specs.Form.{IsForm, IsLongest, Stands};
+ghost use Rattle.setl_token.specs.Form.{IsForm, IsLongest, IsCause};
 ghost use Rattle.setl_token.specs.Lex.{Spelled, LexFails};
 ghost use Rattle.setl_token.specs.Pieces.{piece_at, piece};
 
@@ -27,7 +27,7 @@ pub fn lexing_is_determined()
 /// `piece_at` computes the longest piece that begins at the front of bytes, or the cause that stands there.
 pub fn piece_at_is_longest()
     ensures longest { (z : List ℕ) (p : Piece) → 0 < length z → (piece_at z ≡ Ok p) ↔ IsLongest z p }
-    ensures stands { (z : List ℕ) (c : Cause) → 0 < length z → (piece_at z ≡ Err c) ↔ Stands c z }
+    ensures stands { (z : List ℕ) (c : Cause) → 0 < length z → (piece_at z ≡ Err c) ↔ IsCause c z }
 {}
 
 /// A text of a token's form is the longest piece at its place where a blank follows it.

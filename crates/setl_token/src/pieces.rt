@@ -9,7 +9,7 @@ use crate::reserved::reads_as_word;
 use crate::{Cause, TokenKind};
 
 /// What a piece is.
-#[derive(Clone, Copy, Debug)]
+#[derive(Clone, Copy)]
 pub enum PieceKind {
     /// One of the bytes 9, 10, 13 and 32.
     Blank,
@@ -20,7 +20,7 @@ pub enum PieceKind {
 }
 
 /// A token, a blank or a comment.
-#[derive(Clone, Copy, Debug)]
+#[derive(Clone, Copy)]
 pub struct Piece {
     /// What it is.
     pub kind: PieceKind,
@@ -29,7 +29,7 @@ pub struct Piece {
 }
 
 /// A class of bytes of which runs are taken.
-#[derive(Clone, Copy, Debug)]
+#[derive(Clone, Copy)]
 pub enum Class {
     /// Digits.
     Digit,
@@ -97,7 +97,7 @@ fn string_end(z: &[u8]) -> Option<usize>
     None
 }
 
-/// The greatest number that a source can spell.
+/// The greatest number that a source can spell: 2^127 - 1.
 const LIMIT: u128 = 170141183460469231731687303715884105727;
 
 /// The number that digits spell, unless it is above the limit.
