@@ -1,4 +1,5 @@
 pub mod Variable
+pub mod VariableLaws
 pub mod Sets
 pub mod Operators
 pub mod Program
@@ -12,6 +13,7 @@ pub mod Moves
 pub mod Expressions
 pub mod Statements
 pub mod Step
+pub mod StraightRuns
 pub mod Means
 pub mod Answers
 pub mod Laws
