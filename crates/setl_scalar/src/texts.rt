@@ -3,8 +3,8 @@ ghost use Rattle.std.specs.Prelude.{◌≡◌, ◌++◌, ◌↔◌, ◌⊎◌, I
 ghost use Rattle.setl_scalar.specs.Texts.{copies, repeat_of, slice_of};
 
 use crate::ScalarFault;
-use setl_value::Text;
-use std::alloc::{AllocError, Global};
+use setl_value::{Memory, Text};
+use std::alloc::Global;
 
 /// The bytes of `a`, then those of `b`. The only fault is NoMemory.
 pub fn cat(alloc: Global, a: &Text, b: &Text) -> Result<Text, ScalarFault>
@@ -15,7 +15,7 @@ pub fn cat(alloc: Global, a: &Text, b: &Text) -> Result<Text, ScalarFault>
     b.learn();
     let mut bytes = a.bytes().to_vec(alloc)?;
     bytes.extend_from_slice(b.bytes())?;
-    Ok(Text::of(alloc, &bytes)?)
+    Ok(Text::from_bytes(alloc, bytes)?)
 }
 
 /// `n` copies of `a`, one after another. Range exactly where `n` is below 0; the only other fault is
@@ -30,21 +30,21 @@ pub fn repeat(alloc: Global, a: &Text, n: i128) -> Result<Text, ScalarFault>
     }
     a.learn();
     let bytes = copied(alloc, a.bytes(), n.unsigned_abs())?;
-    Ok(Text::of(alloc, &bytes)?)
+    Ok(Text::from_bytes(alloc, bytes)?)
 }
 
 /// `n` copies of `bytes`, one after another.
-fn copied(alloc: Global, bytes: &[u8], n: u128) -> Result<Vec<u8>, AllocError>
+fn copied(alloc: Global, bytes: &[u8], n: u128) -> Result<Vec<u8>, Memory>
     ensures { IfOk result (λ v. v.items ≡ copies n bytes.now) }
 {
     if bytes.is_empty() {
         return Ok(Vec::new(alloc));
     }
     let Ok(n) = usize::try_from(n) else {
-        return Err(AllocError);
+        return Err(Memory);
     };
     let Some(len) = n.checked_mul(bytes.len()) else {
-        return Err(AllocError);
+        return Err(Memory);
     };
     let mut all = Vec::with_capacity(alloc, len)?;
     for _ in 0..n {
