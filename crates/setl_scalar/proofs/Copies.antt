@@ -27,7 +27,12 @@ pub All-copies : (P : ℕ → Type 0) (n : ℕ) (t : List ℕ) → All P t → A
 All-copies P zero t h = All-nil P
 All-copies P (suc n) t h = All-append P t (copies n t) h (All-copies P n t h)
 
--- each byte of a text is no line end, so none of its copies has one
+-- no byte of a text is a line end, so none of a joined text or of copies is one
+plain : (t : List ℕ) → AllByRecursion IsTextByte t → All (λ b. (b ≡ 10) → ⊥) t
+plain t h = All-weaker IsTextByte (λ b. (b ≡ 10) → ⊥) (λ b p. p.1) t (All-from_recursion IsTextByte t h)
+
+pub plain_append : (s t : List ℕ) → AllByRecursion IsTextByte s → AllByRecursion IsTextByte t → All (λ b. (b ≡ 10) → ⊥) (s ++ t)
+plain_append s t h k = All-append (λ b. (b ≡ 10) → ⊥) s t (plain s h) (plain t k)
+
 pub plain_copies : (n : ℕ) (t : List ℕ) → AllByRecursion IsTextByte t → All (λ b. (b ≡ 10) → ⊥) (copies n t)
-plain_copies n t h =
-    All-copies (λ b. (b ≡ 10) → ⊥) n t (All-weaker IsTextByte (λ b. (b ≡ 10) → ⊥) (λ b p. p.1) t (All-from_recursion IsTextByte t h))
+plain_copies n t h = All-copies (λ b. (b ≡ 10) → ⊥) n t (plain t h)

@@ -13,9 +13,18 @@ pub fn cat(alloc: Global, a: &Text, b: &Text) -> Result<Text, ScalarFault>
 {
     a.learn();
     b.learn();
-    let mut bytes = a.bytes().to_vec(alloc)?;
-    bytes.extend_from_slice(b.bytes())?;
+    let bytes = joined(alloc, a.bytes(), b.bytes())?;
     Ok(Text::from_bytes(alloc, bytes)?)
+}
+
+/// The bytes of `left`, then those of `right`.
+fn joined(alloc: Global, left: &[u8], right: &[u8]) -> Result<Vec<u8>, Memory>
+    ensures { IfOk result (λ v. v.items ≡ left.now ++ right.now) }
+{
+    let mut all = Vec::with_capacity(alloc, left.len().saturating_add(right.len()))?;
+    all.extend_from_slice(left)?;
+    all.extend_from_slice(right)?;
+    Ok(all)
 }
 
 /// `n` copies of `a`, one after another. Range exactly where `n` is below 0; the only other fault is
