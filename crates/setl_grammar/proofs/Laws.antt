@@ -178,9 +178,9 @@ choose_reads p r q L M stops one two if_one if_two used rest a s stop = elim s [
     | inr m ↦ rw (not_is (p (next_kind (used ++ rest))) (if_two.holds used rest a m stop)) (two.complete.reads used rest a m stop)
   ]
 
-pub law_choose : {A : Type 0} {p : Kind → Bool} {r q : Reader A} {L M : Tokens → A → Type 0} {stops : Kind → Bool} → Law r L stops → Law q M stops
+pub law_choose : {A : Type 0} (p : Kind → Bool) {r q : Reader A} {L M : Tokens → A → Type 0} {stops : Kind → Bool} → Law r L stops → Law q M stops
     → Follows L stops p → Follows M stops (λ k. not (p k)) → Law (peek >>= λ kind. cond (p kind) r q) (λ t x. L t x ⊎ M t x) stops
-law_choose {p = p} {r = r} {q = q} {L = L} {M = M} {stops = stops} one two if_one if_two = law_of
+law_choose p {r = r} {q = q} {L = L} {M = M} {stops = stops} one two if_one if_two = law_of
     (λ toks a rest e. choose_sound (p (next_kind toks)) r q L M stops one two toks a rest e)
     (choose_reads p r q L M stops one two if_one if_two)
 
@@ -384,7 +384,7 @@ begins_separated begins = begins_then begins
 pub law_listed : {A : Type 0} (close : Kind) {item : Reader A} {L : Tokens → A → Type 0} {stops_item begin : Kind → Bool} → Law item L stops_item → Begins begin L
     → Within (is k.Comma) stops_item → Within (is close) stops_item → Within (is close) (but k.Comma) → Within begin (but close) → Law (listed close item) (lang.listed L) (is close)
 unfolding listed
-law_listed close law begins comma stop off other = law_choose
+law_listed close law begins comma stop off other = law_choose (is close)
     (law_stops (law_pure []) within_always)
     (law_separated law comma stop off)
     (follows_pure same)
@@ -447,3 +447,27 @@ within {p = p} {q = q} h = record { at = λ kind e. implied (p kind) (q kind) (e
 
 pub then_within : {p q s : Kind → Bool} → Within p q → Within q s → Within p s
 then_within one two = record { at = λ kind h. two.at kind (one.at kind h) }
+
+-- ---- failing
+
+-- no value is read
+abbrev pub Fails : {A : Type 0} → Outcome A → Type 0
+Fails {A = A} o = (x : A × Tokens) → o ≡ Ok x → ⊥
+
+pub fails_then : {A B : Type 0} (r : Reader A) (f : A → Reader B) (i : Tokens) → Fails (r i) → Fails ((r >>= f) i)
+fails_then r f i fails y e = let x = bind_ok (r i) f y e in fails x.0 x.1
+
+pub fails_at : {A : Type 0} {o p : Outcome A} → o ≡ p → Fails p → Fails o
+fails_at same fails x e = fails x (sym same ∙ e)
+
+-- what a first and a second part took
+pub took_then : {A B : Type 0} {L : Tokens → A → Type 0} {M : A → Tokens → B → Type 0} {toks mid rest : Tokens} {a : A} {b : B} → Took L toks a mid → Took (M a) mid b rest → Took (Then L M) toks b rest
+took_then {rest = rest} {a = a} one two = record {
+  used = one.used ++ two.used;
+  parts = one.parts ∙ ap (λ (z : Tokens). one.used ++ z) two.parts ∙ sym (append_assoc one.used two.used rest);
+  spelled = record { front = one.used; back = two.used; value = a; parts = refl; first = one.spelled; second = two.spelled };
+}
+
+pub bind_assoc : {A B C : Type 0} (o : Outcome A) (f : A → Reader B) (g : B → Reader C) → and_then (and_then o f) g ≡ and_then o (λ a. f a >>= g)
+bind_assoc (Ok x) f g = refl
+bind_assoc (Err d) f g = refl
