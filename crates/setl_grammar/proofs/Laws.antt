@@ -161,7 +161,7 @@ begins_one_of meaning = record { at = λ toks a s. record { first = s.it; others
 
 -- ---- a choice by the next token
 
-not_is : (b : Bool) → not b ≡ true → b ≡ false
+pub not_is : (b : Bool) → not b ≡ true → b ≡ false
 not_is true e = absurd cc
 not_is false e = refl
 
@@ -390,7 +390,7 @@ law_listed close law begins comma stop off other = law_choose (is close)
     (follows_pure same)
     (follows_begins (begins_separated begins) other)
 
-took_at : {A : Type 0} {L : Tokens → A → Type 0} {toks : Tokens} {a b : A} {i j : Tokens} → (a ≡ b) × (i ≡ j) → Took L toks a i → Took L toks b j
+pub took_at : {A : Type 0} {L : Tokens → A → Type 0} {toks : Tokens} {a b : A} {i j : Tokens} → (a ≡ b) × (i ≡ j) → Took L toks a i → Took L toks b j
 took_at {L = L} {toks = toks} {b = b} {i = i} p t = subst (λ z. Took L toks b z) p.1 (subst (λ z. Took L toks z i) p.0 t)
 
 optional_sound : {A : Type 0} (item : Reader A) (L : Tokens → A → Type 0) → Sound item L → (b : Bool) (toks : Tokens) (o : Option A) (rest : Tokens)
@@ -471,3 +471,24 @@ took_then {rest = rest} {a = a} one two = record {
 pub bind_assoc : {A B C : Type 0} (o : Outcome A) (f : A → Reader B) (g : B → Reader C) → and_then (and_then o f) g ≡ and_then o (λ a. f a >>= g)
 bind_assoc (Ok x) f g = refl
 bind_assoc (Err d) f g = refl
+
+-- ---- step by step
+
+-- the choice at a token where the first is taken
+pub takes : {A : Type 0} (p : Kind → Bool) (x y : Reader A) (i : Tokens) → p (next_kind i) ≡ true → (peek >>= λ kind. cond (p kind) x y) i ≡ x i
+takes p x y i h = ap (λ (b : Bool). cond b x y i) h
+
+pub passes : {A : Type 0} (p : Kind → Bool) (x y : Reader A) (i : Tokens) → p (next_kind i) ≡ false → (peek >>= λ kind. cond (p kind) x y) i ≡ y i
+passes p x y i h = ap (λ (b : Bool). cond b x y i) h
+
+-- what follows a step that read a value
+pub goes_to : {A B : Type 0} {o : Outcome A} (f : A → Reader B) {a : A} {j : Tokens} → o ≡ Ok (a, j) → and_then o f ≡ f a j
+goes_to f h = ap (λ o. and_then o f) h
+
+open_none : (b : Bool) (i : Tokens) → Fails (open_if 0 b i)
+open_none true i x e = cc
+open_none false i x e = cc
+
+pub opening_fails : (k : Kind) (i : Tokens) → Fails (opening 0 k i)
+unfolding opening
+opening_fails k i = open_none (same_kind (next_kind i) k) i
