@@ -78,7 +78,7 @@ pub record IsInside (room : ℕ) (R : r.Inside) (L : grammar.Inside) : Type 0 wh
   -- a bracket that may not open, or that a pattern with a `-` opens
   pub no_tuple : (t : Token) (toks : Tokens) → t.kind ≡ k.LeftBracket → (room ≡ zero) ⊎ (slots_ahead toks ≡ Pattern) → Fails (R.expr (t ∷ toks))
 
-zero_or_more : (room : ℕ) → (room ≡ zero) ⊎ ((m : ℕ) × (room ≡ suc m))
+pub zero_or_more : (room : ℕ) → (room ≡ zero) ⊎ ((m : ℕ) × (room ≡ suc m))
 zero_or_more zero = inl refl
 zero_or_more (suc m) = inr (m, refl)
 

@@ -312,9 +312,9 @@ next_token {toks = toks} rest s =
 
 
 -- an alternative that begins with the token of a kind is read as the choice at that kind
-pub chosen : {A : Type 0} (by : Kind → Reader A) {k : Kind} {L : Tokens → A → Type 0} {stops : Kind → Bool} → Law (by k) L stops → Begins (is k) L
+pub chosen : {A : Type 0} (k : Kind) (by : Kind → Reader A) {L : Tokens → A → Type 0} {stops : Kind → Bool} → Law (by k) L stops → Begins (is k) L
     → (used rest : Tokens) (a : A) → L used a → stops (next_kind rest) ≡ true → (peek >>= by) (used ++ rest) ≡ Ok (a, rest)
-chosen by {k = k} law begins used rest a s stop =
+chosen k by law begins used rest a s stop =
     let next : next_kind (used ++ rest) ≡ k = same_kind_is (next_kind (used ++ rest)) k (next_of (is k) used rest (begins.at used a s)) in
     let same : (peek >>= by) (used ++ rest) ≡ by k (used ++ rest) = ap (λ (z : Kind). by z (used ++ rest)) next in
     same ∙ law.complete.reads used rest a s stop
@@ -492,3 +492,20 @@ open_none false i x e = cc
 pub opening_fails : (k : Kind) (i : Tokens) → Fails (opening 0 k i)
 unfolding opening
 opening_fails k i = open_none (same_kind (next_kind i) k) i
+
+none_from : {A : Type 0} (begins : Kind → Bool) (item : Reader A) (n : ℕ) (found : List A) (i : Tokens) → begins (next_kind i) ≡ false → many_from begins item n found i ≡ Ok (found, i)
+unfolding many_from
+none_from begins item zero found i none = refl
+none_from begins item (suc n) found i none = passes begins _ _ i none
+
+-- no part begins here
+pub many_none : {A : Type 0} (begins : Kind → Bool) (item : Reader A) (i : Tokens) → begins (next_kind i) ≡ false → many begins item i ≡ Ok ([], i)
+many_none begins item i none = none_from begins item (length i) [] i none
+
+pub same_outcome : {A : Type 0} (o : Outcome A) → o ≡ and_then o (λ a. pure a)
+same_outcome (Ok x) = refl
+same_outcome (Err d) = refl
+
+pub opening_takes : (room : ℕ) (k : Kind) (t : Token) (toks : Tokens) → t.kind ≡ k → opening (suc room) k (t ∷ toks) ≡ Ok (t, toks)
+unfolding opening
+opening_takes room k t toks h = ap (λ (b : Bool). open_if (suc room) b (t ∷ toks)) (ap (is k) h ∙ same_kind_self k)
