@@ -92,3 +92,12 @@ listed L = pure [] ∣ separated L
 -- a name
 abbrev pub name : Lang (List ℕ)
 name = token k.Name >>= λ t. pure t.text
+
+-- the line of the first token
+abbrev pub line_of : Tokens → ℕ
+line_of [] = 0
+line_of (t ∷ toks) = t.line
+
+-- a part with the line of its first token
+abbrev pub lined : {A : Type 0} → Lang A → Lang (ℕ × A)
+lined L toks p = (line_of toks ≡ p.0) × L toks p.1

@@ -4,3 +4,6 @@ pub mod Tokens
 pub mod Lang
 pub mod Operators
 pub mod Expressions
+pub mod Statements
+pub mod Modes
+pub mod Programs
