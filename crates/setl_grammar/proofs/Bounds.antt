@@ -14,10 +14,10 @@ use Rattle.setl_tree.specs.Lang.{Lang, Then}
 use Rattle.setl_tree.specs.Lang as lang
 use Rattle.setl_tree.specs.Operators.{level_of}
 use Rattle.setl_tree.specs.Expressions as grammar
-use Rattle.setl_grammar.specs.Reading.{Reader, ◌>>=◌, pure, expect, is, same_kind}
+use Rattle.setl_grammar.specs.Reading.{but, Reader, ◌>>=◌, pure, expect, is, same_kind}
 use Rattle.setl_grammar.specs.ReadExpressions as r
 use Rattle.setl_grammar.proofs.EveryKind.{kinds, same_kind_self}
-use Rattle.setl_grammar.proofs.Laws.{Law, Follows, Within, Begins, always, but, anything, within, within_always, same, law_pure, law_then, law_map, law_stops, law_expect, law_choose, law_as, law_opening, law_separated, law_name, begins_name, begins_token, begins_then, begins_or, begins_within, begins_opening, begins_separated, follows_begins, follows_token, follows_or, follows_opening}
+use Rattle.setl_grammar.proofs.Laws.{Law, Follows, Within, Begins, always, anything, within, within_always, same, law_pure, law_then, law_map, law_stops, law_expect, law_choose, law_as, law_opening, law_separated, law_name, begins_name, begins_token, begins_then, begins_or, begins_within, begins_opening, begins_separated, follows_begins, follows_token, follows_or, follows_opening}
 use Rattle.setl_grammar.proofs.Regroup.{then_to, behind, map_then, then_map, with_first, with_second, in_left, in_right, then_or}
 
 -- ---- where an expression ends

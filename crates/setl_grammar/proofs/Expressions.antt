@@ -19,11 +19,11 @@ use Rattle.setl_tree.specs.Lang as lang
 use Rattle.setl_tree.specs.Operators.{level_of, op_at, binary_op, relation_op, not_sign, prefix_op, fold_sign, quantifier, constant, chain_of, prefixed, selected}
 use Rattle.setl_tree.specs.Expressions as grammar
 use Rattle.setl_grammar.specs.declared.ahead.Ahead.TheVariants.{Expression, Either, Pattern}
-use Rattle.setl_grammar.specs.Reading.{Outcome, Reader, ◌>>=◌, ◌>>◌, and_then, pure, peek, expect, opening, one_of, opening_one_of, meant, is, begins_as, next_kind, rest_of, same_kind, many, more, separated}
+use Rattle.setl_grammar.specs.Reading.{but, Outcome, Reader, ◌>>=◌, ◌>>◌, and_then, pure, peek, expect, opening, one_of, opening_one_of, meant, is, begins_as, next_kind, rest_of, same_kind, many, more, separated}
 use Rattle.setl_grammar.specs.Scan.{ends_slot, slots_ahead}
 use Rattle.setl_grammar.specs.ReadExpressions as r
 use Rattle.setl_grammar.proofs.EveryKind.{kinds, same_kind_is, same_kind_self}
-use Rattle.setl_grammar.proofs.Laws.{Took, Law, Follows, Within, Begins, BeginsWith, Fails, always, but, anything, bind_ok, ok_parts, took_as, fails_then, fails_at, takes, passes, goes_to, opening_fails, opening_takes, many_none, same_outcome, bind_assoc, law_of, chosen, next_of, not_is, within, then_within, within_always, same, law_pure, law_then, law_map, law_stops, law_expect, law_one_of, law_choose, law_as, law_opening, law_opening_one_of, law_many, law_more, law_separated, law_name, begins_name, begins_token, begins_then, begins_or, begins_within, begins_one_of, begins_many, begins_opening, begins_opening_one_of, follows_begins, follows_token, follows_or, follows_then, follows_map, follows_more, follows_pure, follows_opening}
+use Rattle.setl_grammar.proofs.Laws.{Took, Law, Follows, Within, Begins, BeginsWith, Fails, always, anything, bind_ok, ok_parts, took_as, fails_then, fails_at, takes, passes, goes_to, opening_fails, opening_takes, many_none, same_outcome, bind_assoc, law_of, chosen, next_of, not_is, within, then_within, within_always, same, law_pure, law_then, law_map, law_stops, law_expect, law_one_of, law_choose, law_as, law_opening, law_opening_one_of, law_many, law_more, law_separated, law_name, begins_name, begins_token, begins_then, begins_or, begins_within, begins_one_of, begins_many, begins_opening, begins_opening_one_of, follows_begins, follows_token, follows_or, follows_then, follows_map, follows_more, follows_pure, follows_opening}
 use Rattle.setl_grammar.proofs.Regroup.{more_l, then_to, behind, assoc, unassoc, map_then, then_map, with_first, with_second, optional_none, optional_some, optional_to, listed_none, listed_some, listed_to}
 use Rattle.setl_grammar.proofs.Bounds.{below, below_more, over, starts_bound, law_iters}
 use Rattle.setl_grammar.proofs.Levels.{law_operands, law_chain, level_2, level_3, level_4, level_7, level_8, level_9, level_10}

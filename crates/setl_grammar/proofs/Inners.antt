@@ -19,11 +19,11 @@ use Rattle.setl_tree.specs.Operators.{level_of, binary_op, not_sign, prefix_op, 
 use Rattle.setl_tree.specs.Expressions as grammar
 use Rattle.setl_grammar.specs.declared.ahead.Ahead.{Ahead}
 use Rattle.setl_grammar.specs.declared.ahead.Ahead.TheVariants.{Expression, Either, Pattern}
-use Rattle.setl_grammar.specs.Reading.{Outcome, Reader, ◌>>=◌, ◌>>◌, and_then, pure, peek, expect, opening, is, begins_as, next_kind, rest_of, same_kind, take_if, many_from, more, separated}
+use Rattle.setl_grammar.specs.Reading.{but, Outcome, Reader, ◌>>=◌, ◌>>◌, and_then, pure, peek, expect, opening, is, begins_as, next_kind, rest_of, same_kind, take_if, many_from, more, separated}
 use Rattle.setl_grammar.specs.Scan.{either_at, ends_slot, slots_ahead, ahead, slot_exprs, bound_expr}
 use Rattle.setl_grammar.specs.ReadExpressions as r
 use Rattle.setl_grammar.proofs.EveryKind.{kinds, same_kind_is, same_kind_self}
-use Rattle.setl_grammar.proofs.Laws.{Took, Law, Complete, Follows, Within, Begins, BeginsWith, Fails, always, but, anything, bind_ok, ok_parts, took_at, took_as, took_then, fails_then, fails_at, takes, passes, goes_to, opening_fails, bind_assoc, law_of, next_of, not_is, within, then_within, within_always, same, law_pure, law_then, law_map, law_stops, law_expect, law_choose, law_as, law_opening, law_more, law_optional, law_separated, law_name, begins_name, begins_token, begins_then, begins_or, begins_within, follows_begins, follows_token, follows_or, follows_map, follows_more, follows_optional, follows_pure}
+use Rattle.setl_grammar.proofs.Laws.{Took, Law, Complete, Follows, Within, Begins, BeginsWith, Fails, always, anything, bind_ok, ok_parts, took_at, took_as, took_then, fails_then, fails_at, takes, passes, goes_to, opening_fails, bind_assoc, law_of, next_of, not_is, within, then_within, within_always, same, law_pure, law_then, law_map, law_stops, law_expect, law_choose, law_as, law_opening, law_more, law_optional, law_separated, law_name, begins_name, begins_token, begins_then, begins_or, begins_within, follows_begins, follows_token, follows_or, follows_map, follows_more, follows_optional, follows_pure}
 use Rattle.setl_grammar.proofs.Regroup.{more_l, then_to, behind, assoc, unassoc, map_then, then_map, with_first, with_second, optional_none, optional_some, optional_to, listed_none, listed_some, listed_to, more_one, more_none, more_to}
 use Rattle.setl_grammar.proofs.Bounds.{below, below_more, over, starts_bound, law_bound, begins_bound, law_iters}
 use Rattle.setl_grammar.proofs.Scanning.{Named, named, holed, not_short, name_token, mapped, separated_map, bracketed, ahead_is, ahead_name, ahead_minus, either_at_in, either_at_not, some_token, bound_seen, slot_exprs_names}

@@ -7,7 +7,7 @@ use Rattle.setl_tree.specs.declared.kind.Kind.TheVariants as k
 use Rattle.setl_grammar.specs.declared.fault.Fault.{Fault}
 use Rattle.setl_tree.specs.Lang.{Lang, Then, Split, IsToken, Means}
 use Rattle.setl_tree.specs.Lang as lang
-use Rattle.setl_grammar.specs.Reading.{Outcome, Reader, next_kind, same_kind, is, rest_of, and_then, ◌>>=◌, ◌>>◌, pure, peek, refuse, take_if, open_if, open_meant, expect, opening, opening_one_of, meant, one_of, is_some, begins_as, many_from, many, more, separated, listed, optional, name}
+use Rattle.setl_grammar.specs.Reading.{Outcome, Reader, next_kind, same_kind, is, but, rest_of, and_then, ◌>>=◌, ◌>>◌, pure, peek, refuse, take_if, open_if, open_meant, expect, opening, opening_one_of, meant, one_of, is_some, begins_as, many_from, many, more, separated, listed, optional, name}
 use Rattle.setl_grammar.proofs.EveryKind.{same_kind_is, same_kind_self, every, all_of, kinds}
 
 -- what was read, and the tokens that spell it
@@ -360,9 +360,6 @@ follows_opening room k h = follows_begins (begins_then (begins_opening room k h)
 
 pub anything : {A : Type 0} {L : Tokens → A → Type 0} {stops : Kind → Bool} → Follows L stops always
 anything = record { holds = λ _ _ _ _ _. refl }
-
-abbrev pub but : Kind → Kind → Bool
-but k kind = not (is k kind)
 
 pub law_more : {A : Type 0} {item : Reader A} {L : Tokens → A → Type 0} {stops_item stops : Kind → Bool} → Law item L stops_item
     → Within (is k.Comma) stops_item → Within stops stops_item → Within stops (but k.Comma) → Law (more item) (lang.many (lang.◌>>◌ (lang.token k.Comma) L)) stops

@@ -1,10 +1,11 @@
 -- Reading from left to right with one token of look-ahead. Readers are written with the words of the grammar.
-use Rattle.std.specs.Prelude.{◌≡◌, ◌≢◌, ℕ, zero, suc, Bool, true, false, if◌then◌else◌, List, [], ◌∷◌, ◌++◌, length, Option, Some, None, Result, Ok, Err}
+use Rattle.std.specs.Prelude.{◌≡◌, ◌≢◌, ℕ, zero, suc, Bool, true, false, not, if◌then◌else◌, List, [], ◌∷◌, ◌++◌, length, Option, Some, None, Result, Ok, Err}
 use denote.Enum.Bare.{sameb}
 use Rattle.setl_tree.specs.declared.kind.Kind.{Kind}
 use Rattle.setl_tree.specs.declared.kind.Kind.TheVariants as k
 use Rattle.setl_tree.specs.contracts.kind.Kind.{the_type}
 use Rattle.setl_tree.specs.Tokens.{Token, Tokens}
+use Rattle.setl_tree.specs.Lang.{line_of}
 use Rattle.setl_grammar.specs.declared.fault.Fault.{Fault}
 use Rattle.setl_grammar.specs.declared.fault.Fault.TheVariants.{Memory, Syntax, Nesting}
 
@@ -101,6 +102,10 @@ begins_as meaning kind = is_some (meaning kind)
 abbrev pub is : Kind → Kind → Bool
 is k kind = same_kind kind k
 
+-- a token of another kind
+abbrev pub but : Kind → Kind → Bool
+but k kind = not (is k kind)
+
 -- parts, while a next one begins; the number bounds the turns
 unfoldable pub many_from : {A : Type 0} → (Kind → Bool) → Reader A → ℕ → List A → Reader (List A)
 many_from begins item zero found = pure found
@@ -134,6 +139,14 @@ listed close item = do
 -- a name
 unfoldable pub name : Reader (List ℕ)
 name = do t ← expect k.Name; pure t.text
+
+-- the line of the next token
+abbrev pub peek_line : Reader ℕ
+peek_line = λ i. Ok (line_of i, i)
+
+-- a part with the line of its first token
+abbrev pub lined : {A : Type 0} → Reader A → Reader (ℕ × A)
+lined part = do line ← peek_line; a ← part; pure (line, a)
 
 -- What a function that reads ensures: the outcome of reading, unless memory ran out.
 abbrev pub Reads : {A : Type 0} → Outcome A → Result A Fault → Tokens → Type 0
