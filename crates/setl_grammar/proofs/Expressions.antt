@@ -86,7 +86,7 @@ module _ (room : ℕ) (R : r.Inside) (L : grammar.Inside) (E : (inside : ℕ) �
   abbrev round_l : Lang Selector
   round_l = lang.◌∣◌ (Then (lang.token k.RightParen) (λ _. lang.pure (se.Round []))) (Then L.expr arguments_l)
 
-  abbrev braces_l : Lang Selector
+  abbrev pub braces_l : Lang Selector
   braces_l = Then (lang.opening room k.LeftBrace) (λ _. Then (lang.separated L.expr) (λ xs. Then (lang.token k.RightBrace) (λ _. lang.pure (se.Braces xs))))
 
   abbrev selector_l : Lang Selector
@@ -156,7 +156,7 @@ module _ (room : ℕ) (R : r.Inside) (L : grammar.Inside) (E : (inside : ℕ) �
         (follows_token k.RightParen refl)
         (follows_begins (begins_then here.begins) starts_no_paren)
 
-  law_braces : Law (r.braces room R) braces_l always
+  pub law_braces : Law (r.braces room R) braces_l always
   unfolding r.braces same_kind
   law_braces = law_opening room k.LeftBrace (λ m s _. law_then (law_separated (E m s).expr comma_below brace_below brace_comma) (λ xs. law_map (λ _. se.Braces xs) (law_expect k.RightBrace)) (λ xs. follows_token k.RightBrace refl))
 

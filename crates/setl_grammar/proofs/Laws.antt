@@ -7,7 +7,8 @@ use Rattle.setl_tree.specs.declared.kind.Kind.TheVariants as k
 use Rattle.setl_grammar.specs.declared.fault.Fault.{Fault}
 use Rattle.setl_tree.specs.Lang.{Lang, Then, Split, IsToken, Means}
 use Rattle.setl_tree.specs.Lang as lang
-use Rattle.setl_grammar.specs.Reading.{Outcome, Reader, next_kind, same_kind, is, but, rest_of, and_then, ◌>>=◌, ◌>>◌, pure, peek, refuse, take_if, open_if, open_meant, expect, opening, opening_one_of, meant, one_of, is_some, begins_as, many_from, many, more, separated, listed, optional, name}
+use Rattle.setl_tree.specs.Lang.{line_of}
+use Rattle.setl_grammar.specs.Reading.{Outcome, Reader, next_kind, same_kind, is, but, rest_of, and_then, ◌>>=◌, ◌>>◌, pure, peek, refuse, take_if, open_if, open_meant, expect, opening, opening_one_of, meant, one_of, is_some, begins_as, many_from, many, more, separated, listed, optional, lined, name}
 use Rattle.setl_grammar.proofs.EveryKind.{same_kind_is, same_kind_self, every, all_of, kinds}
 
 -- what was read, and the tokens that spell it
@@ -506,3 +507,26 @@ same_outcome (Err d) = refl
 pub opening_takes : (room : ℕ) (k : Kind) (t : Token) (toks : Tokens) → t.kind ≡ k → opening (suc room) k (t ∷ toks) ≡ Ok (t, toks)
 unfolding opening
 opening_takes room k t toks h = ap (λ (b : Bool). open_if (suc room) b (t ∷ toks)) (ap (is k) h ∙ same_kind_self k)
+
+-- ---- the line of the first token
+
+line_begins : {p : Kind → Bool} (toks rest : Tokens) → BeginsWith p toks → line_of (toks ++ rest) ≡ line_of toks
+line_begins toks rest b = rw b.parts refl
+
+lined_reads : {A : Type 0} (part : Reader A) (i : Tokens) (a : A) (rest : Tokens) → part i ≡ Ok (a, rest) → lined part i ≡ Ok ((line_of i, a), rest)
+lined_reads part i a rest h = goes_to (λ a. pure (line_of i, a)) h
+
+pub law_lined : {A : Type 0} {p : Kind → Bool} {part : Reader A} {L : Tokens → A → Type 0} {stops : Kind → Bool} → Law part L stops → Begins p L → Law (lined part) (lang.lined L) stops
+law_lined {A = A} {part = part} {L = L} law begins = law_of
+    (λ toks y rest h.
+      let x = bind_ok (part toks) (λ a. pure (line_of toks, a)) (y, rest) h in
+      let t = law.sound.took toks x.0.0 x.0.1 x.1 in
+      let line : line_of t.used ≡ line_of toks = sym (ap line_of t.parts ∙ line_begins t.used x.0.1 (begins.at t.used x.0.0 t.spelled)) in
+      let whole : Took (lang.lined L) toks (line_of toks, x.0.0) x.0.1 = record { used = t.used; parts = t.parts; spelled = (line, t.spelled) } in
+      took_at (ok_parts (line_of toks, x.0.0) y x.0.1 rest x.2) whole)
+    (λ used rest y s stop.
+      let line : line_of (used ++ rest) ≡ y.0 = line_begins used rest (begins.at used y.1 s.1) ∙ s.0 in
+      lined_reads part (used ++ rest) y.1 rest (law.complete.reads used rest y.1 s.1 stop) ∙ ap (λ (z : ℕ). Ok ((z, y.1), rest)) line)
+
+pub begins_lined : {A : Type 0} {p : Kind → Bool} {L : Tokens → A → Type 0} → Begins p L → Begins p (lang.lined L)
+begins_lined begins = record { at = λ toks y s. begins.at toks y.1 s.1 }

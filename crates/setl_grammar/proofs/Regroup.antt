@@ -125,3 +125,30 @@ more_apart L K (b ∷ xs) front back parts first second = inr (assoc (record {
 pub more_to : {A B : Type 0} {L : Tokens → A → Type 0} {K : List A → Tokens → B → Type 0} {toks : Tokens} {y : B} → Then (more_l L) K toks y
     → K [] toks y ⊎ Then (lang.token k.Comma) (λ _. Then L (λ b. Then (more_l L) (λ xs. K (b ∷ xs)))) toks y
 more_to {L = L} {K = K} s = more_apart L K s.value s.front s.back s.parts s.first s.second
+
+-- ---- any number of parts
+
+pub many_nil : {A B : Type 0} {L : Tokens → A → Type 0} {K : List A → Tokens → B → Type 0} {toks : Tokens} {y : B} → K [] toks y → Then (lang.many L) K toks y
+many_nil {toks = toks} h = record { front = []; back = toks; value = []; parts = refl; first = refl; second = h }
+
+pub many_cons : {A B : Type 0} {L : Tokens → A → Type 0} {K : List A → Tokens → B → Type 0} {toks : Tokens} {y : B} → Then L (λ x. Then (lang.many L) (λ xs. K (x ∷ xs))) toks y → Then (lang.many L) K toks y
+many_cons s = record {
+  front = s.front ++ s.second.front; back = s.second.back; value = s.value ∷ s.second.value;
+  parts = s.parts ∙ ap (λ (z : Tokens). s.front ++ z) s.second.parts ∙ sym (append_assoc s.front s.second.front s.second.back);
+  first = record { front = s.front; back = s.second.front; parts = refl; first = s.first; second = s.second.first };
+  second = s.second.second;
+}
+
+many_apart : {A B : Type 0} (L : Tokens → A → Type 0) (K : List A → Tokens → B → Type 0) {toks : Tokens} {y : B} (xs : List A) (front back : Tokens) → toks ≡ front ++ back → lang.many L front xs → K xs back y
+    → K [] toks y ⊎ Then L (λ x. Then (lang.many L) (λ xs. K (x ∷ xs))) toks y
+many_apart L K {y = y} [] front back parts first second = inl (subst (λ (z : Tokens). K [] z y) (sym (parts ∙ ap (λ (z : Tokens). z ++ back) first)) second)
+many_apart L K (x ∷ xs) front back parts first second = inr (record {
+  front = first.front; back = first.back ++ back; value = x;
+  parts = parts ∙ ap (λ (z : Tokens). z ++ back) first.parts ∙ append_assoc first.front first.back back;
+  first = first.first;
+  second = record { front = first.back; back = back; value = xs; parts = refl; first = first.second; second = second };
+})
+
+pub many_to : {A B : Type 0} (L : Tokens → A → Type 0) (K : List A → Tokens → B → Type 0) {toks : Tokens} {y : B} → Then (lang.many L) K toks y
+    → K [] toks y ⊎ Then L (λ x. Then (lang.many L) (λ xs. K (x ∷ xs))) toks y
+many_to L K s = many_apart L K s.value s.front s.back s.parts s.first s.second
