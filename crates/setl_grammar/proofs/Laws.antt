@@ -530,3 +530,19 @@ law_lined {A = A} {part = part} {L = L} law begins = law_of
 
 pub begins_lined : {A : Type 0} {p : Kind → Bool} {L : Tokens → A → Type 0} → Begins p L → Begins p (lang.lined L)
 begins_lined begins = record { at = λ toks y s. begins.at toks y.1 s.1 }
+
+optional_first : {A B : Type 0} {p q : Kind → Bool} {L : Tokens → A → Type 0} {M : Option A → Tokens → B → Type 0} → Begins p L → Within p q → ((o : Option A) → Begins q (M o))
+    → (toks : Tokens) (b : B) (o : Option A) (front back : Tokens) → toks ≡ front ++ back → lang.optional L front o → M o back b → BeginsWith q toks
+optional_first one h two toks b None front back parts first second =
+    let f = (two None).at back b second in
+    record { first = f.first; others = f.others; parts = parts ∙ ap (λ (z : Tokens). z ++ back) first ∙ f.parts; holds = f.holds }
+optional_first one h two toks b (Some x) front back parts first second =
+    let f = one.at front x first in
+    record { first = f.first; others = f.others ++ back; parts = parts ∙ ap (λ (z : Tokens). z ++ back) f.parts; holds = h.at f.first.kind f.holds }
+
+-- an optional part, and then one that begins otherwise
+pub begins_optional : {A B : Type 0} {p q : Kind → Bool} {L : Tokens → A → Type 0} {M : Option A → Tokens → B → Type 0} → Begins p L → Within p q → ((o : Option A) → Begins q (M o)) → Begins q (Then (lang.optional L) M)
+begins_optional {L = L} {M = M} one h two = record { at = λ toks b s. optional_first one h two toks b s.value s.front s.back s.parts s.first s.second }
+
+pub follows_within : {A : Type 0} {L : Tokens → A → Type 0} {stops p q : Kind → Bool} → Follows L stops p → Within p q → Follows L stops q
+follows_within f h = record { holds = λ toks rest a s at. h.at (next_kind (toks ++ rest)) (f.holds toks rest a s at) }
