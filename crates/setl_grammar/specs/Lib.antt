@@ -4,3 +4,4 @@ pub mod ReadExpressions
 pub mod ReadStatements
 pub mod ReadModes
 pub mod ReadPrograms
+pub mod Claims

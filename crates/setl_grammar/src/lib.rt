@@ -2,7 +2,9 @@
 #![tactic(auto)]
 
 mod ahead;
+mod claims;
 mod fault;
 
 pub use ahead::Ahead;
+pub use claims::{reading_meets_grammar, tree_is_unique};
 pub use fault::Fault;
