@@ -1,24 +1,23 @@
 -- Reading what iterators bind, and iterators.
-use Rattle.std.proofs.Common.{◌≡◌, ℕ, zero, suc, Bool, true, false, not, nat_lt, if◌then◌else◌, List, [], ◌∷◌, ◌++◌, Ok, Err, refl, sym, ap, ltb-true, lt-ltb, ◌≤◌, ◌∙◌, arith, inl, inr, ◌⊎◌}
+use Rattle.std.proofs.Common.{ℕ, Bool, true, false, not, nat_lt, if◌then◌else◌, List, refl, ltb-true, lt-ltb, ◌≤◌, arith, inl, inr}
 use Rattle.setl_tree.specs.declared.kind.Kind.{Kind}
 use Rattle.setl_tree.specs.declared.kind.Kind.TheVariants as k
-use Rattle.setl_tree.specs.declared.expr.Slot.{Slot}
 use Rattle.setl_tree.specs.declared.expr.Slot.TheVariants as sl
 use Rattle.setl_tree.specs.declared.expr.Bound.{Bound}
 use Rattle.setl_tree.specs.declared.expr.Bound.TheVariants as bd
 use Rattle.setl_tree.specs.declared.expr.Iter.{Iter}
 use Rattle.setl_tree.specs.declared.expr.Iter.TheVariants as it
 use Rattle.setl_tree.specs.declared.expr.Expr.{Expr}
-use Rattle.setl_tree.specs.Tokens.{Token, Tokens}
+use Rattle.setl_tree.specs.Tokens.{Tokens}
 use Rattle.setl_tree.specs.Lang.{Lang, Then}
 use Rattle.setl_tree.specs.Lang as lang
 use Rattle.setl_tree.specs.Operators.{level_of}
 use Rattle.setl_tree.specs.Expressions as grammar
-use Rattle.setl_grammar.specs.Reading.{but, Reader, ◌>>=◌, pure, expect, is, same_kind}
+use Rattle.setl_grammar.specs.Reading.{Reader, ◌>>=◌, pure, expect, is, same_kind}
 use Rattle.setl_grammar.specs.ReadExpressions as r
-use Rattle.setl_grammar.proofs.EveryKind.{kinds, same_kind_self}
-use Rattle.setl_grammar.proofs.Laws.{Law, Follows, Within, Begins, always, anything, within, within_always, same, law_pure, law_then, law_map, law_stops, law_expect, law_choose, law_as, law_opening, law_separated, law_name, begins_name, begins_token, begins_then, begins_or, begins_within, begins_opening, begins_separated, follows_begins, follows_token, follows_or, follows_opening}
-use Rattle.setl_grammar.proofs.Regroup.{then_to, behind, map_then, then_map, with_first, with_second, in_left, in_right, then_or}
+use Rattle.setl_grammar.proofs.EveryKind.{kinds}
+use Rattle.setl_grammar.proofs.Laws.{Law, Within, Begins, always, anything, within, within_always, same, law_then, law_map, law_stops, law_expect, law_choose, law_as, law_opening, law_separated, law_name, begins_name, begins_token, begins_then, begins_or, begins_within, begins_opening, begins_separated, follows_begins, follows_token}
+use Rattle.setl_grammar.proofs.Regroup.{behind, map_then, then_map, with_second, in_left, in_right, then_or}
 
 -- ---- where an expression ends
 
@@ -119,17 +118,17 @@ module _ (room : ℕ) (source : Reader Expr) (L : Lang Expr) (law : Law source L
   iter_to : (toks : Tokens) (a : Iter) → iter_l toks a → grammar.iter room L toks a
   unfolding grammar.iter grammar.bound
   iter_to toks a (inl named) = elim named.second [
-      | inl image ↦ inr (with_second named image)
-      | inr over ↦ inl (in_left (then_map (with_second named over)))
-    ]
+    | inl image ↦ inr (with_second named image)
+    | inr over ↦ inl (in_left (then_map (with_second named over)))
+  ]
   iter_to toks a (inr pattern) = inl (in_right (then_map pattern))
 
   iter_from : (toks : Tokens) (a : Iter) → grammar.iter room L toks a → iter_l toks a
   unfolding grammar.iter grammar.bound
   iter_from toks a (inl over) = elim (then_or over) [
-      | inl named ↦ inl (behind (λ x t y h. inr h) (map_then named))
-      | inr pattern ↦ inr (map_then pattern)
-    ]
+    | inl named ↦ inl (behind (λ x t y h. inr h) (map_then named))
+    | inr pattern ↦ inr (map_then pattern)
+  ]
   iter_from toks a (inr image) = inl (behind (λ x t y h. inl h) image)
 
   pub law_iter : Law (r.iter room source) (grammar.iter room L) (below 7)

@@ -1,5 +1,5 @@
 -- A fact about every kind, shown by computing it at each.
-use Rattle.std.proofs.Common.{rules, ◌≡◌, Bool, true, false, if◌then◌else◌, List, [], ◌∷◌, refl, ap, sym, ◌∙◌, eq-eqb}
+use Rattle.std.proofs.Common.{rules, ◌≡◌, Bool, true, false, if◌then◌else◌, List, [], ◌∷◌, refl, ap, ◌∙◌, eq-eqb}
 use denote.Enum.Bare.{same_true}
 use Rattle.setl_tree.specs.declared.kind.Kind.{Kind}
 use Rattle.setl_tree.specs.declared.kind.Kind.TheVariants as k
@@ -16,15 +16,15 @@ same_kind_self a = eq-eqb _ _ refl
 
 unfoldable pub kinds : List Kind
 kinds =
-  k.SourceEnd ∷ k.Name ∷ k.Number ∷ k.StringLiteral ∷ k.Abs ∷ k.And ∷ k.Arb ∷ k.Atom ∷ k.Base ∷ k.Boolean ∷ k.Continue ∷ k.Div ∷ k.Domain ∷
-  k.Elmt ∷ k.Else ∷ k.Elseif ∷ k.End ∷ k.Eof ∷ k.Even ∷ k.Exists ∷ k.Fail ∷ k.False ∷ k.For ∷ k.Forall ∷ k.From ∷ k.Fromb ∷ k.Frome ∷
-  k.General ∷ k.If ∷ k.Impl ∷ k.In ∷ k.Incs ∷ k.Int ∷ k.Integer ∷ k.IsAtom ∷ k.IsBoolean ∷ k.IsInteger ∷ k.IsMap ∷ k.IsSet ∷ k.IsString ∷
-  k.IsTuple ∷ k.Less ∷ k.Lessf ∷ k.Local ∷ k.Max ∷ k.Min ∷ k.Mmap ∷ k.Mod ∷ k.Newat ∷ k.Not ∷ k.Notexists ∷ k.Notin ∷ k.Npow ∷ k.Odd ∷
-  k.Ok ∷ k.Om ∷ k.Or ∷ k.Pass ∷ k.Pow ∷ k.Print ∷ k.Proc ∷ k.Procedure ∷ k.Program ∷ k.Quit ∷ k.Range ∷ k.Rd ∷ k.Read ∷ k.Remote ∷ k.Repr ∷
-  k.Return ∷ k.Rw ∷ k.Set ∷ k.Smap ∷ k.Sparse ∷ k.Stop ∷ k.Str ∷ k.String ∷ k.Subset ∷ k.Then ∷ k.True ∷ k.Tuple ∷ k.Var ∷ k.While ∷
-  k.With ∷ k.Wr ∷ k.Assign ∷ k.Dots ∷ k.NotEqual ∷ k.AtMost ∷ k.AtLeast ∷ k.Power ∷ k.Semicolon ∷ k.Colon ∷ k.Comma ∷ k.LeftParen ∷
-  k.RightParen ∷ k.LeftBrace ∷ k.RightBrace ∷ k.LeftBracket ∷ k.RightBracket ∷ k.Bar ∷ k.Equal ∷ k.LessThan ∷ k.GreaterThan ∷ k.Plus ∷
-  k.Minus ∷ k.Star ∷ k.Slash ∷ k.Hash ∷ []
+    k.SourceEnd ∷ k.Name ∷ k.Number ∷ k.StringLiteral ∷ k.Abs ∷ k.And ∷ k.Arb ∷ k.Atom ∷ k.Base ∷ k.Boolean ∷ k.Continue ∷ k.Div ∷ k.Domain ∷
+    k.Elmt ∷ k.Else ∷ k.Elseif ∷ k.End ∷ k.Eof ∷ k.Even ∷ k.Exists ∷ k.Fail ∷ k.False ∷ k.For ∷ k.Forall ∷ k.From ∷ k.Fromb ∷ k.Frome ∷
+    k.General ∷ k.If ∷ k.Impl ∷ k.In ∷ k.Incs ∷ k.Int ∷ k.Integer ∷ k.IsAtom ∷ k.IsBoolean ∷ k.IsInteger ∷ k.IsMap ∷ k.IsSet ∷ k.IsString ∷
+    k.IsTuple ∷ k.Less ∷ k.Lessf ∷ k.Local ∷ k.Max ∷ k.Min ∷ k.Mmap ∷ k.Mod ∷ k.Newat ∷ k.Not ∷ k.Notexists ∷ k.Notin ∷ k.Npow ∷ k.Odd ∷
+    k.Ok ∷ k.Om ∷ k.Or ∷ k.Pass ∷ k.Pow ∷ k.Print ∷ k.Proc ∷ k.Procedure ∷ k.Program ∷ k.Quit ∷ k.Range ∷ k.Rd ∷ k.Read ∷ k.Remote ∷ k.Repr ∷
+    k.Return ∷ k.Rw ∷ k.Set ∷ k.Smap ∷ k.Sparse ∷ k.Stop ∷ k.Str ∷ k.String ∷ k.Subset ∷ k.Then ∷ k.True ∷ k.Tuple ∷ k.Var ∷ k.While ∷
+    k.With ∷ k.Wr ∷ k.Assign ∷ k.Dots ∷ k.NotEqual ∷ k.AtMost ∷ k.AtLeast ∷ k.Power ∷ k.Semicolon ∷ k.Colon ∷ k.Comma ∷ k.LeftParen ∷
+    k.RightParen ∷ k.LeftBrace ∷ k.RightBrace ∷ k.LeftBracket ∷ k.RightBracket ∷ k.Bar ∷ k.Equal ∷ k.LessThan ∷ k.GreaterThan ∷ k.Plus ∷
+    k.Minus ∷ k.Star ∷ k.Slash ∷ k.Hash ∷ []
 
 abbrev pub all_of : (Kind → Bool) → List Kind → Bool
 all_of p [] = true
@@ -48,10 +48,10 @@ at_one p kind [] all among = absurd cc
 at_one p kind (x ∷ xs) all among =
     let h = if_all (p x) (all_of p xs) all in
     let here : (b : Bool) → same_kind kind x ≡ b → (if b then true else is_among kind xs) ≡ true → p kind ≡ true = λ b.
-        elim b as (λ b. same_kind kind x ≡ b → (if b then true else is_among kind xs) ≡ true → p kind ≡ true) [
-          | true ↦ λ same among. ap p (same_kind_is kind x same) ∙ h.0
-          | false ↦ λ same among. at_one p kind xs h.1 among
-        ] in
+    elim b as (λ b. same_kind kind x ≡ b → (if b then true else is_among kind xs) ≡ true → p kind ≡ true) [
+      | true ↦ λ same among. ap p (same_kind_is kind x same) ∙ h.0
+      | false ↦ λ same among. at_one p kind xs h.1 among
+    ] in
     here (same_kind kind x) refl among
 
 -- what holds at each kind holds at every kind

@@ -1,15 +1,12 @@
 -- Reading expressions.
-use Rattle.std.proofs.Common.{◌≡◌, ◌≢◌, ℕ, zero, suc, ◌-◌, Bool, true, false, not, cond, if◌then◌else◌, List, [], ◌∷◌, ◌++◌, Option, Some, None, Ok, Err, refl, sym, ap, subst, ◌∙◌, append_assoc, arith, inl, inr, ◌⊎◌}
+use Rattle.std.proofs.Common.{◌≡◌, ℕ, zero, suc, ◌-◌, true, false, not, List, [], ◌∷◌, ◌++◌, Option, Some, None, Ok, Err, refl, sym, ap, subst, ◌∙◌, arith, inl, inr, ◌⊎◌}
 use Rattle.std.proofs.lemmas.List.{append-nil}
 use Rattle.setl_tree.specs.declared.kind.Kind.{Kind}
 use Rattle.setl_tree.specs.declared.kind.Kind.TheVariants as k
-use Rattle.setl_tree.specs.declared.expr.BinaryOp.{BinaryOp}
 use Rattle.setl_tree.specs.declared.expr.Relation.TheVariants as rel
-use Rattle.setl_tree.specs.declared.expr.Prefix.{Prefix}
 use Rattle.setl_tree.specs.declared.expr.Prefix.TheVariants as pre
 use Rattle.setl_tree.specs.declared.expr.Selector.{Selector}
 use Rattle.setl_tree.specs.declared.expr.Selector.TheVariants as se
-use Rattle.setl_tree.specs.declared.expr.Inner.{Inner}
 use Rattle.setl_tree.specs.declared.expr.Inner.TheVariants as inn
 use Rattle.setl_tree.specs.declared.expr.Expr.{Expr}
 use Rattle.setl_tree.specs.declared.expr.Expr.TheVariants as e
@@ -18,16 +15,16 @@ use Rattle.setl_tree.specs.Lang.{Lang, Then, IsToken}
 use Rattle.setl_tree.specs.Lang as lang
 use Rattle.setl_tree.specs.Operators.{level_of, op_at, binary_op, relation_op, not_sign, prefix_op, fold_sign, quantifier, constant, chain_of, prefixed, selected}
 use Rattle.setl_tree.specs.Expressions as grammar
-use Rattle.setl_grammar.specs.declared.ahead.Ahead.TheVariants.{Expression, Either, Pattern}
-use Rattle.setl_grammar.specs.Reading.{but, Outcome, Reader, ◌>>=◌, ◌>>◌, and_then, pure, peek, expect, opening, one_of, opening_one_of, meant, is, begins_as, next_kind, rest_of, same_kind, many, more, separated}
+use Rattle.setl_grammar.specs.declared.ahead.Ahead.TheVariants.{Pattern}
+use Rattle.setl_grammar.specs.Reading.{but, Outcome, Reader, ◌>>=◌, and_then, pure, peek, expect, opening, one_of, meant, is, begins_as, next_kind, rest_of, same_kind}
 use Rattle.setl_grammar.specs.Scan.{ends_slot, slots_ahead}
 use Rattle.setl_grammar.specs.ReadExpressions as r
-use Rattle.setl_grammar.proofs.EveryKind.{kinds, same_kind_is, same_kind_self}
-use Rattle.setl_grammar.proofs.Laws.{Took, Law, Follows, Within, Begins, BeginsWith, Fails, always, anything, bind_ok, ok_parts, took_as, fails_then, fails_at, takes, passes, goes_to, opening_fails, opening_takes, many_none, same_outcome, bind_assoc, law_of, chosen, next_of, not_is, within, then_within, within_always, same, law_pure, law_then, law_map, law_stops, law_expect, law_one_of, law_choose, law_as, law_opening, law_opening_one_of, law_many, law_more, law_separated, law_name, begins_name, begins_token, begins_then, begins_or, begins_within, begins_one_of, begins_many, begins_opening, begins_opening_one_of, follows_begins, follows_token, follows_or, follows_then, follows_map, follows_more, follows_pure, follows_opening}
-use Rattle.setl_grammar.proofs.Regroup.{more_l, then_to, behind, assoc, unassoc, map_then, then_map, with_first, with_second, optional_none, optional_some, optional_to, listed_none, listed_some, listed_to}
-use Rattle.setl_grammar.proofs.Bounds.{below, below_more, over, starts_bound, law_iters}
-use Rattle.setl_grammar.proofs.Levels.{law_operands, law_chain, level_2, level_3, level_4, level_7, level_8, level_9, level_10}
-use Rattle.setl_grammar.proofs.Scanning.{name_token, name_is, mapped, separated_map, bracketed, some_token}
+use Rattle.setl_grammar.proofs.EveryKind.{kinds}
+use Rattle.setl_grammar.proofs.Laws.{Took, Law, Follows, Within, Begins, Fails, always, anything, took_as, fails_then, fails_at, takes, passes, goes_to, opening_fails, opening_takes, many_none, same_outcome, bind_assoc, law_of, chosen, next_of, not_is, within, within_always, same, law_pure, law_then, law_map, law_stops, law_expect, law_one_of, law_choose, law_as, law_opening, law_opening_one_of, law_many, law_more, law_separated, law_name, begins_name, begins_token, begins_then, begins_or, begins_within, begins_one_of, begins_many, begins_opening, begins_opening_one_of, follows_begins, follows_token, follows_or, follows_then, follows_map, follows_more, follows_pure, follows_opening}
+use Rattle.setl_grammar.proofs.Regroup.{more_l, behind, with_second, optional_none, optional_some, optional_to, listed_none, listed_some, listed_to}
+use Rattle.setl_grammar.proofs.Bounds.{below, below_more, starts_bound, law_iters}
+use Rattle.setl_grammar.proofs.Levels.{law_chain, level_2, level_3, level_4, level_7, level_8, level_9, level_10}
+use Rattle.setl_grammar.proofs.Scanning.{name_token, name_is, mapped, separated_map, some_token}
 use Rattle.setl_grammar.proofs.Inners.{IsInside, starts_primary, starts_operand, starts_logic, starts, names_l, law_inner, inner_fails, zero_or_more}
 
 -- ---- prefixes
@@ -45,8 +42,8 @@ pub law_prefix : Law r.prefix grammar.prefix always
 unfolding r.prefix grammar.prefix prefix_op
 law_prefix = law_as
     (law_choose (begins_as fold_sign) law_fold (law_one_of prefix_op refl)
-      (follows_begins (begins_then (begins_one_of fold_sign)) same)
-      (follows_begins (begins_one_of prefix_op) prefix_no_fold))
+    (follows_begins (begins_then (begins_one_of fold_sign)) same)
+    (follows_begins (begins_one_of prefix_op) prefix_no_fold))
     (λ toks a s. elim s [ inl f ↦ inr f | inr o ↦ inl o ])
     (λ toks a s. elim s [ inl o ↦ inr o | inr f ↦ inl f ])
 
@@ -172,15 +169,15 @@ module _ (room : ℕ) (R : r.Inside) (L : grammar.Inside) (E : (inside : ℕ) �
   unfolding grammar.selector
   selector_to toks a (inr braces) = inr (inr braces)
   selector_to toks a (inl round) = elim round.second [
-      | inl none ↦ inl (with_second round (listed_none none))
-      | inr some ↦ elim some.second [
-          | inl dots ↦ elim dots.second [
-              | inl open_end ↦ inr (inl (with_second round (with_second some (with_second dots (optional_none open_end)))))
-              | inr to ↦ inr (inl (with_second round (with_second some (with_second dots (optional_some to)))))
-            ]
-          | inr others ↦ inl (with_second round (listed_some (with_second some others)))
-        ]
+    | inl none ↦ inl (with_second round (listed_none none))
+    | inr some ↦ elim some.second [
+      | inl dots ↦ elim dots.second [
+        | inl open_end ↦ inr (inl (with_second round (with_second some (with_second dots (optional_none open_end)))))
+        | inr to ↦ inr (inl (with_second round (with_second some (with_second dots (optional_some to)))))
+      ]
+      | inr others ↦ inl (with_second round (listed_some (with_second some others)))
     ]
+  ]
 
   selector_from : (toks : Tokens) (a : Selector) → grammar.selector room L toks a → selector_l toks a
   unfolding grammar.selector
@@ -370,9 +367,9 @@ module _ (room : ℕ) (R : r.Inside) (L : grammar.Inside) (E : (inside : ℕ) �
   e6_to : (toks : Tokens) (y : Expr) → Then (grammar.e7 room L) compared_l toks y → grammar.e6 room L toks y
   unfolding grammar.e6
   e6_to toks y s = elim s.second [
-      | inl some ↦ inr (with_second s some)
-      | inr none ↦ inl (subst (λ (z : Expr). grammar.e7 room L toks z) none.1 (subst (λ (z : Tokens). grammar.e7 room L z s.value) (sym (s.parts ∙ ap (λ (z : Tokens). s.front ++ z) none.0 ∙ append-nil s.front)) s.first))
-    ]
+    | inl some ↦ inr (with_second s some)
+    | inr none ↦ inl (subst (λ (z : Expr). grammar.e7 room L toks z) none.1 (subst (λ (z : Tokens). grammar.e7 room L z s.value) (sym (s.parts ∙ ap (λ (z : Tokens). s.front ++ z) none.0 ∙ append-nil s.front)) s.first))
+  ]
 
   e6_from : (toks : Tokens) (y : Expr) → grammar.e6 room L toks y → Then (grammar.e7 room L) compared_l toks y
   unfolding grammar.e6
@@ -519,8 +516,8 @@ module _ (room : ℕ) (R : r.Inside) (L : grammar.Inside) (E : (inside : ℕ) �
       let t = some_token i k.In next (λ same. cc) in
       let taken : expect k.In i ≡ Ok (t.0, rest_of i) = ap (expect k.In) t.1 ∙ (law_expect k.In).complete.reads (t.0 ∷ []) (rest_of i) t.0 (record { alone = refl; kind = t.2 }) refl in
       takes (begins_as relation_op) _ _ i (ap (begins_as relation_op) next ∙ in_is_relation)
-        ∙ goes_to (λ o. r.e7 room R >>= λ b. pure (e.Compare a o b)) (ap (λ (z : Option _). meant z i) (ap relation_op next ∙ in_relation))
-        ∙ sym (goes_to (λ _. r.e7 room R >>= λ s. pure (e.Compare a rel.In s)) taken)
+      ∙ goes_to (λ o. r.e7 room R >>= λ b. pure (e.Compare a o b)) (ap (λ (z : Option _). meant z i) (ap relation_op next ∙ in_relation))
+      ∙ sym (goes_to (λ _. r.e7 room R >>= λ s. pure (e.Compare a rel.In s)) taken)
 
   regroup : (o : Outcome Token) (f : Expr → Expr) (g : Expr → Reader Expr) → and_then (and_then o (λ _. r.e7 room R >>= λ s. pure (f s))) g ≡ and_then o (λ _. r.e7 room R >>= λ s. g (f s))
   regroup (Ok x) f g = bind_assoc (r.e7 room R x.1) (λ s. pure (f s)) g
@@ -540,10 +537,10 @@ module _ (room : ℕ) (R : r.Inside) (L : grammar.Inside) (E : (inside : ℕ) �
   unfolding r.e6 r.e7
   whole_fails i no_quantifier no_not fails = fails_at (whole_is i no_quantifier no_not)
       (fails_then (r.e6 room R) (r.after room R) i (fails_then (r.e7 room R) (r.compared room R) i
-        (fails_then (r.levels 10 (r.e11 room R) 3) (r.chain_from 7 (r.levels 10 (r.e11 room R) 3)) i
-          (fails_then (r.levels 10 (r.e11 room R) 2) (r.chain_from 8 (r.levels 10 (r.e11 room R) 2)) i
-            (fails_then (r.levels 10 (r.e11 room R) 1) (r.chain_from 9 (r.levels 10 (r.e11 room R) 1)) i
-              (fails_then (r.e11 room R) (r.chain_from 10 (r.e11 room R)) i fails))))))
+      (fails_then (r.levels 10 (r.e11 room R) 3) (r.chain_from 7 (r.levels 10 (r.e11 room R) 3)) i
+      (fails_then (r.levels 10 (r.e11 room R) 2) (r.chain_from 8 (r.levels 10 (r.e11 room R) 2)) i
+      (fails_then (r.levels 10 (r.e11 room R) 1) (r.chain_from 9 (r.levels 10 (r.e11 room R) 1)) i
+      (fails_then (r.e11 room R) (r.chain_from 10 (r.e11 room R)) i fails))))))
 
   minus_facts : (begins_as quantifier k.Minus ≡ false) × (begins_as not_sign k.Minus ≡ false) × (begins_as fold_sign k.Minus ≡ false) × (prefix_op k.Minus ≡ Some pre.Minus)
   unfolding quantifier not_sign fold_sign prefix_op
@@ -571,7 +568,7 @@ module _ (room : ℕ) (R : r.Inside) (L : grammar.Inside) (E : (inside : ℕ) �
       let signs : r.prefixes (t ∷ u ∷ toks) ≡ Ok (pre.Minus ∷ [], u ∷ toks) = law_prefixes.complete.reads (t ∷ []) (u ∷ toks) (pre.Minus ∷ []) sign (slot_no_prefix.at u.kind ends) in
       let none = fails_then (r.primary room R) (λ p. r.selectors room R >>= λ ss. pure (selected p ss)) (u ∷ toks) (primary_fails (u ∷ toks) (not_is (starts_primary u.kind) (slot_no_primary.at u.kind ends))) in
       whole_fails (t ∷ u ∷ toks) (ap (begins_as quantifier) minus ∙ minus_facts.0) (ap (begins_as not_sign) minus ∙ minus_facts.1)
-        (fails_at (goes_to (λ ps. r.e12 room R >>= λ x. pure (prefixed ps x)) signs) (fails_then (r.e12 room R) (λ x. pure (prefixed (pre.Minus ∷ []) x)) (u ∷ toks) none))
+      (fails_at (goes_to (λ ps. r.e12 room R >>= λ x. pure (prefixed ps x)) signs) (fails_then (r.e12 room R) (λ x. pure (prefixed (pre.Minus ∷ []) x)) (u ∷ toks) none))
 
   bracket_facts : (begins_as quantifier k.LeftBracket ≡ false) × (begins_as not_sign k.LeftBracket ≡ false) × (r.begins_prefix k.LeftBracket ≡ false)
   unfolding quantifier not_sign fold_sign prefix_op r.begins_prefix
@@ -587,7 +584,7 @@ module _ (room : ℕ) (R : r.Inside) (L : grammar.Inside) (E : (inside : ℕ) �
         | inr m ↦
             let opened : opening room k.LeftBracket (t ∷ toks) ≡ Ok (t, toks) = ap (λ (z : ℕ). opening z k.LeftBracket (t ∷ toks)) m.1 ∙ opening_takes m.0 k.LeftBracket t toks bracket in
             fails_at (goes_to go opened) (fails_then (r.inner (room - 1) R) (λ x. expect k.RightBracket >>= λ _. pure (e.Tuple x)) toks
-              (subst (λ (z : ℕ). Fails (r.inner z R toks)) (inside_room m.0 m.1) (inside m.0 m.1)))
+            (subst (λ (z : ℕ). Fails (r.inner z R toks)) (inside_room m.0 m.1) (inside m.0 m.1)))
       ]
 
   pub bracket_fails : (t : Token) (toks : Tokens) → t.kind ≡ k.LeftBracket → ((inside : ℕ) → room ≡ suc inside → Fails (r.inner inside R toks)) → Fails (r.whole room R (t ∷ toks))
@@ -596,9 +593,9 @@ module _ (room : ℕ) (R : r.Inside) (L : grammar.Inside) (E : (inside : ℕ) �
       let none = many_none r.begins_prefix r.prefix (t ∷ toks) (ap r.begins_prefix bracket ∙ bracket_facts.2) in
       let as_tuple : r.primary room R (t ∷ toks) ≡ r.tuple room R (t ∷ toks) = ap (λ (z : Kind). r.primary_by room R z (t ∷ toks)) bracket in
       whole_fails (t ∷ toks) (ap (begins_as quantifier) bracket ∙ bracket_facts.0) (ap (begins_as not_sign) bracket ∙ bracket_facts.1)
-        (fails_at (goes_to (λ ps. r.e12 room R >>= λ x. pure (prefixed ps x)) none)
-          (fails_then (r.e12 room R) (λ x. pure (prefixed [] x)) (t ∷ toks) (fails_then (r.primary room R) (λ p. r.selectors room R >>= λ ss. pure (selected p ss)) (t ∷ toks)
-            (fails_at as_tuple (tuple_fails t toks bracket inside)))))
+      (fails_at (goes_to (λ ps. r.e12 room R >>= λ x. pure (prefixed ps x)) none)
+      (fails_then (r.e12 room R) (λ x. pure (prefixed [] x)) (t ∷ toks) (fails_then (r.primary room R) (λ p. r.selectors room R >>= λ ss. pure (selected p ss)) (t ∷ toks)
+      (fails_at as_tuple (tuple_fails t toks bracket inside)))))
 
   -- ---- operands alone
 
@@ -631,22 +628,40 @@ module _ (room : ℕ) (R : r.Inside) (L : grammar.Inside) (E : (inside : ℕ) �
   pub names_primary : (toks : Tokens) (xs : List (List ℕ)) → names_l room toks xs → grammar.primary room L toks (e.Tuple (inn.List (mapped e.Name xs)))
   unfolding grammar.primary grammar.inner
   names_primary toks xs s = elim (zero_or_more room) [
-      | inl none ↦ absurd (subst (λ (z : ℕ). lang.opening z k.LeftBracket s.front s.value) none s.first)
-      | inr m ↦
-          let n = s.second in
-          let list : grammar.inner (room - 1) L n.front (inn.List (mapped e.Name n.value)) = inl (record {
-            front = n.front; back = []; value = mapped e.Name n.value; parts = sym (append-nil n.front);
-            first = inr (separated_map {M = L.expr} e.Name (name_of m.0 m.1) n.front n.value n.first); second = (refl, refl);
-          }) in
-          inr (inr (inr (inr (inr (inr (inr (record {
-            front = s.front; back = s.back; value = s.value; parts = s.parts; first = s.first;
+    | inl none ↦ absurd (subst (λ (z : ℕ). lang.opening z k.LeftBracket s.front s.value) none s.first)
+    | inr m ↦
+        let n = s.second in
+        let list : grammar.inner (room - 1) L n.front (inn.List (mapped e.Name n.value)) = inl (record {
+          front = n.front;
+          back = [];
+          value = mapped e.Name n.value;
+          parts = sym (append-nil n.front);
+          first = inr (separated_map {M = L.expr} e.Name (name_of m.0 m.1) n.front n.value n.first);
+          second = (refl, refl);
+        }) in
+        inr (inr (inr (inr (inr (inr (inr (record {
+          front = s.front;
+          back = s.back;
+          value = s.value;
+          parts = s.parts;
+          first = s.first;
+          second = record {
+            front = n.front;
+            back = n.back;
+            value = inn.List (mapped e.Name n.value);
+            parts = n.parts;
+            first = list;
             second = record {
-              front = n.front; back = n.back; value = inn.List (mapped e.Name n.value); parts = n.parts; first = list;
-              second = record { front = n.second.front; back = n.second.back; value = n.second.value; parts = n.second.parts; first = n.second.first;
-                second = (n.second.second.0, ap (λ (z : List (List ℕ)). e.Tuple (inn.List (mapped e.Name z))) n.second.second.1) };
+              front = n.second.front;
+              back = n.second.back;
+              value = n.second.value;
+              parts = n.second.parts;
+              first = n.second.first;
+              second = (n.second.second.0, ap (λ (z : List (List ℕ)). e.Tuple (inn.List (mapped e.Name z))) n.second.second.1);
             };
-          })))))))
-    ]
+          };
+        })))))))
+  ]
 
   no_inside : (toks : Tokens) → (room ≡ zero) ⊎ (slots_ahead toks ≡ Pattern) → (inside : ℕ) → room ≡ suc inside → Fails (r.inner inside R toks)
   no_inside toks (inl none) inside is_inside = absurd (omega (arith, none, is_inside))
@@ -656,11 +671,15 @@ module _ (room : ℕ) (R : r.Inside) (L : grammar.Inside) (E : (inside : ℕ) �
 
   pub is_inside : IsInside room (record { expr = r.whole room R; source = r.e7 room R; after = r.after room R }) (record { expr = grammar.whole room L; source = grammar.e7 room L })
   is_inside = record {
-    expr = law_whole; source = law_e7; begins = begins_whole;
+    expr = law_whole;
+    source = law_e7;
+    begins = begins_whole;
     name_expr = λ t name. primary_whole (t ∷ []) (e.Name t.text) (name_primary t name);
     name_source = λ t name. primary_source (t ∷ []) (e.Name t.text) (name_primary t name);
     names_source = λ toks xs s. primary_source toks (e.Tuple (inn.List (mapped e.Name xs))) (names_primary toks xs s);
-    goes_on = whole_goes_on; stays = after_stays; no_operand = minus_fails;
+    goes_on = whole_goes_on;
+    stays = after_stays;
+    no_operand = minus_fails;
     no_tuple = λ t toks bracket why. bracket_fails t toks bracket (no_inside toks why);
   }
 

@@ -1,5 +1,5 @@
 -- Where more nestings may open, the same tokens spell the same values.
-use Rattle.std.proofs.Common.{◌≡◌, ℕ, zero, suc, ◌-◌, ◌≤◌, List, [], ◌∷◌, ◌++◌, Option, Some, None, refl, arith, inl, inr, ◌⊎◌}
+use Rattle.std.proofs.Common.{ℕ, zero, suc, ◌-◌, ◌≤◌, List, [], ◌∷◌, Option, Some, None, arith, inl, inr, ◌⊎◌}
 use Rattle.setl_tree.specs.declared.kind.Kind.{Kind}
 use Rattle.setl_tree.specs.declared.kind.Kind.TheVariants as k
 use Rattle.setl_tree.specs.declared.expr.Expr.{Expr}
@@ -99,8 +99,8 @@ record Deeper (D E : Inside) : Type 0 where
 inner : (a b : ℕ) → a ≤ b → (D E : Inside) → Deeper D E → Grows (x.inner a D) (x.inner b E)
 unfolding x.inner
 inner a b le D E deeper = either (behind (listed deeper.expr) (λ xs. same))
-  (either (behind deeper.expr (λ u. behind (optional (after (λ _. deeper.expr))) (λ v. after (λ _. behind deeper.expr (λ w. same)))))
-  (either (behind deeper.expr (λ u. after (λ _. behind (iters a b le D.source E.source deeper.source) (λ over. behind (optional (after (λ _. deeper.expr))) (λ c. same)))))
+    (either (behind deeper.expr (λ u. behind (optional (after (λ _. deeper.expr))) (λ v. after (λ _. behind deeper.expr (λ w. same)))))
+    (either (behind deeper.expr (λ u. after (λ _. behind (iters a b le D.source E.source deeper.source) (λ over. behind (optional (after (λ _. deeper.expr))) (λ c. same)))))
     (behind (bound a b le) (λ w. after (λ _. behind deeper.source (λ s. after (λ _. behind deeper.expr (λ c. same))))))))
 
 chain : (level : ℕ) {L M : Lang Expr} → Grows L M → Grows (x.chain level L) (x.chain level M)
@@ -113,15 +113,15 @@ module _ (a b : ℕ) (le : a ≤ b) (D E : Inside) (deeper : Deeper D E) where
   selector : Grows (x.selector a D) (x.selector b E)
   unfolding x.selector
   selector = either (behind (opening a b le k.LeftParen) (λ _. behind (listed deeper.expr) (λ xs. same)))
-    (either (behind (opening a b le k.LeftParen) (λ _. behind deeper.expr (λ u. after (λ _. behind (optional deeper.expr) (λ v. same)))))
+      (either (behind (opening a b le k.LeftParen) (λ _. behind deeper.expr (λ u. after (λ _. behind (optional deeper.expr) (λ v. same)))))
       (behind (opening a b le k.LeftBrace) (λ _. behind (separated deeper.expr) (λ xs. same))))
 
   primary : Grows (x.primary a D) (x.primary b E)
   unfolding x.primary
   primary = either same (either same (either same (either same
-    (either (behind (opening a b le k.LeftParen) (λ _. behind deeper.expr (λ u. same)))
-    (either (behind (opening a b le k.If) (λ _. behind deeper.expr (λ u. after (λ _. behind deeper.expr (λ v. after (λ _. behind deeper.expr (λ w. same)))))))
-    (either (behind (opening a b le k.LeftBrace) (λ _. behind in_inner (λ u. same)))
+      (either (behind (opening a b le k.LeftParen) (λ _. behind deeper.expr (λ u. same)))
+      (either (behind (opening a b le k.If) (λ _. behind deeper.expr (λ u. after (λ _. behind deeper.expr (λ v. after (λ _. behind deeper.expr (λ w. same)))))))
+      (either (behind (opening a b le k.LeftBrace) (λ _. behind in_inner (λ u. same)))
       (behind (opening a b le k.LeftBracket) (λ _. behind in_inner (λ u. same)))))))))
 
   e12 : Grows (x.e12 a D) (x.e12 b E)
@@ -172,16 +172,16 @@ module _ (a b : ℕ) (le : a ≤ b) where
     stmt_kind : Grows (s.stmt_kind a D) (s.stmt_kind b E)
     unfolding s.stmt_kind
     stmt_kind = either (behind place (λ u. after (λ _. behind (expr a b le) (λ v. same))))
-      (either (behind place (λ u. after (λ o. after (λ _. behind (expr a b le) (λ v. same)))))
-      (either (behind (pattern a b le) (λ slots. after (λ _. behind (expr a b le) (λ v. same))))
-      (either (after (λ u. after (λ w. behind place (λ v. same))))
-      (either (after (λ f. behind (opening a b le k.LeftParen) (λ _. behind (listed deeper.expr) (λ xs. same))))
-      (either (behind (opening a b le k.If) (λ _. behind branch (λ u. behind (many (after (λ _. branch))) (λ v. behind (optional (after (λ _. body))) (λ w. same)))))
-      (either (behind (opening a b le k.LeftParen) (λ _. after (λ _. behind (iters (a - 1) (b - 1) (less_one a b le) (x.nested a).source (x.nested b).source deeper.source) (λ over. behind (optional (after (λ _. deeper.expr))) (λ c. after (λ _. behind body (λ u. same)))))))
-      (either (behind (opening a b le k.LeftParen) (λ _. after (λ _. behind deeper.expr (λ c. after (λ _. behind body (λ u. same))))))
-      (either same
-      (either (after (λ _. behind (optional (expr a b le)) (λ u. same)))
-      (either (after (λ _. behind (opening a b le k.LeftParen) (λ _. behind (listed deeper.expr) (λ xs. same))))
+        (either (behind place (λ u. after (λ o. after (λ _. behind (expr a b le) (λ v. same)))))
+        (either (behind (pattern a b le) (λ slots. after (λ _. behind (expr a b le) (λ v. same))))
+        (either (after (λ u. after (λ w. behind place (λ v. same))))
+        (either (after (λ f. behind (opening a b le k.LeftParen) (λ _. behind (listed deeper.expr) (λ xs. same))))
+        (either (behind (opening a b le k.If) (λ _. behind branch (λ u. behind (many (after (λ _. branch))) (λ v. behind (optional (after (λ _. body))) (λ w. same)))))
+        (either (behind (opening a b le k.LeftParen) (λ _. after (λ _. behind (iters (a - 1) (b - 1) (less_one a b le) (x.nested a).source (x.nested b).source deeper.source) (λ over. behind (optional (after (λ _. deeper.expr))) (λ c. after (λ _. behind body (λ u. same)))))))
+        (either (behind (opening a b le k.LeftParen) (λ _. after (λ _. behind deeper.expr (λ c. after (λ _. behind body (λ u. same))))))
+        (either same
+        (either (after (λ _. behind (optional (expr a b le)) (λ u. same)))
+        (either (after (λ _. behind (opening a b le k.LeftParen) (λ _. behind (listed deeper.expr) (λ xs. same))))
         (after (λ _. behind (opening a b le k.LeftParen) (λ _. same)))))))))))))
 
     stmt : Grows (s.stmt a D) (s.stmt b E)
@@ -206,8 +206,8 @@ mode_in a b le D E deep = behind (lined (after (λ w. behind (either same (eithe
     (either (after (λ _. behind (opening a b le k.LeftParen) (λ _. behind deep (λ u. same))))
     (either (after (λ _. behind (opening a b le k.LeftParen) (λ _. behind deep (λ u. same))))
     (either (after (λ _. behind (opening a b le k.LeftParen) (λ _. behind deep (λ u. after (λ _. behind deep (λ v. same))))))
-      (after (λ _. behind (opening a b le k.LeftBrace) (λ _. behind deep (λ u. after (λ _. behind deep (λ v. same)))))))))))
-  (λ c. same)))) (λ u. same)
+    (after (λ _. behind (opening a b le k.LeftBrace) (λ _. behind deep (λ u. after (λ _. behind deep (λ v. same)))))))))))
+    (λ c. same)))) (λ u. same)
 
 nested_mode : (a b : ℕ) → a ≤ b → Grows (m.nested_mode a) (m.nested_mode b)
 unfolding m.nested_mode

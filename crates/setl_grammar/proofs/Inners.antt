@@ -1,5 +1,5 @@
 -- Reading what stands inside braces and brackets.
-use Rattle.std.proofs.Common.{◌≡◌, ◌≢◌, ℕ, zero, suc, ◌≤◌, Bool, true, false, not, cond, if◌then◌else◌, List, [], ◌∷◌, ◌++◌, length, Option, Some, None, Ok, Err, refl, sym, ap, subst, ◌∙◌, append_assoc, arith, inl, inr, ◌⊎◌}
+use Rattle.std.proofs.Common.{◌≡◌, ℕ, zero, suc, ◌≤◌, Bool, true, false, not, cond, if◌then◌else◌, List, [], ◌∷◌, ◌++◌, length, Some, None, Ok, Err, refl, sym, ap, subst, ◌∙◌, append_assoc, arith, inl, inr, ◌⊎◌}
 use Rattle.std.proofs.lemmas.List.{append-nil}
 use Rattle.setl_tree.specs.declared.kind.Kind.{Kind}
 use Rattle.setl_tree.specs.declared.kind.Kind.TheVariants as k
@@ -9,23 +9,22 @@ use Rattle.setl_tree.specs.declared.expr.Bound.{Bound}
 use Rattle.setl_tree.specs.declared.expr.Bound.TheVariants as bd
 use Rattle.setl_tree.specs.declared.expr.Inner.{Inner}
 use Rattle.setl_tree.specs.declared.expr.Inner.TheVariants as inn
-use Rattle.setl_tree.specs.declared.expr.Iter.{Iter}
 use Rattle.setl_tree.specs.declared.expr.Expr.{Expr}
 use Rattle.setl_tree.specs.declared.expr.Expr.TheVariants as e
 use Rattle.setl_tree.specs.Tokens.{Token, Tokens}
 use Rattle.setl_tree.specs.Lang.{Lang, Then}
 use Rattle.setl_tree.specs.Lang as lang
-use Rattle.setl_tree.specs.Operators.{level_of, binary_op, not_sign, prefix_op, fold_sign, quantifier, constant}
+use Rattle.setl_tree.specs.Operators.{level_of, not_sign, prefix_op, fold_sign, quantifier}
 use Rattle.setl_tree.specs.Expressions as grammar
 use Rattle.setl_grammar.specs.declared.ahead.Ahead.{Ahead}
 use Rattle.setl_grammar.specs.declared.ahead.Ahead.TheVariants.{Expression, Either, Pattern}
-use Rattle.setl_grammar.specs.Reading.{but, Outcome, Reader, ◌>>=◌, ◌>>◌, and_then, pure, peek, expect, opening, is, begins_as, next_kind, rest_of, same_kind, take_if, many_from, more, separated}
-use Rattle.setl_grammar.specs.Scan.{either_at, ends_slot, slots_ahead, ahead, slot_exprs, bound_expr}
+use Rattle.setl_grammar.specs.Reading.{but, Outcome, Reader, ◌>>=◌, ◌>>◌, and_then, pure, expect, opening, is, begins_as, next_kind, rest_of, same_kind, many_from, more, separated}
+use Rattle.setl_grammar.specs.Scan.{either_at, ends_slot, slots_ahead, ahead, bound_expr}
 use Rattle.setl_grammar.specs.ReadExpressions as r
 use Rattle.setl_grammar.proofs.EveryKind.{kinds, same_kind_is, same_kind_self}
-use Rattle.setl_grammar.proofs.Laws.{Took, Law, Complete, Follows, Within, Begins, BeginsWith, Fails, always, anything, bind_ok, ok_parts, took_at, took_as, took_then, fails_then, fails_at, takes, passes, goes_to, opening_fails, bind_assoc, law_of, next_of, not_is, within, then_within, within_always, same, law_pure, law_then, law_map, law_stops, law_expect, law_choose, law_as, law_opening, law_more, law_optional, law_separated, law_name, begins_name, begins_token, begins_then, begins_or, begins_within, follows_begins, follows_token, follows_or, follows_map, follows_more, follows_optional, follows_pure}
-use Rattle.setl_grammar.proofs.Regroup.{more_l, then_to, behind, assoc, unassoc, map_then, then_map, with_first, with_second, optional_none, optional_some, optional_to, listed_none, listed_some, listed_to, more_one, more_none, more_to}
-use Rattle.setl_grammar.proofs.Bounds.{below, below_more, over, starts_bound, law_bound, begins_bound, law_iters}
+use Rattle.setl_grammar.proofs.Laws.{Took, Law, Follows, Within, Begins, Fails, anything, bind_ok, ok_parts, took_as, took_then, fails_then, fails_at, takes, passes, goes_to, opening_fails, bind_assoc, law_of, not_is, within, within_always, same, law_pure, law_then, law_map, law_stops, law_expect, law_choose, law_as, law_more, law_optional, begins_token, begins_then, follows_begins, follows_token, follows_or, follows_map, follows_more, follows_optional, follows_pure}
+use Rattle.setl_grammar.proofs.Regroup.{more_l, behind, assoc, unassoc, with_second, optional_none, optional_some, optional_to, listed_none, listed_some, listed_to, more_one, more_none, more_to}
+use Rattle.setl_grammar.proofs.Bounds.{below, over, starts_bound, law_bound, law_iters}
 use Rattle.setl_grammar.proofs.Scanning.{Named, named, holed, not_short, name_token, mapped, separated_map, bracketed, ahead_is, ahead_name, ahead_minus, either_at_in, either_at_not, some_token, bound_seen, slot_exprs_names}
 
 -- ---- what begins an expression
@@ -114,7 +113,7 @@ bracket_fails : (i : Tokens) → next_kind i ≡ k.LeftBracket → Fails (r.boun
 unfolding r.bound r.pattern
 bracket_fails i h = fails_at (passes (is k.Name) _ _ i (ap (is k.Name) h ∙ bracket_no_name))
     (fails_then (r.pattern zero) (λ slots. pure (bd.Pattern slots)) i
-      (fails_then (opening zero k.LeftBracket) (λ _. separated r.slot >>= λ slots. expect k.RightBracket >>= λ _. pure slots) i (opening_fails k.LeftBracket i)))
+    (fails_then (opening zero k.LeftBracket) (λ _. separated r.slot >>= λ slots. expect k.RightBracket >>= λ _. pure slots) i (opening_fails k.LeftBracket i)))
 
 module _ (room : ℕ) (R : r.Inside) (L : grammar.Inside) (E : IsInside room R L) where
   -- ---- an expression in front, or nothing
@@ -243,14 +242,14 @@ module _ (room : ℕ) (R : r.Inside) (L : grammar.Inside) (E : IsInside room R L
   unfolding grammar.inner
   plain_to toks a (inl none) = inl (listed_none none)
   plain_to toks a (inr some) = elim some.second [
-      | inl dots ↦ inr (inl (with_second some (optional_none dots)))
-      | inr (inl colon) ↦ inr (inr (inl (with_second some colon)))
-      | inr (inr (inl comma)) ↦ elim comma.second.second [
-          | inl dots ↦ inr (inl (with_second some (optional_some (unassoc (with_second comma (with_second comma.second dots))))))
-          | inr more ↦ inl (listed_some (with_second some (more_one {K = λ xs. lang.pure (inn.List (some.value ∷ xs))} (with_second comma (with_second comma.second more)))))
-        ]
-      | inr (inr (inr one)) ↦ inl (listed_some (with_second some (more_none {K = λ xs. lang.pure (inn.List (some.value ∷ xs))} one)))
+    | inl dots ↦ inr (inl (with_second some (optional_none dots)))
+    | inr (inl colon) ↦ inr (inr (inl (with_second some colon)))
+    | inr (inr (inl comma)) ↦ elim comma.second.second [
+      | inl dots ↦ inr (inl (with_second some (optional_some (unassoc (with_second comma (with_second comma.second dots))))))
+      | inr more ↦ inl (listed_some (with_second some (more_one {K = λ xs. lang.pure (inn.List (some.value ∷ xs))} (with_second comma (with_second comma.second more)))))
     ]
+    | inr (inr (inr one)) ↦ inl (listed_some (with_second some (more_none {K = λ xs. lang.pure (inn.List (some.value ∷ xs))} one)))
+  ]
 
   -- `bound in source | condition`
   abbrev filter_l : Lang Inner
@@ -259,16 +258,16 @@ module _ (room : ℕ) (R : r.Inside) (L : grammar.Inside) (E : IsInside room R L
   inner_from : (toks : Tokens) (a : Inner) → grammar.inner room L toks a → plain_l toks a ⊎ filter_l toks a
   unfolding grammar.inner
   inner_from toks a (inl list) = inl (elim (listed_to list) [
-      | inl none ↦ inl none
-      | inr some ↦ inr (behind (λ a t y h. elim (more_to {K = λ xs. lang.pure (inn.List (a ∷ xs))} h) [
-          | inl one ↦ inr (inr (inr one))
-          | inr more ↦ inr (inr (inl (behind (λ _ t y h. behind (λ b t y h. inr h) h) more)))
-        ]) some)
-    ])
+    | inl none ↦ inl none
+    | inr some ↦ inr (behind (λ a t y h. elim (more_to {K = λ xs. lang.pure (inn.List (a ∷ xs))} h) [
+      | inl one ↦ inr (inr (inr one))
+      | inr more ↦ inr (inr (inl (behind (λ _ t y h. behind (λ b t y h. inr h) h) more)))
+    ]) some)
+  ])
   inner_from toks a (inr (inl range)) = inl (inr (behind (λ a t y h. elim (optional_to {K = λ o. Then (lang.token k.Dots) (λ _. Then L.expr (λ c. lang.pure (inn.Range a o c)))} h) [
-      | inl none ↦ inl none
-      | inr two ↦ inr (inr (inl (behind (λ _ t y h. behind (λ b t y h. inl h) h) (assoc two))))
-    ]) range))
+    | inl none ↦ inl none
+    | inr two ↦ inr (inr (inl (behind (λ _ t y h. behind (λ b t y h. inl h) h) (assoc two))))
+  ]) range))
   inner_from toks a (inr (inr (inl former))) = inl (inr (behind (λ a t y h. inr (inl h)) former))
   inner_from toks a (inr (inr (inr filter))) = inr filter
 
@@ -306,7 +305,8 @@ module _ (room : ℕ) (R : r.Inside) (L : grammar.Inside) (E : IsInside room R L
   both_name : (t : Token) (rest : Tokens) → t.kind ≡ k.Name → next_kind rest ≡ k.In → Both (t ∷ rest)
   unfolding grammar.bound
   both_name t rest name next = record {
-    bound = bd.Name t.text; rest = rest;
+    bound = bd.Name t.text;
+    rest = rest;
     reads = (law_bound room).complete.reads (t ∷ []) rest (bd.Name t.text) (inl (record { front = t ∷ []; back = []; value = t.text; parts = refl; first = name_token t name; second = (refl, refl) })) refl;
     in_next = next;
     as_source = E.source.complete.reads (t ∷ []) rest (e.Name t.text) (E.name_source t name) (ap (below 7) next ∙ in_below);
@@ -324,7 +324,8 @@ module _ (room : ℕ) (R : r.Inside) (L : grammar.Inside) (E : IsInside room R L
       let as_names : names_l room used n.xs = subst (λ (z : ℕ). names_l z used n.xs) (sym is_suc) (bracketed lang.name m t n.front n.close n.xs bracket n.closed n.spelled) in
       let exprs : e.Tuple (inn.List (mapped e.Name n.xs)) ≡ bound_expr (bd.Pattern slots) = ap (λ z. e.Tuple (inn.List z)) (sym (slot_exprs_names n.xs)) in
       record {
-        bound = bd.Pattern slots; rest = n.rest;
+        bound = bd.Pattern slots;
+        rest = n.rest;
         reads = ap (r.bound room) whole ∙ (law_bound room).complete.reads used n.rest (bd.Pattern slots) as_bound refl;
         in_next = n.in_next;
         as_source = ap R.source whole ∙ E.source.complete.reads used n.rest (e.Tuple (inn.List (mapped e.Name n.xs))) (E.names_source used n.xs as_names) (ap (below 7) n.in_next ∙ in_below)
@@ -345,19 +346,21 @@ module _ (room : ℕ) (R : r.Inside) (L : grammar.Inside) (E : IsInside room R L
   -- where the bound may be an expression, it is read as both, or its bracket may not open
   either : (i : Tokens) → ahead i ≡ Either → (starts_bound (next_kind i) ≡ true) × (Both i ⊎ ((room ≡ zero) × (next_kind i ≡ k.LeftBracket)))
   either i h = elim (ahead_is i) [
-      | inl name ↦
-          let t = some_token i k.Name name.0 (λ same. cc) in
-          let next : next_kind (rest_of i) ≡ k.In = either_at_in (next_kind (rest_of i)) (sym name.1 ∙ h) in
-          (ap starts_bound name.0 ∙ name_is_bound, inl (subst Both (sym t.1) (both_name t.0 (rest_of i) t.2 next)))
-      | inr (inl bracket) ↦
-          let t = some_token i k.LeftBracket bracket.0 (λ same. cc) in
-          let n = named (rest_of i) (sym bracket.1 ∙ h) in
-          (ap starts_bound bracket.0 ∙ bracket_is_bound, elim (zero_or_more room) [
+    | inl name ↦
+        let t = some_token i k.Name name.0 (λ same. cc) in
+        let next : next_kind (rest_of i) ≡ k.In = either_at_in (next_kind (rest_of i)) (sym name.1 ∙ h) in
+        (ap starts_bound name.0 ∙ name_is_bound, inl (subst Both (sym t.1) (both_name t.0 (rest_of i) t.2 next)))
+    | inr (inl bracket) ↦
+        let t = some_token i k.LeftBracket bracket.0 (λ same. cc) in
+        let n = named (rest_of i) (sym bracket.1 ∙ h) in (
+          ap starts_bound bracket.0 ∙ bracket_is_bound,
+          elim (zero_or_more room) [
             | inl none ↦ inr (none, bracket.0)
             | inr m ↦ inl (subst Both (sym t.1) (both_bracket m.0 m.1 t.0 (rest_of i) t.2 n))
-          ])
-      | inr (inr none) ↦ absurd (not_expression (sym none ∙ h))
-    ]
+          ],
+        )
+    | inr (inr none) ↦ absurd (not_expression (sym none ∙ h))
+  ]
 
   starts_bound_open : Within starts_bound (λ kind. not (r.closes kind))
   unfolding kinds same_kind r.closes
@@ -430,10 +433,10 @@ module _ (room : ℕ) (R : r.Inside) (L : grammar.Inside) (E : IsInside room R L
       let s = two.0.0 in
       let at = two.0.1 in
       let go : (c : Bool) → is k.Bar (next_kind at) ≡ c → cond c (r.filter room R b s) (R.after (e.Compare (bound_expr b) rel.In s) >>= r.rest_of_inner room R) at ≡ Ok (a, rest) = λ c.
-          elim c as (λ c. is k.Bar (next_kind at) ≡ c → cond c (r.filter room R b s) (R.after (e.Compare (bound_expr b) rel.In s) >>= r.rest_of_inner room R) at ≡ Ok (a, rest)) [
-            | true ↦ λ bar. absurd (no_bar b s at a rest (same_kind_is (next_kind at) k.Bar bar) stop two.2)
-            | false ↦ λ bar. two.2
-          ] in
+      elim c as (λ c. is k.Bar (next_kind at) ≡ c → cond c (r.filter room R b s) (R.after (e.Compare (bound_expr b) rel.In s) >>= r.rest_of_inner room R) at ≡ Ok (a, rest)) [
+        | true ↦ λ bar. absurd (no_bar b s at a rest (same_kind_is (next_kind at) k.Bar bar) stop two.2)
+        | false ↦ λ bar. two.2
+      ] in
       rw (one.1, two.1) (go (is k.Bar (next_kind at)) refl)
 
   -- a condition begins with `|`
@@ -467,13 +470,13 @@ module _ (room : ℕ) (R : r.Inside) (L : grammar.Inside) (E : IsInside room R L
       let s = two.0.0 in
       let at = two.0.1 in
       let go : (c : Bool) → cond c (r.filter room R b s) (R.after (e.Compare (bound_expr b) rel.In s) >>= r.rest_of_inner room R) at ≡ Ok (a, rest)
-          → Took filter_l i a rest ⊎ ((R.after (e.Compare (bound_expr b) rel.In s) >>= r.rest_of_inner room R) at ≡ Ok (a, rest)) = λ c.
-          elim c as (λ c. cond c (r.filter room R b s) (R.after (e.Compare (bound_expr b) rel.In s) >>= r.rest_of_inner room R) at ≡ Ok (a, rest)
-              → Took filter_l i a rest ⊎ ((R.after (e.Compare (bound_expr b) rel.In s) >>= r.rest_of_inner room R) at ≡ Ok (a, rest))) [
-            | true ↦ λ read. inl (took_then ((law_bound room).sound.took i b both.rest both.reads) (took_then ((law_expect k.In).sound.took both.rest one.0.0 one.0.1 one.1)
-                (took_then (E.source.sound.took one.0.1 s at two.1) ((law_filter b s).sound.took at a rest read))))
-            | false ↦ λ read. inr read
-          ] in
+      → Took filter_l i a rest ⊎ ((R.after (e.Compare (bound_expr b) rel.In s) >>= r.rest_of_inner room R) at ≡ Ok (a, rest)) = λ c.
+      elim c as (λ c. cond c (r.filter room R b s) (R.after (e.Compare (bound_expr b) rel.In s) >>= r.rest_of_inner room R) at ≡ Ok (a, rest)
+      → Took filter_l i a rest ⊎ ((R.after (e.Compare (bound_expr b) rel.In s) >>= r.rest_of_inner room R) at ≡ Ok (a, rest))) [
+        | true ↦ λ read. inl (took_then ((law_bound room).sound.took i b both.rest both.reads) (took_then ((law_expect k.In).sound.took both.rest one.0.0 one.0.1 one.1)
+            (took_then (E.source.sound.took one.0.1 s at two.1) ((law_filter b s).sound.took at a rest read))))
+        | false ↦ λ read. inr read
+      ] in
       elim (go (is k.Bar (next_kind at)) two.2) [ inl took ↦ inl took | inr read ↦ inr (rw (one.1, two.1) read) ]
 
   -- ---- a pattern with a `-` is no expression
@@ -484,13 +487,13 @@ module _ (room : ℕ) (R : r.Inside) (L : grammar.Inside) (E : IsInside room R L
 
   hole_fails : (i : Tokens) → ahead i ≡ Pattern → Fails (r.plain room R i)
   hole_fails i h = elim (ahead_is i) [
-      | inl name ↦ absurd (either_at_not (next_kind (rest_of i)) (sym name.1 ∙ h))
-      | inr (inl bracket) ↦
-          let t = some_token i k.LeftBracket bracket.0 (λ same. cc) in
-          let opens : r.closes (next_kind i) ≡ false = not_is (r.closes (next_kind i)) (starts_bound_open.at (next_kind i) (ap starts_bound bracket.0 ∙ bracket_is_bound)) in
-          plain_fails i opens (subst (λ (z : Tokens). Fails (R.expr z)) (sym t.1) (E.no_tuple t.0 (rest_of i) t.2 (inr (sym bracket.1 ∙ h))))
-      | inr (inr none) ↦ absurd (not_pattern (sym none ∙ h))
-    ]
+    | inl name ↦ absurd (either_at_not (next_kind (rest_of i)) (sym name.1 ∙ h))
+    | inr (inl bracket) ↦
+        let t = some_token i k.LeftBracket bracket.0 (λ same. cc) in
+        let opens : r.closes (next_kind i) ≡ false = not_is (r.closes (next_kind i)) (starts_bound_open.at (next_kind i) (ap starts_bound bracket.0 ∙ bracket_is_bound)) in
+        plain_fails i opens (subst (λ (z : Tokens). Fails (R.expr z)) (sym t.1) (E.no_tuple t.0 (rest_of i) t.2 (inr (sym bracket.1 ∙ h))))
+    | inr (inr none) ↦ absurd (not_pattern (sym none ∙ h))
+  ]
 
   room_fails : (i : Tokens) → room ≡ zero → next_kind i ≡ k.LeftBracket → Fails (r.plain room R i)
   room_fails i none bracket =
@@ -511,9 +514,9 @@ module _ (room : ℕ) (R : r.Inside) (L : grammar.Inside) (E : IsInside room R L
       let e = either i seen in
       elim e.1 [
         | inl both ↦ elim (either_took i both a rest (sym (bound_goes i both (r.filter_or_plain room R)) ∙ h)) [
-            | inl took ↦ took_as took filter_to
-            | inr read ↦ took_as (law_plain.sound.took i a rest (plain_goes i both e.0 ∙ read)) plain_to
-          ]
+          | inl took ↦ took_as took filter_to
+          | inr read ↦ took_as (law_plain.sound.took i a rest (plain_goes i both e.0 ∙ read)) plain_to
+        ]
         | inr none ↦ absurd (bound_fails i (r.filter_or_plain room R) none.0 none.1 (a, rest) h)
       ]
 
@@ -565,8 +568,8 @@ module _ (room : ℕ) (R : r.Inside) (L : grammar.Inside) (E : IsInside room R L
       let taken : expect k.Comma (c ∷ t ∷ u ∷ toks) ≡ Ok (c, t ∷ u ∷ toks) = (law_expect k.Comma).complete.reads (c ∷ []) (t ∷ u ∷ toks) c (record { alone = refl; kind = comma }) refl in
       let begins : is k.Comma c.kind ≡ true = ap (is k.Comma) comma ∙ same_kind_self k.Comma in
       let turn : many_from (is k.Comma) (expect k.Comma >> R.expr) (suc n) found (c ∷ t ∷ u ∷ toks) ≡ (R.expr >>= λ x. many_from (is k.Comma) (expect k.Comma >> R.expr) n (found ++ x ∷ [])) (t ∷ u ∷ toks) =
-          takes (is k.Comma) _ _ (c ∷ t ∷ u ∷ toks) begins ∙ bind_assoc (expect k.Comma (c ∷ t ∷ u ∷ toks)) (λ _. R.expr) (λ x. many_from (is k.Comma) (expect k.Comma >> R.expr) n (found ++ x ∷ []))
-            ∙ goes_to (λ _. R.expr >>= λ x. many_from (is k.Comma) (expect k.Comma >> R.expr) n (found ++ x ∷ [])) taken in
+      takes (is k.Comma) _ _ (c ∷ t ∷ u ∷ toks) begins ∙ bind_assoc (expect k.Comma (c ∷ t ∷ u ∷ toks)) (λ _. R.expr) (λ x. many_from (is k.Comma) (expect k.Comma >> R.expr) n (found ++ x ∷ []))
+      ∙ goes_to (λ _. R.expr >>= λ x. many_from (is k.Comma) (expect k.Comma >> R.expr) n (found ++ x ∷ [])) taken in
       elim (holed t u toks hole) [
         | inl minus ↦ fails_at turn (fails_then R.expr (λ x. many_from (is k.Comma) (expect k.Comma >> R.expr) n (found ++ x ∷ [])) (t ∷ u ∷ toks) (E.no_operand t u toks minus.0 minus.1))
         | inr name ↦ fails_at (turn ∙ goes_to (λ x. many_from (is k.Comma) (expect k.Comma >> R.expr) n (found ++ x ∷ [])) (name_reads t u toks name.0 name.1))
@@ -587,13 +590,13 @@ module _ (room : ℕ) (R : r.Inside) (L : grammar.Inside) (E : IsInside room R L
   at_comma a c toks comma =
       let taken : expect k.Comma (c ∷ toks) ≡ Ok (c, toks) = (law_expect k.Comma).complete.reads (c ∷ []) toks c (record { alone = refl; kind = comma }) refl in
       passes (is k.Dots) _ _ (c ∷ toks) (ap (is k.Dots) comma ∙ dots_comma) ∙ passes (is k.Colon) _ _ (c ∷ toks) (ap (is k.Colon) comma ∙ colon_comma)
-        ∙ takes (is k.Comma) _ _ (c ∷ toks) (ap (is k.Comma) comma ∙ same_kind_self k.Comma) ∙ goes_to (λ _. R.expr >>= λ b. r.third room R a b) taken
+      ∙ takes (is k.Comma) _ _ (c ∷ toks) (ap (is k.Comma) comma ∙ same_kind_self k.Comma) ∙ goes_to (λ _. R.expr >>= λ b. r.third room R a b) taken
 
   second_fails : (a : Expr) (c t u : Token) (toks : Tokens) → c.kind ≡ k.Comma → slots_ahead (t ∷ u ∷ toks) ≡ Pattern → Fails (r.rest_of_inner room R a (c ∷ t ∷ u ∷ toks))
   second_fails a c t u toks comma hole = elim (holed t u toks hole) [
-      | inl minus ↦ fails_at (at_comma a c (t ∷ u ∷ toks) comma) (fails_then R.expr (λ b. r.third room R a b) (t ∷ u ∷ toks) (E.no_operand t u toks minus.0 minus.1))
-      | inr name ↦ fails_at (at_comma a c (t ∷ u ∷ toks) comma ∙ goes_to (λ b. r.third room R a b) (name_reads t u toks name.0 name.1)) (third_fails a (e.Name t.text) u toks name.1 name.2)
-    ]
+    | inl minus ↦ fails_at (at_comma a c (t ∷ u ∷ toks) comma) (fails_then R.expr (λ b. r.third room R a b) (t ∷ u ∷ toks) (E.no_operand t u toks minus.0 minus.1))
+    | inr name ↦ fails_at (at_comma a c (t ∷ u ∷ toks) comma ∙ goes_to (λ b. r.third room R a b) (name_reads t u toks name.0 name.1)) (third_fails a (e.Name t.text) u toks name.1 name.2)
+  ]
 
   inner_plain : (i : Tokens) → ahead i ≡ Expression → r.closes (next_kind i) ≡ false → r.inner room R i ≡ (R.expr >>= r.rest_of_inner room R) i
   unfolding r.inner r.plain
@@ -603,11 +606,11 @@ module _ (room : ℕ) (R : r.Inside) (L : grammar.Inside) (E : IsInside room R L
   inner_fails [] hole = absurd (no_pattern_none hole)
   inner_fails (t ∷ []) hole = absurd (no_pattern_one t hole)
   inner_fails (t ∷ u ∷ toks) hole = elim (holed t u toks hole) [
-      | inl minus ↦ fails_at (inner_plain (t ∷ u ∷ toks) (ahead_minus (t ∷ u ∷ toks) minus.0) (ap r.closes minus.0 ∙ minus_opens))
-            (fails_then R.expr (r.rest_of_inner room R) (t ∷ u ∷ toks) (E.no_operand t u toks minus.0 minus.1))
-      | inr name ↦
-          let seen : ahead (t ∷ u ∷ toks) ≡ Expression = ahead_name (t ∷ u ∷ toks) name.0 ∙ ap either_at name.1 ∙ comma_expression in
-          let two = not_short toks name.2 in
-          fails_at (inner_plain (t ∷ u ∷ toks) seen (ap r.closes name.0 ∙ name_opens) ∙ goes_to (r.rest_of_inner room R) (name_reads t u toks name.0 name.1))
-             (subst (λ (z : Tokens). Fails (r.rest_of_inner room R (e.Name t.text) (u ∷ z))) (sym two.3) (second_fails (e.Name t.text) u two.0 two.1 two.2 name.1 (ap slots_ahead (sym two.3) ∙ name.2)))
-    ]
+    | inl minus ↦ fails_at (inner_plain (t ∷ u ∷ toks) (ahead_minus (t ∷ u ∷ toks) minus.0) (ap r.closes minus.0 ∙ minus_opens))
+        (fails_then R.expr (r.rest_of_inner room R) (t ∷ u ∷ toks) (E.no_operand t u toks minus.0 minus.1))
+    | inr name ↦
+        let seen : ahead (t ∷ u ∷ toks) ≡ Expression = ahead_name (t ∷ u ∷ toks) name.0 ∙ ap either_at name.1 ∙ comma_expression in
+        let two = not_short toks name.2 in
+        fails_at (inner_plain (t ∷ u ∷ toks) seen (ap r.closes name.0 ∙ name_opens) ∙ goes_to (r.rest_of_inner room R) (name_reads t u toks name.0 name.1))
+        (subst (λ (z : Tokens). Fails (r.rest_of_inner room R (e.Name t.text) (u ∷ z))) (sym two.3) (second_fails (e.Name t.text) u two.0 two.1 two.2 name.1 (ap slots_ahead (sym two.3) ∙ name.2)))
+  ]

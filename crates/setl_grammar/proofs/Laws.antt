@@ -1,5 +1,5 @@
 -- What reading and a language have to do with each other, for each way to make a larger one of smaller ones.
-use Rattle.std.proofs.Common.{rules, ◌≡◌, ◌≢◌, ℕ, zero, suc, ◌+◌, ◌<◌, ◌≤◌, Bool, true, false, not, cond, List, [], ◌∷◌, ◌++◌, length, Option, Some, None, Result, Ok, Err, refl, sym, ap, subst, ◌∙◌, append_assoc, eq-eqb, arith, inl, inr, ◌⊎◌, length-append}
+use Rattle.std.proofs.Common.{◌≡◌, ℕ, zero, suc, ◌+◌, ◌≤◌, Bool, true, false, not, cond, List, [], ◌∷◌, ◌++◌, length, Option, Some, None, Result, Ok, Err, refl, sym, ap, subst, ◌∙◌, append_assoc, arith, inl, inr, ◌⊎◌, length-append}
 use Rattle.std.proofs.lemmas.List.{append-nil}
 use Rattle.setl_tree.specs.Tokens.{Token, Tokens}
 use Rattle.setl_tree.specs.declared.kind.Kind.{Kind}
@@ -8,7 +8,7 @@ use Rattle.setl_grammar.specs.declared.fault.Fault.{Fault}
 use Rattle.setl_tree.specs.Lang.{Lang, Then, Split, IsToken, Means}
 use Rattle.setl_tree.specs.Lang as lang
 use Rattle.setl_tree.specs.Lang.{line_of}
-use Rattle.setl_grammar.specs.Reading.{Outcome, Reader, next_kind, same_kind, is, but, rest_of, and_then, ◌>>=◌, ◌>>◌, pure, peek, refuse, take_if, open_if, open_meant, expect, opening, opening_one_of, meant, one_of, is_some, begins_as, many_from, many, more, separated, listed, optional, lined, name}
+use Rattle.setl_grammar.specs.Reading.{Outcome, Reader, next_kind, same_kind, is, but, rest_of, and_then, ◌>>=◌, pure, peek, take_if, open_if, open_meant, expect, opening, opening_one_of, meant, one_of, is_some, begins_as, many_from, many, more, separated, listed, optional, lined, name}
 use Rattle.setl_grammar.proofs.EveryKind.{same_kind_is, same_kind_self, every, all_of, kinds}
 
 -- what was read, and the tokens that spell it
@@ -78,19 +78,19 @@ pub law_then : {A B : Type 0} {r : Reader A} {f : A → Reader B} {L : Tokens �
     → Law r L stops → ((a : A) → Law (f a) (M a) stops2) → ((a : A) → Follows (M a) stops2 stops) → Law (r >>= f) (Then L M) stops2
 law_then {r = r} {f = f} one two follow = law_of
     (λ toks b rest e.
-      let x = bind_ok (r toks) f (b, rest) e in
-      let t = one.sound.took toks x.0.0 x.0.1 x.1 in
-      let u = (two x.0.0).sound.took x.0.1 b rest x.2 in
-      record {
-        used = t.used ++ u.used;
-        parts = t.parts ∙ ap (λ (z : Tokens). t.used ++ z) u.parts ∙ sym (append_assoc t.used u.used rest);
-        spelled = record { front = t.used; back = u.used; value = x.0.0; parts = refl; first = t.spelled; second = u.spelled };
-      })
+    let x = bind_ok (r toks) f (b, rest) e in
+    let t = one.sound.took toks x.0.0 x.0.1 x.1 in
+    let u = (two x.0.0).sound.took x.0.1 b rest x.2 in
+    record {
+      used = t.used ++ u.used;
+      parts = t.parts ∙ ap (λ (z : Tokens). t.used ++ z) u.parts ∙ sym (append_assoc t.used u.used rest);
+      spelled = record { front = t.used; back = u.used; value = x.0.0; parts = refl; first = t.spelled; second = u.spelled };
+    })
     (λ used rest b s stop.
-      let whole : used ++ rest ≡ s.front ++ (s.back ++ rest) = ap (λ (z : Tokens). z ++ rest) s.parts ∙ append_assoc s.front s.back rest in
-      let first = one.complete.reads s.front (s.back ++ rest) s.value s.first ((follow s.value).holds s.back rest b s.second stop) in
-      let both : and_then (r (used ++ rest)) f ≡ f s.value (s.back ++ rest) = rw (whole, first) refl in
-      both ∙ (two s.value).complete.reads s.back rest b s.second stop)
+    let whole : used ++ rest ≡ s.front ++ (s.back ++ rest) = ap (λ (z : Tokens). z ++ rest) s.parts ∙ append_assoc s.front s.back rest in
+    let first = one.complete.reads s.front (s.back ++ rest) s.value s.first ((follow s.value).holds s.back rest b s.second stop) in
+    let both : and_then (r (used ++ rest)) f ≡ f s.value (s.back ++ rest) = rw (whole, first) refl in
+    both ∙ (two s.value).complete.reads s.back rest b s.second stop)
 
 -- ---- where a language begins
 
@@ -110,9 +110,11 @@ pub begins_token : {p : Kind → Bool} (k : Kind) → p k ≡ true → Begins p 
 begins_token k h = record { at = λ toks t s. record { first = t; others = []; parts = s.alone; holds = rw s.kind h } }
 
 pub begins_then : {A B : Type 0} {p : Kind → Bool} {L : Tokens → A → Type 0} {M : A → Tokens → B → Type 0} → Begins p L → Begins p (Then L M)
-begins_then h = record { at = λ toks b s.
-    let f = h.at s.front s.value s.first in
-    record { first = f.first; others = f.others ++ s.back; parts = s.parts ∙ ap (λ (z : Tokens). z ++ s.back) f.parts; holds = f.holds } }
+begins_then h = record {
+  at = λ toks b s.
+      let f = h.at s.front s.value s.first in
+      record { first = f.first; others = f.others ++ s.back; parts = s.parts ∙ ap (λ (z : Tokens). z ++ s.back) f.parts; holds = f.holds };
+}
 
 pub begins_or : {A : Type 0} {p : Kind → Bool} {L M : Tokens → A → Type 0} → Begins p L → Begins p M → Begins p (λ toks a. L toks a ⊎ M toks a)
 begins_or one two = record { at = λ toks a s. elim s [ inl l ↦ one.at toks a l | inr m ↦ two.at toks a m ] }
@@ -131,9 +133,9 @@ pub law_expect : (k : Kind) → Law (expect k) (lang.token k) always
 unfolding expect
 law_expect k = law_of
     (λ toks t rest e.
-      let p = take_is (same_kind (next_kind toks) k) toks t rest e in
-      let is : next_kind toks ≡ k = same_kind_is (next_kind toks) k p.0 in
-      record { used = t ∷ []; parts = p.1; spelled = record { alone = refl; kind = ap next_kind (sym p.1) ∙ is } })
+    let p = take_is (same_kind (next_kind toks) k) toks t rest e in
+    let is : next_kind toks ≡ k = same_kind_is (next_kind toks) k p.0 in
+    record { used = t ∷ []; parts = p.1; spelled = record { alone = refl; kind = ap next_kind (sym p.1) ∙ is } })
     (λ used rest t s stop. rw (s.alone, s.kind, same_kind_self) refl)
 
 meant_is : {A : Type 0} (o : Option A) (toks : Tokens) (a : A) (rest : Tokens) → meant o toks ≡ Ok (a, rest) → (o ≡ Some a) × (rest_of toks ≡ rest)
@@ -175,9 +177,9 @@ choose_reads : {A : Type 0} (p : Kind → Bool) (r q : Reader A) (L M : Tokens �
     → Follows L stops p → Follows M stops (λ k. not (p k))
     → (used rest : Tokens) (a : A) → L used a ⊎ M used a → stops (next_kind rest) ≡ true → (peek >>= λ kind. cond (p kind) r q) (used ++ rest) ≡ Ok (a, rest)
 choose_reads p r q L M stops one two if_one if_two used rest a s stop = elim s [
-    | inl l ↦ rw (if_one.holds used rest a l stop) (one.complete.reads used rest a l stop)
-    | inr m ↦ rw (not_is (p (next_kind (used ++ rest))) (if_two.holds used rest a m stop)) (two.complete.reads used rest a m stop)
-  ]
+  | inl l ↦ rw (if_one.holds used rest a l stop) (one.complete.reads used rest a l stop)
+  | inr m ↦ rw (not_is (p (next_kind (used ++ rest))) (if_two.holds used rest a m stop)) (two.complete.reads used rest a m stop)
+]
 
 pub law_choose : {A : Type 0} (p : Kind → Bool) {r q : Reader A} {L M : Tokens → A → Type 0} {stops : Kind → Bool} → Law r L stops → Law q M stops
     → Follows L stops p → Follows M stops (λ k. not (p k)) → Law (peek >>= λ kind. cond (p kind) r q) (λ t x. L t x ⊎ M t x) stops
@@ -206,23 +208,25 @@ many_sound begins item L stops law zero found toks all rest e =
     ([], sym p.0 ∙ sym (append-nil found), record { used = []; parts = p.1; spelled = refl })
 many_sound {A = A} begins item L stops law (suc n) found toks all rest e =
     let go : (b : Bool) → cond b (item >>= λ x. many_from begins item n (found ++ x ∷ [])) (pure found) toks ≡ Ok (all, rest)
-        → (more : List A) × (all ≡ found ++ more) × Took (lang.many L) toks more rest =
-        λ b. elim b as (λ b. cond b (item >>= λ x. many_from begins item n (found ++ x ∷ [])) (pure found) toks ≡ Ok (all, rest)
-            → (more : List A) × (all ≡ found ++ more) × Took (lang.many L) toks more rest) [
-          | true ↦ λ e.
-              let x = bind_ok (item toks) (λ x. many_from begins item n (found ++ x ∷ [])) (all, rest) e in
-              let t = law.sound.took toks x.0.0 x.0.1 x.1 in
-              let m = many_sound begins item L stops law n (found ++ x.0.0 ∷ []) x.0.1 all rest x.2 in
-              (x.0.0 ∷ m.0, m.1 ∙ append_assoc found (x.0.0 ∷ []) m.0,
-               record {
-                 used = t.used ++ m.2.used;
-                 parts = t.parts ∙ ap (λ (z : Tokens). t.used ++ z) m.2.parts ∙ sym (append_assoc t.used m.2.used rest);
-                 spelled = record { front = t.used; back = m.2.used; parts = refl; first = t.spelled; second = m.2.spelled };
-               })
-          | false ↦ λ e.
-              let p = ok_parts found all toks rest e in
-              ([], sym p.0 ∙ sym (append-nil found), record { used = []; parts = p.1; spelled = refl })
-        ] in
+    → (more : List A) × (all ≡ found ++ more) × Took (lang.many L) toks more rest =
+    λ b. elim b as (λ b. cond b (item >>= λ x. many_from begins item n (found ++ x ∷ [])) (pure found) toks ≡ Ok (all, rest)
+    → (more : List A) × (all ≡ found ++ more) × Took (lang.many L) toks more rest) [
+      | true ↦ λ e.
+          let x = bind_ok (item toks) (λ x. many_from begins item n (found ++ x ∷ [])) (all, rest) e in
+          let t = law.sound.took toks x.0.0 x.0.1 x.1 in
+          let m = many_sound begins item L stops law n (found ++ x.0.0 ∷ []) x.0.1 all rest x.2 in (
+            x.0.0 ∷ m.0,
+            m.1 ∙ append_assoc found (x.0.0 ∷ []) m.0,
+            record {
+              used = t.used ++ m.2.used;
+              parts = t.parts ∙ ap (λ (z : Tokens). t.used ++ z) m.2.parts ∙ sym (append_assoc t.used m.2.used rest);
+              spelled = record { front = t.used; back = m.2.used; parts = refl; first = t.spelled; second = m.2.spelled };
+            },
+          )
+      | false ↦ λ e.
+          let p = ok_parts found all toks rest e in
+          ([], sym p.0 ∙ sym (append-nil found), record { used = []; parts = p.1; spelled = refl })
+    ] in
     go (begins (next_kind toks)) e
 
 pub next_many : {A : Type 0} (p : Kind → Bool) (L : Tokens → A → Type 0) (stops q : Kind → Bool) → Begins p L → Within p q → Within stops q
@@ -258,8 +262,8 @@ pub law_many : {A : Type 0} {begins : Kind → Bool} {item : Reader A} {L : Toke
     → Law (many begins item) (lang.many L) stops
 law_many {begins = begins} {item = item} {L = L} {stops_item = stops_item} {stops = stops} law bs go stop off = law_of
     (λ toks xs rest e.
-      let m = many_sound begins item L stops_item law (length toks) [] toks xs rest e in
-      subst (λ (z : List _). Took (lang.many L) toks z rest) (sym m.1) m.2)
+    let m = many_sound begins item L stops_item law (length toks) [] toks xs rest e in
+    subst (λ (z : List _). Took (lang.many L) toks z rest) (sym m.1) m.2)
     (λ used rest xs s at. many_complete begins item L stops_item stops law bs go stop off (length (used ++ rest)) [] used rest xs s at (omega (arith, length-append used rest)))
 
 -- a reader that ends by making a value
@@ -275,9 +279,11 @@ pub follows_token : {A : Type 0} (k : Kind) {M : Token → Tokens → A → Type
 follows_token k h = follows_begins (begins_then (begins_token k h)) same
 
 pub follows_then : {A B : Type 0} {L : Tokens → A → Type 0} {M : A → Tokens → B → Type 0} {stops mid q : Kind → Bool} → Follows L mid q → ((a : A) → Follows (M a) stops mid) → Follows (Then L M) stops q
-follows_then one two = record { holds = λ toks rest b s at.
-    let whole : toks ++ rest ≡ s.front ++ (s.back ++ rest) = ap (λ (z : Tokens). z ++ rest) s.parts ∙ append_assoc s.front s.back rest in
-    rw whole (one.holds s.front (s.back ++ rest) s.value s.first ((two s.value).holds s.back rest b s.second at)) }
+follows_then one two = record {
+  holds = λ toks rest b s at.
+      let whole : toks ++ rest ≡ s.front ++ (s.back ++ rest) = ap (λ (z : Tokens). z ++ rest) s.parts ∙ append_assoc s.front s.back rest in
+      rw whole (one.holds s.front (s.back ++ rest) s.value s.first ((two s.value).holds s.back rest b s.second at));
+}
 
 pub follows_many : {A : Type 0} {p : Kind → Bool} {L : Tokens → A → Type 0} {stops q : Kind → Bool} → Begins p L → Within p q → Within stops q → Follows (lang.many L) stops q
 follows_many {p = p} {L = L} {stops = stops} {q = q} bs h stop = record { holds = λ toks rest xs s at. next_many p L stops q bs h stop toks rest xs s at }
@@ -310,7 +316,6 @@ pub next_token : {A : Type 0} {k : Kind} {M : Token → Tokens → A → Type 0}
 next_token {toks = toks} rest s =
     let whole : next_kind (toks ++ rest) ≡ s.value.kind = ap (λ (z : Tokens). next_kind (z ++ rest)) (s.parts ∙ ap (λ (z : Tokens). z ++ s.back) s.first.alone) in
     whole ∙ s.first.kind
-
 
 -- an alternative that begins with the token of a kind is read as the choice at that kind
 pub chosen : {A : Type 0} (k : Kind) (by : Kind → Reader A) {L : Tokens → A → Type 0} {stops : Kind → Bool} → Law (by k) L stops → Begins (is k) L
@@ -519,14 +524,14 @@ lined_reads part i a rest h = goes_to (λ a. pure (line_of i, a)) h
 pub law_lined : {A : Type 0} {p : Kind → Bool} {part : Reader A} {L : Tokens → A → Type 0} {stops : Kind → Bool} → Law part L stops → Begins p L → Law (lined part) (lang.lined L) stops
 law_lined {A = A} {part = part} {L = L} law begins = law_of
     (λ toks y rest h.
-      let x = bind_ok (part toks) (λ a. pure (line_of toks, a)) (y, rest) h in
-      let t = law.sound.took toks x.0.0 x.0.1 x.1 in
-      let line : line_of t.used ≡ line_of toks = sym (ap line_of t.parts ∙ line_begins t.used x.0.1 (begins.at t.used x.0.0 t.spelled)) in
-      let whole : Took (lang.lined L) toks (line_of toks, x.0.0) x.0.1 = record { used = t.used; parts = t.parts; spelled = (line, t.spelled) } in
-      took_at (ok_parts (line_of toks, x.0.0) y x.0.1 rest x.2) whole)
+    let x = bind_ok (part toks) (λ a. pure (line_of toks, a)) (y, rest) h in
+    let t = law.sound.took toks x.0.0 x.0.1 x.1 in
+    let line : line_of t.used ≡ line_of toks = sym (ap line_of t.parts ∙ line_begins t.used x.0.1 (begins.at t.used x.0.0 t.spelled)) in
+    let whole : Took (lang.lined L) toks (line_of toks, x.0.0) x.0.1 = record { used = t.used; parts = t.parts; spelled = (line, t.spelled) } in
+    took_at (ok_parts (line_of toks, x.0.0) y x.0.1 rest x.2) whole)
     (λ used rest y s stop.
-      let line : line_of (used ++ rest) ≡ y.0 = line_begins used rest (begins.at used y.1 s.1) ∙ s.0 in
-      lined_reads part (used ++ rest) y.1 rest (law.complete.reads used rest y.1 s.1 stop) ∙ ap (λ (z : ℕ). Ok ((z, y.1), rest)) line)
+    let line : line_of (used ++ rest) ≡ y.0 = line_begins used rest (begins.at used y.1 s.1) ∙ s.0 in
+    lined_reads part (used ++ rest) y.1 rest (law.complete.reads used rest y.1 s.1 stop) ∙ ap (λ (z : ℕ). Ok ((z, y.1), rest)) line)
 
 pub begins_lined : {A : Type 0} {p : Kind → Bool} {L : Tokens → A → Type 0} → Begins p L → Begins p (lang.lined L)
 begins_lined begins = record { at = λ toks y s. begins.at toks y.1 s.1 }

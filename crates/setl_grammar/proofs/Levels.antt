@@ -1,8 +1,6 @@
 -- The levels of operators that group to the left.
-use Rattle.std.proofs.Common.{◌≡◌, ℕ, zero, suc, Bool, true, false, not, List, [], ◌∷◌, Option, Some, None, refl, ◌≤◌, arith}
-use Rattle.setl_tree.specs.declared.kind.Kind.{Kind}
+use Rattle.std.proofs.Common.{ℕ, suc, not, refl, arith}
 use Rattle.setl_tree.specs.declared.expr.Expr.{Expr}
-use Rattle.setl_tree.specs.declared.expr.BinaryOp.{BinaryOp}
 use Rattle.setl_tree.specs.Tokens.{Tokens}
 use Rattle.setl_tree.specs.Lang.{Lang, Then}
 use Rattle.setl_tree.specs.Lang as lang
@@ -11,7 +9,7 @@ use Rattle.setl_tree.specs.Expressions as grammar
 use Rattle.setl_grammar.specs.Reading.{Reader, begins_as, same_kind}
 use Rattle.setl_grammar.specs.ReadExpressions as r
 use Rattle.setl_grammar.proofs.EveryKind.{kinds}
-use Rattle.setl_grammar.proofs.Laws.{Law, Follows, Within, Begins, NotEnd, anything, within, law_then, law_map, law_one_of, law_many, begins_one_of, begins_then, follows_map, follows_many}
+use Rattle.setl_grammar.proofs.Laws.{Law, Within, NotEnd, anything, within, law_then, law_map, law_one_of, law_many, begins_one_of, begins_then, follows_map, follows_many}
 use Rattle.setl_grammar.proofs.Bounds.{below, below_more}
 
 -- what the operators of a level do

@@ -1,23 +1,21 @@
 -- Reading `repr` sections.
-use Rattle.std.proofs.Common.{◌≡◌, ◌≢◌, ℕ, zero, suc, Bool, true, false, not, cond, if◌then◌else◌, List, [], ◌∷◌, ◌++◌, Option, Some, None, Ok, Err, refl, sym, ap, subst, ◌∙◌, arith, inl, inr, ◌⊎◌}
+use Rattle.std.proofs.Common.{◌≡◌, ℕ, zero, suc, Bool, true, false, not, if◌then◌else◌, ◌++◌, Some, Ok, refl, ap, subst, ◌∙◌, arith, inl, inr}
 use Rattle.setl_tree.specs.declared.kind.Kind.{Kind}
 use Rattle.setl_tree.specs.declared.kind.Kind.TheVariants as k
-use Rattle.setl_tree.specs.declared.mode.Attribute.{Attribute}
 use Rattle.setl_tree.specs.declared.mode.Core.{Core}
 use Rattle.setl_tree.specs.declared.mode.Core.TheVariants as co
 use Rattle.setl_tree.specs.declared.mode.WrittenMode.{WrittenMode, roll-WrittenMode}
 use Rattle.setl_tree.specs.declared.mode.ReprLine.{ReprLine}
 use Rattle.setl_tree.specs.declared.mode.ReprLine.TheVariants as rl
-use Rattle.setl_tree.specs.declared.tree.Declared.{Declared}
 use Rattle.setl_tree.specs.Tokens.{Token, Tokens}
 use Rattle.setl_tree.specs.Lang.{Lang, Then}
 use Rattle.setl_tree.specs.Lang as lang
 use Rattle.setl_tree.specs.Modes as grammar
 use Rattle.setl_tree.specs.Modes.{attribute, simple_core}
-use Rattle.setl_grammar.specs.Reading.{Reader, ◌>>=◌, ◌>>◌, pure, peek, expect, opening, one_of, is, but, begins_as, next_kind, same_kind, many, separated, name}
+use Rattle.setl_grammar.specs.Reading.{Reader, ◌>>=◌, peek, one_of, is, but, begins_as, next_kind, same_kind, separated}
 use Rattle.setl_grammar.specs.ReadModes as m
-use Rattle.setl_grammar.proofs.EveryKind.{kinds, same_kind_self}
-use Rattle.setl_grammar.proofs.Laws.{Took, Law, Follows, Within, Begins, always, anything, took_as, law_of, chosen, within, within_always, same, law_pure, law_then, law_map, law_stops, law_expect, law_one_of, law_choose, law_as, law_opening, law_many, law_separated, law_optional, law_lined, law_name, begins_name, begins_token, begins_then, begins_or, begins_within, begins_one_of, begins_lined, begins_separated, follows_begins, follows_token, follows_or, follows_then, follows_map, follows_many, follows_optional, begins_optional, bind_ok}
+use Rattle.setl_grammar.proofs.EveryKind.{kinds}
+use Rattle.setl_grammar.proofs.Laws.{Took, Law, Within, Begins, always, anything, took_as, law_of, chosen, within, within_always, same, law_then, law_map, law_expect, law_one_of, law_choose, law_as, law_opening, law_many, law_separated, law_optional, law_lined, law_name, begins_token, begins_then, begins_or, begins_within, begins_one_of, begins_lined, begins_separated, follows_begins, follows_token, follows_then, follows_map, follows_optional, begins_optional, bind_ok}
 use Rattle.setl_grammar.proofs.Regroup.{behind, assoc, unassoc, pure_then, then_pure, with_second}
 use Rattle.setl_grammar.proofs.Inners.{zero_or_more}
 use Rattle.setl_grammar.proofs.Statements.{law_ending, begins_ending}
@@ -71,11 +69,11 @@ module _ (room : ℕ) (deep : Reader WrittenMode) (D : Lang WrittenMode) (law_de
   law_behind : {B : Type 0} {part : Reader WrittenMode} {L : Lang WrittenMode} {f : WrittenMode → Reader B} {M : WrittenMode → Lang B} → Law part L always → ((toks : Tokens) (d : WrittenMode) → L toks d → room ≡ zero → ⊥)
       → ((inside : ℕ) → room ≡ suc inside → (d : WrittenMode) → Law (f d) (M d) always) → Law (part >>= f) (Then L M) always
   law_behind {part = part} {L = L} {f = f} law full behind = elim (zero_or_more room) [
-      | inl none ↦ law_of
-          (λ toks b rest h. let x = bind_ok (part toks) f (b, rest) h in let t = law.sound.took toks x.0.0 x.0.1 x.1 in absurd (full t.used x.0.0 t.spelled none))
-          (λ used rest b s stop. absurd (full s.front s.value s.first none))
-      | inr i ↦ law_then law (behind i.0 i.1) (λ d. anything)
-    ]
+    | inl none ↦ law_of
+        (λ toks b rest h. let x = bind_ok (part toks) f (b, rest) h in let t = law.sound.took toks x.0.0 x.0.1 x.1 in absurd (full t.used x.0.0 t.spelled none))
+        (λ used rest b s stop. absurd (full s.front s.value s.first none))
+    | inr i ↦ law_then law (behind i.0 i.1) (λ d. anything)
+  ]
 
   no_opening : (kind : Kind) (toks : Tokens) (t : Token) → lang.opening room kind toks t → room ≡ zero → ⊥
   no_opening kind toks t s none = subst (λ (z : ℕ). lang.opening z kind toks t) none s

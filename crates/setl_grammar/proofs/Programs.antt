@@ -1,14 +1,9 @@
 -- Reading programs.
-use Rattle.std.proofs.Common.{◌≡◌, ℕ, zero, suc, Bool, true, false, not, if◌then◌else◌, List, [], ◌∷◌, ◌++◌, Option, Some, None, unwrap_or, Ok, Err, refl, sym, ap, subst, ◌∙◌, arith, inl, inr, ◌⊎◌}
-use Rattle.std.proofs.lemmas.List.{append-nil}
+use Rattle.std.proofs.Common.{ℕ, Bool, true, not, if◌then◌else◌, List, [], Option, unwrap_or, refl}
 use Rattle.setl_tree.specs.declared.kind.Kind.{Kind}
 use Rattle.setl_tree.specs.declared.kind.Kind.TheVariants as k
-use Rattle.setl_tree.specs.declared.tree.Declared.{Declared}
-use Rattle.setl_tree.specs.declared.tree.Param.{Param}
-use Rattle.setl_tree.specs.declared.tree.Passing.{Passing}
 use Rattle.setl_tree.specs.declared.tree.Passing.TheVariants as pa
 use Rattle.setl_tree.specs.declared.tree.Proc.{Proc}
-use Rattle.setl_tree.specs.declared.tree.Tree.{Tree}
 use Rattle.setl_tree.specs.Tokens.{Token, Tokens}
 use Rattle.setl_tree.specs.Lang.{Lang, Then}
 use Rattle.setl_tree.specs.Lang as lang
@@ -16,14 +11,13 @@ use Rattle.setl_tree.specs.declared.stmt.Stmt.{Stmt}
 use Rattle.setl_tree.specs.Statements.{stmts}
 use Rattle.setl_tree.specs.Programs as grammar
 use Rattle.setl_tree.specs.Programs.{passing, joined, name_behind}
-use Rattle.setl_grammar.specs.Reading.{Reader, ◌>>=◌, ◌>>◌, pure, peek, expect, is, but, begins_as, next_kind, same_kind, many, optional, name}
+use Rattle.setl_grammar.specs.Reading.{Reader, expect, is, but, begins_as, same_kind}
 use Rattle.setl_grammar.specs.ReadPrograms as p
-use Rattle.setl_grammar.specs.ReadModes as m
 use Rattle.setl_grammar.specs.ReadStatements.{begins_stmt}
-use Rattle.setl_grammar.proofs.EveryKind.{kinds, same_kind_self}
-use Rattle.setl_grammar.proofs.Laws.{Took, Law, Follows, Within, Begins, always, anything, took_as, law_of, within, within_always, same, law_pure, law_then, law_map, law_stops, law_expect, law_one_of, law_choose, law_as, law_opening, law_many, law_separated, law_listed, law_optional, law_lined, law_name, begins_name, begins_token, begins_then, begins_or, begins_within, begins_one_of, begins_optional, begins_opening, begins_lined, begins_separated, follows_begins, follows_token, follows_or, follows_then, follows_map, follows_many, follows_optional, follows_within}
+use Rattle.setl_grammar.proofs.EveryKind.{kinds}
+use Rattle.setl_grammar.proofs.Laws.{Law, Follows, Within, Begins, always, anything, within, within_always, same, law_then, law_map, law_expect, law_one_of, law_choose, law_opening, law_many, law_listed, law_optional, law_lined, law_name, begins_name, begins_token, begins_then, begins_or, begins_one_of, begins_optional, begins_opening, begins_lined, follows_begins, follows_token, follows_then, follows_map, follows_many, follows_optional, follows_within}
 use Rattle.setl_grammar.proofs.Statements.{ends_body, law_stmts, follows_stmts}
-use Rattle.setl_grammar.proofs.Modes.{law_declared, law_names, law_repr, begins_repr}
+use Rattle.setl_grammar.proofs.Modes.{law_names, law_repr, begins_repr}
 
 -- ---- the end of a declaration
 
@@ -39,8 +33,8 @@ pub law_named_ending : (is_word : Kind → Bool) (word : Reader Token) (L : Lang
 unfolding p.named_ending grammar.named_ending same_kind
 law_named_ending is_word word L law begins other = law_then (law_expect k.End)
     (λ t. law_then (law_optional (law_then law (λ _. law_optional_name) (λ _. anything)) (begins_then begins) same other)
-      (λ x. law_map (λ _. (t.line, name_behind x)) (law_expect k.Semicolon))
-      (λ x. follows_token k.Semicolon refl))
+    (λ x. law_map (λ _. (t.line, name_behind x)) (law_expect k.Semicolon))
+    (λ x. follows_token k.Semicolon refl))
     (λ t. anything)
 
 pub begins_named_ending : (L : Lang Token) → Begins (is k.End) (grammar.named_ending L)
@@ -141,8 +135,8 @@ law_proc : (room : ℕ) → Law (p.proc room) (grammar.proc room) always
 unfolding p.proc grammar.proc same_kind
 law_proc room = law_then law_proc_word (λ t. law_then law_name (λ x. law_then (law_optional (law_params room) (begins_params room) within_always semicolon_no_params)
     (λ ps. law_then (law_expect k.Semicolon) (λ _. law_then (law_stmts room)
-      (λ body. law_map (λ last. record { line = t.line; name = x; params = unwrap_or ps []; body = body; end_name = last.1; end_line = last.0 }) (law_named_ending p.begins_proc p.proc_word grammar.proc_word law_proc_word begins_proc_word semicolon_no_proc))
-      (λ body. follows_begins (begins_then (begins_named_ending grammar.proc_word)) end_ends_body)) (λ _. anything))
+    (λ body. law_map (λ last. record { line = t.line; name = x; params = unwrap_or ps []; body = body; end_name = last.1; end_line = last.0 }) (law_named_ending p.begins_proc p.proc_word grammar.proc_word law_proc_word begins_proc_word semicolon_no_proc))
+    (λ body. follows_begins (begins_then (begins_named_ending grammar.proc_word)) end_ends_body)) (λ _. anything))
     (λ ps. follows_token k.Semicolon refl)) (λ x. anything)) (λ t. anything)
 
 begins_a_proc : (room : ℕ) → Begins p.begins_proc (grammar.proc room)
@@ -221,7 +215,7 @@ pub law_program : (room : ℕ) → Law (p.program room) (grammar.program room) a
 unfolding p.program grammar.program same_kind
 law_program room = law_then (law_expect k.Program) (λ _. law_then law_name (λ x. law_then (law_expect k.Semicolon) (λ _.
     law_then law_vars (λ vs. law_then (law_optional (law_repr room) (begins_repr room) within_always main_no_repr) (λ modes. law_then (law_stmts room) (λ body. law_then (law_procs room)
-      (λ ps. law_map (λ last. record { name = x; vars = joined vs; modes = unwrap_or modes []; body = body; procs = ps; end_name = last.1; end_line = last.0 }) law_program_end)
-      (λ ps. follows_end)) (λ body. follows_within (follows_procs room (λ ps. follows_end)) last_ends_body)) (λ modes. follows_body room (λ body. follows_procs room (λ ps. follows_end))))
-      (λ vs. follows_then (follows_optional (begins_repr room) repr_no_var main_no_var) (λ modes. follows_body room (λ body. follows_procs room (λ ps. follows_end)))))
+    (λ ps. law_map (λ last. record { name = x; vars = joined vs; modes = unwrap_or modes []; body = body; procs = ps; end_name = last.1; end_line = last.0 }) law_program_end)
+    (λ ps. follows_end)) (λ body. follows_within (follows_procs room (λ ps. follows_end)) last_ends_body)) (λ modes. follows_body room (λ body. follows_procs room (λ ps. follows_end))))
+    (λ vs. follows_then (follows_optional (begins_repr room) repr_no_var main_no_var) (λ modes. follows_body room (λ body. follows_procs room (λ ps. follows_end)))))
     (λ _. anything)) (λ x. anything)) (λ _. anything)

@@ -1,6 +1,5 @@
 -- The same tokens, cut at other places.
 use Rattle.std.proofs.Common.{◌≡◌, List, [], ◌∷◌, ◌++◌, Option, Some, None, refl, sym, ap, subst, ◌∙◌, append_assoc, ◌⊎◌, inl, inr}
-use Rattle.std.proofs.lemmas.List.{append-nil}
 use Rattle.setl_tree.specs.declared.kind.Kind.TheVariants as k
 use Rattle.setl_tree.specs.Tokens.{Tokens}
 use Rattle.setl_tree.specs.Lang.{Then, Split}
@@ -16,7 +15,9 @@ behind two s = then_to s (λ t a h. h) two
 
 pub assoc : {A B C : Type 0} {L : Tokens → A → Type 0} {M : A → Tokens → B → Type 0} {N : B → Tokens → C → Type 0} {toks : Tokens} {c : C} → Then (Then L M) N toks c → Then L (λ a. Then (M a) N) toks c
 assoc s = record {
-  front = s.first.front; back = s.first.back ++ s.back; value = s.first.value;
+  front = s.first.front;
+  back = s.first.back ++ s.back;
+  value = s.first.value;
   parts = s.parts ∙ ap (λ (z : Tokens). z ++ s.back) s.first.parts ∙ append_assoc s.first.front s.first.back s.back;
   first = s.first.first;
   second = record { front = s.first.back; back = s.back; value = s.value; parts = refl; first = s.first.second; second = s.second };
@@ -24,7 +25,9 @@ assoc s = record {
 
 pub unassoc : {A B C : Type 0} {L : Tokens → A → Type 0} {M : A → Tokens → B → Type 0} {N : B → Tokens → C → Type 0} {toks : Tokens} {c : C} → Then L (λ a. Then (M a) N) toks c → Then (Then L M) N toks c
 unassoc s = record {
-  front = s.front ++ s.second.front; back = s.second.back; value = s.second.value;
+  front = s.front ++ s.second.front;
+  back = s.second.back;
+  value = s.second.value;
   parts = s.parts ∙ ap (λ (z : Tokens). s.front ++ z) s.second.parts ∙ sym (append_assoc s.front s.second.front s.second.back);
   first = record { front = s.front; back = s.second.front; value = s.value; parts = refl; first = s.first; second = s.second.first };
   second = s.second.second;
@@ -103,7 +106,9 @@ listed_to s = elim s.first [ inl n ↦ inl (pure_then (with_first s n)) | inr m 
 pub more_one : {A B : Type 0} {L : Tokens → A → Type 0} {K : List A → Tokens → B → Type 0} {toks : Tokens} {y : B}
     → Then (lang.token k.Comma) (λ _. Then L (λ b. Then (more_l L) (λ xs. K (b ∷ xs)))) toks y → Then (more_l L) K toks y
 more_one s = let t = unassoc s in record {
-  front = t.front ++ t.second.front; back = t.second.back; value = t.value ∷ t.second.value;
+  front = t.front ++ t.second.front;
+  back = t.second.back;
+  value = t.value ∷ t.second.value;
   parts = t.parts ∙ ap (λ (z : Tokens). t.front ++ z) t.second.parts ∙ sym (append_assoc t.front t.second.front t.second.back);
   first = record { front = t.front; back = t.second.front; parts = refl; first = t.first; second = t.second.first };
   second = t.second.second;
@@ -116,7 +121,9 @@ more_apart : {A B : Type 0} (L : Tokens → A → Type 0) (K : List A → Tokens
     → K [] toks y ⊎ Then (lang.token k.Comma) (λ _. Then L (λ b. Then (more_l L) (λ xs. K (b ∷ xs)))) toks y
 more_apart L K {y = y} [] front back parts first second = inl (subst (λ (z : Tokens). K [] z y) (sym (parts ∙ ap (λ (z : Tokens). z ++ back) first)) second)
 more_apart L K (b ∷ xs) front back parts first second = inr (assoc (record {
-  front = first.front; back = first.back ++ back; value = b;
+  front = first.front;
+  back = first.back ++ back;
+  value = b;
   parts = parts ∙ ap (λ (z : Tokens). z ++ back) first.parts ∙ append_assoc first.front first.back back;
   first = first.first;
   second = record { front = first.back; back = back; value = xs; parts = refl; first = first.second; second = second };
@@ -133,7 +140,9 @@ many_nil {toks = toks} h = record { front = []; back = toks; value = []; parts =
 
 pub many_cons : {A B : Type 0} {L : Tokens → A → Type 0} {K : List A → Tokens → B → Type 0} {toks : Tokens} {y : B} → Then L (λ x. Then (lang.many L) (λ xs. K (x ∷ xs))) toks y → Then (lang.many L) K toks y
 many_cons s = record {
-  front = s.front ++ s.second.front; back = s.second.back; value = s.value ∷ s.second.value;
+  front = s.front ++ s.second.front;
+  back = s.second.back;
+  value = s.value ∷ s.second.value;
   parts = s.parts ∙ ap (λ (z : Tokens). s.front ++ z) s.second.parts ∙ sym (append_assoc s.front s.second.front s.second.back);
   first = record { front = s.front; back = s.second.front; parts = refl; first = s.first; second = s.second.first };
   second = s.second.second;
@@ -143,7 +152,9 @@ many_apart : {A B : Type 0} (L : Tokens → A → Type 0) (K : List A → Tokens
     → K [] toks y ⊎ Then L (λ x. Then (lang.many L) (λ xs. K (x ∷ xs))) toks y
 many_apart L K {y = y} [] front back parts first second = inl (subst (λ (z : Tokens). K [] z y) (sym (parts ∙ ap (λ (z : Tokens). z ++ back) first)) second)
 many_apart L K (x ∷ xs) front back parts first second = inr (record {
-  front = first.front; back = first.back ++ back; value = x;
+  front = first.front;
+  back = first.back ++ back;
+  value = x;
   parts = parts ∙ ap (λ (z : Tokens). z ++ back) first.parts ∙ append_assoc first.front first.back back;
   first = first.first;
   second = record { front = first.back; back = back; value = xs; parts = refl; first = first.second; second = second };

@@ -1,13 +1,11 @@
 -- What the scan at the inside of a brace or bracket shows.
-use Rattle.std.proofs.Common.{◌≡◌, ◌≢◌, ℕ, zero, suc, Bool, true, false, not, if◌then◌else◌, List, [], ◌∷◌, ◌++◌, length, Ok, Err, refl, sym, ap, subst, ◌∙◌, append_assoc, arith, inl, inr, ◌⊎◌}
+use Rattle.std.proofs.Common.{◌≡◌, ◌≢◌, ℕ, zero, suc, Bool, true, false, if◌then◌else◌, List, [], ◌∷◌, ◌++◌, refl, sym, ap, ◌∙◌, append_assoc, inl, inr, ◌⊎◌}
 use Rattle.std.proofs.lemmas.List.{append-nil}
 use Rattle.setl_tree.specs.declared.kind.Kind.{Kind}
 use Rattle.setl_tree.specs.declared.kind.Kind.TheVariants as k
 use Rattle.setl_tree.specs.declared.expr.Slot.{Slot}
 use Rattle.setl_tree.specs.declared.expr.Slot.TheVariants as sl
 use Rattle.setl_tree.specs.declared.expr.Bound.{Bound}
-use Rattle.setl_tree.specs.declared.expr.Bound.TheVariants as bd
-use Rattle.setl_tree.specs.declared.expr.Expr.{Expr}
 use Rattle.setl_tree.specs.declared.expr.Expr.TheVariants as e
 use Rattle.setl_tree.specs.Tokens.{Token, Tokens}
 use Rattle.setl_tree.specs.Lang.{Lang, Then}
@@ -16,7 +14,7 @@ use Rattle.setl_tree.specs.Expressions as grammar
 use Rattle.setl_grammar.specs.declared.ahead.Ahead.{Ahead}
 use Rattle.setl_grammar.specs.declared.ahead.Ahead.TheVariants.{Expression, Either, Pattern}
 use Rattle.setl_grammar.specs.Reading.{next_kind, same_kind, rest_of}
-use Rattle.setl_grammar.specs.Scan.{either_at, ends_slot, after_name, slots_ahead, ahead, slot_expr, slot_exprs, bound_expr}
+use Rattle.setl_grammar.specs.Scan.{either_at, ends_slot, after_name, slots_ahead, ahead, slot_exprs}
 use Rattle.setl_grammar.proofs.EveryKind.{same_kind_is, same_kind_self}
 use Rattle.setl_grammar.proofs.Regroup.{more_l, more_one}
 
@@ -42,16 +40,25 @@ mapped f (x ∷ xs) = f x ∷ mapped f xs
 more_map : {A B : Type 0} (L : Tokens → A → Type 0) (M : Tokens → B → Type 0) (f : A → B) → ((t : Tokens) (a : A) → L t a → M t (f a)) → (toks : Tokens) (xs : List A) → more_l L toks xs → more_l M toks (mapped f xs)
 more_map L M f to toks [] s = s
 more_map L M f to toks (x ∷ xs) s = record {
-  front = s.front; back = s.back; parts = s.parts;
+  front = s.front;
+  back = s.back;
+  parts = s.parts;
   first = record { front = s.first.front; back = s.first.back; value = s.first.value; parts = s.first.parts; first = s.first.first; second = to s.first.back x s.first.second };
   second = more_map L M f to s.back xs s.second;
 }
 
 pub separated_map : {A B : Type 0} {L : Tokens → A → Type 0} {M : Tokens → B → Type 0} (f : A → B) → ((t : Tokens) (a : A) → L t a → M t (f a)) → (toks : Tokens) (xs : List A) → lang.separated L toks xs → lang.separated M toks (mapped f xs)
 separated_map {L = L} {M = M} f to toks xs s = record {
-  front = s.front; back = s.back; value = f s.value; parts = s.parts; first = to s.front s.value s.first;
+  front = s.front;
+  back = s.back;
+  value = f s.value;
+  parts = s.parts;
+  first = to s.front s.value s.first;
   second = record {
-    front = s.second.front; back = s.second.back; value = mapped f s.second.value; parts = s.second.parts;
+    front = s.second.front;
+    back = s.second.back;
+    value = mapped f s.second.value;
+    parts = s.second.parts;
     first = more_map L M f to s.second.front s.second.value s.second.first;
     second = (s.second.second.0, ap (mapped f) s.second.second.1);
   };
@@ -61,9 +68,17 @@ separated_map {L = L} {M = M} f to toks xs s = record {
 pub bracketed : {A : Type 0} (L : Lang A) (room : ℕ) (opened : Token) (front : Tokens) (close : Token) (xs : List A) → opened.kind ≡ k.LeftBracket → close.kind ≡ k.RightBracket → lang.separated L front xs
     → Then (lang.opening (suc room) k.LeftBracket) (λ _. Then (lang.separated L) (λ xs. Then (lang.token k.RightBracket) (λ _. lang.pure xs))) (opened ∷ (front ++ close ∷ [])) xs
 bracketed L room opened front close xs opens closes s = record {
-  front = opened ∷ []; back = front ++ close ∷ []; value = opened; parts = refl; first = record { alone = refl; kind = opens };
+  front = opened ∷ [];
+  back = front ++ close ∷ [];
+  value = opened;
+  parts = refl;
+  first = record { alone = refl; kind = opens };
   second = record {
-    front = front; back = close ∷ []; value = xs; parts = refl; first = s;
+    front = front;
+    back = close ∷ [];
+    value = xs;
+    parts = refl;
+    first = s;
     second = record { front = close ∷ []; back = []; value = close; parts = refl; first = record { alone = refl; kind = closes }; second = (refl, refl) };
   };
 }
@@ -126,7 +141,13 @@ slot_pattern false false ends x h = absurd cc
 
 named_one : (t u : Token) (toks : Tokens) → t.kind ≡ k.Name → u.kind ≡ k.RightBracket → next_kind toks ≡ k.In → Named (t ∷ u ∷ toks)
 named_one t u toks name closed next = record {
-  front = t ∷ []; xs = t.text ∷ []; close = u; rest = toks; parts = refl; closed = closed; in_next = next;
+  front = t ∷ [];
+  xs = t.text ∷ [];
+  close = u;
+  rest = toks;
+  parts = refl;
+  closed = closed;
+  in_next = next;
   spelled = record { front = t ∷ []; back = []; value = t.text; parts = refl; first = name_token t name; second = record { front = []; back = []; value = []; parts = refl; first = refl; second = (refl, refl) } };
 }
 
@@ -134,14 +155,28 @@ named_more : (t u : Token) (toks : Tokens) → t.kind ≡ k.Name → u.kind ≡ 
 named_more t u toks name comma n =
     let s = n.spelled in
     let more : Then (lang.token k.Comma) (λ _. Then lang.name (λ b. Then (more_l lang.name) (λ xs. lang.pure (t.text ∷ b ∷ xs)))) (u ∷ n.front) (t.text ∷ n.xs) = record {
-      front = u ∷ []; back = n.front; value = u; parts = refl; first = record { alone = refl; kind = comma };
+      front = u ∷ [];
+      back = n.front;
+      value = u;
+      parts = refl;
+      first = record { alone = refl; kind = comma };
       second = record {
-        front = s.front; back = s.back; value = s.value; parts = s.parts; first = s.first;
+        front = s.front;
+        back = s.back;
+        value = s.value;
+        parts = s.parts;
+        first = s.first;
         second = record { front = s.second.front; back = s.second.back; value = s.second.value; parts = s.second.parts; first = s.second.first; second = (s.second.second.0, ap (λ z. t.text ∷ z) s.second.second.1) };
       };
     } in
     record {
-      front = t ∷ u ∷ n.front; xs = t.text ∷ n.xs; close = n.close; rest = n.rest; parts = ap (λ (z : Tokens). t ∷ u ∷ z) n.parts; closed = n.closed; in_next = n.in_next;
+      front = t ∷ u ∷ n.front;
+      xs = t.text ∷ n.xs;
+      close = n.close;
+      rest = n.rest;
+      parts = ap (λ (z : Tokens). t ∷ u ∷ z) n.parts;
+      closed = n.closed;
+      in_next = n.in_next;
       spelled = record { front = t ∷ []; back = u ∷ n.front; value = t.text; parts = refl; first = name_token t name; second = more_one {K = λ xs. lang.pure (t.text ∷ xs)} more };
     }
 
@@ -163,11 +198,11 @@ pub holed : (t u : Token) (toks : Tokens) → slots_ahead (t ∷ u ∷ toks) ≡
     → ((t.kind ≡ k.Minus) × (ends_slot u.kind ≡ true)) ⊎ ((t.kind ≡ k.Name) × (u.kind ≡ k.Comma) × (slots_ahead toks ≡ Pattern))
 unfolding slots_ahead
 holed t u toks h = elim (slot_pattern (same_kind t.kind k.Minus) (same_kind t.kind k.Name) (ends_slot u.kind) (after_name u.kind (slots_ahead toks) (next_kind toks)) h) [
-    | inl hole ↦ inl (same_kind_is t.kind k.Minus hole.0, hole.1)
-    | inr a ↦
-        let b = after_pattern (same_kind u.kind k.Comma) (same_kind u.kind k.RightBracket) (slots_ahead toks) (next_kind toks) a.1 in
-        inr (same_kind_is t.kind k.Name a.0, same_kind_is u.kind k.Comma b.0, b.1)
-  ]
+  | inl hole ↦ inl (same_kind_is t.kind k.Minus hole.0, hole.1)
+  | inr a ↦
+      let b = after_pattern (same_kind u.kind k.Comma) (same_kind u.kind k.RightBracket) (slots_ahead toks) (next_kind toks) a.1 in
+      inr (same_kind_is t.kind k.Name a.0, same_kind_is u.kind k.Comma b.0, b.1)
+]
 
 pub not_short : (toks : Tokens) → slots_ahead toks ≡ Pattern → (t : Token) × (u : Token) × (more : Tokens) × (toks ≡ t ∷ u ∷ more)
 unfolding slots_ahead
@@ -210,10 +245,10 @@ pub ahead_is : (toks : Tokens) → ((next_kind toks ≡ k.Name) × (ahead toks �
     ⊎ (((next_kind toks ≡ k.LeftBracket) × (ahead toks ≡ slots_ahead (rest_of toks))) ⊎ (ahead toks ≡ Expression))
 unfolding ahead
 ahead_is toks = elim (ahead_cases (same_kind (next_kind toks) k.Name) (same_kind (next_kind toks) k.LeftBracket) (either_at (next_kind (rest_of toks))) (slots_ahead (rest_of toks))) [
-    | inl a ↦ inl (same_kind_is (next_kind toks) k.Name a.0, a.1)
-    | inr (inl a) ↦ inr (inl (same_kind_is (next_kind toks) k.LeftBracket a.0, a.1))
-    | inr (inr a) ↦ inr (inr a)
-  ]
+  | inl a ↦ inl (same_kind_is (next_kind toks) k.Name a.0, a.1)
+  | inr (inl a) ↦ inr (inl (same_kind_is (next_kind toks) k.LeftBracket a.0, a.1))
+  | inr (inr a) ↦ inr (inr a)
+]
 
 -- tokens with a next kind that is no end
 pub some_token : (toks : Tokens) (kind : Kind) → next_kind toks ≡ kind → kind ≢ k.SourceEnd → (t : Token) × (toks ≡ t ∷ rest_of toks) × (t.kind ≡ kind)

@@ -1,5 +1,5 @@
 -- Reading statements.
-use Rattle.std.proofs.Common.{◌≡◌, ◌≢◌, ℕ, zero, suc, ◌-◌, Bool, true, false, not, cond, if◌then◌else◌, List, [], ◌∷◌, ◌++◌, Option, Some, None, Ok, Err, refl, sym, ap, subst, ◌∙◌, arith, inl, inr, ◌⊎◌}
+use Rattle.std.proofs.Common.{◌≡◌, ℕ, zero, suc, ◌-◌, Bool, true, not, if◌then◌else◌, List, [], ◌∷◌, ◌++◌, Some, Ok, refl, ap, ◌∙◌, arith, inl, inr}
 use Rattle.setl_tree.specs.declared.kind.Kind.{Kind}
 use Rattle.setl_tree.specs.declared.kind.Kind.TheVariants as k
 use Rattle.setl_tree.specs.declared.expr.Expr.{Expr}
@@ -17,15 +17,15 @@ use Rattle.setl_tree.specs.Operators.{level_of, update_op, prefix_op, fold_sign,
 use Rattle.setl_tree.specs.Expressions.{nested, expr, pattern, iters}
 use Rattle.setl_tree.specs.Statements as grammar
 use Rattle.setl_tree.specs.Statements.{from_word, simple}
-use Rattle.setl_grammar.specs.Reading.{Reader, ◌>>=◌, ◌>>◌, pure, peek, expect, opening, one_of, is, but, begins_as, next_kind, same_kind, many, name}
+use Rattle.setl_grammar.specs.Reading.{Reader, ◌>>=◌, peek, is, but, begins_as, next_kind, same_kind, many, name}
 use Rattle.setl_grammar.specs.ReadExpressions as r
 use Rattle.setl_grammar.specs.ReadStatements as s
 use Rattle.setl_grammar.specs.ReadStatements.{begins_stmt}
 use Rattle.setl_grammar.proofs.EveryKind.{kinds, same_kind_self}
-use Rattle.setl_grammar.proofs.Laws.{Took, Law, Follows, Within, Begins, always, anything, took_as, law_of, chosen, next_of, within, then_within, within_always, same, law_pure, law_then, law_map, law_stops, law_expect, law_one_of, law_choose, law_as, law_opening, law_many, law_separated, law_listed, law_optional, law_lined, law_name, begins_name, begins_token, begins_then, begins_or, begins_within, begins_one_of, begins_many, begins_lined, begins_opening, begins_separated, follows_begins, follows_token, follows_or, follows_then, follows_map, follows_many, follows_optional, follows_opening}
-use Rattle.setl_grammar.proofs.Regroup.{behind, assoc, unassoc, pure_then, then_pure, map_then, then_map, with_first, with_second, then_or, in_left, in_right, listed_none, many_nil, many_cons, many_to}
+use Rattle.setl_grammar.proofs.Laws.{Took, Law, Follows, Within, Begins, always, anything, took_as, law_of, chosen, within, within_always, same, law_then, law_map, law_expect, law_one_of, law_choose, law_opening, law_many, law_separated, law_listed, law_optional, law_lined, law_name, begins_name, begins_token, begins_then, begins_or, begins_within, begins_one_of, begins_many, begins_lined, begins_opening, begins_separated, follows_begins, follows_token, follows_then, follows_many, follows_optional, follows_opening}
+use Rattle.setl_grammar.proofs.Regroup.{behind, assoc, unassoc, pure_then, then_pure, map_then, then_map, with_second, then_or, in_left, in_right, listed_none, many_nil, many_cons, many_to}
 use Rattle.setl_grammar.proofs.Bounds.{below, over, law_pattern, begins_pattern, law_iters}
-use Rattle.setl_grammar.proofs.Inners.{IsInside, starts_primary, starts_operand, starts_logic, starts}
+use Rattle.setl_grammar.proofs.Inners.{IsInside, starts_primary, starts}
 use Rattle.setl_grammar.proofs.Expressions.{law_expr, begins_expr, nested_inside, law_braces}
 
 -- ---- ends
@@ -390,10 +390,10 @@ module _ (room : ℕ) where
     unfolding s.if_stmt
     law_if = law_opening room k.If (λ m e _. law_then (law_branch m e)
         (λ first. law_then (law_elseifs m e)
-          (λ others. law_then (law_else_part m e)
-            (λ last. law_map (λ _. st.If first others last) (law_ending k.If if_no_semicolon))
-            (λ last. follows_ending k.If same))
-          (λ others. follows_then (follows_optional begins_else else_is_either end_is_either) (λ last. follows_ending k.If same)))
+        (λ others. law_then (law_else_part m e)
+        (λ last. law_map (λ _. st.If first others last) (law_ending k.If if_no_semicolon))
+        (λ last. follows_ending k.If same))
+        (λ others. follows_then (follows_optional begins_else else_is_either end_is_either) (λ last. follows_ending k.If same)))
         (λ first. follows_then (follows_many begins_elseif elseif_ends_body else_ends_body) (λ others. follows_then (follows_optional begins_else else_is_either end_is_either) (λ last. follows_ending k.If same))))
 
     -- ---- loops
@@ -428,8 +428,8 @@ module _ (room : ℕ) where
     unfolding s.for_loop same_kind
     law_for m e = law_then (law_expect k.For) (λ _. law_then (law_iters (room - 1) (r.nested room).source (nested room).source (here m e).source)
         (λ over. law_then (law_optional (law_bar m e) begins_bar paren_below paren_no_bar)
-          (λ c. law_then (law_expect k.RightParen) (λ _. law_then (law_deep m e) (λ body. law_map (λ _. st.For over c body) (law_ending k.For for_no_semicolon)) (λ body. follows_ending k.For end_ends_body)) (λ _. anything))
-          (λ c. follows_token k.RightParen refl))
+        (λ c. law_then (law_expect k.RightParen) (λ _. law_then (law_deep m e) (λ body. law_map (λ _. st.For over c body) (law_ending k.For for_no_semicolon)) (λ body. follows_ending k.For end_ends_body)) (λ _. anything))
+        (λ c. follows_token k.RightParen refl))
         (λ over. follows_then (follows_optional {stops = is k.RightParen} begins_bar bar_over paren_over) (λ c. follows_token k.RightParen refl))) (λ _. anything)
 
     abbrev while_l : Lang StmtKind
@@ -472,27 +472,27 @@ module _ (room : ℕ) where
     named_to : (toks : Tokens) (a : StmtKind) → named_l toks a → grammar.stmt_kind room D toks a
     unfolding grammar.stmt_kind grammar.place_selector
     named_to toks a s = elim s.second [
-        | inl taken ↦ inr (inr (inr (inl (with_second s taken))))
-        | inr (inl paren) ↦ elim paren.second [
-            | inl none ↦ inr (inr (inr (inr (inl (with_second s (with_second paren (listed_none none)))))))
-            | inr some ↦ elim some.second.second [
-                | inl semicolon ↦ inr (inr (inr (inr (inl (with_second s (with_second paren (in_right (with_second some (with_second some.second semicolon)))))))))
-                | inr selected ↦ place_of toks a (with_second s (many_cons (in_left (round_to (with_second paren (with_second some (with_second some.second selected)))))))
-              ]
-          ]
-        | inr (inr (inl braced)) ↦ place_of toks a (with_second s (many_cons (in_right braced)))
-        | inr (inr (inr stored)) ↦ place_of toks a (with_second s (many_nil stored))
+      | inl taken ↦ inr (inr (inr (inl (with_second s taken))))
+      | inr (inl paren) ↦ elim paren.second [
+        | inl none ↦ inr (inr (inr (inr (inl (with_second s (with_second paren (listed_none none)))))))
+        | inr some ↦ elim some.second.second [
+          | inl semicolon ↦ inr (inr (inr (inr (inl (with_second s (with_second paren (in_right (with_second some (with_second some.second semicolon)))))))))
+          | inr selected ↦ place_of toks a (with_second s (many_cons (in_left (round_to (with_second paren (with_second some (with_second some.second selected)))))))
+        ]
       ]
+      | inr (inr (inl braced)) ↦ place_of toks a (with_second s (many_cons (in_right braced)))
+      | inr (inr (inr stored)) ↦ place_of toks a (with_second s (many_nil stored))
+    ]
 
     place_from : (toks : Tokens) (a : StmtKind) → Then (grammar.place room) stored_l toks a → named_l toks a
     unfolding grammar.place grammar.place_selector
     place_from toks a s = behind (λ x t y h. inr (elim (many_to (grammar.place_selector room) (λ ss. stored_l (record { name = x; selectors = ss })) (map_then h)) [
-        | inl none ↦ inr (inr none)
-        | inr some ↦ elim (then_or some) [
-            | inl round ↦ inl (behind (λ _ t y h. inr (behind (λ xs t y h. behind (λ _ t y h. inr h) h) h)) (round_from round))
-            | inr braces ↦ inr (inl braces)
-          ]
-      ])) (assoc s)
+      | inl none ↦ inr (inr none)
+      | inr some ↦ elim (then_or some) [
+        | inl round ↦ inl (behind (λ _ t y h. inr (behind (λ xs t y h. behind (λ _ t y h. inr h) h) h)) (round_from round))
+        | inr braces ↦ inr (inl braces)
+      ]
+    ])) (assoc s)
 
     call_from : (f : List ℕ) (toks : Tokens) (a : StmtKind) → Then (lang.opening room k.LeftParen) (λ _. Then (lang.listed (nested room).expr) (λ xs. Then (lang.token k.RightParen) (λ _. Then (lang.token k.Semicolon) (λ _. lang.pure (st.Call f xs))))) toks a → store_l f toks a
     call_from f toks a s = inl (behind (λ _ t y h. elim (then_or h) [ inl none ↦ inl (pure_then none) | inr some ↦ inr (behind (λ xs t y h. behind (λ _ t y h. inl h) h) some) ]) s)

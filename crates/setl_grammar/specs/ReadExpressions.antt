@@ -1,6 +1,6 @@
 -- Reading expressions. In each reader `room` is how many nestings may still open there, and `deep` reads what stands one
 -- nesting deeper.
-use Rattle.std.specs.Prelude.{ℕ, zero, suc, ◌-◌, Bool, true, false, if◌then◌else◌, List, [], ◌∷◌, Option, Some, None}
+use Rattle.std.specs.Prelude.{ℕ, zero, suc, ◌-◌, Bool, true, false, if◌then◌else◌, List, [], ◌∷◌, Some, None}
 use Rattle.setl_tree.specs.declared.kind.Kind.{Kind}
 use Rattle.setl_tree.specs.declared.kind.Kind.TheVariants as k
 use Rattle.setl_tree.specs.declared.expr.BinaryOp.{BinaryOp}
@@ -22,7 +22,7 @@ use Rattle.setl_tree.specs.declared.expr.Iter.TheVariants as it
 use Rattle.setl_tree.specs.Operators.{op_at, relation_op, not_sign, prefix_op, fold_sign, quantifier, constant, chain_of, prefixed, selected}
 use Rattle.setl_grammar.specs.declared.ahead.Ahead.{Ahead}
 use Rattle.setl_grammar.specs.declared.ahead.Ahead.TheVariants.{Expression, Either, Pattern}
-use Rattle.setl_grammar.specs.Reading.{Reader, ◌>>=◌, ◌>>◌, pure, refuse, peek, expect, opening, one_of, opening_one_of, is, begins_as, many, optional, more, separated, listed, name}
+use Rattle.setl_grammar.specs.Reading.{Reader, ◌>>=◌, ◌>>◌, pure, refuse, peek, expect, opening, one_of, opening_one_of, is, begins_as, many, optional, more, separated, name}
 use Rattle.setl_grammar.specs.Scan.{ahead, bound_expr}
 
 -- ---- what iterators bind

@@ -1,6 +1,6 @@
 -- Reading `repr` sections. In each reader `room` is how many nestings may still open there, and `deep` reads the modes
 -- that stand one nesting deeper.
-use Rattle.std.specs.Prelude.{ℕ, zero, suc, Bool, true, false, if◌then◌else◌, List, Option, Some, None}
+use Rattle.std.specs.Prelude.{ℕ, zero, suc, Bool, true, false, if◌then◌else◌, List, Option}
 use Rattle.setl_tree.specs.declared.kind.Kind.{Kind}
 use Rattle.setl_tree.specs.declared.kind.Kind.TheVariants as k
 use Rattle.setl_tree.specs.declared.mode.Attribute.{Attribute}

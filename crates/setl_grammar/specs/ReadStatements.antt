@@ -1,6 +1,6 @@
 -- Reading statements. In each reader `room` is how many nestings may still open there, and `deep` reads the statements
 -- that stand one nesting deeper.
-use Rattle.std.specs.Prelude.{ℕ, zero, suc, ◌-◌, Bool, true, false, if◌then◌else◌, List, [], ◌∷◌, Option, Some, None}
+use Rattle.std.specs.Prelude.{ℕ, zero, suc, ◌-◌, Bool, true, false, if◌then◌else◌, List, [], ◌∷◌, Option}
 use Rattle.setl_tree.specs.declared.kind.Kind.{Kind}
 use Rattle.setl_tree.specs.declared.kind.Kind.TheVariants as k
 use Rattle.setl_tree.specs.declared.expr.Expr.{Expr}
@@ -15,7 +15,7 @@ use Rattle.setl_tree.specs.Tokens.{Token}
 use Rattle.setl_tree.specs.Operators.{update_op}
 use Rattle.setl_tree.specs.Statements.{from_word, simple}
 use Rattle.setl_grammar.specs.Reading.{Reader, ◌>>=◌, ◌>>◌, pure, refuse, peek, expect, opening, one_of, is, but, begins_as, many, optional, separated, listed, lined, name}
-use Rattle.setl_grammar.specs.ReadExpressions.{Inside, nested, expr, pattern, iters, condition, braces, begins_selector}
+use Rattle.setl_grammar.specs.ReadExpressions.{nested, expr, pattern, iters, condition, braces, begins_selector}
 
 -- "end" [ word ] ";"
 unfoldable pub ending : Kind → Reader Token

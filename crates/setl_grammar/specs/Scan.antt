@@ -1,6 +1,6 @@
 -- Looking ahead at the inside of a brace or bracket: what an iterator binds, behind it `in`, may also be the left side
 -- of a comparison, as in {x in s}.
-use Rattle.std.specs.Prelude.{ℕ, Bool, true, false, if◌then◌else◌, List, [], ◌∷◌}
+use Rattle.std.specs.Prelude.{Bool, true, false, if◌then◌else◌, List, [], ◌∷◌}
 use Rattle.setl_tree.specs.declared.kind.Kind.{Kind}
 use Rattle.setl_tree.specs.declared.kind.Kind.TheVariants as k
 use Rattle.setl_tree.specs.declared.expr.Slot.{Slot}
@@ -10,7 +10,7 @@ use Rattle.setl_tree.specs.declared.expr.Bound.TheVariants as bd
 use Rattle.setl_tree.specs.declared.expr.Inner.TheVariants as inn
 use Rattle.setl_tree.specs.declared.expr.Expr.{Expr}
 use Rattle.setl_tree.specs.declared.expr.Expr.TheVariants as e
-use Rattle.setl_tree.specs.Tokens.{Token, Tokens}
+use Rattle.setl_tree.specs.Tokens.{Tokens}
 use Rattle.setl_grammar.specs.declared.ahead.Ahead.{Ahead}
 use Rattle.setl_grammar.specs.declared.ahead.Ahead.TheVariants.{Expression, Either, Pattern}
 use Rattle.setl_grammar.specs.Reading.{next_kind, same_kind, rest_of}

@@ -6,12 +6,10 @@ ghost use Rattle.setl_grammar.specs.Claims.{ReadingIsSound, ReadingIsComplete, N
 pub fn reading_meets_grammar()
     ensures sound { ReadingIsSound }
     ensures complete { ReadingIsComplete }
-{
-}
+{}
 
 /// Tokens derive at most one tree, and derive it also where more nestings may open.
 pub fn tree_is_unique()
     ensures more { NestingsMayBeMore }
     ensures unique { TreeIsUnique }
-{
-}
+{}

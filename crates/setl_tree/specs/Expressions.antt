@@ -1,7 +1,6 @@
 -- The grammar of expressions. In each language `room` is how many nestings may still open there, and `deep` has the
 -- expressions that stand one nesting deeper.
-use Rattle.std.specs.Prelude.{ℕ, zero, suc, ◌-◌, List, [], ◌∷◌, Option, Some, None}
-use Rattle.setl_tree.specs.declared.kind.Kind.{Kind}
+use Rattle.std.specs.Prelude.{ℕ, zero, suc, ◌-◌, List}
 use Rattle.setl_tree.specs.declared.kind.Kind.TheVariants as k
 use Rattle.setl_tree.specs.declared.expr.BinaryOp.{BinaryOp}
 use Rattle.setl_tree.specs.declared.expr.Prefix.{Prefix}
@@ -27,7 +26,7 @@ use Rattle.setl_tree.specs.Operators.{op_at, relation_op, not_sign, prefix_op, f
 unfoldable pub slot : Lang Slot
 slot =
     (do x ← name; pure (sl.Name x))
-  ∣ (do token k.Minus; pure sl.Skip)
+    ∣ (do token k.Minus; pure sl.Skip)
 
 -- "[" slot { "," slot } "]"
 unfoldable pub pattern : ℕ → Lang (List Slot)
@@ -37,13 +36,13 @@ pattern room = do opening room k.LeftBracket; slots ← separated slot; token k.
 unfoldable pub bound : ℕ → Lang Bound
 bound room =
     (do x ← name; pure (bd.Name x))
-  ∣ (do slots ← pattern room; pure (bd.Pattern slots))
+    ∣ (do slots ← pattern room; pure (bd.Pattern slots))
 
 -- iter = bound "in" e7 | name "=" name "(" name ")"
 unfoldable pub iter : ℕ → Lang Expr → Lang Iter
 iter room source =
     (do b ← bound room; token k.In; s ← source; pure (it.Over b s))
-  ∣ (do y ← name; token k.Equal; f ← name; opening room k.LeftParen; x ← name; token k.RightParen; pure (it.Image y f x))
+    ∣ (do y ← name; token k.Equal; f ← name; opening room k.LeftParen; x ← name; token k.RightParen; pure (it.Image y f x))
 
 -- iters = iter { "," iter }
 unfoldable pub iters : ℕ → Lang Expr → Lang (List Iter)
@@ -63,7 +62,7 @@ chain level item = do first ← item; others ← many (operand level item); pure
 unfoldable pub prefix : Lang Prefix
 prefix =
     one_of prefix_op
-  ∣ (do o ← one_of fold_sign; token k.Slash; pure (pre.Folded o))
+    ∣ (do o ← one_of fold_sign; token k.Slash; pure (pre.Folded o))
 
 -- expressions and sources of iterators, where so many nestings may still open
 pub record Inside : Type 1 where
@@ -74,30 +73,30 @@ pub record Inside : Type 1 where
 unfoldable pub inner : ℕ → Inside → Lang Inner
 inner room here =
     (do xs ← listed here.expr; pure (inn.List xs))
-  ∣ (do a ← here.expr; b ← optional (token k.Comma >> here.expr); token k.Dots; c ← here.expr; pure (inn.Range a b c))
-  ∣ (do x ← here.expr; token k.Colon; is ← iters room here.source; c ← optional (token k.Bar >> here.expr); pure (inn.Former x is c))
-  ∣ (do b ← bound room; token k.In; s ← here.source; token k.Bar; c ← here.expr; pure (inn.Filter b s c))
+    ∣ (do a ← here.expr; b ← optional (token k.Comma >> here.expr); token k.Dots; c ← here.expr; pure (inn.Range a b c))
+    ∣ (do x ← here.expr; token k.Colon; is ← iters room here.source; c ← optional (token k.Bar >> here.expr); pure (inn.Former x is c))
+    ∣ (do b ← bound room; token k.In; s ← here.source; token k.Bar; c ← here.expr; pure (inn.Filter b s c))
 
 module _ (room : ℕ) (deep : Inside) where
   -- selector = "(" [ expr { "," expr } ] ")" | "(" expr ".." [ expr ] ")" | "{" expr { "," expr } "}"
   unfoldable pub selector : Lang Selector
   selector =
       (do opening room k.LeftParen; xs ← listed deep.expr; token k.RightParen; pure (se.Round xs))
-    ∣ (do opening room k.LeftParen; a ← deep.expr; token k.Dots; b ← optional deep.expr; token k.RightParen; pure (se.Slice a b))
-    ∣ (do opening room k.LeftBrace; xs ← separated deep.expr; token k.RightBrace; pure (se.Braces xs))
+      ∣ (do opening room k.LeftParen; a ← deep.expr; token k.Dots; b ← optional deep.expr; token k.RightParen; pure (se.Slice a b))
+      ∣ (do opening room k.LeftBrace; xs ← separated deep.expr; token k.RightBrace; pure (se.Braces xs))
 
   -- prim = number | string | "om" | "true" | "false" | "newat" | "eof" | "ok" | name | "(" expr ")"
   --      | "if" expr "then" expr "else" expr "end" | "{" inner "}" | "[" inner "]"
   unfoldable pub primary : Lang Expr
   primary =
       (do t ← token k.Number; pure (e.Number t.value))
-    ∣ (do t ← token k.StringLiteral; pure (e.Text t.text))
-    ∣ one_of constant
-    ∣ (do x ← name; pure (e.Name x))
-    ∣ (do opening room k.LeftParen; x ← deep.expr; token k.RightParen; pure x)
-    ∣ (do opening room k.If; a ← deep.expr; token k.Then; b ← deep.expr; token k.Else; c ← deep.expr; token k.End; pure (e.If a b c))
-    ∣ (do opening room k.LeftBrace; x ← inner (room - 1) deep; token k.RightBrace; pure (e.Set x))
-    ∣ (do opening room k.LeftBracket; x ← inner (room - 1) deep; token k.RightBracket; pure (e.Tuple x))
+      ∣ (do t ← token k.StringLiteral; pure (e.Text t.text))
+      ∣ one_of constant
+      ∣ (do x ← name; pure (e.Name x))
+      ∣ (do opening room k.LeftParen; x ← deep.expr; token k.RightParen; pure x)
+      ∣ (do opening room k.If; a ← deep.expr; token k.Then; b ← deep.expr; token k.Else; c ← deep.expr; token k.End; pure (e.If a b c))
+      ∣ (do opening room k.LeftBrace; x ← inner (room - 1) deep; token k.RightBrace; pure (e.Set x))
+      ∣ (do opening room k.LeftBracket; x ← inner (room - 1) deep; token k.RightBracket; pure (e.Tuple x))
 
   -- e12 = prim { selector }
   unfoldable pub e12 : Lang Expr
@@ -127,7 +126,7 @@ module _ (room : ℕ) (deep : Inside) where
   unfoldable pub e6 : Lang Expr
   e6 =
       e7
-    ∣ (do a ← e7; o ← one_of relation_op; b ← e7; pure (e.Compare a o b))
+      ∣ (do a ← e7; o ← one_of relation_op; b ← e7; pure (e.Compare a o b))
 
   -- e5 = { "not" } e6
   unfoldable pub e5 : Lang Expr
@@ -149,7 +148,7 @@ module _ (room : ℕ) (deep : Inside) where
   unfoldable pub whole : Lang Expr
   whole =
       (do q ← opening_one_of room quantifier; is ← iters (room - 1) deep.source; token k.Bar; x ← deep.expr; pure (e.Quantified q is x))
-    ∣ e2
+      ∣ e2
 
 -- what stands one nesting deeper than where so many nestings may still open
 unfoldable pub nested : ℕ → Inside

@@ -11,7 +11,6 @@ use Rattle.setl_tree.specs.declared.mode.WrittenMode.{WrittenMode, roll-WrittenM
 use Rattle.setl_tree.specs.declared.mode.ReprLine.{ReprLine}
 use Rattle.setl_tree.specs.declared.mode.ReprLine.TheVariants as rl
 use Rattle.setl_tree.specs.declared.tree.Declared.{Declared}
-use Rattle.setl_tree.specs.Tokens.{Token}
 use Rattle.setl_tree.specs.Lang.{Lang, pure, ◌>>=◌, ◌>>◌, ◌∣◌, never, token, one_of, opening, many, optional, separated, lined, name}
 use Rattle.setl_tree.specs.Statements.{ending}
 
@@ -41,11 +40,11 @@ module _ (room : ℕ) (deep : Lang WrittenMode) where
   unfoldable pub core : Lang Core
   core =
       one_of simple_core
-    ∣ (do t ← token k.Elmt; b ← name; pure (co.Elmt t.line b))
-    ∣ (do token k.Set; opening room k.LeftParen; m ← deep; token k.RightParen; pure (co.Set m))
-    ∣ (do token k.Tuple; opening room k.LeftParen; m ← deep; token k.RightParen; pure (co.Tuple m))
-    ∣ (do token k.Smap; opening room k.LeftParen; d ← deep; token k.RightParen; r ← deep; pure (co.Smap d r))
-    ∣ (do token k.Mmap; opening room k.LeftBrace; d ← deep; token k.RightBrace; r ← deep; pure (co.Mmap d r))
+      ∣ (do t ← token k.Elmt; b ← name; pure (co.Elmt t.line b))
+      ∣ (do token k.Set; opening room k.LeftParen; m ← deep; token k.RightParen; pure (co.Set m))
+      ∣ (do token k.Tuple; opening room k.LeftParen; m ← deep; token k.RightParen; pure (co.Tuple m))
+      ∣ (do token k.Smap; opening room k.LeftParen; d ← deep; token k.RightParen; r ← deep; pure (co.Smap d r))
+      ∣ (do token k.Mmap; opening room k.LeftBrace; d ← deep; token k.RightBrace; r ← deep; pure (co.Mmap d r))
 
   -- [ "local" | "remote" | "sparse" ] core
   unfoldable pub with_attribute : Lang (Option Attribute × Core)
@@ -67,7 +66,7 @@ mode room = mode_in room (nested_mode room)
 unfoldable pub repr_line : ℕ → Lang ReprLine
 repr_line room =
     (do t ← token k.Base; xs ← separated declared; m ← optional (token k.Colon >> mode room); token k.Semicolon; pure (rl.Base t.line xs m))
-  ∣ (do xs ← lined (separated declared); token k.Colon; m ← mode room; token k.Semicolon; pure (rl.Variables xs.0 xs.1 m))
+    ∣ (do xs ← lined (separated declared); token k.Colon; m ← mode room; token k.Semicolon; pure (rl.Variables xs.0 xs.1 m))
 
 -- repr = "repr" { rline } "end" [ "repr" ] ";"
 unfoldable pub repr : ℕ → Lang (List ReprLine)

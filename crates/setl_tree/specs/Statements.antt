@@ -3,7 +3,6 @@
 use Rattle.std.specs.Prelude.{ℕ, zero, suc, ◌-◌, List, Option, Some, None}
 use Rattle.setl_tree.specs.declared.kind.Kind.{Kind}
 use Rattle.setl_tree.specs.declared.kind.Kind.TheVariants as k
-use Rattle.setl_tree.specs.declared.expr.Expr.{Expr}
 use Rattle.setl_tree.specs.declared.expr.Selector.{Selector}
 use Rattle.setl_tree.specs.declared.expr.Selector.TheVariants as se
 use Rattle.setl_tree.specs.declared.stmt.Place.{Place}
@@ -16,7 +15,7 @@ use Rattle.setl_tree.specs.declared.stmt.StmtKind.TheVariants as st
 use Rattle.setl_tree.specs.Tokens.{Token}
 use Rattle.setl_tree.specs.Lang.{Lang, pure, ◌>>=◌, ◌>>◌, ◌∣◌, never, token, one_of, opening, many, optional, separated, listed, lined, name}
 use Rattle.setl_tree.specs.Operators.{update_op}
-use Rattle.setl_tree.specs.Expressions.{Inside, nested, expr, pattern, iters}
+use Rattle.setl_tree.specs.Expressions.{nested, expr, pattern, iters}
 
 unfoldable pub from_word : Kind → Option FromEnd
 from_word k.From = Some fr.From
@@ -42,7 +41,7 @@ module _ (room : ℕ) where
   unfoldable pub place_selector : Lang Selector
   place_selector =
       (do opening room k.LeftParen; xs ← separated (nested room).expr; token k.RightParen; pure (se.Round xs))
-    ∣ (do opening room k.LeftBrace; xs ← separated (nested room).expr; token k.RightBrace; pure (se.Braces xs))
+      ∣ (do opening room k.LeftBrace; xs ← separated (nested room).expr; token k.RightBrace; pure (se.Braces xs))
 
   -- place = name { "(" expr { "," expr } ")" | "{" expr { "," expr } "}" }
   unfoldable pub place : Lang Place
@@ -56,17 +55,17 @@ module _ (room : ℕ) where
     unfoldable pub stmt_kind : Lang StmtKind
     stmt_kind =
         (do p ← place; token k.Assign; x ← expr room; token k.Semicolon; pure (st.Assign p x))
-      ∣ (do p ← place; o ← one_of update_op; token k.Assign; x ← expr room; token k.Semicolon; pure (st.Update p o x))
-      ∣ (do slots ← pattern room; token k.Assign; x ← expr room; token k.Semicolon; pure (st.TupleAssign slots x))
-      ∣ (do x ← name; w ← one_of from_word; p ← place; token k.Semicolon; pure (st.Take x w p))
-      ∣ (do f ← name; opening room k.LeftParen; xs ← listed (nested room).expr; token k.RightParen; token k.Semicolon; pure (st.Call f xs))
-      ∣ (do opening room k.If; first ← branch; others ← many (token k.Elseif >> branch); last ← optional (token k.Else >> deep); ending k.If; pure (st.If first others last))
-      ∣ (do opening room k.LeftParen; token k.For; over ← iters (room - 1) (nested room).source; c ← optional (token k.Bar >> (nested room).expr); token k.RightParen; body ← deep; ending k.For; pure (st.For over c body))
-      ∣ (do opening room k.LeftParen; token k.While; c ← (nested room).expr; token k.RightParen; body ← deep; ending k.While; pure (st.While c body))
-      ∣ (do s ← one_of simple; token k.Semicolon; pure s)
-      ∣ (do token k.Return; x ← optional (expr room); token k.Semicolon; pure (st.Return x))
-      ∣ (do token k.Print; opening room k.LeftParen; xs ← listed (nested room).expr; token k.RightParen; token k.Semicolon; pure (st.Print xs))
-      ∣ (do token k.Read; opening room k.LeftParen; xs ← separated name; token k.RightParen; token k.Semicolon; pure (st.Read xs))
+        ∣ (do p ← place; o ← one_of update_op; token k.Assign; x ← expr room; token k.Semicolon; pure (st.Update p o x))
+        ∣ (do slots ← pattern room; token k.Assign; x ← expr room; token k.Semicolon; pure (st.TupleAssign slots x))
+        ∣ (do x ← name; w ← one_of from_word; p ← place; token k.Semicolon; pure (st.Take x w p))
+        ∣ (do f ← name; opening room k.LeftParen; xs ← listed (nested room).expr; token k.RightParen; token k.Semicolon; pure (st.Call f xs))
+        ∣ (do opening room k.If; first ← branch; others ← many (token k.Elseif >> branch); last ← optional (token k.Else >> deep); ending k.If; pure (st.If first others last))
+        ∣ (do opening room k.LeftParen; token k.For; over ← iters (room - 1) (nested room).source; c ← optional (token k.Bar >> (nested room).expr); token k.RightParen; body ← deep; ending k.For; pure (st.For over c body))
+        ∣ (do opening room k.LeftParen; token k.While; c ← (nested room).expr; token k.RightParen; body ← deep; ending k.While; pure (st.While c body))
+        ∣ (do s ← one_of simple; token k.Semicolon; pure s)
+        ∣ (do token k.Return; x ← optional (expr room); token k.Semicolon; pure (st.Return x))
+        ∣ (do token k.Print; opening room k.LeftParen; xs ← listed (nested room).expr; token k.RightParen; token k.Semicolon; pure (st.Print xs))
+        ∣ (do token k.Read; opening room k.LeftParen; xs ← separated name; token k.RightParen; token k.Semicolon; pure (st.Read xs))
 
     unfoldable pub stmt : Lang Stmt
     stmt = do s ← lined stmt_kind; pure (roll-Stmt (record { line = s.0; kind = s.1 }))

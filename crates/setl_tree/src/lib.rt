@@ -9,11 +9,15 @@ mod items;
 mod kind;
 mod mode;
 mod stmt;
+#[cfg(test)]
+mod tests;
 mod text;
 mod tree;
 
 pub use boxed::Boxed;
-pub use expr::{BinaryOp, Bound, Expr, Fold, Inner, Iter, Prefix, Quantifier, Relation, Selector, Slot};
+pub use expr::{
+    BinaryOp, Bound, Expr, Fold, Inner, Iter, Prefix, Quantifier, Relation, Selector, Slot,
+};
 pub use items::Items;
 pub use kind::Kind;
 pub use mode::{Attribute, Core, ReprLine, WrittenMode};
