@@ -9,26 +9,26 @@ use Rattle.setl_value.specs.Order.{datum_cmp}
 
 -- whether d is a member
 abbrev pub has_datum : Datum → List Datum → Bool
-has_datum d ds = list_any (λ e. is_eq (datum_cmp e d)) ds
+has_datum d ds = list_any (λ e. is_eq (datum_cmp d e)) ds
 
 -- whether each member of the first is one of the second
 abbrev pub is_subset : List Datum → List Datum → Bool
 is_subset xs ys = list_all (λ x. has_datum x ys) xs
 
--- the set of e and es with the member d, by how e, its least member, stands to d
+-- the set of e and es with the member d, by how d stands to e, the least member
 abbrev pub insert_by : Ordering → Datum → Datum → List Datum → List Datum → List Datum
-insert_by Less d e es inserted = e ∷ inserted
+insert_by Less d e es inserted = d ∷ e ∷ es
 insert_by Equal d e es inserted = e ∷ es
-insert_by Greater d e es inserted = d ∷ e ∷ es
+insert_by Greater d e es inserted = e ∷ inserted
 
 -- the set with the member d
 abbrev pub insert_datum : Datum → List Datum → List Datum
 insert_datum d [] = d ∷ []
-insert_datum d (e ∷ es) = insert_by (datum_cmp e d) d e es (insert_datum d es)
+insert_datum d (e ∷ es) = insert_by (datum_cmp d e) d e es (insert_datum d es)
 
 -- the set without the member d
 abbrev pub remove_datum : Datum → List Datum → List Datum
-remove_datum d ds = filter (λ e. not (is_eq (datum_cmp e d))) ds
+remove_datum d ds = filter (λ e. not (is_eq (datum_cmp d e))) ds
 
 -- the set of all data of a list, in any order and with repeats
 abbrev pub set_from : List Datum → List Datum
