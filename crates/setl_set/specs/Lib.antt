@@ -1,3 +1,4 @@
 pub mod Sets
 pub mod Subsets
 pub mod Laws
+pub mod Place
