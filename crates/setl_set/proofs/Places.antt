@@ -1,5 +1,5 @@
 -- Where a datum stands in a rising list, and what a change there leaves.
-use Rattle.std.specs.Prelude.{◌≡◌, ℕ, zero, suc, ◌+◌, ◌≤◌, Bool, true, false, not, ◌||◌, List, [], ◌∷◌, Some, refl, take, drop, length, slice_get, max}
+use Rattle.std.specs.Prelude.{◌≡◌, Result, Ok, Err, IfOk, IfErr, is_ok, ℕ, zero, suc, ◌+◌, ◌<◌, ◌≤◌, Bool, true, false, not, ◌||◌, List, [], ◌∷◌, Some, refl, take, drop, length, slice_get, max}
 use Rattle.std.specs.List.{AllByRecursion, insert, remove, filter}
 use Rattle.std.specs.List.Sorted.{IsStrictlySortedBy}
 use Rattle.std.specs.declared.cmp.Ordering.{Ordering}
@@ -27,6 +27,13 @@ rising_from_set ds h = subst IsRising (element_list-elements_of ds) h.0.1
 
 -- ---- search by halving
 
+-- the place of d is from low to high
+pub record IsBetween (d : Datum) (ds : List Datum) (low high : ℕ) : Type 0 where
+  pub ordered : low ≤ high
+  pub within : high ≤ length ds
+  pub before : AllByRecursion (λ e. datum_cmp e d ≡ Less) (take low ds)
+  pub after : AllByRecursion (λ e. datum_cmp d e ≡ Less) (drop high ds)
+
 pub all_at : (P : Datum → Type 0) (ds : List Datum) (i : ℕ) (d : Datum) → AllByRecursion P ds → slice_get ds i ≡ Some d → P d
 all_at P [] i d a e = absurd (none-some d e)
 all_at P (c ∷ ds) zero d a e = subst P (some_same c d e) a.0
@@ -44,6 +51,22 @@ unfolding IsStrictlySortedBy
 after_more [] m e d r h p = absurd (none-some e h)
 after_more (c ∷ cs) zero e d r h p = below_cons d c cs (subst (λ x. datum_cmp d x ≡ Less) (sym (some_same c e h)) p) r
 after_more (c ∷ cs) (suc m) e d r h p = after_more cs m e d r.1 h p
+
+pub narrowed_low : (d : Datum) (ds : List Datum) (low high m : ℕ) (e : Datum) → IsRising ds → IsBetween d ds low high → m < high → slice_get ds m ≡ Some e → datum_cmp e d ≡ Less → IsBetween d ds (m + 1) high
+narrowed_low d ds low high m e r b l h p = record {
+  ordered = omega arith;
+  within = b.within;
+  before = subst (λ k. AllByRecursion (λ x. datum_cmp x d ≡ Less) (take k ds)) {x = suc m} (omega arith) (before_more ds m e d r h p);
+  after = b.after;
+}
+
+pub narrowed_high : (d : Datum) (ds : List Datum) (low high m : ℕ) (e : Datum) → IsRising ds → IsBetween d ds low high → low ≤ m → m < high → slice_get ds m ≡ Some e → datum_cmp e d ≡ Greater → IsBetween d ds low m
+narrowed_high d ds low high m e r b k l h p = record {
+  ordered = k;
+  within = omega (arith, b.within);
+  before = b.before;
+  after = after_more ds m e d r h (turned e d p);
+}
 
 -- ---- what is there, and what isn't
 
@@ -116,3 +139,9 @@ depths_out n (d ∷ ds) a = omega (arith, a.0, depths_out n ds a.1)
 
 pub depth_insert : (d : Datum) (ds : List Datum) (n : ℕ) → depth d ≤ n → elements_depth (elements_of ds) ≤ n → elements_depth (elements_of (insert_datum d ds)) ≤ n
 depth_insert d ds n p q = depths_out n (insert_datum d ds) (all_insert (λ e. depth e ≤ n) d ds p (depths_in n ds q))
+
+-- ---- what `place` answers
+
+pub found_or_absent : (d : Datum) (ds : List Datum) (r : Result ℕ ℕ) → IfOk r (λ i. slice_get ds i ≡ Some d) → IfErr r (IsPlace d ds) → is_ok r ≡ has_datum d ds
+found_or_absent d ds (Ok i) f a = sym (there ds i d f)
+found_or_absent d ds (Err i) f a = sym (absent d ds i a)
