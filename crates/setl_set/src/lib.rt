@@ -8,6 +8,7 @@
 
 pub mod laws;
 mod member;
+mod merge;
 
 pub use member::{has, less, with};
 pub use std::alloc::AllocError as Memory;
