@@ -1,18 +1,21 @@
 -- The merge of two rising lists, member by member.
-use Rattle.std.specs.Prelude.{◌≡◌, ℕ, zero, suc, ◌+◌, ◌<◌, ◌≤◌, Bool, true, false, not, ◌&&◌, ◌||◌, cond, List, [], ◌∷◌, ◌++◌, Some, refl, drop, length, slice_get}
+use Rattle.std.specs.Prelude.{◌≡◌, ℕ, zero, suc, ◌≤◌, Bool, true, false, not, ◌&&◌, ◌||◌, cond, List, [], ◌∷◌, ◌++◌, ◌⊎◌, Option, None, Some, refl}
 use Rattle.std.specs.List.{AllByRecursion, list_any}
 use Rattle.std.specs.List.Sorted.{IsStrictlySortedBy}
 use Rattle.std.specs.declared.cmp.Ordering.{Ordering}
 use Rattle.std.specs.declared.cmp.Ordering.TheVariants.{Less, Equal, Greater}
 use Rattle.std.specs.Ordering.{is_eq}
-use Rattle.std.proofs.Common.{ap, sym, ◌∙◌, subst, arith}
+use Rattle.std.specs.Borrow.{Bor}
+use Rattle.std.proofs.Common.{ap, sym, ◌∙◌, subst, inl, inr, append_assoc, append-nil}
 use Rattle.std.proofs.lemmas.List.Folds.{list_any-append}
 use Rattle.std.proofs.lemmas.Option.{none-some}
 use Rattle.setl_value.specs.Datum.{Datum, depth, elements_depth, elements_of}
+use Rattle.setl_value.specs.DatumOf.{datum}
+use Rattle.setl_value.specs.declared.Value.{Value}
 use Rattle.setl_value.specs.Order.{datum_cmp, IsRising}
 use Rattle.setl_value.specs.OrderLaws.{same_datum, same_if_eq}
 use Rattle.setl_set.specs.declared.merge.Keep.{Keep}
-use Rattle.setl_set.specs.Merge.{is_kept, kept_if, IsMerge}
+use Rattle.setl_set.specs.Merge.{is_kept, kept_if, front, IsMerge}
 use Rattle.setl_set.specs.Sets.{has_datum, union_of, minus_of, meet_of, symm_of}
 use Rattle.setl_set.proofs.Members.{IsBelow, turned, below_cons, below_trans, none_above, none_of_equal, rising_unique}
 use Rattle.setl_set.proofs.Places.{some_same, depths_in, depths_out}
@@ -171,3 +174,72 @@ is_merge k xs ys r s = record { rising = rising_merged k xs ys r s; members = λ
 
 pub depth_merged : (k : Keep) (xs ys : List Datum) (n : ℕ) → elements_depth (elements_of xs) ≤ n → elements_depth (elements_of ys) ≤ n → elements_depth (elements_of (merged k xs ys)) ≤ n
 depth_merged k xs ys n p q = depths_out n (merged k xs ys) (all_merged (λ d. depth d ≤ n) k xs ys (depths_in n xs p) (depths_in n ys q))
+
+-- ---- the end of the loop
+
+kept_nothing : (b : Bool) → kept_if b [] ≡ []
+kept_nothing true = refl
+kept_nothing false = refl
+
+merged_end : (k : Keep) (x y : Option (Bor Value)) (left right : List Datum) → (x ≡ None) ⊎ (y ≡ None)
+    → kept_if k.left (front x left) ++ kept_if k.right (front y right) ≡ merged k (front x left) (front y right)
+merged_end k None y left right e = ap (λ l. l ++ kept_if k.right (front y right)) (kept_nothing k.left)
+merged_end k (Some v) None left right e = ap (λ l. kept_if k.left (datum v.now ∷ left) ++ l) (kept_nothing k.right) ∙ append-nil (kept_if k.left (datum v.now ∷ left))
+merged_end k (Some v) (Some w) left right e = absurd (both_there v w e)
+  where
+    both_there : (v w : Bor Value) → ((Some v ≡ None) ⊎ (Some w ≡ None)) → ⊥
+    both_there v w (inl p) = none-some v (sym p)
+    both_there v w (inr p) = none-some w (sym p)
+
+-- the members that the loop kept, then what is left of either set
+pub merged_whole : (k : Keep) (x y : Option (Bor Value)) (left right kept one two all : List Datum) → (x ≡ None) ⊎ (y ≡ None)
+    → kept ++ merged k (front x left) (front y right) ≡ all
+    → one ≡ kept ++ kept_if k.left (front x left)
+    → two ≡ one ++ kept_if k.right (front y right)
+    → two ≡ all
+merged_whole k x y left right kept one two all e h p q =
+    q ∙ ap (λ l. l ++ kept_if k.right (front y right)) p
+    ∙ append_assoc kept (kept_if k.left (front x left)) (kept_if k.right (front y right))
+    ∙ ap (λ l. kept ++ l) (merged_end k x y left right e) ∙ h
+
+-- ---- the four operations
+
+pub is_union : (xs ys ds : List Datum) → IsMerge (record { left = true; both = true; right = true }) xs ys ds → ds ≡ union_of xs ys
+is_union xs ys ds m = rising_unique ds (union_of xs ys) m.rising (rising_set_from (xs ++ ys)) (λ d. m.members d ∙ test (has_datum d xs) (has_datum d ys) ∙ sym (has_union d xs ys))
+  where
+    test : (p q : Bool) → is_kept (record { left = true; both = true; right = true }) p q ≡ (p || q)
+    test true true = refl
+    test true false = refl
+    test false true = refl
+    test false false = refl
+
+pub is_minus : (xs ys ds : List Datum) → IsRising xs → IsMerge (record { left = true; both = false; right = false }) xs ys ds → ds ≡ minus_of xs ys
+is_minus xs ys ds r m =
+    rising_unique ds (minus_of xs ys) m.rising (rising_filter (λ e. not (has_datum e ys)) xs r) (λ d. m.members d ∙ test (has_datum d xs) (has_datum d ys) ∙ sym (has_minus d xs ys))
+  where
+    test : (p q : Bool) → is_kept (record { left = true; both = false; right = false }) p q ≡ (not q && p)
+    test true true = refl
+    test true false = refl
+    test false true = refl
+    test false false = refl
+
+pub is_meet : (xs ys ds : List Datum) → IsRising xs → IsMerge (record { left = false; both = true; right = false }) xs ys ds → ds ≡ meet_of xs ys
+is_meet xs ys ds r m =
+    rising_unique ds (meet_of xs ys) m.rising (rising_filter (λ e. has_datum e ys) xs r) (λ d. m.members d ∙ test (has_datum d xs) (has_datum d ys) ∙ sym (has_meet d xs ys))
+  where
+    test : (p q : Bool) → is_kept (record { left = false; both = true; right = false }) p q ≡ (q && p)
+    test true true = refl
+    test true false = refl
+    test false true = refl
+    test false false = refl
+
+pub is_symm : (xs ys ds : List Datum) → IsMerge (record { left = true; both = false; right = true }) xs ys ds → ds ≡ symm_of xs ys
+is_symm xs ys ds m =
+    rising_unique ds (symm_of xs ys) m.rising (rising_set_from (minus_of xs ys ++ minus_of ys xs)) (λ d. m.members d ∙ test (has_datum d xs) (has_datum d ys) ∙ sym (has_symm d xs ys))
+  where
+    test : (p q : Bool) → is_kept (record { left = true; both = false; right = true }) p q ≡ ((not q && p) || (not p && q))
+    test true true = refl
+    test true false = refl
+    test false true = refl
+    test false false = refl
+
