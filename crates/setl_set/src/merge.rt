@@ -15,16 +15,7 @@ use std::cmp::Ordering;
 pub fn union(alloc: Global, a: &SetBody, b: &SetBody) -> Result<SetBody, Memory>
     ensures { IfOk result (λ s. Members s ≡ union_of (Members a.now) (Members b.now)) }
 {
-    merge(
-        alloc,
-        a,
-        b,
-        Keep {
-            left: true,
-            both: true,
-            right: true,
-        },
-    )
+    merge(alloc, a, b, UNION)
 }
 
 /// The members of `a` that aren't in `b`.
@@ -32,16 +23,7 @@ pub fn minus(alloc: Global, a: &SetBody, b: &SetBody) -> Result<SetBody, Memory>
     ensures { IfOk result (λ s. Members s ≡ minus_of (Members a.now) (Members b.now)) }
 {
     a.learn();
-    merge(
-        alloc,
-        a,
-        b,
-        Keep {
-            left: true,
-            both: false,
-            right: false,
-        },
-    )
+    merge(alloc, a, b, MINUS)
 }
 
 /// The members of both `a` and `b`.
@@ -49,32 +31,14 @@ pub fn meet(alloc: Global, a: &SetBody, b: &SetBody) -> Result<SetBody, Memory>
     ensures { IfOk result (λ s. Members s ≡ meet_of (Members a.now) (Members b.now)) }
 {
     a.learn();
-    merge(
-        alloc,
-        a,
-        b,
-        Keep {
-            left: false,
-            both: true,
-            right: false,
-        },
-    )
+    merge(alloc, a, b, MEET)
 }
 
 /// The members of exactly one of `a` and `b`.
 pub fn symm(alloc: Global, a: &SetBody, b: &SetBody) -> Result<SetBody, Memory>
     ensures { IfOk result (λ s. Members s ≡ symm_of (Members a.now) (Members b.now)) }
 {
-    merge(
-        alloc,
-        a,
-        b,
-        Keep {
-            left: true,
-            both: false,
-            right: true,
-        },
-    )
+    merge(alloc, a, b, SYMM)
 }
 
 // Which members of two sets a merge keeps: those of the left set alone, of both, of the right set alone.
@@ -84,6 +48,30 @@ struct Keep {
     both: bool,
     right: bool,
 }
+
+const UNION: Keep = Keep {
+    left: true,
+    both: true,
+    right: true,
+};
+
+const MINUS: Keep = Keep {
+    left: true,
+    both: false,
+    right: false,
+};
+
+const MEET: Keep = Keep {
+    left: false,
+    both: true,
+    right: false,
+};
+
+const SYMM: Keep = Keep {
+    left: true,
+    both: false,
+    right: true,
+};
 
 // The members of the two sets that are kept. Its cost is the sum of their sizes.
 fn merge(alloc: Global, a: &SetBody, b: &SetBody, keep: Keep) -> Result<SetBody, Memory>
