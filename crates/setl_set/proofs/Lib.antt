@@ -3,4 +3,4 @@ pub mod Results
 pub mod SetLaws
 pub mod Merging
 pub mod Places
-pub mod Subset
+pub mod Included

@@ -9,8 +9,11 @@
 pub mod laws;
 mod member;
 mod merge;
+mod rising;
 
 pub use member::{has, less, with};
+pub use merge::{meet, minus, symm, union};
+pub use rising::{Rising, subset, walk};
 pub use std::alloc::AllocError as Memory;
 
 /// Why a set can't be made.
