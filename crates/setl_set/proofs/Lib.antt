@@ -4,3 +4,5 @@ pub mod SetLaws
 pub mod Merging
 pub mod Places
 pub mod Included
+pub mod Lists
+pub mod Choices

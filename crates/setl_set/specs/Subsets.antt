@@ -1,5 +1,5 @@
 -- The sets of all subsets, and of all subsets with n members.
-use Rattle.std.specs.Prelude.{◌≡◌, ◌==◌, ℕ, List, [], ◌∷◌, ◌++◌, length, map, refl, pos}
+use Rattle.std.specs.Prelude.{◌≡◌, ◌==◌, ◌&&◌, nat_le, ℕ, List, [], ◌∷◌, ◌++◌, length, map, refl, pos}
 use Rattle.std.specs.List.{filter}
 use Rattle.setl_value.specs.Datum.{Datum, int, set_of}
 use Rattle.setl_set.specs.Sets.{set_from}
@@ -11,6 +11,10 @@ subsets (d ∷ ds) = map (λ xs. d ∷ xs) (subsets ds) ++ subsets ds
 
 abbrev pub subsets_of_size : ℕ → List Datum → List (List Datum)
 subsets_of_size n ds = filter (λ xs. length xs == n) (subsets ds)
+
+-- the subsets with at least `least` and at most `most` members
+abbrev pub subsets_between : ℕ → ℕ → List Datum → List (List Datum)
+subsets_between least most ds = filter (λ xs. nat_le least (length xs) && nat_le (length xs) most) (subsets ds)
 
 -- the set of the sets of these members
 abbrev pub set_of_sets : List (List Datum) → List Datum
