@@ -66,7 +66,7 @@ swap_or true false c = refl
 swap_or false true c = refl
 swap_or false false c = refl
 
-nothing_longer : (l : ℕ) (ds : List Datum) → longer l zero ds ≡ []
+pub nothing_longer : (l : ℕ) (ds : List Datum) → longer l zero ds ≡ []
 nothing_longer l [] = refl
 nothing_longer l (d ∷ ds) = refl
 

@@ -6,3 +6,6 @@ pub mod Places
 pub mod Included
 pub mod Lists
 pub mod Choices
+pub mod Search
+pub mod Chosen
+pub mod Depths

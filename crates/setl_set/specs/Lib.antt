@@ -3,3 +3,4 @@ pub mod Subsets
 pub mod Laws
 pub mod Place
 pub mod Merge
+pub mod Choice
