@@ -9,3 +9,4 @@ pub mod Choices
 pub mod Search
 pub mod Chosen
 pub mod Depths
+pub mod SubsetLaws
