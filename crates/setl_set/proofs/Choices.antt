@@ -1,12 +1,12 @@
 -- The subsets of a rising list within bounds of their size, listed in the canonical order of sets.
-use Rattle.std.specs.Prelude.{◌≡◌, ℕ, zero, suc, ◌+◌, ◌<◌, ◌≤◌, nat_le, Bool, true, false, ◌&&◌, ◌||◌, List, [], ◌∷◌, ◌++◌, length, map, refl}
-use Rattle.std.specs.List.{AllByRecursion, list_any, filter}
+use Rattle.std.specs.Prelude.{◌≡◌, ℕ, zero, suc, nat_le, Bool, true, false, ◌&&◌, ◌||◌, List, [], ◌∷◌, ◌++◌, length, map, refl}
+use Rattle.std.specs.List.{AllByRecursion, list_any}
 use Rattle.std.specs.List.Sorted.{IsStrictlySortedBy}
 use Rattle.std.specs.declared.cmp.Ordering.{Ordering}
-use Rattle.std.specs.declared.cmp.Ordering.TheVariants.{Less, Equal}
+use Rattle.std.specs.declared.cmp.Ordering.TheVariants.{Less}
 use Rattle.std.specs.Ordering.{is_eq, ordering_then}
 use Rattle.std.specs.Cmp.{tied_itself}
-use Rattle.std.proofs.Common.{ap, sym, ◌∙◌, subst, arith}
+use Rattle.std.proofs.Common.{ap, sym, ◌∙◌, arith}
 use Rattle.std.proofs.lemmas.Bool.Decides.{nat_tests}
 use Rattle.std.proofs.lemmas.List.Folds.{list_any-append}
 use Rattle.setl_value.specs.Datum.{Datum, set_of, elements_of}
@@ -85,9 +85,9 @@ any_choices p l (suc m) (d ∷ ds) =
     ∙ swap_or (list_any p (the_empty l)) (list_any p with_d) (list_any p (longer l (suc m) ds))
     ∙ ap (λ b. list_any p with_d || b) (sym (list_any-append p (the_empty l) (longer l (suc m) ds)) ∙ any_choices p l (suc m) ds)
     ∙ ap (λ b. b || some_within l (suc m) p ds)
-        (any_map p (λ xs. d ∷ xs) (choices (less_one l) m ds) ∙ any_choices q (less_one l) m ds
-            ∙ any_same (λ xs. is_within (less_one l) m xs && q xs) (λ xs. is_within l (suc m) (d ∷ xs) && p (d ∷ xs)) (subsets ds) (λ xs. ap (λ b. b && p (d ∷ xs)) (sym (within_longer l m d xs)))
-            ∙ sym (any_map (λ xs. is_within l (suc m) xs && p xs) (λ xs. d ∷ xs) (subsets ds)))
+    (any_map p (λ xs. d ∷ xs) (choices (less_one l) m ds) ∙ any_choices q (less_one l) m ds
+    ∙ any_same (λ xs. is_within (less_one l) m xs && q xs) (λ xs. is_within l (suc m) (d ∷ xs) && p (d ∷ xs)) (subsets ds) (λ xs. ap (λ b. b && p (d ∷ xs)) (sym (within_longer l m d xs)))
+    ∙ sym (any_map (λ xs. is_within l (suc m) xs && p xs) (λ xs. d ∷ xs) (subsets ds)))
     ∙ sym (list_any-append (λ xs. is_within l (suc m) xs && p xs) (map (λ xs. d ∷ xs) (subsets ds)) (subsets ds))
 
 has_choices : (x : Datum) (l m : ℕ) (ds : List Datum) → has_datum x (map set_of (choices l m ds)) ≡ has_datum x (set_of_sets (subsets_between l m ds))
@@ -117,8 +117,8 @@ longer_start d l m [] b = tt
 longer_start d l zero (e ∷ es) b = tt
 longer_start d l (suc m) (e ∷ es) b =
     all_append (StartsAbove d) (map (λ xs. e ∷ xs) (choices (less_one l) m es)) (longer l (suc m) es)
-        (all_map (StartsAbove d) (λ xs. e ∷ xs) (choices (less_one l) m es) (each (choices (less_one l) m es)))
-        (longer_start d l (suc m) es b.1)
+    (all_map (StartsAbove d) (λ xs. e ∷ xs) (choices (less_one l) m es) (each (choices (less_one l) m es)))
+    (longer_start d l (suc m) es b.1)
   where
     each : (xss : List (List Datum)) → AllByRecursion (λ xs. datum_cmp d e ≡ Less) xss
     each [] = tt
@@ -133,8 +133,8 @@ longer_full l m [] = tt
 longer_full l zero (e ∷ es) = tt
 longer_full l (suc m) (e ∷ es) =
     all_append IsNotEmpty (map (λ xs. e ∷ xs) (choices (less_one l) m es)) (longer l (suc m) es)
-        (all_map IsNotEmpty (λ xs. e ∷ xs) (choices (less_one l) m es) (each (choices (less_one l) m es)))
-        (longer_full l (suc m) es)
+    (all_map IsNotEmpty (λ xs. e ∷ xs) (choices (less_one l) m es) (each (choices (less_one l) m es)))
+    (longer_full l (suc m) es)
   where
     each : (xss : List (List Datum)) → AllByRecursion (λ xs. Unit {0}) xss
     each [] = tt
@@ -179,9 +179,9 @@ longer_rise l m [] r = tt
 longer_rise l zero (d ∷ ds) r = tt
 longer_rise l (suc m) (d ∷ ds) r =
     rise_before d (choices (less_one l) m ds) (longer l (suc m) ds)
-        (rise_with d (choices (less_one l) m ds) (rise_after_empty (less_one l) (longer (less_one l) m ds) (longer_full (less_one l) m ds) (longer_rise (less_one l) m ds r.1)))
-        (longer_rise l (suc m) ds r.1)
-        (longer_start d l (suc m) ds r.0)
+    (rise_with d (choices (less_one l) m ds) (rise_after_empty (less_one l) (longer (less_one l) m ds) (longer_full (less_one l) m ds) (longer_rise (less_one l) m ds r.1)))
+    (longer_rise l (suc m) ds r.1)
+    (longer_start d l (suc m) ds r.0)
 
 rising_map : (xss : List (List Datum)) → SetsRise xss → IsRising (map set_of xss)
 unfolding IsStrictlySortedBy

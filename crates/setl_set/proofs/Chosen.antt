@@ -1,11 +1,11 @@
 -- Members by their places, and what the search for subsets keeps.
-use Rattle.std.specs.Prelude.{◌≡◌, ◌⊎◌, ℕ, zero, suc, ◌+◌, ◌<◌, ◌≤◌, nat_le, Bool, true, false, List, [], ◌∷◌, ◌++◌, Option, None, Some, length, take, drop, map, slice_get, slice_index_or, refl}
-use Rattle.std.specs.List.{AllByRecursion, cons_option, filter_map}
+use Rattle.std.specs.Prelude.{◌≡◌, ℕ, zero, suc, ◌+◌, ◌<◌, ◌≤◌, nat_le, Bool, true, false, List, [], ◌∷◌, ◌++◌, Option, None, Some, length, take, drop, map, slice_get, slice_index_or, refl}
+use Rattle.std.specs.List.{AllByRecursion, cons_option}
 use Rattle.std.specs.List.Sorted.{IsStrictlySortedBy}
 use Rattle.std.specs.declared.cmp.Ordering.TheVariants.{Less}
 use Rattle.std.proofs.Common.{ap, sym, ◌∙◌, subst, arith, append_assoc}
 use Rattle.std.proofs.lemmas.Bool.{leb-true, leb-false}
-use Rattle.std.proofs.lemmas.List.{map-append, take_more, length-append, append-nil}
+use Rattle.std.proofs.lemmas.List.{map-append, take_more, append-nil}
 use Rattle.std.proofs.lemmas.List.Elements.{filter_map-append}
 use Rattle.std.proofs.lemmas.Option.{none-some}
 use Rattle.setl_value.specs.Datum.{Datum, depth, set_of, elements_depth, elements_of}
@@ -15,7 +15,7 @@ use Rattle.setl_set.specs.Merge.{kept_if}
 use Rattle.setl_set.proofs.Choices.{the_empty, longer, choices}
 use Rattle.setl_set.proofs.Members.{IsBelow}
 use Rattle.setl_set.proofs.Places.{all_at, some_same, depths_in, depths_out}
-use Rattle.setl_set.proofs.Search.{found, to_come, beyond, found_large, found_small, chosen_next, given_back, full_beyond}
+use Rattle.setl_set.proofs.Search.{found, to_come, found_large, found_small, chosen_next, given_back, full_beyond}
 
 -- ---- members by their places
 
@@ -58,7 +58,7 @@ all_places : (P : Datum → Type 0) (ds : List Datum) (low high : ℕ) (is : Lis
 all_places P ds low high [] p a = tt
 all_places P ds low high (i ∷ is) p a =
     all_places_by P (slice_get ds i) (members_at ds is) (λ e q. at_drop P ds low i e p.0 a q)
-        (all_places P ds (i + 1) high is p.1 (all_drop P ds low (i + 1) (omega (arith, p.0)) a))
+    (all_places P ds (i + 1) high is p.1 (all_drop P ds low (i + 1) (omega (arith, p.0)) a))
 
 below_after : (ds : List Datum) (i : ℕ) (e : Datum) → IsRising ds → slice_get ds i ≡ Some e → IsBelow e (drop (suc i) ds)
 unfolding IsStrictlySortedBy
@@ -76,8 +76,8 @@ unfolding IsStrictlySortedBy
 rising_at ds low high [] r p = tt
 rising_at ds low high (i ∷ is) r p =
     rising_by (slice_get ds i) (members_at ds is)
-        (λ e q. all_places (λ x. datum_cmp e x ≡ Less) ds (i + 1) high is p.1 (subst (λ k. IsBelow e (drop k ds)) {x = suc i} (omega arith) (below_after ds i e r q)))
-        (rising_at ds (i + 1) high is r p.1)
+    (λ e q. all_places (λ x. datum_cmp e x ≡ Less) ds (i + 1) high is p.1 (subst (λ k. IsBelow e (drop k ds)) {x = suc i} (omega arith) (below_after ds i e r q)))
+    (rising_at ds (i + 1) high is r p.1)
 
 pub depth_at : (ds : List Datum) (high : ℕ) (is : List ℕ) (n : ℕ) → ArePlaces 0 is high → elements_depth (elements_of ds) ≤ n → elements_depth (elements_of (members_at ds is)) ≤ n
 depth_at ds high is n p h = depths_out n (members_at ds is) (all_places (λ d. depth d ≤ n) ds 0 high is p (depths_in n ds h))

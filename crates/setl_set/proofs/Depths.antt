@@ -7,7 +7,7 @@ use Rattle.std.proofs.lemmas.List.{append-nil}
 use Rattle.std.proofs.lemmas.Bool.Decides.{nat_tests}
 use Rattle.setl_value.specs.Datum.{Datum, depth, set_of, elements_depth, elements_of}
 use Rattle.setl_value.specs.Order.{IsRising}
-use Rattle.setl_set.specs.Subsets.{subsets, subsets_between, subsets_of_size, set_of_sets, pow_of, npow_of}
+use Rattle.setl_set.specs.Subsets.{subsets, subsets_between, set_of_sets, pow_of, npow_of}
 use Rattle.setl_set.proofs.Choices.{less_one, the_empty, longer, choices, choices_are, nothing_longer}
 use Rattle.setl_set.proofs.Lists.{all_append, all_left, all_right, all_map, all_from_map, all_weaker}
 use Rattle.setl_set.proofs.Places.{depths_in, depths_out}
@@ -30,8 +30,8 @@ all_longer P l (suc m) (d ∷ ds) a =
     let k = less_one l in
     let fewer : AllIn P (choices k m ds) = all_append (λ xs. AllByRecursion P xs) (the_empty k) (longer k m ds) (all_empty P k) (all_longer P k m ds a.1) in
     all_append (λ xs. AllByRecursion P xs) (map (λ xs. d ∷ xs) (choices k m ds)) (longer l (suc m) ds)
-        (all_map (λ xs. AllByRecursion P xs) (λ xs. d ∷ xs) (choices k m ds) (all_weaker (λ xs. AllByRecursion P xs) (λ xs. AllByRecursion P (d ∷ xs)) (choices k m ds) (λ xs b. (a.0, b)) fewer))
-        (all_longer P l (suc m) ds a.1)
+    (all_map (λ xs. AllByRecursion P xs) (λ xs. d ∷ xs) (choices k m ds) (all_weaker (λ xs. AllByRecursion P xs) (λ xs. AllByRecursion P (d ∷ xs)) (choices k m ds) (λ xs b. (a.0, b)) fewer))
+    (all_longer P l (suc m) ds a.1)
 
 all_choices : (P : Datum → Type 0) (l m : ℕ) (ds : List Datum) → AllByRecursion P ds → AllIn P (choices l m ds)
 all_choices P l m ds a = all_append (λ xs. AllByRecursion P xs) (the_empty l) (longer l m ds) (all_empty P l) (all_longer P l m ds a)
@@ -65,8 +65,7 @@ covered P l (suc m) (d ∷ ds) p q r a =
     let k = less_one l in
     let with_d = map (λ xs. d ∷ xs) (choices k m ds) in
     let b = all_right each (the_empty l) (with_d ++ longer l (suc m) ds) a in
-    let c = all_from_map each (λ xs. d ∷ xs) (choices k m ds) (all_left each with_d (longer l (suc m) ds) b) in
-    (
+    let c = all_from_map each (λ xs. d ∷ xs) (choices k m ds) (all_left each with_d (longer l (suc m) ds) b) in (
       some_choice (P d) k m ds (one_less l m p) (one_less l (length ds) r) (all_weaker (λ xs. each (d ∷ xs)) (λ xs. P d) (choices k m ds) (λ xs h. h.0) c),
       covered_rest P l m ds p (all_weaker (λ xs. each (d ∷ xs)) each (choices k m ds) (λ xs h. h.1) c) (all_right each with_d (longer l (suc m) ds) b)
           (λ h. covered P k m ds (one_less l m p) h (one_less l (length ds) r))
@@ -78,15 +77,15 @@ covered P l (suc m) (d ∷ ds) p q r a =
 shallow : (l m n : ℕ) (ds : List Datum) → elements_depth (elements_of ds) ≤ n → elements_depth (elements_of (map set_of (choices l m ds))) ≤ n + 1
 shallow l m n ds h =
     depths_out (n + 1) (map set_of (choices l m ds))
-        (all_map (λ d. depth d ≤ n + 1) set_of (choices l m ds)
-            (all_weaker (λ xs. AllByRecursion (λ d. depth d ≤ n) xs) (λ xs. depth (set_of xs) ≤ n + 1) (choices l m ds) (λ xs a. omega (arith, depths_out n xs a)) (all_choices (λ d. depth d ≤ n) l m ds (depths_in n ds h))))
+    (all_map (λ d. depth d ≤ n + 1) set_of (choices l m ds)
+    (all_weaker (λ xs. AllByRecursion (λ d. depth d ≤ n) xs) (λ xs. depth (set_of xs) ≤ n + 1) (choices l m ds) (λ xs a. omega (arith, depths_out n xs a)) (all_choices (λ d. depth d ≤ n) l m ds (depths_in n ds h))))
 
 deep_whole : (l m n : ℕ) (ds : List Datum) → l ≤ m → 0 < m → l ≤ length ds → elements_depth (elements_of (map set_of (choices l m ds))) ≤ n + 1 → elements_depth (elements_of ds) ≤ n
 deep_whole l m n ds p q r h =
     depths_out n ds
-        (covered (λ d. depth d ≤ n) l m ds p q r
-            (all_weaker (λ xs. depth (set_of xs) ≤ n + 1) (λ xs. AllByRecursion (λ d. depth d ≤ n) xs) (choices l m ds) (λ xs a. depths_in n xs (omega (arith, a)))
-                (all_from_map (λ d. depth d ≤ n + 1) set_of (choices l m ds) (depths_in (n + 1) (map set_of (choices l m ds)) h))))
+    (covered (λ d. depth d ≤ n) l m ds p q r
+    (all_weaker (λ xs. depth (set_of xs) ≤ n + 1) (λ xs. AllByRecursion (λ d. depth d ≤ n) xs) (choices l m ds) (λ xs a. depths_in n xs (omega (arith, a)))
+    (all_from_map (λ d. depth d ≤ n + 1) set_of (choices l m ds) (depths_in (n + 1) (map set_of (choices l m ds)) h))))
 
 -- it is deeper than the whole, where a subset has a member
 pub deep_when : (l m : ℕ) (ds : List Datum) → IsRising ds → l ≤ m → 0 < m → l ≤ length ds → depth (set_of ds) ≡ 500 → 500 < depth (set_of (set_of_sets (subsets_between l m ds)))
@@ -108,8 +107,7 @@ pub deep_only : (l m : ℕ) (ds : List Datum) → IsRising ds → depth (set_of 
     → (depth (set_of ds) ≡ 500) × (0 < m) × (l ≤ length ds)
 deep_only l m ds rise b h =
     let all = map set_of (choices l m ds) in
-    let deep : 500 < depth (set_of all) = subst (λ a. 500 < depth (set_of a)) (sym (choices_are l m ds rise)) h in
-    (
+    let deep : 500 < depth (set_of all) = subst (λ a. 500 < depth (set_of a)) (sym (choices_are l m ds rise)) h in (
       elim (cases_lt (depth (set_of ds)) 500) [ inl g ↦ absurd (omega (arith, deep, shallow l m 498 ds (omega (arith, g)))) | inr g ↦ omega (arith, g, b) ],
       elim (cases_lt 0 m) [ inl g ↦ g | inr g ↦ absurd (omega (arith, deep, only_empty l m ds (subst (λ k. longer l k ds ≡ []) {x = 0} (omega (arith, g)) (nothing_longer l ds)))) ],
       elim (cases_lt (length ds) l) [ inl g ↦ absurd (omega (arith, deep, only_empty l m ds (none_longer l m ds g))) | inr g ↦ g ],
@@ -129,8 +127,8 @@ no_longer : (ds : List Datum) → AllByRecursion (λ xs. length xs ≤ length ds
 no_longer [] = (omega arith, tt)
 no_longer (d ∷ ds) =
     all_append (λ xs. length xs ≤ length (d ∷ ds)) (map (λ xs. d ∷ xs) (subsets ds)) (subsets ds)
-        (all_map (λ xs. length xs ≤ length (d ∷ ds)) (λ xs. d ∷ xs) (subsets ds) (all_weaker (λ xs. length xs ≤ length ds) (λ xs. length (d ∷ xs) ≤ length (d ∷ ds)) (subsets ds) (λ xs h. omega (arith, h)) (no_longer ds)))
-        (all_weaker (λ xs. length xs ≤ length ds) (λ xs. length xs ≤ length (d ∷ ds)) (subsets ds) (λ xs h. omega (arith, h)) (no_longer ds))
+    (all_map (λ xs. length xs ≤ length (d ∷ ds)) (λ xs. d ∷ xs) (subsets ds) (all_weaker (λ xs. length xs ≤ length ds) (λ xs. length (d ∷ xs) ≤ length (d ∷ ds)) (subsets ds) (λ xs h. omega (arith, h)) (no_longer ds)))
+    (all_weaker (λ xs. length xs ≤ length ds) (λ xs. length xs ≤ length (d ∷ ds)) (subsets ds) (λ xs h. omega (arith, h)) (no_longer ds))
 
 all_within : (n k : ℕ) → k ≤ n → (nat_le 0 k && nat_le k n) ≡ true
 all_within n k h = grind (arith, nat_tests)
@@ -138,7 +136,7 @@ all_within n k h = grind (arith, nat_tests)
 pub pow_is : (ds : List Datum) → set_of_sets (subsets_between 0 (length ds) ds) ≡ pow_of ds
 pow_is ds =
     ap set_of_sets (filter_all (λ xs. nat_le 0 (length xs) && nat_le (length xs) (length ds)) (subsets ds)
-        (all_weaker (λ xs. length xs ≤ length ds) (λ xs. (nat_le 0 (length xs) && nat_le (length xs) (length ds)) ≡ true) (subsets ds) (λ xs h. all_within (length ds) (length xs) h) (no_longer ds)))
+    (all_weaker (λ xs. length xs ≤ length ds) (λ xs. (nat_le 0 (length xs) && nat_le (length xs) (length ds)) ≡ true) (subsets ds) (λ xs h. all_within (length ds) (length xs) h) (no_longer ds)))
 
 one_size : (n k : ℕ) → (nat_le n k && nat_le k n) ≡ (k == n)
 one_size n k = grind (arith, nat_tests)

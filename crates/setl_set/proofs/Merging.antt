@@ -1,6 +1,6 @@
 -- The merge of two rising lists, member by member.
-use Rattle.std.specs.Prelude.{◌≡◌, ℕ, zero, suc, ◌≤◌, Bool, true, false, not, ◌&&◌, ◌||◌, cond, List, [], ◌∷◌, ◌++◌, ◌⊎◌, Option, None, Some, refl}
-use Rattle.std.specs.List.{AllByRecursion, list_any}
+use Rattle.std.specs.Prelude.{◌≡◌, ℕ, ◌≤◌, Bool, true, false, not, ◌&&◌, ◌||◌, List, [], ◌∷◌, ◌++◌, ◌⊎◌, Option, None, Some, refl}
+use Rattle.std.specs.List.{AllByRecursion}
 use Rattle.std.specs.List.Sorted.{IsStrictlySortedBy}
 use Rattle.std.specs.declared.cmp.Ordering.{Ordering}
 use Rattle.std.specs.declared.cmp.Ordering.TheVariants.{Less, Equal, Greater}
@@ -17,8 +17,8 @@ use Rattle.setl_value.specs.OrderLaws.{same_datum, same_if_eq}
 use Rattle.setl_set.specs.declared.merge.Keep.{Keep}
 use Rattle.setl_set.specs.Merge.{is_kept, kept_if, front, IsMerge}
 use Rattle.setl_set.specs.Sets.{has_datum, union_of, minus_of, meet_of, symm_of}
-use Rattle.setl_set.proofs.Members.{IsBelow, turned, below_cons, below_trans, none_above, none_of_equal, rising_unique}
-use Rattle.setl_set.proofs.Places.{some_same, depths_in, depths_out}
+use Rattle.setl_set.proofs.Members.{IsBelow, turned, below_cons, none_above, rising_unique}
+use Rattle.setl_set.proofs.Places.{depths_in, depths_out}
 use Rattle.setl_set.proofs.Results.{rising_set_from, has_union, has_minus, has_meet, has_symm, rising_filter}
 
 -- ---- the merge
@@ -59,7 +59,7 @@ all_merged P k [] ys a b = all_kept P k.right ys b
 all_merged P k (x ∷ xs) [] a b = all_kept P k.left (x ∷ xs) a
 all_merged P k (x ∷ xs) (y ∷ ys) a b =
     all_by (datum_cmp x y) P k x y (merged k xs (y ∷ ys)) (merged k xs ys) (merged k (x ∷ xs) ys) a.0 b.0
-        (all_merged P k xs (y ∷ ys) a.1 b) (all_merged P k xs ys a.1 b.1) (all_merged P k (x ∷ xs) ys a b.1)
+    (all_merged P k xs (y ∷ ys) a.1 b) (all_merged P k xs ys a.1 b.1) (all_merged P k (x ∷ xs) ys a b.1)
 
 -- ---- the merge rises
 
@@ -242,4 +242,3 @@ is_symm xs ys ds m =
     test true false = refl
     test false true = refl
     test false false = refl
-

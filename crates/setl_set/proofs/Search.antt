@@ -1,13 +1,13 @@
 -- The search for all subsets within bounds of their size: the places chosen so far, and what is still to come.
-use Rattle.std.specs.Prelude.{◌≡◌, ◌⊎◌, ℕ, zero, suc, ◌+◌, ◌-◌, ◌<◌, ◌≤◌, List, [], ◌∷◌, ◌++◌, Option, None, Some, length, drop, map, slice_get, refl}
-use Rattle.std.specs.List.{cons_option, filter_map}
+use Rattle.std.specs.Prelude.{◌≡◌, ℕ, zero, suc, ◌+◌, ◌-◌, ◌<◌, ◌≤◌, List, [], ◌∷◌, ◌++◌, Option, Some, length, drop, map, slice_get, refl}
+use Rattle.std.specs.List.{cons_option}
 use Rattle.std.proofs.Common.{ap, sym, ◌∙◌, subst, arith, append_assoc, inl, inr}
 use Rattle.std.proofs.lemmas.Bool.{cases_lt}
 use Rattle.std.proofs.lemmas.List.{map-append, drop_all, length-drop}
 use Rattle.std.proofs.lemmas.Option.{none-some}
 use Rattle.setl_value.specs.Datum.{Datum}
-use Rattle.setl_set.specs.Choice.{members_at, ArePlaces, IsFull}
-use Rattle.setl_set.proofs.Choices.{less_one, the_empty, longer, choices, nothing_longer}
+use Rattle.setl_set.specs.Choice.{members_at, IsFull}
+use Rattle.setl_set.proofs.Choices.{less_one, the_empty, longer, nothing_longer}
 use Rattle.setl_set.proofs.Places.{some_same}
 
 -- each list after the member at a place
@@ -102,9 +102,9 @@ full_before (suc l) (suc m) size count next h = elim h [ inl p ↦ inl (omega (a
 full_first : (l m : ℕ) (ds : List Datum) (next : ℕ) → IsFull l m (length ds) 0 next → longer l m (drop next ds) ≡ []
 full_first l m ds next (inl p) = subst (λ k. longer l k (drop next ds) ≡ []) {x = 0} (omega arith) (nothing_longer l (drop next ds))
 full_first l m ds next (inr (inl p)) = elim (cases_lt next (length ds)) [
-    inl q ↦ none_longer l m (drop next ds) (omega (arith, length-drop next ds))
+  | inl q ↦ none_longer l m (drop next ds) (omega (arith, length-drop next ds))
   | inr q ↦ ap (longer l m) (drop_all next ds q)
-  ]
+]
 full_first l m ds next (inr (inr p)) = ap (longer l m) (drop_all next ds p)
 
 pub full_beyond : (l m : ℕ) (ds : List Datum) (is : List ℕ) (next : ℕ) → IsFull l m (length ds) (length is) next → beyond l m ds is next ≡ []

@@ -1,6 +1,6 @@
 -- The laws of the sets of all subsets, and of all subsets with n members.
-use Rattle.std.specs.Prelude.{◌≡◌, ◌==◌, ℕ, Bool, true, false, ◌&&◌, ◌||◌, List, [], ◌∷◌, ◌++◌, length, map, refl}
-use Rattle.std.specs.List.{AllByRecursion, Contains, list_any}
+use Rattle.std.specs.Prelude.{◌≡◌, ◌==◌, ℕ, Bool, true, false, ◌&&◌, ◌||◌, List, [], ◌∷◌, length, map, refl}
+use Rattle.std.specs.List.{AllByRecursion, list_any}
 use Rattle.std.specs.List.Sorted.{IsStrictlySortedBy}
 use Rattle.std.specs.declared.cmp.Ordering.{Ordering}
 use Rattle.std.specs.declared.cmp.Ordering.TheVariants.{Less, Equal, Greater}
@@ -11,7 +11,7 @@ use Rattle.std.proofs.lemmas.List.Folds.{list_any-append}
 use Rattle.setl_value.specs.Datum.{Datum, set_of}
 use Rattle.setl_value.specs.Order.{datum_cmp, IsRising}
 use Rattle.setl_value.specs.OrderLaws.{same_datum, same_if_eq}
-use Rattle.setl_set.specs.Laws.{IsSetOf, IsSubset, IsSubsetOf, IsSubsetOfSize, HasAllSubsets, HasAllSubsetsOfSize}
+use Rattle.setl_set.specs.Laws.{IsSubset, IsSubsetOf, IsSubsetOfSize, HasAllSubsets, HasAllSubsetsOfSize}
 use Rattle.setl_set.specs.Sets.{has_datum}
 use Rattle.setl_set.specs.Subsets.{subsets, subsets_of_size, set_of_sets, pow_of, npow_of}
 use Rattle.setl_set.proofs.Lists.{any_map, any_filter}
@@ -32,21 +32,22 @@ record Passing (p : List Datum → Bool) (ds : List Datum) : Type 0 where
 all_has : (P : Datum → Type 0) (ds : List Datum) (e : Datum) → AllByRecursion P ds → has_datum e ds ≡ true → P e
 all_has P [] e a h = absurd (false≢true h)
 all_has P (d ∷ ds) e a h = elim (or_cases (is_eq (datum_cmp e d)) (has_datum e ds) h) [
-    inl t ↦ subst P (sym (same_if_eq e d t)) a.0
+  | inl t ↦ subst P (sym (same_if_eq e d t)) a.0
   | inr t ↦ all_has P ds e a.1 t
-  ]
+]
 
 below_within : (d : Datum) (xs ds : List Datum) → IsBelow d ds → IsWithin xs ds → IsBelow d xs
 below_within d [] ds b w = tt
-below_within d (x ∷ xs) ds b w =
-    (all_has (λ y. datum_cmp d y ≡ Less) ds x b (w x (or_left (is_eq (datum_cmp x x)) (has_datum x xs) (itself x))),
-      below_within d xs ds b (λ e h. w e (or_right (is_eq (datum_cmp e x)) (has_datum e xs) h)))
+below_within d (x ∷ xs) ds b w = (
+  all_has (λ y. datum_cmp d y ≡ Less) ds x b (w x (or_left (is_eq (datum_cmp x x)) (has_datum x xs) (itself x))),
+  below_within d xs ds b (λ e h. w e (or_right (is_eq (datum_cmp e x)) (has_datum e xs) h)),
+)
 
 within_more : (d : Datum) (xs ds : List Datum) → IsWithin xs ds → IsWithin (d ∷ xs) (d ∷ ds)
 within_more d xs ds w e h = elim (or_cases (is_eq (datum_cmp e d)) (has_datum e xs) h) [
-    inl t ↦ or_left (is_eq (datum_cmp e d)) (has_datum e ds) t
+  | inl t ↦ or_left (is_eq (datum_cmp e d)) (has_datum e ds) t
   | inr t ↦ or_right (is_eq (datum_cmp e d)) (has_datum e ds) (w e t)
-  ]
+]
 
 true_first : (b : Bool) → (b || false) ≡ true → b ≡ true
 true_first true h = refl
@@ -61,8 +62,8 @@ passing p (d ∷ ds) r h =
     let q : List Datum → Bool = λ xs. p (d ∷ xs) in
     let either = sym (list_any-append p (map (λ xs. d ∷ xs) (subsets ds)) (subsets ds) ∙ ap (λ b. b || list_any p (subsets ds)) (any_map p (λ xs. d ∷ xs) (subsets ds))) ∙ h in
     elim (or_cases (list_any q (subsets ds)) (list_any p (subsets ds)) either) [
-      inl t ↦ first (passing q ds r.1 t)
-    | inr t ↦ other (passing p ds r.1 t)
+      | inl t ↦ first (passing q ds r.1 t)
+      | inr t ↦ other (passing p ds r.1 t)
     ]
   where
     first : Passing (λ xs. p (d ∷ xs)) ds → Passing p (d ∷ ds)
@@ -72,6 +73,7 @@ passing p (d ∷ ds) r h =
       rising = (below_within d f.chosen ds r.0 f.within, f.rising);
       within = within_more d f.chosen ds f.within;
     }
+
     other : Passing p ds → Passing p (d ∷ ds)
     other f = record {
       chosen = f.chosen;
@@ -98,7 +100,7 @@ listed_by Equal p d x ds xs o r s w h first other =
     let same : x ≡ d = same_datum x d o in
     let rest : IsWithin xs (d ∷ ds) = λ e t. w e (or_right (is_eq (datum_cmp e x)) (has_datum e xs) t) in
     or_left (list_any (λ ys. p (d ∷ ys)) (subsets ds)) (list_any p (subsets ds))
-        (first (above_only d xs ds (subst (λ z. IsBelow z xs) same s.0) rest) (subst (λ z. p (z ∷ xs) ≡ true) same h))
+    (first (above_only d xs ds (subst (λ z. IsBelow z xs) same s.0) rest) (subst (λ z. p (z ∷ xs) ≡ true) same h))
 listed_by Greater p d x ds xs o r s w h first other =
     or_right (list_any (λ ys. p (d ∷ ys)) (subsets ds)) (list_any p (subsets ds)) (other (above_only d (x ∷ xs) ds (below_cons d x xs (turned x d o) s) w))
 
@@ -114,8 +116,8 @@ listed p (d ∷ ds) [] r s w h =
 listed p (d ∷ ds) (x ∷ xs) r s w h =
     split p d ds
     ∙ listed_by (datum_cmp x d) p d x ds xs refl r s w h
-        (λ v t. listed (λ ys. p (d ∷ ys)) ds xs r.1 s.1 v t)
-        (λ v. listed p ds (x ∷ xs) r.1 s v h)
+    (λ v t. listed (λ ys. p (d ∷ ys)) ds xs r.1 s.1 v t)
+    (λ v. listed p ds (x ∷ xs) r.1 s v h)
 
 -- ---- the laws
 
@@ -172,7 +174,7 @@ has_all_subsets_of_size n ds r = record {
     λ c. sized_from n d ds (passing (is_sized n d) ds r (sym (has_sized n d ds) ∙ (has_decides d (npow_of n ds)).1 c)),
     λ s. (has_decides d (npow_of n ds)).0
         (has_sized n d ds
-            ∙ listed (is_sized n d) ds s.subset.chosen r s.subset.rising (tested s.subset.chosen ds s.subset.within)
-                (and_from (length s.subset.chosen == n) (is_set d s.subset.chosen) (eq-eqb (length s.subset.chosen) n s.size) ((eq_decides d (set_of s.subset.chosen)).1 s.subset.is))),
+        ∙ listed (is_sized n d) ds s.subset.chosen r s.subset.rising (tested s.subset.chosen ds s.subset.within)
+        (and_from (length s.subset.chosen == n) (is_set d s.subset.chosen) (eq-eqb (length s.subset.chosen) n s.size) ((eq_decides d (set_of s.subset.chosen)).1 s.subset.is))),
   );
 }

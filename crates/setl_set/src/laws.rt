@@ -7,15 +7,13 @@ ghost use Rattle.setl_set.specs.Laws.{RisingListsAgree, TestsMembership, TestsSu
 /// one list that it can be.
 pub fn rising_lists_agree()
     ensures { RisingListsAgree }
-{
-}
+{}
 
 /// `has_datum` and `is_subset` test what they say.
 pub fn tests_are_exact()
     ensures membership { TestsMembership }
     ensures subset { TestsSubset }
-{
-}
+{}
 
 /// Each operation on sets leaves the strictly rising list of exactly the data that pass its test of membership.
 pub fn operations_have_their_members()
@@ -26,13 +24,11 @@ pub fn operations_have_their_members()
     ensures minus { Subtracts }
     ensures meet { Intersects }
     ensures symm { Differs }
-{
-}
+{}
 
 /// `pow_of` is the strictly rising list of exactly the sets whose members are all in a set, and `npow_of n` of those
 /// with `n` members.
 pub fn powers_have_all_subsets()
     ensures pow { HasAllSubsets }
     ensures npow { HasAllSubsetsOfSize }
-{
-}
+{}

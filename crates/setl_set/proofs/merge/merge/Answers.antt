@@ -1,4 +1,4 @@
-use Rattle.std.proofs.Common.{◌≡◌, ◌≤◌, ◌+◌, None, ◌∙◌, ap, sym, subst, map, arith, inl, inr}
+use Rattle.std.proofs.Common.{◌≡◌, ◌≤◌, ◌+◌, None, ◌∙◌, sym, subst, map, arith, inl, inr}
 use Rattle.std.specs.Prelude.{◌⊎◌}
 use Rattle.std.proofs.lemmas.Result.{IfOk-weaker}
 use Rattle.setl_value.specs.Body.{Members}
@@ -40,5 +40,5 @@ returns c =
     let whole : map datum c.keep_rest-2.new.kept.items ≡ merged k xs ys =
     merged_whole k c.loop-x.x c.loop-x.y c.loop-x.left c.loop-x.right (map datum c.loop-x.kept.items) (map datum c.keep_rest.new.kept.items) (map datum c.keep_rest-2.new.kept.items) (merged k xs ys) ended c.loop-x.invariant c.in_ok-keep_rest.ensures c.in_ok-keep_rest-2.ensures in
     IfOk-weaker c.from_rising.result (λ s. Members s ≡ map datum c.keep_rest-2.new.kept.items) (λ s. IsMerge k xs ys (Members s))
-        (λ s e. subst (IsMerge k xs ys) (sym (e ∙ whole)) (is_merge k xs ys (rising_from_set xs c.learn.ensures) (rising_from_set ys c.learn-2.ensures)))
-        c.from_rising.ensures.made
+    (λ s e. subst (IsMerge k xs ys) (sym (e ∙ whole)) (is_merge k xs ys (rising_from_set xs c.learn.ensures) (rising_from_set ys c.learn-2.ensures)))
+    c.from_rising.ensures.made

@@ -21,4 +21,4 @@ pub from_rising-requires-clause-shallow : goal.from_rising-requires-clause-shall
 from_rising-requires-clause-shallow c =
     let ds = Members c.args.s.now in
     subst (λ l. 1 + elements_depth (elements_of l) ≤ 500) (sym c.in_ok-members.ensures)
-        (omega (arith, depth_at ds (length ds) c.args.places.now 499 c.requires (omega (arith, c.learn.ensures.1))))
+    (omega (arith, depth_at ds (length ds) c.args.places.now 499 c.requires (omega (arith, c.learn.ensures.1))))

@@ -13,12 +13,11 @@ returns-then-most-eq0 c =
     let l = c.args.least in
     let m = c.args.most in
     let ds = Members c.args.s.now in
-    let only : 500 < depth (set_of (set_of_sets (subsets_between l m ds))) → (depth (set_of ds) ≡ 500) × (0 < m) × (l ≤ length ds) = deep_only l m ds (rising_from_set ds c.learn.ensures) c.learn.ensures.1 in
-    (
+    let only : 500 < depth (set_of (set_of_sets (subsets_between l m ds))) → (depth (set_of ds) ≡ 500) × (0 < m) × (l ≤ length ds) = deep_only l m ds (rising_from_set ds c.learn.ensures) c.learn.ensures.1 in (
       λ t. absurd (false≢true t),
       λ h. absurd (elim c.then-most-eq0.branch [
-        then-most-eq0-via-then-most-eq0 w ↦ omega (arith, (only h).1, w.if-most-eq0.true)
-      | then-most-eq0-via-else-most-eq0+then-len-least w ↦ omega (arith, (only h).2, w.if-len-least.true, w.len.ensures)
+        | then-most-eq0-via-then-most-eq0 w ↦ omega (arith, (only h).1, w.if-most-eq0.true)
+        | then-most-eq0-via-else-most-eq0+then-len-least w ↦ omega (arith, (only h).2, w.if-len-least.true, w.len.ensures)
       ]),
     )
 
@@ -27,8 +26,7 @@ returns c =
     let l = c.args.least in
     let m = c.args.most in
     let ds = Members c.args.s.now in
-    let rise = rising_from_set ds c.learn.ensures in
-    (
+    let rise = rising_from_set ds c.learn.ensures in (
       λ t. deep_when l m ds rise c.requires (omega arith) (omega (arith, c.if-len-least.false, c.len.ensures)) (sym c.depth.ensures ∙ eqb-true c.depth.result 500 t),
       λ h. eq-eqb c.depth.result 500 (c.depth.ensures ∙ (deep_only l m ds rise c.learn.ensures.1 h).0),
     )

@@ -1,4 +1,4 @@
-use Rattle.std.proofs.Common.{◌≡◌, ◌<◌, ◌∙◌, Err, subst, ap, length}
+use Rattle.std.proofs.Common.{◌≡◌, ◌<◌, ◌∙◌, Err, subst, ap}
 use Rattle.std.specs.Prelude.{◌↔◌}
 use Rattle.std.specs.Result.{IfOk}
 use Rattle.setl_value.specs.Body.{Members}

@@ -1,4 +1,4 @@
-use Rattle.std.proofs.Common.{◌≡◌, map, length}
+use Rattle.std.proofs.Common.{map}
 use Rattle.setl_value.specs.Body.{Members}
 use Rattle.setl_value.specs.DatumOf.{datum}
 use Rattle.setl_set.proofs.Chosen.{IsSearch}
