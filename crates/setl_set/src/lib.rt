@@ -37,3 +37,6 @@ impl From<Memory> for SetFault {
         SetFault::NoMemory
     }
 }
+
+#[cfg(test)]
+mod tests;
