@@ -1,0 +1,39 @@
+//! The words of the command line.
+ghost use Rattle.std.specs.Prelude.{◌≡◌, ◌↔◌, ℕ, List, codes, map, string_bytes, IsTrue, IfSome, IfNone};
+ghost use Rattle.setl_top.specs.Asked.{command_of};
+ghost use Rattle.setl_top.specs.Words.{Spells, IsFaulty, IsFile};
+
+/// What the words ask for.
+#[derive(Clone, Copy)]
+pub enum Asked<'a> {
+    /// A run of the program in this file.
+    Run(&'a str),
+}
+
+/// Reads the words. `None` comes exactly where they are of no plain form.
+pub fn read_words(words: &[String]) -> Option<Asked<'_>>
+    ensures plain { IfSome result (λ asked. Spells (map string_bytes words.now) (command_of asked)) }
+    ensures faulty { IfNone result (IsFaulty (map string_bytes words.now)) }
+{
+    match words {
+        [word, name] if is_run(word.as_str()) && is_file(name.as_str()) => {
+            Some(Asked::Run(name.as_str()))
+        }
+        _ => None,
+    }
+}
+
+/// Whether a word is that of a run.
+fn is_run(word: &str) -> bool
+    ensures { IsTrue result ↔ (word.now ≡ codes "run") }
+{
+    word == "run"
+}
+
+/// Whether a file may have that name in the words.
+fn is_file(word: &str) -> bool
+    ensures { IsTrue result ↔ IsFile word.now }
+{
+    let bytes = word.as_bytes();
+    !bytes.is_empty() && bytes[0] != b'-'
+}
