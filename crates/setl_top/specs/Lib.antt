@@ -6,3 +6,4 @@ pub mod Lines
 pub mod Symbols
 pub mod Tree
 pub mod Small
+pub mod Cursor

@@ -1,5 +1,10 @@
 -- Tokens as a grammar reads them: plain data, with words and names in lower case.
-use Rattle.std.specs.Prelude.{◌≡◌, ℕ, ℤ, List, ◌∷◌}
+use Rattle.std.specs.Prelude.{◌≡◌, ℕ, ℤ, List, ◌∷◌, map}
+use Rattle.setl_token.specs.Bytes.{lower}
+use Rattle.setl_token.specs.Text.{Lexed, token_text}
+use Rattle.setl_token.specs.declared.Token.{Token}
+use Rattle.setl_token.specs.declared.TokenKind.{TokenKind}
+use Rattle.setl_token.specs.declared.TokenKind.TheVariants as kind
 
 -- a token: its text, its value or its line, as far as a grammar asks for it
 pub data Symbol : Type 0 where
@@ -11,6 +16,21 @@ pub data Symbol : Type 0 where
 
 abbrev pub Symbols : Type 0
 Symbols = List Symbol
+
+-- a token of this kind, with this text on this line
+abbrev pub symbol_of_kind : TokenKind → List ℕ → ℕ → Symbol
+symbol_of_kind kind.Word text line = Word (lower text) line
+symbol_of_kind kind.Name text line = Name (lower text) line
+symbol_of_kind (kind.Number value) text line = Number value
+symbol_of_kind kind.Str text line = String
+symbol_of_kind kind.Sign text line = Sign text
+
+abbrev pub symbol_of : List ℕ → Token → Symbol
+symbol_of source t = symbol_of_kind t.kind (token_text source t) t.line
+
+-- the tokens of a source
+abbrev pub symbols : Lexed → Symbols
+symbols l = map (symbol_of l.source) l.tokens
 
 -- the tokens begin with this one, and these are left
 abbrev pub WordAt : List ℕ → ℕ → Symbols → Symbols → Type 0

@@ -2,6 +2,7 @@
 #![tactic(auto)]
 
 mod lines;
+mod small;
 mod status;
 mod words;
 

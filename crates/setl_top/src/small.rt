@@ -1,0 +1,2 @@
+//! The small language: its programs are read here, until the whole grammar is.
+mod cursor;
