@@ -1,0 +1,8 @@
+use Rattle.std.proofs.Common.{sym, ◌∙◌}
+use Rattle.setl_value.specs.Body.{Members}
+use Rattle.setl_value.specs.DatumOf.{datum}
+use Rattle.setl_set.proofs.Places.{found_or_absent}
+use Rattle.setl_set.proofs.member.has.Goals as goal
+
+pub returns : goal.returns
+returns c = c.is_ok.ensures.value ∙ found_or_absent (datum c.args.v.now) (Members c.args.s.now) c.place.result c.place.ensures.found c.place.ensures.absent

@@ -1,0 +1,14 @@
+use Rattle.std.proofs.Common.{◌-◌, ◌≡◌, ◌≤◌, length, take, drop}
+use Rattle.std.specs.List.{AllByRecursion}
+use Rattle.std.specs.declared.cmp.Ordering.TheVariants.{Less}
+use Rattle.setl_value.specs.Body.{Members}
+use Rattle.setl_value.specs.DatumOf.{datum}
+use Rattle.setl_value.specs.Order.{datum_cmp}
+use Rattle.setl_set.proofs.Places.{IsBetween}
+use Rattle.setl_set.proofs.member.place.Given as goal
+
+abbrev pub invariant-loop-low : goal.invariant-loop-low
+invariant-loop-low l = IsBetween (datum l.v) (Members l.s) l.low l.high
+
+abbrev pub decreases-loop-low : goal.decreases-loop-low
+decreases-loop-low l = l.high - l.low

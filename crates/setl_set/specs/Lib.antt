@@ -1,0 +1,4 @@
+pub mod Sets
+pub mod Subsets
+pub mod Laws
+pub mod Place

@@ -1,0 +1,33 @@
+//! Finite sets of values: membership, adding and removing a member, union, difference, intersection and symmetric
+//! difference, and the sets of all subsets.
+//!
+//! Contracts read a set as `Members`, the strictly rising list of the data that its members stand for. Each result is
+//! stated by a definition on such lists (`insert_datum`, `union_of`, `pow_of` and the like), and the module `laws` says
+//! of each definition which members it leaves.
+#![tactic(auto)]
+
+pub mod laws;
+mod member;
+
+pub use member::{has, less, with};
+pub use std::alloc::AllocError as Memory;
+
+/// Why a set can't be made.
+#[derive(Clone, Copy, Debug, PartialEq, Eq)]
+pub enum SetFault {
+    /// Its depth would be above 500.
+    Deep,
+    /// Memory was refused.
+    NoMemory,
+}
+
+impl From<Memory> for SetFault {
+    ghost use Rattle.std.specs.Prelude.{◌≡◌};
+    ghost use Rattle.setl_set.specs.declared.SetFault.TheVariants.{NoMemory};
+
+    ghost from_gives = { λ _ e. e ≡ NoMemory };
+
+    fn from(_e: Memory) -> SetFault {
+        SetFault::NoMemory
+    }
+}
