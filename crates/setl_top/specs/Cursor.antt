@@ -1,11 +1,6 @@
 -- The tokens that are left at a place.
-use Rattle.std.specs.Prelude.{◌≡◌, ℕ, ℤ, List, drop, map}
-use Rattle.setl_token.specs.Bytes.{lower}
-use Rattle.setl_token.specs.Text.{Lexed, token_text}
-use Rattle.setl_token.specs.declared.Token.{Token}
-use Rattle.setl_token.specs.declared.TokenKind.{TokenKind}
-use Rattle.setl_token.specs.declared.TokenKind.TheVariants as kind
-use Rattle.setl_top.specs.Symbols.{Symbol, Word, Name, Number, Sign, String, Symbols, WordAt, NameAt, NumberAt, SignAt, symbols}
+use Rattle.std.specs.Prelude.{◌≡◌, ℕ, ℤ, List, drop}
+use Rattle.setl_top.specs.Symbols.{Symbols, WordAt, NameAt, NumberAt, SignAt, symbols}
 use Rattle.setl_top.specs.declared.small.cursor.Cursor.{Cursor}
 
 -- the tokens that are left
