@@ -1,9 +1,9 @@
 -- Tokens have at most one tree by the small grammar.
 use Rattle.std.proofs.Common.{◌≡◌, ◌∙◌, ℕ, ℤ, List, [], ◌∷◌, ◌++◌, codes, refl, sym, ap, subst, append_assoc, Bool, true, false, true≢false, bytes_eq}
 use Rattle.std.proofs.lemmas.List.{append-nil}
-use Rattle.setl_top.specs.Symbols.{Symbol, Word, Name, Number, Sign, Symbols, WordAt, NameAt, NumberAt, SignAt}
-use Rattle.setl_top.specs.Tree.{Expr, Variable, Integer, SetOf, Stmt, Tree, Assign, With, Print}
-use Rattle.setl_top.specs.Small.{Many, close, item, NextNumber, Numbers, Value, variable, integer, empty_set, some_set, NextValue, Values, Arguments, no_value, some_value, Statement, assign, with_member, print, Ending, IsSmall}
+use Rattle.setl_top.specs.Symbols.{Symbol, Word, Name, Sign, Symbols, WordAt, NameAt, NumberAt, SignAt}
+use Rattle.setl_top.specs.Tree.{Expr, Variable, Integer, SetOf, Action, Assign, With, Print, Stmt, Tree}
+use Rattle.setl_top.specs.Small.{Many, close, item, AfterComma, Listed, none, some, Number, Value, variable, integer, set, Change, assign, with_member, Statement, change, print, Ending, IsSmall}
 
 -- a part of the grammar finds one value and one rest
 abbrev pub IsOne : {A : Type 0} → (Symbols → A → Symbols → Type 0) → Type 0
@@ -60,9 +60,6 @@ module _ {A : Type 0} (Item : Symbols → A → Symbols → Type 0) (Close : Sym
 
 -- ---- the parts of the small grammar
 
-one_number : (ts a b : Symbols) (n m : ℤ) → NumberAt n ts a → NumberAt m ts b → (n ≡ m) × (a ≡ b)
-one_number ts a b n m p q = (cc, cc)
-
 -- whether this sign stands in front
 abbrev pub is_sign : List ℕ → Symbols → Bool
 is_sign text (Sign t ∷ ts) = bytes_eq text t
@@ -75,70 +72,72 @@ differ test ts a b p q h k = true≢false (sym h ∙ ap test (sym p ∙ q) ∙ k
 pub sign_once : (s : List ℕ) → EndsOnce (SignAt s)
 sign_once s ts r q p h = cc
 
-pub one_next_number : IsOne NextNumber
-one_next_number ts r q n m h k =
-    let kn : NumberAt m h.after q = subst (λ a. NumberAt m a q) (one_sign k.comma h.comma) k.number in
-    one_number h.after r q n m h.number kn
+module _ {A : Type 0} (Item : Symbols → A → Symbols → Type 0) (one : IsOne Item) where
+  pub one_after_comma : IsOne (AfterComma Item)
+  one_after_comma ts r q n m h k =
+      one h.after r q n m h.found (subst (λ a. Item a m q) (one_sign k.comma h.comma) k.found)
 
-pub number_apart : AreApart NextNumber (SignAt (codes "}"))
-number_apart ts r q n h c = differ (is_sign (codes ",")) ts _ _ h.comma c refl refl
+  module _ (Close : Symbols → Symbols → Type 0) (once : EndsOnce Close) (apart : AreApart Item Close) (no_comma : AreApart (AfterComma Item) Close) where
+    one_many_more : {ts r q : Symbols} {cs ds : List A} → Many (AfterComma Item) Close ts cs r → Many (AfterComma Item) Close ts ds q → (cs ≡ ds) × (r ≡ q)
+    one_many_more = one_many (AfterComma Item) Close one_after_comma no_comma once
 
-pub one_numbers : {ts r q : Symbols} {ns ms : List ℤ} → Numbers ts ns r → Numbers ts ms q → (ns ≡ ms) × (r ≡ q)
-one_numbers = one_many NextNumber (SignAt (codes "}")) one_next_number number_apart (sign_once (codes "}"))
+    pub one_listed : {ts r q : Symbols} {cs ds : List A} → Listed Item Close ts cs r → Listed Item Close ts ds q → (cs ≡ ds) × (r ≡ q)
+    one_listed (none c) (none d) = (refl, once _ _ _ c d)
+    one_listed (none c) (some j k) = absurd (apart _ _ _ _ j c)
+    one_listed (some i h) (none d) = absurd (apart _ _ _ _ i d)
+    one_listed {q = q} (some {a = a} i h) (some {a = b} {as' = bs} j k) =
+        let same = one _ _ _ _ _ i j in
+        let others = one_many_more h (subst (λ x. Many (AfterComma Item) Close x bs q) (sym same.1) k) in
+        ((λ x. same.0 x ∷ others.0 x), others.1)
 
-one_some_set : (ts a b c d r q : Symbols) (n m : ℤ) (ns ms : List ℤ) → SignAt (codes "{") ts a → NumberAt n a c → Numbers c ns r → SignAt (codes "{") ts b → NumberAt m b d → Numbers d ms q → (SetOf (n ∷ ns) ≡ SetOf (m ∷ ms)) × (r ≡ q)
-one_some_set ts a b c d r q n m ns ms p h hs p' k ks =
-    let kn : NumberAt m a d = subst (λ x. NumberAt m x d) (one_sign p' p) k in
-    let same = one_number a c d n m h kn in
-    let others = one_numbers hs (subst (λ x. Numbers x ms q) (sym same.1) ks) in
-    ((λ i. SetOf (same.0 i ∷ others.0 i)), others.1)
+one_number : IsOne Number
+one_number ts a b n m p q = (cc, cc)
+
+pub comma_apart : {A : Type 0} (Item : Symbols → A → Symbols → Type 0) (s : List ℕ) → bytes_eq (codes ",") s ≡ false → AreApart (AfterComma Item) (SignAt s)
+comma_apart Item s e ts r q n h c = differ (is_sign (codes ",")) ts _ _ h.comma c refl e
+
+pub number_apart : (s : List ℕ) → AreApart Number (SignAt s)
+number_apart s ts r q n h c = cc
+
+pub one_members : {ts r q : Symbols} {ns ms : List ℤ} → Listed Number (SignAt (codes "}")) ts ns r → Listed Number (SignAt (codes "}")) ts ms q → (ns ≡ ms) × (r ≡ q)
+one_members = one_listed Number one_number (SignAt (codes "}")) (sign_once (codes "}")) (number_apart (codes "}")) (comma_apart Number (codes "}") refl)
+
+one_set : (ts a b r q : Symbols) (ns ms : List ℤ) → SignAt (codes "{") ts a → Listed Number (SignAt (codes "}")) a ns r → SignAt (codes "{") ts b → Listed Number (SignAt (codes "}")) b ms q → (SetOf ns ≡ SetOf ms) × (r ≡ q)
+one_set ts a b r q ns ms p hs p' ks =
+    let same = one_members hs (subst (λ x. Listed Number (SignAt (codes "}")) x ms q) (one_sign p' p) ks) in
+    (ap SetOf same.0, same.1)
 
 pub one_value : IsOne Value
 one_value ts r q _ _ (variable p) (variable p') = (cc, cc)
 one_value ts r q _ _ (variable p) (integer p') = absurd (cc)
-one_value ts r q _ _ (variable p) (empty_set p' k) = absurd (cc)
-one_value ts r q _ _ (variable p) (some_set p' k ks) = absurd (cc)
+one_value ts r q _ _ (variable p) (set p' k) = absurd (cc)
 one_value ts r q _ _ (integer p) (variable p') = absurd (cc)
 one_value ts r q _ _ (integer p) (integer p') = (cc, cc)
-one_value ts r q _ _ (integer p) (empty_set p' k) = absurd (cc)
-one_value ts r q _ _ (integer p) (some_set p' k ks) = absurd (cc)
-one_value ts r q _ _ (empty_set p h) (variable p') = absurd (cc)
-one_value ts r q _ _ (empty_set p h) (integer p') = absurd (cc)
-one_value ts r q _ _ (empty_set p h) (empty_set p' k) = (refl, cc)
-one_value ts r q _ _ (empty_set p h) (some_set p' k ks) = absurd (cc)
-one_value ts r q _ _ (some_set p h hs) (variable p') = absurd (cc)
-one_value ts r q _ _ (some_set p h hs) (integer p') = absurd (cc)
-one_value ts r q _ _ (some_set p h hs) (empty_set p' k) = absurd (cc)
-one_value ts r q _ _ (some_set {inside = a} {after = c} {value = n} {values = ns} p h hs) (some_set {inside = b} {after = d} {value = m} {values = ms} p' k ks) =
-    one_some_set ts a b c d r q n m ns ms p h hs p' k ks
+one_value ts r q _ _ (integer p) (set p' k) = absurd (cc)
+one_value ts r q _ _ (set p h) (variable p') = absurd (cc)
+one_value ts r q _ _ (set p h) (integer p') = absurd (cc)
+one_value ts r q _ _ (set {inside = a} {members = ns} p hs) (set {inside = b} {members = ms} p' ks) = one_set ts a b r q ns ms p hs p' ks
 
-pub one_next_value : IsOne NextValue
-one_next_value ts r q n m h k =
-    one_value h.after r q n m h.found (subst (λ a. Value a m q) (one_sign k.comma h.comma) k.found)
+-- where a value stands, no other sign than "{" does
+pub value_apart : (s : List ℕ) → bytes_eq s (codes "{") ≡ false → bytes_eq s s ≡ true → AreApart Value (SignAt s)
+value_apart s e same ts r q _ (variable p) c = cc
+value_apart s e same ts r q _ (integer p) c = cc
+value_apart s e same ts r q _ (set p h) c = differ (is_sign s) ts _ _ c p same e
 
-pub value_apart : AreApart NextValue (SignAt (codes ")"))
-value_apart ts r q n h c = differ (is_sign (codes ",")) ts _ _ h.comma c refl refl
+pub one_values : {ts r q : Symbols} {ns ms : List Expr} → Listed Value (SignAt (codes ")")) ts ns r → Listed Value (SignAt (codes ")")) ts ms q → (ns ≡ ms) × (r ≡ q)
+one_values = one_listed Value one_value (SignAt (codes ")")) (sign_once (codes ")")) (value_apart (codes ")") refl refl) (comma_apart Value (codes ")") refl)
 
-pub one_values : {ts r q : Symbols} {ns ms : List Expr} → Values ts ns r → Values ts ms q → (ns ≡ ms) × (r ≡ q)
-one_values = one_many NextValue (SignAt (codes ")")) one_next_value value_apart (sign_once (codes ")"))
-
--- where a value stands, nothing else does
-no_close_value : (ts r q : Symbols) (e : Expr) → Value ts e r → SignAt (codes ")") ts q → ⊥
-no_close_value ts r q _ (variable p) c = differ (is_sign (codes ")")) ts _ _ c p refl refl
-no_close_value ts r q _ (integer p) c = differ (is_sign (codes ")")) ts _ _ c p refl refl
-no_close_value ts r q _ (empty_set p h) c = differ (is_sign (codes ")")) ts _ _ c p refl refl
-no_close_value ts r q _ (some_set p h hs) c = differ (is_sign (codes ")")) ts _ _ c p refl refl
-
-pub one_arguments : IsOne Arguments
-one_arguments ts r q _ _ (no_value p h) (no_value p' k) = (refl, cc)
-one_arguments ts r q _ _ (no_value p h) (some_value {inside = b} {after = d} {value = e} p' k ks) =
-    absurd (no_close_value b d r e k (subst (λ x. SignAt (codes ")") x r) (one_sign p p') h))
-one_arguments ts r q _ _ (some_value {inside = a} {after = c} {value = e} p h hs) (no_value p' k) =
-    absurd (no_close_value a c q e h (subst (λ x. SignAt (codes ")") x q) (one_sign p' p) k))
-one_arguments ts r q _ _ (some_value {inside = a} {after = c} {value = n} p h hs) (some_value {inside = b} {after = d} {value = m} {values = ms} p' k ks) =
-    let same = one_value a c d n m h (subst (λ x. Value x m d) (one_sign p' p) k) in
-    let others = one_values hs (subst (λ x. Values x ms q) (sym same.1) ks) in
-    ((λ i. same.0 i ∷ others.0 i), others.1)
+pub one_change : (x : List ℕ) → IsOne (Change x)
+one_change x ts r q _ _ (assign {one = a} {value = e} p v) (assign {one = b} {value = f} p' w) =
+    let same = one_value a r q e f v (subst (λ z. Value z f q) (one_sign p' p) w) in
+    (ap (Assign x) same.0, same.1)
+one_change x ts r q _ _ (assign p v) (with_member p' p2 p3) = absurd (cc)
+one_change x ts r q _ _ (with_member p' p2 p3) (assign p v) = absurd (cc)
+one_change x ts r q _ _ (with_member {one = a} {two = b} {value = n} p1 p2 p3) (with_member {one = c} {two = d} {value = m} q1 q2 q3) =
+    let ha : a ≡ c = cc in
+    let hb : b ≡ d = cc in
+    let hn : n ≡ m = cc in
+    (ap (With x) hn, cc)
 
 pub ending_once : EndsOnce Ending
 ending_once ts r q h k =
@@ -148,59 +147,43 @@ ending_once ts r q h k =
     let y = k.semicolon in
     cc
 
+-- whether this word stands in front
+abbrev pub is_word : List ℕ → Symbols → Bool
+is_word text (Word t line ∷ ts) = bytes_eq text t
+is_word text ts = false
+
 pub statement_apart : AreApart Statement Ending
-statement_apart ts r q _ (assign p1 p2 v p3) k = let x = k.end in cc
-statement_apart ts r q _ (with_member p1 p2 p3 p4 p5) k = let x = k.end in cc
-statement_apart ts r q _ (print p1 a p2) k = let x = k.end in cc
+statement_apart ts r q _ (change p1 v p3) k = let x = k.end in cc
+statement_apart ts r q _ (print p1 p a p2) k = differ (is_word (codes "end")) ts _ _ k.end p1 refl refl
 
-one_assign : (ts a b c a' b' c' r q : Symbols) (x y : List ℕ) (l m : ℕ) (e f : Expr) →
-    NameAt x l ts a → SignAt (codes ":=") a b → Value b e c → SignAt (codes ";") c r →
-    NameAt y m ts a' → SignAt (codes ":=") a' b' → Value b' f c' → SignAt (codes ";") c' q →
-    (◌≡◌ {A = Stmt} (record { line = l; action = Assign x e }) (record { line = m; action = Assign y f })) × (r ≡ q)
-one_assign ts a b c a' b' c' r q x y l m e f p1 p2 v p3 q1 q2 w q3 =
-    let ha : a ≡ a' = cc in
+one_changed : (ts a b c d r q : Symbols) (x y : List ℕ) (l m : ℕ) (e f : Action) →
+    NameAt x l ts a → Change x a e b → SignAt (codes ";") b r → NameAt y m ts c → Change y c f d → SignAt (codes ";") d q →
+    (◌≡◌ {A = Stmt} (record { line = l; action = e }) (record { line = m; action = f })) × (r ≡ q)
+one_changed ts a b c d r q x y l m e f p1 v p2 q1 w q2 =
+    let ha : a ≡ c = cc in
     let hx : x ≡ y = cc in
     let hl : l ≡ m = cc in
-    let hb : b ≡ b' = cc in
-    let same = one_value b c c' e f v (subst (λ z. Value z f c') (sym hb) w) in
-    let hc = same.1 in
-    ((λ i. record { line = hl i; action = Assign (hx i) (same.0 i) }), cc)
-
-one_with : (ts a b c d a' b' c' d' r q : Symbols) (x y : List ℕ) (l m w w' : ℕ) (n n' : ℤ) →
-    NameAt x l ts a → WordAt (codes "with") w a b → SignAt (codes ":=") b c → NumberAt n c d → SignAt (codes ";") d r →
-    NameAt y m ts a' → WordAt (codes "with") w' a' b' → SignAt (codes ":=") b' c' → NumberAt n' c' d' → SignAt (codes ";") d' q →
-    (◌≡◌ {A = Stmt} (record { line = l; action = With x n }) (record { line = m; action = With y n' })) × (r ≡ q)
-one_with ts a b c d a' b' c' d' r q x y l m w w' n n' p1 p2 p3 p4 p5 q1 q2 q3 q4 q5 =
-    let ha : a ≡ a' = cc in
-    let hx : x ≡ y = cc in
-    let hl : l ≡ m = cc in
-    let hb : b ≡ b' = cc in
-    let hc : c ≡ c' = cc in
-    let hn : n ≡ n' = cc in
-    let hd : d ≡ d' = cc in
-    ((λ i. record { line = hl i; action = With (hx i) (hn i) }), cc)
-
-one_print : (ts a b a' b' r q : Symbols) (l m : ℕ) (es fs : List Expr) →
-    WordAt (codes "print") l ts a → Arguments a es b → SignAt (codes ";") b r →
-    WordAt (codes "print") m ts a' → Arguments a' fs b' → SignAt (codes ";") b' q →
-    (◌≡◌ {A = Stmt} (record { line = l; action = Print es }) (record { line = m; action = Print fs })) × (r ≡ q)
-one_print ts a b a' b' r q l m es fs p1 v p2 q1 w q2 =
-    let ha : a ≡ a' = cc in
-    let hl : l ≡ m = cc in
-    let same = one_arguments a b b' es fs v (subst (λ z. Arguments z fs b') (sym ha) w) in
+    let same = one_change x a b d e f v (subst (λ z. Change z a f d) (sym hx) (subst (λ z. Change y z f d) (sym ha) w)) in
     let hb = same.1 in
+    ((λ i. record { line = hl i; action = same.0 i }), cc)
+
+one_print : (ts a b c a' b' c' r q : Symbols) (l m : ℕ) (es fs : List Expr) →
+    WordAt (codes "print") l ts a → SignAt (codes "(") a b → Listed Value (SignAt (codes ")")) b es c → SignAt (codes ";") c r →
+    WordAt (codes "print") m ts a' → SignAt (codes "(") a' b' → Listed Value (SignAt (codes ")")) b' fs c' → SignAt (codes ";") c' q →
+    (◌≡◌ {A = Stmt} (record { line = l; action = Print es }) (record { line = m; action = Print fs })) × (r ≡ q)
+one_print ts a b c a' b' c' r q l m es fs p1 p2 v p3 q1 q2 w q3 =
+    let ha : a ≡ a' = cc in
+    let hl : l ≡ m = cc in
+    let hb : b ≡ b' = cc in
+    let same = one_values v (subst (λ z. Listed Value (SignAt (codes ")")) z fs c') (sym hb) w) in
+    let hc = same.1 in
     ((λ i. record { line = hl i; action = Print (same.0 i) }), cc)
 
 pub one_statement : IsOne Statement
-one_statement ts r q _ _ (assign p1 p2 v p3) (assign q1 q2 w q3) = one_assign _ _ _ _ _ _ _ _ _ _ _ _ _ _ _ p1 p2 v p3 q1 q2 w q3
-one_statement ts r q _ _ (assign {one = a} p1 p2 v p3) (with_member {one = b} q1 q2 q3 q4 q5) = absurd (cc)
-one_statement ts r q _ _ (assign p1 p2 v p3) (print q1 w q2) = absurd (cc)
-one_statement ts r q _ _ (with_member p1 p2 p3 p4 p5) (assign q1 q2 w q3) = absurd (cc)
-one_statement ts r q _ _ (with_member p1 p2 p3 p4 p5) (with_member q1 q2 q3 q4 q5) = one_with _ _ _ _ _ _ _ _ _ _ _ _ _ _ _ _ _ _ _ p1 p2 p3 p4 p5 q1 q2 q3 q4 q5
-one_statement ts r q _ _ (with_member p1 p2 p3 p4 p5) (print q1 w q2) = absurd (cc)
-one_statement ts r q _ _ (print p1 v p2) (assign q1 q2 w q3) = absurd (cc)
-one_statement ts r q _ _ (print p1 v p2) (with_member q1 q2 q3 q4 q5) = absurd (cc)
-one_statement ts r q _ _ (print p1 v p2) (print q1 w q2) = one_print _ _ _ _ _ _ _ _ _ _ _ p1 v p2 q1 w q2
+one_statement ts r q _ _ (change p1 v p3) (change q1 w q3) = one_changed _ _ _ _ _ _ _ _ _ _ _ _ _ p1 v p3 q1 w q3
+one_statement ts r q _ _ (change p1 v p3) (print q1 q2 w q3) = absurd (cc)
+one_statement ts r q _ _ (print p1 p2 v p3) (change q1 w q3) = absurd (cc)
+one_statement ts r q _ _ (print p1 p2 v p3) (print q1 q2 w q3) = one_print _ _ _ _ _ _ _ _ _ _ _ _ _ p1 p2 v p3 q1 q2 w q3
 
 -- the tokens have one tree
 pub one_tree : (ts : Symbols) (s t : Tree) → IsSmall ts s → IsSmall ts t → s ≡ t

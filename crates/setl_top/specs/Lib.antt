@@ -7,3 +7,4 @@ pub mod Symbols
 pub mod Tree
 pub mod Small
 pub mod Cursor
+pub mod Parsed

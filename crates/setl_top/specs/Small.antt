@@ -1,7 +1,8 @@
 -- The small grammar. Each of its parts says which tree a front of the tokens has, and which tokens are left.
 --
 --   program   = "program" name ";" { statement } "end" "program" ";"
---   statement = name ":=" value ";" | name "with" ":=" number ";" | "print" "(" [ value { "," value } ] ")" ";"
+--   statement = name change ";" | "print" "(" [ value { "," value } ] ")" ";"
+--   change    = ":=" value | "with" ":=" number
 --   value     = name | number | "{" [ number { "," number } ] "}"
 use Rattle.std.specs.Prelude.{◌≡◌, ℕ, ℤ, List, [], ◌∷◌, codes}
 use Rattle.setl_top.specs.Symbols.{Symbols, WordAt, NameAt, NumberAt, SignAt}
@@ -12,44 +13,35 @@ pub data Many {A : Type 0} (Item : Symbols → A → Symbols → Type 0) (Close 
   close : {ts rest : Symbols} → Close ts rest → Many Item Close ts [] rest
   item : {ts mid rest : Symbols} {a : A} {as' : List A} → Item ts a mid → Many Item Close mid as' rest → Many Item Close ts (a ∷ as') rest
 
--- "," number
-pub record NextNumber (ts : Symbols) (value : ℤ) (rest : Symbols) : Type 0 where
+-- "," item
+pub record AfterComma {A : Type 0} (Item : Symbols → A → Symbols → Type 0) (ts : Symbols) (a : A) (rest : Symbols) : Type 0 where
   pub after : Symbols
   pub comma : SignAt (codes ",") ts after
-  pub number : NumberAt value after rest
+  pub found : Item after a rest
 
-abbrev pub Numbers : Symbols → List ℤ → Symbols → Type 0
-Numbers = Many NextNumber (SignAt (codes "}"))
+-- [ item { "," item } ], and then what closes them
+pub data Listed {A : Type 0} (Item : Symbols → A → Symbols → Type 0) (Close : Symbols → Symbols → Type 0) : Symbols → List A → Symbols → Type 0 where
+  none : {ts rest : Symbols} → Close ts rest → Listed Item Close ts [] rest
+  some : {ts mid rest : Symbols} {a : A} {as' : List A} → Item ts a mid → Many (AfterComma Item) Close mid as' rest → Listed Item Close ts (a ∷ as') rest
+
+abbrev pub Number : Symbols → ℤ → Symbols → Type 0
+Number ts value rest = NumberAt value ts rest
 
 pub data Value : Symbols → Expr → Symbols → Type 0 where
   variable : {ts rest : Symbols} {name : List ℕ} {line : ℕ} → NameAt name line ts rest → Value ts (Variable name) rest
   integer : {ts rest : Symbols} {value : ℤ} → NumberAt value ts rest → Value ts (Integer value) rest
-  empty_set : {ts inside rest : Symbols} → SignAt (codes "{") ts inside → SignAt (codes "}") inside rest → Value ts (SetOf []) rest
-  some_set : {ts inside after rest : Symbols} {value : ℤ} {values : List ℤ} → SignAt (codes "{") ts inside → NumberAt value inside after → Numbers after values rest → Value ts (SetOf (value ∷ values)) rest
+  set : {ts inside rest : Symbols} {members : List ℤ} → SignAt (codes "{") ts inside → Listed Number (SignAt (codes "}")) inside members rest → Value ts (SetOf members) rest
 
--- "," value
-pub record NextValue (ts : Symbols) (value : Expr) (rest : Symbols) : Type 0 where
-  pub after : Symbols
-  pub comma : SignAt (codes ",") ts after
-  pub found : Value after value rest
-
-abbrev pub Values : Symbols → List Expr → Symbols → Type 0
-Values = Many NextValue (SignAt (codes ")"))
-
--- "(" [ value { "," value } ] ")"
-pub data Arguments : Symbols → List Expr → Symbols → Type 0 where
-  no_value : {ts inside rest : Symbols} → SignAt (codes "(") ts inside → SignAt (codes ")") inside rest → Arguments ts [] rest
-  some_value : {ts inside after rest : Symbols} {value : Expr} {values : List Expr} → SignAt (codes "(") ts inside → Value inside value after → Values after values rest → Arguments ts (value ∷ values) rest
+pub data Change (name : List ℕ) : Symbols → Action → Symbols → Type 0 where
+  assign : {ts one rest : Symbols} {value : Expr} → SignAt (codes ":=") ts one → Value one value rest → Change name ts (Assign name value) rest
+  with_member : {ts one two rest : Symbols} {line : ℕ} {value : ℤ} → WordAt (codes "with") line ts one → SignAt (codes ":=") one two → NumberAt value two rest → Change name ts (With name value) rest
 
 pub data Statement : Symbols → Stmt → Symbols → Type 0 where
-  assign : {ts one two three rest : Symbols} {name : List ℕ} {line : ℕ} {value : Expr} →
-    NameAt name line ts one → SignAt (codes ":=") one two → Value two value three → SignAt (codes ";") three rest →
-    Statement ts (record { line = line; action = Assign name value }) rest
-  with_member : {ts one two three four rest : Symbols} {name : List ℕ} {line with_line : ℕ} {value : ℤ} →
-    NameAt name line ts one → WordAt (codes "with") with_line one two → SignAt (codes ":=") two three → NumberAt value three four → SignAt (codes ";") four rest →
-    Statement ts (record { line = line; action = With name value }) rest
-  print : {ts one two rest : Symbols} {line : ℕ} {values : List Expr} →
-    WordAt (codes "print") line ts one → Arguments one values two → SignAt (codes ";") two rest →
+  change : {ts one two rest : Symbols} {name : List ℕ} {line : ℕ} {action : Action} →
+    NameAt name line ts one → Change name one action two → SignAt (codes ";") two rest →
+    Statement ts (record { line = line; action = action }) rest
+  print : {ts one two three rest : Symbols} {line : ℕ} {values : List Expr} →
+    WordAt (codes "print") line ts one → SignAt (codes "(") one two → Listed Value (SignAt (codes ")")) two values three → SignAt (codes ";") three rest →
     Statement ts (record { line = line; action = Print values }) rest
 
 -- "end" "program" ";"
