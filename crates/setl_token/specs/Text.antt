@@ -1,14 +1,20 @@
 -- A source with its tokens, and what a token reads as.
-use Rattle.std.specs.Prelude.{◌≡◌, ℕ, List, slice_range}
+use Rattle.std.specs.Prelude.{◌≡◌, ℕ, List, slice_range, ◌≤◌, ◌^◌, length}
 use Rattle.setl_token.specs.declared.Token.{Token}
 use Rattle.setl_token.specs.declared.TokenKind.{TokenKind}
 use Rattle.setl_token.specs.declared.TokenKind.TheVariants as kind
 use Rattle.setl_token.specs.Bytes.{lower}
+use Rattle.setl_token.specs.Lex.{Spelled}
 
 -- a source and the list of its tokens
 pub record Lexed : Type 0 where
   pub source : List ℕ
   pub tokens : List Token
+
+-- the tokens are those of the source, which is short enough
+pub record IsLexed (source : List ℕ) (tokens : List Token) : Type 0 where
+  pub spelled : Spelled source tokens
+  pub short : length source ≤ 2 ^ 24
 
 -- the bytes of a token
 abbrev pub token_text : List ℕ → Token → List ℕ

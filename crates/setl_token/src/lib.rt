@@ -5,7 +5,7 @@
 //! numbers, strings and signs. Bytes from 128 stand only in strings and comments.
 #![tactic(auto)]
 
-ghost use Rattle.std.specs.Prelude.{◌≡◌, ◌==◌, ◌<◌, ◌≤◌, ◌^◌, ◌⊎◌, ℕ, length, count_by, List, IfOk, IfErr, MatchResult};
+ghost use Rattle.std.specs.Prelude.{◌≡◌, ◌==◌, ◌<◌, ◌≤◌, ◌^◌, ◌⊎◌, ℕ, length, count_by, List, [], IfOk, IfErr, MatchResult};
 ghost use Rattle.std.specs.Result.{IsErrAnd};
 ghost use Rattle.setl_token.specs.Lex.{Spelled, LexFails, Tells, fault_of};
 
@@ -13,6 +13,7 @@ mod pieces;
 mod reserved;
 
 use pieces::{PieceKind, cut};
+use reserved::reads_as;
 use std::alloc::{AllocError, AllocFailed, Global};
 use std::marker::Model;
 use thiserror::Error;
@@ -116,40 +117,78 @@ pub struct TokenList {
 }
 
 impl Model for TokenList {
-    ghost use Rattle.setl_token.specs.Text.{Lexed};
-    ghost use Rattle.setl_token.specs.Lex.{Spelled};
+    ghost use Rattle.setl_token.specs.Text.{Lexed, IsLexed};
 
     ghost Value = { Lexed };
 
     ghost view = { λ l. record { source = l.source.items; tokens = l.tokens.items } };
 
-    ghost invariant = { λ l. Spelled l.source.items l.tokens.items };
+    ghost invariant = { λ l. IsLexed l.source.items l.tokens.items };
 }
 
 impl TokenList {
-    ghost use Rattle.std.specs.Prelude.{slice_get, Some};
-    ghost use Rattle.setl_token.specs.Text.{token_text};
+    ghost use Rattle.std.specs.Prelude.{◌↔◌, IsTrue, IfSome, Some, slice_get};
+    ghost use Rattle.std.specs.Option.{IsSomeAnd};
+    ghost use Rattle.setl_token.specs.Text.{token_text, IsWord, IsSign};
 
-    /// How many tokens there are.
+    /// How many tokens there are. The tokens of a list are always those of its source.
     pub fn len(&self) -> usize
-        ensures { result ≡ length self.now.tokens }
+        ensures value { result ≡ length self.now.tokens }
+        ensures few { result ≤ length self.now.source }
+        ensures spelled { Spelled self.now.source self.now.tokens }
     {
         self.tokens.len()
+    }
+
+    /// Whether there is no token.
+    pub fn is_empty(&self) -> bool
+        ensures { IsTrue result ↔ (self.now.tokens ≡ []) }
+    {
+        self.tokens.is_empty()
     }
 
     /// The token with this index, counted from 0.
     pub fn at(&self, i: usize) -> &Token
         requires { i < length self.now.tokens }
-        ensures { slice_get self.now.tokens i ≡ Some result.now }
+        ensures value { slice_get self.now.tokens i ≡ Some result.now }
+        ensures some { result.now.from < result.now.to }
+        ensures within { result.now.to ≤ length self.now.source }
     {
         &self.tokens[i]
     }
 
     /// The source, whole.
     pub fn source(&self) -> &[u8]
-        ensures { result.now ≡ self.now.source }
+        ensures value { result.now ≡ self.now.source }
+        ensures short { length result.now ≤ 2 ^ 24 }
     {
         &self.source
+    }
+
+    /// The bytes of the token with this index.
+    pub fn text(&self, i: usize) -> &[u8]
+        requires { i < length self.now.tokens }
+        ensures { IfSome (slice_get self.now.tokens i) (λ t. result.now ≡ token_text self.now.source t) }
+    {
+        let token = self.at(i);
+        &self.source[token.from as usize..token.to as usize]
+    }
+
+    /// Whether there is a token with this index and it is this reserved word, given in lower case, whatever the case
+    /// of its own letters.
+    pub fn is_word(&self, i: usize, word: &[u8]) -> bool
+        ensures { IsTrue result
+            ↔ IsSomeAnd (slice_get self.now.tokens i) (λ t. IsWord self.now.source t word.now) }
+    {
+        i < self.len() && matches!(self.at(i).kind, TokenKind::Word) && reads_as(self.text(i), word)
+    }
+
+    /// Whether there is a token with this index and it is this sign.
+    pub fn is_sign(&self, i: usize, sign: &[u8]) -> bool
+        ensures { IsTrue result
+            ↔ IsSomeAnd (slice_get self.now.tokens i) (λ t. IsSign self.now.source t sign.now) }
+    {
+        i < self.len() && matches!(self.at(i).kind, TokenKind::Sign) && self.text(i) == sign
     }
 }
 
