@@ -8,3 +8,4 @@ pub mod Tree
 pub mod Small
 pub mod Cursor
 pub mod Parsed
+pub mod Reads

@@ -1,5 +1,6 @@
 //! The small language: its programs are read here, until the whole grammar is.
 mod cursor;
 mod program;
+mod reader;
 
 pub use program::{Action, Expression, Statement};
