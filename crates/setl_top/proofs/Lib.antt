@@ -1,3 +1,5 @@
 pub mod Fronts
 pub mod OneTree
+pub mod Reading
 pub mod Left
+pub mod Shorter

@@ -3,7 +3,7 @@ use Rattle.std.proofs.Common.{◌≡◌, ◌∙◌, ℕ, ℤ, List, [], ◌∷�
 use Rattle.std.proofs.lemmas.List.{append-nil}
 use Rattle.setl_top.specs.Symbols.{Symbol, Word, Name, Sign, Symbols, WordAt, NameAt, NumberAt, SignAt}
 use Rattle.setl_top.specs.Tree.{Expr, Variable, Integer, SetOf, Action, Assign, With, Print, Stmt, Tree}
-use Rattle.setl_top.specs.Small.{Many, close, item, AfterComma, Listed, none, some, Number, Value, variable, integer, set, Change, assign, with_member, Statement, change, print, Ending, IsSmall}
+use Rattle.setl_top.specs.Small.{Many, close, item, AfterComma, Listed, none, some, Number, Value, variable, integer, set, Change, assign, with_member, Body, change, print, Statement, Ending, IsSmall}
 
 -- a part of the grammar finds one value and one rest
 abbrev pub IsOne : {A : Type 0} → (Symbols → A → Symbols → Type 0) → Type 0
@@ -90,7 +90,7 @@ module _ {A : Type 0} (Item : Symbols → A → Symbols → Type 0) (one : IsOne
         let others = one_many_more h (subst (λ x. Many (AfterComma Item) Close x bs q) (sym same.1) k) in
         ((λ x. same.0 x ∷ others.0 x), others.1)
 
-one_number : IsOne Number
+pub one_number : IsOne Number
 one_number ts a b n m p q = (cc, cc)
 
 pub comma_apart : {A : Type 0} (Item : Symbols → A → Symbols → Type 0) (s : List ℕ) → bytes_eq (codes ",") s ≡ false → AreApart (AfterComma Item) (SignAt s)
@@ -152,38 +152,48 @@ abbrev pub is_word : List ℕ → Symbols → Bool
 is_word text (Word t line ∷ ts) = bytes_eq text t
 is_word text ts = false
 
-pub statement_apart : AreApart Statement Ending
-statement_apart ts r q _ (change p1 v p3) k = let x = k.end in cc
-statement_apart ts r q _ (print p1 p a p2) k = differ (is_word (codes "end")) ts _ _ k.end p1 refl refl
+-- where the word `end` stands, no statement does
+pub no_statement : (ts mid rest : Symbols) (line : ℕ) (s : Stmt) → WordAt (codes "end") line ts mid → Statement ts s rest → ⊥
+no_statement ts mid rest line s p h = no_body ts mid h.after line s p h.body
+  where
+    no_body : (ts mid rest : Symbols) (line : ℕ) (s : Stmt) → WordAt (codes "end") line ts mid → Body ts s rest → ⊥
+    no_body ts mid rest line _ p (change p1 v) = cc
+    no_body ts mid rest line _ p (print p1 p2 a) = differ (is_word (codes "end")) ts _ _ p p1 refl refl
 
-one_changed : (ts a b c d r q : Symbols) (x y : List ℕ) (l m : ℕ) (e f : Action) →
-    NameAt x l ts a → Change x a e b → SignAt (codes ";") b r → NameAt y m ts c → Change y c f d → SignAt (codes ";") d q →
+pub statement_apart : AreApart Statement Ending
+statement_apart ts r q s h k = no_statement ts k.one r k.end_line s k.end h
+
+one_changed : (ts a c r q : Symbols) (x y : List ℕ) (l m : ℕ) (e f : Action) →
+    NameAt x l ts a → Change x a e r → NameAt y m ts c → Change y c f q →
     (◌≡◌ {A = Stmt} (record { line = l; action = e }) (record { line = m; action = f })) × (r ≡ q)
-one_changed ts a b c d r q x y l m e f p1 v p2 q1 w q2 =
+one_changed ts a c r q x y l m e f p1 v q1 w =
     let ha : a ≡ c = cc in
     let hx : x ≡ y = cc in
     let hl : l ≡ m = cc in
-    let same = one_change x a b d e f v (subst (λ z. Change z a f d) (sym hx) (subst (λ z. Change y z f d) (sym ha) w)) in
-    let hb = same.1 in
-    ((λ i. record { line = hl i; action = same.0 i }), cc)
+    let same = one_change x a r q e f v (subst (λ z. Change z a f q) (sym hx) (subst (λ z. Change y z f q) (sym ha) w)) in
+    ((λ i. record { line = hl i; action = same.0 i }), same.1)
 
-one_print : (ts a b c a' b' c' r q : Symbols) (l m : ℕ) (es fs : List Expr) →
-    WordAt (codes "print") l ts a → SignAt (codes "(") a b → Listed Value (SignAt (codes ")")) b es c → SignAt (codes ";") c r →
-    WordAt (codes "print") m ts a' → SignAt (codes "(") a' b' → Listed Value (SignAt (codes ")")) b' fs c' → SignAt (codes ";") c' q →
+one_print : (ts a b a' b' r q : Symbols) (l m : ℕ) (es fs : List Expr) →
+    WordAt (codes "print") l ts a → SignAt (codes "(") a b → Listed Value (SignAt (codes ")")) b es r →
+    WordAt (codes "print") m ts a' → SignAt (codes "(") a' b' → Listed Value (SignAt (codes ")")) b' fs q →
     (◌≡◌ {A = Stmt} (record { line = l; action = Print es }) (record { line = m; action = Print fs })) × (r ≡ q)
-one_print ts a b c a' b' c' r q l m es fs p1 p2 v p3 q1 q2 w q3 =
+one_print ts a b a' b' r q l m es fs p1 p2 v q1 q2 w =
     let ha : a ≡ a' = cc in
     let hl : l ≡ m = cc in
     let hb : b ≡ b' = cc in
-    let same = one_values v (subst (λ z. Listed Value (SignAt (codes ")")) z fs c') (sym hb) w) in
-    let hc = same.1 in
-    ((λ i. record { line = hl i; action = Print (same.0 i) }), cc)
+    let same = one_values v (subst (λ z. Listed Value (SignAt (codes ")")) z fs q) (sym hb) w) in
+    ((λ i. record { line = hl i; action = Print (same.0 i) }), same.1)
+
+pub one_body : IsOne Body
+one_body ts r q _ _ (change p1 v) (change q1 w) = one_changed _ _ _ _ _ _ _ _ _ _ _ p1 v q1 w
+one_body ts r q _ _ (change p1 v) (print q1 q2 w) = absurd (cc)
+one_body ts r q _ _ (print p1 p2 v) (change q1 w) = absurd (cc)
+one_body ts r q _ _ (print p1 p2 v) (print q1 q2 w) = one_print _ _ _ _ _ _ _ _ _ _ _ p1 p2 v q1 q2 w
 
 pub one_statement : IsOne Statement
-one_statement ts r q _ _ (change p1 v p3) (change q1 w q3) = one_changed _ _ _ _ _ _ _ _ _ _ _ _ _ p1 v p3 q1 w q3
-one_statement ts r q _ _ (change p1 v p3) (print q1 q2 w q3) = absurd (cc)
-one_statement ts r q _ _ (print p1 p2 v p3) (change q1 w q3) = absurd (cc)
-one_statement ts r q _ _ (print p1 p2 v p3) (print q1 q2 w q3) = one_print _ _ _ _ _ _ _ _ _ _ _ _ _ p1 p2 v p3 q1 q2 w q3
+one_statement ts r q s t h k =
+    let same = one_body ts h.after k.after s t h.body k.body in
+    (same.0, one_sign h.semicolon (subst (λ x. SignAt (codes ";") x q) (sym same.1) k.semicolon))
 
 -- the tokens have one tree
 pub one_tree : (ts : Symbols) (s t : Tree) → IsSmall ts s → IsSmall ts t → s ≡ t
@@ -192,3 +202,9 @@ one_tree ts s t h k =
     let b : h.two ≡ k.two = let x = h.named in let y = k.named in cc in
     let c : h.body ≡ k.body = let x = h.semicolon in let y = k.semicolon in cc in
     (one_many Statement Ending one_statement statement_apart ending_once h.statements (subst (λ x. Many Statement Ending x t []) (sym c) k.statements)).0
+
+pub one_next_number : IsOne (AfterComma Number)
+one_next_number = one_after_comma Number one_number
+
+pub one_next_value : IsOne (AfterComma Value)
+one_next_value = one_after_comma Value one_value

@@ -9,3 +9,5 @@ pub mod Small
 pub mod Cursor
 pub mod Parsed
 pub mod Reads
+pub mod Conditions
+pub mod Kinds

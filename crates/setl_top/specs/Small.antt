@@ -1,7 +1,8 @@
 -- The small grammar. Each of its parts says which tree a front of the tokens has, and which tokens are left.
 --
 --   program   = "program" name ";" { statement } "end" "program" ";"
---   statement = name change ";" | "print" "(" [ value { "," value } ] ")" ";"
+--   statement = body ";"
+--   body      = name change | "print" "(" [ value { "," value } ] ")"
 --   change    = ":=" value | "with" ":=" number
 --   value     = name | number | "{" [ number { "," number } ] "}"
 use Rattle.std.specs.Prelude.{◌≡◌, ℕ, ℤ, List, [], ◌∷◌, codes}
@@ -36,13 +37,18 @@ pub data Change (name : List ℕ) : Symbols → Action → Symbols → Type 0 wh
   assign : {ts one rest : Symbols} {value : Expr} → SignAt (codes ":=") ts one → Value one value rest → Change name ts (Assign name value) rest
   with_member : {ts one two rest : Symbols} {line : ℕ} {value : ℤ} → WordAt (codes "with") line ts one → SignAt (codes ":=") one two → NumberAt value two rest → Change name ts (With name value) rest
 
-pub data Statement : Symbols → Stmt → Symbols → Type 0 where
-  change : {ts one two rest : Symbols} {name : List ℕ} {line : ℕ} {action : Action} →
-    NameAt name line ts one → Change name one action two → SignAt (codes ";") two rest →
-    Statement ts (record { line = line; action = action }) rest
-  print : {ts one two three rest : Symbols} {line : ℕ} {values : List Expr} →
-    WordAt (codes "print") line ts one → SignAt (codes "(") one two → Listed Value (SignAt (codes ")")) two values three → SignAt (codes ";") three rest →
-    Statement ts (record { line = line; action = Print values }) rest
+-- a statement without its semicolon
+pub data Body : Symbols → Stmt → Symbols → Type 0 where
+  change : {ts one rest : Symbols} {name : List ℕ} {line : ℕ} {action : Action} →
+    NameAt name line ts one → Change name one action rest → Body ts (record { line = line; action = action }) rest
+  print : {ts one two rest : Symbols} {line : ℕ} {values : List Expr} →
+    WordAt (codes "print") line ts one → SignAt (codes "(") one two → Listed Value (SignAt (codes ")")) two values rest →
+    Body ts (record { line = line; action = Print values }) rest
+
+pub record Statement (ts : Symbols) (statement : Stmt) (rest : Symbols) : Type 0 where
+  pub after : Symbols
+  pub body : Body ts statement after
+  pub semicolon : SignAt (codes ";") after rest
 
 -- "end" "program" ";"
 pub record Ending (ts rest : Symbols) : Type 0 where

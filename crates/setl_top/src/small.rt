@@ -1,4 +1,5 @@
 //! The small language: its programs are read here, until the whole grammar is.
+mod conditions;
 mod cursor;
 mod program;
 mod reader;

@@ -1,11 +1,10 @@
 //! A place among the tokens of a source.
 ghost use Rattle.std.specs.Prelude.{◌≡◌, ◌≤◌, [], ◌∷◌, ℕ, List, length, drop, IfSome, IfNone, MatchBool, IsTrue, ◌↔◌};
 ghost use Rattle.setl_token.specs.Bytes.{lower};
-ghost use Rattle.setl_token.specs.Text.{token_text};
 ghost use Rattle.setl_top.specs.Cursor.{left, NoWord, NoName, NoNumber, NoSign};
 ghost use Rattle.setl_top.specs.Symbols.{symbol_of_kind, WordAt, NameAt, NumberAt, SignAt};
 
-use setl_token::{Token, TokenKind, TokenList};
+use setl_token::{TokenKind, TokenList};
 
 /// A place among tokens, from which they are read.
 #[derive(Clone, Copy)]
@@ -22,14 +21,6 @@ pub struct Front<'a> {
     pub line: u32,
 }
 
-/// The bytes of a token.
-fn text_of<'a>(source: &'a [u8], token: &Token) -> &'a [u8]
-    ensures { result.now ≡ token_text source.now token.now }
-{
-    let rest = &source[source.len().min(token.from as usize)..];
-    &rest[..rest.len().min(token.to.saturating_sub(token.from) as usize)]
-}
-
 impl<'a> Cursor<'a> {
     /// The token here. `None` comes where none is left.
     fn front(&self) -> Option<Front<'a>>
@@ -40,7 +31,7 @@ impl<'a> Cursor<'a> {
             let token = self.list.at(self.at);
             Some(Front {
                 kind: token.kind,
-                text: text_of(self.list.source(), token),
+                text: self.list.text(self.at),
                 line: token.line,
             })
         } else {
@@ -62,11 +53,13 @@ impl<'a> Cursor<'a> {
         ensures { MatchBool result (SignAt text.now (left self.old) (left self.new)) (NoSign text.now (left self.old) × (self.new ≡ self.old)) }
     {
         match self.front() {
-            Some(Front {
-                kind: TokenKind::Sign,
-                text: found,
-                ..
-            }) if found == text => {
+            Some(
+                Front {
+                    kind: TokenKind::Sign,
+                    text: found,
+                    ..
+                },
+            ) if found == text => {
                 self.pass();
                 true
             }
