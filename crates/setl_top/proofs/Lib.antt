@@ -2,4 +2,5 @@ pub mod Fronts
 pub mod OneTree
 pub mod Reading
 pub mod Left
+pub mod Tables
 pub mod Shorter

@@ -10,4 +10,7 @@ pub mod Cursor
 pub mod Parsed
 pub mod Reads
 pub mod Conditions
-pub mod Kinds
+pub mod Tables
+pub mod Admits
+pub mod Accepted
+pub mod Values

@@ -40,10 +40,10 @@ pub data Change (name : List ℕ) : Symbols → Action → Symbols → Type 0 wh
 -- a statement without its semicolon
 pub data Body : Symbols → Stmt → Symbols → Type 0 where
   change : {ts one rest : Symbols} {name : List ℕ} {line : ℕ} {action : Action} →
-    NameAt name line ts one → Change name one action rest → Body ts (record { line = line; action = action }) rest
+      NameAt name line ts one → Change name one action rest → Body ts (record { line = line; action = action }) rest
   print : {ts one two rest : Symbols} {line : ℕ} {values : List Expr} →
-    WordAt (codes "print") line ts one → SignAt (codes "(") one two → Listed Value (SignAt (codes ")")) two values rest →
-    Body ts (record { line = line; action = Print values }) rest
+      WordAt (codes "print") line ts one → SignAt (codes "(") one two → Listed Value (SignAt (codes ")")) two values rest →
+      Body ts (record { line = line; action = Print values }) rest
 
 pub record Statement (ts : Symbols) (statement : Stmt) (rest : Symbols) : Type 0 where
   pub after : Symbols

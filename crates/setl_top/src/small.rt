@@ -3,5 +3,6 @@ mod conditions;
 mod cursor;
 mod program;
 mod reader;
+mod tables;
 
 pub use program::{Action, Expression, Statement};

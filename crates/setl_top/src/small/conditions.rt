@@ -2,10 +2,12 @@
 ghost use Rattle.std.specs.Prelude.{◌≡◌, map, IfOk, Some, None, is_some};
 ghost use Rattle.std.specs.List.{list_all};
 ghost use Rattle.setl_top.specs.Conditions.{kind_of, after_action, is_set, with_kind, no_kinds, meets};
-ghost use Rattle.setl_top.specs.Kinds.{kinds_of, Admits};
+ghost use Rattle.setl_top.specs.Tables.{value_at};
+ghost use Rattle.setl_top.specs.Admits.{Admits};
 ghost use Rattle.setl_top.specs.Parsed.{expr_of, action_of, stmt_of};
 
 use super::program::{Action, Expression, Statement};
+use super::tables::bind;
 use indexmap::IndexMap;
 use std::alloc::{AllocError, Global};
 
@@ -18,7 +20,7 @@ pub enum Kind {
 
 /// The kind of an expression's value. `None` comes where it reads a name that wasn't assigned.
 fn kind_of(kinds: &IndexMap<Vec<u8>, Kind>, value: &Expression) -> Option<Kind>
-    ensures { result ≡ kind_of (kinds_of kinds.now) (expr_of value.now) }
+    ensures { result ≡ kind_of (value_at kinds.now) (expr_of value.now) }
 {
     match value {
         Expression::Name(name) => kinds.get(name.as_slice()).copied(),
@@ -29,7 +31,7 @@ fn kind_of(kinds: &IndexMap<Vec<u8>, Kind>, value: &Expression) -> Option<Kind>
 
 /// Whether each value reads only names that were assigned.
 fn are_known(kinds: &IndexMap<Vec<u8>, Kind>, values: &[Expression]) -> bool
-    ensures { result ≡ list_all (λ e. is_some (kind_of (kinds_of kinds.now) e)) (map expr_of values.now) }
+    ensures { result ≡ list_all (λ e. is_some (kind_of (value_at kinds.now) e)) (map expr_of values.now) }
 {
     for value in values {
         if kind_of(kinds, value).is_none() {
@@ -39,19 +41,33 @@ fn are_known(kinds: &IndexMap<Vec<u8>, Kind>, values: &[Expression]) -> bool
     true
 }
 
+/// Whether the value of a name is a set.
+fn has_set(kinds: &IndexMap<Vec<u8>, Kind>, name: &[u8]) -> bool
+    ensures { result ≡ is_set (value_at kinds.now name.now) }
+{
+    match kinds.get(name).copied() {
+        Some(Kind::Set) => true,
+        Some(Kind::Integer) | None => false,
+    }
+}
+
 /// Notes what a statement does to the kinds. It gives whether the statement meets the conditions.
-fn admits(kinds: &mut IndexMap<Vec<u8>, Kind>, action: &Action) -> Result<bool, AllocError>
-    ensures { IfOk result (Admits (kinds_of kinds.old) (action_of action.now) (kinds_of kinds.new)) }
+fn admits(
+    alloc: Global,
+    kinds: &mut IndexMap<Vec<u8>, Kind>,
+    action: &Action,
+) -> Result<bool, AllocError>
+    ensures { IfOk result (Admits (value_at kinds.old) (action_of action.now) (value_at kinds.new)) }
 {
     match action {
         Action::Assign(name, value) => match kind_of(kinds, value) {
             Some(kind) => {
-                kinds.insert(name.clone()?, kind)?;
+                bind(alloc, kinds, name, kind)?;
                 Ok(true)
             }
             None => Ok(false),
         },
-        Action::With(name, _) => Ok(matches!(kinds.get(name.as_slice()), Some(Kind::Set))),
+        Action::With(name, _) => Ok(has_set(kinds, name)),
         Action::Print(values) => Ok(are_known(kinds, values)),
     }
 }
@@ -62,7 +78,7 @@ pub fn meets_conditions(alloc: Global, statements: &[Statement]) -> Result<bool,
 {
     let mut kinds = IndexMap::new(alloc);
     for statement in statements {
-        if !admits(&mut kinds, &statement.action)? {
+        if !admits(alloc, &mut kinds, &statement.action)? {
             return Ok(false);
         }
     }

@@ -10,4 +10,4 @@ returns-in-Some-clause-read c = change c.in-Some.ensures.found c.in_ok-action.en
 pub returns-clause-read : goal.returns-clause-read
 returns-clause-read c =
     print (subst (λ x. WordAt (codes "print") c.in-Some-word.line (left x) (left c.word.new.self)) c.in_default.ensures.other.1 c.in-Some-word.ensures.found)
-        c.if-not-sign.ensures c.in_ok-arguments.ensures.read
+    c.if-not-sign.ensures c.in_ok-arguments.ensures.read

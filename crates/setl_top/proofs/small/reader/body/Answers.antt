@@ -19,8 +19,8 @@ returns-in_err-statement-clause-other c =
     let p = err_from_is_err_and c.from_residual.result c.from_residual.ensures.1 in
     let other = c.in-None.ensures.other in
     rw (p.1, p.2) (λ e. along_stuck Statement Ending one_statement statement_apart _ _ _ _ c.items.invariant
-        (subst (λ x. No Statement (left x)) other.1 (c.in_err-statement.ensures.other (err_as _ _ e)))
-        (no_ending_at _ other.0))
+    (subst (λ x. No Statement (left x)) other.1 (c.in_err-statement.ensures.other (err_as _ _ e)))
+    (no_ending_at _ other.0))
 
 pub items-smaller : goal.items-smaller
 items-smaller c =
@@ -39,5 +39,5 @@ returns-then-ending-clause-read c = along_whole Statement Ending _ _ _ _ c.items
 pub returns-else-ending-clause-other : goal.returns-else-ending-clause-other
 returns-else-ending-clause-other c =
     λ _. along_stuck Statement Ending one_statement statement_apart _ _ _ _ c.items.invariant
-        (no_statement_at _ _ _ c.in_default.ensures.found)
-        (no_ending _ _ _ c.in_default.ensures.found c.if-ending.ensures)
+    (no_statement_at _ _ _ c.in_default.ensures.found)
+    (no_ending _ _ _ c.in_default.ensures.found c.if-ending.ensures)

@@ -19,8 +19,8 @@ returns-in_err-value-clause-other c =
     let p = err_from_is_err_and c.from_residual.result c.from_residual.ensures.1 in
     let comma = c.items-test.ensures in
     rw (p.1, p.2) (λ e. along_stuck (AfterComma Value) (SignAt (codes ")")) one_next_value (comma_apart Value (codes ")") refl) _ _ _ _ c.items.invariant
-        (no_after_comma Value _ _ comma (c.in_err-value.ensures.other (err_as _ _ e)))
-        (other_sign (codes ",") (codes ")") _ _ comma refl refl))
+    (no_after_comma Value _ _ comma (c.in_err-value.ensures.other (err_as _ _ e)))
+    (other_sign (codes ",") (codes ")") _ _ comma refl refl))
 
 pub items-smaller : goal.items-smaller
 items-smaller c =
@@ -31,7 +31,7 @@ items-smaller c =
 pub items-preserved : goal.items-preserved
 items-preserved c =
     along_more (AfterComma Value) _ _ _ _ _ _ _ c.items.invariant (ap (map expr_of) c.in_ok-push.ensures.items ∙ map-append expr_of _ _)
-        (after_comma Value _ _ _ _ c.items-test.ensures c.in_ok-value.ensures.read)
+    (after_comma Value _ _ _ _ c.items-test.ensures c.in_ok-value.ensures.read)
 
 pub returns-then-sign-clause-read : goal.returns-then-sign-clause-read
 returns-then-sign-clause-read c =
@@ -42,4 +42,4 @@ pub returns-else-sign-clause-other : goal.returns-else-sign-clause-other
 returns-else-sign-clause-other c =
     let none = subst (λ x. NoSign (codes ")") (left x)) c.items-test.ensures.1 c.if-sign.ensures.0 in
     λ _. along_stuck (AfterComma Value) (SignAt (codes ")")) one_next_value (comma_apart Value (codes ")") refl) _ _ _ _ c.items.invariant
-        (no_comma Value _ c.items-test.ensures.0) none
+    (no_comma Value _ c.items-test.ensures.0) none
