@@ -1,10 +1,13 @@
 -- The worked programs, by computation.
-use Rattle.std.proofs.Common.{true, [], refl}
+use Rattle.std.proofs.Common.{◌≡◌, true, [], refl}
 use Rattle.std.specs.Prelude.{codes}
 use Rattle.std.specs.Fmt.{digits}
-use Rattle.setl_model.specs.Events.{Done}
+use Rattle.setl_model.specs.Events.{Done, Stopped, Wide, Unfit, Nothing}
+use Rattle.setl_model.specs.Variable.{Global}
+use Rattle.setl_model.specs.Texts.{print_line}
+use Rattle.setl_model.specs.Answers.{error_line}
 use Rattle.setl_model.specs.Means.{Means}
-use Rattle.setl_model.specs.Samples.{empty_program, growing_set, copied_set, several_lines}
+use Rattle.setl_model.specs.Samples.{mixed_values, nested_values, empty_program, growing_set, copied_set, several_lines}
 
 pub empty : Means empty_program [] 0 true [] Done
 empty = record { steps = 1; last = _; ends = refl; written = refl }
@@ -20,3 +23,25 @@ copied = record { steps = 40; last = _; ends = refl; written = refl }
 pub several : Means several_lines [] 0 true (codes "\n{} 10 *\n") Done
 unfolding digits
 several = record { steps = 40; last = _; ends = refl; written = refl }
+
+-- The worked texts.
+
+pub mixed_text : print_line mixed_values ≡ codes "{1 2 3} [1 * 2] it's\n"
+unfolding digits
+mixed_text = refl
+
+pub nested_text : print_line nested_values ≡ codes "{true -7 'it''s' #7} [] * false\n"
+unfolding digits
+nested_text = refl
+
+pub wide_text : error_line (Stopped Wide 3) ≡ codes "line 3: wide\n"
+unfolding digits
+wide_text = refl
+
+pub unfit_text : error_line (Stopped (Unfit (Global (codes "s"))) 14) ≡ codes "line 14: value does not fit s\n"
+unfolding digits
+unfit_text = refl
+
+pub nothing_text : error_line (Stopped Nothing 2) ≡ codes "line 2: nothing to go back to\n"
+unfolding digits
+nothing_text = refl

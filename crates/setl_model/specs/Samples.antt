@@ -1,15 +1,16 @@
 -- Worked programs, each with what it writes.
-use Rattle.std.specs.Prelude.{ℕ, List, [], ◌∷◌, codes, pos}
-use Rattle.setl_value.specs.Datum.{int}
+use Rattle.std.specs.Prelude.{true, false, negsuc, Option, Some, None, ℕ, List, [], ◌∷◌, codes, pos}
+use Rattle.setl_value.specs.Datum.{Datum, bool, int, text, atom, tuple, set, no_part, parts_of, elements_of}
+use Rattle.setl_model.specs.Sets.{set_from}
 use Rattle.setl_model.specs.Variable.{Variable, Own}
 use Rattle.setl_model.specs.Operators.{SetOf, With}
 use Rattle.setl_model.specs.Program.{Expr, Literal, Name, Apply, Exprs, no_expr, more_exprs, Stmt, Assign, Update, Print, Block, no_stmt, more_stmts, no_selector, Program}
 
 abbrev pub s : Variable
-s = Own (codes "s")
+s = Own 0 (codes "s")
 
 abbrev pub t : Variable
-t = Own (codes "t")
+t = Own 0 (codes "t")
 
 abbrev pub number : ℕ → Expr
 number n = Literal (int (pos n))
@@ -59,3 +60,20 @@ copied_set = program (assign s (enumeration (1 ∷ [])) ∷ assign t (Name s) �
 -- print(); print({}, 10, s);
 abbrev pub several_lines : Program
 several_lines = program (print [] ∷ print (enumeration [] ∷ number 10 ∷ Name s ∷ []) ∷ [])
+
+-- {3,1,2,1}, [1,om,2], 'it''s'
+abbrev pub mixed_values : List (Option Datum)
+mixed_values =
+    Some (set (elements_of (set_from (int (pos 3) ∷ int (pos 1) ∷ int (pos 2) ∷ int (pos 1) ∷ []))))
+    ∷ Some (tuple (parts_of (Some (int (pos 1)) ∷ None ∷ Some (int (pos 2)) ∷ [])))
+    ∷ Some (text (codes "it's"))
+    ∷ []
+
+-- {true, -7, 'it''s', #7}, [], om, false
+abbrev pub nested_values : List (Option Datum)
+nested_values =
+    Some (set (elements_of (bool true ∷ int (negsuc 6) ∷ text (codes "it's") ∷ atom 7 ∷ [])))
+    ∷ Some (tuple no_part)
+    ∷ None
+    ∷ Some (bool false)
+    ∷ []

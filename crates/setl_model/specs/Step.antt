@@ -10,16 +10,16 @@ use Rattle.setl_model.specs.Expressions.{evaluate, result_in_expr}
 use Rattle.setl_model.specs.Statements.{execute, result_in_stmt}
 
 -- a result in hand goes to the innermost frame
-abbrev pub result : Option Datum → List Frame → Core → Move Core
-result v (InExpr f ∷ work) c = result_in_expr f v work c
-result v (InStmt line f ∷ work) c = result_in_stmt line f v work c
-result v work c = Halts Stuck
+abbrev pub result : Program → Option Datum → List Frame → Core → Move Core
+result p v (InExpr f ∷ work) c = result_in_expr f v work c
+result p v (InStmt line f ∷ work) c = result_in_stmt line f v work c
+result p v work c = Halts Stuck
 
 -- the move by what is in hand
 abbrev pub move_by : Program → Hand → Core → Move Core
 move_by p (Execute b) c = execute b c.work c
 move_by p (Evaluate e) c = evaluate p e c.work c
-move_by p (Result v) c = result v c.work c
+move_by p (Result v) c = result p v c.work c
 
 -- the language: how a core moves in a program, and how it takes a value for a variable
 abbrev pub language : Program → Machine Core
