@@ -2,5 +2,6 @@ pub mod Fronts
 pub mod OneTree
 pub mod Reading
 pub mod Left
+pub mod Spaced
 pub mod Tables
 pub mod Shorter

@@ -14,7 +14,7 @@ use Rattle.setl_top.specs.Tree.{Expr, Variable, Integer, SetOf, Action, Assign, 
 
 -- the variable of a name as a place
 abbrev pub place_of : List ℕ → Place
-place_of name = record { variable = Own name; selectors = no_selector }
+place_of name = record { variable = Own 0 name; selectors = no_selector }
 
 abbrev pub literals : List ℤ → Exprs
 literals [] = no_expr
@@ -22,7 +22,7 @@ literals (z ∷ zs) = more_exprs (plain.Literal (int z)) (literals zs)
 
 -- a tree of the small language as a plain tree of the whole language
 abbrev pub plain_value : Expr → plain.Expr
-plain_value (Variable name) = plain.Name (Own name)
+plain_value (Variable name) = plain.Name (Own 0 name)
 plain_value (Integer value) = plain.Literal (int value)
 plain_value (SetOf members) = plain.Apply operator.SetOf (literals members)
 

@@ -14,3 +14,4 @@ pub mod Tables
 pub mod Admits
 pub mod Accepted
 pub mod Values
+pub mod TableValues

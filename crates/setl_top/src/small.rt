@@ -3,6 +3,8 @@ mod conditions;
 mod cursor;
 mod program;
 mod reader;
+mod run;
 mod tables;
+mod texts;
 
 pub use program::{Action, Expression, Statement};
