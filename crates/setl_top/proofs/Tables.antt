@@ -1,7 +1,8 @@
 -- What a table of names has once a name was put in.
 use Rattle.std.proofs.Common.{◌≡◌, ◌∙◌, ℕ, Bool, true, false, cond, List, [], ◌∷◌, Option, Some, None, refl, sym, ap, subst, true≢false, bytes_eq}
 use Rattle.std.specs.Global.{Vec}
-use Rattle.std.specs.Map.{lookup}
+use Rattle.std.specs.Map.{lookup, set_value}
+use Rattle.std.specs.Option.{option_map}
 use Rattle.std.specs.Cmp.Lexicographic.{bytes_decides}
 use Rattle.indexmap.specs.IndexMap.{IndexMap, insert_entry}
 use Rattle.setl_top.specs.Tables.{value_at}
@@ -42,3 +43,27 @@ at_name-insert {T} (e ∷ es) k v name = by (same_key k e.0) refl (at_name-inser
 -- the values after an insert, whatever the keys' order
 pub value_at-insert : {T S : Type 0} (m n : IndexMap (Vec ℕ) T S) (k : Vec ℕ) (v : T) → n.entries ≡ insert_entry same_key m.entries k v → (name : List ℕ) → value_at n name ≡ cond (bytes_eq name k.items) (Some v) (value_at m name)
 value_at-insert m n k v h name = ap (at_name name) h ∙ at_name-insert m.entries k v name
+
+-- the entries with another value at a name that has one
+pub at_name-set_value : {T : Type 0} (es : List (Vec ℕ × T)) (name : List ℕ) (v w : T) → at_name name es ≡ Some v → (other : List ℕ) → at_name other (set_value (λ key. bytes_eq name key.items) es w) ≡ cond (bytes_eq other name) (Some w) (at_name other es)
+at_name-set_value [] name v w h other = absurd (cc)
+at_name-set_value {T} (e ∷ es) name v w h other = by (bytes_eq name e.0.items) refl h (λ k. at_name-set_value es name v w k other)
+  where
+    by : (b : Bool) → bytes_eq name e.0.items ≡ b → cond b (Some e.1) (at_name name es) ≡ Some v → (at_name name es ≡ Some v → at_name other (set_value (λ key. bytes_eq name key.items) es w) ≡ cond (bytes_eq other name) (Some w) (at_name other es)) → at_name other (cond b ((e.0, w) ∷ es) (e ∷ set_value (λ key. bytes_eq name key.items) es w)) ≡ cond (bytes_eq other name) (Some w) (at_name other (e ∷ es))
+    by true same found later =
+        let key : e.0.items ≡ name = sym ((bytes_decides name e.0.items).0 same) in
+        ap (λ xs. cond (bytes_eq other xs) (Some w) (at_name other es)) key
+        ∙ twice (bytes_eq other name) (Some w) (Some e.1) (at_name other es)
+        ∙ ap (λ xs. cond (bytes_eq other name) (Some w) (cond (bytes_eq other xs) (Some e.1) (at_name other es))) (sym key)
+    by false apart found later =
+        ap (cond (bytes_eq other e.0.items) (Some e.1)) (later found)
+        ∙ swapped (bytes_eq other e.0.items) (bytes_eq other name) (Some e.1) (Some w) (at_name other es)
+            (λ p q. true≢false (sym ((bytes_decides name e.0.items).1 (sym ((bytes_decides other name).0 q) ∙ (bytes_decides other e.0.items).0 p)) ∙ apart))
+
+pub value_at-set_value : {T S : Type 0} (m n : IndexMap (Vec ℕ) T S) (name : List ℕ) (v w : T) → value_at m name ≡ Some v → n.entries ≡ set_value (λ key. bytes_eq name key.items) m.entries w → (other : List ℕ) → value_at n other ≡ cond (bytes_eq other name) (Some w) (value_at m other)
+value_at-set_value m n name v w h e other = ap (at_name other) e ∙ at_name-set_value m.entries name v w h other
+
+-- what a map makes of a choice
+pub map_cond : {A B : Type 0} (f : A → B) (b : Bool) (x y : Option A) → option_map f (cond b x y) ≡ cond b (option_map f x) (option_map f y)
+map_cond f true x y = refl
+map_cond f false x y = refl

@@ -78,9 +78,10 @@ fn add_to_value(alloc: Global, value: &mut Value, member: i128) -> Result<(), Al
     ensures { OnOk result (with_member (Some (datum value.old)) member ≡ Some (datum value.new)) }
 {
     match value {
-        Value::Set(set) => add_integer(alloc, set, member),
+        Value::Set(set) => add_integer(alloc, set, member)?,
         _ => unreachable!(),
     }
+    Ok(())
 }
 
 /// Makes an integer a member of the set that a name has. A set that another name has too is copied first.
@@ -94,7 +95,8 @@ fn add_member(
     ensures { OnOk result (values_in table.new ≡ values_after (values_in table.old) (With name.now member)) }
 {
     match table.get_mut(name) {
-        Some(value) => add_to_value(alloc, value, member),
+        Some(value) => add_to_value(alloc, value, member)?,
         None => unreachable!(),
     }
+    Ok(())
 }
