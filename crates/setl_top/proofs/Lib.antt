@@ -2,6 +2,7 @@ pub mod Fronts
 pub mod OneTree
 pub mod Reading
 pub mod Left
+pub mod Leading
 pub mod Members
 pub mod Spaced
 pub mod Tables

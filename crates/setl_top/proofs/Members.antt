@@ -1,5 +1,5 @@
 -- Sets of integers, their members and their texts.
-use Rattle.std.proofs.Common.{◌≡◌, ◌∙◌, ℕ, zero, suc, ℤ, List, [], ◌∷◌, ◌++◌, map, slice_get, Option, Some, refl, sym, ap, subst, append_assoc}
+use Rattle.std.proofs.Common.{◌≡◌, ◌∙◌, ℕ, zero, suc, ℤ, List, [], ◌∷◌, ◌++◌, map, slice_get, get_or, length, ◌<◌, Option, Some, refl, sym, ap, subst, append_assoc, arith}
 use Rattle.std.specs.List.{AllByRecursion}
 use Rattle.std.specs.declared.cmp.Ordering.{Ordering}
 use Rattle.std.specs.declared.cmp.Ordering.TheVariants.{Less, Equal, Greater}
@@ -55,3 +55,19 @@ set_text ds old open_ inside close_ p q r =
 -- a member more
 pub with_member-set_of : (ds : List Datum) (z : ℤ) → with_member (Some (set_of ds)) z ≡ Some (set_of (model.insert_datum (int z) ds))
 with_member-set_of ds z = ap (λ xs. Some (set_of (model.insert_datum (int z) xs))) (element_list-elements_of ds)
+
+pub all_map_at : {A B : Type 0} (P : B → Type 0) (f : A → B) (xs : List A) (i : ℕ) (x : A) → AllByRecursion P (map f xs) → slice_get xs i ≡ Some x → P (f x)
+all_map_at P f [] zero x h e = absurd (cc)
+all_map_at P f [] (suc i) x h e = absurd (cc)
+all_map_at P f (y ∷ xs) zero x h e = let same : y ≡ x = cc in subst (λ z. P (f z)) same h.0
+all_map_at P f (y ∷ xs) (suc i) x h e = all_map_at P f xs i x h.1 e
+
+-- an element that was read by its index
+pub slice_get-read : {A : Type 0} (xs : List A) (i : ℕ) (x : A) → i < length xs → x ≡ get_or xs i x → slice_get xs i ≡ Some x
+slice_get-read [] i x h e = absurd (omega arith)
+slice_get-read (y ∷ xs) zero x h e = ap Some (sym e)
+slice_get-read (y ∷ xs) (suc i) x h e = slice_get-read xs i x (omega arith) e
+
+pub map-thrice : {A B C D : Type 0} (f : A → B) (g : B → C) (h : C → D) (xs : List A) → map h (map g (map f xs)) ≡ map (λ x. h (g (f x))) xs
+map-thrice f g h [] = refl
+map-thrice f g h (x ∷ xs) = ap (λ ys. h (g (f x)) ∷ ys) (map-thrice f g h xs)

@@ -58,7 +58,7 @@ at_name-set_value {T} (e ∷ es) name v w h other = by (bytes_eq name e.0.items)
     by false apart found later =
         ap (cond (bytes_eq other e.0.items) (Some e.1)) (later found)
         ∙ swapped (bytes_eq other e.0.items) (bytes_eq other name) (Some e.1) (Some w) (at_name other es)
-            (λ p q. true≢false (sym ((bytes_decides name e.0.items).1 (sym ((bytes_decides other name).0 q) ∙ (bytes_decides other e.0.items).0 p)) ∙ apart))
+        (λ p q. true≢false (sym ((bytes_decides name e.0.items).1 (sym ((bytes_decides other name).0 q) ∙ (bytes_decides other e.0.items).0 p)) ∙ apart))
 
 pub value_at-set_value : {T S : Type 0} (m n : IndexMap (Vec ℕ) T S) (name : List ℕ) (v w : T) → value_at m name ≡ Some v → n.entries ≡ set_value (λ key. bytes_eq name key.items) m.entries w → (other : List ℕ) → value_at n other ≡ cond (bytes_eq other name) (Some w) (value_at m other)
 value_at-set_value m n name v w h e other = ap (at_name other) e ∙ at_name-set_value m.entries name v w h other

@@ -15,3 +15,4 @@ pub mod Admits
 pub mod Accepted
 pub mod Values
 pub mod TableValues
+pub mod Breaks
