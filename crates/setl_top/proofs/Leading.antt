@@ -1,8 +1,9 @@
 -- Steps of the meaning that lead from one state to another, whatever the events told on the way.
 use Rattle.std.proofs.Common.{◌≡◌, ◌∙◌, ℕ, zero, suc, ◌-◌, Bool, true, false, List, [], ◌∷◌, ◌++◌, Option, refl, sym, ap, subst, arith}
 use Rattle.std.proofs.lemmas.List.{append-nil}
+use Rattle.setl_value.specs.Datum.{Datum}
 use Rattle.setl_model.specs.Core.{Core}
-use Rattle.setl_model.specs.Events.{Event, Printed, Stored, End}
+use Rattle.setl_model.specs.Events.{Event, Printed, Stored, Stopped, Unfit}
 use Rattle.setl_model.specs.Moves.{charge}
 use Rattle.setl_model.specs.Program.{Program}
 use Rattle.setl_model.specs.Run.{Move, Moves, Halts, State, Goes, Ends, Next, and_then, step, settle, run, store_all, if_fits}
@@ -46,11 +47,11 @@ module _ (p : Program) (based : Bool) where
       (ap (settle (language p) (test_of p based) (state core out events)) h)
 
   -- a step that stores a value
-  pub comes_storing : (core to : Core) (out : List ℕ) (events : List Event) (line : ℕ) (x : Variable) (v : Option _) → test_of p based x v ≡ true → (language p).move core ≡ Moves [] [] to line ((x, v) ∷ []) → Comes p based (state core out events) ((language p).write x v to) out
+  pub comes_storing : (core to : Core) (out : List ℕ) (events : List Event) (line : ℕ) (x : Variable) (v : Option Datum) → test_of p based x v ≡ true → (language p).move core ≡ Moves [] [] to line ((x, v) ∷ []) → Comes p based (state core out events) ((language p).write x v to) out
   comes_storing core to out events line x v fits h =
       by_step (state core out events) (state ((language p).write x v to) out ((events ++ []) ++ Stored line x v ∷ []))
       (ap (settle (language p) (test_of p based) (state core out events)) h
-      ∙ ap (λ b. if_fits b (Goes (state ((language p).write x v to) (out ++ []) ((events ++ []) ++ Stored line x v ∷ []))) _ _) fits
+      ∙ ap (λ b. if_fits b (Goes (state ((language p).write x v to) (out ++ []) ((events ++ []) ++ Stored line x v ∷ []))) (Stopped (Unfit x) line) (state to (out ++ []) (events ++ []))) fits
       ∙ (λ i. Goes (state ((language p).write x v to) (append-nil out i) ((events ++ []) ++ Stored line x v ∷ []))))
 
 -- nothing is charged

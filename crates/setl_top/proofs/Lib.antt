@@ -3,6 +3,9 @@ pub mod OneTree
 pub mod Reading
 pub mod Left
 pub mod Leading
+pub mod Integers
+pub mod Evaluating
+pub mod Performing
 pub mod Members
 pub mod Spaced
 pub mod Tables
