@@ -3,10 +3,16 @@ use Rattle.std.proofs.Common.{◌≡◌, ◌∙◌, ◌<◌, ◌≤◌, ◌+◌,
 use Rattle.std.proofs.lemmas.List.{take-append-drop, append-nil}
 use Rattle.std.specs.Io.KnownBytes.{Appends, Keeps}
 use Rattle.setl_io.specs.Sink.{AppendsPart}
-use Rattle.setl_io.proofs.Written.{appends_then}
 use Rattle.setl_io.specs.declared.whole.WriteFault.{WriteFault}
 use Rattle.setl_top.specs.Fronts.{IsFront}
 use Rattle.setl_top.specs.Lines.{AppendsFront, AppendsFronts}
+
+-- one gain after the other
+pub appends_then : (a b c : Option (List ℕ)) (xs ys : List ℕ) → Appends a b xs → Appends b c ys → Appends a c (xs ++ ys)
+appends_then None b c xs ys h k = tt
+appends_then (Some a) None c xs ys h k = absurd h
+appends_then (Some a) (Some b) None xs ys h k = absurd k
+appends_then (Some a) (Some b) (Some c) xs ys h k = k ∙ ap (λ x. x ++ ys) h ∙ append_assoc a xs ys
 
 -- nothing came
 pub appends_none : (a : Option (List ℕ)) → Appends a a []

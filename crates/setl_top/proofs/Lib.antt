@@ -6,6 +6,8 @@ pub mod Leading
 pub mod Integers
 pub mod Evaluating
 pub mod Performing
+pub mod Fitting
+pub mod Running
 pub mod Members
 pub mod Spaced
 pub mod Tables

@@ -16,3 +16,5 @@ pub mod Accepted
 pub mod Values
 pub mod TableValues
 pub mod Breaks
+pub mod Moments
+pub mod Runs

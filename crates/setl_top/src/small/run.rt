@@ -1,5 +1,5 @@
 //! Runs of programs of the small language.
-ghost use Rattle.std.specs.Prelude.{◌≡◌, ◌≤◌, ◌++◌, Some, map, IfOk, IfErr, OnOk, OnErr, IsErrOf, IsSome};
+ghost use Rattle.std.specs.Prelude.{◌≡◌, ◌≤◌, ◌++◌, true, Some, map, IfOk, IfErr, OnOk, OnErr, IsErrOf, IsSome};
 ghost use Rattle.std.specs.Io.KnownBytes.{Appends};
 ghost use Rattle.std.specs.List.{AllByRecursion};
 ghost use Rattle.setl_io.specs.Faults.{Rose};
@@ -9,13 +9,16 @@ ghost use Rattle.setl_value.specs.Datum.{int};
 ghost use Rattle.setl_value.specs.DatumOf.{datum};
 ghost use Rattle.setl_model.specs.Sets.{set_from, insert_datum};
 ghost use Rattle.setl_model.specs.Texts.{print_line, argument_text};
+ghost use Rattle.setl_top.specs.Accepted.{program_of};
 ghost use Rattle.setl_top.specs.Breaks.{Breaks};
-ghost use Rattle.setl_top.specs.Parsed.{expr_of, action_of};
+ghost use Rattle.setl_top.specs.Conditions.{meets, no_kinds};
+ghost use Rattle.setl_top.specs.Parsed.{expr_of, action_of, stmt_of};
+ghost use Rattle.setl_top.specs.Runs.{Runs, CountsRun};
 ghost use Rattle.setl_top.specs.TableValues.{values_in};
 ghost use Rattle.setl_top.specs.Tree.{Assign, With, Print};
 ghost use Rattle.setl_top.specs.Values.{value_of, values_after, said_by, with_member, IsPlain, IsIntegers, CanPerform};
 
-use super::program::{Action, Expression};
+use super::program::{Action, Expression, Statement};
 use super::tables::bind;
 use super::texts::push_value;
 use indexmap::IndexMap;
@@ -205,4 +208,33 @@ fn perform<O: Sink>(
         Action::Print(values) => print(alloc, table, values, out)?,
     }
     Ok(())
+}
+
+/// How a run ended.
+#[derive(Clone, Copy, Debug, PartialEq, Eq)]
+pub enum Ran {
+    /// All statements were done.
+    Done,
+    /// The output failed in a `print`, and counted it.
+    Failed,
+    /// Memory was refused.
+    NoMemory,
+}
+
+/// Runs the statements of a program, which meet the conditions. Each `print` writes its line at once.
+pub fn run<O: Sink>(alloc: Global, statements: &[Statement], out: &mut O) -> Ran
+    requires { meets no_kinds (map stmt_of statements.now) ≡ true }
+    ensures bytes { Runs (program_of (map stmt_of statements.now)) (O.held out.old) (O.held out.new) result }
+    ensures count { CountsRun (O.faults out.old) (O.faults out.new) result }
+    ensures later { O.faults out.old ≤ O.faults out.new }
+{
+    let mut table = IndexMap::new(alloc);
+    'statements: for statement in statements {
+        match perform(alloc, &mut table, &statement.action, out) {
+            Ok(()) => {}
+            Err(Broken::Failed) => return Ran::Failed,
+            Err(Broken::NoMemory) => return Ran::NoMemory,
+        }
+    }
+    Ran::Done
 }
