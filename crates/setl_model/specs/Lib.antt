@@ -13,6 +13,7 @@ pub mod Moves
 pub mod Expressions
 pub mod Statements
 pub mod Step
+pub mod StraightRuns
 pub mod Means
 pub mod Answers
 pub mod Laws

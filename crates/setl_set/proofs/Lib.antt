@@ -3,4 +3,10 @@ pub mod Results
 pub mod SetLaws
 pub mod Merging
 pub mod Places
-pub mod Subset
+pub mod Included
+pub mod Lists
+pub mod Choices
+pub mod Search
+pub mod Chosen
+pub mod Depths
+pub mod SubsetLaws

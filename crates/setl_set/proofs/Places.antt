@@ -1,21 +1,20 @@
 -- Where a datum stands in a rising list, and what a change there leaves.
-use Rattle.std.specs.Prelude.{◌≡◌, Result, Ok, Err, IfOk, IfErr, is_ok, ℕ, zero, suc, ◌+◌, ◌<◌, ◌≤◌, Bool, true, false, not, ◌||◌, List, [], ◌∷◌, Some, refl, take, drop, length, slice_get, max}
-use Rattle.std.specs.List.{AllByRecursion, insert, remove, filter}
+use Rattle.std.specs.Prelude.{◌≡◌, Result, Ok, Err, IfOk, IfErr, is_ok, ℕ, zero, suc, ◌+◌, ◌<◌, ◌≤◌, Bool, true, false, not, ◌||◌, List, [], ◌∷◌, Some, refl, take, drop, length, slice_get}
+use Rattle.std.specs.List.{AllByRecursion, insert, remove}
 use Rattle.std.specs.List.Sorted.{IsStrictlySortedBy}
-use Rattle.std.specs.declared.cmp.Ordering.{Ordering}
-use Rattle.std.specs.declared.cmp.Ordering.TheVariants.{Less, Equal, Greater}
+use Rattle.std.specs.declared.cmp.Ordering.TheVariants.{Less, Greater}
 use Rattle.std.specs.Ordering.{is_eq}
 use Rattle.std.specs.Option.{unwrap_or}
 use Rattle.std.proofs.Common.{ap, sym, ◌∙◌, subst, arith}
 use Rattle.std.proofs.lemmas.Bool.{or_left, or_right, or_from, or_parts, not_from_false, cond-true, cond-false, not_from_true}
 use Rattle.std.proofs.lemmas.Option.{none-some}
-use Rattle.setl_value.specs.Datum.{Datum, set, depth, elements_depth, elements_of, element_list-elements_of}
+use Rattle.setl_value.specs.Datum.{Datum, depth, elements_depth, elements_of, element_list-elements_of}
 use Rattle.setl_value.specs.Order.{datum_cmp, IsRising}
-use Rattle.setl_value.specs.OrderLaws.{datum_cmp_total, same_datum, same_if_eq}
+use Rattle.setl_value.specs.OrderLaws.{datum_cmp_total, same_if_eq}
 use Rattle.setl_value.specs.WellFormed.{IsSetList}
 use Rattle.setl_set.specs.Sets.{has_datum, insert_datum, insert_by, remove_datum}
 use Rattle.setl_set.specs.Place.{IsPlace}
-use Rattle.setl_set.proofs.Members.{itself, IsBelow, turned, turned_back, below_trans, below_cons, none_above, rising_unique, has_decides, eq_decides}
+use Rattle.setl_set.proofs.Members.{IsBelow, turned, turned_back, below_cons, none_above, rising_unique, eq_decides}
 use Rattle.setl_set.proofs.Results.{has_insert, rising_insert, all_insert}
 
 pub some_same : {X : Type 0} (x y : X) → Some x ≡ Some y → x ≡ y
@@ -102,7 +101,7 @@ known false c f = refl
 pub insert_there : (d : Datum) (ds : List Datum) → IsRising ds → has_datum d ds ≡ true → insert_datum d ds ≡ ds
 insert_there d ds r h =
     rising_unique (insert_datum d ds) ds (rising_insert d ds r) r
-        (λ x. has_insert x d ds ∙ known (is_eq (datum_cmp x d)) (has_datum x ds) (λ e. subst (λ z. has_datum z ds ≡ true) (sym (same_if_eq x d e)) h))
+    (λ x. has_insert x d ds ∙ known (is_eq (datum_cmp x d)) (has_datum x ds) (λ e. subst (λ z. has_datum z ds ≡ true) (sym (same_if_eq x d e)) h))
 
 -- ---- `remove_datum`
 
@@ -121,11 +120,11 @@ removed [] i d r h = absurd (none-some d h)
 removed (e ∷ es) zero d r h =
     let p : d ≡ e = sym (some_same e d h) in
     sym (cond-false (not (is_eq (datum_cmp d e))) (e ∷ remove_datum d es) (remove_datum d es) (not_from_true (is_eq (datum_cmp d e)) ((eq_decides d e).1 p))
-        ∙ removed_none d es (none_above d es (subst (λ z. IsBelow z es) (sym p) r.0)))
+    ∙ removed_none d es (none_above d es (subst (λ z. IsBelow z es) (sym p) r.0)))
 removed (e ∷ es) (suc i) d r h =
     ap (λ l. e ∷ l) (removed es i d r.1 h)
     ∙ sym (cond-true (not (is_eq (datum_cmp d e))) (e ∷ remove_datum d es) (remove_datum d es)
-        (not_from_false (is_eq (datum_cmp d e)) (ap is_eq (turned_back e d (all_at (λ y. datum_cmp e y ≡ Less) es i d r.0 h)))))
+    (not_from_false (is_eq (datum_cmp d e)) (ap is_eq (turned_back e d (all_at (λ y. datum_cmp e y ≡ Less) es i d r.0 h)))))
 
 -- ---- depth
 

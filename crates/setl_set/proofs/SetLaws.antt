@@ -1,15 +1,15 @@
 -- The membership laws of the operations.
-use Rattle.std.specs.Prelude.{◌≡◌, ◌↔◌, ◌⊎◌, Bool, true, false, not, ◌&&◌, ◌||◌, List, [], ◌∷◌, ◌++◌, refl}
+use Rattle.std.specs.Prelude.{◌≡◌, ◌⊎◌, Bool, true, not, ◌&&◌, ◌||◌, List, [], ◌∷◌, ◌++◌, refl}
 use Rattle.std.specs.Bool.{Decides}
-use Rattle.std.specs.List.{Contains, list_all}
+use Rattle.std.specs.List.{Contains}
 use Rattle.std.specs.Ordering.{is_eq}
-use Rattle.std.proofs.Common.{ap, sym, ◌∙◌, subst, inl, inr}
-use Rattle.std.proofs.lemmas.Bool.Decides.{Decides-and, Decides-or, Decides-not, Decides-at, Decides-like, same_from_decides}
+use Rattle.std.proofs.Common.{sym, ◌∙◌, subst, inl, inr}
+use Rattle.std.proofs.lemmas.Bool.Decides.{Decides-and, Decides-or, Decides-not, Decides-like, same_from_decides}
 use Rattle.std.proofs.lemmas.Bool.{false≢true, and_parts, and_from, or_cases, or_left, or_right}
 use Rattle.setl_value.specs.Datum.{Datum}
 use Rattle.setl_value.specs.Order.{datum_cmp, IsRising}
 use Rattle.setl_set.specs.Sets.{has_datum, is_subset, insert_datum, remove_datum, set_from, union_of, minus_of, meet_of, symm_of}
-use Rattle.setl_set.specs.Laws.{IsSetOf, IsSubset, RisingListsAgree, TestsMembership, TestsSubset, Inserts, Removes, Gathers, Unites, Subtracts, Intersects, Differs}
+use Rattle.setl_set.specs.Laws.{IsSetOf, RisingListsAgree, TestsMembership, TestsSubset, Inserts, Removes, Gathers, Unites, Subtracts, Intersects, Differs}
 use Rattle.setl_set.proofs.Members.{has_decides, eq_decides, itself, rising_unique}
 use Rattle.setl_set.proofs.Results.{has_insert, rising_insert, has_set_from, rising_set_from, has_union, has_remove, has_minus, has_meet, has_symm, rising_filter}
 
@@ -35,15 +35,15 @@ each_has [] ys h d p = absurd (false≢true p)
 each_has (x ∷ xs) ys h d p =
     let parts = and_parts (has_datum x ys) (is_subset xs ys) h in
     elim (or_cases (is_eq (datum_cmp d x)) (has_datum d xs) p) [
-      inl e ↦ subst (λ z. has_datum z ys ≡ true) (sym ((eq_decides d x).0 e)) parts.0
-    | inr q ↦ each_has xs ys parts.1 d q
+      | inl e ↦ subst (λ z. has_datum z ys ≡ true) (sym ((eq_decides d x).0 e)) parts.0
+      | inr q ↦ each_has xs ys parts.1 d q
     ]
 
 has_each : (xs ys : List Datum) → ((d : Datum) → has_datum d xs ≡ true → has_datum d ys ≡ true) → is_subset xs ys ≡ true
 has_each [] ys h = refl
 has_each (x ∷ xs) ys h =
     and_from (has_datum x ys) (is_subset xs ys) (h x (or_left (is_eq (datum_cmp x x)) (has_datum x xs) (itself x)))
-        (has_each xs ys (λ d p. h d (or_right (is_eq (datum_cmp d x)) (has_datum d xs) p)))
+    (has_each xs ys (λ d p. h d (or_right (is_eq (datum_cmp d x)) (has_datum d xs) p)))
 
 pub tests_subset : TestsSubset
 tests_subset xs ys = (
@@ -60,9 +60,9 @@ both_swapped x y p q = Decides-like (y && x) (λ b. (b.1, b.0)) (λ b. (b.1, b.0
 pub removes : Removes
 removes d ds r =
     set_from_test (λ e. Contains ds e × (e ≡ d → ⊥)) (remove_datum d ds) (λ e. not (is_eq (datum_cmp d e)) && has_datum e ds)
-        (rising_filter (λ e. not (is_eq (datum_cmp d e))) ds r)
-        (λ e. has_remove e d ds)
-        (λ e. both_swapped (has_datum e ds) (not (is_eq (datum_cmp d e))) (has_decides e ds) (Decides-not (is_eq (datum_cmp d e)) (Decides-like (is_eq (datum_cmp d e)) sym sym (eq_decides d e))))
+    (rising_filter (λ e. not (is_eq (datum_cmp d e))) ds r)
+    (λ e. has_remove e d ds)
+    (λ e. both_swapped (has_datum e ds) (not (is_eq (datum_cmp d e))) (has_decides e ds) (Decides-not (is_eq (datum_cmp d e)) (Decides-like (is_eq (datum_cmp d e)) sym sym (eq_decides d e))))
 
 pub gathers : Gathers
 gathers ds = set_from_test (λ d. Contains ds d) (set_from ds) (λ d. has_datum d ds) (rising_set_from ds) (λ d. has_set_from d ds) (λ d. has_decides d ds)
@@ -70,7 +70,7 @@ gathers ds = set_from_test (λ d. Contains ds d) (set_from ds) (λ d. has_datum 
 pub unites : Unites
 unites xs ys =
     set_from_test (λ d. Contains xs d ⊎ Contains ys d) (union_of xs ys) (λ d. has_datum d xs || has_datum d ys) (rising_set_from (xs ++ ys)) (λ d. has_union d xs ys)
-        (λ d. Decides-or (has_datum d xs) (has_datum d ys) (has_decides d xs) (has_decides d ys))
+    (λ d. Decides-or (has_datum d xs) (has_datum d ys) (has_decides d xs) (has_decides d ys))
 
 left_only : (d : Datum) (xs ys : List Datum) → Decides (not (has_datum d ys) && has_datum d xs) (Contains xs d × (Contains ys d → ⊥))
 left_only d xs ys = both_swapped (has_datum d xs) (not (has_datum d ys)) (has_decides d xs) (Decides-not (has_datum d ys) (has_decides d ys))
@@ -78,17 +78,17 @@ left_only d xs ys = both_swapped (has_datum d xs) (not (has_datum d ys)) (has_de
 pub subtracts : Subtracts
 subtracts xs ys r =
     set_from_test (λ d. Contains xs d × (Contains ys d → ⊥)) (minus_of xs ys) (λ d. not (has_datum d ys) && has_datum d xs) (rising_filter (λ e. not (has_datum e ys)) xs r) (λ d. has_minus d xs ys)
-        (λ d. left_only d xs ys)
+    (λ d. left_only d xs ys)
 
 pub intersects : Intersects
 intersects xs ys r =
     set_from_test (λ d. Contains xs d × Contains ys d) (meet_of xs ys) (λ d. has_datum d ys && has_datum d xs) (rising_filter (λ e. has_datum e ys) xs r) (λ d. has_meet d xs ys)
-        (λ d. both_swapped (has_datum d xs) (has_datum d ys) (has_decides d xs) (has_decides d ys))
+    (λ d. both_swapped (has_datum d xs) (has_datum d ys) (has_decides d xs) (has_decides d ys))
 
 pub differs : Differs
 differs xs ys =
     set_from_test (λ d. (Contains xs d × (Contains ys d → ⊥)) ⊎ (Contains ys d × (Contains xs d → ⊥))) (symm_of xs ys)
-        (λ d. (not (has_datum d ys) && has_datum d xs) || (not (has_datum d xs) && has_datum d ys))
-        (rising_set_from (minus_of xs ys ++ minus_of ys xs))
-        (λ d. has_symm d xs ys)
-        (λ d. Decides-or (not (has_datum d ys) && has_datum d xs) (not (has_datum d xs) && has_datum d ys) (left_only d xs ys) (left_only d ys xs))
+    (λ d. (not (has_datum d ys) && has_datum d xs) || (not (has_datum d xs) && has_datum d ys))
+    (rising_set_from (minus_of xs ys ++ minus_of ys xs))
+    (λ d. has_symm d xs ys)
+    (λ d. Decides-or (not (has_datum d ys) && has_datum d xs) (not (has_datum d xs) && has_datum d ys) (left_only d xs ys) (left_only d ys xs))

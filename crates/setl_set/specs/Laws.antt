@@ -1,7 +1,7 @@
 -- Which members each operation leaves: a result is the one strictly rising list of the data that pass a test.
 use Rattle.std.specs.Prelude.{◌≡◌, ◌↔◌, ◌⊎◌, ℕ, List, length, IsTrue}
 use Rattle.std.specs.List.{Contains}
-use Rattle.setl_value.specs.Datum.{Datum, set, elements_of}
+use Rattle.setl_value.specs.Datum.{Datum, set_of}
 use Rattle.setl_value.specs.Order.{IsRising}
 use Rattle.setl_set.specs.Sets.{has_datum, is_subset, insert_datum, remove_datum, set_from, union_of, minus_of, meet_of, symm_of}
 use Rattle.setl_set.specs.Subsets.{pow_of, npow_of}
@@ -18,7 +18,7 @@ IsSubset xs ys = (d : Datum) → Contains xs d → Contains ys d
 -- d is the set of members that ds has too
 pub record IsSubsetOf (ds : List Datum) (d : Datum) : Type 0 where
   pub chosen : List Datum
-  pub is : d ≡ set (elements_of chosen)
+  pub is : d ≡ set_of chosen
   pub rising : IsRising chosen
   pub within : IsSubset chosen ds
 

@@ -1,7 +1,7 @@
 -- The sets of all subsets, and of all subsets with n members.
-use Rattle.std.specs.Prelude.{◌≡◌, ◌==◌, ℕ, List, [], ◌∷◌, ◌++◌, length, map, refl, pos}
+use Rattle.std.specs.Prelude.{◌≡◌, ◌==◌, ◌&&◌, nat_le, ℕ, List, [], ◌∷◌, ◌++◌, length, map, refl, pos}
 use Rattle.std.specs.List.{filter}
-use Rattle.setl_value.specs.Datum.{Datum, int, set, elements_of}
+use Rattle.setl_value.specs.Datum.{Datum, int, set_of}
 use Rattle.setl_set.specs.Sets.{set_from}
 
 -- the subsets, those with the first member before the others
@@ -12,9 +12,13 @@ subsets (d ∷ ds) = map (λ xs. d ∷ xs) (subsets ds) ++ subsets ds
 abbrev pub subsets_of_size : ℕ → List Datum → List (List Datum)
 subsets_of_size n ds = filter (λ xs. length xs == n) (subsets ds)
 
+-- the subsets with at least `least` and at most `most` members
+abbrev pub subsets_between : ℕ → ℕ → List Datum → List (List Datum)
+subsets_between least most ds = filter (λ xs. nat_le least (length xs) && nat_le (length xs) most) (subsets ds)
+
 -- the set of the sets of these members
 abbrev pub set_of_sets : List (List Datum) → List Datum
-set_of_sets lists = set_from (map (λ xs. set (elements_of xs)) lists)
+set_of_sets lists = set_from (map set_of lists)
 
 -- the set of all subsets
 abbrev pub pow_of : List Datum → List Datum
@@ -34,13 +38,10 @@ two = int (pos 2)
 abbrev three : Datum
 three = int (pos 3)
 
-abbrev set_with : List Datum → Datum
-set_with xs = set (elements_of xs)
-
-subsets_of_two : pow_of (one ∷ two ∷ []) ≡ set_with [] ∷ set_with (one ∷ []) ∷ set_with (one ∷ two ∷ []) ∷ set_with (two ∷ []) ∷ []
+subsets_of_two : pow_of (one ∷ two ∷ []) ≡ set_of [] ∷ set_of (one ∷ []) ∷ set_of (one ∷ two ∷ []) ∷ set_of (two ∷ []) ∷ []
 subsets_of_two = refl
 
-pairs_of_three : npow_of 2 (one ∷ two ∷ three ∷ []) ≡ set_with (one ∷ two ∷ []) ∷ set_with (one ∷ three ∷ []) ∷ set_with (two ∷ three ∷ []) ∷ []
+pairs_of_three : npow_of 2 (one ∷ two ∷ three ∷ []) ≡ set_of (one ∷ two ∷ []) ∷ set_of (one ∷ three ∷ []) ∷ set_of (two ∷ three ∷ []) ∷ []
 pairs_of_three = refl
 
 too_many : npow_of 3 (one ∷ two ∷ []) ≡ []

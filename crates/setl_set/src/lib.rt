@@ -8,8 +8,14 @@
 
 pub mod laws;
 mod member;
+mod merge;
+mod power;
+mod rising;
 
 pub use member::{has, less, with};
+pub use merge::{meet, minus, symm, union};
+pub use power::{npow, pow};
+pub use rising::{Rising, subset, walk};
 pub use std::alloc::AllocError as Memory;
 
 /// Why a set can't be made.

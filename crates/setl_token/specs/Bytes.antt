@@ -1,8 +1,6 @@
--- The classes of bytes, and upper case read as lower case.
-use Rattle.std.specs.Prelude.{ℕ, Bool, not, ◌||◌, ◌==◌, List, map}
-use Rattle.std.specs.Char.{is_ascii_digit, is_ascii_alphabetic, is_ascii_alphanumeric, to_ascii_lowercase}
-use Rattle.setl_token.specs.declared.pieces.Class.{Class}
-use Rattle.setl_token.specs.declared.pieces.Class.TheVariants as class
+-- The classes of bytes, upper case read as lower case, and the value of digits.
+use Rattle.std.specs.Prelude.{ℕ, ◌+◌, ◌-◌, ◌*◌, Bool, not, ◌||◌, ◌==◌, List, map, fold}
+use Rattle.std.specs.Char.{is_ascii_alphanumeric, to_ascii_lowercase}
 
 -- tab, line feed, carriage return, space
 abbrev pub is_blank : ℕ → Bool
@@ -16,11 +14,18 @@ is_in_word b = is_ascii_alphanumeric b || b == 95
 abbrev pub is_in_line : ℕ → Bool
 is_in_line b = not (b == 10)
 
-abbrev pub is_in : Class → ℕ → Bool
-is_in class.Digit b = is_ascii_digit b
-is_in class.Word b = is_in_word b
-is_in class.Line b = is_in_line b
-
 -- a text with its upper case letters read as lower case
 abbrev pub lower : List ℕ → List ℕ
 lower = map to_ascii_lowercase
+
+-- a number with one more digit
+abbrev pub with_digit : ℕ → ℕ → ℕ
+with_digit n b = 10 * n + (b - 48)
+
+-- the number that digits spell
+abbrev pub value_of : List ℕ → ℕ
+value_of = fold with_digit 0
+
+-- the greatest number that a source can spell: 2 ^ 127 - 1
+abbrev pub limit : ℕ
+limit = 170141183460469231731687303715884105727

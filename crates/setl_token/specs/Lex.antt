@@ -1,5 +1,5 @@
 -- Which tokens a source is spelled of, and where it fails.
-use Rattle.std.specs.Prelude.{◌≡◌, ◌<◌, ℕ, ◌+◌, ◌==◌, List, [], ◌∷◌, length, take, drop, count_by, Ok, Err}
+use Rattle.std.specs.Prelude.{◌≡◌, ◌<◌, ℕ, ◌+◌, ◌==◌, List, [], ◌∷◌, length, take, drop, count_by}
 use Rattle.setl_token.specs.declared.Token.{Token}
 use Rattle.setl_token.specs.declared.Cause.{Cause}
 use Rattle.setl_token.specs.declared.Cause.TheVariants as cause
@@ -8,12 +8,12 @@ use Rattle.setl_token.specs.declared.LexFault.TheVariants as fault
 use Rattle.setl_token.specs.declared.pieces.PieceKind.{PieceKind}
 use Rattle.setl_token.specs.declared.pieces.PieceKind.TheVariants as is
 use Rattle.setl_token.specs.declared.pieces.Piece.{Piece}
-use Rattle.setl_token.specs.Pieces.{piece_at}
+use Rattle.setl_token.specs.Form.{IsLongest, IsCause}
 
--- from bytes the pieces lead to a rest: each piece is the one that begins at its place
-abbrev pub Reaches : List ℕ → List Piece → List ℕ → Type 0
-Reaches z [] rest = z ≡ rest
-Reaches z (p ∷ ps) rest = (0 < length z) × (piece_at z ≡ Ok p) × Reaches (drop p.len z) ps rest
+-- bytes are these pieces, one after another, and a rest: each piece is the longest that begins at its place
+abbrev pub CutsInto : List ℕ → List Piece → List ℕ → Type 0
+CutsInto z [] rest = z ≡ rest
+CutsInto z (p ∷ ps) rest = (0 < length z) × IsLongest z p × CutsInto (drop p.len z) ps rest
 
 -- the line of a place: 1 plus the number of line feeds before it
 abbrev pub line_at : List ℕ → ℕ → ℕ
@@ -30,21 +30,21 @@ abbrev pub tokens_of : List ℕ → ℕ → List Piece → List Token
 tokens_of source at [] = []
 tokens_of source at (p ∷ ps) = token_of source at p.len p.kind (tokens_of source (at + p.len) ps)
 
--- The tokens, blanks and comments put together are the source, each is the one that begins at its place, and these
--- are the tokens among them.
+-- The tokens, blanks and comments put together are the source, each is the longest that begins at its place, and
+-- these are the tokens among them.
 pub record Spelled (source : List ℕ) (tokens : List Token) : Type 0 where
   pub pieces : List Piece
-  pub all : Reaches source pieces []
+  pub all : CutsInto source pieces []
   pub among : tokens_of source 0 pieces ≡ tokens
 
--- The bytes before a place are tokens, blanks and comments, each the one that begins at its place, and at the place
--- the cause stands.
+-- The bytes before a place are tokens, blanks and comments, each the longest that begins at its place, and at
+-- the place the cause stands.
 pub record LexFails (source : List ℕ) (cause : Cause) (at : ℕ) : Type 0 where
   pub pieces : List Piece
   pub rest : List ℕ
-  pub before : Reaches source pieces rest
+  pub before : CutsInto source pieces rest
   pub some : 0 < length rest
-  pub stands : piece_at rest ≡ Err cause
+  pub stands : IsCause cause rest
   pub place : at + length rest ≡ length source
 
 -- the fault that tells a cause at a place

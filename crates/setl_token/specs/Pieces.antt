@@ -1,18 +1,23 @@
--- The pieces of a source, which are tokens, blanks and comments: which piece begins where, by the bytes from there on.
--- This file knows nothing of places.
-use Rattle.std.specs.Prelude.{ℕ, ◌+◌, ◌-◌, ◌*◌, ◌^◌, pos, Bool, ◌||◌, ◌&&◌, if◌then◌else◌, ◌==◌, nat_le, List, [], ◌∷◌, take, drop, fold, slice_index, Option, Some, None, Result, Ok, Err}
+-- The piece that begins at the front of bytes, computed. A piece is a token, a blank or a comment.
+use Rattle.std.specs.Prelude.{ℕ, ◌+◌, pos, Bool, ◌||◌, ◌&&◌, if◌then◌else◌, ◌==◌, nat_le, List, [], ◌∷◌, take, drop, slice_index, Option, Some, None, Result, Ok, Err}
 use Rattle.std.specs.Char.{is_ascii_digit, is_ascii_alphabetic}
 use Rattle.std.specs.List.{prefix_len}
 use Rattle.setl_token.specs.declared.TokenKind.{TokenKind}
 use Rattle.setl_token.specs.declared.TokenKind.TheVariants as kind
 use Rattle.setl_token.specs.declared.Cause.{Cause}
 use Rattle.setl_token.specs.declared.Cause.TheVariants as cause
+use Rattle.setl_token.specs.declared.pieces.Class.{Class}
 use Rattle.setl_token.specs.declared.pieces.Class.TheVariants as class
 use Rattle.setl_token.specs.declared.pieces.PieceKind.{PieceKind}
 use Rattle.setl_token.specs.declared.pieces.PieceKind.TheVariants as is
 use Rattle.setl_token.specs.declared.pieces.Piece.{Piece}
-use Rattle.setl_token.specs.Bytes.{is_blank, is_in, lower}
+use Rattle.setl_token.specs.Bytes.{is_blank, is_in_line, is_in_word, lower, value_of, limit}
 use Rattle.setl_token.specs.Reserved.{is_reserved}
+
+abbrev pub is_in : Class → ℕ → Bool
+is_in class.Digit b = is_ascii_digit b
+is_in class.Word b = is_in_word b
+is_in class.Line b = is_in_line b
 
 abbrev pub piece : PieceKind → ℕ → Piece
 piece k n = record { kind = k; len = n }
@@ -20,16 +25,6 @@ piece k n = record { kind = k; len = n }
 -- a word if the text is reserved, whatever its letters' case, else a name
 abbrev pub word_kind : List ℕ → TokenKind
 word_kind text = if is_reserved (lower text) then kind.Word else kind.Name
-
--- the value of digits
-abbrev pub with_digit : ℕ → ℕ → ℕ
-with_digit n b = 10 * n + (b - 48)
-
-abbrev pub value_of : List ℕ → ℕ
-value_of = fold with_digit 0
-
-abbrev pub limit : ℕ
-limit = 170141183460469231731687303715884105727
 
 abbrev pub within_limit : ℕ → Option ℕ
 within_limit n = if nat_le n limit then Some n else None
@@ -73,9 +68,9 @@ sign_piece n = if n == 0 then Err cause.Byte else Ok (piece (is.Token kind.Sign)
 unfoldable pub piece_at : List ℕ → Result Piece Cause
 piece_at z =
     let b = slice_index z 0 in
-    let in_line = prefix_len (is_in class.Line) z in
-    let in_word = prefix_len (is_in class.Word) z in
-    let digits = prefix_len (is_in class.Digit) z in
+    let in_line = prefix_len is_in_line z in
+    let in_word = prefix_len is_in_word z in
+    let digits = prefix_len is_ascii_digit z in
     if is_blank b then Ok (piece is.Blank 1)
     else (if b == 36 then Ok (piece is.Comment in_line)
     else (if is_ascii_alphabetic b then Ok (piece (is.Token (word_kind (take in_word z))) in_word)

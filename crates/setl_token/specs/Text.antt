@@ -1,9 +1,10 @@
 -- A source with its tokens, and what a token reads as.
-use Rattle.std.specs.Prelude.{◌≡◌, ℕ, List, slice_range, ◌≤◌, ◌^◌, length}
+use Rattle.std.specs.Prelude.{◌≡◌, ℕ, List, slice_range, ◌≤◌, ◌^◌, length, drop}
 use Rattle.setl_token.specs.declared.Token.{Token}
-use Rattle.setl_token.specs.declared.TokenKind.{TokenKind}
 use Rattle.setl_token.specs.declared.TokenKind.TheVariants as kind
+use Rattle.setl_token.specs.declared.pieces.PieceKind.TheVariants as is
 use Rattle.setl_token.specs.Bytes.{lower}
+use Rattle.setl_token.specs.Form.{IsForm}
 use Rattle.setl_token.specs.Lex.{Spelled}
 
 -- a source and the list of its tokens
@@ -19,6 +20,10 @@ pub record IsLexed (source : List ℕ) (tokens : List Token) : Type 0 where
 -- the bytes of a token
 abbrev pub token_text : List ℕ → Token → List ℕ
 token_text source t = slice_range source t.from t.to
+
+-- the bytes of a token are of the form of its kind, by what stands behind them
+pub record IsFormed (source : List ℕ) (t : Token) : Type 0 where
+  pub form : IsForm (is.Token t.kind) (token_text source t) (drop t.to source)
 
 -- the token is this reserved word, whatever its letters' case
 abbrev pub IsWord : List ℕ → Token → List ℕ → Type 0

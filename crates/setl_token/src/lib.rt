@@ -9,9 +9,13 @@ ghost use Rattle.std.specs.Prelude.{◌≡◌, ◌==◌, ◌<◌, ◌≤◌, ◌
 ghost use Rattle.std.specs.Result.{IsErrAnd};
 ghost use Rattle.setl_token.specs.Lex.{Spelled, LexFails, Tells, fault_of};
 
+mod laws;
 mod pieces;
 mod reserved;
+#[cfg(test)]
+mod tests;
 
+pub use laws::{blank_ends_token, lexing_is_determined, piece_at_is_longest};
 use pieces::{PieceKind, cut};
 use reserved::reads_as;
 use std::alloc::{AllocError, AllocFailed, Global};
@@ -129,7 +133,7 @@ impl Model for TokenList {
 impl TokenList {
     ghost use Rattle.std.specs.Prelude.{◌↔◌, IsTrue, IfSome, Some, slice_get};
     ghost use Rattle.std.specs.Option.{IsSomeAnd};
-    ghost use Rattle.setl_token.specs.Text.{token_text, IsWord, IsSign};
+    ghost use Rattle.setl_token.specs.Text.{token_text, IsFormed, IsWord, IsSign};
 
     /// How many tokens there are. The tokens of a list are always those of its source.
     pub fn len(&self) -> usize
@@ -147,12 +151,13 @@ impl TokenList {
         self.tokens.is_empty()
     }
 
-    /// The token with this index, counted from 0.
+    /// The token with this index, counted from 0. Its bytes are of the form of its kind.
     pub fn at(&self, i: usize) -> &Token
         requires { i < length self.now.tokens }
         ensures value { slice_get self.now.tokens i ≡ Some result.now }
         ensures some { result.now.from < result.now.to }
         ensures within { result.now.to ≤ length self.now.source }
+        ensures formed { IsFormed self.now.source result.now }
     {
         &self.tokens[i]
     }

@@ -9,7 +9,7 @@ use crate::reserved::reads_as_word;
 use crate::{Cause, TokenKind};
 
 /// What a piece is.
-#[derive(Clone, Copy, Debug)]
+#[derive(Clone, Copy)]
 pub enum PieceKind {
     /// One of the bytes 9, 10, 13 and 32.
     Blank,
@@ -20,7 +20,7 @@ pub enum PieceKind {
 }
 
 /// A token, a blank or a comment.
-#[derive(Clone, Copy, Debug)]
+#[derive(Clone, Copy)]
 pub struct Piece {
     /// What it is.
     pub kind: PieceKind,
@@ -29,7 +29,7 @@ pub struct Piece {
 }
 
 /// A class of bytes of which runs are taken.
-#[derive(Clone, Copy, Debug)]
+#[derive(Clone, Copy)]
 pub enum Class {
     /// Digits.
     Digit,
@@ -40,7 +40,7 @@ pub enum Class {
 }
 
 fn is_in(class: Class, b: u8) -> bool
-    ensures { result ≡ bytes.is_in class b }
+    ensures { result ≡ spec.is_in class b }
 {
     match class {
         Class::Digit => b.is_ascii_digit(),
@@ -57,7 +57,7 @@ fn is_blank(b: u8) -> bool
 
 /// How many bytes at the front are of the class.
 fn run(class: Class, z: &[u8]) -> usize
-    ensures value { result ≡ prefix_len (bytes.is_in class) z.now }
+    ensures value { result ≡ prefix_len (spec.is_in class) z.now }
     ensures within { result ≤ length z.now }
 {
     let mut end = 0;
@@ -97,12 +97,12 @@ fn string_end(z: &[u8]) -> Option<usize>
     None
 }
 
-/// The greatest number that a source can spell.
+/// The greatest number that a source can spell: 2^127 - 1.
 const LIMIT: u128 = 170141183460469231731687303715884105727;
 
 /// The number that digits spell, unless it is above the limit.
 fn number(digits: &[u8]) -> Option<u128>
-    ensures value { result ≡ spec.within_limit (spec.value_of digits.now) }
+    ensures value { result ≡ spec.within_limit (bytes.value_of digits.now) }
     ensures within { IfSome result (λ n. n ≤ LIMIT) }
 {
     let mut value: u128 = 0;

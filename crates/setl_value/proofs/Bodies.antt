@@ -4,15 +4,11 @@ use Rattle.std.proofs.Common.{slice_index_or}
 use Rattle.std.specs.List.{AllByRecursion, insert, remove}
 use Rattle.std.specs.List.Sorted.{IsStrictlySortedBy}
 use Rattle.std.specs.declared.cmp.Ordering.TheVariants.{Less}
-use Rattle.std.specs.Option.{unwrap_or, option_map}
+use Rattle.std.specs.Option.{unwrap_or}
 use Rattle.std.proofs.Common.{arith, ap, sym, ◌∙◌, subst}
-use Rattle.std.proofs.lemmas.Option.{none-some, slice_get-map}
-use Rattle.std.specs.Result.{OnOk, OnErr, IfOk}
-use Rattle.std.specs.Prelude.{Result, Ok, Err}
-use Rattle.setl_value.specs.declared.Value.{Value}
-use Rattle.setl_value.specs.DatumOf.{datum}
+use Rattle.std.proofs.lemmas.Option.{none-some}
 use Rattle.std.proofs.lemmas.List.{map-append, take-map, drop-map}
-use Rattle.setl_value.specs.Datum.{Datum, set, depth, elements_depth, elements_of, element_list-elements_of}
+use Rattle.setl_value.specs.Datum.{Datum, set, depth, elements_depth, elements_of, element_list-elements_of, set_of}
 use Rattle.setl_value.specs.Order.{datum_cmp, IsRising}
 use Rattle.setl_value.specs.WellFormed.{IsWellFormed, ElementsAreWellFormed, IsValue, IsSetList}
 
@@ -70,24 +66,6 @@ set_at ds i d h e = let m = all_at IsMember ds i d (set_facts ds h).0 e in (m.0,
 pub set_remove : (ds : List Datum) (i : ℕ) → IsSetList ds → IsSetList (remove ds i)
 set_remove ds i h = let f = set_facts ds h in set_made (remove ds i) (all_remove IsMember ds i f.0) (sorted_remove ds i f.1)
 
--- the invariant after a change that may be refused
-pub set_after : {A E : Type 0} (r : Result A E) (new old fine : List Value) → OnOk r (new ≡ fine) → OnErr r (new ≡ old) → IsSetList (map datum fine) → IsSetList (map datum old) → IsSetList (map datum new)
-set_after (Ok a) new old fine e f g h = subst (λ l. IsSetList (map datum l)) (sym e) g
-set_after (Err a) new old fine e f g h = subst (λ l. IsSetList (map datum l)) (sym f) h
-
-pub ok_then : {A E P Q : Type 0} (r : Result A E) → OnOk r P → (P → Q) → OnOk r Q
-ok_then (Ok a) p f = f p
-ok_then (Err e) p f = tt
-
-pub cut_told : {E : Type 0} (r : Result Value E) (xs new : List Value) (i : ℕ) (ds : List Datum) → map datum xs ≡ ds
-    → IfOk r (λ v. slice_get xs i ≡ Some v) → OnOk r (new ≡ remove xs i)
-    → IfOk r (λ v. (slice_get ds i ≡ Some (datum v)) × (map datum new ≡ remove ds i))
-cut_told (Ok v) xs new i ds w t e = (
-  ap (λ l. slice_get l i) (sym w) ∙ slice_get-map datum xs i ∙ ap (option_map datum) t,
-  ap (map datum) e ∙ map-remove datum xs i ∙ ap (λ l. remove l i) w,
-)
-cut_told (Err e) xs new i ds w t f = tt
-
 -- a member that is there
 pub member_there : {X : Type 0} (xs : List X) (i : ℕ) (x : X) → i < length xs → x ≡ slice_index_or xs i x → slice_get xs i ≡ Some x
 member_there [] i x p e = absurd (omega arith)
@@ -108,9 +86,12 @@ stand_out : (ds : List Datum) → AllByRecursion IsWellFormed ds → ElementsAre
 stand_out [] s = tt
 stand_out (d ∷ ds) s = (s.0, stand_out ds s.1)
 
+pub set_from : (ds : List Datum) → AllByRecursion IsWellFormed ds → IsRising ds → depth (set_of ds) ≤ 500 → IsSetList ds
+set_from ds a r p = ((stand_out ds a, subst IsRising (sym (element_list-elements_of ds)) r), p)
+
 pub set_insert : (ds : List Datum) (i : ℕ) (d : Datum) → IsSetList ds → IsValue d → IsRising (insert ds i d) → depth (set (elements_of (insert ds i d))) ≤ 500 → IsSetList (insert ds i d)
 set_insert ds i d h v r p =
-    ((stand_out (insert ds i d) (all_insert IsWellFormed ds i d (stand_in ds h.0.0) v.0), subst IsRising (sym (element_list-elements_of (insert ds i d))) r), p)
+    set_from (insert ds i d) (all_insert IsWellFormed ds i d (stand_in ds h.0.0) v.0) r p
 
 pub depth_insert : (ds : List Datum) (i : ℕ) (d : Datum) → elements_depth (elements_of (insert ds i d)) ≡ max (elements_depth (elements_of ds)) (depth d)
 depth_insert [] zero d = omega arith

@@ -1,21 +1,21 @@
 -- Lists of components, without the `om` at their end.
-use Rattle.std.specs.Prelude.{◌≡◌, ℕ, zero, suc, ◌+◌, ◌≤◌, ◌<◌, List, [], ◌∷◌, ◌++◌, take, map, refl, length, Option, Some, None, is_some, true, false, max}
+use Rattle.std.specs.Prelude.{◌≡◌, ℕ, zero, suc, ◌+◌, ◌≤◌, ◌<◌, List, [], ◌∷◌, ◌++◌, take, map, refl, length, Option, Some, None, is_none, true, false, max}
 use Rattle.std.proofs.Common.{arith, ap, sym, ◌∙◌, subst, slice_index_or}
 use Rattle.std.proofs.lemmas.Bool.{true≢false}
 use Rattle.std.proofs.lemmas.List.{map-append, length-map}
 use Rattle.std.proofs.lemmas.Option.{slice_get-map}
 use Rattle.std.specs.Option.{option_map}
 use Rattle.std.specs.List.{remove}
-use Rattle.std.specs.Prelude.{slice_get, IfOk, ◌-◌}
+use Rattle.std.specs.Prelude.{slice_get, ◌-◌}
 use Rattle.setl_value.proofs.Bodies.{all_remove, map-remove}
 use Rattle.std.specs.List.{AllByRecursion}
-use Rattle.std.specs.Prelude.{slice_set, Result, Ok, Err, OnOk, OnErr}
+use Rattle.std.specs.Prelude.{slice_set}
 use Rattle.setl_value.specs.Datum.{Datum, tuple, depth, parts_depth, parts_of, part_list-parts_of}
 use Rattle.setl_value.specs.declared.Value.{Value}
 use Rattle.setl_value.specs.DatumOf.{part}
 use Rattle.setl_value.specs.WellFormed.{trim, trim_onto, PartIsWellFormed, PartsAreWellFormed, IsTrimmed, IsTupleList, put}
 
-pub take_next : {X : Type 0} (xs : List X) (i : ℕ) (x : X) → i < length xs → x ≡ slice_index_or xs i x → take (i + 1) xs ≡ take i xs ++ x ∷ []
+take_next : {X : Type 0} (xs : List X) (i : ℕ) (x : X) → i < length xs → x ≡ slice_index_or xs i x → take (i + 1) xs ≡ take i xs ++ x ∷ []
 take_next xs i x p e = subst (λ j. take j xs ≡ take i xs ++ x ∷ []) {x = suc i} (omega arith) (next xs i x p e)
   where
     next : {X : Type 0} (xs : List X) (i : ℕ) (x : X) → i < length xs → x ≡ slice_index_or xs i x → take (suc i) xs ≡ take i xs ++ x ∷ []
@@ -36,13 +36,13 @@ pub trim_some : (ps : List (Option Datum)) (d : Datum) → trim (ps ++ Some d �
 trim_some [] d = refl
 trim_some (p ∷ ps) d = ap (trim_onto p) (trim_some ps d) ∙ onto_more p ps d
 
-pub next_there : (ps : List (Option Datum)) (p : Option Datum) → is_some p ≡ true → trim (ps ++ p ∷ []) ≡ ps ++ p ∷ []
-next_there ps None e = absurd (true≢false (sym e))
+next_there : (ps : List (Option Datum)) (p : Option Datum) → is_none p ≡ false → trim (ps ++ p ∷ []) ≡ ps ++ p ∷ []
+next_there ps None e = absurd (true≢false e)
 next_there ps (Some d) e = trim_some ps d
 
-pub next_om : (ps : List (Option Datum)) (p : Option Datum) → is_some p ≡ false → trim (ps ++ p ∷ []) ≡ trim ps
+next_om : (ps : List (Option Datum)) (p : Option Datum) → is_none p ≡ true → trim (ps ++ p ∷ []) ≡ trim ps
 next_om ps None e = trim_om ps
-next_om ps (Some d) e = absurd (true≢false e)
+next_om ps (Some d) e = absurd (true≢false (sym e))
 
 -- ---- what `trim` keeps
 
@@ -88,23 +88,21 @@ tuple_made ps a p = (
 
 -- ---- the loop of `kept`
 
-abbrev pub Kept : List (Option Value) → ℕ → ℕ → Type 0
-Kept xs n i = (map part (take n xs) ≡ trim (map part (take i xs))) × (n ≤ i)
+one_more : (xs : List (Option Value)) (n : ℕ) (x : Option Value) → 0 < n → n ≤ length xs → x ≡ slice_index_or xs (n - 1) x → map part (take n xs) ≡ map part (take (n - 1) xs) ++ part x ∷ []
+one_more xs n x o p e =
+    let k : n ≡ n - 1 + 1 = omega arith in
+    ap (λ m. map part (take m xs)) k ∙ ap (map part) (take_next xs (n - 1) x (omega arith) e) ∙ map-append part (take (n - 1) xs) (x ∷ [])
 
-one_more : (xs : List (Option Value)) (i : ℕ) (x : Option Value) → i < length xs → x ≡ slice_index_or xs i x → map part (take (i + 1) xs) ≡ map part (take i xs) ++ part x ∷ []
-one_more xs i x p e = ap (map part) (take_next xs i x p e) ∙ map-append part (take i xs) (x ∷ [])
+-- an `om` at the end is dropped
+pub kept_om : (xs : List (Option Value)) (n : ℕ) (x : Option Value) → 0 < n → n ≤ length xs → x ≡ slice_index_or xs (n - 1) x → is_none (part x) ≡ true
+    → trim (map part (take (n - 1) xs)) ≡ trim (map part (take n xs))
+kept_om xs n x o p e t = sym (next_om (map part (take (n - 1) xs)) (part x) t) ∙ sym (ap trim (one_more xs n x o p e))
 
-pub kept_there : (xs : List (Option Value)) (n i m : ℕ) (x : Option Value) → i < length xs → x ≡ slice_index_or xs i x → is_some (part x) ≡ true → m ≡ i + 1 → Kept xs m (i + 1)
-kept_there xs n i m x p e t h =
-    let more = one_more xs i x p e in
-    subst (λ j. Kept xs j (i + 1)) (sym h)
-    (more ∙ sym (next_there (map part (take i xs)) (part x) t) ∙ sym (ap trim more), omega arith)
-
-pub kept_om : (xs : List (Option Value)) (n i m : ℕ) (x : Option Value) → i < length xs → x ≡ slice_index_or xs i x → is_some (part x) ≡ false → m ≡ n → Kept xs n i → Kept xs m (i + 1)
-kept_om xs n i m x p e t h k =
-    let more = one_more xs i x p e in
-    subst (λ j. Kept xs j (i + 1)) (sym h)
-    (k.0 ∙ sym (next_om (map part (take i xs)) (part x) t) ∙ sym (ap trim more), omega (arith, k.1))
+-- a value at the end ends the tuple
+pub kept_there : (xs : List (Option Value)) (n : ℕ) (x : Option Value) → 0 < n → n ≤ length xs → x ≡ slice_index_or xs (n - 1) x → is_none (part x) ≡ false
+    → map part (take n xs) ≡ trim (map part (take n xs))
+kept_there xs n x o p e t =
+    let more = one_more xs n x o p e in more ∙ sym (next_there (map part (take (n - 1) xs)) (part x) t) ∙ sym (ap trim more)
 
 -- ---- `put`
 
@@ -131,15 +129,6 @@ parts_in (Some d ∷ ps) s = (s.0, parts_in ps s.1)
 pub tuple_put : (ps : List (Option Datum)) (i : ℕ) (p : Option Datum) → IsTupleList ps → PartIsWellFormed p → depth (tuple (parts_of (put ps i p))) ≤ 500 → IsTupleList (trim (put ps i p))
 tuple_put ps i p h s d = tuple_made (put ps i p) (put_stands ps i p (parts_in ps h.0.0) s) d
 
--- the invariant after a change that may be refused
-pub tuple_after : {A E : Type 0} (r : Result A E) (new old : List (Option Datum)) (fine : List (Option Datum)) → OnOk r (new ≡ fine) → OnErr r (new ≡ old) → IsTupleList fine → IsTupleList old → IsTupleList new
-tuple_after (Ok a) new old fine e f g h = subst IsTupleList (sym e) g
-tuple_after (Err a) new old fine e f g h = subst IsTupleList (sym f) h
-
-pub err_map : {A E : Type 0} (r : Result A E) (xs ys : List (Option Value)) → OnErr r (xs ≡ ys) → OnErr r (map part xs ≡ map part ys)
-err_map (Ok a) xs ys e = tt
-err_map (Err a) xs ys e = ap (map part) e
-
 less_deep : (ps : List (Option Datum)) (i n : ℕ) → parts_depth (parts_of ps) ≤ n → parts_depth (parts_of (remove ps i)) ≤ n
 less_deep [] zero n h = h
 less_deep [] (suc i) n h = h
@@ -151,16 +140,14 @@ less_deep (Some d ∷ ps) (suc i) n h = omega (arith, h, less_deep ps i n (omega
 pub tuple_remove : (ps : List (Option Datum)) (i : ℕ) → IsTupleList ps → IsTupleList (trim (remove ps i))
 tuple_remove ps i h = tuple_made (remove ps i) (all_remove PartIsWellFormed ps i (parts_in ps h.0.0)) (omega (arith, less_deep ps i 499 (omega (arith, h.1))))
 
-pub last_told : {E : Type 0} (r : Result (Option Value) E) (xs : List (Option Value)) (ps : List (Option Datum)) → map part xs ≡ ps
-    → IfOk r (λ p. slice_get xs (length xs - 1) ≡ Some p) → IfOk r (λ p. slice_get ps (length ps - 1) ≡ Some (part p))
-last_told (Ok p) xs ps w h =
-    let n : length ps ≡ length xs = ap length (sym w) ∙ length-map xs part in
-    ap (λ l. slice_get l (length ps - 1)) (sym w) ∙ ap (λ k. slice_get (map part xs) (k - 1)) n ∙ slice_get-map part xs (length xs - 1) ∙ ap (option_map part) h
-last_told (Err e) xs ps w h = tt
+module _ (xs : List (Option Value)) (ps : List (Option Datum)) (w : map part xs ≡ ps) where
+  same_length : length ps ≡ length xs
+  same_length = ap length (sym w) ∙ length-map xs part
 
-pub last_cut : {A E : Type 0} (r : Result A E) (ys : List (Option Datum)) (xs : List (Option Value)) (ps : List (Option Datum)) → map part xs ≡ ps
-    → OnOk r (ys ≡ trim (map part (remove xs (length xs - 1)))) → OnOk r (ys ≡ trim (remove ps (length ps - 1)))
-last_cut (Ok a) ys xs ps w h =
-    let n : length xs ≡ length ps = sym (length-map xs part) ∙ ap length w in
-    h ∙ ap trim (map-remove part xs (length xs - 1) ∙ ap (λ l. remove l (length xs - 1)) w ∙ ap (λ k. remove ps (k - 1)) n)
-last_cut (Err e) ys xs ps w h = tt
+  -- the last component, as data
+  pub last_taken : (v : Option Value) → slice_get xs (length xs - 1) ≡ Some v → slice_get ps (length ps - 1) ≡ Some (part v)
+  last_taken v h = ap (λ l. slice_get l (length ps - 1)) (sym w) ∙ ap (λ k. slice_get (map part xs) (k - 1)) same_length ∙ slice_get-map part xs (length xs - 1) ∙ ap (option_map part) h
+
+  -- the components before the last, as data
+  pub last_cut : (ys : List (Option Datum)) → ys ≡ trim (map part (remove xs (length xs - 1))) → ys ≡ trim (remove ps (length ps - 1))
+  last_cut ys h = h ∙ ap trim (map-remove part xs (length xs - 1) ∙ ap (λ l. remove l (length xs - 1)) w ∙ ap (λ k. remove ps (k - 1)) (sym same_length))

@@ -4,7 +4,7 @@ use Rattle.std.specs.Option.{option_map}
 use Rattle.setl_value.specs.declared.Value.{Value}
 use Rattle.setl_value.specs.declared.Value.TheVariants.{Bool, Int, Text, Atom, Tuple, Set}
 use Rattle.setl_value.specs.Body.{Members}
-use Rattle.setl_value.specs.Datum.{Datum, bool, int, text, atom, tuple, set, elements_of, parts_of}
+use Rattle.setl_value.specs.Datum.{Datum, bool, int, text, atom, tuple_of, set_of}
 
 -- the datum that a value stands for
 abbrev pub datum : Value → Datum
@@ -12,8 +12,8 @@ datum (Bool b) = bool b
 datum (Int z) = int z
 datum (Text t) = text t
 datum (Atom n) = atom n
-datum (Tuple ps) = tuple (parts_of ps)
-datum (Set b) = set (elements_of (Members b))
+datum (Tuple ps) = tuple_of ps
+datum (Set b) = set_of (Members b)
 
 -- a component, which is `None` for `om`
 abbrev pub part : Option Value → Option Datum

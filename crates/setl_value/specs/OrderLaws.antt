@@ -1,9 +1,9 @@
 -- `datum_cmp` is a total order, which answers `Equal` only of equal data.
-use Rattle.std.specs.Prelude.{◌≡◌, ℕ, ℤ, Bool, true, false, List, [], ◌∷◌, refl, pos, Option, Some, None}
+use Rattle.std.specs.Prelude.{◌≡◌, ◌↔◌, IsTrue, ℕ, ℤ, Bool, true, false, List, [], ◌∷◌, refl, pos, Option, Some, None}
 use Rattle.std.specs.declared.cmp.Ordering.{Ordering}
 use Rattle.std.specs.declared.cmp.Ordering.TheVariants.{Less, Equal, Greater}
 use Rattle.std.specs.Ordering.{ordering_then, nat_cmp, int_cmp, is_eq}
-use Rattle.std.specs.Cmp.{IsTotalOrder, on_total, int_cmp_total, Equal-is}
+use Rattle.std.specs.Cmp.{IsTotalOrder, on_total, int_cmp_total, Equal-is, tied_itself}
 use Rattle.std.specs.Cmp.Lexicographic.{slice_cmp, lists_total, texts_ties, bytes_decides}
 use Rattle.std.specs.Option.{option_cmp}
 use Rattle.std.proofs.lemmas.Cmp.{ranked, int_ranked}
@@ -171,3 +171,9 @@ parts_cmp_as_lists (Some x ∷ xs) (Some y ∷ ys) = ap (ordering_then (datum_cm
 
 pub same_if_eq : (a b : Datum) → is_eq (datum_cmp a b) ≡ true → a ≡ b
 same_if_eq a b p = same_datum a b ((Equal-is (datum_cmp a b)).0 p)
+
+pub equal_iff_same : (a b : Datum) → (datum_cmp a b ≡ Equal) ↔ (a ≡ b)
+equal_iff_same a b = (same_datum a b, λ e. subst (λ c. datum_cmp a c ≡ Equal) e (tied_itself datum_cmp_total a))
+
+pub eq_iff_same : (a b : Datum) → IsTrue (is_eq (datum_cmp a b)) ↔ (a ≡ b)
+eq_iff_same a b = (same_if_eq a b, λ e. ap is_eq ((equal_iff_same a b).1 e))

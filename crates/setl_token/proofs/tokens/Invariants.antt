@@ -1,4 +1,4 @@
-use Rattle.std.proofs.Common.{◌≡◌, ◌-◌, ◌≤◌, length, drop}
+use Rattle.std.proofs.Common.{◌≡◌, ◌-◌, ◌≤◌, length}
 use Rattle.setl_token.specs.Lex.{line_at}
 use Rattle.setl_token.proofs.Reached.{Found}
 use Rattle.setl_token.proofs.tokens.Given as goal

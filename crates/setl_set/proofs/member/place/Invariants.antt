@@ -1,9 +1,6 @@
-use Rattle.std.proofs.Common.{◌-◌, ◌≡◌, ◌≤◌, length, take, drop}
-use Rattle.std.specs.List.{AllByRecursion}
-use Rattle.std.specs.declared.cmp.Ordering.TheVariants.{Less}
+use Rattle.std.proofs.Common.{◌-◌}
 use Rattle.setl_value.specs.Body.{Members}
 use Rattle.setl_value.specs.DatumOf.{datum}
-use Rattle.setl_value.specs.Order.{datum_cmp}
 use Rattle.setl_set.proofs.Places.{IsBetween}
 use Rattle.setl_set.proofs.member.place.Given as goal
 

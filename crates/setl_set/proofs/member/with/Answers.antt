@@ -18,7 +18,7 @@ put_at-requires-clause-shallow c =
     let ds = Members c.args.s.now in
     let d = datum c.args.v in
     subst (λ l. 1 + elements_depth (elements_of l) ≤ 500) (sym (inserted d ds c.in-Err.i c.in-Err.ensures.absent))
-        (omega (arith, depth_insert d ds 499 (omega (arith, c.depth.ensures, c.learn.ensures.1, c.if-depth-eq500.false)) (omega (arith, c.learn-2.ensures.1))))
+    (omega (arith, depth_insert d ds 499 (omega (arith, c.depth.ensures, c.learn.ensures.1, c.if-depth-eq500.false)) (omega (arith, c.learn-2.ensures.1))))
 
 pub returns-in-Ok-clause-added : goal.returns-in-Ok-clause-added
 returns-in-Ok-clause-added c =

@@ -1,5 +1,5 @@
 use Rattle.std.proofs.Common.{arith}
-use Rattle.setl_token.proofs.Within.{few_tokens}
+use Rattle.setl_token.proofs.Order.{few_tokens}
 use Rattle.setl_token.proofs.TokenList.len.Goals as goal
 
 pub returns-clause-few : goal.returns-clause-few

@@ -1,6 +1,6 @@
-use Rattle.std.proofs.Common.{◌≡◌, ◌+◌, ◌*◌, ◌-◌, ◌≤◌, drop}
+use Rattle.std.proofs.Common.{◌≡◌, ◌≤◌, drop}
 use Rattle.std.specs.List.{fold}
-use Rattle.setl_token.specs.Pieces.{value_of, limit, with_digit}
+use Rattle.setl_token.specs.Bytes.{value_of, limit, with_digit}
 use Rattle.setl_token.proofs.pieces.number.Given as goal
 
 abbrev pub invariant-loop-d : goal.invariant-loop-d

@@ -1,5 +1,4 @@
 use Rattle.std.proofs.Common.{arith}
-use Rattle.std.proofs.lemmas.Grind.{common_steps}
 use Rattle.std.proofs.lemmas.Bool.Decides.{nat_tests}
 use Rattle.setl_token.proofs.Strings.{string_end_more}
 use Rattle.setl_token.proofs.pieces.string_end.Goals as goal

@@ -1,4 +1,4 @@
-use Rattle.std.proofs.Common.{◌≡◌, ◌+◌, ◌-◌, ◌≤◌, ◌<◌, length, drop}
+use Rattle.std.proofs.Common.{◌≡◌, ◌-◌, ◌≤◌, ◌<◌, length, drop}
 use Rattle.setl_token.specs.Pieces.{string_end}
 use Rattle.setl_token.proofs.pieces.string_end.Given as goal
 

@@ -1,4 +1,4 @@
-use Rattle.std.proofs.Common.{◌≡◌, ℕ, ◌<◌, length, get_or}
+use Rattle.std.proofs.Common.{◌≡◌, ℕ, ◌<◌, get_or}
 use Rattle.setl_token.specs.Bytes.{lower}
 use Rattle.setl_token.proofs.reserved.reads_as.Given as goal
 

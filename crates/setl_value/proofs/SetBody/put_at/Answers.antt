@@ -15,12 +15,12 @@ invariant_of-self-2 c =
     let ds = Members c.args.self.now in
     let i = c.args.i in
     let d = datum c.args.v in
-    let n = c.larger-self-inside.result in
+    let n = c.max-self-inside.result in
     let view : map datum xs ≡ ds = (ap Members c.self.view_is) in
     let w : map datum ys ≡ insert ds i d = ap (map datum) c.in_ok-put_in.ensures.put ∙ map-insert datum xs i c.args.v ∙ ap (λ l. insert l i d) view in
     let deep : c.self.inside.deep ≡ depth (set (elements_of ds)) = subst (λ l. c.self.inside.deep ≡ depth (set (elements_of l))) view c.self.invariant.1 in
     let stands : IsSetList (insert ds i d) = set_insert ds i d (subst IsSetList view c.self.invariant.0) c.learn.ensures c.requires.rising c.requires.shallow in
-    let kept : n ≡ depth (set (elements_of (insert ds i d))) = omega (arith, c.larger-self-inside.ensures, deep, c.depth-deep.ensures, depth_insert ds i d) in
+    let kept : n ≡ depth (set (elements_of (insert ds i d))) = omega (arith, c.max-self-inside.ensures, deep, c.depth-deep.ensures, depth_insert ds i d) in
     subst (λ l. IsSetList l × (n ≡ depth (set (elements_of l)))) (sym w) (stands, kept)
 
 pub returns-clause-put : goal.returns-clause-put

@@ -1,17 +1,20 @@
-use Rattle.std.proofs.Common.{◌≡◌, ◌∙◌, ap, sym, subst, map}
-use Rattle.std.specs.Prelude.{take}
+use Rattle.std.proofs.Common.{◌≡◌, ◌∙◌, ap, arith, sym, subst, map}
 use Rattle.std.specs.List.{AllByRecursion}
-use Rattle.setl_value.proofs.Trim.{tuple_made}
+use Rattle.setl_value.proofs.Trim.{tuple_made, trim_depth}
+use Rattle.setl_value.specs.Datum.{depth, tuple_of}
 use Rattle.setl_value.specs.DatumOf.{part}
 use Rattle.setl_value.specs.WellFormed.{IsTupleList, PartIsWellFormed, trim}
 use Rattle.setl_value.proofs.TupleBody.of.Goals as goal
 
+pub depth_of-deep-requires-clause-bound : goal.depth_of-deep-requires-clause-bound
+depth_of-deep-requires-clause-bound c =
+    omega (arith, ap (λ l. depth (tuple_of (map part l))) c.as_slice-2.ensures.value, ap (λ l. depth (tuple_of l)) c.trim_end.ensures, trim_depth (map part c.args.parts.items), c.requires.shallow)
+
 pub invariant_of-result : goal.invariant_of-result
 invariant_of-result c =
     let ps = map part c.args.parts.items in
-    let stand : AllByRecursion PartIsWellFormed ps = subst (λ l. AllByRecursion PartIsWellFormed (map part l)) c.as_slice.ensures.value c.learn_parts.ensures in
-    let view : map part c.in_ok-new.field-0.value.items ≡ trim ps =
-    ap (λ v. map part v.items) c.in_ok-new.ensures.ok ∙ ap (map part) c.truncate.ensures.items
-    ∙ ap (λ l. map part (take c.kept-n.result l)) (sym c.as_slice-2.ensures.value)
-    ∙ c.kept-n.ensures.trimmed ∙ ap (λ l. trim (map part l)) c.as_slice-2.ensures.value in
-    subst IsTupleList (sym view) (tuple_made ps stand c.requires.shallow)
+    let kept : map part c.in_ok-new.field-0.value.items ≡ trim ps = ap (λ v. map part v.items) c.in_ok-new.ensures.ok ∙ c.trim_end.ensures in
+    let fine : AllByRecursion PartIsWellFormed ps = subst (λ l. AllByRecursion PartIsWellFormed (map part l)) c.as_slice.ensures.value c.learn_parts.ensures in (
+      subst IsTupleList (sym kept) (tuple_made ps fine c.requires.shallow),
+      c.depth_of-deep.ensures ∙ ap (λ l. depth (tuple_of (map part l))) (c.as_slice-2.ensures.value ∙ sym (ap (λ v. v.items) c.in_ok-new.ensures.ok)),
+    )

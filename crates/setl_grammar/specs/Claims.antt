@@ -1,0 +1,23 @@
+-- What is claimed of reading and of the grammar.
+use Rattle.std.specs.Prelude.{◌≡◌, ℕ, ◌≤◌, [], Ok}
+use Rattle.setl_tree.specs.declared.tree.Tree.{Tree}
+use Rattle.setl_tree.specs.Tokens.{Tokens}
+use Rattle.setl_tree.specs.Programs as grammar
+use Rattle.setl_tree.specs.Programs.{Derives}
+use Rattle.setl_grammar.specs.ReadPrograms as reading
+
+-- a tree that is read to the end of the tokens is one that they derive with so many nestings
+abbrev pub ReadingIsSound : Type 0
+ReadingIsSound = (room : ℕ) (toks : Tokens) (tree : Tree) → reading.program room toks ≡ Ok (tree, []) → grammar.program room toks tree
+
+-- a tree that tokens derive with so many nestings is read from them
+abbrev pub ReadingIsComplete : Type 0
+ReadingIsComplete = (room : ℕ) (toks : Tokens) (tree : Tree) → grammar.program room toks tree → reading.program room toks ≡ Ok (tree, [])
+
+-- what tokens derive with some nestings they derive where more may open
+abbrev pub NestingsMayBeMore : Type 0
+NestingsMayBeMore = (room more : ℕ) (toks : Tokens) (tree : Tree) → room ≤ more → grammar.program room toks tree → grammar.program more toks tree
+
+-- tokens derive at most one tree, however many nestings there are
+abbrev pub TreeIsUnique : Type 0
+TreeIsUnique = (toks : Tokens) (one two : Tree) → Derives toks one → Derives toks two → one ≡ two

@@ -1,0 +1,10 @@
+//! How the grammar is read from left to right, and the laws between reading and the grammar.
+#![tactic(auto)]
+
+mod ahead;
+mod claims;
+mod fault;
+
+pub use ahead::Ahead;
+pub use claims::{reading_meets_grammar, tree_is_unique};
+pub use fault::Fault;

@@ -1,0 +1,9 @@
+pub mod Texts
+pub mod formers
+pub mod Tokens
+pub mod Lang
+pub mod Operators
+pub mod Expressions
+pub mod Statements
+pub mod Modes
+pub mod Programs

@@ -1,0 +1,27 @@
+//! The syntax trees of SETL, its tokens as plain data, and its grammar.
+//!
+//! The grammar stands in `specs/`: `Derives tokens tree` says which tokens spell which program.
+#![tactic(auto)]
+
+mod boxed;
+mod expr;
+mod items;
+mod kind;
+mod mode;
+mod stmt;
+#[cfg(test)]
+mod tests;
+mod text;
+mod tree;
+
+pub use boxed::Boxed;
+pub use expr::{
+    BinaryOp, Bound, Expr, Fold, Inner, Iter, Prefix, Quantifier, Relation, Selector, Slot,
+};
+pub use items::Items;
+pub use kind::Kind;
+pub use mode::{Attribute, Core, ReprLine, WrittenMode};
+pub use std::alloc::AllocError as Memory;
+pub use stmt::{Branch, FromEnd, Place, Stmt, StmtKind};
+pub use text::Text;
+pub use tree::{Declared, Param, Passing, Proc, Tree};

@@ -1,0 +1,34 @@
+//! The operators on tuples.
+#![tactic(auto)]
+
+mod components;
+mod lists;
+
+pub use components::{get, put, with};
+pub use lists::{cat, repeat, slice};
+use setl_value::Memory;
+
+/// Why an operator gave no tuple.
+#[derive(Clone, Copy, Debug, PartialEq, Eq)]
+pub enum TupleFault {
+    /// A place is below 1, a count is below 0, or places lie outside a tuple.
+    Range,
+    /// The tuple would be more than 500 deep.
+    Deep,
+    /// Memory was refused.
+    NoMemory,
+}
+
+impl From<Memory> for TupleFault {
+    ghost use Rattle.std.specs.Prelude.{◌≡◌};
+    ghost use Rattle.setl_tuple.specs.declared.TupleFault.TheVariants.{NoMemory};
+
+    ghost from_gives = { λ _ e. e ≡ NoMemory };
+
+    fn from(_e: Memory) -> TupleFault {
+        TupleFault::NoMemory
+    }
+}
+
+#[cfg(test)]
+mod tests;

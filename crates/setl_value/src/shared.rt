@@ -1,0 +1,31 @@
+//! Changes of a list that may have several owners: it is copied first where it has others.
+
+ghost use Rattle.std.specs.Prelude.{◌≡◌, ◌<◌, ◌≤◌, length, slice_get, IfOk, OnErr, OnOk, Some};
+ghost use Rattle.std.specs.List.{insert, remove};
+
+use crate::Memory;
+use std::rc::Rc;
+
+/// Puts `v` before the i-th item.
+pub(crate) fn put_in<T: Clone>(items: &mut Rc<Vec<T>>, i: usize, v: T) -> Result<(), Memory>
+    requires exact { (x y : T) → T.is_clone x y → y ≡ x }
+    requires inside { i ≤ length items.old.value.items }
+    ensures put { OnOk result (items.new.value.items ≡ insert items.old.value.items i v) }
+    ensures refused { OnErr result (items.new.value.items ≡ items.old.value.items) }
+{
+    let list = Rc::make_mut(items)?;
+    list.insert(i, v)?;
+    Ok(())
+}
+
+/// Takes the i-th item out.
+pub(crate) fn cut_in<T: Clone>(items: &mut Rc<Vec<T>>, i: usize) -> Result<T, Memory>
+    requires exact { (x y : T) → T.is_clone x y → y ≡ x }
+    requires inside { i < length items.old.value.items }
+    ensures taken { IfOk result (λ v. slice_get items.old.value.items i ≡ Some v) }
+    ensures cut { OnOk result (items.new.value.items ≡ remove items.old.value.items i) }
+    ensures refused { OnErr result (items.new.value.items ≡ items.old.value.items) }
+{
+    let list = Rc::make_mut(items)?;
+    Ok(list.remove(i))
+}

@@ -1,0 +1,257 @@
+//! The body of a tuple: a list of components that doesn't end in `om`, and its depth.
+
+ghost use Rattle.std.specs.Prelude.{◌≡◌, ◌<◌, ◌≤◌, ◌+◌, ◌-◌, ◌∷◌, ◌⊎◌, length, slice_get, slice_set, take, map, max, unwrap_or, is_none, IfOk, OnErr, OnOk, MatchOption, Some, None};
+ghost use Rattle.std.specs.List.{remove, AllByRecursion};
+ghost use Rattle.setl_value.specs.Datum.{depth, part_depth, tuple_of};
+ghost use Rattle.setl_value.specs.DatumOf.{datum, part};
+ghost use Rattle.setl_value.specs.WellFormed.{IsTupleList, PartIsWellFormed, trim, put};
+
+use crate::shared::cut_in;
+use crate::{Memory, TupleBody, Value};
+use std::alloc::Global;
+use std::rc::Rc;
+
+impl TupleBody {
+    /// The tuple of these components, without the `om` at their end. It is at most 500 deep.
+    pub fn of(alloc: Global, parts: Vec<Option<Value>>) -> Result<TupleBody, Memory>
+        requires shallow { depth (tuple_of (map part parts.items)) ≤ 500 }
+        ensures trimmed { IfOk result (λ t. t ≡ trim (map part parts.items)) }
+    {
+        let mut parts = parts;
+        learn_parts(parts.as_slice());
+        trim_end(&mut parts);
+        let deep = depth_of(parts.as_slice(), 500);
+        Ok(TupleBody {
+            parts: Rc::new(alloc, parts)?,
+            deep,
+        })
+    }
+
+    /// How many components the tuple has.
+    pub fn len(&self) -> usize
+        ensures { result ≡ length self.now }
+    {
+        self.parts.len()
+    }
+
+    /// The i-th component, counted from 0. It is `om` past the end.
+    pub fn at(&self, i: usize) -> Option<&Value>
+        ensures { MatchOption result ((slice_get self.now i ≡ Some None) ⊎ (slice_get self.now i ≡ None)) (λ v. slice_get self.now i ≡ Some (Some (datum v.now))) }
+    {
+        match self.parts.get(i) {
+            Some(Some(v)) => Some(v),
+            _ => None,
+        }
+    }
+
+    /// Writes the i-th component, or one more where i is the length, and drops the `om` at the end. The depth stays
+    /// at most 500. Where memory is refused, the tuple is as before.
+    pub fn put_at(&mut self, i: usize, v: Option<Value>) -> Result<(), Memory>
+        requires inside { i ≤ length self.old }
+        requires shallow { depth (tuple_of (put self.old i (part v))) ≤ 500 }
+        ensures put { OnOk result (self.new ≡ trim (put self.old i (part v))) }
+        ensures refused { OnErr result (self.new ≡ self.old) }
+    {
+        learn_part(&v);
+        let came = depth_of_part(&v);
+        let gone = depth_at(self.parts.as_slice(), i);
+        put_part(&mut self.parts, i, v)?;
+        self.deep = depth_after(self.parts.as_slice(), self.deep, gone, came);
+        Ok(())
+    }
+
+    /// Takes the first component off. Where memory is refused, the tuple is as before.
+    pub fn cut_front(&mut self) -> Result<Option<Value>, Memory>
+        requires { 0 < length self.old }
+        ensures cut { IfOk result (λ p. self.old ≡ part p ∷ self.new) }
+        ensures refused { OnErr result (self.new ≡ self.old) }
+    {
+        let first = cut_in(&mut self.parts, 0)?;
+        self.deep = depth_after(self.parts.as_slice(), self.deep, depth_of_part(&first), 0);
+        Ok(first)
+    }
+
+    /// Takes the last component off, and then the `om` at the end. Where memory is refused, the tuple is as before.
+    pub fn cut_back(&mut self) -> Result<Option<Value>, Memory>
+        requires { 0 < length self.old }
+        ensures taken { IfOk result (λ p. slice_get self.old (length self.old - 1) ≡ Some (part p)) }
+        ensures cut { OnOk result (self.new ≡ trim (remove self.old (length self.old - 1))) }
+        ensures refused { OnErr result (self.new ≡ self.old) }
+    {
+        let last = cut_last(&mut self.parts)?;
+        self.deep = depth_after(self.parts.as_slice(), self.deep, depth_of_part(&last), 0);
+        Ok(last)
+    }
+
+    /// One more than the greatest depth of a component, and 1 for the empty tuple.
+    pub fn depth(&self) -> u32
+        ensures { result ≡ depth (tuple_of self.now) }
+    {
+        self.deep
+    }
+
+    /// The same tuple, which shares its components.
+    pub fn copy(&self) -> Result<TupleBody, Memory>
+        ensures same { IfOk result (λ t. t ≡ self.now) }
+    {
+        Ok(TupleBody {
+            parts: self.parts.clone()?,
+            deep: self.deep,
+        })
+    }
+
+    /// Has no effect: it hands a proof what is true of every tuple, that its components are values or `om`, the last
+    /// one a value, and that it is at most 500 deep.
+    pub fn learn(&self)
+        ensures { IsTupleList self.now }
+    {
+        let _ = &self.parts;
+    }
+}
+
+// Writes the i-th component, or one more at the end, and drops the `om` at the end.
+fn put_part(parts: &mut Rc<Vec<Option<Value>>>, i: usize, v: Option<Value>) -> Result<(), Memory>
+    requires { i ≤ length parts.old.value.items }
+    ensures put { OnOk result (map part parts.new.value.items ≡ trim (put (map part parts.old.value.items) i (part v))) }
+    ensures refused { OnErr result (parts.new.value.items ≡ parts.old.value.items) }
+{
+    let list = Rc::make_mut(parts)?;
+    place_part(list, i, v)?;
+    trim_end(list);
+    Ok(())
+}
+
+// Takes the last component off, and then the `om` at the end.
+fn cut_last(parts: &mut Rc<Vec<Option<Value>>>) -> Result<Option<Value>, Memory>
+    requires { 0 < length parts.old.value.items }
+    ensures taken { IfOk result (λ p. slice_get parts.old.value.items (length parts.old.value.items - 1) ≡ Some p) }
+    ensures cut { OnOk result (map part parts.new.value.items ≡ trim (map part (remove parts.old.value.items (length parts.old.value.items - 1)))) }
+    ensures refused { OnErr result (parts.new.value.items ≡ parts.old.value.items) }
+{
+    let list = Rc::make_mut(parts)?;
+    let end = list.len() - 1;
+    let last = list.remove(end);
+    trim_end(list);
+    Ok(last)
+}
+
+#[tactic(auto, using(crate::proofs::Trim::put_set, crate::proofs::Trim::put_push))]
+fn place_part(list: &mut Vec<Option<Value>>, i: usize, v: Option<Value>) -> Result<(), Memory>
+    requires { i ≤ length list.old.items }
+    ensures put { OnOk result (map part list.new.items ≡ put (map part list.old.items) i (part v)) }
+    ensures refused { OnErr result (list.new.items ≡ list.old.items) }
+{
+    if i < list.len() {
+        replace_part(list, i, v);
+        Ok(())
+    } else {
+        list.push(v)?;
+        Ok(())
+    }
+}
+
+fn replace_part(list: &mut Vec<Option<Value>>, i: usize, v: Option<Value>)
+    requires { i < length list.old.items }
+    ensures { list.new.items ≡ slice_set list.old.items i v }
+{
+    list[i] = v;
+}
+
+// Drops the `om` at the end.
+fn trim_end(list: &mut Vec<Option<Value>>)
+    ensures { map part list.new.items ≡ trim (map part list.old.items) }
+{
+    let n = kept(list.as_slice());
+    list.truncate(n);
+}
+
+// How many components stand before the `om` at the end.
+fn kept(parts: &[Option<Value>]) -> usize
+    ensures bound { result ≤ length parts.now }
+    ensures trimmed { map part (take result parts.now) ≡ trim (map part parts.now) }
+{
+    let mut n = parts.len();
+    while n > 0 && is_om(&parts[n - 1]) {
+        n -= 1;
+    }
+    n
+}
+
+fn is_om(p: &Option<Value>) -> bool
+    ensures { result ≡ is_none (part p.now) }
+{
+    match p {
+        None => true,
+        Some(_) => false,
+    }
+}
+
+// Each component keeps the rules of values.
+fn learn_parts(parts: &[Option<Value>])
+    ensures { AllByRecursion PartIsWellFormed (map part parts.now) }
+{
+    for p in parts {
+        learn_part(p);
+    }
+}
+
+fn learn_part(p: &Option<Value>)
+    ensures { PartIsWellFormed (part p.now) }
+{
+    if let Some(v) = p {
+        v.learn();
+    }
+}
+
+fn depth_of_part(p: &Option<Value>) -> u32
+    ensures { result ≡ part_depth (part p.now) }
+{
+    match p {
+        None => 0,
+        Some(v) => v.depth(),
+    }
+}
+
+// The depth of the i-th component, and 0 past the end.
+fn depth_at(parts: &[Option<Value>], i: usize) -> u32
+    ensures { result ≡ part_depth (unwrap_or (slice_get (map part parts.now) i) None) }
+{
+    match parts.get(i) {
+        None => 0,
+        Some(p) => depth_of_part(p),
+    }
+}
+
+// The depth of a tuple that had the depth `before` until a component of depth `gone` went and one of depth `came`
+// stood in its place.
+fn depth_after(parts: &[Option<Value>], before: u32, gone: u32, came: u32) -> u32
+    requires small { (before ≤ 500) × (came < 500) }
+    requires changed { max (depth (tuple_of (map part parts.now))) (gone + 1) ≡ max before (came + 1) }
+    requires there { came + 1 ≤ depth (tuple_of (map part parts.now)) }
+    ensures { result ≡ depth (tuple_of (map part parts.now)) }
+{
+    if gone <= came || gone + 1 < before {
+        before.max(came + 1)
+    } else {
+        depth_of(parts, before)
+    }
+}
+
+// The depth of a tuple of these components, which is at most `most`. It looks no further than a component that makes
+// the tuple `most` deep.
+fn depth_of(parts: &[Option<Value>], most: u32) -> u32
+    requires small { most ≤ 500 }
+    requires bound { depth (tuple_of (map part parts.now)) ≤ most }
+    ensures { result ≡ depth (tuple_of (map part parts.now)) }
+{
+    let mut deepest: u32 = 1;
+    let mut rest = parts;
+    while let Some((last, others)) = rest.split_last() {
+        deepest = deepest.max(depth_of_part(last) + 1);
+        if deepest == most {
+            return most;
+        }
+        rest = others;
+    }
+    deepest
+}
