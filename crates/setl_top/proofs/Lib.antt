@@ -2,6 +2,8 @@ pub mod Fronts
 pub mod OneTree
 pub mod Reading
 pub mod Left
+pub mod Ends
+pub mod Exclude
 pub mod Leading
 pub mod Integers
 pub mod Evaluating

@@ -18,3 +18,7 @@ pub mod TableValues
 pub mod Breaks
 pub mod Moments
 pub mod Runs
+pub mod Headline
+pub mod Tells
+pub mod Loads
+pub mod Laws

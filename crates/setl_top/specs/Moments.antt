@@ -18,5 +18,12 @@ pub record AtPrint (program : Program) (input : List ℕ) (turns : ℕ) (based :
   pub printed : out ≡ state.out
   pub in_hand : HasPrint program state line
 
--- The run has written this when a `read` is in hand. No statement of the language reads so far.
-pub data AtRead (program : Program) (input : List ℕ) (turns : ℕ) (based : Bool) (out : List ℕ) : Type 0 where
+-- a `read` is in hand; no statement of the language reads so far
+pub data HasRead (program : Program) (state : State Core) : Type 0 where
+
+-- the run has written this when a `read` is in hand
+pub record AtRead (program : Program) (input : List ℕ) (turns : ℕ) (based : Bool) (out : List ℕ) : Type 0 where
+  pub state : State Core
+  pub reached : Reaches program input turns based state
+  pub printed : out ≡ state.out
+  pub in_hand : HasRead program state

@@ -1,4 +1,4 @@
-//! The small language: its programs are read here, until the whole grammar is.
+//! The small language: its programs are read and run here, until the whole language is.
 mod conditions;
 mod cursor;
 mod program;
@@ -7,4 +7,7 @@ mod run;
 mod tables;
 mod texts;
 
-pub use program::{Action, Expression, Statement};
+pub use conditions::meets_conditions;
+pub use program::Statement;
+pub use reader::{Unread, read_small};
+pub use run::{Ran, run_program};

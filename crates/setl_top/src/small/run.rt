@@ -222,7 +222,7 @@ pub enum Ran {
 }
 
 /// Runs the statements of a program, which meet the conditions. Each `print` writes its line at once.
-pub fn run<O: Sink>(alloc: Global, statements: &[Statement], out: &mut O) -> Ran
+pub fn run_program<O: Sink>(alloc: Global, statements: &[Statement], out: &mut O) -> Ran
     requires { meets no_kinds (map stmt_of statements.now) ≡ true }
     ensures bytes { Runs (program_of (map stmt_of statements.now)) (O.held out.old) (O.held out.new) result }
     ensures count { CountsRun (O.faults out.old) (O.faults out.new) result }

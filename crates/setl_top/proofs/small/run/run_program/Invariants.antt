@@ -2,7 +2,7 @@ use Rattle.std.proofs.Common.{◌≡◌, map, drop}
 use Rattle.setl_top.specs.Parsed.{stmt_of}
 use Rattle.setl_top.specs.TableValues.{values_in}
 use Rattle.setl_top.proofs.Running.{InRun}
-use Rattle.setl_top.proofs.small.run.run.Given as goal
+use Rattle.setl_top.proofs.small.run.run_program.Given as goal
 
 abbrev pub invariant-statements : goal.invariant-statements
 invariant-statements g l =

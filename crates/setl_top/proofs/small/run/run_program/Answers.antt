@@ -8,7 +8,7 @@ use Rattle.setl_top.specs.Breaks.{Breaks}
 use Rattle.setl_top.specs.Parsed.{stmt_of, action_of}
 use Rattle.setl_top.specs.TableValues.{values_in}
 use Rattle.setl_top.proofs.Running.{InRun, in_run_none, in_run_can, in_run_more, in_run_done, in_run_failed, in_run_starved}
-use Rattle.setl_top.proofs.small.run.run.Goals as goal
+use Rattle.setl_top.proofs.small.run.run_program.Goals as goal
 
 pub statements-init : goal.statements-init
 statements-init g c =

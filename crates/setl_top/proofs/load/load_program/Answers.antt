@@ -1,0 +1,1 @@
+use Rattle.setl_top.proofs.load.load_program.Goals as goal
