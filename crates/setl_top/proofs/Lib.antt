@@ -2,6 +2,7 @@ pub mod Fronts
 pub mod OneTree
 pub mod Reading
 pub mod Left
+pub mod Accepting
 pub mod Ends
 pub mod Exclude
 pub mod Leading

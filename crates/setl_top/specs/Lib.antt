@@ -1,5 +1,4 @@
 pub mod Words
-pub mod Asked
 pub mod Status
 pub mod Fronts
 pub mod Lines

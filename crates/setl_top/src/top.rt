@@ -7,7 +7,7 @@ use crate::Status;
 use crate::lines::try_line;
 use crate::load::load_program;
 use crate::small::{Ran, run_program};
-use crate::words::{Asked, read_words};
+use crate::words::file_to_run;
 use setl_io::{Files, Sink, Source};
 use std::alloc::Global;
 
@@ -30,9 +30,9 @@ pub fn setl<F: Files, I: Source, O: Sink, E: Sink>(
     ensures headline { let seen = moment F.texts F.faults I.left I.faults O.held O.faults E.held E.faults in
         Headline (map string_bytes words.now) (seen files.old input.old out.old err.old) (seen files.new input.new out.new err.new) result }
 {
-    match read_words(words) {
+    match file_to_run(words) {
+        Some(name) => run_file(alloc, name, files, input, out, err),
         None => Status::Words,
-        Some(Asked::Run(name)) => run_file(alloc, name, files, input, out, err),
     }
 }
 

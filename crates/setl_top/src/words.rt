@@ -1,24 +1,14 @@
 //! The words of the command line.
 ghost use Rattle.std.specs.Prelude.{◌≡◌, ◌↔◌, ℕ, List, codes, map, string_bytes, IsTrue, IfSome, IfNone};
-ghost use Rattle.setl_top.specs.Asked.{command_of};
-ghost use Rattle.setl_top.specs.Words.{Spells, IsFaulty, IsFile};
+ghost use Rattle.setl_top.specs.Words.{Run, Spells, IsFaulty, IsFile};
 
-/// What the words ask for.
-#[derive(Clone, Copy)]
-pub enum Asked<'a> {
-    /// A run of the program in this file.
-    Run(&'a str),
-}
-
-/// Reads the words. `None` comes exactly where they are of no plain form.
-pub fn read_words(words: &[String]) -> Option<Asked<'_>>
-    ensures plain { IfSome result (λ asked. Spells (map string_bytes words.now) (command_of asked)) }
+/// Reads the words: the file whose program is to be run. `None` comes exactly where they are of no plain form.
+pub fn file_to_run(words: &[String]) -> Option<&str>
+    ensures plain { IfSome result (λ name. Spells (map string_bytes words.now) (Run name.now)) }
     ensures faulty { IfNone result (IsFaulty (map string_bytes words.now)) }
 {
     match words {
-        [word, name] if is_run(word.as_str()) && is_file(name.as_str()) => {
-            Some(Asked::Run(name.as_str()))
-        }
+        [word, name] if is_run(word.as_str()) && is_file(name.as_str()) => Some(name.as_str()),
         _ => None,
     }
 }

@@ -4,5 +4,5 @@ use Rattle.setl_top.proofs.top.setl.Goals as goal
 pub returns-in-None : goal.returns-in-None
 returns-in-None g c = record { headline = faulty_ends _ _ c.in-None.ensures.faulty }
 
-pub returns-in-Some-Run : goal.returns-in-Some-Run
-returns-in-Some-Run g c = record { headline = c.run_file.ensures.headline _ (rw c.in-Some-Run.field-0-is at c.in-Some-Run.ensures.plain) }
+pub returns-in-Some : goal.returns-in-Some
+returns-in-Some g c = record { headline = c.run_file.ensures.headline _ c.in-Some.ensures.plain }
