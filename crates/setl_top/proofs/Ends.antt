@@ -1,0 +1,190 @@
+-- How the parts of a call make its headline.
+use Rattle.std.proofs.Common.{◌≡◌, ◌∙◌, ◌⊎◌, inl, inr, ◌<◌, ◌≤◌, ◌+◌, ◌^◌, ◌-◌, ℕ, Bool, true, List, [], ◌∷◌, ◌++◌, length, take, Option, None, Some, refl, sym, ap, subst, arith, codes}
+use Rattle.std.specs.Io.KnownBytes.{Appends}
+use Rattle.setl_io.specs.Faults.{Rose}
+use Rattle.setl_io.specs.declared.whole.WriteFault.TheVariants as fault
+use Rattle.setl_io.specs.Files.{Texts, IsText}
+use Rattle.setl_model.specs.Answers.{IsDone, IsStopped, IsSpent, RunStatus, status_of, error_line}
+use Rattle.setl_model.specs.Core.{Core}
+use Rattle.setl_model.specs.Events.{End, Done as DoneEnd}
+use Rattle.setl_model.specs.Means.{Means, Reaches}
+use Rattle.setl_model.specs.Program.{Program}
+use Rattle.setl_model.specs.Run.{State, Goes, Ends, Next, Machine, Test, step, settle, store_all, if_fits, Move, Moves, Halts, and_then, run}
+use Rattle.setl_model.specs.Step.{language, test_of}
+use Rattle.setl_top.specs.Accepted.{Accepted, Refusal, program_of}
+use Rattle.setl_top.specs.Fronts.{IsFront}
+use Rattle.setl_top.specs.Lines.{AppendsFront, AppendsFronts}
+use Rattle.setl_top.specs.Loads.{Loaded, NotLoaded, not_accepted, not_read, no_room}
+use Rattle.setl_top.specs.Moments.{AtState, AtPrint}
+use Rattle.setl_top.specs.Runs.{RunsTo, RunsInto, RunsUpTo}
+use Rattle.setl_top.specs.Tells.{Tells, whole, failed, no_memory}
+use Rattle.setl_top.specs.Tree.{Tree}
+use Rattle.setl_top.specs.Words.{IsFaulty, Spells, HasFile, Command, Run}
+use Rattle.setl_top.specs.Headline.{Moment, Job, IsInput, IsToRun, Answers, faulty_words, refused, run_ended, status_for, UpToAny, no_program, at_state, in_print, UpToPrint, at_print, ReadCause, load_failed, TellsFault, IsQuiet, LeavesInput, Ended, ReadFailed, WriteFailed, MemoryFailed, WriteCause, out_failed, err_failed, Headline}
+use Rattle.setl_top.specs.declared.status.Status.{Status}
+use Rattle.setl_top.specs.declared.status.Status.TheVariants.{Done, Refused, Words, Stopped, Spent, ReadFault, WriteFault, NoMemory}
+use Rattle.setl_top.proofs.Fronts.{appends_none, front_none}
+
+-- faulty words change nothing
+pub faulty_ends : (words : List (List ℕ)) (m : Moment) → IsFaulty words → Ended words m m Words
+faulty_ends words m h = record {
+  out = [];
+  err = [];
+  answer = faulty_words h;
+  out_gained = appends_none m.out;
+  err_gained = appends_none m.err;
+  input_left = refl;
+  quiet = record { files = omega arith; input = omega arith; out = omega arith; err = omega arith };
+}
+
+run_headline : (words : List (List ℕ)) (before after : Moment) (ending : RunStatus) → Ended words before after (status_for ending) → Headline words before after (status_for ending)
+run_headline words before after IsDone e = e
+run_headline words before after IsStopped e = e
+run_headline words before after IsSpent e = e
+
+-- the status of an answer is one of an end
+pub ended_headline : (words : List (List ℕ)) (before after : Moment) (status : Status) (out err : List ℕ) → Answers words before status out err → Ended words before after status → Headline words before after status
+ended_headline words before after _ _ _ (faulty_words h) e = e
+ended_headline words before after _ _ _ (refused command name source line a f b c) e = e
+ended_headline words before after _ _ _ (run_ended job out end ending a m s) e = run_headline words before after ending e
+
+-- a fault's own line, and nothing before it
+pub fault_alone : (words : List (List ℕ)) (before : Moment) (line : List ℕ) (old new : Option (List ℕ)) → AppendsFront old new (line ++ 10 ∷ []) → TellsFault words before line old new
+fault_alone words before line old new h = record {
+  status = Done;
+  out = [];
+  otherwise = [];
+  told = [];
+  fault = h.0;
+  answer = inl refl;
+  told_front = front_none [];
+  fault_front = h.1;
+  gained = h.2;
+}
+
+-- a front of an answer's line, and then a front of a fault's own line
+pub fault_after : (words : List (List ℕ)) (before : Moment) (line : List ℕ) (old new : Option (List ℕ)) (status : Status) (out err : List ℕ) → Answers words before status out err → AppendsFronts old new err (line ++ 10 ∷ []) → TellsFault words before line old new
+fault_after words before line old new status out err a h = record {
+  status = status;
+  out = out;
+  otherwise = err;
+  told = h.0;
+  fault = h.1;
+  answer = inr a;
+  told_front = h.2;
+  fault_front = h.3;
+  gained = h.4;
+}
+
+-- a refusal whose last line was told, or not
+pub told : (words : List (List ℕ)) (before after : Moment) (err : List ℕ) → Answers words before Refused [] err → Appends before.out after.out [] → after.input ≡ before.input → after.files_faults ≤ before.files_faults → after.input_faults ≤ before.input_faults → after.out_faults ≤ before.out_faults → (r : Status) → Tells Refused err before.err after.err before.err_faults after.err_faults r → Headline words before after r
+told words before after err a o l f i u _ (whole h k) = record {
+  out = [];
+  err = err;
+  answer = a;
+  out_gained = o;
+  err_gained = h;
+  input_left = l;
+  quiet = record { files = f; input = i; out = u; err = omega arith };
+}
+told words before after err a o l f i u _ (failed rose h) = record {
+  out = [];
+  cause = err_failed Refused err rose a;
+  out_gained = o;
+  err_gained = fault_after words before (codes "write fault") before.err after.err Refused [] err a h;
+}
+told words before after err a o l f i u _ (no_memory h) = record {
+  out = [];
+  so_far = no_program;
+  out_gained = o;
+  err_gained = fault_after words before (codes "no memory") before.err after.err Refused [] err a h;
+}
+
+-- a source wasn't loaded
+pub not_loaded : (words : List (List ℕ)) (before after : Moment) (command : Command) (name : List ℕ) → Spells words command → HasFile command name → Appends before.out after.out [] → after.input ≡ before.input → after.input_faults ≤ before.input_faults → after.out_faults ≤ before.out_faults → (r : Status) → NotLoaded before.texts name before.files_faults after.files_faults before.err after.err before.err_faults after.err_faults r → Headline words before after r
+not_loaded words before after command name s f o l i u _ (not_accepted source line r t why e h) = told words before after (line ++ 10 ∷ []) (refused command name source line s f t why) o l (omega arith) i u r h
+not_loaded words before after command name s f o l i u _ (not_read rose h) = record {
+  out = [];
+  cause = load_failed rose;
+  out_gained = o;
+  err_gained = fault_alone words before (codes "read fault") before.err after.err h;
+}
+not_loaded words before after command name s f o l i u _ (no_room h) = record {
+  out = [];
+  so_far = no_program;
+  out_gained = o;
+  err_gained = fault_alone words before (codes "no memory") before.err after.err h;
+}
+
+-- the bytes of an input, or none where they aren't told
+abbrev input_of : Option (List ℕ) → List ℕ
+input_of None = []
+input_of (Some left) = left
+
+is_input : (a : Option (List ℕ)) → IsInput a (input_of a)
+is_input None = tt
+is_input (Some left) = refl
+
+abbrev pub job_of : Moment → Tree → Job
+job_of before tree = record { program = program_of tree; input = input_of before.input; turns = 2 ^ 63 - 1; based = true }
+
+-- a program that was loaded is to be run
+pub to_run : (words : List (List ℕ)) (before : Moment) (name : List ℕ) (tree : Tree) → Spells words (Run name) → Loaded before.texts name tree → IsToRun words before (job_of before tree)
+to_run words before name tree s l = record {
+  command = Run name;
+  name = name;
+  source = l.source;
+  spelled = s;
+  runs = (refl, refl, refl);
+  text = l.text;
+  accepted = l.accepted;
+  input = is_input before.input;
+}
+
+-- a run came to its end
+pub run_done : (words : List (List ℕ)) (before after : Moment) (tree : Tree) → IsToRun words before (job_of before tree) → RunsTo (program_of tree) before.out after.out → Appends before.err after.err [] → IsQuiet before after → Ended words before after Done
+run_done words before after tree a r e q =
+    let job = job_of before tree in
+    record {
+      out = r.out;
+      err = [];
+      answer = run_ended job r.out DoneEnd IsDone a (r.means job.input job.turns job.based) refl;
+      out_gained = r.gained;
+      err_gained = e;
+      input_left = tt;
+      quiet = q;
+    }
+
+-- a print failed
+pub run_failed : (words : List (List ℕ)) (before after : Moment) (tree : Tree) → IsToRun words before (job_of before tree) → RunsInto (program_of tree) before.out after.out → Rose before.out_faults after.out_faults → AppendsFront before.err after.err (codes "write fault" ++ 10 ∷ []) → WriteFailed words before after
+run_failed words before after tree a r rose h =
+    let job = job_of before tree in
+    record {
+      out = r.out ++ take r.n r.line;
+      cause = out_failed rose (at_print job r.out r.line r.n a (r.at job.input job.turns job.based) r.part);
+      out_gained = r.gained;
+      err_gained = fault_alone words before (codes "write fault") before.err after.err h;
+    }
+
+-- memory was refused in a run
+pub run_starved : (words : List (List ℕ)) (before after : Moment) (tree : Tree) → IsToRun words before (job_of before tree) → RunsInto (program_of tree) before.out after.out ⊎ RunsUpTo (program_of tree) before.out after.out → AppendsFront before.err after.err (codes "no memory" ++ 10 ∷ []) → MemoryFailed words before after
+run_starved words before after tree a (inl r) h =
+    let job = job_of before tree in
+    record {
+      out = r.out ++ take r.n r.line;
+      so_far = in_print (r.out ++ take r.n r.line) (at_print job r.out r.line r.n a (r.at job.input job.turns job.based) r.part);
+      out_gained = r.gained;
+      err_gained = fault_alone words before (codes "no memory") before.err after.err h;
+    }
+run_starved words before after tree a (inr r) h =
+    let job = job_of before tree in
+    record {
+      out = r.out;
+      so_far = at_state job r.out a (r.at job.input job.turns job.based);
+      out_gained = r.gained;
+      err_gained = fault_alone words before (codes "no memory") before.err after.err h;
+    }
+
+-- nothing was added, where nothing changed
+pub appends_same : (a b : Option (List ℕ)) → b ≡ a → Appends a b []
+appends_same a b e = subst (λ c. Appends a c []) (sym e) (appends_none a)

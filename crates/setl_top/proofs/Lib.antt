@@ -1,0 +1,17 @@
+pub mod Fronts
+pub mod OneTree
+pub mod Reading
+pub mod Left
+pub mod Accepting
+pub mod Ends
+pub mod Exclude
+pub mod Leading
+pub mod Integers
+pub mod Evaluating
+pub mod Performing
+pub mod Fitting
+pub mod Running
+pub mod Members
+pub mod Spaced
+pub mod Tables
+pub mod Shorter

@@ -1,0 +1,164 @@
+-- What a call of the program answers, and what it does to the outside.
+use Rattle.std.specs.Prelude.{◌≡◌, ◌⊎◌, ◌<◌, ◌≤◌, ℕ, Bool, List, [], ◌∷◌, ◌++◌, length, take, Option, None, Some, ⊤, codes}
+use Rattle.std.specs.Io.KnownBytes.{Appends}
+use Rattle.setl_io.specs.Faults.{Rose}
+use Rattle.setl_io.specs.Files.{Texts, IsText}
+use Rattle.setl_model.specs.Answers.{RunStatus, IsDone, IsStopped, IsSpent, status_of, error_line}
+use Rattle.setl_model.specs.Events.{End}
+use Rattle.setl_model.specs.Means.{Means}
+use Rattle.setl_model.specs.Program.{Program}
+use Rattle.setl_top.specs.Accepted.{Accepted, Refusal}
+use Rattle.setl_top.specs.Fronts.{IsFront}
+use Rattle.setl_top.specs.Moments.{AtState, AtPrint, AtRead}
+use Rattle.setl_top.specs.Words.{Command, Spells, HasFile, RunsFile, IsFaulty}
+use Rattle.setl_top.specs.declared.status.Status.{Status}
+use Rattle.setl_top.specs.declared.status.Status.TheVariants.{Done, Refused, Words, Stopped, Spent, ReadFault, WriteFault, NoMemory}
+
+-- What is seen of the outside at one moment: the contents, where they are told, and the counts of faults.
+pub record Moment : Type 0 where
+  pub texts : Texts
+  pub input : Option (List ℕ)
+  pub out : Option (List ℕ)
+  pub err : Option (List ℕ)
+  pub files_faults : ℕ
+  pub input_faults : ℕ
+  pub out_faults : ℕ
+  pub err_faults : ℕ
+
+-- what is seen of the objects that a call is handed, by the words of their traits
+abbrev pub moment : {F I O E : Type 0} → (F → Texts) → (F → ℕ) → (I → Option (List ℕ)) → (I → ℕ) → (O → Option (List ℕ)) → (O → ℕ) → (E → Option (List ℕ)) → (E → ℕ) → F → I → O → E → Moment
+moment texts files_faults left input_faults held out_faults told err_faults files input out err = record {
+  texts = texts files;
+  input = left input;
+  out = held out;
+  err = told err;
+  files_faults = files_faults files;
+  input_faults = input_faults input;
+  out_faults = out_faults out;
+  err_faults = err_faults err;
+}
+
+-- what is run: a program, the bytes of its input, its bound on turns, and whether its declarations count
+pub record Job : Type 0 where
+  pub program : Program
+  pub input : List ℕ
+  pub turns : ℕ
+  pub based : Bool
+
+-- where the bytes left of an input are told, they are these
+abbrev pub IsInput : Option (List ℕ) → List ℕ → Type 0
+IsInput None bytes = ⊤
+IsInput (Some left) bytes = left ≡ bytes
+
+-- the words ask for this to be run
+pub record IsToRun (words : List (List ℕ)) (before : Moment) (job : Job) : Type 0 where
+  pub command : Command
+  pub name : List ℕ
+  pub source : List ℕ
+  pub spelled : Spells words command
+  pub runs : RunsFile command name job.turns job.based
+  pub text : IsText before.texts name source
+  pub accepted : Accepted source job.program
+  pub input : IsInput before.input job.input
+
+-- the status of a run's end
+abbrev pub status_for : RunStatus → Status
+status_for IsDone = Done
+status_for IsStopped = Stopped
+status_for IsSpent = Spent
+
+-- Where nothing fails: the status, and what is added to the output and to the error output.
+pub data Answers (words : List (List ℕ)) (before : Moment) : Status → List ℕ → List ℕ → Type 0 where
+  faulty_words : IsFaulty words → Answers words before Words [] []
+  refused : (command : Command) (name source line : List ℕ) → Spells words command → HasFile command name → IsText before.texts name source → Refusal source line → Answers words before Refused [] (line ++ 10 ∷ [])
+  run_ended : (job : Job) (out : List ℕ) (end : End) (ending : RunStatus) → IsToRun words before job → Means job.program job.input job.turns job.based out end → status_of end ≡ Some ending → Answers words before (status_for ending) out (error_line end)
+
+-- at a print: the output up to it, and some of its line, and not all of it
+pub data UpToPrint (words : List (List ℕ)) (before : Moment) : List ℕ → Type 0 where
+  at_print : (job : Job) (out line : List ℕ) (n : ℕ) → IsToRun words before job → AtPrint job.program job.input job.turns job.based out line → n < length line → UpToPrint words before (out ++ take n line)
+
+-- anywhere: nothing, the output of a state, or that and some of the line of the print in hand
+pub data UpToAny (words : List (List ℕ)) (before : Moment) : List ℕ → Type 0 where
+  no_program : UpToAny words before []
+  at_state : (job : Job) (out : List ℕ) → IsToRun words before job → AtState job.program job.input job.turns job.based out → UpToAny words before out
+  in_print : (out : List ℕ) → UpToPrint words before out → UpToAny words before out
+
+-- What the error output gains when a call is broken off: a front of what it would hold otherwise, and then a front of
+-- the error line.
+pub record TellsFault (words : List (List ℕ)) (before : Moment) (line : List ℕ) (old new : Option (List ℕ)) : Type 0 where
+  pub status : Status
+  pub out : List ℕ
+  pub otherwise : List ℕ
+  pub told : List ℕ
+  pub fault : List ℕ
+  pub answer : (otherwise ≡ []) ⊎ Answers words before status out otherwise
+  pub told_front : IsFront told otherwise
+  pub fault_front : IsFront fault (line ++ 10 ∷ [])
+  pub gained : Appends old new (told ++ fault)
+
+-- no count of faults is greater than before
+pub record IsQuiet (before after : Moment) : Type 0 where
+  pub files : after.files_faults ≤ before.files_faults
+  pub input : after.input_faults ≤ before.input_faults
+  pub out : after.out_faults ≤ before.out_faults
+  pub err : after.err_faults ≤ before.err_faults
+
+-- a call that runs no program leaves the input as it was
+abbrev pub LeavesInput : Status → Moment → Moment → Type 0
+LeavesInput Refused before after = after.input ≡ before.input
+LeavesInput Words before after = after.input ≡ before.input
+LeavesInput status before after = ⊤
+
+-- the call came to its end
+pub record Ended (words : List (List ℕ)) (before after : Moment) (status : Status) : Type 0 where
+  pub out : List ℕ
+  pub err : List ℕ
+  pub answer : Answers words before status out err
+  pub out_gained : Appends before.out after.out out
+  pub err_gained : Appends before.err after.err err
+  pub input_left : LeavesInput status before after
+  pub quiet : IsQuiet before after
+
+-- the load failed and nothing was added, or a read failed after the output up to it
+pub data ReadCause (words : List (List ℕ)) (before after : Moment) : List ℕ → Type 0 where
+  load_failed : Rose before.files_faults after.files_faults → ReadCause words before after []
+  read_failed : (job : Job) (out : List ℕ) → Rose before.input_faults after.input_faults → IsToRun words before job → AtRead job.program job.input job.turns job.based out → ReadCause words before after out
+
+pub record ReadFailed (words : List (List ℕ)) (before after : Moment) : Type 0 where
+  pub out : List ℕ
+  pub cause : ReadCause words before after out
+  pub out_gained : Appends before.out after.out out
+  pub err_gained : TellsFault words before (codes "read fault") before.err after.err
+
+-- the output failed in a print, or the error output failed after the whole output
+pub data WriteCause (words : List (List ℕ)) (before after : Moment) (out : List ℕ) : Type 0 where
+  out_failed : Rose before.out_faults after.out_faults → UpToPrint words before out → WriteCause words before after out
+  err_failed : (status : Status) (err : List ℕ) → Rose before.err_faults after.err_faults → Answers words before status out err → WriteCause words before after out
+
+pub record WriteFailed (words : List (List ℕ)) (before after : Moment) : Type 0 where
+  pub out : List ℕ
+  pub cause : WriteCause words before after out
+  pub out_gained : Appends before.out after.out out
+  pub err_gained : TellsFault words before (codes "write fault") before.err after.err
+
+-- memory was refused
+pub record MemoryFailed (words : List (List ℕ)) (before after : Moment) : Type 0 where
+  pub out : List ℕ
+  pub so_far : UpToAny words before out
+  pub out_gained : Appends before.out after.out out
+  pub err_gained : TellsFault words before (codes "no memory") before.err after.err
+
+-- what each status says of the words and of the outside before and after the call
+abbrev pub Headline : List (List ℕ) → Moment → Moment → Status → Type 0
+Headline words before after Done = Ended words before after Done
+Headline words before after Refused = Ended words before after Refused
+Headline words before after Words = Ended words before after Words
+Headline words before after Stopped = Ended words before after Stopped
+Headline words before after Spent = Ended words before after Spent
+Headline words before after ReadFault = ReadFailed words before after
+Headline words before after WriteFault = WriteFailed words before after
+Headline words before after NoMemory = MemoryFailed words before after
+
+-- some count rose
+abbrev pub AnyRose : Moment → Moment → Type 0
+AnyRose before after = (Rose before.files_faults after.files_faults ⊎ Rose before.input_faults after.input_faults) ⊎ (Rose before.out_faults after.out_faults ⊎ Rose before.err_faults after.err_faults)

@@ -1,0 +1,34 @@
+-- Laws over the headline and the definitions under it.
+use Rattle.std.specs.Prelude.{◌≡◌, ◌⊎◌, ℕ, Bool, List, [], ◌∷◌, ◌++◌, Option, Some}
+use Rattle.setl_model.specs.Answers.{RunStatus, status_of, error_line}
+use Rattle.setl_model.specs.Events.{End, Done}
+use Rattle.setl_model.specs.Means.{Means}
+use Rattle.setl_model.specs.Program.{Program}
+use Rattle.setl_top.specs.Accepted.{Accepted, Refusal}
+use Rattle.setl_top.specs.Headline.{Moment, Headline, Ended, AnyRose, Answers, Job, IsToRun, status_for}
+use Rattle.setl_top.specs.Words.{Command, Spells, HasFile}
+use Rattle.setl_top.specs.declared.status.Status.{Status}
+use Rattle.setl_top.specs.declared.status.Status.TheVariants.{NoMemory, Refused}
+
+-- the call failed in none of the three ways only where it came to its end
+abbrev pub IsComplete : Type 0
+IsComplete = (words : List (List ℕ)) (before after : Moment) (status : Status) →
+    Headline words before after status → (AnyRose before after ⊎ (status ≡ NoMemory)) ⊎ Ended words before after status
+
+-- the texts are told
+abbrev pub TellsTexts : Moment → (List ℕ → Option (List ℕ)) → Type 0
+TellsTexts before texts = before.texts ≡ Some texts
+
+abbrev pub RefusesExactly : Type 0
+RefusesExactly = (words : List (List ℕ)) (before : Moment) (texts : List ℕ → Option (List ℕ)) (command : Command) (name source line : List ℕ) (status : Status) (out err : List ℕ) →
+    TellsTexts before texts → Spells words command → HasFile command name → texts name ≡ Some source → Refusal source line → Answers words before status out err →
+    (status ≡ Refused) × (out ≡ []) × (err ≡ line ++ 10 ∷ [])
+
+abbrev pub EndsExactly : Type 0
+EndsExactly = (words : List (List ℕ)) (before : Moment) (texts : List ℕ → Option (List ℕ)) (input : List ℕ) (job : Job) (said : List ℕ) (end : End) (ending : RunStatus) (status : Status) (out err : List ℕ) →
+    TellsTexts before texts → before.input ≡ Some input → IsToRun words before job → Means job.program job.input job.turns job.based said end → status_of end ≡ Some ending → Answers words before status out err →
+    (status ≡ status_for ending) × (out ≡ said) × (err ≡ error_line end)
+
+abbrev pub SmallProgramsEnd : Type 0
+SmallProgramsEnd = (source : List ℕ) (program : Program) → Accepted source program →
+    (out : List ℕ) × ((input : List ℕ) (turns : ℕ) (based : Bool) → Means program input turns based out Done)

@@ -1,0 +1,19 @@
+//! The program as one call: `setl` does what the words of the command line ask for.
+//!
+//! `setl run FILE` runs a program of the small language, whose statements assign integers and sets of integers to
+//! names, add members to sets, and print values. Every other source is refused.
+#![tactic(auto)]
+
+mod laws;
+mod lines;
+mod load;
+mod small;
+mod status;
+#[cfg(test)]
+mod tests;
+mod top;
+mod words;
+
+pub use laws::{completeness, ends_exactly, refused_exactly, small_programs_end};
+pub use status::Status;
+pub use top::setl;

@@ -1,0 +1,66 @@
+//! The program as one call.
+ghost use Rattle.std.specs.Prelude.{ℕ, List, map, string_bytes};
+ghost use Rattle.setl_top.specs.Headline.{Headline, moment};
+ghost use Rattle.setl_top.specs.Words.{Run, Spells};
+
+use crate::Status;
+use crate::lines::try_line;
+use crate::load::load_program;
+use crate::small::{Ran, run_program};
+use crate::words::file_to_run;
+use setl_io::{Files, Sink, Source};
+use std::alloc::Global;
+
+/// Does what the words of the command line ask for, and tells how that ended.
+///
+/// `words` are those after the program's own name. `files` has the sources by name, and `input` is what a program
+/// reads. `out` gains what the program prints, each line at its `print`; `err` gains the last line of a call that
+/// wasn't done, if it has one.
+///
+/// `ReadFault` comes only where the count of faults of `files` or `input` rose in the call, `WriteFault` only where that
+/// of `out` or `err` rose, and `NoMemory` only where memory was refused. After these the error line is tried once.
+pub fn setl<F: Files, I: Source, O: Sink, E: Sink>(
+    alloc: Global,
+    words: &[String],
+    files: &mut F,
+    input: &mut I,
+    out: &mut O,
+    err: &mut E,
+) -> Status
+    ensures headline { let seen = moment F.texts F.faults I.left I.faults O.held O.faults E.held E.faults in
+        Headline (map string_bytes words.now) (seen files.old input.old out.old err.old) (seen files.new input.new out.new err.new) result }
+{
+    match file_to_run(words) {
+        Some(name) => run_file(alloc, name, files, input, out, err),
+        None => Status::Words,
+    }
+}
+
+/// Runs the program of a file.
+fn run_file<F: Files, I: Source, O: Sink, E: Sink>(
+    alloc: Global,
+    name: &str,
+    files: &mut F,
+    _input: &mut I,
+    out: &mut O,
+    err: &mut E,
+) -> Status
+    ensures headline { let seen = moment F.texts F.faults I.left I.faults O.held O.faults E.held E.faults in
+        (words : List (List ℕ)) → Spells words (Run name.now) → Headline words (seen files.old _input.old out.old err.old) (seen files.new _input.new out.new err.new) result }
+{
+    let program = match load_program(alloc, name, files, err) {
+        Ok(program) => program,
+        Err(status) => return status,
+    };
+    match run_program(alloc, &program, out) {
+        Ran::Done => Status::Done,
+        Ran::Failed => {
+            try_line(err, b"write fault\n");
+            Status::WriteFault
+        }
+        Ran::NoMemory => {
+            try_line(err, b"no memory\n");
+            Status::NoMemory
+        }
+    }
+}
