@@ -1,192 +1,79 @@
-//! The lexer of a slice of SETL.
+//! The lexer of SETL: the bytes of a source, cut into tokens.
+//!
+//! A source is tokens, blanks and comments put together, each the longest that begins at its place. Blanks are the
+//! bytes 9, 10, 13 and 32. A comment begins with `$` and runs up to the end of its line. Tokens are words, names,
+//! numbers, strings and signs. Bytes from 128 stand only in strings and comments.
 #![tactic(auto)]
 
-ghost use Rattle.std.specs.Prelude.{ℕ, true, ◌≡◌, ◌<◌, ◌≤◌, ◌+◌, ◌-◌, ◌^◌, length, take, drop, slice_index, IfOk, IfSome, MatchResult, List, Some};
-ghost use Rattle.std.specs.Char.{is_ascii_digit};
-ghost use Rattle.std.specs.List.{prefix_len};
-ghost use Rattle.setl_token.specs.Forms as spec;
-ghost use Rattle.setl_token.specs.Lex.{Answers, Spelled, Tells};
+ghost use Rattle.std.specs.Prelude.{◌≡◌, ◌==◌, ◌<◌, ◌≤◌, ◌^◌, ◌⊎◌, ℕ, length, count_by, List, IfOk, IfErr, MatchResult};
+ghost use Rattle.std.specs.Result.{IsErrAnd};
+ghost use Rattle.setl_token.specs.Lex.{Spelled, LexFails, Tells, fault_of};
 
+mod pieces;
+mod reserved;
+
+use pieces::{PieceKind, cut};
 use std::alloc::{AllocError, AllocFailed, Global};
+use std::marker::Model;
+use thiserror::Error;
 
-#[derive(Clone, Copy, Debug)]
-pub enum Kind {
+/// What a token is.
+#[derive(Clone, Copy, Debug, PartialEq, Eq)]
+pub enum TokenKind {
+    /// A reserved word, in letters of either case.
+    Word,
+    /// A letter, then letters, digits and `_`, which is no reserved word. Upper case is read as lower case.
     Name,
-    Number(u128),
+    /// A whole run of digits, with its value, which is at most 2^127 - 1.
+    Number(i128),
+    /// An apostrophe, bytes other than byte 10 with each apostrophe doubled, and an apostrophe.
     Str,
+    /// One of `:=` `..` `/=` `<=` `>=` `**` `;` `:` `,` `(` `)` `{` `}` `[` `]` `|` `=` `<` `>` `+` `-` `*` `/` `#`.
     Sign,
 }
 
-#[derive(Clone, Copy, Debug)]
-pub enum What {
-    Blank,
-    Comment,
-    Token(Kind),
+/// A token of a source.
+#[derive(Clone, Copy, Debug, PartialEq, Eq)]
+pub struct Token {
+    /// What it is.
+    pub kind: TokenKind,
+    /// The place of its first byte, counted from 0.
+    pub from: u32,
+    /// The place behind its last byte.
+    pub to: u32,
+    /// Its line: 1 plus the number of bytes 10 before it.
+    pub line: u32,
 }
 
-#[derive(Clone, Copy, Debug)]
+/// The tokens of the longest source stay below 1 GB.
+const _: () = prove!(size_of::<Token>() <= 48);
+
+/// Why no token, blank or comment begins at a place.
+#[derive(Clone, Copy, Debug, PartialEq, Eq)]
 pub enum Cause {
+    /// The byte there begins none. A single `.` is such a byte.
     Byte,
+    /// A string begins there that has no closing apostrophe on its line.
     OpenString,
+    /// A run of digits begins there whose value is above 2^127 - 1.
     WideNumber,
 }
 
-/// A token, a blank or a comment.
-#[derive(Clone, Copy, Debug)]
-pub struct Piece {
-    pub what: What,
-    pub len: usize,
-}
-
-#[derive(Clone, Copy, Debug)]
-pub struct Token {
-    pub kind: Kind,
-    pub from: usize,
-    pub to: usize,
-}
-
-#[derive(Clone, Copy, Debug)]
-enum Class {
-    Digit,
-    Word,
-    Line,
-}
-
-fn is_in(class: Class, b: u8) -> bool
-    ensures { result ≡ spec.is_in class b }
-{
-    match class {
-        Class::Digit => b.is_ascii_digit(),
-        Class::Word => b.is_ascii_alphanumeric() || b == b'_',
-        Class::Line => b != b'\n',
-    }
-}
-
-/// How many bytes at the front are of the class.
-fn run(class: Class, z: &[u8]) -> usize
-    ensures value { result ≡ prefix_len (spec.is_in class) z.now }
-    ensures within { result ≤ length z.now }
-{
-    let mut end = 0;
-    while end < z.len() && is_in(class, z[end]) {
-        end += 1;
-    }
-    end
-}
-
-fn is_blank(b: u8) -> bool
-    ensures { result ≡ spec.is_blank b }
-{
-    b == 9 || b == 10 || b == 13 || b == 32
-}
-
-fn byte(z: &[u8], at: usize) -> u8
-    ensures value { result ≡ slice_index z.now at }
-    ensures within { 0 < result → at < length z.now }
-{
-    if at < z.len() { z[at] } else { 0 }
-}
-
-fn sign_len(b: u8, next: u8) -> usize
-    ensures value { result ≡ spec.sign_len b next }
-    ensures within { (result ≤ 2) × (result ≡ 2 → 0 < next) }
-{
-    match b {
-        b':' | b'/' => {
-            if next == b'=' {
-                2
-            } else {
-                1
-            }
-        }
-        b'.' => {
-            if next == b'.' {
-                2
-            } else {
-                0
-            }
-        }
-        b';' | b'(' | b')' => 1,
-        _ => 0,
-    }
-}
-
-/// The length of a string that begins here.
-fn closing(z: &[u8]) -> Option<usize>
-    requires { 0 < length z.now }
-    ensures value { result ≡ spec.closing spec.no 1 (drop 1 z.now) }
-    ensures within { IfSome result (λ n. (0 < n) × (n ≤ length z.now)) }
-{
-    let mut at = 1;
-    let mut may_close = false;
-    while at < z.len() {
-        let b = z[at];
-        if b == b'\'' {
-            may_close = !may_close;
-        } else if may_close {
-            return Some(at);
-        } else if b == b'\n' {
-            return None;
-        }
-        at += 1;
-    }
-    if may_close { Some(at) } else { None }
-}
-
-const LIMIT: u128 = 170141183460469231731687303715884105727;
-
-/// The number that the digits spell, if it is not too wide.
-fn number(digits: &[u8]) -> Option<u128>
-    ensures { result ≡ spec.within_limit (spec.value digits.now) }
-{
-    let mut value: u128 = 0;
-    for d in digits {
-        let digit = u128::from(d.saturating_sub(b'0'));
-        if value > (LIMIT - digit) / 10 {
-            return None;
-        }
-        value = 10 * value + digit;
-    }
-    Some(value)
-}
-
-/// The piece at the front, or why there is none.
-#[tactic(auto, unfolding(crate::specs::Forms::piece_at))]
-fn cut(z: &[u8]) -> Result<Piece, Cause>
-    requires { 0 < length z.now }
-    ensures value { result ≡ spec.piece_at z.now }
-    ensures within { IfOk result (λ p. (0 < p.len) × (p.len ≤ length z.now)) }
-{
-    let b = z[0];
-    if is_blank(b) {
-        Ok(Piece { what: What::Blank, len: 1 })
-    } else if b == b'$' {
-        Ok(Piece { what: What::Comment, len: run(Class::Line, z) })
-    } else if b.is_ascii_alphabetic() {
-        Ok(Piece { what: What::Token(Kind::Name), len: run(Class::Word, z) })
-    } else if b.is_ascii_digit() {
-        let len = run(Class::Digit, z);
-        match number(&z[..len]) {
-            Some(n) => Ok(Piece { what: What::Token(Kind::Number(n)), len }),
-            None => Err(Cause::WideNumber),
-        }
-    } else if b == b'\'' {
-        match closing(z) {
-            Some(len) => Ok(Piece { what: What::Token(Kind::Str), len }),
-            None => Err(Cause::OpenString),
-        }
-    } else {
-        match sign_len(b, byte(z, 1)) {
-            0 => Err(Cause::Byte),
-            len => Ok(Piece { what: What::Token(Kind::Sign), len }),
-        }
-    }
-}
-
-#[derive(Clone, Copy, Debug)]
+/// Why a source has no tokens: the first lexical fault and its place, counted in bytes from 0, or want of memory.
+#[derive(Clone, Copy, Debug, PartialEq, Eq, Error)]
 pub enum LexFault {
+    /// At this place a byte stands that begins no token, blank or comment.
+    #[error("byte {at} begins no token")]
+    Byte { at: u32 },
+    /// At this place a string begins that has no closing apostrophe on its line.
+    #[error("the string at byte {at} isn't closed")]
+    OpenString { at: u32 },
+    /// At this place a number begins that is above 2^127 - 1.
+    #[error("the number at byte {at} is too large")]
+    WideNumber { at: u32 },
+    /// Memory ran out.
+    #[error("out of memory")]
     NoMemory,
-    At(Cause, usize),
 }
 
 impl From<AllocError> for LexFault {
@@ -211,31 +98,108 @@ impl<T: Drop> From<AllocFailed<T>> for LexFault {
     }
 }
 
-/// The tokens of the source.
-pub fn tokens(alloc: Global, source: &[u8]) -> Result<Vec<Token>, LexFault>
-    requires { length source.now ≤ 2 ^ 24 }
-    ensures found { Answers source.now result }
-    ensures only { (a : List Token) → Spelled source.now a → Tells a result }
+fn fault_at(cause: Cause, place: u32) -> LexFault
+    ensures { result ≡ fault_of cause place }
 {
-    let mut all = Vec::new(alloc);
+    match cause {
+        Cause::Byte => LexFault::Byte { at: place },
+        Cause::OpenString => LexFault::OpenString { at: place },
+        Cause::WideNumber => LexFault::WideNumber { at: place },
+    }
+}
+
+/// A source with the list of its tokens.
+#[derive(Drop)]
+pub struct TokenList {
+    source: Vec<u8>,
+    tokens: Vec<Token>,
+}
+
+impl Model for TokenList {
+    ghost use Rattle.setl_token.specs.Text.{Lexed};
+    ghost use Rattle.setl_token.specs.Lex.{Spelled};
+
+    ghost Value = { Lexed };
+
+    ghost view = { λ l. record { source = l.source.items; tokens = l.tokens.items } };
+
+    ghost invariant = { λ l. Spelled l.source.items l.tokens.items };
+}
+
+impl TokenList {
+    ghost use Rattle.std.specs.Prelude.{slice_get, Some};
+    ghost use Rattle.setl_token.specs.Text.{token_text};
+
+    /// How many tokens there are.
+    pub fn len(&self) -> usize
+        ensures { result ≡ length self.now.tokens }
+    {
+        self.tokens.len()
+    }
+
+    /// The token with this index, counted from 0.
+    pub fn at(&self, i: usize) -> &Token
+        requires { i < length self.now.tokens }
+        ensures { slice_get self.now.tokens i ≡ Some result.now }
+    {
+        &self.tokens[i]
+    }
+
+    /// The source, whole.
+    pub fn source(&self) -> &[u8]
+        ensures { result.now ≡ self.now.source }
+    {
+        &self.source
+    }
+}
+
+/// How many line feeds there are.
+fn line_feeds(z: &[u8]) -> usize
+    ensures value { result ≡ count_by (λ b. b == 10) z.now }
+    ensures within { result ≤ length z.now }
+{
+    z.iter().filter(|b| **b == b'\n').count()
+}
+
+/// The tokens of a source.
+///
+/// # Errors
+///
+/// `Byte`, `OpenString` and `WideNumber` tell the first place where no token, blank or comment begins, and why.
+/// `NoMemory` if memory runs out.
+pub fn tokens(alloc: Global, source: &[u8]) -> Result<TokenList, LexFault>
+    requires { length source.now ≤ 2 ^ 24 }
+    ensures source { IfOk result (λ l. l.source ≡ source.now) }
+    ensures spelled { IfOk result (λ l. Spelled source.now l.tokens) }
+    ensures fails { IfErr result (Tells source.now) }
+    ensures lexes { (ts : List Token) → Spelled source.now ts
+        → MatchResult result (λ l. l.tokens ≡ ts) (λ e. e ≡ LexFault.NoMemory) }
+    ensures refuses { (cause : Cause) (place : ℕ) → LexFails source.now cause place
+        → IsErrAnd result (λ e. (e ≡ fault_of cause place) ⊎ (e ≡ LexFault.NoMemory)) }
+{
+    let mut tokens = Vec::new(alloc);
     let mut at = 0;
+    let mut line = 1;
     while at < source.len() {
         let rest = &source[at..];
-        match cut(rest) {
-            Err(cause) => return Err(LexFault::At(cause, at)),
-            Ok(p) => {
-                let to = at + p.len;
-                match p.what {
-                    What::Token(kind) => all.push(Token {
-                        kind,
-                        from: at,
-                        to,
-                    })?,
-                    What::Blank | What::Comment => {}
-                }
-                at = to;
-            }
+        let piece = match cut(rest) {
+            Ok(piece) => piece,
+            Err(cause) => return Err(fault_at(cause, at as u32)),
+        };
+        let to = at + piece.len;
+        if let PieceKind::Token(kind) = piece.kind {
+            tokens.push(Token {
+                kind,
+                from: at as u32,
+                to: to as u32,
+                line,
+            })?;
         }
+        line += line_feeds(&source[at..to]) as u32;
+        at = to;
     }
-    Ok(all)
+    Ok(TokenList {
+        source: source.to_vec(alloc)?,
+        tokens,
+    })
 }

@@ -10,29 +10,29 @@ use Rattle.std.proofs.lemmas.Option.{none-some, slice_get-map}
 use Rattle.std.specs.Result.{OnOk, OnErr, IfOk}
 use Rattle.std.specs.Prelude.{Result, Ok, Err}
 use Rattle.setl_value.specs.declared.Value.{Value}
-use Rattle.setl_value.specs.Shown.{datum}
+use Rattle.setl_value.specs.DatumOf.{datum}
 use Rattle.std.proofs.lemmas.List.{map-append, take-map, drop-map}
-use Rattle.setl_value.specs.Datum.{Datum, set, depth, members_depth, members_of, member_list-members_of}
-use Rattle.setl_value.specs.Order.{order, IsRising}
-use Rattle.setl_value.specs.Stands.{Stands, MembersStand, IsValue, IsSetList}
+use Rattle.setl_value.specs.Datum.{Datum, set, depth, elements_depth, elements_of, element_list-elements_of}
+use Rattle.setl_value.specs.Order.{datum_cmp, IsRising}
+use Rattle.setl_value.specs.WellFormed.{IsWellFormed, ElementsAreWellFormed, IsValue, IsSetList}
 
 -- a member of some set
 abbrev pub IsMember : Datum → Type 0
-IsMember d = Stands d × (depth d ≤ 499)
+IsMember d = IsWellFormed d × (depth d ≤ 499)
 
-members_in : (ds : List Datum) → MembersStand (members_of ds) → members_depth (members_of ds) ≤ 499 → AllByRecursion IsMember ds
+members_in : (ds : List Datum) → ElementsAreWellFormed (elements_of ds) → elements_depth (elements_of ds) ≤ 499 → AllByRecursion IsMember ds
 members_in [] s p = tt
 members_in (d ∷ ds) s p = ((s.0, omega arith), members_in ds s.1 (omega arith))
 
-members_out : (ds : List Datum) → AllByRecursion IsMember ds → MembersStand (members_of ds) × (members_depth (members_of ds) ≤ 499)
+members_out : (ds : List Datum) → AllByRecursion IsMember ds → ElementsAreWellFormed (elements_of ds) × (elements_depth (elements_of ds) ≤ 499)
 members_out [] a = (tt, omega arith)
 members_out (d ∷ ds) a = let r = members_out ds a.1 in ((a.0.0, r.0), omega (arith, a.0.1, r.1))
 
 pub set_facts : (ds : List Datum) → IsSetList ds → AllByRecursion IsMember ds × IsRising ds
-set_facts ds h = (members_in ds h.0.0 (omega (arith, h.1)), subst IsRising (member_list-members_of ds) h.0.1)
+set_facts ds h = (members_in ds h.0.0 (omega (arith, h.1)), subst IsRising (element_list-elements_of ds) h.0.1)
 
 pub set_made : (ds : List Datum) → AllByRecursion IsMember ds → IsRising ds → IsSetList ds
-set_made ds a r = let m = members_out ds a in ((m.0, subst IsRising (sym (member_list-members_of ds)) r), omega (arith, m.1))
+set_made ds a r = let m = members_out ds a in ((m.0, subst IsRising (sym (element_list-elements_of ds)) r), omega (arith, m.1))
 
 pub set_empty : IsSetList []
 unfolding IsStrictlySortedBy
@@ -56,7 +56,7 @@ unfolding IsStrictlySortedBy
 sorted_remove [] zero a = tt
 sorted_remove [] (suc i) a = tt
 sorted_remove (x ∷ xs) zero a = a.1
-sorted_remove (x ∷ xs) (suc i) a = (all_remove (λ y. order x y ≡ Less) xs i a.0, sorted_remove xs i a.1)
+sorted_remove (x ∷ xs) (suc i) a = (all_remove (λ y. datum_cmp x y ≡ Less) xs i a.0, sorted_remove xs i a.1)
 
 pub map-insert : {X Y : Type 0} (f : X → Y) (xs : List X) (i : ℕ) (x : X) → map f (insert xs i x) ≡ insert (map f xs) i (f x)
 map-insert f xs i x = map-append f (take i xs) (x ∷ drop i xs) ∙ (λ k. sym (take-map f i xs) k ++ f x ∷ sym (drop-map f i xs) k)
@@ -100,19 +100,19 @@ all_insert P [] (suc i) x a p = (p, tt)
 all_insert P (y ∷ xs) zero x a p = (p, a)
 all_insert P (y ∷ xs) (suc i) x a p = (a.0, all_insert P xs i x a.1 p)
 
-stand_in : (ds : List Datum) → MembersStand (members_of ds) → AllByRecursion Stands ds
+stand_in : (ds : List Datum) → ElementsAreWellFormed (elements_of ds) → AllByRecursion IsWellFormed ds
 stand_in [] s = tt
 stand_in (d ∷ ds) s = (s.0, stand_in ds s.1)
 
-stand_out : (ds : List Datum) → AllByRecursion Stands ds → MembersStand (members_of ds)
+stand_out : (ds : List Datum) → AllByRecursion IsWellFormed ds → ElementsAreWellFormed (elements_of ds)
 stand_out [] s = tt
 stand_out (d ∷ ds) s = (s.0, stand_out ds s.1)
 
-pub set_insert : (ds : List Datum) (i : ℕ) (d : Datum) → IsSetList ds → IsValue d → IsRising (insert ds i d) → depth (set (members_of (insert ds i d))) ≤ 500 → IsSetList (insert ds i d)
+pub set_insert : (ds : List Datum) (i : ℕ) (d : Datum) → IsSetList ds → IsValue d → IsRising (insert ds i d) → depth (set (elements_of (insert ds i d))) ≤ 500 → IsSetList (insert ds i d)
 set_insert ds i d h v r p =
-    ((stand_out (insert ds i d) (all_insert Stands ds i d (stand_in ds h.0.0) v.0), subst IsRising (sym (member_list-members_of (insert ds i d))) r), p)
+    ((stand_out (insert ds i d) (all_insert IsWellFormed ds i d (stand_in ds h.0.0) v.0), subst IsRising (sym (element_list-elements_of (insert ds i d))) r), p)
 
-pub depth_insert : (ds : List Datum) (i : ℕ) (d : Datum) → members_depth (members_of (insert ds i d)) ≡ max (members_depth (members_of ds)) (depth d)
+pub depth_insert : (ds : List Datum) (i : ℕ) (d : Datum) → elements_depth (elements_of (insert ds i d)) ≡ max (elements_depth (elements_of ds)) (depth d)
 depth_insert [] zero d = omega arith
 depth_insert [] (suc i) d = omega arith
 depth_insert (e ∷ ds) zero d = omega arith

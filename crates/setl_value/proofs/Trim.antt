@@ -12,8 +12,8 @@ use Rattle.std.specs.List.{AllByRecursion}
 use Rattle.std.specs.Prelude.{slice_set, Result, Ok, Err, OnOk, OnErr}
 use Rattle.setl_value.specs.Datum.{Datum, tuple, depth, parts_depth, parts_of, part_list-parts_of}
 use Rattle.setl_value.specs.declared.Value.{Value}
-use Rattle.setl_value.specs.Shown.{part}
-use Rattle.setl_value.specs.Stands.{trim, trim_onto, PartStands, PartsStand, IsTrimmed, IsTupleList, put}
+use Rattle.setl_value.specs.DatumOf.{part}
+use Rattle.setl_value.specs.WellFormed.{trim, trim_onto, PartIsWellFormed, PartsAreWellFormed, IsTrimmed, IsTupleList, put}
 
 pub take_next : {X : Type 0} (xs : List X) (i : ℕ) (x : X) → i < length xs → x ≡ slice_index_or xs i x → take (i + 1) xs ≡ take i xs ++ x ∷ []
 take_next xs i x p e = subst (λ j. take j xs ≡ take i xs ++ x ∷ []) {x = suc i} (omega arith) (next xs i x p e)
@@ -46,12 +46,12 @@ next_om ps (Some d) e = absurd (true≢false e)
 
 -- ---- what `trim` keeps
 
-onto_stands : (p : Option Datum) (ps : List (Option Datum)) → PartStands p → AllByRecursion PartStands ps → AllByRecursion PartStands (trim_onto p ps)
+onto_stands : (p : Option Datum) (ps : List (Option Datum)) → PartIsWellFormed p → AllByRecursion PartIsWellFormed ps → AllByRecursion PartIsWellFormed (trim_onto p ps)
 onto_stands None [] s a = tt
 onto_stands None (q ∷ ps) s a = (s, a)
 onto_stands (Some d) ps s a = (s, a)
 
-trim_stands : (ps : List (Option Datum)) → AllByRecursion PartStands ps → AllByRecursion PartStands (trim ps)
+trim_stands : (ps : List (Option Datum)) → AllByRecursion PartIsWellFormed ps → AllByRecursion PartIsWellFormed (trim ps)
 trim_stands [] a = tt
 trim_stands (p ∷ ps) a = onto_stands p (trim ps) a.0 (trim_stands ps a.1)
 
@@ -75,12 +75,12 @@ trim_depth [] = refl
 trim_depth (None ∷ ps) = onto_depth None (trim ps) ∙ trim_depth ps
 trim_depth (Some d ∷ ps) = ap (max (depth d)) (trim_depth ps)
 
-parts_out : (ps : List (Option Datum)) → AllByRecursion PartStands ps → PartsStand (parts_of ps)
+parts_out : (ps : List (Option Datum)) → AllByRecursion PartIsWellFormed ps → PartsAreWellFormed (parts_of ps)
 parts_out [] a = tt
 parts_out (None ∷ ps) a = parts_out ps a.1
 parts_out (Some d ∷ ps) a = (a.0, parts_out ps a.1)
 
-pub tuple_made : (ps : List (Option Datum)) → AllByRecursion PartStands ps → depth (tuple (parts_of ps)) ≤ 500 → IsTupleList (trim ps)
+pub tuple_made : (ps : List (Option Datum)) → AllByRecursion PartIsWellFormed ps → depth (tuple (parts_of ps)) ≤ 500 → IsTupleList (trim ps)
 tuple_made ps a p = (
   (parts_out (trim ps) (trim_stands ps a), subst IsTrimmed (sym (part_list-parts_of (trim ps))) (trim_trimmed ps)),
   omega (arith, trim_depth ps, p),
@@ -118,17 +118,17 @@ put_push [] i v p q = refl
 put_push (x ∷ xs) zero v p q = absurd (omega arith)
 put_push (x ∷ xs) (suc i) v p q = ap (λ l. part x ∷ l) (put_push xs i v (omega arith) (omega arith))
 
-put_stands : (ps : List (Option Datum)) (i : ℕ) (p : Option Datum) → AllByRecursion PartStands ps → PartStands p → AllByRecursion PartStands (put ps i p)
+put_stands : (ps : List (Option Datum)) (i : ℕ) (p : Option Datum) → AllByRecursion PartIsWellFormed ps → PartIsWellFormed p → AllByRecursion PartIsWellFormed (put ps i p)
 put_stands [] i p a s = (s, tt)
 put_stands (q ∷ ps) zero p a s = (s, a.1)
 put_stands (q ∷ ps) (suc i) p a s = (a.0, put_stands ps i p a.1 s)
 
-parts_in : (ps : List (Option Datum)) → PartsStand (parts_of ps) → AllByRecursion PartStands ps
+parts_in : (ps : List (Option Datum)) → PartsAreWellFormed (parts_of ps) → AllByRecursion PartIsWellFormed ps
 parts_in [] s = tt
 parts_in (None ∷ ps) s = (tt, parts_in ps s)
 parts_in (Some d ∷ ps) s = (s.0, parts_in ps s.1)
 
-pub tuple_put : (ps : List (Option Datum)) (i : ℕ) (p : Option Datum) → IsTupleList ps → PartStands p → depth (tuple (parts_of (put ps i p))) ≤ 500 → IsTupleList (trim (put ps i p))
+pub tuple_put : (ps : List (Option Datum)) (i : ℕ) (p : Option Datum) → IsTupleList ps → PartIsWellFormed p → depth (tuple (parts_of (put ps i p))) ≤ 500 → IsTupleList (trim (put ps i p))
 tuple_put ps i p h s d = tuple_made (put ps i p) (put_stands ps i p (parts_in ps h.0.0) s) d
 
 -- the invariant after a change that may be refused
@@ -149,7 +149,7 @@ less_deep (None ∷ ps) (suc i) n h = less_deep ps i n h
 less_deep (Some d ∷ ps) (suc i) n h = omega (arith, h, less_deep ps i n (omega (arith, h)))
 
 pub tuple_remove : (ps : List (Option Datum)) (i : ℕ) → IsTupleList ps → IsTupleList (trim (remove ps i))
-tuple_remove ps i h = tuple_made (remove ps i) (all_remove PartStands ps i (parts_in ps h.0.0)) (omega (arith, less_deep ps i 499 (omega (arith, h.1))))
+tuple_remove ps i h = tuple_made (remove ps i) (all_remove PartIsWellFormed ps i (parts_in ps h.0.0)) (omega (arith, less_deep ps i 499 (omega (arith, h.1))))
 
 pub last_told : {E : Type 0} (r : Result (Option Value) E) (xs : List (Option Value)) (ps : List (Option Datum)) → map part xs ≡ ps
     → IfOk r (λ p. slice_get xs (length xs - 1) ≡ Some p) → IfOk r (λ p. slice_get ps (length ps - 1) ≡ Some (part p))

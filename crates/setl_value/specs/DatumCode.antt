@@ -5,7 +5,7 @@ use Rattle.std.proofs.Common.{ap}
 use denote.Struct.Codes.{itself}
 use base.Stored.{Gv, gnil, gnum, gcons}
 use lib.IntN.{pos, negsuc}
-use Rattle.setl_value.specs.Datum.{Datum, bool, int, text, atom, tuple, set, Parts, done, om_then, part_then, Members, none, member}
+use Rattle.setl_value.specs.Datum.{Datum, bool, int, text, atom, tuple, set, Parts, no_part, om_then, part_then, Elements, no_element, element_then}
 
 abbrev pub bytes_gv : List ℕ → Gv
 bytes_gv [] = gnil
@@ -60,16 +60,16 @@ abbrev mutual
   gv_of (text t) = gcons (gcons (gnum 0) gnil) (bytes_gv t)
   gv_of (atom n) = gnum n
   gv_of (tuple ps) = gcons gnil (parts_gv ps)
-  gv_of (set ms) = gcons (gcons (gcons gnil gnil) gnil) (members_gv ms)
+  gv_of (set ms) = gcons (gcons (gcons gnil gnil) gnil) (elements_gv ms)
 
   pub parts_gv : Parts → Gv
-  parts_gv done = gnil
+  parts_gv no_part = gnil
   parts_gv (om_then ps) = gcons gnil (parts_gv ps)
   parts_gv (part_then d ps) = gcons (gcons gnil (gv_of d)) (parts_gv ps)
 
-  pub members_gv : Members → Gv
-  members_gv none = gnil
-  members_gv (member d ms) = gcons (gv_of d) (members_gv ms)
+  pub elements_gv : Elements → Gv
+  elements_gv no_element = gnil
+  elements_gv (element_then d ms) = gcons (gv_of d) (elements_gv ms)
 
 abbrev mutual
   pub back : Gv → Datum
@@ -79,19 +79,19 @@ abbrev mutual
   back (gcons (gnum n) x) = bool (bool_back x)
   back (gcons (gcons gnil t) x) = int (int_back x)
   back (gcons (gcons (gnum n) t) x) = text (bytes_back x)
-  back (gcons (gcons (gcons s u) t) x) = set (members_back x)
+  back (gcons (gcons (gcons s u) t) x) = set (elements_back x)
 
   pub parts_back : Gv → Parts
-  parts_back gnil = done
-  parts_back (gnum n) = done
+  parts_back gnil = no_part
+  parts_back (gnum n) = no_part
   parts_back (gcons gnil x) = om_then (parts_back x)
   parts_back (gcons (gnum n) x) = om_then (parts_back x)
   parts_back (gcons (gcons t d) x) = part_then (back d) (parts_back x)
 
-  pub members_back : Gv → Members
-  members_back gnil = none
-  members_back (gnum n) = none
-  members_back (gcons d x) = member (back d) (members_back x)
+  pub elements_back : Gv → Elements
+  elements_back gnil = no_element
+  elements_back (gnum n) = no_element
+  elements_back (gcons d x) = element_then (back d) (elements_back x)
 
 mutual
   pub same : (d : Datum) → back (gv_of d) ≡ d
@@ -100,16 +100,16 @@ mutual
   same (text t) = ap text (bytes_same t)
   same (atom n) = refl
   same (tuple ps) = ap tuple (parts_same ps)
-  same (set ms) = ap set (members_same ms)
+  same (set ms) = ap set (elements_same ms)
 
   pub parts_same : (ps : Parts) → parts_back (parts_gv ps) ≡ ps
-  parts_same done = refl
+  parts_same no_part = refl
   parts_same (om_then ps) = ap om_then (parts_same ps)
   parts_same (part_then d ps) = λ i. part_then (same d i) (parts_same ps i)
 
-  pub members_same : (ms : Members) → members_back (members_gv ms) ≡ ms
-  members_same none = refl
-  members_same (member d ms) = λ i. member (same d i) (members_same ms i)
+  pub elements_same : (ms : Elements) → elements_back (elements_gv ms) ≡ ms
+  elements_same no_element = refl
+  elements_same (element_then d ms) = λ i. element_then (same d i) (elements_same ms i)
 
 abbrev pub coded_datum : Coded Datum
 coded_datum = code_by Gv itself gv_of back same

@@ -5,9 +5,9 @@ use denote.Param.Weighed.{most}
 use Rattle.setl_value.specs.declared.Value.{Value}
 use Rattle.setl_value.specs.declared.Value.TheVariants.{Bool, Int, Text, Atom, Tuple, Set}
 use Rattle.setl_value.specs.declared.SetBody.TheDeep.{deep-Value}
-use Rattle.setl_value.specs.Datum.{depth, members_depth, members_of, parts_depth, parts_of}
+use Rattle.setl_value.specs.Datum.{depth, elements_depth, elements_of, parts_depth, parts_of}
 use Rattle.setl_value.specs.declared.SetBody.TheShapes.{weighed-TupleBody-parts-at-1}
-use Rattle.setl_value.specs.Shown.{datum, part}
+use Rattle.setl_value.specs.DatumOf.{datum, part}
 
 pub one_falls : (v : Value) → deep-Value v ≤ depth (datum v) + 1
 one_falls (Bool b) = omega arith
@@ -17,7 +17,7 @@ one_falls (Atom n) = omega arith
 one_falls (Tuple ps) = omega arith
 one_falls (Set ds) = omega arith
 
-pub all_fall : (vs : List Value) → most deep-Value vs ≤ members_depth (members_of (map datum vs)) + 1
+pub all_fall : (vs : List Value) → most deep-Value vs ≤ elements_depth (elements_of (map datum vs)) + 1
 all_fall [] = omega arith
 all_fall (v ∷ vs) = omega (arith, one_falls v, all_fall vs)
 

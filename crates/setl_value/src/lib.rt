@@ -3,21 +3,21 @@
 
 ghost use Rattle.std.specs.Prelude.{◌≡◌, ◌<◌, ◌≤◌, length, slice_get, [], List, IfOk, OnErr, OnOk, min, max, ◌-◌, slice_set, ◌∷◌, take, is_some, map, Some, None, ◌⊎◌, MatchOption};
 ghost use Rattle.std.specs.List.{insert, remove, AllByRecursion, All};
-ghost use Rattle.setl_value.specs.Stands.{IsValue, IsSetList, IsTupleList, IsTextByte, PartStands, trim, put};
-ghost use Rattle.setl_value.specs.Datum.{Datum, depth, part_depth, set, members_of, tuple, parts_of};
-ghost use Rattle.setl_value.specs.Shown.{datum, part};
+ghost use Rattle.setl_value.specs.WellFormed.{IsValue, IsSetList, IsTupleList, IsTextByte, PartIsWellFormed, trim, put};
+ghost use Rattle.setl_value.specs.Datum.{Datum, depth, part_depth, set, elements_of, tuple, parts_of};
+ghost use Rattle.setl_value.specs.DatumOf.{datum, part};
 ghost use Rattle.setl_value.specs.Body.{Members};
-ghost use Rattle.setl_value.specs.Order.{order, kind_of, IsRising};
+ghost use Rattle.setl_value.specs.Order.{datum_cmp, kind_of, IsRising};
 ghost use Rattle.std.specs.Cmp.Lexicographic.{slice_cmp};
 ghost use Rattle.std.specs.Option.{option_cmp};
 ghost use Rattle.std.specs.Prelude.{refl};
 ghost use Rattle.std.specs.Ordering.{on, eq_by_cmp, as_partial_cmp};
 ghost use Rattle.std.specs.Cmp.{partial_equiv_from_equiv, on_equiv, on_total, eq_by_cmp_equiv, partial_order_from_agreeing_total};
-ghost use Rattle.setl_value.specs.OrderLaws.{order_total};
+ghost use Rattle.setl_value.specs.OrderLaws.{datum_cmp_total};
 ghost use Rattle.std.proofs.Common.{ap};
 ghost use Rattle.std.specs.Prelude.{fold};
 ghost use Rattle.setl_value.specs.OrderLaws.{same_if_eq};
-ghost use Rattle.setl_value.specs.Fed.{writes, members_writes, parts_writes, part_writes};
+ghost use Rattle.setl_value.specs.Fed.{writes, elements_writes, parts_writes, part_writes};
 
 use std::alloc::{AllocError, Global};
 use std::cmp::Ordering;
@@ -33,7 +33,7 @@ pub struct Text {
 impl Model for Text {
     ghost use Rattle.std.specs.Prelude.{List, ℕ};
     ghost use Rattle.std.specs.List.{AllByRecursion};
-    ghost use Rattle.setl_value.specs.Stands.{IsTextByte};
+    ghost use Rattle.setl_value.specs.WellFormed.{IsTextByte};
 
     ghost Value = { List ℕ };
 
@@ -68,21 +68,21 @@ pub struct TupleBody {
 
 impl Model for SetBody {
     ghost use Rattle.std.specs.Prelude.{List, map, ◌≡◌};
-    ghost use Rattle.setl_value.specs.Datum.{Datum, set, members_of, depth};
+    ghost use Rattle.setl_value.specs.Datum.{Datum, set, elements_of, depth};
     ghost use Rattle.setl_value.specs.Body.{Body, coded_body, Members};
 
     ghost Value = { Body };
 
     ghost coded = { coded_body };
 
-    ghost use Rattle.setl_value.specs.Shown.{datum};
-    ghost use Rattle.setl_value.specs.Stands.{IsSetList};
+    ghost use Rattle.setl_value.specs.DatumOf.{datum};
+    ghost use Rattle.setl_value.specs.WellFormed.{IsSetList};
 
     ghost view = { λ s. record { rising = map datum s.items.value.items } };
 
-    ghost invariant = { λ s. IsSetList (map datum s.items.value.items) × (s.deep ≡ depth (set (members_of (map datum s.items.value.items)))) };
+    ghost invariant = { λ s. IsSetList (map datum s.items.value.items) × (s.deep ≡ depth (set (elements_of (map datum s.items.value.items)))) };
 
-    ghost size = { λ b. depth (set (members_of (Members b))) };
+    ghost size = { λ b. depth (set (elements_of (Members b))) };
 
     ghost use Rattle.std.proofs.Common.{arith};
     ghost use Rattle.setl_value.specs.Falls.{all_fall};
@@ -100,8 +100,8 @@ impl Model for TupleBody {
 
     ghost coded = { coded_list (coded_option coded_datum) };
 
-    ghost use Rattle.setl_value.specs.Shown.{part};
-    ghost use Rattle.setl_value.specs.Stands.{IsTupleList};
+    ghost use Rattle.setl_value.specs.DatumOf.{part};
+    ghost use Rattle.setl_value.specs.WellFormed.{IsTupleList};
 
     ghost view = { λ s. map part s.parts.value.items };
 
@@ -157,7 +157,7 @@ impl Value {
     // The canonical order.
     #[cycle(comparing)]
     pub fn compare(&self, other: &Value) -> Ordering
-        ensures { result ≡ order (datum self.now) (datum other.now) }
+        ensures { result ≡ datum_cmp (datum self.now) (datum other.now) }
     {
         match (self, other) {
             (Value::Bool(a), Value::Bool(b)) => a.cmp(b),
@@ -308,7 +308,7 @@ impl TupleBody {
 
     #[cycle(comparing)]
     pub fn compare(&self, other: &TupleBody) -> Ordering
-        ensures { result ≡ slice_cmp (option_cmp order) self.now other.now }
+        ensures { result ≡ slice_cmp (option_cmp datum_cmp) self.now other.now }
     {
         let a = self.parts.as_slice();
         let b = other.parts.as_slice();
@@ -339,7 +339,7 @@ impl TupleBody {
 
 #[cycle(comparing)]
 fn compare_parts(a: &Option<Value>, b: &Option<Value>) -> Ordering
-    ensures { result ≡ option_cmp order (part a.now) (part b.now) }
+    ensures { result ≡ option_cmp datum_cmp (part a.now) (part b.now) }
 {
     match (a, b) {
         (None, None) => Ordering::Equal,
@@ -351,8 +351,8 @@ fn compare_parts(a: &Option<Value>, b: &Option<Value>) -> Ordering
 
 // The depth of a set of these members.
 fn depth_of_members(a: &[Value]) -> u32
-    requires { depth (set (members_of (map datum a.now))) ≤ 500 }
-    ensures { result ≡ depth (set (members_of (map datum a.now))) }
+    requires { depth (set (elements_of (map datum a.now))) ≤ 500 }
+    ensures { result ≡ depth (set (elements_of (map datum a.now))) }
 {
     let mut deepest = 0;
     for i in 0..a.len() {
@@ -382,14 +382,14 @@ impl SetBody {
     }
 
     pub fn depth(&self) -> u32
-        ensures { result ≡ depth (set (members_of (Members self.now))) }
+        ensures { result ≡ depth (set (elements_of (Members self.now))) }
     {
         self.deep
     }
 
     #[cycle(comparing)]
     pub fn compare(&self, other: &SetBody) -> Ordering
-        ensures { result ≡ slice_cmp order (Members self.now) (Members other.now) }
+        ensures { result ≡ slice_cmp datum_cmp (Members self.now) (Members other.now) }
     {
         let a = self.items.as_slice();
         let b = other.items.as_slice();
@@ -437,7 +437,7 @@ impl SetBody {
     pub fn put_at(&mut self, alloc: Global, i: usize, v: Value) -> Result<(), AllocError>
         requires inside { i ≤ length (Members self.old) }
         requires rising { IsRising (insert (Members self.old) i (datum v)) }
-        requires shallow { depth (set (members_of (insert (Members self.old) i (datum v)))) ≤ 500 }
+        requires shallow { depth (set (elements_of (insert (Members self.old) i (datum v)))) ≤ 500 }
         ensures put { OnOk result (Members self.new ≡ insert (Members self.old) i (datum v)) }
         ensures refused { OnErr result (self.new ≡ self.old) }
     {
@@ -497,7 +497,7 @@ fn smaller(a: usize, b: usize) -> usize
 
 // Every component stands by the rules of values.
 fn learn_parts(parts: &[Option<Value>])
-    ensures { AllByRecursion PartStands (map part parts.now) }
+    ensures { AllByRecursion PartIsWellFormed (map part parts.now) }
 {
     for p in parts {
         if let Some(v) = p {
@@ -521,7 +521,7 @@ fn kept(parts: &[Option<Value>]) -> usize
 }
 
 fn learn_part(p: &Option<Value>)
-    ensures { PartStands (part p.now) }
+    ensures { PartIsWellFormed (part p.now) }
 {
     if let Some(v) = p {
         v.learn();
@@ -590,9 +590,9 @@ fn is_there(p: &Option<Value>) -> bool
 }
 
 impl PartialEq for Value {
-    ghost eq = { on datum (eq_by_cmp order) };
+    ghost eq = { on datum (eq_by_cmp datum_cmp) };
 
-    ghost laws = { partial_equiv_from_equiv (on_equiv datum (eq_by_cmp_equiv order_total)) };
+    ghost laws = { partial_equiv_from_equiv (on_equiv datum (eq_by_cmp_equiv datum_cmp_total)) };
 
     fn eq(&self, other: &Value) -> bool {
         self.compare(other).is_eq()
@@ -600,13 +600,13 @@ impl PartialEq for Value {
 }
 
 impl Eq for Value {
-    ghost laws = { on_equiv datum (eq_by_cmp_equiv order_total) };
+    ghost laws = { on_equiv datum (eq_by_cmp_equiv datum_cmp_total) };
 }
 
 impl PartialOrd for Value {
-    ghost partial_cmp = { as_partial_cmp (on datum order) };
+    ghost partial_cmp = { as_partial_cmp (on datum datum_cmp) };
 
-    ghost laws = { partial_order_from_agreeing_total (on datum order) (on_total datum order_total) (λ x y. refl) (λ x y. refl) };
+    ghost laws = { partial_order_from_agreeing_total (on datum datum_cmp) (on_total datum datum_cmp_total) (λ x y. refl) (λ x y. refl) };
 
     fn partial_cmp(&self, other: &Value) -> Option<Ordering> {
         Some(self.compare(other))
@@ -614,9 +614,9 @@ impl PartialOrd for Value {
 }
 
 impl Ord for Value {
-    ghost cmp = { on datum order };
+    ghost cmp = { on datum datum_cmp };
 
-    ghost total = { on_total datum order_total };
+    ghost total = { on_total datum datum_cmp_total };
 
     ghost matches_partial_cmp = { λ x y. refl };
 
@@ -671,7 +671,7 @@ fn feed<H: Hasher>(v: &Value, state: &mut H)
 
 #[cycle(feeding)]
 fn feed_members<H: Hasher>(s: &SetBody, state: &mut H)
-    ensures { state.new ≡ fold H.write state.old (members_writes (members_of (Members s.now))) }
+    ensures { state.new ≡ fold H.write state.old (elements_writes (elements_of (Members s.now))) }
 {
     let a = s.items.as_slice();
     for i in 0..a.len() {

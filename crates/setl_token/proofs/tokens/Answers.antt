@@ -1,36 +1,53 @@
-use Rattle.std.proofs.Common.{◌≡◌, ℕ, take, drop, length, ◌-◌, ◌+◌, ◌≤◌, [], ◌++◌, sym, ap, subst, ◌∙◌, arith, length-drop, ⊎_elim, inl, inr}
-use Rattle.std.proofs.lemmas.List.{append-nil}
-use Rattle.std.proofs.lemmas.Grind.{common_steps}
-use Rattle.setl_token.specs.Forms.{piece_at}
-use Rattle.setl_token.specs.Lex.{token_of}
-use Rattle.setl_token.proofs.Pieces.{Found, found_push, found_all, no_fault, one_spelling}
+use Rattle.std.proofs.Common.{◌≡◌, ℕ, take, drop, length, ◌-◌, ◌+◌, [], ◌++◌, sym, ap, subst, ◌∙◌, arith, length-drop, count_by, ◌==◌, inl}
+use Rattle.std.proofs.lemmas.List.{append-nil, take_rest}
+use Rattle.setl_token.specs.Pieces.{piece_at}
+use Rattle.setl_token.specs.Lex.{token_of, fault_of}
+use Rattle.setl_token.proofs.Reached.{Found, found_push, found_all, found_fault, one_spelling, one_fault, spelled_or_fails, line_more, push_token, push_none}
 use Rattle.setl_token.proofs.tokens.Goals as goal
-
-pub loop-at-preserved-in_ok-push-in-Token : goal.loop-at-preserved-in_ok-push-in-Token
-loop-at-preserved-in_ok-push-in-Token c =
-    let p = c.in-Ok.p in
-    let s = c.args.source.now in
-    let whole : take (length s - c.loop-at.at) (drop c.loop-at.at s) ≡ drop c.loop-at.at s = grind (arith, common_steps) in
-    let f = found_push s c.loop-at.at c.loop-at.all.items p c.loop-at.invariant.0 c.loop-at-test.true (ap piece_at (sym whole) ∙ sym c.in-Ok.ensures.value) in
-    (rw c.in_ok-push-in-Token.ensures.items (subst (λ w. Found s (c.loop-at.at + p.len) (c.loop-at.all.items ++ token_of s c.loop-at.at p.len w [])) c.in-Token.is f),
-     omega (arith, c.in-Ok.ensures.within, length-drop c.loop-at.at s))
+use Rattle.setl_token.proofs.tokens.Goals.{in-Token+in_ok-push, in_default}
 
 pub loop-at-preserved : goal.loop-at-preserved
 loop-at-preserved c =
-    let p = c.in-Ok.p in
+    let p = c.in-Ok.piece in
     let s = c.args.source.now in
-    let whole : take (length s - c.loop-at.at) (drop c.loop-at.at s) ≡ drop c.loop-at.at s = grind (arith, common_steps) in
-    let f = found_push s c.loop-at.at c.loop-at.all.items p c.loop-at.invariant.0 c.loop-at-test.true (ap piece_at (sym whole) ∙ sym c.in-Ok.ensures.value) in
-    let same : c.loop-at.all.items ++ token_of s c.loop-at.at p.len p.what [] ≡ c.loop-at.all.items = ⊎_elim (λ e. rw e (append-nil c.loop-at.all.items)) (λ e. rw e (append-nil c.loop-at.all.items)) c.in-Blank.is in
-    (subst (λ z. Found s (c.loop-at.at + p.len) z) same f,
-     omega (arith, c.in-Ok.ensures.within, length-drop c.loop-at.at s))
+    let at = c.loop-at.at in
+    let others = c.loop-at.tokens.items in
+    let next = ap piece_at (sym (take_rest s at)) ∙ sym c.in-Ok.ensures.value in
+    let f = found_push s at others p c.loop-at.invariant.found c.loop-at-test.true next in
+    let same : others ++ token_of s at p.len p.kind [] ≡ c.match-piece.tokens.items =
+    elim c.match-piece.branch [
+      | in-Token+in_ok-push w ↦ push_token s at p.len c.loop-at.line p.kind w.in-Token.kind others w.in-Token.is c.loop-at.invariant.line ∙ sym w.in_ok-push.ensures.items ∙ ap (λ v. v.items) (sym w.tokens-is)
+      | in_default w ↦ push_none s at p.len p.kind others w.in_default.not-Token ∙ ap (λ v. v.items) (sym w.tokens-is)
+    ] in
+    let len : at + p.len - at ≡ p.len = omega arith in
+    let feeds = ap (λ (n : ℕ). count_by (λ (b : ℕ). b == 10) (take n (drop at s))) len in
+    record {
+      found = subst (λ z. Found s (at + p.len) z) same f;
+      line = omega (arith, line_more s at p.len, c.line_feeds.ensures.value, feeds);
+      within = omega (arith, c.in-Ok.ensures.within, length-drop at s);
+    }
 
-pub returns-in-Err-clause-only : goal.returns-in-Err-clause-only
-returns-in-Err-clause-only c = λ a spelled.
+pub returns-in-Err-clause-lexes : goal.returns-in-Err-clause-lexes
+returns-in-Err-clause-lexes c = λ ts spelled.
     let s = c.args.source.now in
-    let whole : take (length s - c.loop-at.at) (drop c.loop-at.at s) ≡ drop c.loop-at.at s = grind (arith, common_steps) in
-    let f = c.loop-at.invariant.0 in
-    no_fault s spelled.pieces f.pieces (drop c.loop-at.at s) c.in-Err.cause spelled.all f.before (omega (arith, length-drop c.loop-at.at s)) (ap piece_at (sym whole) ∙ sym c.in-Err.ensures.value)
+    let at = c.loop-at.at in
+    let stands = ap piece_at (sym (take_rest s at)) ∙ sym c.in-Err.ensures.value in
+    absurd (spelled_or_fails s ts c.in-Err.cause at spelled (found_fault s at c.loop-at.tokens.items c.in-Err.cause c.loop-at.invariant.found c.loop-at-test.true stands))
 
-pub returns-clause-only : goal.returns-clause-only
-returns-clause-only c = λ a spelled. one_spelling c.args.source.now c.loop-at.all.items a (found_all c.args.source.now c.loop-at.at c.loop-at.all.items c.loop-at.invariant.0 c.loop-at-test.false) spelled
+pub returns-in-Err-clause-refuses : goal.returns-in-Err-clause-refuses
+returns-in-Err-clause-refuses c = λ cause place fails.
+    let s = c.args.source.now in
+    let at = c.loop-at.at in
+    let stands = ap piece_at (sym (take_rest s at)) ∙ sym c.in-Err.ensures.value in
+    let one = one_fault s c.in-Err.cause cause at place (found_fault s at c.loop-at.tokens.items c.in-Err.cause c.loop-at.invariant.found c.loop-at-test.true stands) fails in
+    inl (c.fault_at.ensures ∙ (λ i. fault_of (one.0 i) (one.1 i)))
+
+pub returns-clause-lexes : goal.returns-clause-lexes
+returns-clause-lexes c = λ ts spelled.
+    let s = c.args.source.now in
+    one_spelling s c.loop-at.tokens.items ts (found_all s c.loop-at.at c.loop-at.tokens.items c.loop-at.invariant.found c.loop-at-test.false) spelled
+
+pub returns-clause-refuses : goal.returns-clause-refuses
+returns-clause-refuses c = λ cause place fails.
+    let s = c.args.source.now in
+    spelled_or_fails s c.loop-at.tokens.items cause place (found_all s c.loop-at.at c.loop-at.tokens.items c.loop-at.invariant.found c.loop-at-test.false) fails

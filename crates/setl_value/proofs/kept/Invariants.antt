@@ -1,6 +1,6 @@
 use Rattle.std.specs.Prelude.{map, take, ◌≡◌, ◌≤◌}
-use Rattle.setl_value.specs.Stands.{trim}
-use Rattle.setl_value.specs.Shown.{part}
+use Rattle.setl_value.specs.WellFormed.{trim}
+use Rattle.setl_value.specs.DatumOf.{part}
 use Rattle.setl_value.proofs.kept.Given as goal
 
 abbrev pub invariant-loop-i : goal.invariant-loop-i

@@ -5,7 +5,7 @@ use Rattle.std.specs.Prelude.{slice_get, map}
 use Rattle.std.specs.Option.{option_map}
 use Rattle.setl_value.proofs.Bodies.{set_at, member_there}
 use Rattle.setl_value.specs.Body.{Members}
-use Rattle.setl_value.specs.Shown.{datum}
+use Rattle.setl_value.specs.DatumOf.{datum}
 use Rattle.setl_value.proofs.SetBody.at.Goals as goal
 
 pub returns-clause-stands : goal.returns-clause-stands

@@ -2,10 +2,10 @@ use Rattle.std.proofs.Common.{arith, ◌≡◌, ◌∙◌, ap, sym, subst}
 use Rattle.std.specs.Prelude.{map}
 use Rattle.std.specs.List.{insert}
 use Rattle.setl_value.proofs.Bodies.{set_insert, depth_insert, map-insert}
-use Rattle.setl_value.specs.Datum.{set, depth, members_of}
+use Rattle.setl_value.specs.Datum.{set, depth, elements_of}
 use Rattle.setl_value.specs.Body.{Members}
-use Rattle.setl_value.specs.Shown.{datum}
-use Rattle.setl_value.specs.Stands.{IsSetList}
+use Rattle.setl_value.specs.DatumOf.{datum}
+use Rattle.setl_value.specs.WellFormed.{IsSetList}
 use Rattle.setl_value.proofs.SetBody.put_at.Goals as goal
 
 pub invariant_of-self-2 : goal.invariant_of-self-2
@@ -18,10 +18,10 @@ invariant_of-self-2 c =
     let n = c.larger-self-inside.result in
     let view : map datum xs ≡ ds = (ap Members c.self.view_is) in
     let w : map datum ys ≡ insert ds i d = ap (map datum) c.in_ok-put_in.ensures.put ∙ map-insert datum xs i c.args.v ∙ ap (λ l. insert l i d) view in
-    let deep : c.self.inside.deep ≡ depth (set (members_of ds)) = subst (λ l. c.self.inside.deep ≡ depth (set (members_of l))) view c.self.invariant.1 in
+    let deep : c.self.inside.deep ≡ depth (set (elements_of ds)) = subst (λ l. c.self.inside.deep ≡ depth (set (elements_of l))) view c.self.invariant.1 in
     let stands : IsSetList (insert ds i d) = set_insert ds i d (subst IsSetList view c.self.invariant.0) c.learn.ensures c.requires.rising c.requires.shallow in
-    let kept : n ≡ depth (set (members_of (insert ds i d))) = omega (arith, c.larger-self-inside.ensures, deep, c.depth-deep.ensures, depth_insert ds i d) in
-    subst (λ l. IsSetList l × (n ≡ depth (set (members_of l)))) (sym w) (stands, kept)
+    let kept : n ≡ depth (set (elements_of (insert ds i d))) = omega (arith, c.larger-self-inside.ensures, deep, c.depth-deep.ensures, depth_insert ds i d) in
+    subst (λ l. IsSetList l × (n ≡ depth (set (elements_of l)))) (sym w) (stands, kept)
 
 pub returns-clause-put : goal.returns-clause-put
 returns-clause-put c =

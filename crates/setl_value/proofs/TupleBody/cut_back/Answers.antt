@@ -1,8 +1,8 @@
 use Rattle.std.proofs.Common.{subst, map, length, ◌-◌}
 use Rattle.std.specs.List.{remove}
 use Rattle.setl_value.proofs.Trim.{tuple_remove, tuple_after, err_map, last_told, last_cut}
-use Rattle.setl_value.specs.Shown.{part}
-use Rattle.setl_value.specs.Stands.{IsTupleList, trim}
+use Rattle.setl_value.specs.DatumOf.{part}
+use Rattle.setl_value.specs.WellFormed.{IsTupleList, trim}
 use Rattle.setl_value.proofs.TupleBody.cut_back.Goals as goal
 
 pub invariant_of-self : goal.invariant_of-self

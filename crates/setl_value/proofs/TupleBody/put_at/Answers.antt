@@ -1,7 +1,7 @@
 use Rattle.std.proofs.Common.{◌≡◌, sym, subst, map}
 use Rattle.setl_value.proofs.Trim.{tuple_put, tuple_after, err_map}
-use Rattle.setl_value.specs.Shown.{part}
-use Rattle.setl_value.specs.Stands.{IsTupleList, trim, put}
+use Rattle.setl_value.specs.DatumOf.{part}
+use Rattle.setl_value.specs.WellFormed.{IsTupleList, trim, put}
 use Rattle.setl_value.proofs.TupleBody.put_at.Goals as goal
 
 pub invariant_of-self : goal.invariant_of-self

@@ -1,7 +1,7 @@
 use Rattle.std.proofs.Common.{◌≡◌, ◌+◌, ◌-◌, ◌≤◌, length, drop}
 use Rattle.std.specs.List.{prefix_len}
-use Rattle.setl_token.specs.Forms.{is_in}
-use Rattle.setl_token.proofs.run.Given as goal
+use Rattle.setl_token.specs.Bytes.{is_in}
+use Rattle.setl_token.proofs.pieces.run.Given as goal
 
 abbrev pub invariant-loop-end : goal.invariant-loop-end
 invariant-loop-end l = (l.end + prefix_len (is_in l.class) (drop l.end l.z) ≡ prefix_len (is_in l.class) l.z) × (l.end ≤ length l.z)

@@ -1,7 +1,7 @@
 -- Which data are values.
 use Rattle.std.specs.Prelude.{◌≡◌, ℕ, zero, suc, ℤ, ◌<◌, ◌≤◌, ◌^◌, List, [], ◌∷◌, Option, Some, None, pos, negsuc}
 use Rattle.std.specs.List.{AllByRecursion}
-use Rattle.setl_value.specs.Datum.{Datum, bool, int, text, atom, tuple, set, Parts, done, om_then, part_then, Members, none, member, depth, parts_of, members_of, part_list, member_list}
+use Rattle.setl_value.specs.Datum.{Datum, bool, int, text, atom, tuple, set, Parts, no_part, om_then, part_then, Elements, no_element, element_then, depth, parts_of, elements_of, part_list, element_list}
 use Rattle.setl_value.specs.Order.{IsRising}
 
 -- the last component is there
@@ -25,39 +25,39 @@ IsWide (pos n) = n < 2 ^ 127
 IsWide (negsuc n) = n < 2 ^ 127
 
 abbrev mutual
-  pub Stands : Datum → Type 0
-  Stands (bool b) = Unit {0}
-  Stands (int z) = IsWide z
-  Stands (text t) = AllByRecursion IsTextByte t
-  Stands (atom n) = n < 2 ^ 64
-  Stands (tuple ps) = PartsStand ps × IsTrimmed (part_list ps)
-  Stands (set ms) = MembersStand ms × IsRising (member_list ms)
+  pub IsWellFormed : Datum → Type 0
+  IsWellFormed (bool b) = Unit {0}
+  IsWellFormed (int z) = IsWide z
+  IsWellFormed (text t) = AllByRecursion IsTextByte t
+  IsWellFormed (atom n) = n < 2 ^ 64
+  IsWellFormed (tuple ps) = PartsAreWellFormed ps × IsTrimmed (part_list ps)
+  IsWellFormed (set ms) = ElementsAreWellFormed ms × IsRising (element_list ms)
 
-  pub PartsStand : Parts → Type 0
-  PartsStand done = Unit {0}
-  PartsStand (om_then ps) = PartsStand ps
-  PartsStand (part_then d ps) = Stands d × PartsStand ps
+  pub PartsAreWellFormed : Parts → Type 0
+  PartsAreWellFormed no_part = Unit {0}
+  PartsAreWellFormed (om_then ps) = PartsAreWellFormed ps
+  PartsAreWellFormed (part_then d ps) = IsWellFormed d × PartsAreWellFormed ps
 
-  pub MembersStand : Members → Type 0
-  MembersStand none = Unit {0}
-  MembersStand (member d ms) = Stands d × MembersStand ms
+  pub ElementsAreWellFormed : Elements → Type 0
+  ElementsAreWellFormed no_element = Unit {0}
+  ElementsAreWellFormed (element_then d ms) = IsWellFormed d × ElementsAreWellFormed ms
 
 -- a value
 abbrev pub IsValue : Datum → Type 0
-IsValue d = Stands d × (depth d ≤ 500)
+IsValue d = IsWellFormed d × (depth d ≤ 500)
 
 -- the list of a set's members
 abbrev pub IsSetList : List Datum → Type 0
-IsSetList ds = IsValue (set (members_of ds))
+IsSetList ds = IsValue (set (elements_of ds))
 
 -- the list of a tuple's components
 abbrev pub IsTupleList : List (Option Datum) → Type 0
 IsTupleList ps = IsValue (tuple (parts_of ps))
 
 -- a component of a tuple
-abbrev pub PartStands : Option Datum → Type 0
-PartStands None = Unit {0}
-PartStands (Some d) = Stands d
+abbrev pub PartIsWellFormed : Option Datum → Type 0
+PartIsWellFormed None = Unit {0}
+PartIsWellFormed (Some d) = IsWellFormed d
 
 -- the list without the `om` at its end
 abbrev pub trim_onto : Option Datum → List (Option Datum) → List (Option Datum)

@@ -1,0 +1,38 @@
+-- What a program means.
+use Rattle.std.specs.Prelude.{◌≡◌, ℕ, Bool, false, List, [], ◌∷◌}
+use Rattle.setl_model.specs.Program.{Program}
+use Rattle.setl_model.specs.Events.{Printed, End}
+use Rattle.setl_model.specs.Run.{Moves, State, Goes, Ends, run}
+use Rattle.setl_model.specs.Core.{Execute, Core}
+use Rattle.setl_model.specs.Step.{language, test_of}
+
+-- the first state: every variable is `om`, nothing is kept and nothing was written
+abbrev pub first : Program → List ℕ → ℕ → State Core
+first p input turns =
+    record {
+      core =
+          record {
+            shared = record { globals = []; own = []; input = input; eof = false; atom = 1; left = turns };
+            hand = Execute p.main;
+            work = [];
+            kept = [];
+          };
+      out = [];
+      events = [];
+    }
+
+-- steps lead from the first state to this one
+abbrev pub Reaches : Program → List ℕ → ℕ → Bool → State Core → Type 0
+Reaches p input turns based s = (n : ℕ) × (run (language p) (test_of p based) n (first p input turns) ≡ Goes s)
+
+-- the run of a program on an input with so many turns ends so, after it wrote this output
+pub record Means (p : Program) (input : List ℕ) (turns : ℕ) (based : Bool) (out : List ℕ) (end : End) : Type 0 where
+  pub steps : ℕ
+  pub last : State Core
+  pub ends : run (language p) (test_of p based) steps (first p input turns) ≡ Ends end last
+  pub written : last.out ≡ out
+
+-- a `print` with this line is in hand: the next step writes it and does nothing else but go on
+pub record HasPrint (p : Program) (s : State Core) (line : List ℕ) : Type 0 where
+  pub to : Core
+  pub writes : (language p).move s.core ≡ Moves line (Printed line ∷ []) to 0 []

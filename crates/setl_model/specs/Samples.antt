@@ -1,0 +1,61 @@
+-- Worked programs, each with what it writes.
+use Rattle.std.specs.Prelude.{ℕ, List, [], ◌∷◌, codes, pos}
+use Rattle.setl_value.specs.Datum.{int}
+use Rattle.setl_model.specs.Variable.{Variable, Own}
+use Rattle.setl_model.specs.Operators.{SetOf, With}
+use Rattle.setl_model.specs.Program.{Expr, Literal, Name, Apply, Exprs, no_expr, more_exprs, Stmt, Assign, Update, Print, Block, no_stmt, more_stmts, no_selector, Program}
+
+abbrev pub s : Variable
+s = Own (codes "s")
+
+abbrev pub t : Variable
+t = Own (codes "t")
+
+abbrev pub number : ℕ → Expr
+number n = Literal (int (pos n))
+
+abbrev pub exprs : List Expr → Exprs
+exprs [] = no_expr
+exprs (e ∷ es) = more_exprs e (exprs es)
+
+abbrev pub numbers : List ℕ → List Expr
+numbers [] = []
+numbers (n ∷ ns) = number n ∷ numbers ns
+
+-- {n, ..}
+abbrev pub enumeration : List ℕ → Expr
+enumeration ns = Apply SetOf (exprs (numbers ns))
+
+abbrev pub assign : Variable → Expr → Stmt
+assign x e = Assign (record { variable = x; selectors = no_selector }) e
+
+-- x with:= e
+abbrev pub add_to : Variable → Expr → Stmt
+add_to x e = Update With (record { variable = x; selectors = no_selector }) e
+
+abbrev pub print : List Expr → Stmt
+print es = Print (exprs es)
+
+-- statements on one line
+abbrev pub block : List Stmt → Block
+block [] = no_stmt
+block (st ∷ sts) = more_stmts 1 st (block sts)
+
+abbrev pub program : List Stmt → Program
+program sts = record { main = block sts; procedures = []; modes = [] }
+
+-- no statement
+abbrev pub empty_program : Program
+empty_program = program []
+
+-- s := {3,1,2,1}; s with:= 5; print(s, 7);
+abbrev pub growing_set : Program
+growing_set = program (assign s (enumeration (3 ∷ 1 ∷ 2 ∷ 1 ∷ [])) ∷ add_to s (number 5) ∷ print (Name s ∷ number 7 ∷ []) ∷ [])
+
+-- s := {1}; t := s; s with:= 2; print(s, t);
+abbrev pub copied_set : Program
+copied_set = program (assign s (enumeration (1 ∷ [])) ∷ assign t (Name s) ∷ add_to s (number 2) ∷ print (Name s ∷ Name t ∷ []) ∷ [])
+
+-- print(); print({}, 10, s);
+abbrev pub several_lines : Program
+several_lines = program (print [] ∷ print (enumeration [] ∷ number 10 ∷ Name s ∷ []) ∷ [])

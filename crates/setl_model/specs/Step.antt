@@ -1,0 +1,38 @@
+-- The steps of a run.
+use Rattle.std.specs.Prelude.{◌≡◌, Bool, true, false, List, ◌∷◌, Option}
+use Rattle.setl_value.specs.Datum.{Datum}
+use Rattle.setl_model.specs.Program.{Program}
+use Rattle.setl_model.specs.Modes.{takes}
+use Rattle.setl_model.specs.Events.{Stuck}
+use Rattle.setl_model.specs.Run.{Move, Halts, State, Goes, Machine, Test, step}
+use Rattle.setl_model.specs.Core.{Hand, Execute, Evaluate, Result, Frame, InExpr, InStmt, Core, write_variable}
+use Rattle.setl_model.specs.Expressions.{evaluate, result_in_expr}
+use Rattle.setl_model.specs.Statements.{execute, result_in_stmt}
+
+-- a result in hand goes to the innermost frame
+abbrev pub result : Option Datum → List Frame → Core → Move Core
+result v (InExpr f ∷ work) c = result_in_expr f v work c
+result v (InStmt line f ∷ work) c = result_in_stmt line f v work c
+result v work c = Halts Stuck
+
+-- the move by what is in hand
+abbrev pub move_by : Program → Hand → Core → Move Core
+move_by p (Execute b) c = execute b c.work c
+move_by p (Evaluate e) c = evaluate p e c.work c
+move_by p (Result v) c = result v c.work c
+
+-- the language: how a core moves in a program, and how it takes a value for a variable
+abbrev pub language : Program → Machine Core
+language p = record {
+  move = λ c. move_by p c.hand c;
+  write = λ x v c. record c { shared = write_variable x v c.shared };
+}
+
+-- which values the variables take: every value where the declarations don't count
+abbrev pub test_of : Program → Bool → Test
+test_of p false = λ x v. true
+test_of p true = takes p.modes
+
+-- the second state comes next after the first; `based` says whether the declarations count
+abbrev pub Step : Program → Bool → State Core → State Core → Type 0
+Step p based a b = step (language p) (test_of p based) a ≡ Goes b
