@@ -1,4 +1,6 @@
-//! The real outside: files, and streams that are read or written. It tells no content, and counts its faults.
+//! The real outside: files, and streams that are read or written, each with a count of its faults.
+//!
+//! A stream tells its bytes where the reader or the writer under it does. Real files and streams tell none.
 ghost use Rattle.std.specs.Prelude.{◌≡◌, None};
 
 use setl_io::{Files, Load, Put, Sink, Source, Took};
@@ -14,7 +16,9 @@ pub struct DiskFiles<'a, R: rt::Files> {
 
 impl<'a, R: rt::Files> DiskFiles<'a, R> {
     /// No fault is counted yet.
-    pub fn new(rt: &'a R) -> DiskFiles<'a, R> {
+    pub fn new(rt: &'a R) -> DiskFiles<'a, R>
+        ensures { result.faults ≡ 0 }
+    {
         DiskFiles { rt, faults: 0 }
     }
 }
@@ -56,13 +60,15 @@ pub struct ReaderSource<R: Read> {
 
 impl<R: Read> ReaderSource<R> {
     /// No fault is counted yet.
-    pub fn new(reader: R) -> ReaderSource<R> {
+    pub fn new(reader: R) -> ReaderSource<R>
+        ensures { result ≡ record { reader = reader; faults = 0 } }
+    {
         ReaderSource { reader, faults: 0 }
     }
 }
 
 impl<R: Read> Source for ReaderSource<R> {
-    ghost left = { λ _. None };
+    ghost left = { λ source. R.remaining source.reader };
 
     ghost faults = { λ source. source.faults };
 
@@ -88,13 +94,15 @@ pub struct WriterSink<W: Write> {
 
 impl<W: Write> WriterSink<W> {
     /// No fault is counted yet.
-    pub fn new(writer: W) -> WriterSink<W> {
+    pub fn new(writer: W) -> WriterSink<W>
+        ensures { result ≡ record { writer = writer; faults = 0 } }
+    {
         WriterSink { writer, faults: 0 }
     }
 }
 
 impl<W: Write> Sink for WriterSink<W> {
-    ghost held = { λ _. None };
+    ghost held = { λ sink. W.contents sink.writer };
 
     ghost faults = { λ sink. sink.faults };
 
