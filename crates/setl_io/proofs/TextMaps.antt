@@ -1,5 +1,5 @@
 -- Texts by name, as entries and as finite maps.
-use Rattle.std.proofs.Common.{◌≡◌, ◌∙◌, ℕ, List, [], ◌∷◌, Option, Some, Vec, String, cond, refl, sym, ap, string_bytes}
+use Rattle.std.proofs.Common.{◌≡◌, ◌∙◌, ℕ, List, [], ◌∷◌, Some, Vec, String, cond, refl, sym, ap, string_bytes}
 use Rattle.std.specs.Prelude.{map as list_map}
 use Rattle.std.specs.Option.{option_map}
 use Rattle.std.specs.Ordering.{nat_cmp, is_eq}
@@ -10,7 +10,7 @@ use Rattle.std.specs.Map.{lookup}
 use Rattle.std.specs.HashMap.{HashMap, get_by_text}
 use Rattle.std.specs.FinMap as map
 use Rattle.std.proofs.lemmas.Map.Text.{is_eq-slice_cmp}
-use Rattle.setl_io.specs.TextMap.{TextMap, text_map}
+use Rattle.setl_io.specs.TextMap.{text_map}
 use Rattle.setl_io.proofs.Cond.{through_cond}
 
 -- the text that an entry of the name has

@@ -1,6 +1,6 @@
 -- An input in memory.
-use Rattle.std.specs.Prelude.{◌≡◌, ℕ, List, length, min, drop, ⊤}
-use Rattle.setl_io.specs.Plan.{Plan, is_to_fail, after_call}
+use Rattle.std.specs.Prelude.{◌≡◌, ℕ, List, length, min, ⊤}
+use Rattle.setl_io.specs.Plan.{Plan}
 use Rattle.setl_io.specs.declared.outside.Took.{Took}
 use Rattle.setl_io.specs.declared.outside.Took.TheVariants.{Bytes, End, Failed}
 
