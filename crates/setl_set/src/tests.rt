@@ -67,7 +67,10 @@ const ROWS: [(Row, &[i128]); 6] = [
 fn operations_give_their_worked_rows(rt: HostRuntime) -> Result<(), Fail> {
     let alloc = rt.alloc();
     for (row, expected) in ROWS {
-        assert!(rt; same(&worked(alloc, row)?, &ints(alloc, expected)?), "{row:?}");
+        assert!(rt;
+            same(&worked(alloc, row)?, &ints(alloc, expected)?),
+            "{row:?}"
+        );
     }
     Ok(())
 }
@@ -78,7 +81,12 @@ fn pow_and_npow_list_the_subsets(rt: HostRuntime) -> Result<(), Fail> {
     let all = pow(alloc, &ints(alloc, &[1, 2])?)?;
     assert!(rt; same(&all, &sets(alloc, &[&[1, 2], &[2], &[1], &[]])?));
     let three = ints(alloc, &[1, 2, 3])?;
-    assert!(rt; same(&npow(alloc, 2, &three)?, &sets(alloc, &[&[1, 2], &[1, 3], &[2, 3]])?));
+    assert!(rt;
+        same(
+            &npow(alloc, 2, &three)?,
+            &sets(alloc, &[&[1, 2], &[1, 3], &[2, 3]])?
+        )
+    );
     assert!(rt; same(&npow(alloc, 3, &three)?, &sets(alloc, &[&[1, 2, 3]])?));
     assert_eq!(rt; npow(alloc, 4, &three)?.len(), 0);
     Ok(())
