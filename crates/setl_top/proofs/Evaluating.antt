@@ -44,7 +44,7 @@ module _ (p : Program) (based : Bool) (c : Core) (out : List ℕ) where
   operands_lead : (work : List Frame) (h : Hand) (w : List Frame) (events : List Event) (got : List (Option Datum)) (before zs : List ℤ) → reverse got ≡ got_of before → (language p).move (at c h w) ≡ operands SetOperator got (literals zs) work (at c h w) → Comes p based (state (at c h w) out events) (at c (Result (Some (set_from_integers (before ++ zs)))) work) out
   operands_lead work h w events got before [] e moves =
       let made : enumerate_set (all_values (reverse got)) ≡ Gives (Some (set_from_integers before)) 0 =
-          ap (λ vs. enumerate_set (all_values vs)) e ∙ ap enumerate_set (all_given before) ∙ integers_within (set_from (map int before)) (from_integers before) in
+      ap (λ vs. enumerate_set (all_values vs)) e ∙ ap enumerate_set (all_given before) ∙ integers_within (set_from (map int before)) (from_integers before) in
       comes_on p based (at c h w) (at c (Result (Some (set_from_integers (before ++ [])))) work) out events 0
       (moves ∙ ap (λ o. deliver o work (at c h w)) made
       ∙ (λ i. Moves [] [] (at (charge_none c i) (Result (Some (set_from_integers (sym (append-nil before) i)))) work) 0 []))
@@ -53,13 +53,13 @@ module _ (p : Program) (based : Bool) (c : Core) (out : List ℕ) where
       let asking : Core = at c (Evaluate (Literal (int z))) (frame ∷ work) in
       let given : Core = at c (Result (Some (int z))) (frame ∷ work) in
       let more : reverse (Some (int z) ∷ got) ≡ got_of (before ++ z ∷ []) =
-          reversed (Some (int z)) got ∙ ap (λ vs. vs ++ Some (int z) ∷ []) e ∙ sym (map-append (λ (y : ℤ). Some (int y)) before (z ∷ [])) in
+      reversed (Some (int z)) got ∙ ap (λ vs. vs ++ Some (int z) ∷ []) e ∙ sym (map-append (λ (y : ℤ). Some (int y)) before (z ∷ [])) in
       comes_then p based (state (at c h w) out events) asking (at c (Result (Some (set_from_integers (before ++ z ∷ zs)))) work) out out
       (comes_on p based (at c h w) asking out events 0 moves)
       (λ events'. comes_then p based (state asking out events') given (at c (Result (Some (set_from_integers (before ++ z ∷ zs)))) work) out out
-          (comes_on p based asking given out events' 0 refl)
-          (λ events''. subst (λ xs. Comes p based (state given out events'') (at c (Result (Some (set_from_integers xs))) work) out) (append_assoc before (z ∷ []) zs)
-              (operands_lead work (Result (Some (int z))) (frame ∷ work) events'' (Some (int z) ∷ got) (before ++ z ∷ []) zs more refl)))
+      (comes_on p based asking given out events' 0 refl)
+      (λ events''. subst (λ xs. Comes p based (state given out events'') (at c (Result (Some (set_from_integers xs))) work) out) (append_assoc before (z ∷ []) zs)
+      (operands_lead work (Result (Some (int z))) (frame ∷ work) events'' (Some (int z) ∷ got) (before ++ z ∷ []) zs more refl)))
 
   pub evaluate_leads : (values : Values) → IsEnvironment c.shared.own values → (work : List Frame) (events : List Event) (e : Expr) → Comes p based (state (at c (Evaluate (plain_value e)) work) out events) (at c (Result (value_of values e)) work) out
   evaluate_leads values agrees work events (Variable name) =

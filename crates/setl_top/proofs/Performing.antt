@@ -79,11 +79,11 @@ module _ (p : Program) (based : Bool) (c : Core) (out : List ℕ) (values : Valu
       let asking : Core = at c (Evaluate (plain_value e)) (frame ∷ work) in
       let given : Core = at c (Result (value_of values e)) (frame ∷ work) in
       let first = λ (events : List Event). comes_then p based (state (at c h w) out events) asking given out out
-          (comes_on p based (at c h w) asking out events 0 moves)
-          (λ events'. evaluate_leads p based c out values agrees (frame ∷ work) events' e) in
+      (comes_on p based (at c h w) asking out events 0 moves)
+      (λ events'. evaluate_leads p based c out values agrees (frame ∷ work) events' e) in
       let rest = parts_lead line work (Result (value_of values e)) (frame ∷ work) (value_of values e ∷ got) es refl in
       let same : reverse (value_of values e ∷ got) ++ map (value_of values) es ≡ reverse got ++ map (value_of values) (e ∷ es) =
-          ap (λ vs. vs ++ map (value_of values) es) (reversed (value_of values e) got) ∙ append_assoc (reverse got) (value_of values e ∷ []) (map (value_of values) es) in
+      ap (λ vs. vs ++ map (value_of values) es) (reversed (value_of values e) got) ∙ append_assoc (reverse got) (value_of values e ∷ []) (map (value_of values) es) in
       subst (λ vs. Printing p based c out work (print_line vs) (at c h w)) same
       (record {
         core = rest.core;
@@ -108,8 +108,8 @@ module _ (p : Program) (based : Bool) (c : Core) (out : List ℕ) (values : Valu
         agrees = agrees;
         comes = λ events. comes_then p based (state (begins line (Print es) rest) out events) printing.core (at c (Execute rest) []) out (out ++ said) (printing.comes events)
             (λ events'. comes_then p based (state printing.core out events') after (at c (Execute rest) []) (out ++ said) (out ++ said)
-                (comes_saying p based printing.core after out said events' printing.writes)
-                (λ events''. comes_on p based after (at c (Execute rest) []) (out ++ said) events'' 0 refl));
+            (comes_saying p based printing.core after out said events' printing.writes)
+            (λ events''. comes_on p based after (at c (Execute rest) []) (out ++ said) events'' 0 refl));
       }
 
   -- a store, and then the statements behind
@@ -123,9 +123,9 @@ module _ (p : Program) (based : Bool) (c : Core) (out : List ℕ) (values : Valu
         comes = λ events. (let l = leads events in
             subst (λ o. Comes p based (state start out events) (at d (Execute rest) []) o) (sym (append-nil out))
             (comes_then p based (state start out events) l.0 (at d (Execute rest) []) out out l.1
-                (λ events'. comes_then p based (state l.0 out events') stored (at d (Execute rest) []) out out
-                    (comes_storing p based l.0 (at c (Execute no_stmt) (Then rest ∷ [])) out events' line (Own 0 name) v (takes (Own 0 name) v) l.2)
-                    (λ events''. comes_on p based stored (at d (Execute rest) []) out events'' 0 refl))));
+            (λ events'. comes_then p based (state l.0 out events') stored (at d (Execute rest) []) out out
+            (comes_storing p based l.0 (at c (Execute no_stmt) (Then rest ∷ [])) out events' line (Own 0 name) v (takes (Own 0 name) v) l.2)
+            (λ events''. comes_on p based stored (at d (Execute rest) []) out events'' 0 refl))));
       }
 
   module _ (takes : (x : Variable) (v : Option Datum) → test_of p based x v ≡ true) where
@@ -136,11 +136,13 @@ module _ (p : Program) (based : Bool) (c : Core) (out : List ℕ) (values : Valu
         let asking : Core = at c (Evaluate (plain_value e)) work in
         let given : Core = at c (Result (value_of values e)) work in
         stores_lead takes line name (value_of values e) rest (begins line (Assign name e) rest)
-        (λ events. (given,
-            comes_then p based (state (begins line (Assign name e) rest) out events) asking given out out
-            (comes_on p based (begins line (Assign name e) rest) asking out events 0 refl)
-            (λ events'. evaluate_leads p based c out values agrees work events' e),
-            (λ i. Moves [] [] (at (charge_none c i) (Execute no_stmt) (Then rest ∷ [])) line ((Own 0 name, value_of values e) ∷ []))))
+        (λ events. (
+          given,
+          comes_then p based (state (begins line (Assign name e) rest) out events) asking given out out
+              (comes_on p based (begins line (Assign name e) rest) asking out events 0 refl)
+              (λ events'. evaluate_leads p based c out values agrees work events' e),
+          (λ i. Moves [] [] (at (charge_none c i) (Execute no_stmt) (Then rest ∷ [])) line ((Own 0 name, value_of values e) ∷ [])),
+        ))
 
     with_performs : (line : ℕ) (name : List ℕ) (z : ℤ) (rest : Block) → IsIntegers (values name) → Performed p based (begins line (With name z) rest) out (bound name (with_member (values name) z) values) rest []
     with_performs line name z rest can =
@@ -150,12 +152,14 @@ module _ (p : Program) (based : Bool) (c : Core) (out : List ℕ) (values : Valu
         let given : Core = at c (Result (Some (int z))) work in
         let made = with_made values name z (value_in c.shared.own (Own 0 name)) c.shared.left (agrees name) can in
         stores_lead takes line name (with_member (values name) z) rest (begins line (With name z) rest)
-        (λ events. (given,
-            comes_then p based (state (begins line (With name z) rest) out events) asking given out out
-            (comes_on p based (begins line (With name z) rest) asking out events 0 refl)
-            (λ events'. comes_on p based asking given out events' 0 refl),
-            ap (λ o. with_outcome o line given (λ new d. go_storing line ((Own 0 name, new) ∷ []) (Execute no_stmt) (Then rest ∷ []) d)) made
-            ∙ (λ i. Moves [] [] (at (charge_none c i) (Execute no_stmt) (Then rest ∷ [])) line ((Own 0 name, with_member (values name) z) ∷ []))))
+        (λ events. (
+          given,
+          comes_then p based (state (begins line (With name z) rest) out events) asking given out out
+              (comes_on p based (begins line (With name z) rest) asking out events 0 refl)
+              (λ events'. comes_on p based asking given out events' 0 refl),
+          ap (λ o. with_outcome o line given (λ new d. go_storing line ((Own 0 name, new) ∷ []) (Execute no_stmt) (Then rest ∷ []) d)) made
+              ∙ (λ i. Moves [] [] (at (charge_none c i) (Execute no_stmt) (Then rest ∷ [])) line ((Own 0 name, with_member (values name) z) ∷ [])),
+        ))
 
     pub performs : (line : ℕ) (a : Action) (rest : Block) → CanPerform values a → Performed p based (begins line a rest) out (values_after values a) rest (said_by values a)
     performs line (Assign name e) rest can = assign_performs line name e rest

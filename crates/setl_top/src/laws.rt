@@ -4,14 +4,12 @@ ghost use Rattle.setl_top.specs.Laws.{IsComplete, RefusesExactly, EndsExactly, S
 /// Where no count of faults rose and memory was found, the call came to its end.
 pub fn completeness()
     ensures { IsComplete }
-{
-}
+{}
 
 /// Where the texts are told and the source is refused, a call that came to its end is refused.
 pub fn refused_exactly()
     ensures { RefusesExactly }
-{
-}
+{}
 
 /// Where the texts and the input are told and the program ends so, a call that came to its end has that end's status,
 /// output and error line.
@@ -25,5 +23,4 @@ pub fn ends_exactly()
 /// An accepted program is done, for every input and bound on turns, and whether declarations count or not.
 pub fn small_programs_end()
     ensures { SmallProgramsEnd }
-{
-}
+{}

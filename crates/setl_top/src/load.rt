@@ -1,6 +1,5 @@
 //! Sources that are loaded.
 ghost use Rattle.std.specs.Prelude.{◌≡◌, ◌≤◌, ◌^◌, true, length, map, OnOk, IfOk, IfErr, IsErrOf};
-
 ghost use Rattle.setl_top.specs.Accepted.{Accepted, program_of};
 ghost use Rattle.setl_top.specs.Conditions.{meets, no_kinds};
 ghost use Rattle.setl_top.specs.Loads.{Loaded, NotLoaded, NotAccepted, unread_of};

@@ -13,7 +13,7 @@ use Rattle.setl_top.proofs.small.run.line_of.Goals.{then-i-gt0+in_ok-push, else-
 pub push_argument-requires : goal.push_argument-requires
 push_argument-requires c =
     all_map_at (λ e. IsPlain (value_of (values_in c.args.table.now) e)) expr_of c.args.values.now c.values.i c.index-values-i.result c.requires
-        (slice_get-read c.args.values.now c.values.i c.index-values-i.result c.values-test.true c.index-values-i.is)
+    (slice_get-read c.args.values.now c.values.i c.index-values-i.result c.values-test.true c.index-values-i.is)
 
 pub values-preserved : goal.values-preserved
 values-preserved c =
@@ -22,8 +22,8 @@ values-preserved c =
     let x = c.index-values-i.result in
     let at = slice_get-read xs c.values.i x c.values-test.true c.index-values-i.is in
     elim c.if-i-gt0.branch [
-      then-i-gt0+in_ok-push w ↦ text_more text xs [] c.values.line.items w.push.new.self.items c.push_argument.new.line.items c.values.i x w.if-i-gt0.true at c.values.invariant w.in_ok-push.ensures.items (c.in_ok-push_argument.ensures ∙ ap (λ l. l.items ++ text x) w.line-is)
-    | else-i-gt0 w ↦ (let zero : c.values.i ≡ 0 = omega arith in text_first text xs [] c.values.line.items c.push_argument.new.line.items c.values.i x zero at c.values.invariant (c.in_ok-push_argument.ensures ∙ ap (λ l. l.items ++ text x) w.line-is))
+      | then-i-gt0+in_ok-push w ↦ text_more text xs [] c.values.line.items w.push.new.self.items c.push_argument.new.line.items c.values.i x w.if-i-gt0.true at c.values.invariant w.in_ok-push.ensures.items (c.in_ok-push_argument.ensures ∙ ap (λ l. l.items ++ text x) w.line-is)
+      | else-i-gt0 w ↦ (let zero : c.values.i ≡ 0 = omega arith in text_first text xs [] c.values.line.items c.push_argument.new.line.items c.values.i x zero at c.values.invariant (c.in_ok-push_argument.ensures ∙ ap (λ l. l.items ++ text x) w.line-is))
     ]
 
 pub returns : goal.returns
