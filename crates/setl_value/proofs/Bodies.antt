@@ -4,13 +4,9 @@ use Rattle.std.proofs.Common.{slice_index_or}
 use Rattle.std.specs.List.{AllByRecursion, insert, remove}
 use Rattle.std.specs.List.Sorted.{IsStrictlySortedBy}
 use Rattle.std.specs.declared.cmp.Ordering.TheVariants.{Less}
-use Rattle.std.specs.Option.{unwrap_or, option_map}
+use Rattle.std.specs.Option.{unwrap_or}
 use Rattle.std.proofs.Common.{arith, ap, sym, ◌∙◌, subst}
-use Rattle.std.proofs.lemmas.Option.{none-some, slice_get-map}
-use Rattle.std.specs.Result.{OnOk, OnErr, IfOk}
-use Rattle.std.specs.Prelude.{Result, Ok, Err}
-use Rattle.setl_value.specs.declared.Value.{Value}
-use Rattle.setl_value.specs.DatumOf.{datum}
+use Rattle.std.proofs.lemmas.Option.{none-some}
 use Rattle.std.proofs.lemmas.List.{map-append, take-map, drop-map}
 use Rattle.setl_value.specs.Datum.{Datum, set, depth, elements_depth, elements_of, element_list-elements_of, set_of}
 use Rattle.setl_value.specs.Order.{datum_cmp, IsRising}

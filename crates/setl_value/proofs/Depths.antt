@@ -1,7 +1,7 @@
 -- How a change of a list of members or components changes the depth.
 use Rattle.std.specs.Prelude.{◌≡◌, ℕ, ◌+◌, ◌≤◌, zero, suc, List, [], ◌∷◌, ◌++◌, Option, Some, None, map, max, slice_get, unwrap_or}
-use Rattle.std.specs.List.{insert, remove}
-use Rattle.std.proofs.Common.{arith, ap, sym, ◌∙◌}
+use Rattle.std.specs.List.{remove}
+use Rattle.std.proofs.Common.{arith, ap}
 use Rattle.std.proofs.lemmas.List.{map-append}
 use Rattle.std.proofs.lemmas.Option.{none-some}
 use Rattle.setl_value.specs.declared.Value.{Value}

@@ -1,11 +1,11 @@
--- The canonical order of data.
-use Rattle.std.specs.Prelude.{ℕ, List}
+-- The canonical order of data: by kinds, and inside a kind by its own order. It is this project's choice.
+use Rattle.std.specs.Prelude.{◌≡◌, ℕ, pos, negsuc, false, List, [], ◌∷◌, Some, None, refl}
 use Rattle.std.specs.declared.cmp.Ordering.{Ordering}
 use Rattle.std.specs.declared.cmp.Ordering.TheVariants.{Less, Equal, Greater}
 use Rattle.std.specs.Ordering.{ordering_then, nat_cmp, int_cmp, bool_cmp}
 use Rattle.std.specs.Cmp.Lexicographic.{slice_cmp}
 use Rattle.std.specs.List.Sorted.{IsStrictlySortedBy}
-use Rattle.setl_value.specs.Datum.{Datum, bool, int, text, atom, tuple, set, Parts, no_part, om_then, part_then, Elements, no_element, element_then}
+use Rattle.setl_value.specs.Datum.{Datum, bool, int, text, atom, tuple, set, Parts, no_part, om_then, part_then, Elements, no_element, element_then, set_of, tuple_of}
 
 -- where a kind stands among the kinds
 abbrev pub kind_of : Datum → ℕ
@@ -46,3 +46,16 @@ abbrev mutual
 -- each datum is below those after it
 abbrev pub IsRising : List Datum → Type 0
 IsRising ds = IsStrictlySortedBy datum_cmp ds
+
+-- the kind comes first, `om` is the least component, and a proper prefix comes first
+false_first : datum_cmp (bool false) (int (negsuc 4)) ≡ Less
+false_first = refl
+
+tuples_first : datum_cmp (tuple_of (Some (int (pos 7)) ∷ [])) (set_of []) ≡ Less
+tuples_first = refl
+
+om_first : datum_cmp (tuple_of (None ∷ Some (atom 1) ∷ [])) (tuple_of (Some (bool false) ∷ [])) ≡ Less
+om_first = refl
+
+prefix_first : datum_cmp (set_of (int (pos 1) ∷ [])) (set_of (int (pos 1) ∷ int (pos 2) ∷ [])) ≡ Less
+prefix_first = refl

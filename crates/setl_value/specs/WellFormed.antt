@@ -1,5 +1,6 @@
--- Which data are values.
-use Rattle.std.specs.Prelude.{◌≡◌, ℕ, zero, suc, ℤ, ◌<◌, ◌≤◌, ◌^◌, List, [], ◌∷◌, Option, Some, None, pos, negsuc}
+-- Which data are values. The ranges of integers and atoms, the missing byte 10 and the depth of 500 are this project's
+-- limits.
+use Rattle.std.specs.Prelude.{◌≡◌, refl, ℕ, zero, suc, ℤ, ◌<◌, ◌≤◌, ◌^◌, List, [], ◌∷◌, Option, Some, None, pos, negsuc}
 use Rattle.std.specs.List.{AllByRecursion}
 use Rattle.setl_value.specs.Datum.{Datum, bool, int, text, atom, tuple, set, Parts, no_part, om_then, part_then, Elements, no_element, element_then, depth, parts_of, elements_of, part_list, element_list}
 use Rattle.setl_value.specs.Order.{IsRising}
@@ -24,6 +25,7 @@ abbrev pub IsWide : ℤ → Type 0
 IsWide (pos n) = n < 2 ^ 127
 IsWide (negsuc n) = n < 2 ^ 127
 
+-- numbers and bytes in range, tuples that don't end in `om`, sets that strictly rise, at every level
 abbrev mutual
   pub IsWellFormed : Datum → Type 0
   IsWellFormed (bool b) = Unit {0}
@@ -42,7 +44,7 @@ abbrev mutual
   ElementsAreWellFormed no_element = Unit {0}
   ElementsAreWellFormed (element_then d ms) = IsWellFormed d × ElementsAreWellFormed ms
 
--- a value
+-- a value: at most 500 deep
 abbrev pub IsValue : Datum → Type 0
 IsValue d = IsWellFormed d × (depth d ≤ 500)
 
@@ -74,3 +76,10 @@ abbrev pub put : List (Option Datum) → ℕ → Option Datum → List (Option D
 put [] i p = p ∷ []
 put (q ∷ ps) zero p = p ∷ ps
 put (q ∷ ps) (suc i) p = q ∷ put ps i p
+
+-- [1 om] is [1], and 5 put after it gives [1 5]
+trim_of_om : trim (Some (int (pos 1)) ∷ None ∷ []) ≡ Some (int (pos 1)) ∷ []
+trim_of_om = refl
+
+put_at_end : put (Some (int (pos 1)) ∷ []) 1 (Some (int (pos 5))) ≡ Some (int (pos 1)) ∷ Some (int (pos 5)) ∷ []
+put_at_end = refl

@@ -11,6 +11,8 @@ ghost use Rattle.setl_value.specs.OrderLaws.{same_if_eq};
 use crate::{SetBody, TupleBody, Value};
 use std::hash::{Hash, Hasher};
 
+// Equal values stand for the same datum, and `hash` feeds what the datum alone says: so the law of `Hash` holds, that
+// equal values feed a hasher the same.
 impl Hash for Value {
     ghost hash_input = { λ v. writes (datum v) };
 
@@ -21,6 +23,7 @@ impl Hash for Value {
     }
 }
 
+// Feeds a number for the kind, then the content.
 #[cycle(feeding)]
 fn feed<H: Hasher>(v: &Value, state: &mut H)
     ensures { state.new ≡ fold H.write state.old (writes (datum v.now)) }
@@ -53,29 +56,32 @@ fn feed<H: Hasher>(v: &Value, state: &mut H)
     }
 }
 
+// Feeds 1 before each member, and 0 after the last.
 #[cycle(feeding)]
 fn feed_members<H: Hasher>(s: &SetBody, state: &mut H)
     ensures { state.new ≡ fold H.write state.old (elements_writes (elements_of (Members s.now))) }
 {
-    let a = s.items.as_slice();
-    for i in 0..a.len() {
+    let members = s.items.as_slice();
+    for v in members {
         state.write_u8(1);
-        feed(&a[i], state);
+        feed(v, state);
     }
     state.write_u8(0);
 }
 
+// Feeds each component, and 0 after the last.
 #[cycle(feeding)]
 fn feed_parts<H: Hasher>(t: &TupleBody, state: &mut H)
     ensures { state.new ≡ fold H.write state.old (parts_writes (parts_of t.now)) }
 {
-    let a = t.parts.as_slice();
-    for i in 0..a.len() {
-        feed_part(&a[i], state);
+    let parts = t.parts.as_slice();
+    for p in parts {
+        feed_part(p, state);
     }
     state.write_u8(0);
 }
 
+// Feeds 1 for `om`, and 2 before a value.
 #[cycle(feeding)]
 fn feed_part<H: Hasher>(p: &Option<Value>, state: &mut H)
     ensures { state.new ≡ fold H.write state.old (part_writes (part p.now)) }

@@ -52,16 +52,16 @@ impl TupleBody {
     pub fn compare(&self, other: &TupleBody) -> Ordering
         ensures { result ≡ slice_cmp (option_cmp datum_cmp) self.now other.now }
     {
-        let a = self.parts.as_slice();
-        let b = other.parts.as_slice();
-        let shared = a.len().min(b.len());
+        let parts = self.parts.as_slice();
+        let others = other.parts.as_slice();
+        let shared = parts.len().min(others.len());
         for i in 0..shared {
-            match compare_parts(&a[i], &b[i]) {
+            match compare_parts(&parts[i], &others[i]) {
                 Ordering::Equal => {}
                 unequal => return unequal,
             }
         }
-        a.len().cmp(&b.len())
+        parts.len().cmp(&others.len())
     }
 }
 
@@ -71,16 +71,16 @@ impl SetBody {
     pub fn compare(&self, other: &SetBody) -> Ordering
         ensures { result ≡ slice_cmp datum_cmp (Members self.now) (Members other.now) }
     {
-        let a = self.items.as_slice();
-        let b = other.items.as_slice();
-        let shared = a.len().min(b.len());
+        let members = self.items.as_slice();
+        let others = other.items.as_slice();
+        let shared = members.len().min(others.len());
         for i in 0..shared {
-            match a[i].compare(&b[i]) {
+            match members[i].compare(&others[i]) {
                 Ordering::Equal => {}
                 unequal => return unequal,
             }
         }
-        a.len().cmp(&b.len())
+        members.len().cmp(&others.len())
     }
 }
 

@@ -6,8 +6,8 @@ ghost use Rattle.std.specs.List.{insert, remove};
 use crate::Memory;
 use std::rc::Rc;
 
-// Puts `v` before the i-th item.
-pub fn put_in<T: Clone>(items: &mut Rc<Vec<T>>, i: usize, v: T) -> Result<(), Memory>
+/// Puts `v` before the i-th item.
+pub(crate) fn put_in<T: Clone>(items: &mut Rc<Vec<T>>, i: usize, v: T) -> Result<(), Memory>
     requires exact { (x y : T) → T.is_clone x y → y ≡ x }
     requires inside { i ≤ length items.old.value.items }
     ensures put { OnOk result (items.new.value.items ≡ insert items.old.value.items i v) }
@@ -18,8 +18,8 @@ pub fn put_in<T: Clone>(items: &mut Rc<Vec<T>>, i: usize, v: T) -> Result<(), Me
     Ok(())
 }
 
-// Takes the i-th item out.
-pub fn cut_in<T: Clone>(items: &mut Rc<Vec<T>>, i: usize) -> Result<T, Memory>
+/// Takes the i-th item out.
+pub(crate) fn cut_in<T: Clone>(items: &mut Rc<Vec<T>>, i: usize) -> Result<T, Memory>
     requires exact { (x y : T) → T.is_clone x y → y ≡ x }
     requires inside { i < length items.old.value.items }
     ensures taken { IfOk result (λ v. slice_get items.old.value.items i ≡ Some v) }

@@ -17,16 +17,16 @@ Value::compare-returns-in-Set-Set t c = rw (c.in-Set-Set.is-0, c.in-Set-Set.is-1
 
 pub SetBody::compare-returns : goal.SetBody::compare-returns
 SetBody::compare-returns t c =
-    let xs = c.as_slice-a.result.now in
-    let ys = c.as_slice-b.result.now in
+    let xs = c.as_slice-members.result.now in
+    let ys = c.as_slice-others.result.now in
     c.cmp.ensures ∙ sym (lex_end datum datum_cmp xs ys c.loop-i.i (omega (arith, c.loop-i.auto.i-end, c.loop-i-test.false, c.min-shared.ensures)))
     ∙ sym c.loop-i.invariant
-    ∙ (λ k. slice_cmp datum_cmp ((ap (λ l. map datum l) (c.as_slice-a.ensures.value ∙ ap (λ v. v.items) c.deref.ensures) ∙ ap Members c.self.view_is) k) ((ap (λ l. map datum l) (c.as_slice-b.ensures.value ∙ ap (λ v. v.items) c.deref-2.ensures) ∙ ap Members c.other.view_is) k))
+    ∙ (λ k. slice_cmp datum_cmp ((ap (λ l. map datum l) (c.as_slice-members.ensures.value ∙ ap (λ v. v.items) c.deref.ensures) ∙ ap Members c.self.view_is) k) ((ap (λ l. map datum l) (c.as_slice-others.ensures.value ∙ ap (λ v. v.items) c.deref-2.ensures) ∙ ap Members c.other.view_is) k))
 
 pub TupleBody::compare-returns : goal.TupleBody::compare-returns
 TupleBody::compare-returns t c =
-    let xs = c.as_slice-a.result.now in
-    let ys = c.as_slice-b.result.now in
+    let xs = c.as_slice-parts.result.now in
+    let ys = c.as_slice-others.result.now in
     c.cmp.ensures ∙ sym (lex_end part (option_cmp datum_cmp) xs ys c.loop-i.i (omega (arith, c.loop-i.auto.i-end, c.loop-i-test.false, c.min-shared.ensures)))
     ∙ sym c.loop-i.invariant
-    ∙ (λ k. slice_cmp (option_cmp datum_cmp) ((ap (λ l. map part l) (c.as_slice-a.ensures.value ∙ ap (λ v. v.items) c.deref.ensures) ∙ c.self.view_is) k) ((ap (λ l. map part l) (c.as_slice-b.ensures.value ∙ ap (λ v. v.items) c.deref-2.ensures) ∙ c.other.view_is) k))
+    ∙ (λ k. slice_cmp (option_cmp datum_cmp) ((ap (λ l. map part l) (c.as_slice-parts.ensures.value ∙ ap (λ v. v.items) c.deref.ensures) ∙ c.self.view_is) k) ((ap (λ l. map part l) (c.as_slice-others.ensures.value ∙ ap (λ v. v.items) c.deref-2.ensures) ∙ c.other.view_is) k))

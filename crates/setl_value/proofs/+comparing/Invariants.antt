@@ -6,7 +6,7 @@ use Rattle.setl_value.specs.Order.{datum_cmp}
 use Rattle.setl_value.proofs.+comparing.Given as goal
 
 abbrev pub invariant-SetBody::compare-loop-i : goal.invariant-SetBody::compare-loop-i
-invariant-SetBody::compare-loop-i l = slice_cmp datum_cmp (map datum l.a) (map datum l.b) ≡ slice_cmp datum_cmp (map datum (drop l.i l.a)) (map datum (drop l.i l.b))
+invariant-SetBody::compare-loop-i l = slice_cmp datum_cmp (map datum l.members) (map datum l.others) ≡ slice_cmp datum_cmp (map datum (drop l.i l.members)) (map datum (drop l.i l.others))
 
 abbrev pub invariant-TupleBody::compare-loop-i : goal.invariant-TupleBody::compare-loop-i
-invariant-TupleBody::compare-loop-i l = slice_cmp (option_cmp datum_cmp) (map part l.a) (map part l.b) ≡ slice_cmp (option_cmp datum_cmp) (map part (drop l.i l.a)) (map part (drop l.i l.b))
+invariant-TupleBody::compare-loop-i l = slice_cmp (option_cmp datum_cmp) (map part l.parts) (map part l.others) ≡ slice_cmp (option_cmp datum_cmp) (map part (drop l.i l.parts)) (map part (drop l.i l.others))
