@@ -49,7 +49,7 @@ mod_of a b = Ok (int_rem_euclid a b)
 
 -- ---- laws
 
--- q is a / b rounded towards 0: q * b is nearer to a than |b|, and no further from 0 than a
+-- q is a / b rounded towards 0: a and q * b are less than |b| apart, and q * b is no further from 0 than a
 pub record IsTruncated (a b q : ℤ) : Type 0 where
   pub near : unsigned_abs (a -ℤ (q *ℤ b)) < unsigned_abs b
   pub towards_zero : unsigned_abs (q *ℤ b) ≤ unsigned_abs a
