@@ -132,13 +132,13 @@ pub record Core : Type 0 where
 -- what a variable holds
 abbrev pub read_variable : Variable → Shared → Option Datum
 read_variable (Global name) s = value_in s.globals (Global name)
-read_variable (Own name) s = value_in s.own (Own name)
+read_variable (Own body name) s = value_in s.own (Own body name)
 read_variable (Bound former name) s = value_in s.own (Bound former name)
 
 -- the same with another value for one variable
 abbrev pub write_variable : Variable → Option Datum → Shared → Shared
 write_variable (Global name) v s = record s { globals = with_value s.globals (Global name) v }
-write_variable (Own name) v s = record s { own = with_value s.own (Own name) v }
+write_variable (Own body name) v s = record s { own = with_value s.own (Own body name) v }
 write_variable (Bound former name) v s = record s { own = with_value s.own (Bound former name) v }
 
 -- the line of a loop; another iteration stands at the line around it

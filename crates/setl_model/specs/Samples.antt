@@ -7,10 +7,10 @@ use Rattle.setl_model.specs.Operators.{SetOf, With}
 use Rattle.setl_model.specs.Program.{Expr, Literal, Name, Apply, Exprs, no_expr, more_exprs, Stmt, Assign, Update, Print, Block, no_stmt, more_stmts, no_selector, Program}
 
 abbrev pub s : Variable
-s = Own (codes "s")
+s = Own 0 (codes "s")
 
 abbrev pub t : Variable
-t = Own (codes "t")
+t = Own 0 (codes "t")
 
 abbrev pub number : ℕ → Expr
 number n = Literal (int (pos n))
