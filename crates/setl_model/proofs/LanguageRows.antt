@@ -5,7 +5,7 @@ use Rattle.std.specs.Fmt.{digits}
 use Rattle.setl_model.specs.Events.{Done, Spent, Stopped, Wide, Form, Unfit, Nothing}
 use Rattle.setl_model.specs.Samples.{s}
 use Rattle.setl_model.specs.Means.{Means}
-use Rattle.setl_model.specs.LanguageSamples.{f, images_of_a_map, too_wide, fail_alone, counting, reading, emptied_set, passed_in_and_out, taken_back, enumeration_or_former, arithmetic, folds, subsets, long_range, declared_set, declared_map, queens, taken_apart, nested_places}
+use Rattle.setl_model.specs.LanguageSamples.{f, images_of_a_map, too_wide, fail_alone, counting, reading, emptied_set, passed_in_and_out, taken_back, enumeration_or_former, arithmetic, folds, subsets, long_range, declared_set, declared_map, queens, taken_apart, nested_places, undeclared_own}
 
 pub images_of_a_map_row : Means images_of_a_map [] 9 true (codes "* {2 3} 5 {}\n") Done
 unfolding digits
@@ -51,7 +51,7 @@ pub enumeration_or_former_row : Means enumeration_or_former [] 1 true (codes "{t
 unfolding digits
 enumeration_or_former_row = record { steps = 3000; last = _; ends = refl; written = refl }
 
-pub arithmetic_row : Means arithmetic [] 0 true (codes "-4 1 1 1024\n") Done
+pub arithmetic_row : Means arithmetic [] 0 true (codes "-3 1 1 1024\n") Done
 unfolding digits
 arithmetic_row = record { steps = 3000; last = _; ends = refl; written = refl }
 
@@ -90,3 +90,7 @@ taken_apart_row = record { steps = 3000; last = _; ends = refl; written = refl }
 pub nested_places_row : Means nested_places [] 9 true (codes "1 7\n2 9\n2 *\n2 5\n") Done
 unfolding digits
 nested_places_row = record { steps = 3000; last = _; ends = refl; written = refl }
+
+pub undeclared_own_row : Means undeclared_own [] 1 true (codes "1\n") Done
+unfolding digits
+undeclared_own_row = record { steps = 3000; last = _; ends = refl; written = refl }

@@ -71,7 +71,7 @@ pub data IterationFrame : Type 0 where
 
 -- The variables that a call sets at its return, each with the parameter whose value it gets.
 abbrev pub HandBacks : Type 0
-HandBacks = List (List ℕ × Variable)
+HandBacks = List (Variable × Variable)
 
 -- A call with its arguments so far, the latest first, or the body of a procedure at work.
 pub data CallFrame : Type 0 where

@@ -1,8 +1,8 @@
 -- Worked programs of the whole language.
-use Rattle.std.specs.Prelude.{ℕ, ◌+◌, List, [], ◌∷◌, codes, pos, negsuc, Option, Some, None}
-use Rattle.setl_value.specs.Datum.{int, text}
+use Rattle.std.specs.Prelude.{ℕ, ◌+◌, List, [], ◌∷◌, codes, Option, Some, None}
+use Rattle.setl_value.specs.Datum.{text}
 use Rattle.setl_model.specs.Variable.{Variable, Own, Bound}
-use Rattle.setl_model.specs.Operators.{Operator, Add, Subtract, Divide, Modulo, Power, Multiply, Abs, Size, Equal, NotEqual, With, Less, In, SetRange, TupleRange, Pow, Npow, Get, Images, SetOf, TupleOf, FoldAdd, FoldMax}
+use Rattle.setl_model.specs.Operators.{Operator, Negate, Add, Subtract, Divide, Modulo, Power, Multiply, Abs, Size, Equal, NotEqual, With, Less, In, SetRange, TupleRange, Pow, Npow, Get, Images, SetOf, TupleOf, FoldAdd, FoldMax}
 use Rattle.setl_model.specs.Collections.{OfSet, OfTuple}
 use Rattle.setl_model.specs.Modes.{Mode, Integers, Elements, Sets, SingleMaps, Sparse}
 use Rattle.setl_model.specs.Program.{And, Or, Exists, Member, Components, Point, Values, Between, Points, Expr, Literal, Undefined, Name, Apply, Connect, Choose, Former, Selection, Quantified, Call, Newat, Eof, Ok, Exprs, no_expr, more_exprs, Iterators, no_iterator, more_iterators, no_condition, only_if, no_argument, rd_argument, wr_argument, rw_argument, Selectors, no_selector, round_selector, brace_selector, TakeLeast, TakeFirst, TakeLast, Stmt, Assign, Update, AssignParts, TakeFrom, Perform, If, For, While, Quit, Continue, Fail, Stop, Return, Print, Read, Block, no_stmt, more_stmts, Rw, Program}
@@ -11,19 +11,19 @@ use Rattle.setl_model.specs.Samples.{s, t, number, exprs, numbers, enumeration, 
 -- ---- parts of programs
 
 abbrev pub f : Variable
-f = Own (codes "f")
+f = Own 0 (codes "f")
 
 abbrev n : Variable
-n = Own (codes "n")
+n = Own 0 (codes "n")
 
 abbrev x : Variable
-x = Own (codes "x")
+x = Own 0 (codes "x")
 
 abbrev y : Variable
-y = Own (codes "y")
+y = Own 0 (codes "y")
 
 abbrev z : Variable
-z = Own (codes "z")
+z = Own 0 (codes "z")
 
 abbrev one : Operator → Expr → Expr
 one o a = Apply o (exprs (a ∷ []))
@@ -114,7 +114,7 @@ emptied_set =
 abbrev pub passed_in_and_out : Program
 passed_in_and_out = record {
   main = lines_from 2 (assign n (number 1) ∷ Perform (Call 0 (rw_argument n no_argument)) ∷ print (Name n ∷ []) ∷ []);
-  procedures = record { name = codes "inc"; parameters = record { passing = Rw; name = codes "x" } ∷ []; body = alone 5 (combine Add x (number 1)) } ∷ [];
+  procedures = record { name = codes "inc"; parameters = record { passing = Rw; name = codes "x" } ∷ []; body = alone 5 (combine Add (Own 1 (codes "x")) (number 1)) } ∷ [];
   modes = [];
 }
 
@@ -150,9 +150,9 @@ abbrev pub arithmetic : Program
 arithmetic =
     lines (
       print (
-        two Divide (Literal (int (negsuc 6))) (number 2)
-        ∷ two Modulo (Literal (int (negsuc 6))) (number 2)
-        ∷ two Modulo (number 7) (Literal (int (negsuc 1)))
+        two Divide (one Negate (number 7)) (number 2)
+        ∷ two Modulo (one Negate (number 7)) (number 2)
+        ∷ two Modulo (number 7) (one Negate (number 2))
         ∷ two Power (number 2) (number 10)
         ∷ [])
       ∷ [])
@@ -199,16 +199,16 @@ declared_map = record {
 }
 
 abbrev q : Variable
-q = Own (codes "q")
+q = Own 0 (codes "q")
 
 abbrev i : Variable
-i = Own (codes "i")
+i = Own 0 (codes "i")
 
 abbrev j : Variable
-j = Own (codes "j")
+j = Own 0 (codes "j")
 
 abbrev k : Variable
-k = Own (codes "k")
+k = Own 0 (codes "k")
 
 -- q(k) = j or abs (q(k) - j) = i - k
 abbrev is_attacked : Expr
@@ -259,3 +259,18 @@ nested_places =
         (only_if (two NotEqual (Name z) (number 8)))
         (alone 4 (print (Name x ∷ Name z ∷ [])))
       ∷ [])
+
+-- s: sparse set(elmt n), where base n: int
+-- p(); proc p(); s := 1; print(s); end proc;
+abbrev pub undeclared_own : Program
+undeclared_own = record {
+  main = alone 3 (Perform (Call 0 no_argument));
+  procedures =
+      record {
+        name = codes "p";
+        parameters = [];
+        body = at 4 (assign (Own 1 (codes "s")) (number 1)) (alone 4 (print (Name (Own 1 (codes "s")) ∷ [])));
+      }
+      ∷ [];
+  modes = (s, Sets Sparse (Elements 0 Integers)) ∷ [];
+}
