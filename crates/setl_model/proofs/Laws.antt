@@ -1,12 +1,14 @@
 -- The laws over the language.
-use Rattle.std.proofs.Common.{◌≡◌, true, [], ◌∷◌, ◌++◌, sym, ap, ◌∙◌, subst}
+use Rattle.std.proofs.Common.{◌≡◌, Bool, true, false, refl, [], ◌∷◌, ◌++◌, sym, ap, ◌∙◌, subst}
+use Rattle.setl_model.specs.Variable.{is_variable, value_in, with_value}
+use Rattle.setl_model.specs.VariableLaws.{same_variable, value_elsewhere}
 use Rattle.setl_model.specs.Events.{Printed}
 use Rattle.setl_model.specs.Run.{State, Goes, settle, step, and_then}
 use Rattle.setl_model.specs.RunLaws.{runs_join}
 use Rattle.setl_model.specs.Core.{Core}
 use Rattle.setl_model.specs.Step.{language, test_of}
 use Rattle.setl_model.specs.Means.{first}
-use Rattle.setl_model.specs.Laws.{OneStep, OneMeaning, StepsGrow, IsFront, ReachedOutputIsFront, PrintInHandIsFront, DeclarationsOnlyCut, DeclarationsChangeNothing}
+use Rattle.setl_model.specs.Laws.{StoresChangeOneVariable, OneStep, OneMeaning, StepsGrow, IsFront, ReachedOutputIsFront, PrintInHandIsFront, DeclarationsOnlyCut, DeclarationsChangeNothing}
 use Rattle.setl_model.proofs.Runs.{ends_alike, GrowsTo, step_grows, passed_is_front, tested_is_front, fitting_is_whole}
 
 pub one_step : OneStep
@@ -44,3 +46,10 @@ declarations_change_nothing p input turns o e fits h =
       ends = fitting_is_whole Core (language p) (test_of p true) h.steps (first p input turns) h.last e fits h.ends;
       written = h.written;
     }
+
+pub elsewhere : StoresChangeOneVariable
+elsewhere e x y v other = go (is_variable x y) refl
+  where
+    go : (t : Bool) → is_variable x y ≡ t → value_in (with_value e x v) y ≡ value_in e y
+    go true h = absurd (other (same_variable x y h))
+    go false h = value_elsewhere e x y v h

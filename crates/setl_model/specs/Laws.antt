@@ -1,11 +1,20 @@
 -- Laws over what a program means.
-use Rattle.std.specs.Prelude.{◌≡◌, ℕ, Bool, true, false, List, ◌++◌}
+use Rattle.std.specs.Prelude.{◌≡◌, ℕ, Bool, true, false, List, ◌++◌, Option}
+use Rattle.setl_value.specs.Datum.{Datum}
+use Rattle.setl_model.specs.Variable.{Variable, Environment, value_in, with_value}
 use Rattle.setl_model.specs.Program.{Program}
 use Rattle.setl_model.specs.Events.{Event, StopKind, Unfit, End, Stopped}
 use Rattle.setl_model.specs.Run.{State}
 use Rattle.setl_model.specs.Core.{Core}
 use Rattle.setl_model.specs.Step.{Step}
 use Rattle.setl_model.specs.Means.{Reaches, Means, HasPrint}
+
+-- a variable holds what was stored in it last, and a store changes no other variable
+abbrev pub HoldsWhatWasStored : Type 0
+HoldsWhatWasStored = (e : Environment) (x : Variable) (v : Option Datum) → value_in (with_value e x v) x ≡ v
+
+abbrev pub StoresChangeOneVariable : Type 0
+StoresChangeOneVariable = (e : Environment) (x y : Variable) (v : Option Datum) → (x ≡ y → ⊥) → value_in (with_value e x v) y ≡ value_in e y
 
 -- a state has at most one next state
 abbrev pub OneStep : Type 0

@@ -1,4 +1,5 @@
 pub mod Variable
+pub mod VariableLaws
 pub mod Sets
 pub mod Integers
 pub mod Tuples

@@ -8,7 +8,14 @@ ghost use Rattle.setl_model.specs.Texts.{print_line};
 ghost use Rattle.setl_model.specs.Answers.{error_line};
 ghost use Rattle.setl_model.specs.Means.{Means};
 ghost use Rattle.setl_model.specs.Samples.{mixed_values, nested_values, empty_program, growing_set, copied_set, several_lines};
-ghost use Rattle.setl_model.specs.Laws.{OneStep, OneMeaning, StepsGrow, ReachedOutputIsFront, PrintInHandIsFront, DeclarationsOnlyCut, DeclarationsChangeNothing};
+ghost use Rattle.setl_model.specs.Laws.{HoldsWhatWasStored, StoresChangeOneVariable, OneStep, OneMeaning, StepsGrow, ReachedOutputIsFront, PrintInHandIsFront, DeclarationsOnlyCut, DeclarationsChangeNothing};
+
+/// A variable holds what was stored in it last, and a store changes no other variable. So an assignment copies: no two
+/// variables ever share a value that changes.
+pub fn stores_change_one_variable()
+    ensures stored { HoldsWhatWasStored }
+    ensures elsewhere { StoresChangeOneVariable }
+{}
 
 /// A state of a run has at most one next state, and a program on an input with some number of turns has at most one
 /// output and one end.
