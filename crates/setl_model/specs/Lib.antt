@@ -22,6 +22,7 @@ pub mod Expressions
 pub mod Places
 pub mod Statements
 pub mod Step
+pub mod StraightRuns
 pub mod Means
 pub mod Answers
 pub mod Laws
