@@ -36,12 +36,12 @@ abbrev pub enter : (body : ℕ) → Option Procedure → Arguments → List (Opt
 enter body None all vs work c = Halts Stuck
 enter body (Some p) all vs work c =
     turn c (λ d. Moves [] (Called (line_of work) p.name ∷ [])
-      (record d {
-        shared = record d.shared { own = [] };
-        hand = Execute p.body;
-        work = InCall (Activation p.name (hand_backs body p.parameters all) d.shared.own) ∷ work;
-      })
-      (line_of work) (bindings body p.parameters vs))
+    (record d {
+      shared = record d.shared { own = [] };
+      hand = Execute p.body;
+      work = InCall (Activation p.name (hand_backs body p.parameters all) d.shared.own) ∷ work;
+    })
+    (line_of work) (bindings body p.parameters vs))
 
 -- the next argument from left to right, or the call
 abbrev pub arguments : Program → ℕ → Arguments → List (Option Datum) → Arguments → List Frame → Core → Move Core
@@ -55,12 +55,12 @@ arguments p f all got (rw_argument x rest) work c = go (Result (read_variable x 
 abbrev pub leave : List ℕ → HandBacks → Environment → Option Datum → List Frame → Core → Move Core
 leave name backs own v work c =
     Moves [] (Returned name ∷ [])
-      (record c {
-        shared = record c.shared { own = own };
-        hand = Result v;
-        work = Storing (handed_back backs c.shared.own) ∷ work;
-      })
-      0 []
+    (record c {
+      shared = record c.shared { own = own };
+      hand = Result v;
+      work = Storing (handed_back backs c.shared.own) ∷ work;
+    })
+    0 []
 
 -- an argument's result, or the result of a procedure
 abbrev pub result_in_call : Program → CallFrame → Option Datum → List Frame → Core → Move Core

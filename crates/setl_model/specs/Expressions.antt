@@ -1,5 +1,5 @@
 -- Steps of expressions.
-use Rattle.std.specs.Prelude.{ℕ, ◌+◌, true, false, List, [], ◌∷◌, reverse, Option, Some, None}
+use Rattle.std.specs.Prelude.{◌+◌, true, false, List, [], ◌∷◌, reverse, Option, Some, None}
 use Rattle.setl_value.specs.Datum.{Datum, bool, atom}
 use Rattle.setl_model.specs.Operators.{Operator, op_of}
 use Rattle.setl_model.specs.Program.{Connective, And, Or, Implies, Expr, Literal, Undefined, Name, Apply, Connect, Choose, Former, Selection, Quantified, Call, Newat, Eof, Ok, Exprs, no_expr, more_exprs, only_if, Program}
@@ -19,12 +19,12 @@ operands o got (more_exprs e rest) work c = go (Evaluate e) (InExpr (Operands o 
 abbrev pub keep : List Frame → Core → Move Core
 keep work c =
     Moves [] (Kept ∷ [])
-      (record c {
-        hand = Result (Some (bool true));
-        work = work;
-        kept = record { globals = c.shared.globals; own = c.shared.own; work = work } ∷ c.kept;
-      })
-      0 []
+    (record c {
+      hand = Result (Some (bool true));
+      work = work;
+      kept = record { globals = c.shared.globals; own = c.shared.own; work = work } ∷ c.kept;
+    })
+    0 []
 
 -- `newat`: one turn and the next atom
 abbrev pub draw : List Frame → Core → Move Core

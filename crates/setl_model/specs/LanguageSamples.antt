@@ -1,11 +1,11 @@
 -- Worked programs of the whole language.
-use Rattle.std.specs.Prelude.{ℕ, ◌+◌, List, [], ◌∷◌, codes, Option, Some, None}
+use Rattle.std.specs.Prelude.{ℕ, ◌+◌, List, [], ◌∷◌, codes, Some, None}
 use Rattle.setl_value.specs.Datum.{text}
 use Rattle.setl_model.specs.Variable.{Variable, Own, Bound}
-use Rattle.setl_model.specs.Operators.{Operator, Negate, Add, Subtract, Divide, Modulo, Power, Multiply, Abs, Size, Equal, NotEqual, With, Less, In, SetRange, TupleRange, Pow, Npow, Get, Images, SetOf, TupleOf, FoldAdd, FoldMax}
-use Rattle.setl_model.specs.Collections.{OfSet, OfTuple}
-use Rattle.setl_model.specs.Modes.{Mode, Integers, Elements, Sets, SingleMaps, Sparse}
-use Rattle.setl_model.specs.Program.{And, Or, Exists, Member, Components, Point, Values, Between, Points, Expr, Literal, Undefined, Name, Apply, Connect, Choose, Former, Selection, Quantified, Call, Newat, Eof, Ok, Exprs, no_expr, more_exprs, Iterators, no_iterator, more_iterators, no_condition, only_if, no_argument, rd_argument, wr_argument, rw_argument, Selectors, no_selector, round_selector, brace_selector, TakeLeast, TakeFirst, TakeLast, Stmt, Assign, Update, AssignParts, TakeFrom, Perform, If, For, While, Quit, Continue, Fail, Stop, Return, Print, Read, Block, no_stmt, more_stmts, Rw, Program}
+use Rattle.setl_model.specs.Operators.{Operator, Negate, Add, Subtract, Divide, Modulo, Power, Abs, Size, Equal, NotEqual, With, Less, In, SetRange, TupleRange, Pow, Npow, Get, Images, SetOf, TupleOf, FoldAdd, FoldMax}
+use Rattle.setl_model.specs.Collections.{OfSet}
+use Rattle.setl_model.specs.Modes.{Integers, Elements, Sets, SingleMaps, Sparse}
+use Rattle.setl_model.specs.Program.{Or, Exists, Member, Point, Values, Between, Points, Expr, Literal, Undefined, Name, Apply, Connect, Selection, Quantified, Call, Eof, Ok, Iterators, no_iterator, more_iterators, no_condition, only_if, no_argument, rw_argument, no_selector, round_selector, brace_selector, TakeFirst, TakeLast, Stmt, Assign, Update, AssignParts, TakeFrom, Perform, If, For, Fail, Return, Read, Block, no_stmt, more_stmts, Rw, Program}
 use Rattle.setl_model.specs.Samples.{s, t, number, exprs, numbers, enumeration, assign, print}
 
 -- ---- parts of programs
@@ -79,9 +79,9 @@ lines sts = record { main = lines_from 2 sts; procedures = []; modes = [] }
 abbrev pub images_of_a_map : Program
 images_of_a_map =
     lines (
-      assign f (set_of (pair_of 1 2 ∷ pair_of 1 3 ∷ pair_of 2 5 ∷ []))
-      ∷ print (two Get (Name f) (number 1) ∷ two Images (Name f) (number 1) ∷ two Get (Name f) (number 2) ∷ two Images (Name f) (number 9) ∷ [])
-      ∷ [])
+    assign f (set_of (pair_of 1 2 ∷ pair_of 1 3 ∷ pair_of 2 5 ∷ []))
+    ∷ print (two Get (Name f) (number 1) ∷ two Images (Name f) (number 1) ∷ two Get (Name f) (number 2) ∷ two Images (Name f) (number 9) ∷ [])
+    ∷ [])
 
 -- print(170141183460469231731687303715884105727 + 1);
 abbrev pub too_wide : Program
@@ -104,11 +104,11 @@ reading = lines (Read (x ∷ y ∷ z ∷ []) ∷ print (Name x ∷ Name y ∷ Na
 abbrev pub emptied_set : Program
 emptied_set =
     lines (
-      assign s (enumeration (1 ∷ 2 ∷ 3 ∷ []))
-      ∷ assign n (number 0)
-      ∷ For (over x (Name s)) no_condition (at 4 (combine Less s (Name x)) (alone 4 (combine Add n (number 1))))
-      ∷ print (Name s ∷ Name n ∷ [])
-      ∷ [])
+    assign s (enumeration (1 ∷ 2 ∷ 3 ∷ []))
+    ∷ assign n (number 0)
+    ∷ For (over x (Name s)) no_condition (at 4 (combine Less s (Name x)) (alone 4 (combine Add n (number 1))))
+    ∷ print (Name s ∷ Name n ∷ [])
+    ∷ [])
 
 -- n := 1; inc(n); print(n); proc inc(rw x); x +:= 1; end proc;
 abbrev pub passed_in_and_out : Program
@@ -123,10 +123,10 @@ abbrev pub taken_back : Program
 taken_back = record {
   main =
       lines_from 2 (
-        assign x (Call 0 no_argument)
-        ∷ print (Name x ∷ [])
-        ∷ If (two Equal (Name x) (number 1)) (alone 4 Fail) no_stmt
-        ∷ []);
+      assign x (Call 0 no_argument)
+      ∷ print (Name x ∷ [])
+      ∷ If (two Equal (Name x) (number 1)) (alone 4 Fail) no_stmt
+      ∷ []);
   procedures =
       record { name = codes "p"; parameters = []; body = alone 5 (If Ok (alone 5 (Return (number 1))) (alone 5 (Return (number 2)))) }
       ∷ [];
@@ -137,32 +137,32 @@ taken_back = record {
 abbrev pub enumeration_or_former : Program
 enumeration_or_former =
     lines (
-      assign s (enumeration (1 ∷ []))
-      ∷ assign x (number 1)
-      ∷ print (
-        set_of (two In (Name x) (Name s) ∷ [])
-        ∷ Selection OfSet (over (Bound 1 (codes "y")) (Name s)) (only_if (two Equal (Name (Bound 1 (codes "y"))) (number 2)))
-        ∷ [])
-      ∷ [])
+    assign s (enumeration (1 ∷ []))
+    ∷ assign x (number 1)
+    ∷ print (
+    set_of (two In (Name x) (Name s) ∷ [])
+    ∷ Selection OfSet (over (Bound 1 (codes "y")) (Name s)) (only_if (two Equal (Name (Bound 1 (codes "y"))) (number 2)))
+    ∷ [])
+    ∷ [])
 
 -- print(-7 div 2, -7 mod 2, 7 mod -2, 2 ** 10);
 abbrev pub arithmetic : Program
 arithmetic =
     lines (
-      print (
-        two Divide (one Negate (number 7)) (number 2)
-        ∷ two Modulo (one Negate (number 7)) (number 2)
-        ∷ two Modulo (number 7) (one Negate (number 2))
-        ∷ two Power (number 2) (number 10)
-        ∷ [])
-      ∷ [])
+    print (
+    two Divide (one Negate (number 7)) (number 2)
+    ∷ two Modulo (one Negate (number 7)) (number 2)
+    ∷ two Modulo (number 7) (one Negate (number 2))
+    ∷ two Power (number 2) (number 10)
+    ∷ [])
+    ∷ [])
 
 -- print(+/ [1..4], +/ {}, max/ {3,9,4});
 abbrev pub folds : Program
 folds =
     lines (
-      print (one FoldAdd (two TupleRange (number 1) (number 4)) ∷ one FoldAdd (enumeration []) ∷ one FoldMax (enumeration (3 ∷ 9 ∷ 4 ∷ [])) ∷ [])
-      ∷ [])
+    print (one FoldAdd (two TupleRange (number 1) (number 4)) ∷ one FoldAdd (enumeration []) ∷ one FoldMax (enumeration (3 ∷ 9 ∷ 4 ∷ [])) ∷ [])
+    ∷ [])
 
 -- print(pow {1,2}, 2 npow {1,2,3});
 abbrev pub subsets : Program
@@ -214,7 +214,7 @@ k = Own 0 (codes "k")
 abbrev is_attacked : Expr
 is_attacked =
     Connect Or (two Equal (two Get (Name q) (Name k)) (Name j))
-      (two Equal (one Abs (two Subtract (two Get (Name q) (Name k)) (Name j))) (two Subtract (Name i) (Name k)))
+    (two Equal (one Abs (two Subtract (two Get (Name q) (Name k)) (Name j))) (two Subtract (Name i) (Name k)))
 
 -- q := [];
 -- (for i in [1..4])
@@ -228,37 +228,37 @@ is_attacked =
 abbrev pub queens : Program
 queens =
     lines (
-      assign q (tuple_of [])
-      ∷ For (between i (number 1) (number 4)) no_condition
-        (alone 4 (If (Quantified Exists (between j (number 1) (number 4)) Ok)
-          (at 5 (If (Quantified Exists (between k (number 1) (one Size (Name q))) is_attacked) (alone 5 Fail) no_stmt)
-          (alone 6 (combine With q (Name j))))
-          (alone 7 Fail)))
-      ∷ print (Name q ∷ [])
-      ∷ [])
+    assign q (tuple_of [])
+    ∷ For (between i (number 1) (number 4)) no_condition
+    (alone 4 (If (Quantified Exists (between j (number 1) (number 4)) Ok)
+    (at 5 (If (Quantified Exists (between k (number 1) (one Size (Name q))) is_attacked) (alone 5 Fail) no_stmt)
+    (alone 6 (combine With q (Name j))))
+    (alone 7 Fail)))
+    ∷ print (Name q ∷ [])
+    ∷ [])
 
 -- t := [1,om,2]; [x, -, y] := t; z fromb t; n frome t; print(x, y, z, n, t);
 abbrev pub taken_apart : Program
 taken_apart =
     lines (
-      assign t (tuple_of (number 1 ∷ Undefined ∷ number 2 ∷ []))
-      ∷ AssignParts (Some x ∷ None ∷ Some y ∷ []) (Name t)
-      ∷ TakeFrom TakeFirst z (record { variable = t; selectors = no_selector })
-      ∷ TakeFrom TakeLast n (record { variable = t; selectors = no_selector })
-      ∷ print (Name x ∷ Name y ∷ Name z ∷ Name n ∷ Name t ∷ [])
-      ∷ [])
+    assign t (tuple_of (number 1 ∷ Undefined ∷ number 2 ∷ []))
+    ∷ AssignParts (Some x ∷ None ∷ Some y ∷ []) (Name t)
+    ∷ TakeFrom TakeFirst z (record { variable = t; selectors = no_selector })
+    ∷ TakeFrom TakeLast n (record { variable = t; selectors = no_selector })
+    ∷ print (Name x ∷ Name y ∷ Name z ∷ Name n ∷ Name t ∷ [])
+    ∷ [])
 
 -- f := {[1,[7]],[2,[8,9]]}; f(2)(4) := 5; (for y = f(x), z in y) print(x, z); end for;
 abbrev pub nested_places : Program
 nested_places =
     lines (
-      assign f (set_of (tuple_of (number 1 ∷ tuple_of (number 7 ∷ []) ∷ []) ∷ tuple_of (number 2 ∷ pair_of 8 9 ∷ []) ∷ []))
-      ∷ Assign (record { variable = f; selectors = round_selector (number 2) (round_selector (number 4) no_selector) }) (number 5)
-      ∷ For
-        (more_iterators (Point y x) Points (exprs (Name f ∷ [])) (over z (Name y)))
-        (only_if (two NotEqual (Name z) (number 8)))
-        (alone 4 (print (Name x ∷ Name z ∷ [])))
-      ∷ [])
+    assign f (set_of (tuple_of (number 1 ∷ tuple_of (number 7 ∷ []) ∷ []) ∷ tuple_of (number 2 ∷ pair_of 8 9 ∷ []) ∷ []))
+    ∷ Assign (record { variable = f; selectors = round_selector (number 2) (round_selector (number 4) no_selector) }) (number 5)
+    ∷ For
+    (more_iterators (Point y x) Points (exprs (Name f ∷ [])) (over z (Name y)))
+    (only_if (two NotEqual (Name z) (number 8)))
+    (alone 4 (print (Name x ∷ Name z ∷ [])))
+    ∷ [])
 
 -- s: sparse set(elmt n), where base n: int
 -- p(); proc p(); s := 1; print(s); end proc;

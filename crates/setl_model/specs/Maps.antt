@@ -1,8 +1,8 @@
 -- Maps: sets of pairs, over the rising lists of their members.
-use Rattle.std.specs.Prelude.{Bool, true, false, not, List, [], ◌∷◌, map, cond, is_some, Option, Some, None}
+use Rattle.std.specs.Prelude.{Bool, false, not, List, [], ◌∷◌, map, is_some, Option, Some, None}
 use Rattle.std.specs.List.{filter, filter_map, list_all}
 use Rattle.std.specs.Ordering.{is_eq}
-use Rattle.setl_value.specs.Datum.{Datum, tuple, Parts, no_part, part_then}
+use Rattle.setl_value.specs.Datum.{Datum, tuple, no_part, part_then}
 use Rattle.setl_value.specs.Order.{datum_cmp}
 use Rattle.setl_model.specs.Sets.{insert_datum, set_from, union_of}
 

@@ -1,9 +1,9 @@
 -- What the operators make of their operands.
-use Rattle.std.specs.Prelude.{ℕ, zero, suc, ◌+◌, ◌-◌, ◌%◌, ◌^◌, ◌==◌, ℤ, pos, negsuc, neg_ℤ, ◌+ℤ◌, ◌-ℤ◌, ◌*ℤ◌, Bool, true, false, not, ◌&&◌, ◌||◌, List, [], ◌∷◌, ◌++◌, length, slice_range, nat_le, int_lt, int_le, int_div, unsigned_abs, cond, Option, Some, None, if◌then◌else◌}
+use Rattle.std.specs.Prelude.{ℕ, zero, suc, ◌+◌, ◌-◌, ◌%◌, ◌^◌, ◌==◌, ℤ, pos, negsuc, neg_ℤ, ◌+ℤ◌, ◌-ℤ◌, ◌*ℤ◌, Bool, true, false, not, ◌&&◌, ◌||◌, List, [], ◌∷◌, ◌++◌, length, slice_range, nat_le, int_lt, int_le, int_div, unsigned_abs, Option, Some, None, if◌then◌else◌}
 use Rattle.std.specs.Int.{int_rem_euclid}
 use Rattle.std.specs.Ordering.{nat_cmp, is_lt}
 use Rattle.std.specs.Cmp.Lexicographic.{slice_cmp}
-use Rattle.setl_value.specs.Datum.{Datum, bool, int, text, atom, tuple, set, Parts, Elements, parts_of, part_list, elements_of, element_list, depth}
+use Rattle.setl_value.specs.Datum.{Datum, bool, int, text, atom, tuple, set, parts_of, part_list, elements_of, element_list, depth}
 use Rattle.setl_value.specs.WellFormed.{trim}
 use Rattle.setl_model.specs.Sets.{insert_datum, set_from, has_datum, is_subset, remove_datum, union_of, minus_of, meet_of, symm_of, subsets_of_size, pow_of, npow_of}
 use Rattle.setl_model.specs.Integers.{fits, power, range_size, range_from, step_size, step_from}

@@ -2,7 +2,7 @@
 use Rattle.std.specs.Prelude.{ℕ, List, [], ◌∷◌, reverse, Option, Some, None}
 use Rattle.setl_value.specs.Datum.{Datum, tuple, set, element_list, part_list}
 use Rattle.setl_model.specs.Variable.{Variable}
-use Rattle.setl_model.specs.Operators.{Fault, OmFault, KindFault, Outcome, Gives, Fails, Get, Images, Put, PutImages, op_of, then_with, set_of_list, tuple_of_list}
+use Rattle.setl_model.specs.Operators.{Fault, OmFault, KindFault, Outcome, Gives, Get, Images, Put, PutImages, op_of, then_with, set_of_list, tuple_of_list}
 use Rattle.setl_model.specs.Program.{Selectors, no_selector, round_selector, brace_selector, Place, Taking, TakeLeast, TakeFirst, TakeLast, no_stmt}
 use Rattle.setl_model.specs.Run.{Move}
 use Rattle.setl_model.specs.Core.{Execute, Evaluate, Result, Selected, Round, Brace, Change, Puts, Combines, Takes, RoundSelector, BraceSelector, Dropping, Frame, InStmt, Storing, Core, read_variable}
@@ -73,7 +73,7 @@ take_out k (Some d) = CannotTake KindFault
 abbrev pub take_from : Taken → ℕ → Variable → List Selected → Variable → List Frame → Core → Move Core
 take_from (TakesOut small v) line x at target work c =
     with_outcome (with_part_at_all at (read_variable x c.shared) (Some small) c.shared.left) line c
-      (λ new d. go_storing line ((x, new) ∷ []) (Result None) (Storing ((target, v) ∷ []) ∷ InStmt line Dropping ∷ work) d)
+    (λ new d. go_storing line ((x, new) ∷ []) (Result None) (Storing ((target, v) ∷ []) ∷ InStmt line Dropping ∷ work) d)
 take_from IsEmpty line x at target work c =
     go (Result None) (Storing ((target, None) ∷ []) ∷ InStmt line Dropping ∷ work) c
 take_from (CannotTake fault) line x at target work c = stop fault line

@@ -1,12 +1,12 @@
 -- Steps of statements.
-use Rattle.std.specs.Prelude.{ℕ, Bool, true, false, List, [], ◌∷◌, reverse, Option, Some, None}
+use Rattle.std.specs.Prelude.{ℕ, true, false, List, [], ◌∷◌, reverse, Option, Some, None}
 use Rattle.setl_value.specs.Datum.{Datum, bool}
 use Rattle.setl_model.specs.Variable.{Variable}
 use Rattle.setl_model.specs.Denotations.{Reading, Denotes, AtEnd, NotForm, TooWide, TooDeep, read_denotation}
-use Rattle.setl_model.specs.Program.{Exprs, no_expr, more_exprs, Undefined, Place, Stmt, Assign, Update, AssignParts, TakeFrom, Perform, If, For, While, Quit, Continue, Fail, Stop, Pass, Return, Print, Read, Block, no_stmt, more_stmts}
+use Rattle.setl_model.specs.Program.{Exprs, no_expr, more_exprs, Stmt, Assign, Update, AssignParts, TakeFrom, Perform, If, For, While, Quit, Continue, Fail, Stop, Pass, Return, Print, Read, Block, no_stmt, more_stmts}
 use Rattle.setl_model.specs.Events.{Printed, Back, Done, Stuck, Stopped, Form, Wide, Deep, Nothing}
 use Rattle.setl_model.specs.Run.{Move, Moves, Halts}
-use Rattle.setl_model.specs.Core.{Execute, Evaluate, Result, Iterate, Goal, Collect, Select, Decide, Repeat, Iteration, IterationFrame, Body, Paused, Activation, Puts, Combines, Takes, StmtFrame, AssignRight, UpdateRight, PartsRight, RoundSelector, BraceSelector, IfTest, WhileTest, WhileBody, PrintParts, Returning, Dropping, Round, Brace, Frame, InIteration, InCall, InStmt, Storing, Then, Snapshot, Core}
+use Rattle.setl_model.specs.Core.{Execute, Evaluate, Result, Iterate, Goal, Repeat, Iteration, Body, Paused, Activation, Puts, Combines, Takes, StmtFrame, AssignRight, UpdateRight, PartsRight, RoundSelector, BraceSelector, IfTest, WhileTest, WhileBody, PrintParts, Returning, Dropping, Round, Brace, Frame, InIteration, InCall, InStmt, Storing, Then, Snapshot, Core}
 use Rattle.setl_model.specs.Moves.{go, go_storing, stop, turn, branch}
 use Rattle.setl_model.specs.Slots.{Parting, Parted, NotParted, parting}
 use Rattle.setl_model.specs.Iterations.{begin}
@@ -66,13 +66,13 @@ abbrev pub fail : ℕ → List Snapshot → Core → Move Core
 fail line [] c = Halts (Stopped Nothing line)
 fail line (s ∷ older) c =
     turn c (λ d. Moves [] (Back ∷ [])
-      (record d {
-        shared = record d.shared { globals = s.globals; own = s.own };
-        hand = Result (Some (bool false));
-        work = s.work;
-        kept = older;
-      })
-      0 [])
+    (record d {
+      shared = record d.shared { globals = s.globals; own = s.own };
+      hand = Result (Some (bool false));
+      work = s.work;
+      kept = older;
+    })
+    0 [])
 
 -- a statement in hand, over the frames that wait for its end
 abbrev pub perform : ℕ → Stmt → List Frame → Core → Move Core

@@ -5,7 +5,7 @@ use Rattle.setl_model.specs.Program.{Program}
 use Rattle.setl_model.specs.Modes.{takes}
 use Rattle.setl_model.specs.Events.{Stuck}
 use Rattle.setl_model.specs.Run.{Store, Move, Halts, State, Goes, Machine, Test, step}
-use Rattle.setl_model.specs.Core.{Hand, Execute, Evaluate, Result, Iterate, Frame, InExpr, InIteration, InCall, InStmt, Storing, Then, Core, write_variable, line_of}
+use Rattle.setl_model.specs.Core.{Hand, Execute, Evaluate, Result, Iterate, Frame, InExpr, InIteration, InCall, InStmt, Storing, Core, write_variable, line_of}
 use Rattle.setl_model.specs.Moves.{go, store_or_bind}
 use Rattle.setl_model.specs.Expressions.{evaluate, result_in_expr}
 use Rattle.setl_model.specs.Iterations.{iterate, result_in_iteration}

@@ -72,8 +72,7 @@ pub fn worked_operators()
     ensures subsets { Means subsets [] 7 true (codes "{{} {1} {1 2} {2}} {{1 2} {1 3} {2 3}}\n") Done }
     ensures long_range { Means long_range [] 99 true [] Spent }
     ensures enumeration_or_former { Means enumeration_or_former [] 1 true (codes "{true} {}\n") Done }
-{
-}
+{}
 
 /// Worked programs of statements: a loop with too few and with enough turns, values that are read, a loop whose set is
 /// emptied, a tuple that is taken apart, and a part of a part.
@@ -85,8 +84,7 @@ pub fn worked_statements()
     ensures emptied_set { Means emptied_set [] 3 true (codes "{} 3\n") Done }
     ensures taken_apart { Means taken_apart [] 0 true (codes "1 2 1 2 []\n") Done }
     ensures nested_places { Means nested_places [] 9 true (codes "1 7\n2 9\n2 *\n2 5\n") Done }
-{
-}
+{}
 
 /// Worked programs of procedures and backtracking: a variable that is passed in and out, `fail` with nothing kept, a
 /// call that goes back into a procedure that has returned, and four queens.
@@ -95,8 +93,7 @@ pub fn worked_procedures()
     ensures fail_alone { Means fail_alone [] 9 true [] (Stopped Nothing 2) }
     ensures taken_back { Means taken_back [] 2 true (codes "1\n2\n") Done }
     ensures queens { Means queens [] 200 true (codes "[2 4 1 3]\n") Done }
-{
-}
+{}
 
 /// Worked programs with declarations: a set that stops fitting, the same without declarations, a map that would have two
 /// images, and a procedure's own variable with the name of a declared one, which isn't declared.
@@ -105,5 +102,4 @@ pub fn worked_declarations()
     ensures undeclared_set { Means declared_set [] 0 false (codes "{1}\n{1 'a'}\n") Done }
     ensures declared_map { Means declared_map [] 0 true (codes "{}\n{[1 5]}\n") (Stopped (Unfit f) 4) }
     ensures undeclared_own { Means undeclared_own [] 1 true (codes "1\n") Done }
-{
-}
+{}
