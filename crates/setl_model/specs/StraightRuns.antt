@@ -127,7 +127,11 @@ next_statement p based shared rest work kept s stands = quiet p based s _ 0 (ap 
 abbrev pub assign : Variable → Expr → Stmt
 assign x e = Assign (record { variable = x; selectors = no_selector }) e
 
-pub assign_leads : (p : Program) (based : Bool) (line : ℕ) (x : Variable) (e : Expr) (rest : Block) (shared : Shared) (work : List Frame) (kept : List Snapshot) (v : Option Datum) → Evaluates shared e v → test_of p based x v ≡ true → (s : State Core) → s.core ≡ core_of shared (Execute (more_stmts line (assign x e) rest)) work kept → Leads p based s (core_of (write_variable x v shared) (Execute rest) work kept) s.out
+-- an assignment leads to the environment in which the variable holds the value
+abbrev pub AssignLeads : Type 0
+AssignLeads = (p : Program) (based : Bool) (line : ℕ) (x : Variable) (e : Expr) (rest : Block) (shared : Shared) (work : List Frame) (kept : List Snapshot) (v : Option Datum) → Evaluates shared e v → test_of p based x v ≡ true → (s : State Core) → s.core ≡ core_of shared (Execute (more_stmts line (assign x e) rest)) work kept → Leads p based s (core_of (write_variable x v shared) (Execute rest) work kept) s.out
+
+pub assign_leads : AssignLeads
 assign_leads p based line x e rest shared work kept v h fits s stands =
     then_lead p based s _ _ s.out
     (then_lead p based s _ _ s.out
@@ -140,7 +144,11 @@ assign_leads p based line x e rest shared work kept v h fits s stands =
 abbrev pub combine : Operator → Variable → Expr → Stmt
 combine o x e = Update o (record { variable = x; selectors = no_selector }) e
 
-pub combine_leads : (p : Program) (based : Bool) (line : ℕ) (o : Operator) (x : Variable) (e : Expr) (rest : Block) (shared : Shared) (work : List Frame) (kept : List Snapshot) (v new : Option Datum) → Evaluates shared e v → op_of o (read_variable x shared ∷ v ∷ []) shared.left ≡ Gives new 0 → test_of p based x new ≡ true → (s : State Core) → s.core ≡ core_of shared (Execute (more_stmts line (combine o x e) rest)) work kept → Leads p based s (core_of (write_variable x new shared) (Execute rest) work kept) s.out
+-- an update leads to the environment in which the variable holds what the operator gives
+abbrev pub CombineLeads : Type 0
+CombineLeads = (p : Program) (based : Bool) (line : ℕ) (o : Operator) (x : Variable) (e : Expr) (rest : Block) (shared : Shared) (work : List Frame) (kept : List Snapshot) (v new : Option Datum) → Evaluates shared e v → op_of o (read_variable x shared ∷ v ∷ []) shared.left ≡ Gives new 0 → test_of p based x new ≡ true → (s : State Core) → s.core ≡ core_of shared (Execute (more_stmts line (combine o x e) rest)) work kept → Leads p based s (core_of (write_variable x new shared) (Execute rest) work kept) s.out
+
+pub combine_leads : CombineLeads
 combine_leads p based line o x e rest shared work kept v new h given fits s stands =
     then_lead p based s _ _ s.out
     (then_lead p based s _ _ s.out
@@ -160,8 +168,11 @@ parts_lead p based (more_exprs e rest) line got vs shared h w work kept all s mo
     (subst (λ l. Leads p based t (core_of shared (Execute no_stmt) work kept) (t.out ++ print_line l)) (moved_over got all.0 all.1 vs all.2)
     (parts_lead p based rest line (all.0 ∷ got) all.1 shared (Result all.0) (InStmt line (PrintParts got rest) ∷ work) work kept all.4 t (ap (language p).move at))))
 
--- print(e, ..)
-pub print_leads : (p : Program) (based : Bool) (line : ℕ) (es : Exprs) (rest : Block) (shared : Shared) (work : List Frame) (kept : List Snapshot) (vs : List (Option Datum)) → EvaluateAll shared es vs → (s : State Core) → s.core ≡ core_of shared (Execute (more_stmts line (Print es) rest)) work kept → Leads p based s (core_of shared (Execute rest) work kept) (s.out ++ print_line vs)
+-- a print leads to the same environment and writes the line of its values
+abbrev pub PrintLeads : Type 0
+PrintLeads = (p : Program) (based : Bool) (line : ℕ) (es : Exprs) (rest : Block) (shared : Shared) (work : List Frame) (kept : List Snapshot) (vs : List (Option Datum)) → EvaluateAll shared es vs → (s : State Core) → s.core ≡ core_of shared (Execute (more_stmts line (Print es) rest)) work kept → Leads p based s (core_of shared (Execute rest) work kept) (s.out ++ print_line vs)
+
+pub print_leads : PrintLeads
 print_leads p based line es rest shared work kept vs all s stands =
     leads_on p based s _ _ (s.out ++ print_line vs) _ (parts_lead p based es line [] vs shared _ work (Then rest ∷ work) kept all s (ap (language p).move stands))
     (λ t at out. subst (Leads p based t (core_of shared (Execute rest) work kept)) out (next_statement p based shared rest work kept t at))

@@ -10,6 +10,7 @@ ghost use Rattle.setl_model.specs.Means.{Means};
 ghost use Rattle.setl_model.specs.Samples.{mixed_values, nested_values, empty_program, growing_set, copied_set, several_lines};
 ghost use Rattle.setl_model.specs.Samples.{s};
 ghost use Rattle.setl_model.specs.LanguageSamples.{f, images_of_a_map, too_wide, fail_alone, counting, reading, emptied_set, passed_in_and_out, taken_back, enumeration_or_former, arithmetic, folds, subsets, long_range, declared_set, declared_map, queens, taken_apart, nested_places, undeclared_own};
+ghost use Rattle.setl_model.specs.StraightRuns.{AssignLeads, CombineLeads, PrintLeads};
 ghost use Rattle.setl_model.specs.Laws.{HoldsWhatWasStored, StoresChangeOneVariable, OneStep, OneMeaning, StepsGrow, ReachedOutputIsFront, PrintInHandIsFront, DeclarationsOnlyCut, DeclarationsChangeNothing};
 
 /// A variable holds what was stored in it last, and a store changes no other variable. So an assignment copies: no two
@@ -39,6 +40,16 @@ pub fn output_grows()
 pub fn declarations_keep_the_meaning()
     ensures front { DeclarationsOnlyCut }
     ensures same { DeclarationsChangeNothing }
+{}
+
+/// Where the steps of a statement lead whose expressions are literals, names and operators without a charge. An
+/// assignment stores the value of its right side, an update what the operator makes of the variable's value and the right
+/// side, and `print` writes the line of the values of its arguments. Each then goes on with the next statement and
+/// changes nothing else.
+pub fn statements_lead()
+    ensures assign { AssignLeads }
+    ensures update { CombineLeads }
+    ensures print { PrintLeads }
 {}
 
 /// Worked programs. The empty one writes nothing. A set enumeration drops repeats and is written in rising order. A
