@@ -1,3 +1,4 @@
 mod Runs
 mod Laws
 mod Rows
+mod LanguageRows

@@ -1,7 +1,12 @@
 pub mod Variable
 pub mod VariableLaws
 pub mod Sets
+pub mod Integers
+pub mod Tuples
+pub mod Maps
 pub mod Operators
+pub mod Collections
+pub mod Denotations
 pub mod Program
 pub mod Modes
 pub mod Events
@@ -10,7 +15,11 @@ pub mod RunLaws
 pub mod Core
 pub mod Texts
 pub mod Moves
+pub mod Slots
+pub mod Iterations
+pub mod Calls
 pub mod Expressions
+pub mod Places
 pub mod Statements
 pub mod Step
 pub mod StraightRuns
@@ -18,3 +27,4 @@ pub mod Means
 pub mod Answers
 pub mod Laws
 pub mod Samples
+pub mod LanguageSamples

@@ -1,6 +1,7 @@
 -- What a program means.
 use Rattle.std.specs.Prelude.{◌≡◌, ℕ, Bool, false, List, [], ◌∷◌}
-use Rattle.setl_model.specs.Program.{Program}
+use Rattle.setl_model.specs.Variable.{Variable}
+use Rattle.setl_model.specs.Program.{Read, Block, more_stmts, Program}
 use Rattle.setl_model.specs.Events.{Printed, End}
 use Rattle.setl_model.specs.Run.{Moves, State, Goes, Ends, run}
 use Rattle.setl_model.specs.Core.{Execute, Core}
@@ -36,3 +37,11 @@ pub record Means (p : Program) (input : List ℕ) (turns : ℕ) (based : Bool) (
 pub record HasPrint (p : Program) (s : State Core) (line : List ℕ) : Type 0 where
   pub to : Core
   pub writes : (language p).move s.core ≡ Moves line (Printed line ∷ []) to 0 []
+
+-- a `read` that has a value to read is in hand
+pub record HasRead (s : State Core) : Type 0 where
+  pub line : ℕ
+  pub variable : Variable
+  pub others : List Variable
+  pub rest : Block
+  pub in_hand : s.core.hand ≡ Execute (more_stmts line (Read (variable ∷ others)) rest)

@@ -1,10 +1,11 @@
 -- The moves of which every step is one.
-use Rattle.std.specs.Prelude.{ℕ, ◌-◌, List, [], Option}
-use Rattle.setl_value.specs.Datum.{Datum}
-use Rattle.setl_model.specs.Operators.{Fault, Outcome, Gives, Fails, Overspends}
+use Rattle.std.specs.Prelude.{ℕ, ◌-◌, Bool, true, false, List, [], ◌∷◌, nat_le, Option, Some, None}
+use Rattle.setl_value.specs.Datum.{Datum, bool}
+use Rattle.setl_model.specs.Variable.{Variable, Bound}
+use Rattle.setl_model.specs.Operators.{Fault, OmFault, KindFault, Outcome, Gives, Fails, Overspends}
 use Rattle.setl_model.specs.Events.{Stopped, Spent, stop_of}
 use Rattle.setl_model.specs.Run.{Store, Move, Moves, Halts}
-use Rattle.setl_model.specs.Core.{Hand, Result, Frame, Core, line_of}
+use Rattle.setl_model.specs.Core.{Hand, Result, Frame, Core, line_of, write_variable}
 
 -- goes on with this in hand over these frames
 abbrev pub go : Hand → List Frame → Core → Move Core
@@ -14,6 +15,11 @@ go hand work c = Moves [] [] (record c { hand = hand; work = work }) 0 []
 abbrev pub go_storing : ℕ → List Store → Hand → List Frame → Core → Move Core
 go_storing line stores hand work c = Moves [] [] (record c { hand = hand; work = work }) line stores
 
+-- one of several stores; a former's own name is bound without an event and without a test
+abbrev pub store_or_bind : ℕ → Variable → Option Datum → Hand → List Frame → Core → Move Core
+store_or_bind line (Bound former name) v hand work c = go hand work (record c { shared = write_variable (Bound former name) v c.shared })
+store_or_bind line x v hand work c = go_storing line ((x, v) ∷ []) hand work c
+
 -- ends the run by a fault at a line
 abbrev pub stop : Fault → ℕ → Move Core
 stop fault line = Halts (Stopped (stop_of fault) line)
@@ -21,6 +27,14 @@ stop fault line = Halts (Stopped (stop_of fault) line)
 -- the core with so many turns fewer
 abbrev pub charge : ℕ → Core → Core
 charge n c = record c { shared = record c.shared { left = c.shared.left - n } }
+
+abbrev pub turn_if : Bool → Core → (Core → Move Core) → Move Core
+turn_if true c next = next (charge 1 c)
+turn_if false c next = Halts Spent
+
+-- goes on after one turn, if one is left
+abbrev pub turn : Core → (Core → Move Core) → Move Core
+turn c next = turn_if (nat_le 1 c.shared.left) c next
 
 -- goes on with what an operation at a line gives; its charge is not above the turns left
 abbrev pub with_outcome : Outcome → ℕ → Core → (Option Datum → Core → Move Core) → Move Core
@@ -31,3 +45,10 @@ with_outcome Overspends line c next = Halts Spent
 -- hands what an operation gives to the innermost frame
 abbrev pub deliver : Outcome → List Frame → Core → Move Core
 deliver outcome work c = with_outcome outcome (line_of work) c (λ v d. go (Result v) work d)
+
+-- goes on by a condition at a line, which must be a boolean
+abbrev pub branch : Option Datum → ℕ → Move Core → Move Core → Move Core
+branch (Some (bool true)) line holds fails = holds
+branch (Some (bool false)) line holds fails = fails
+branch None line holds fails = stop OmFault line
+branch (Some d) line holds fails = stop KindFault line

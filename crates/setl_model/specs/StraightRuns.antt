@@ -1,12 +1,12 @@
 -- Where the steps of assignments, updates and prints lead, in one sentence for each statement.
-use Rattle.std.specs.Prelude.{◌≡◌, ℕ, Bool, true, List, [], ◌∷◌, ◌++◌, reverse, refl, Option, Some}
+use Rattle.std.specs.Prelude.{◌≡◌, ℕ, Bool, true, List, [], ◌∷◌, ◌++◌, reverse, refl, Option, Some, None}
 use Rattle.std.proofs.Common.{sym, ap, ◌∙◌, subst, append_assoc, append-nil}
 use Rattle.std.proofs.Math.Nat.{sub-zero}
 use Rattle.std.proofs.lemmas.Grind.{reverse_onto}
 use Rattle.setl_value.specs.Datum.{Datum}
 use Rattle.setl_model.specs.Variable.{Variable}
 use Rattle.setl_model.specs.Operators.{Operator, Outcome, Gives, op_of}
-use Rattle.setl_model.specs.Program.{Expr, Literal, Name, Apply, Exprs, no_expr, more_exprs, no_selector, Stmt, Assign, Update, Print, Block, no_stmt, more_stmts, Program}
+use Rattle.setl_model.specs.Program.{Expr, Literal, Undefined, Name, Apply, Exprs, no_expr, more_exprs, no_selector, Stmt, Assign, Update, Print, Block, no_stmt, more_stmts, Program}
 use Rattle.setl_model.specs.Events.{Event, Unfit, Stopped, Done}
 use Rattle.setl_model.specs.Run.{Moves, State, Goes, Ends, if_fits, stored, settle, and_then, run}
 use Rattle.setl_model.specs.RunLaws.{runs_join}
@@ -23,8 +23,10 @@ use Rattle.setl_model.specs.Step.{language, test_of}
 abbrev mutual
   pub Evaluates : Shared → Expr → Option Datum → Type 0
   Evaluates s (Literal d) v = v ≡ Some d
+  Evaluates s Undefined v = v ≡ None
   Evaluates s (Name x) v = v ≡ read_variable x s
   Evaluates s (Apply o es) v = (vs : List (Option Datum)) × EvaluateAll s es vs × (op_of o vs s.left ≡ Gives v 0)
+  Evaluates s e v = ⊥
 
   pub EvaluateAll : Shared → Exprs → List (Option Datum) → Type 0
   EvaluateAll s no_expr vs = vs ≡ []
@@ -98,10 +100,13 @@ mutual
   pub expr_leads : (p : Program) (based : Bool) (e : Expr) (shared : Shared) (work : List Frame) (kept : List Snapshot) (v : Option Datum) → Evaluates shared e v → (s : State Core) → s.core ≡ core_of shared (Evaluate e) work kept → Leads p based s (core_of shared (Result v) work kept) s.out
   expr_leads p based (Literal d) shared work kept v h s stands =
       quiet p based s _ 0 (ap (language p).move stands ∙ ap (λ w. Moves [] [] (core_of shared (Result w) work kept) 0 []) (sym h))
+  expr_leads p based Undefined shared work kept v h s stands =
+      quiet p based s _ 0 (ap (language p).move stands ∙ ap (λ w. Moves [] [] (core_of shared (Result w) work kept) 0 []) (sym h))
   expr_leads p based (Name x) shared work kept v h s stands =
       quiet p based s _ 0 (ap (language p).move stands ∙ ap (λ w. Moves [] [] (core_of shared (Result w) work kept) 0 []) (sym h))
   expr_leads p based (Apply o es) shared work kept v h s stands =
       operands_lead p based es o [] h.0 shared (Evaluate (Apply o es)) work work kept v h.1 h.2 s (ap (language p).move stands)
+  expr_leads p based e shared work kept v h s stands = absurd h
 
   operands_lead : (p : Program) (based : Bool) (es : Exprs) (o : Operator) (got vs : List (Option Datum)) (shared : Shared) (h : Hand) (w work : List Frame) (kept : List Snapshot) (v : Option Datum) → EvaluateAll shared es vs → op_of o (reverse got ++ vs) shared.left ≡ Gives v 0 → (s : State Core) → (language p).move s.core ≡ operands o got es work (core_of shared h w kept) → Leads p based s (core_of shared (Result v) work kept) s.out
   operands_lead p based no_expr o got vs shared h w work kept v all given s moves =

@@ -1,13 +1,15 @@
 //! The meaning of the language, as definitions, and its laws. No call of this crate does any work: each states a law.
 #![tactic(auto)]
 
-ghost use Rattle.std.specs.Prelude.{◌≡◌, true, [], codes};
-ghost use Rattle.setl_model.specs.Events.{Done, Spent, Stopped, Wide, Unfit, Nothing};
+ghost use Rattle.std.specs.Prelude.{◌≡◌, true, false, [], codes};
+ghost use Rattle.setl_model.specs.Events.{Done, Spent, Stopped, Wide, Form, Unfit, Nothing};
 ghost use Rattle.setl_model.specs.Variable.{Global};
 ghost use Rattle.setl_model.specs.Texts.{print_line};
 ghost use Rattle.setl_model.specs.Answers.{error_line};
 ghost use Rattle.setl_model.specs.Means.{Means};
 ghost use Rattle.setl_model.specs.Samples.{mixed_values, nested_values, empty_program, growing_set, copied_set, several_lines};
+ghost use Rattle.setl_model.specs.Samples.{s};
+ghost use Rattle.setl_model.specs.LanguageSamples.{f, images_of_a_map, too_wide, fail_alone, counting, reading, emptied_set, passed_in_and_out, taken_back, enumeration_or_former, arithmetic, folds, subsets, long_range, declared_set, declared_map, queens, taken_apart, nested_places, undeclared_own};
 ghost use Rattle.setl_model.specs.StraightRuns.{AssignLeads, CombineLeads, PrintLeads};
 ghost use Rattle.setl_model.specs.Laws.{HoldsWhatWasStored, StoresChangeOneVariable, OneStep, OneMeaning, StepsGrow, ReachedOutputIsFront, PrintInHandIsFront, DeclarationsOnlyCut, DeclarationsChangeNothing};
 
@@ -69,4 +71,46 @@ pub fn worked_texts()
     ensures nothing { error_line (Stopped Nothing 2) ≡ codes "line 2: nothing to go back to\n" }
     ensures spent { error_line Spent ≡ codes "out of turns\n" }
     ensures done { error_line Done ≡ [] }
+{}
+
+/// Worked programs of operators: images of a map, a sum past 128 bits, quotients and remainders, folds, sets of subsets,
+/// a range for which too few turns are left, and an enumeration beside a former.
+pub fn worked_operators()
+    ensures images_of_a_map { Means images_of_a_map [] 9 true (codes "* {2 3} 5 {}\n") Done }
+    ensures too_wide { Means too_wide [] 9 true [] (Stopped Wide 2) }
+    ensures arithmetic { Means arithmetic [] 0 true (codes "-3 1 1 1024\n") Done }
+    ensures folds { Means folds [] 4 true (codes "10 * 9\n") Done }
+    ensures subsets { Means subsets [] 7 true (codes "{{} {1} {1 2} {2}} {{1 2} {1 3} {2 3}}\n") Done }
+    ensures long_range { Means long_range [] 99 true [] Spent }
+    ensures enumeration_or_former { Means enumeration_or_former [] 1 true (codes "{true} {}\n") Done }
+{}
+
+/// Worked programs of statements: a loop with too few and with enough turns, values that are read, a loop whose set is
+/// emptied, a tuple that is taken apart, and a part of a part.
+pub fn worked_statements()
+    ensures counting { Means counting [] 3 true (codes "1\n2\n3\n") Spent }
+    ensures all_counted { Means counting [] 5 true (codes "1\n2\n3\n4\n5\n") Done }
+    ensures reading { Means reading (codes "{1 [2 'a']} 7\n") 0 true (codes "{1 [2 'a']} 7 * true\n") Done }
+    ensures reading_stops { Means reading (codes "{1 [2") 0 true [] (Stopped Form 2) }
+    ensures emptied_set { Means emptied_set [] 3 true (codes "{} 3\n") Done }
+    ensures taken_apart { Means taken_apart [] 0 true (codes "1 2 1 2 []\n") Done }
+    ensures nested_places { Means nested_places [] 9 true (codes "1 7\n2 9\n2 *\n2 5\n") Done }
+{}
+
+/// Worked programs of procedures and backtracking: a variable that is passed in and out, `fail` with nothing kept, a
+/// call that goes back into a procedure that has returned, and four queens.
+pub fn worked_procedures()
+    ensures passed_in_and_out { Means passed_in_and_out [] 1 true (codes "2\n") Done }
+    ensures fail_alone { Means fail_alone [] 9 true [] (Stopped Nothing 2) }
+    ensures taken_back { Means taken_back [] 2 true (codes "1\n2\n") Done }
+    ensures queens { Means queens [] 200 true (codes "[2 4 1 3]\n") Done }
+{}
+
+/// Worked programs with declarations: a set that stops fitting, the same without declarations, a map that would have two
+/// images, and a procedure's own variable with the name of a declared one, which isn't declared.
+pub fn worked_declarations()
+    ensures declared_set { Means declared_set [] 0 true (codes "{1}\n") (Stopped (Unfit s) 4) }
+    ensures undeclared_set { Means declared_set [] 0 false (codes "{1}\n{1 'a'}\n") Done }
+    ensures declared_map { Means declared_map [] 0 true (codes "{}\n{[1 5]}\n") (Stopped (Unfit f) 4) }
+    ensures undeclared_own { Means undeclared_own [] 1 true (codes "1\n") Done }
 {}
