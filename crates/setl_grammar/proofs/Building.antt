@@ -129,3 +129,17 @@ all_to (x ∷ xs) to all = (to x all.0, all_to xs to all.1)
 
 pub several_to : {A : Type 0} {P Q : A → Type 0} {xs : List A} → ((x : A) → P x → Q x) → Several P xs → Several Q xs
 several_to to s = record { head = s.head; tail = s.tail; is = s.is; good_head = to s.head s.good_head; good_tail = all_to s.tail to s.good_tail }
+
+-- the last part of a sequence
+pub last : {A B : Type 0} {L : Tokens → A → Type 0} (f : A → B) (toks : Tokens) (a : A) → L toks a → Then L (λ a. lang.pure (f a)) toks (f a)
+last f toks a s = record { front = toks; back = []; value = a; parts = sym (append-nil toks); first = s; second = (refl, refl) }
+
+pub then_opening_one : {A B : Type 0} {meaning : Kind → Option A} {M : A → Tokens → B → Type 0} {b : B} (room : ℕ) (t : Token) (a : A) (rest : Tokens) → meaning t.kind ≡ Some a → M a rest b → Then (lang.opening_one_of (suc room) meaning) M (t ∷ rest) b
+then_opening_one room t a rest h m = record { front = t ∷ []; back = rest; value = a; parts = refl; first = record { it = t; alone = refl; means = h }; second = m }
+
+pub opened_means : {A : Type 0} (room : ℕ) (meaning : Kind → Option A) (toks : Tokens) (a : A) → lang.opening_one_of room meaning toks a → lang.one_of meaning toks a
+opened_means zero meaning toks a s = absurd s
+opened_means (suc room) meaning toks a s = s
+
+pub some_is : {A : Type 0} {a b : A} → Some a ≡ Some b → a ≡ b
+some_is {a = a} {b = b} h = cc

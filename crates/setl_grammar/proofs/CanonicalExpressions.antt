@@ -35,10 +35,10 @@ use Rattle.setl_grammar.proofs.ShownParts.{operand_item, behind_expr, optional_e
 
 -- ---- levels
 
-abbrev primary_l : ℕ → Tokens → Expr → Type 0
+abbrev pub primary_l : ℕ → Tokens → Expr → Type 0
 primary_l room = x.primary room (x.nested room)
 
-abbrev e12_l : ℕ → Tokens → Expr → Type 0
+abbrev pub e12_l : ℕ → Tokens → Expr → Type 0
 e12_l room = x.e12 room (x.nested room)
 
 chain_alone : (level : ℕ) (M : Lang Expr) (toks : Tokens) (y : Expr) → M toks y → x.chain level M toks y
@@ -52,107 +52,107 @@ module _ (room : ℕ) (toks : Tokens) (y : Expr) where
   unfolding x.e12
   primary_12 s = record { front = toks; back = []; value = y; parts = sym (append-nil toks); first = s; second = record { front = []; back = []; value = []; parts = refl; first = refl; second = (refl, refl) } }
 
-  up_11 : e12_l room toks y → x.e11 room D toks y
+  pub up_11 : e12_l room toks y → x.e11 room D toks y
   unfolding x.e11
   up_11 s = record { front = []; back = toks; value = []; parts = refl; first = refl; second = record { front = toks; back = []; value = y; parts = sym (append-nil toks); first = s; second = (refl, refl) } }
 
-  up_10 : x.e11 room D toks y → x.e10 room D toks y
+  pub up_10 : x.e11 room D toks y → x.e10 room D toks y
   unfolding x.e10
   up_10 s = chain_alone 10 (x.e11 room D) toks y s
 
-  up_9 : x.e10 room D toks y → x.e9 room D toks y
+  pub up_9 : x.e10 room D toks y → x.e9 room D toks y
   unfolding x.e9
   up_9 s = chain_alone 9 (x.e10 room D) toks y s
 
-  up_8 : x.e9 room D toks y → x.e8 room D toks y
+  pub up_8 : x.e9 room D toks y → x.e8 room D toks y
   unfolding x.e8
   up_8 s = chain_alone 8 (x.e9 room D) toks y s
 
-  up_7 : x.e8 room D toks y → x.e7 room D toks y
+  pub up_7 : x.e8 room D toks y → x.e7 room D toks y
   unfolding x.e7
   up_7 s = chain_alone 7 (x.e8 room D) toks y s
 
-  up_6 : x.e7 room D toks y → x.e6 room D toks y
+  pub up_6 : x.e7 room D toks y → x.e6 room D toks y
   unfolding x.e6
   up_6 s = inl s
 
-  up_5 : x.e6 room D toks y → x.e5 room D toks y
+  pub up_5 : x.e6 room D toks y → x.e5 room D toks y
   unfolding x.e5
   up_5 s = record { front = []; back = toks; value = []; parts = refl; first = refl; second = record { front = toks; back = []; value = y; parts = sym (append-nil toks); first = s; second = (refl, refl) } }
 
-  up_4 : x.e5 room D toks y → x.e4 room D toks y
+  pub up_4 : x.e5 room D toks y → x.e4 room D toks y
   unfolding x.e4
   up_4 s = chain_alone 4 (x.e5 room D) toks y s
 
-  up_3 : x.e4 room D toks y → x.e3 room D toks y
+  pub up_3 : x.e4 room D toks y → x.e3 room D toks y
   unfolding x.e3
   up_3 s = chain_alone 3 (x.e4 room D) toks y s
 
-  up_2 : x.e3 room D toks y → x.e2 room D toks y
+  pub up_2 : x.e3 room D toks y → x.e2 room D toks y
   unfolding x.e2
   up_2 s = chain_alone 2 (x.e3 room D) toks y s
 
-  up_1 : x.e2 room D toks y → x.expr room toks y
+  pub up_1 : x.e2 room D toks y → x.expr room toks y
   unfolding x.expr x.whole
   up_1 s = inr s
 
-  from_3 : x.e3 room D toks y → x.expr room toks y
+  pub from_3 : x.e3 room D toks y → x.expr room toks y
   from_3 s = up_1 (up_2 s)
 
-  from_4 : x.e4 room D toks y → x.expr room toks y
+  pub from_4 : x.e4 room D toks y → x.expr room toks y
   from_4 s = from_3 (up_3 s)
 
-  from_5 : x.e5 room D toks y → x.expr room toks y
+  pub from_5 : x.e5 room D toks y → x.expr room toks y
   from_5 s = from_4 (up_4 s)
 
-  from_6 : x.e6 room D toks y → x.expr room toks y
+  pub from_6 : x.e6 room D toks y → x.expr room toks y
   from_6 s = from_5 (up_5 s)
 
-  from_7 : x.e7 room D toks y → x.expr room toks y
+  pub from_7 : x.e7 room D toks y → x.expr room toks y
   from_7 s = from_6 (up_6 s)
 
-  from_8 : x.e8 room D toks y → x.expr room toks y
+  pub from_8 : x.e8 room D toks y → x.expr room toks y
   from_8 s = from_7 (up_7 s)
 
-  from_9 : x.e9 room D toks y → x.expr room toks y
+  pub from_9 : x.e9 room D toks y → x.expr room toks y
   from_9 s = from_8 (up_8 s)
 
-  from_10 : x.e10 room D toks y → x.expr room toks y
+  pub from_10 : x.e10 room D toks y → x.expr room toks y
   from_10 s = from_9 (up_9 s)
 
-  from_11 : x.e11 room D toks y → x.expr room toks y
+  pub from_11 : x.e11 room D toks y → x.expr room toks y
   from_11 s = from_10 (up_10 s)
 
-  from_12 : e12_l room toks y → x.expr room toks y
+  pub from_12 : e12_l room toks y → x.expr room toks y
   from_12 s = from_11 (up_11 s)
 
-  to_10 : e12_l room toks y → x.e10 room D toks y
+  pub to_10 : e12_l room toks y → x.e10 room D toks y
   to_10 s = up_10 (up_11 s)
 
-  to_9 : e12_l room toks y → x.e9 room D toks y
+  pub to_9 : e12_l room toks y → x.e9 room D toks y
   to_9 s = up_9 (to_10 s)
 
-  to_8 : e12_l room toks y → x.e8 room D toks y
+  pub to_8 : e12_l room toks y → x.e8 room D toks y
   to_8 s = up_8 (to_9 s)
 
-  to_7 : e12_l room toks y → x.e7 room D toks y
+  pub to_7 : e12_l room toks y → x.e7 room D toks y
   to_7 s = up_7 (to_8 s)
 
-  to_6 : e12_l room toks y → x.e6 room D toks y
+  pub to_6 : e12_l room toks y → x.e6 room D toks y
   to_6 s = up_6 (to_7 s)
 
-  to_5 : e12_l room toks y → x.e5 room D toks y
+  pub to_5 : e12_l room toks y → x.e5 room D toks y
   to_5 s = up_5 (to_6 s)
 
-  to_4 : e12_l room toks y → x.e4 room D toks y
+  pub to_4 : e12_l room toks y → x.e4 room D toks y
   to_4 s = up_4 (to_5 s)
 
-  to_3 : e12_l room toks y → x.e3 room D toks y
+  pub to_3 : e12_l room toks y → x.e3 room D toks y
   to_3 s = up_3 (to_4 s)
 
 -- ---- an expression whose tokens derive it
 
-abbrev Flags : Expr → Bool → Bool → Type 0
+abbrev pub Flags : Expr → Bool → Bool → Type 0
 Flags y operates selects = ((shown y).is_operation ≡ operates) × ((shown y).is_selection ≡ selects)
 
 -- the tokens derive it as a primary expression, with its selectors, or as an expression
@@ -178,13 +178,13 @@ parens_at m toks y s = inr (inr (inr (inr (inl (then_opening m (sign k.LeftParen
 parens : (toks : Tokens) (y : Expr) → Spells x.expr toks y → Spells primary_l (bracketed k.LeftParen toks k.RightParen) y
 parens toks y s = record { from = suc s.from; at = outside (λ room. primary_l room (bracketed k.LeftParen toks k.RightParen) y) s.from (λ m le. parens_at m toks y (s.at m le)) }
 
-primary_expr : (toks : Tokens) (y : Expr) → Spells primary_l toks y → Spells x.expr toks y
+pub primary_expr : (toks : Tokens) (y : Expr) → Spells primary_l toks y → Spells x.expr toks y
 primary_expr toks y s = record { from = s.from; at = λ room le. from_12 room toks y (primary_12 room toks y (s.at room le)) }
 
-e12_expr : (toks : Tokens) (y : Expr) → Spells e12_l toks y → Spells x.expr toks y
+pub e12_expr : (toks : Tokens) (y : Expr) → Spells e12_l toks y → Spells x.expr toks y
 e12_expr toks y s = record { from = s.from; at = λ room le. from_12 room toks y (s.at room le) }
 
-primary_e12 : (toks : Tokens) (y : Expr) → Spells primary_l toks y → Spells e12_l toks y
+pub primary_e12 : (toks : Tokens) (y : Expr) → Spells primary_l toks y → Spells e12_l toks y
 primary_e12 toks y s = record { from = s.from; at = λ room le. primary_12 room toks y (s.at room le) }
 
 pub whole_of : (y : Expr) → Canon y → Spells x.expr (expr_tokens y) y
@@ -211,7 +211,7 @@ primary_of y (inr (inr p)) = primary_if primary_l y false p.1.1 (operand_if prim
 -- ---- the token of an operator
 
 -- whether the value that a token stands for is written by that token
-abbrev written_by : {A : Type 0} → (A → Kind) → (Kind → Option A) → Kind → Bool
+abbrev pub written_by : {A : Type 0} → (A → Kind) → (Kind → Option A) → Kind → Bool
 written_by kind_of meaning kind = elim (meaning kind) as (λ _. Bool) [ None ↦ true | Some a ↦ same_kind (kind_of a) kind ]
 
 written : {A : Type 0} (kind_of : A → Kind) (kind : Kind) (o : Option A) (a : A) → o ≡ Some a → (elim o as (λ _. Bool) [ None ↦ true | Some a ↦ same_kind (kind_of a) kind ]) ≡ true → kind_of a ≡ kind

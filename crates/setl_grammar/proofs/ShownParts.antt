@@ -99,7 +99,7 @@ inner_list xs = ap inner_tokens (sym (inn.rolls-List xs)) ∙ fold-roll-Inner Sh
 pub inner_filter : (b : Bound) (s c : Expr) → inner_tokens (inn.Filter b s c) ≡ bound_tokens b ++ sign k.In ∷ (as_operand (shown s) ++ sign k.Bar ∷ expr_tokens c)
 inner_filter b s c = ap inner_tokens (sym (inn.rolls-Filter b s c)) ∙ fold-roll-Inner Shown Tokens Tokens Tokens expr_step inner_step iter_step selector_step (Inner-F.Filter b s c)
 
-pub inner_range : (a : Expr) (b : Option Expr) (c : Expr) → inner_tokens (inn.Range a b c) ≡ expr_tokens a ++ behind_expr k.Comma b ++ sign k.Dots ∷ expr_tokens c
+pub inner_range : (a : Expr) (b : Option Expr) (c : Expr) → inner_tokens (inn.Range a b c) ≡ expr_tokens a ++ (behind_expr k.Comma b ++ sign k.Dots ∷ expr_tokens c)
 inner_range a None c = ap inner_tokens (sym (inn.rolls-Range a None c)) ∙ fold-roll-Inner Shown Tokens Tokens Tokens expr_step inner_step iter_step selector_step (Inner-F.Range a None c)
 inner_range a (Some b) c = ap inner_tokens (sym (inn.rolls-Range a (Some b) c)) ∙ fold-roll-Inner Shown Tokens Tokens Tokens expr_step inner_step iter_step selector_step (Inner-F.Range a (Some b) c)
 
@@ -119,6 +119,6 @@ selector_round xs = ap selector_tokens (sym (se.rolls-Round xs)) ∙ fold-roll-S
 pub selector_braces : (xs : List Expr) → selector_tokens (se.Braces xs) ≡ bracketed k.LeftBrace (with_commas (map expr_tokens xs)) k.RightBrace
 selector_braces xs = ap selector_tokens (sym (se.rolls-Braces xs)) ∙ fold-roll-Selector Shown Tokens Tokens Tokens expr_step inner_step iter_step selector_step (Selector-F.Braces xs) ∙ ap (λ z. bracketed k.LeftBrace (with_commas z) k.RightBrace) (tokens_map xs)
 
-pub selector_slice : (a : Expr) (b : Option Expr) → selector_tokens (se.Slice a b) ≡ bracketed k.LeftParen (expr_tokens a ++ sign k.Dots ∷ optional_expr b) k.RightParen
+pub selector_slice : (a : Expr) (b : Option Expr) → selector_tokens (se.Slice a b) ≡ sign k.LeftParen ∷ (expr_tokens a ++ sign k.Dots ∷ (optional_expr b ++ sign k.RightParen ∷ []))
 selector_slice a None = ap selector_tokens (sym (se.rolls-Slice a None)) ∙ fold-roll-Selector Shown Tokens Tokens Tokens expr_step inner_step iter_step selector_step (Selector-F.Slice a None)
 selector_slice a (Some b) = ap selector_tokens (sym (se.rolls-Slice a (Some b))) ∙ fold-roll-Selector Shown Tokens Tokens Tokens expr_step inner_step iter_step selector_step (Selector-F.Slice a (Some b))

@@ -168,16 +168,14 @@ operand_tokens [] = []
 operand_tokens (x ∷ xs) = sign (op_kind x.0) ∷ (as_operand x.1 ++ operand_tokens xs)
 
 abbrev pub all_prefixes : List Prefix → Tokens
-all_prefixes [] = []
-all_prefixes (x ∷ xs) = prefix_tokens x ++ all_prefixes xs
+all_prefixes ps = all_of (map prefix_tokens ps)
 
 abbrev pub slot_tokens : Slot → Tokens
 slot_tokens (sl.Name x) = name_token x ∷ []
 slot_tokens sl.Skip = sign k.Minus ∷ []
 
 abbrev pub slots_tokens : List Slot → List Tokens
-slots_tokens [] = []
-slots_tokens (x ∷ xs) = slot_tokens x ∷ slots_tokens xs
+slots_tokens slots = map slot_tokens slots
 
 abbrev pub pattern_tokens : List Slot → Tokens
 pattern_tokens slots = bracketed k.LeftBracket (with_commas (slots_tokens slots)) k.RightBracket
@@ -197,7 +195,7 @@ optional_tokens (Some x) = x.tokens
 
 abbrev pub inner_step : Inner-F Shown Tokens Tokens Tokens → Tokens
 inner_step (Inner-F.List xs) = with_commas (tokens_of xs)
-inner_step (Inner-F.Range a b c) = a.tokens ++ behind k.Comma b ++ sign k.Dots ∷ c.tokens
+inner_step (Inner-F.Range a b c) = a.tokens ++ (behind k.Comma b ++ sign k.Dots ∷ c.tokens)
 inner_step (Inner-F.Former x over c) = x.tokens ++ sign k.Colon ∷ (with_commas over ++ behind k.Bar c)
 inner_step (Inner-F.Filter b s c) = bound_tokens b ++ sign k.In ∷ (as_operand s ++ sign k.Bar ∷ c.tokens)
 
@@ -207,7 +205,7 @@ iter_step (Iter-F.Image y f x) = name_token y ∷ sign k.Equal ∷ name_token f 
 
 abbrev pub selector_step : Selector-F Shown Tokens Tokens Tokens → Tokens
 selector_step (Selector-F.Round xs) = bracketed k.LeftParen (with_commas (tokens_of xs)) k.RightParen
-selector_step (Selector-F.Slice a b) = bracketed k.LeftParen (a.tokens ++ sign k.Dots ∷ optional_tokens b) k.RightParen
+selector_step (Selector-F.Slice a b) = sign k.LeftParen ∷ (a.tokens ++ sign k.Dots ∷ (optional_tokens b ++ sign k.RightParen ∷ []))
 selector_step (Selector-F.Braces xs) = bracketed k.LeftBrace (with_commas (tokens_of xs)) k.RightBrace
 
 abbrev pub expr_step : Expr-F Shown Tokens Tokens Tokens → Shown
