@@ -41,7 +41,7 @@ unfolding x.slot
 slot_good (sl.Name y) = inl (then_name 0 y [] ends)
 slot_good sl.Skip = inr (then_token (sign k.Minus) [] refl ends)
 
-slot_spells : (s : Slot) → Spells (λ _. x.slot) (slot_tokens s) s
+pub slot_spells : (s : Slot) → Spells (λ _. x.slot) (slot_tokens s) s
 slot_spells s = record { from = 0; at = λ room le. slot_good s }
 
 pattern_at : (m : ℕ) (slots : List Slot) → lang.separated x.slot (with_commas (map slot_tokens slots)) slots → x.pattern (suc m) (pattern_tokens slots) slots
