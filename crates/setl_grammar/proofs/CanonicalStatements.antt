@@ -35,10 +35,10 @@ use Rattle.setl_grammar.proofs.CanonicalLevels.{expr_canon, deep_canon, deep_sou
 less_one : (m : ℕ) → m ≡ suc m - 1
 less_one m = omega arith
 
-outer : {A : Type 0} (L : ℕ → Tokens → A → Type 0) (toks : Tokens) (a : A) (n : ℕ) → ((m : ℕ) → n ≤ m → L (suc m) toks a) → Spells L toks a
+pub outer : {A : Type 0} (L : ℕ → Tokens → A → Type 0) (toks : Tokens) (a : A) (n : ℕ) → ((m : ℕ) → n ≤ m → L (suc m) toks a) → Spells L toks a
 outer L toks a n go = record { from = suc n; at = outside (λ room. L room toks a) n go }
 
-ending_good : (word : Kind) → s.ending word (ending_tokens word) (sign k.Semicolon)
+pub ending_good : (word : Kind) → s.ending word (ending_tokens word) (sign k.Semicolon)
 unfolding s.ending
 ending_good word = then_token (sign k.End) (sign word ∷ sign k.Semicolon ∷ []) refl
     (then_some (sign word ∷ []) (sign k.Semicolon ∷ []) (sign word) (record { alone = refl; kind = refl }) (record { alone = refl; kind = refl }))
