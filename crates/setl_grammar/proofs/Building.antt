@@ -1,12 +1,12 @@
 -- Building derivations: what tokens spell where enough nestings may open.
-use Rattle.std.proofs.Common.{◌≡◌, ℕ, zero, suc, ◌+◌, ◌≤◌, List, [], ◌∷◌, ◌++◌, map, Option, Some, None, refl, sym, ap, subst, ◌∙◌, arith, inl, inr, ◌⊎◌}
+use Rattle.std.proofs.Common.{◌≡◌, ℕ, zero, suc, ◌+◌, ◌≤◌, List, [], ◌∷◌, ◌++◌, map, Option, Some, None, refl, sym, subst, arith, inl, inr}
 use Rattle.std.proofs.lemmas.List.{append-nil}
 use Rattle.setl_tree.specs.declared.kind.Kind.{Kind}
 use Rattle.setl_tree.specs.declared.kind.Kind.TheVariants as k
 use Rattle.setl_tree.specs.Tokens.{Token, Tokens}
 use Rattle.setl_tree.specs.Lang.{Lang, Then, IsToken}
 use Rattle.setl_tree.specs.Lang as lang
-use Rattle.setl_tree.specs.Canonical.{sign_at, sign, name_at, behind_commas, with_commas, all_of}
+use Rattle.setl_tree.specs.Canonical.{sign, name_at, behind_commas, with_commas, all_of}
 use Rattle.setl_grammar.proofs.Regroup.{more_l}
 
 -- from some number of nestings on
@@ -23,7 +23,10 @@ then_token t rest h m = record { front = t ∷ []; back = rest; value = t; parts
 
 pub then_name : {B : Type 0} {M : List ℕ → Tokens → B → Type 0} {b : B} (line : ℕ) (x : List ℕ) (rest : Tokens) → M x rest b → Then lang.name M (name_at line x ∷ rest) b
 then_name line x rest m = record {
-  front = name_at line x ∷ []; back = rest; value = x; parts = refl;
+  front = name_at line x ∷ [];
+  back = rest;
+  value = x;
+  parts = refl;
   first = record { front = name_at line x ∷ []; back = []; value = name_at line x; parts = refl; first = record { alone = refl; kind = refl }; second = (refl, refl) };
   second = m;
 }
@@ -76,7 +79,10 @@ pub record Several {A : Type 0} (P : A → Type 0) (xs : List A) : Type 0 where
 
 pub from_separated : {A : Type 0} (L : Tokens → A → Type 0) (P : A → Type 0) → ((t : Tokens) (a : A) → L t a → P a) → (toks : Tokens) (xs : List A) → lang.separated L toks xs → Several P xs
 from_separated L P good toks xs s = record {
-  head = s.value; tail = s.second.value; is = s.second.second.1; good_head = good s.front s.value s.first;
+  head = s.value;
+  tail = s.second.value;
+  is = s.second.second.1;
+  good_head = good s.front s.value s.first;
   good_tail = from_many (lang.◌>>◌ (lang.token k.Comma) L) P (λ t a h. good h.back a h.second) s.second.front s.second.value s.second.first;
 }
 
@@ -85,9 +91,9 @@ all_of_several {P = P} xs s = subst (AllOf P) s.is (s.good_head, s.good_tail)
 
 pub from_listed : {A : Type 0} (L : Tokens → A → Type 0) (P : A → Type 0) → ((t : Tokens) (a : A) → L t a → P a) → (toks : Tokens) (xs : List A) → lang.listed L toks xs → AllOf P xs
 from_listed L P good toks xs s = elim s [
-    | inl none ↦ subst (AllOf P) none.1 tt
-    | inr some ↦ all_of_several xs (from_separated L P good toks xs some)
-  ]
+  | inl none ↦ subst (AllOf P) none.1 tt
+  | inr some ↦ all_of_several xs (from_separated L P good toks xs some)
+]
 
 -- ---- lists, built
 
@@ -103,17 +109,25 @@ module _ {A : Type 0} (f : A → Tokens) (L : ℕ → Tokens → A → Type 0) w
   spells_more [] all = record { from = 0; at = λ room le. refl }
   spells_more (x ∷ xs) all =
       let others = spells_more xs all.1 in
-      record { from = all.0.from + others.from; at = λ room le. record {
-        front = sign k.Comma ∷ f x; back = behind_commas (map f xs); parts = refl;
-        first = then_token (sign k.Comma) (f x) refl (all.0.at room (omega (arith, le)));
-        second = others.at room (omega (arith, le));
-      } }
+      record {
+        from = all.0.from + others.from;
+        at = λ room le. record {
+          front = sign k.Comma ∷ f x;
+          back = behind_commas (map f xs);
+          parts = refl;
+          first = then_token (sign k.Comma) (f x) refl (all.0.at room (omega (arith, le)));
+          second = others.at room (omega (arith, le));
+        };
+      }
 
   pub spells_separated : (x : A) (xs : List A) → Spells L (f x) x → AllOf (λ x. Spells L (f x) x) xs → Spells (λ room. lang.separated (L room)) (with_commas (map f (x ∷ xs))) (x ∷ xs)
   spells_separated x xs first all =
       let others = spells_more xs all in
-      record { from = first.from + others.from; at = λ room le. seq (f x) (behind_commas (map f xs)) x (first.at room (omega (arith, le)))
-        (record { front = behind_commas (map f xs); back = []; value = xs; parts = sym (append-nil (behind_commas (map f xs))); first = others.at room (omega (arith, le)); second = (refl, refl) }) }
+      record {
+        from = first.from + others.from;
+        at = λ room le. seq (f x) (behind_commas (map f xs)) x (first.at room (omega (arith, le)))
+            (record { front = behind_commas (map f xs); back = []; value = xs; parts = sym (append-nil (behind_commas (map f xs))); first = others.at room (omega (arith, le)); second = (refl, refl) });
+      }
 
   pub spells_several : (xs : List A) → Several (λ x. Spells L (f x) x) xs → Spells (λ room. lang.separated (L room)) (with_commas (map f xs)) xs
   spells_several xs s = subst (λ (z : List A). Spells (λ room. lang.separated (L room)) (with_commas (map f z)) z) s.is (spells_separated s.head s.tail s.good_head s.good_tail)

@@ -1,37 +1,17 @@
 -- The canonical tokens of an expression derive it.
-use Rattle.std.proofs.Common.{◌≡◌, ℕ, zero, suc, ◌+◌, ◌-◌, ◌≤◌, Bool, true, false, if◌then◌else◌, List, [], ◌∷◌, ◌++◌, map, Option, Some, None, refl, sym, ap, subst, ◌∙◌, arith, inl, inr, ◌⊎◌}
+use Rattle.std.proofs.Common.{◌≡◌, ℕ, suc, Bool, true, false, if◌then◌else◌, [], ◌∷◌, ◌++◌, Option, Some, None, refl, sym, ap, subst, ◌∙◌, inl, inr, ◌⊎◌}
 use Rattle.std.proofs.lemmas.List.{append-nil}
 use Rattle.setl_tree.specs.declared.kind.Kind.{Kind}
 use Rattle.setl_tree.specs.declared.kind.Kind.TheVariants as k
-use Rattle.setl_tree.specs.declared.expr.BinaryOp.{BinaryOp}
-use Rattle.setl_tree.specs.declared.expr.Relation.{Relation}
-use Rattle.setl_tree.specs.declared.expr.Prefix.{Prefix}
-use Rattle.setl_tree.specs.declared.expr.Prefix.TheVariants as pre
-use Rattle.setl_tree.specs.declared.expr.Quantifier.{Quantifier}
-use Rattle.setl_tree.specs.declared.expr.Slot.{Slot}
-use Rattle.setl_tree.specs.declared.expr.Slot.TheVariants as sl
-use Rattle.setl_tree.specs.declared.expr.Bound.{Bound}
-use Rattle.setl_tree.specs.declared.expr.Bound.TheVariants as bd
 use Rattle.setl_tree.specs.declared.expr.Expr.{Expr}
-use Rattle.setl_tree.specs.declared.expr.Expr.TheVariants as e
-use Rattle.setl_tree.specs.declared.expr.Inner.{Inner}
-use Rattle.setl_tree.specs.declared.expr.Inner.TheVariants as inn
-use Rattle.setl_tree.specs.declared.expr.Iter.{Iter}
-use Rattle.setl_tree.specs.declared.expr.Iter.TheVariants as it
-use Rattle.setl_tree.specs.declared.expr.Selector.{Selector}
-use Rattle.setl_tree.specs.declared.expr.Selector.TheVariants as se
-use Rattle.setl_tree.specs.Tokens.{Token, Tokens}
-use Rattle.setl_tree.specs.Lang.{Lang, Then}
-use Rattle.setl_tree.specs.Lang as lang
-use Rattle.setl_tree.specs.Operators.{level_of, binary_op, op_at, relation_op, not_sign, prefix_op, fold_sign, quantifier, constant, chain_of, prefixed, selected}
+use Rattle.setl_tree.specs.Tokens.{Tokens}
+use Rattle.setl_tree.specs.Lang.{Lang}
 use Rattle.setl_tree.specs.Expressions as x
 use Rattle.setl_tree.specs.Expressions.{Inside}
-use Rattle.setl_tree.specs.Canonical.{Shown, shown, alone, operation, selection, sign, name_token, bracketed, with_commas, all_of, as_operand, as_primary, all_prefixes, prefix_tokens, op_kind, relation_kind, fold_kind, quantifier_kind, slot_tokens, slots_tokens, pattern_tokens, bound_tokens, expr_tokens, inner_tokens, iter_tokens, selector_tokens}
+use Rattle.setl_tree.specs.Canonical.{Shown, shown, alone, operation, selection, sign, bracketed, as_operand, as_primary, expr_tokens}
 use Rattle.setl_grammar.specs.Reading.{same_kind}
 use Rattle.setl_grammar.proofs.EveryKind.{kinds, every, all_of as all_kinds, same_kind_is}
-use Rattle.setl_grammar.proofs.Building.{Spells, seq, then_token, then_name, then_opening, then_one_of, then_nothing, then_some, ends, outside, AllOf, OfSome, Several, from_many, from_optional, from_separated, from_listed, spells_many, spells_several, spells_listed, all_to, several_to}
-use Rattle.setl_grammar.proofs.ShownParts as parts
-use Rattle.setl_grammar.proofs.ShownParts.{operand_item, behind_expr, optional_expr}
+use Rattle.setl_grammar.proofs.Building.{Spells, seq, then_token, then_opening, ends, outside}
 
 -- ---- levels
 

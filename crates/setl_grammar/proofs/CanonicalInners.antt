@@ -1,38 +1,26 @@
 -- The canonical tokens of what stands inside expressions derive it.
-use Rattle.std.proofs.Common.{◌≡◌, ℕ, zero, suc, ◌+◌, ◌-◌, ◌≤◌, Bool, true, false, if◌then◌else◌, List, [], ◌∷◌, ◌++◌, map, Option, Some, None, refl, sym, ap, subst, ◌∙◌, arith, inl, inr, ◌⊎◌}
-use Rattle.std.proofs.lemmas.List.{append-nil}
+use Rattle.std.proofs.Common.{◌≡◌, ℕ, suc, ◌+◌, List, [], ◌∷◌, ◌++◌, map, Option, Some, None, refl, sym, subst, arith, inl, inr}
 use Rattle.setl_tree.specs.declared.kind.Kind.{Kind}
 use Rattle.setl_tree.specs.declared.kind.Kind.TheVariants as k
-use Rattle.setl_tree.specs.declared.expr.BinaryOp.{BinaryOp}
-use Rattle.setl_tree.specs.declared.expr.Relation.{Relation}
-use Rattle.setl_tree.specs.declared.expr.Prefix.{Prefix}
-use Rattle.setl_tree.specs.declared.expr.Prefix.TheVariants as pre
-use Rattle.setl_tree.specs.declared.expr.Quantifier.{Quantifier}
 use Rattle.setl_tree.specs.declared.expr.Slot.{Slot}
 use Rattle.setl_tree.specs.declared.expr.Slot.TheVariants as sl
 use Rattle.setl_tree.specs.declared.expr.Bound.{Bound}
 use Rattle.setl_tree.specs.declared.expr.Bound.TheVariants as bd
 use Rattle.setl_tree.specs.declared.expr.Expr.{Expr}
-use Rattle.setl_tree.specs.declared.expr.Expr.TheVariants as e
 use Rattle.setl_tree.specs.declared.expr.Inner.{Inner}
 use Rattle.setl_tree.specs.declared.expr.Inner.TheVariants as inn
 use Rattle.setl_tree.specs.declared.expr.Iter.{Iter}
 use Rattle.setl_tree.specs.declared.expr.Iter.TheVariants as it
-use Rattle.setl_tree.specs.declared.expr.Selector.{Selector}
-use Rattle.setl_tree.specs.declared.expr.Selector.TheVariants as se
-use Rattle.setl_tree.specs.Tokens.{Token, Tokens}
+use Rattle.setl_tree.specs.Tokens.{Tokens}
 use Rattle.setl_tree.specs.Lang.{Lang, Then}
 use Rattle.setl_tree.specs.Lang as lang
-use Rattle.setl_tree.specs.Operators.{level_of, binary_op, op_at, relation_op, not_sign, prefix_op, fold_sign, quantifier, constant, chain_of, prefixed, selected}
 use Rattle.setl_tree.specs.Expressions as x
 use Rattle.setl_tree.specs.Expressions.{Inside}
-use Rattle.setl_tree.specs.Canonical.{Shown, shown, alone, operation, selection, sign, name_token, bracketed, with_commas, all_of, as_operand, as_primary, all_prefixes, prefix_tokens, op_kind, relation_kind, fold_kind, quantifier_kind, slot_tokens, slots_tokens, pattern_tokens, bound_tokens, expr_tokens, inner_tokens, iter_tokens, selector_tokens}
-use Rattle.setl_grammar.specs.Reading.{same_kind}
-use Rattle.setl_grammar.proofs.EveryKind.{kinds, every, all_of as all_kinds, same_kind_is}
-use Rattle.setl_grammar.proofs.Building.{last, then_opening_one, opened_means, some_is, Spells, seq, then_token, then_name, then_opening, then_one_of, then_nothing, then_some, ends, outside, AllOf, OfSome, Several, from_many, from_optional, from_separated, from_listed, spells_many, spells_several, spells_listed, all_to, several_to}
+use Rattle.setl_tree.specs.Canonical.{shown, sign, name_token, with_commas, as_operand, slot_tokens, pattern_tokens, bound_tokens, expr_tokens, inner_tokens, iter_tokens}
+use Rattle.setl_grammar.proofs.Building.{last, Spells, seq, then_token, then_name, then_opening, ends, outside, AllOf, OfSome, from_optional, from_separated, from_listed, spells_several, spells_listed, all_to}
 use Rattle.setl_grammar.proofs.ShownParts as parts
 use Rattle.setl_grammar.proofs.ShownParts.{operand_item, behind_expr, optional_expr}
-use Rattle.setl_grammar.proofs.CanonicalExpressions.{Canon, e12_l, primary_l, to_7, whole_of, operand_of, primary_of}
+use Rattle.setl_grammar.proofs.CanonicalExpressions.{Canon, e12_l, to_7, whole_of, operand_of}
 
 -- ---- what iterators bind
 
@@ -56,7 +44,7 @@ pattern_good room toks slots s =
     let several = from_separated x.slot (λ s. Spells (λ _. x.slot) (slot_tokens s) s) (λ t a h. slot_spells a) s.second.front s.second.value s.second.first in
     let list = spells_several slot_tokens (λ _. x.slot) s.second.value several in
     subst (λ (z : List Slot). Spells x.pattern (pattern_tokens z) z) s.second.second.second.1
-      (record { from = 1; at = outside (λ room. x.pattern room (pattern_tokens s.second.value) s.second.value) 0 (λ m le. pattern_at m s.second.value (list.at list.from (omega arith))) })
+    (record { from = 1; at = outside (λ room. x.pattern room (pattern_tokens s.second.value) s.second.value) 0 (λ m le. pattern_at m s.second.value (list.at list.from (omega arith))) })
 
 pub bound_good : (room : ℕ) (toks : Tokens) (b : Bound) → x.bound room toks b → Spells x.bound (bound_tokens b) b
 unfolding x.bound
@@ -86,13 +74,13 @@ iter_good room S canon toks i (inl s) =
     let b = bound_good room s.front s.value s.first in
     let o = operand_of source.value (canon source.front source.value source.first) in
     let whole : Spells iter_l (bound_tokens s.value ++ sign k.In ∷ as_operand (shown source.value)) (it.Over s.value source.value) =
-        record { from = b.from + o.from; at = λ room le. over_at room s.value source.value (b.at room (omega (arith, le))) (o.at room (omega (arith, le))) } in
+    record { from = b.from + o.from; at = λ room le. over_at room s.value source.value (b.at room (omega (arith, le))) (o.at room (omega (arith, le))) } in
     subst (λ (z : Iter). Spells iter_l (iter_tokens z) z) source.second.1 (subst (λ (t : Tokens). Spells iter_l t (it.Over s.value source.value)) (sym (parts.iter_over s.value source.value)) whole)
 iter_good room S canon toks i (inr s) =
     let f = s.second.second in
     let z = f.second.second in
     let whole : Spells iter_l (name_token s.value ∷ sign k.Equal ∷ name_token f.value ∷ sign k.LeftParen ∷ name_token z.value ∷ sign k.RightParen ∷ []) (it.Image s.value f.value z.value) =
-        record { from = 1; at = outside (λ room. iter_l room (name_token s.value ∷ sign k.Equal ∷ name_token f.value ∷ sign k.LeftParen ∷ name_token z.value ∷ sign k.RightParen ∷ []) (it.Image s.value f.value z.value)) 0 (λ m le. image_at m s.value f.value z.value) } in
+    record { from = 1; at = outside (λ room. iter_l room (name_token s.value ∷ sign k.Equal ∷ name_token f.value ∷ sign k.LeftParen ∷ name_token z.value ∷ sign k.RightParen ∷ []) (it.Image s.value f.value z.value)) 0 (λ m le. image_at m s.value f.value z.value) } in
     subst (λ (z : Iter). Spells iter_l (iter_tokens z) z) z.second.second.1 (subst (λ (t : Tokens). Spells iter_l t (it.Image s.value f.value z.value)) (sym (parts.iter_image s.value f.value z.value)) whole)
 
 abbrev pub iters_l : ℕ → Tokens → List Iter → Type 0
@@ -160,7 +148,7 @@ inner_good room here canon canon_source toks i (inr (inl s)) =
     let two = behind_good k.Comma b.value (from_optional (lang.◌>>◌ (lang.token k.Comma) here.expr) Canon (λ t y h. canon h.back y h.second) b.front b.value b.first) in
     let three = whole_of c.value (canon c.front c.value c.first) in
     inner_is i (inn.Range s.value b.value c.value) (expr_tokens s.value ++ (behind_expr k.Comma b.value ++ sign k.Dots ∷ expr_tokens c.value)) c.second.1 (parts.inner_range s.value b.value c.value)
-      (record { from = one.from + two.from + three.from; at = λ room le. range_at room s.value b.value c.value (one.at room (omega (arith, le))) (two.at room (omega (arith, le))) (three.at room (omega (arith, le))) })
+    (record { from = one.from + two.from + three.from; at = λ room le. range_at room s.value b.value c.value (one.at room (omega (arith, le))) (two.at room (omega (arith, le))) (three.at room (omega (arith, le))) })
 inner_good room here canon canon_source toks i (inr (inr (inl s))) =
     let over = s.second.second in
     let c = over.second in
@@ -168,7 +156,7 @@ inner_good room here canon canon_source toks i (inr (inr (inl s))) =
     let two = iters_good room here.source canon_source over.front over.value over.first in
     let three = behind_good k.Bar c.value (from_optional (lang.◌>>◌ (lang.token k.Bar) here.expr) Canon (λ t y h. canon h.back y h.second) c.front c.value c.first) in
     inner_is i (inn.Former s.value over.value c.value) (expr_tokens s.value ++ sign k.Colon ∷ (with_commas (map iter_tokens over.value) ++ behind_expr k.Bar c.value)) c.second.1 (parts.inner_former s.value over.value c.value)
-      (record { from = one.from + two.from + three.from; at = λ room le. former_at room s.value over.value c.value (one.at room (omega (arith, le))) (two.at room (omega (arith, le))) (three.at room (omega (arith, le))) })
+    (record { from = one.from + two.from + three.from; at = λ room le. former_at room s.value over.value c.value (one.at room (omega (arith, le))) (two.at room (omega (arith, le))) (three.at room (omega (arith, le))) })
 inner_good room here canon canon_source toks i (inr (inr (inr s))) =
     let source = s.second.second in
     let c = source.second.second in
@@ -176,4 +164,4 @@ inner_good room here canon canon_source toks i (inr (inr (inr s))) =
     let two = operand_of source.value (canon_source source.front source.value source.first) in
     let three = whole_of c.value (canon c.front c.value c.first) in
     inner_is i (inn.Filter s.value source.value c.value) (bound_tokens s.value ++ sign k.In ∷ (as_operand (shown source.value) ++ sign k.Bar ∷ expr_tokens c.value)) c.second.1 (parts.inner_filter s.value source.value c.value)
-      (record { from = one.from + two.from + three.from; at = λ room le. filter_at room s.value source.value c.value (one.at room (omega (arith, le))) (two.at room (omega (arith, le))) (three.at room (omega (arith, le))) })
+    (record { from = one.from + two.from + three.from; at = λ room le. filter_at room s.value source.value c.value (one.at room (omega (arith, le))) (two.at room (omega (arith, le))) (three.at room (omega (arith, le))) })

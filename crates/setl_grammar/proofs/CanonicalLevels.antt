@@ -1,6 +1,5 @@
 -- The canonical tokens of an expression derive it: all levels.
-use Rattle.std.proofs.Common.{pos, ◌≡◌, ℕ, zero, suc, ◌+◌, ◌-◌, ◌≤◌, Bool, true, false, if◌then◌else◌, List, [], ◌∷◌, ◌++◌, map, Option, Some, None, refl, sym, ap, subst, ◌∙◌, arith, inl, inr, ◌⊎◌}
-use Rattle.std.proofs.lemmas.List.{append-nil}
+use Rattle.std.proofs.Common.{pos, ◌≡◌, ℕ, zero, suc, ◌+◌, ◌-◌, ◌≤◌, List, [], ◌∷◌, ◌++◌, map, Option, Some, refl, sym, subst, arith, inl, inr}
 use Rattle.setl_tree.specs.declared.kind.Kind.{Kind}
 use Rattle.setl_tree.specs.declared.kind.Kind.TheVariants as k
 use Rattle.setl_tree.specs.declared.expr.BinaryOp.{BinaryOp}
@@ -9,16 +8,10 @@ use Rattle.setl_tree.specs.declared.expr.Fold.{Fold}
 use Rattle.setl_tree.specs.declared.expr.Prefix.{Prefix}
 use Rattle.setl_tree.specs.declared.expr.Prefix.TheVariants as pre
 use Rattle.setl_tree.specs.declared.expr.Quantifier.{Quantifier}
-use Rattle.setl_tree.specs.declared.expr.Slot.{Slot}
-use Rattle.setl_tree.specs.declared.expr.Slot.TheVariants as sl
-use Rattle.setl_tree.specs.declared.expr.Bound.{Bound}
-use Rattle.setl_tree.specs.declared.expr.Bound.TheVariants as bd
 use Rattle.setl_tree.specs.declared.expr.Expr.{Expr}
 use Rattle.setl_tree.specs.declared.expr.Expr.TheVariants as e
 use Rattle.setl_tree.specs.declared.expr.Inner.{Inner}
-use Rattle.setl_tree.specs.declared.expr.Inner.TheVariants as inn
 use Rattle.setl_tree.specs.declared.expr.Iter.{Iter}
-use Rattle.setl_tree.specs.declared.expr.Iter.TheVariants as it
 use Rattle.setl_tree.specs.declared.expr.Selector.{Selector}
 use Rattle.setl_tree.specs.declared.expr.Selector.TheVariants as se
 use Rattle.setl_tree.specs.Tokens.{Token, Tokens}
@@ -27,14 +20,14 @@ use Rattle.setl_tree.specs.Lang as lang
 use Rattle.setl_tree.specs.Operators.{level_of, binary_op, op_at, relation_op, not_sign, prefix_op, fold_sign, quantifier, constant, chain_of, prefixed, selected}
 use Rattle.setl_tree.specs.Expressions as x
 use Rattle.setl_tree.specs.Expressions.{Inside}
-use Rattle.setl_tree.specs.Canonical.{Shown, shown, alone, operation, selection, sign, name_token, bracketed, with_commas, all_of, as_operand, as_primary, all_prefixes, prefix_tokens, op_kind, relation_kind, fold_kind, quantifier_kind, slot_tokens, slots_tokens, pattern_tokens, bound_tokens, expr_tokens, inner_tokens, iter_tokens, selector_tokens}
+use Rattle.setl_tree.specs.Canonical.{shown, alone, sign, name_token, bracketed, with_commas, all_of, as_operand, as_primary, all_prefixes, prefix_tokens, op_kind, relation_kind, fold_kind, quantifier_kind, expr_tokens, inner_tokens, iter_tokens, selector_tokens}
 use Rattle.setl_grammar.specs.Reading.{same_kind}
-use Rattle.setl_grammar.proofs.EveryKind.{kinds, every, all_of as all_kinds, same_kind_is}
-use Rattle.setl_grammar.proofs.Building.{last, then_opening_one, opened_means, some_is, Spells, seq, then_token, then_name, then_opening, then_one_of, then_nothing, then_some, ends, outside, AllOf, OfSome, Several, from_many, from_optional, from_separated, from_listed, spells_many, spells_several, spells_listed, all_to, several_to}
+use Rattle.setl_grammar.proofs.EveryKind.{kinds}
+use Rattle.setl_grammar.proofs.Building.{last, then_opening_one, opened_means, some_is, Spells, seq, then_token, then_name, then_opening, then_one_of, ends, outside, AllOf, from_many, from_optional, from_separated, from_listed, spells_many, spells_several, spells_listed, all_to, several_to}
 use Rattle.setl_grammar.proofs.ShownParts as parts
 use Rattle.setl_grammar.proofs.ShownParts.{operand_item, behind_expr, optional_expr}
-use Rattle.setl_grammar.proofs.CanonicalExpressions.{Canon, e12_l, primary_l, primary_12, up_1, up_2, up_3, up_4, up_5, up_6, up_7, up_8, up_9, up_10, up_11, from_3, from_4, from_5, from_6, from_7, from_8, from_9, from_10, from_11, from_12, to_3, to_4, to_5, to_6, to_7, to_8, to_9, to_10, canon_alone, canon_selection, canon_operation, whole_of, operand_of, primary_of, means_back, written_by}
-use Rattle.setl_grammar.proofs.CanonicalInners.{iter_l, iters_l, inner_l, inner_good, iters_good, exprs_good, optional_good}
+use Rattle.setl_grammar.proofs.CanonicalExpressions.{Canon, e12_l, primary_l, primary_12, up_1, up_11, from_3, from_4, from_5, from_6, from_7, from_8, from_9, from_10, from_11, from_12, to_3, to_4, to_5, to_6, to_7, to_8, to_9, to_10, canon_alone, canon_selection, canon_operation, whole_of, operand_of, primary_of, means_back}
+use Rattle.setl_grammar.proofs.CanonicalInners.{iters_l, inner_l, inner_good, iters_good, exprs_good, optional_good}
 
 -- ---- selectors
 
@@ -67,7 +60,7 @@ selector_good room deep canon toks i (inl s) =
     let xs = s.second in
     let list = spells_listed expr_tokens x.expr xs.value (exprs_good xs.value (from_listed deep.expr Canon canon xs.front xs.value xs.first)) in
     selector_is i (se.Round xs.value) (bracketed k.LeftParen (with_commas (map expr_tokens xs.value)) k.RightParen) xs.second.second.1 (parts.selector_round xs.value)
-      (outer selector_l (bracketed k.LeftParen (with_commas (map expr_tokens xs.value)) k.RightParen) (se.Round xs.value) list.from (λ m le. round_at m xs.value (with_commas (map expr_tokens xs.value)) (list.at m le)))
+    (outer selector_l (bracketed k.LeftParen (with_commas (map expr_tokens xs.value)) k.RightParen) (se.Round xs.value) list.from (λ m le. round_at m xs.value (with_commas (map expr_tokens xs.value)) (list.at m le)))
 selector_good room deep canon toks i (inr (inl s)) =
     let a = s.second in
     let b = a.second.second in
@@ -75,12 +68,12 @@ selector_good room deep canon toks i (inr (inl s)) =
     let two = optional_good b.value (from_optional deep.expr Canon canon b.front b.value b.first) in
     let all : Tokens = sign k.LeftParen ∷ (expr_tokens a.value ++ sign k.Dots ∷ (optional_expr b.value ++ sign k.RightParen ∷ [])) in
     selector_is i (se.Slice a.value b.value) all b.second.second.1 (parts.selector_slice a.value b.value)
-      (outer selector_l all (se.Slice a.value b.value) (one.from + two.from) (λ m le. slice_at m a.value b.value (one.at m (omega (arith, le))) (two.at m (omega (arith, le)))))
+    (outer selector_l all (se.Slice a.value b.value) (one.from + two.from) (λ m le. slice_at m a.value b.value (one.at m (omega (arith, le))) (two.at m (omega (arith, le)))))
 selector_good room deep canon toks i (inr (inr s)) =
     let xs = s.second in
     let list = spells_several expr_tokens x.expr xs.value (several_to whole_of (from_separated deep.expr Canon canon xs.front xs.value xs.first)) in
     selector_is i (se.Braces xs.value) (bracketed k.LeftBrace (with_commas (map expr_tokens xs.value)) k.RightBrace) xs.second.second.1 (parts.selector_braces xs.value)
-      (outer selector_l (bracketed k.LeftBrace (with_commas (map expr_tokens xs.value)) k.RightBrace) (se.Braces xs.value) list.from (λ m le. braces_at m xs.value (with_commas (map expr_tokens xs.value)) (list.at m le)))
+    (outer selector_l (bracketed k.LeftBrace (with_commas (map expr_tokens xs.value)) k.RightBrace) (se.Braces xs.value) list.from (λ m le. braces_at m xs.value (with_commas (map expr_tokens xs.value)) (list.at m le)))
 
 -- ---- primary expressions
 
@@ -163,17 +156,17 @@ module _ (room : ℕ) (deep : Inside) (canon : (t : Tokens) (y : Expr) → deep.
       let all : Tokens = sign k.If ∷ (expr_tokens a.value ++ sign k.Then ∷ (expr_tokens b.value ++ sign k.Else ∷ (expr_tokens c.value ++ sign k.End ∷ []))) in
       let y' = e.If a.value b.value c.value in
       canon_same y' y c.second.second.1 (canon_operation y' all (parts.shown_if a.value b.value c.value) (outer x.expr all y' (one.from + two.from + three.from)
-        (λ m le. from_12 (suc m) all y' (primary_12 (suc m) all y' (if_at m a.value b.value c.value (one.at m (omega (arith, le))) (two.at m (omega (arith, le))) (three.at m (omega (arith, le))))))))
+      (λ m le. from_12 (suc m) all y' (primary_12 (suc m) all y' (if_at m a.value b.value c.value (one.at m (omega (arith, le))) (two.at m (omega (arith, le))) (three.at m (omega (arith, le))))))))
   primary_good toks y (inr (inr (inr (inr (inr (inr (inl s))))))) =
       let i = s.second in
       let g = inner_good (room - 1) deep canon canon_source i.front i.value i.first in
       canon_same (e.Set i.value) y i.second.second.1 (canon_alone (e.Set i.value) (bracketed k.LeftBrace (inner_tokens i.value) k.RightBrace) (parts.shown_set i.value)
-        (outer primary_l (bracketed k.LeftBrace (inner_tokens i.value) k.RightBrace) (e.Set i.value) g.from (λ m le. set_at m i.value (g.at m le))))
+      (outer primary_l (bracketed k.LeftBrace (inner_tokens i.value) k.RightBrace) (e.Set i.value) g.from (λ m le. set_at m i.value (g.at m le))))
   primary_good toks y (inr (inr (inr (inr (inr (inr (inr s))))))) =
       let i = s.second in
       let g = inner_good (room - 1) deep canon canon_source i.front i.value i.first in
       canon_same (e.Tuple i.value) y i.second.second.1 (canon_alone (e.Tuple i.value) (bracketed k.LeftBracket (inner_tokens i.value) k.RightBracket) (parts.shown_tuple i.value)
-        (outer primary_l (bracketed k.LeftBracket (inner_tokens i.value) k.RightBracket) (e.Tuple i.value) g.from (λ m le. tuple_at m i.value (g.at m le))))
+      (outer primary_l (bracketed k.LeftBracket (inner_tokens i.value) k.RightBracket) (e.Tuple i.value) g.from (λ m le. tuple_at m i.value (g.at m le))))
 
   -- ---- selections
 
@@ -187,14 +180,14 @@ module _ (room : ℕ) (deep : Inside) (canon : (t : Tokens) (y : Expr) → deep.
       let one = primary_of p c in
       let two = spells_many selector_tokens selector_l (s ∷ ss) all in
       canon_selection (e.Selected p (s ∷ ss)) (as_primary (shown p) ++ all_of (map selector_tokens (s ∷ ss))) (parts.shown_selected p (s ∷ ss))
-        (record { from = one.from + two.from; at = λ room le. selected_at room p (s ∷ ss) (one.at room (omega (arith, le))) (two.at room (omega (arith, le))) })
+      (record { from = one.from + two.from; at = λ room le. selected_at room p (s ∷ ss) (one.at room (omega (arith, le))) (two.at room (omega (arith, le))) })
 
   e12_good : (toks : Tokens) (y : Expr) → x.e12 room deep toks y → Canon y
   unfolding x.e12
   e12_good toks y s =
       let ss = s.second in
       canon_same (selected s.value ss.value) y ss.second.1 (selected_good s.value ss.value (primary_good s.front s.value s.first)
-        (from_many (x.selector room deep) (λ s. Spells selector_l (selector_tokens s) s) (selector_good room deep canon) ss.front ss.value ss.first))
+      (from_many (x.selector room deep) (λ s. Spells selector_l (selector_tokens s) s) (selector_good room deep canon) ss.front ss.value ss.first))
 
   -- ---- prefixes
 
@@ -247,7 +240,7 @@ module _ (room : ℕ) (deep : Inside) (canon : (t : Tokens) (y : Expr) → deep.
       let two = operand_of y c in
       let toks = all_prefixes (p ∷ ps) ++ as_operand (shown y) in
       canon_operation (e.Prefixed (p ∷ ps) y) toks (parts.shown_prefixed (p ∷ ps) y)
-        (record { from = two.from; at = λ room le. from_11 room toks (e.Prefixed (p ∷ ps) y) (prefixed_at room (p ∷ ps) y (one.at one.from (omega arith)) (two.at room le)) })
+      (record { from = two.from; at = λ room le. from_11 room toks (e.Prefixed (p ∷ ps) y) (prefixed_at room (p ∷ ps) y (one.at one.from (omega arith)) (two.at room le)) })
 
   e11_good : (toks : Tokens) (y : Expr) → x.e11 room deep toks y → Canon y
   unfolding x.e11
@@ -266,7 +259,7 @@ module _ (room : ℕ) (deep : Inside) (canon : (t : Tokens) (y : Expr) → deep.
       let two = operand_of y c in
       let toks = all_prefixes (p ∷ ps) ++ as_operand (shown y) in
       canon_operation (e.Prefixed (p ∷ ps) y) toks (parts.shown_prefixed (p ∷ ps) y)
-        (record { from = two.from; at = λ room le. from_5 room toks (e.Prefixed (p ∷ ps) y) (negated_at room (p ∷ ps) y (one.at one.from (omega arith)) (two.at room le)) })
+      (record { from = two.from; at = λ room le. from_5 room toks (e.Prefixed (p ∷ ps) y) (negated_at room (p ∷ ps) y (one.at one.from (omega arith)) (two.at room le)) })
 
   -- ---- chains
 
@@ -287,17 +280,20 @@ module _ (room : ℕ) (deep : Inside) (canon : (t : Tokens) (y : Expr) → deep.
       let two = spells_many operand_item (λ room. x.operand level (M room)) (o ∷ os) (all_to (o ∷ os) (operand_spells level M up) all) in
       let toks = as_operand (shown first) ++ all_of (map operand_item (o ∷ os)) in
       canon_operation (e.Chain first (o ∷ os)) toks (parts.shown_chain first (o ∷ os))
-        (record { from = one.from + two.from; at = λ room le. down room toks (e.Chain first (o ∷ os))
-          (seq (as_operand (shown first)) (all_of (map operand_item (o ∷ os))) first (up room (as_operand (shown first)) first (one.at room (omega (arith, le)))) (last (chain_of first) (all_of (map operand_item (o ∷ os))) (o ∷ os) (two.at room (omega (arith, le))))) })
+      (record {
+        from = one.from + two.from;
+        at = λ room le. down room toks (e.Chain first (o ∷ os))
+            (seq (as_operand (shown first)) (all_of (map operand_item (o ∷ os))) first (up room (as_operand (shown first)) first (one.at room (omega (arith, le)))) (last (chain_of first) (all_of (map operand_item (o ∷ os))) (o ∷ os) (two.at room (omega (arith, le)))));
+      })
 
   chain_good : (level : ℕ) (M : ℕ → Tokens → Expr → Type 0) → ((room : ℕ) (t : Tokens) (y : Expr) → e12_l room t y → M room t y) → ((room : ℕ) (t : Tokens) (y : Expr) → x.chain level (M room) t y → x.expr room t y)
       → ((kind : Kind) (o : BinaryOp) → op_at level kind ≡ Some o → op_at level (op_kind o) ≡ Some o) → (item : Lang Expr) → ((t : Tokens) (y : Expr) → item t y → Canon y) → (toks : Tokens) (y : Expr) → x.chain level item toks y → Canon y
   chain_good level M up down back item good toks y s =
       let os = s.second in
       canon_same (chain_of s.value os.value) y os.second.1 (chained_good level M up down s.value os.value (good s.front s.value s.first)
-        (from_many (x.operand level item) (GoodOperand level) (λ t o h.
-            let z = h.second in
-            subst (GoodOperand level) z.second.1 (back h.first.it.kind h.value h.first.means, good z.front z.value z.first)) os.front os.value os.first))
+      (from_many (x.operand level item) (GoodOperand level) (λ t o h.
+      let z = h.second in
+      subst (GoodOperand level) z.second.1 (back h.first.it.kind h.value h.first.means, good z.front z.value z.first)) os.front os.value os.first))
 
   back_2 : (kind : Kind) (o : BinaryOp) → op_at 2 kind ≡ Some o → op_at 2 (op_kind o) ≡ Some o
   unfolding kinds same_kind op_at level_of binary_op
@@ -364,7 +360,7 @@ module _ (room : ℕ) (deep : Inside) (canon : (t : Tokens) (y : Expr) → deep.
       let y' = e.Compare s.value o.value b.value in
       let all = as_operand (shown s.value) ++ sign (relation_kind o.value) ∷ as_operand (shown b.value) in
       canon_same y' y b.second.1 (canon_operation y' all (parts.shown_compare s.value o.value b.value)
-        (record { from = one.from + two.from; at = λ room le. from_6 room all y' (compared_at room s.value o.value b.value (one.at room (omega (arith, le))) (relation_back o.first.it.kind o.value o.first.means) (two.at room (omega (arith, le)))) }))
+      (record { from = one.from + two.from; at = λ room le. from_6 room all y' (compared_at room s.value o.value b.value (one.at room (omega (arith, le))) (relation_back o.first.it.kind o.value o.first.means) (two.at room (omega (arith, le)))) }))
 
   e5_good : (toks : Tokens) (y : Expr) → x.e5 room deep toks y → Canon y
   unfolding x.e5
@@ -395,7 +391,7 @@ module _ (room : ℕ) (deep : Inside) (canon : (t : Tokens) (y : Expr) → deep.
   unfolding x.expr x.whole x.nested x.source
   quantified_at m q over y means one two = inl (then_opening_one m (sign (quantifier_kind q)) q (with_commas (map iter_tokens over) ++ sign k.Bar ∷ expr_tokens y) means
       (seq (with_commas (map iter_tokens over)) (sign k.Bar ∷ expr_tokens y) over (subst (λ (z : ℕ). x.iters z (x.e7 m (x.nested m)) (with_commas (map iter_tokens over)) over) (less_one m) one)
-        (then_token (sign k.Bar) (expr_tokens y) refl (last (λ y. e.Quantified q over y) (expr_tokens y) y two))))
+      (then_token (sign k.Bar) (expr_tokens y) refl (last (λ y. e.Quantified q over y) (expr_tokens y) y two))))
 
   pub whole_good : (toks : Tokens) (y : Expr) → x.whole room deep toks y → Canon y
   unfolding x.whole
@@ -409,7 +405,7 @@ module _ (room : ℕ) (deep : Inside) (canon : (t : Tokens) (y : Expr) → deep.
       let y' = e.Quantified s.value over.value z.value in
       let all = sign (quantifier_kind s.value) ∷ (with_commas (map iter_tokens over.value) ++ sign k.Bar ∷ expr_tokens z.value) in
       canon_same y' y z.second.1 (canon_operation y' all (parts.shown_quantified s.value over.value z.value)
-        (outer x.expr all y' (one.from + two.from) (λ m le. quantified_at m s.value over.value z.value (quantifier_back means.it.kind s.value means.means) (one.at m (omega (arith, le))) (two.at m (omega (arith, le))))))
+      (outer x.expr all y' (one.from + two.from) (λ m le. quantified_at m s.value over.value z.value (quantifier_back means.it.kind s.value means.means) (one.at m (omega (arith, le))) (two.at m (omega (arith, le))))))
 
 -- what stands in nestings
 record CanonInside (room : ℕ) : Type 0 where

@@ -1,27 +1,24 @@
 -- The canonical tokens of a `repr` section derive it.
-use Rattle.std.proofs.Common.{◌≡◌, ℕ, zero, suc, ◌+◌, ◌≤◌, List, [], ◌∷◌, ◌++◌, map, Option, Some, None, refl, sym, ap, subst, ◌∙◌, append_assoc, arith, inl, inr, ◌⊎◌}
+use Rattle.std.proofs.Common.{◌≡◌, ℕ, zero, suc, ◌+◌, List, [], ◌∷◌, ◌++◌, Option, Some, None, refl, sym, ap, subst, ◌∙◌, arith, inl, inr}
 use Rattle.std.proofs.lemmas.List.{append-nil}
 use Rattle.setl_tree.specs.declared.kind.Kind.{Kind}
 use Rattle.setl_tree.specs.declared.kind.Kind.TheVariants as k
 use Rattle.setl_tree.specs.declared.mode.Attribute.{Attribute}
 use Rattle.setl_tree.specs.declared.mode.Core.{Core, fold-Core, fold-roll-Core}
 use Rattle.setl_tree.specs.declared.mode.Core.TheVariants as co
-use Rattle.setl_tree.specs.declared.mode.Core.TheOpen.{Core-F, WrittenMode-F}
+use Rattle.setl_tree.specs.declared.mode.Core.TheOpen.{Core-F}
 use Rattle.setl_tree.specs.declared.mode.WrittenMode.{WrittenMode, roll-WrittenMode, fold-roll-WrittenMode}
-use Rattle.setl_tree.specs.declared.mode.ReprLine.{ReprLine}
-use Rattle.setl_tree.specs.declared.mode.ReprLine.TheVariants as rl
-use Rattle.setl_tree.specs.declared.tree.Declared.{Declared}
 use Rattle.setl_tree.specs.Modes as m
 use Rattle.setl_tree.specs.Modes.{attribute, simple_core}
-use Rattle.setl_tree.specs.Canonical.{sign_at, sign, name_at, name_token, bracketed, with_commas, all_of, attribute_kind, core_step, mode_step, mode_tokens, with_attribute, declared_tokens, colon_tokens, line_tokens, repr_tokens, ending_tokens}
-use Rattle.setl_tree.specs.Tokens.{Token, Tokens}
+use Rattle.setl_tree.specs.Canonical.{sign_at, sign, name_token, bracketed, attribute_kind, core_step, mode_step, mode_tokens, with_attribute}
+use Rattle.setl_tree.specs.Tokens.{Tokens}
 use Rattle.setl_tree.specs.Lang.{Lang, Then, line_of}
 use Rattle.setl_tree.specs.Lang as lang
 use Rattle.setl_grammar.specs.Reading.{same_kind}
 use Rattle.setl_grammar.proofs.EveryKind.{kinds}
-use Rattle.setl_grammar.proofs.Building.{last, some_is, Spells, seq, then_token, then_name, then_opening, then_one_of, then_nothing, then_some, ends, outside, AllOf, OfSome, Several, from_many, from_optional, from_separated, from_listed, all_of_several, spells_many, spells_several, spells_listed, spells_separated, all_to}
+use Rattle.setl_grammar.proofs.Building.{last, some_is, Spells, seq, then_token, then_name, then_opening, then_nothing, then_some, ends}
 use Rattle.setl_grammar.proofs.CanonicalExpressions.{means_back}
-use Rattle.setl_grammar.proofs.CanonicalStatements.{outer, ending_good}
+use Rattle.setl_grammar.proofs.CanonicalStatements.{outer}
 
 abbrev core_tokens : Core → ℕ → Tokens
 core_tokens = fold-Core (ℕ → Tokens) Tokens core_step mode_step
@@ -130,7 +127,7 @@ module _ (room : ℕ) (D : Lang WrittenMode) (good : (t : Tokens) (y : WrittenMo
       let l = h.value.line in
       let here : line_of toks ≡ l = ap line_of (h.parts ∙ ap (λ (z : Tokens). z ++ h.back) h.first.alone) in
       made toks (co.Elmt l h.second.value) y (λ line. sign_at l k.Elmt ∷ name_token h.second.value ∷ []) h.second.second.1 (is_elmt l h.second.value) (λ line first. sym here ∙ first)
-        (λ line. record { from = 0; at = λ room le. element_at room l h.second.value })
+      (λ line. record { from = 0; at = λ room le. element_at room l h.second.value })
   core_good toks y (inr (inr (inl h))) =
       let d = h.second.second in
       let g = good d.front d.value d.first in

@@ -1,5 +1,5 @@
 -- The canonical tokens of a program derive it.
-use Rattle.std.proofs.Common.{◌≡◌, ℕ, zero, suc, ◌+◌, ◌≤◌, List, [], ◌∷◌, ◌++◌, map, Option, Some, None, unwrap_or, refl, sym, ap, subst, ◌∙◌, append_assoc, arith, inl, inr, ◌⊎◌}
+use Rattle.std.proofs.Common.{◌≡◌, ℕ, suc, ◌+◌, List, [], ◌∷◌, ◌++◌, map, Option, Some, None, unwrap_or, refl, sym, ap, subst, ◌∙◌, append_assoc, arith, inl, inr}
 use Rattle.std.proofs.lemmas.List.{append-nil}
 use Rattle.setl_tree.specs.declared.kind.Kind.{Kind}
 use Rattle.setl_tree.specs.declared.kind.Kind.TheVariants as k
@@ -20,8 +20,8 @@ use Rattle.setl_tree.specs.Statements as s
 use Rattle.setl_tree.specs.Modes as m
 use Rattle.setl_tree.specs.Programs as p
 use Rattle.setl_tree.specs.Programs.{passing, joined, Derives}
-use Rattle.setl_tree.specs.Canonical.{sign_at, sign, name_at, name_token, with_commas, all_of, mode_tokens, declared_tokens, colon_tokens, line_tokens, repr_tokens, ending_tokens, passing_kind, param_tokens, optional_name, named_ending_tokens, proc_tokens, var_tokens, stmt_tokens, canonical}
-use Rattle.setl_grammar.proofs.Building.{last, Spells, seq, then_token, then_name, then_opening, then_nothing, then_some, ends, AllOf, OfSome, Several, from_many, from_optional, from_separated, all_of_several, spells_many, spells_several, spells_listed, spells_separated}
+use Rattle.setl_tree.specs.Canonical.{sign_at, sign, name_at, name_token, with_commas, all_of, mode_tokens, declared_tokens, colon_tokens, line_tokens, repr_tokens, ending_tokens, passing_kind, param_tokens, optional_name, named_ending_tokens, proc_tokens, var_tokens, canonical}
+use Rattle.setl_grammar.proofs.Building.{last, Spells, seq, then_token, then_name, then_opening, then_some, ends, AllOf, OfSome, from_many, from_optional, from_separated, spells_many, spells_several, spells_listed, spells_separated}
 use Rattle.setl_grammar.proofs.StatementParts.{body_tokens}
 use Rattle.setl_grammar.proofs.CanonicalStatements.{outer, ending_good, stmts_good}
 use Rattle.setl_grammar.proofs.CanonicalModes.{written_mode_good}
@@ -174,12 +174,12 @@ proc_at n y h =
     let rest : Tokens = body_tokens y.body ++ named_ending_tokens y.end_line k.Proc y.end_name in
     let brackets : Tokens = sign k.LeftParen ∷ (with_commas (map param_tokens y.params) ++ sign k.RightParen ∷ []) in
     let whole : brackets ++ sign k.Semicolon ∷ rest ≡ sign k.LeftParen ∷ (with_commas (map param_tokens y.params) ++ sign k.RightParen ∷ sign k.Semicolon ∷ rest) =
-        ap (λ (z : Tokens). sign k.LeftParen ∷ z) (append_assoc (with_commas (map param_tokens y.params)) (sign k.RightParen ∷ []) (sign k.Semicolon ∷ rest)) in
+    ap (λ (z : Tokens). sign k.LeftParen ∷ z) (append_assoc (with_commas (map param_tokens y.params)) (sign k.RightParen ∷ []) (sign k.Semicolon ∷ rest)) in
     let inside : Then (lang.optional (p.params (suc n))) (λ o. behind_params (suc n) y (unwrap_or o [])) (brackets ++ sign k.Semicolon ∷ rest) y = then_some brackets (sign k.Semicolon ∷ rest) y.params (params_at n y.params (list.at list.from (omega arith))) (then_token (sign k.Semicolon) rest refl
-        (seq (body_tokens y.body) (named_ending_tokens y.end_line k.Proc y.end_name) y.body h (last (λ (z : ℕ × Option (List ℕ)). record { line = y.line; name = y.name; params = y.params; body = y.body; end_name = z.1; end_line = z.0 })
-          (named_ending_tokens y.end_line k.Proc y.end_name) (y.end_line, y.end_name) (ending_at y.end_line k.Proc p.proc_word y.end_name (word_at 0))))) in
+    (seq (body_tokens y.body) (named_ending_tokens y.end_line k.Proc y.end_name) y.body h (last (λ (z : ℕ × Option (List ℕ)). record { line = y.line; name = y.name; params = y.params; body = y.body; end_name = z.1; end_line = z.0 })
+    (named_ending_tokens y.end_line k.Proc y.end_name) (y.end_line, y.end_name) (ending_at y.end_line k.Proc p.proc_word y.end_name (word_at 0))))) in
     seq (sign_at y.line k.Proc ∷ []) (name_token y.name ∷ sign k.LeftParen ∷ (with_commas (map param_tokens y.params) ++ sign k.RightParen ∷ sign k.Semicolon ∷ rest)) (sign_at y.line k.Proc) (word_at y.line)
-      (then_name 0 y.name (sign k.LeftParen ∷ (with_commas (map param_tokens y.params) ++ sign k.RightParen ∷ sign k.Semicolon ∷ rest)) (subst (λ (z : Tokens). Then (lang.optional (p.params (suc n))) (λ o. behind_params (suc n) y (unwrap_or o [])) z y) whole inside))
+    (then_name 0 y.name (sign k.LeftParen ∷ (with_commas (map param_tokens y.params) ++ sign k.RightParen ∷ sign k.Semicolon ∷ rest)) (subst (λ (z : Tokens). Then (lang.optional (p.params (suc n))) (λ o. behind_params (suc n) y (unwrap_or o [])) z y) whole inside))
 
 proc_good : (room : ℕ) (toks : Tokens) (y : Proc) → p.proc room toks y → ProcGood y
 unfolding p.proc
@@ -200,12 +200,12 @@ program_at room t v r one two three =
     let modes = repr_tokens t.modes in
     let vars = var_tokens t.vars in
     let same : record { name = t.name; vars = joined v.groups; modes = unwrap_or r.section []; body = t.body; procs = t.procs; end_name = t.end_name; end_line = t.end_line } ≡ t =
-        (λ i. record { name = t.name; vars = v.is i; modes = r.is i; body = t.body; procs = t.procs; end_name = t.end_name; end_line = t.end_line }) in
+    (λ i. record { name = t.name; vars = v.is i; modes = r.is i; body = t.body; procs = t.procs; end_name = t.end_name; end_line = t.end_line }) in
     subst (λ (z : Tree). p.program room (canonical t) z) same
-      (then_token (sign k.Program) (name_token t.name ∷ sign k.Semicolon ∷ (vars ++ (modes ++ (body ++ (procs ++ last_part))))) refl (then_name 0 t.name (sign k.Semicolon ∷ (vars ++ (modes ++ (body ++ (procs ++ last_part)))))
-        (then_token (sign k.Semicolon) (vars ++ (modes ++ (body ++ (procs ++ last_part)))) refl (seq vars (modes ++ (body ++ (procs ++ last_part))) v.groups v.good (seq modes (body ++ (procs ++ last_part)) r.section one
-          (seq body (procs ++ last_part) t.body two (seq procs last_part t.procs three (last (λ (z : ℕ × Option (List ℕ)). record { name = t.name; vars = joined v.groups; modes = unwrap_or r.section []; body = t.body; procs = t.procs; end_name = z.1; end_line = z.0 })
-            last_part (t.end_line, t.end_name) (ending_at t.end_line k.Program (lang.token k.Program) t.end_name (record { alone = refl; kind = refl }))))))))))
+    (then_token (sign k.Program) (name_token t.name ∷ sign k.Semicolon ∷ (vars ++ (modes ++ (body ++ (procs ++ last_part))))) refl (then_name 0 t.name (sign k.Semicolon ∷ (vars ++ (modes ++ (body ++ (procs ++ last_part)))))
+    (then_token (sign k.Semicolon) (vars ++ (modes ++ (body ++ (procs ++ last_part)))) refl (seq vars (modes ++ (body ++ (procs ++ last_part))) v.groups v.good (seq modes (body ++ (procs ++ last_part)) r.section one
+    (seq body (procs ++ last_part) t.body two (seq procs last_part t.procs three (last (λ (z : ℕ × Option (List ℕ)). record { name = t.name; vars = joined v.groups; modes = unwrap_or r.section []; body = t.body; procs = t.procs; end_name = z.1; end_line = z.0 })
+    last_part (t.end_line, t.end_name) (ending_at t.end_line k.Program (lang.token k.Program) t.end_name (record { alone = refl; kind = refl }))))))))))
 
 -- The canonical tokens of a tree that some tokens derive, derive it.
 pub canonical_derives : (toks : Tokens) (t : Tree) → Derives toks t → Derives (canonical t) t

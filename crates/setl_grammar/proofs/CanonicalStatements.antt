@@ -1,5 +1,5 @@
 -- The canonical tokens of a statement derive it.
-use Rattle.std.proofs.Common.{◌≡◌, ℕ, zero, suc, ◌+◌, ◌-◌, ◌≤◌, List, [], ◌∷◌, ◌++◌, map, Option, Some, None, append_assoc, refl, sym, ap, subst, ◌∙◌, arith, inl, inr, ◌⊎◌}
+use Rattle.std.proofs.Common.{◌≡◌, ℕ, zero, suc, ◌+◌, ◌-◌, ◌≤◌, List, [], ◌∷◌, ◌++◌, map, Option, Some, None, append_assoc, refl, sym, ap, subst, ◌∙◌, arith, inl, inr}
 use Rattle.setl_tree.specs.declared.kind.Kind.{Kind}
 use Rattle.setl_tree.specs.declared.kind.Kind.TheVariants as k
 use Rattle.setl_tree.specs.declared.expr.BinaryOp.{BinaryOp}
@@ -14,17 +14,17 @@ use Rattle.setl_tree.specs.declared.stmt.Branch.{Branch, roll-Branch}
 use Rattle.setl_tree.specs.declared.stmt.Stmt.{Stmt, roll-Stmt}
 use Rattle.setl_tree.specs.declared.stmt.StmtKind.{StmtKind}
 use Rattle.setl_tree.specs.declared.stmt.StmtKind.TheVariants as st
-use Rattle.setl_tree.specs.Tokens.{Token, Tokens}
+use Rattle.setl_tree.specs.Tokens.{Tokens}
 use Rattle.setl_tree.specs.Lang.{Lang, Then, line_of}
 use Rattle.setl_tree.specs.Lang as lang
 use Rattle.setl_tree.specs.Operators.{update_op}
 use Rattle.setl_tree.specs.Expressions as x
 use Rattle.setl_tree.specs.Statements as s
 use Rattle.setl_tree.specs.Statements.{from_word, simple}
-use Rattle.setl_tree.specs.Canonical.{sign_at, sign, name_at, bracketed, with_commas, all_of, op_kind, from_kind, slots_tokens, slot_tokens, pattern_tokens, place_tokens, expr_tokens, iter_tokens, selector_tokens, in_round, elseif_tokens, ending_tokens, bar_tokens, result_tokens, single, stmt_tokens}
+use Rattle.setl_tree.specs.Canonical.{sign_at, sign, name_at, bracketed, with_commas, all_of, op_kind, from_kind, slots_tokens, slot_tokens, place_tokens, expr_tokens, iter_tokens, selector_tokens, in_round, elseif_tokens, ending_tokens, bar_tokens, result_tokens, single, stmt_tokens}
 use Rattle.setl_grammar.specs.Reading.{same_kind}
 use Rattle.setl_grammar.proofs.EveryKind.{kinds}
-use Rattle.setl_grammar.proofs.Building.{last, some_is, Spells, seq, then_token, then_name, then_opening, then_one_of, then_some, ends, outside, AllOf, OfSome, Several, from_many, from_optional, from_separated, from_listed, spells_many, spells_several, spells_listed, all_to, several_to}
+use Rattle.setl_grammar.proofs.Building.{last, some_is, Spells, seq, then_token, then_name, then_opening, then_one_of, then_some, ends, outside, AllOf, OfSome, from_many, from_optional, from_separated, from_listed, spells_many, spells_several, spells_listed, all_to, several_to}
 use Rattle.setl_grammar.proofs.ShownParts as parts
 use Rattle.setl_grammar.proofs.StatementParts as forms
 use Rattle.setl_grammar.proofs.StatementParts.{kind_tokens, branch_tokens, body_tokens, else_body}
@@ -62,12 +62,12 @@ place_selector_good room toks z (inl h) =
     let xs = h.second in
     let list = spells_several expr_tokens x.expr xs.value (several_to whole_of (from_separated (x.nested room).expr Canon (deep_canon room) xs.front xs.value xs.first)) in
     selector_is z (se.Round xs.value) (bracketed k.LeftParen (with_commas (map expr_tokens xs.value)) k.RightParen) xs.second.second.1 (parts.selector_round xs.value)
-      (outer s.place_selector (bracketed k.LeftParen (with_commas (map expr_tokens xs.value)) k.RightParen) (se.Round xs.value) list.from (λ m le. round_at m xs.value (with_commas (map expr_tokens xs.value)) (list.at m le)))
+    (outer s.place_selector (bracketed k.LeftParen (with_commas (map expr_tokens xs.value)) k.RightParen) (se.Round xs.value) list.from (λ m le. round_at m xs.value (with_commas (map expr_tokens xs.value)) (list.at m le)))
 place_selector_good room toks z (inr h) =
     let xs = h.second in
     let list = spells_several expr_tokens x.expr xs.value (several_to whole_of (from_separated (x.nested room).expr Canon (deep_canon room) xs.front xs.value xs.first)) in
     selector_is z (se.Braces xs.value) (bracketed k.LeftBrace (with_commas (map expr_tokens xs.value)) k.RightBrace) xs.second.second.1 (parts.selector_braces xs.value)
-      (outer s.place_selector (bracketed k.LeftBrace (with_commas (map expr_tokens xs.value)) k.RightBrace) (se.Braces xs.value) list.from (λ m le. braces_at m xs.value (with_commas (map expr_tokens xs.value)) (list.at m le)))
+    (outer s.place_selector (bracketed k.LeftBrace (with_commas (map expr_tokens xs.value)) k.RightBrace) (se.Braces xs.value) list.from (λ m le. braces_at m xs.value (with_commas (map expr_tokens xs.value)) (list.at m le)))
 
 abbrev PlaceGood : Place → Type 0
 PlaceGood p = (line : ℕ) → Spells s.place (place_tokens line p) p
@@ -114,7 +114,9 @@ tuple_at : (m line : ℕ) (slots : List Slot) (y : Expr) → lang.separated x.sl
     → kind_l (suc m) (sign_at line k.LeftBracket ∷ (with_commas (slots_tokens slots) ++ sign k.RightBracket ∷ sign k.Assign ∷ (expr_tokens y ++ sign k.Semicolon ∷ []))) (st.TupleAssign slots y)
 unfolding s.stmt_kind x.pattern
 tuple_at m line slots y one two = inr (inr (inl (record {
-  front = sign_at line k.LeftBracket ∷ (with_commas (map slot_tokens slots) ++ sign k.RightBracket ∷ []); back = sign k.Assign ∷ (expr_tokens y ++ sign k.Semicolon ∷ []); value = slots;
+  front = sign_at line k.LeftBracket ∷ (with_commas (map slot_tokens slots) ++ sign k.RightBracket ∷ []);
+  back = sign k.Assign ∷ (expr_tokens y ++ sign k.Semicolon ∷ []);
+  value = slots;
   parts = ap (λ (z : Tokens). sign_at line k.LeftBracket ∷ z) (sym (append_assoc (with_commas (map slot_tokens slots)) (sign k.RightBracket ∷ []) (sign k.Assign ∷ (expr_tokens y ++ sign k.Semicolon ∷ []))));
   first = then_opening m (sign_at line k.LeftBracket) (with_commas (map slot_tokens slots) ++ sign k.RightBracket ∷ []) refl (seq (with_commas (map slot_tokens slots)) (sign k.RightBracket ∷ []) slots one (then_token (sign k.RightBracket) [] refl ends));
   second = then_token (sign k.Assign) (expr_tokens y ++ sign k.Semicolon ∷ []) refl (seq (expr_tokens y) (sign k.Semicolon ∷ []) y two (then_token (sign k.Semicolon) [] refl ends));
@@ -260,14 +262,14 @@ module _ (room : ℕ) (D : Lang (List Stmt)) (good : (t : Tokens) (xs : List Stm
       let one = place_good room h.front h.value h.first in
       let two = whole_of z.value (expr_canon room z.front z.value z.first) in
       made (st.Assign h.value z.value) y (λ line. place_tokens line h.value ++ sign k.Assign ∷ (expr_tokens z.value ++ sign k.Semicolon ∷ [])) z.second.second.1 (forms.assign h.value z.value) (λ line. refl)
-        (λ line. record { from = (one line).from + two.from; at = λ room le. assign_at room line h.value z.value ((one line).at room (omega (arith, le))) (two.at room (omega (arith, le))) })
+      (λ line. record { from = (one line).from + two.from; at = λ room le. assign_at room line h.value z.value ((one line).at room (omega (arith, le))) (two.at room (omega (arith, le))) })
   kind_good toks y (inr (inl h)) =
       let o = h.second in
       let z = o.second.second in
       let one = place_good room h.front h.value h.first in
       let two = whole_of z.value (expr_canon room z.front z.value z.first) in
       made (st.Update h.value o.value z.value) y (λ line. place_tokens line h.value ++ sign (op_kind o.value) ∷ sign k.Assign ∷ (expr_tokens z.value ++ sign k.Semicolon ∷ [])) z.second.second.1 (forms.update h.value o.value z.value) (λ line. refl)
-        (λ line. record { from = (one line).from + two.from; at = λ room le. update_at room line h.value o.value z.value ((one line).at room (omega (arith, le))) (update_back o.first.it.kind o.value o.first.means) (two.at room (omega (arith, le))) })
+      (λ line. record { from = (one line).from + two.from; at = λ room le. update_at room line h.value o.value z.value ((one line).at room (omega (arith, le))) (update_back o.first.it.kind o.value o.first.means) (two.at room (omega (arith, le))) })
   kind_good toks y (inr (inr (inl h))) =
       let z = h.second.second in
       let slots = h.first.second in
@@ -276,19 +278,19 @@ module _ (room : ℕ) (D : Lang (List Stmt)) (good : (t : Tokens) (xs : List Stm
       let slots_spelled = subst (λ (z : List Slot). lang.separated x.slot (with_commas (map slot_tokens z)) z) same (list.at list.from (omega arith)) in
       let two = whole_of z.value (expr_canon room z.front z.value z.first) in
       made (st.TupleAssign h.value z.value) y (λ line. sign_at line k.LeftBracket ∷ (with_commas (slots_tokens h.value) ++ sign k.RightBracket ∷ sign k.Assign ∷ (expr_tokens z.value ++ sign k.Semicolon ∷ []))) z.second.second.1 (forms.tuple h.value z.value) (λ line. refl)
-        (λ line. outer kind_l (sign_at line k.LeftBracket ∷ (with_commas (slots_tokens h.value) ++ sign k.RightBracket ∷ sign k.Assign ∷ (expr_tokens z.value ++ sign k.Semicolon ∷ []))) (st.TupleAssign h.value z.value) two.from
-          (λ m le. tuple_at m line h.value z.value slots_spelled (two.at (suc m) (omega (arith, le)))))
+      (λ line. outer kind_l (sign_at line k.LeftBracket ∷ (with_commas (slots_tokens h.value) ++ sign k.RightBracket ∷ sign k.Assign ∷ (expr_tokens z.value ++ sign k.Semicolon ∷ []))) (st.TupleAssign h.value z.value) two.from
+      (λ m le. tuple_at m line h.value z.value slots_spelled (two.at (suc m) (omega (arith, le)))))
   kind_good toks y (inr (inr (inr (inl h)))) =
       let w = h.second in
       let p = w.second in
       let one = place_good room p.front p.value p.first in
       made (st.Take h.value w.value p.value) y (λ line. name_at line h.value ∷ sign (from_kind w.value) ∷ (place_tokens 0 p.value ++ sign k.Semicolon ∷ [])) p.second.second.1 (forms.take_ h.value w.value p.value) (λ line. refl)
-        (λ line. record { from = (one 0).from; at = λ room le. take_at room line h.value w.value p.value (from_back w.first.it.kind w.value w.first.means) ((one 0).at room le) })
+      (λ line. record { from = (one 0).from; at = λ room le. take_at room line h.value w.value p.value (from_back w.first.it.kind w.value w.first.means) ((one 0).at room le) })
   kind_good toks y (inr (inr (inr (inr (inl h))))) =
       let xs = h.second.second in
       let list = spells_listed expr_tokens x.expr xs.value (exprs_good xs.value (from_listed (x.nested room).expr Canon (deep_canon room) xs.front xs.value xs.first)) in
       made (st.Call h.value xs.value) y (λ line. name_at line h.value ∷ in_round (map expr_tokens xs.value)) xs.second.second.second.1 (forms.call h.value xs.value) (λ line. refl)
-        (λ line. outer kind_l (name_at line h.value ∷ in_round (map expr_tokens xs.value)) (st.Call h.value xs.value) list.from (λ m le. call_at m line h.value xs.value (list.at m le)))
+      (λ line. outer kind_l (name_at line h.value ∷ in_round (map expr_tokens xs.value)) (st.Call h.value xs.value) list.from (λ m le. call_at m line h.value xs.value (list.at m le)))
   kind_good toks y (inr (inr (inr (inr (inr (inl h)))))) =
       let first = h.second in
       let others = first.second in
@@ -298,8 +300,8 @@ module _ (room : ℕ) (D : Lang (List Stmt)) (good : (t : Tokens) (xs : List Stm
       let three = else_good rest.value (from_optional (Then (lang.token k.Else) (λ _. D)) (AllOf StmtGood) (λ t b g. good g.back b g.second) rest.front rest.value rest.first) in
       let toks_of : ℕ → Tokens = λ line. sign_at line k.If ∷ (branch_tokens first.value ++ (elseif_tokens (map branch_tokens others.value) ++ (else_body rest.value ++ ending_tokens k.If))) in
       made (st.If first.value others.value rest.value) y toks_of rest.second.second.1 (forms.if_ first.value others.value rest.value) (λ line. refl)
-        (λ line. outer kind_l (toks_of line) (st.If first.value others.value rest.value) (one.from + two.from + three.from) (λ m le. if_at m line first.value others.value rest.value (one.at m (omega (arith, le)))
-          (subst (λ (t : Tokens). lang.many (elseif_l m) t others.value) (sym (elseifs_are others.value)) (two.at m (omega (arith, le)))) (three.at m (omega (arith, le)))))
+      (λ line. outer kind_l (toks_of line) (st.If first.value others.value rest.value) (one.from + two.from + three.from) (λ m le. if_at m line first.value others.value rest.value (one.at m (omega (arith, le)))
+      (subst (λ (t : Tokens). lang.many (elseif_l m) t others.value) (sym (elseifs_are others.value)) (two.at m (omega (arith, le)))) (three.at m (omega (arith, le)))))
   kind_good toks y (inr (inr (inr (inr (inr (inr (inl h))))))) =
       let over = h.second.second in
       let c = over.second in
@@ -309,7 +311,7 @@ module _ (room : ℕ) (D : Lang (List Stmt)) (good : (t : Tokens) (xs : List Stm
       let three = body_good body.value (good body.front body.value body.first) in
       let toks_of : ℕ → Tokens = λ line. sign_at line k.LeftParen ∷ sign k.For ∷ (with_commas (map iter_tokens over.value) ++ (bar_tokens c.value ++ sign k.RightParen ∷ (body_tokens body.value ++ ending_tokens k.For))) in
       made (st.For over.value c.value body.value) y toks_of body.second.second.1 (forms.for_ over.value c.value body.value) (λ line. refl)
-        (λ line. outer kind_l (toks_of line) (st.For over.value c.value body.value) (one.from + two.from + three.from) (λ m le. for_at m line over.value c.value body.value (one.at m (omega (arith, le))) (two.at m (omega (arith, le))) (three.at m (omega (arith, le)))))
+      (λ line. outer kind_l (toks_of line) (st.For over.value c.value body.value) (one.from + two.from + three.from) (λ m le. for_at m line over.value c.value body.value (one.at m (omega (arith, le))) (two.at m (omega (arith, le))) (three.at m (omega (arith, le)))))
   kind_good toks y (inr (inr (inr (inr (inr (inr (inr (inl h)))))))) =
       let c = h.second.second in
       let body = c.second.second in
@@ -317,23 +319,23 @@ module _ (room : ℕ) (D : Lang (List Stmt)) (good : (t : Tokens) (xs : List Stm
       let two = body_good body.value (good body.front body.value body.first) in
       let toks_of : ℕ → Tokens = λ line. sign_at line k.LeftParen ∷ sign k.While ∷ (expr_tokens c.value ++ sign k.RightParen ∷ (body_tokens body.value ++ ending_tokens k.While)) in
       made (st.While c.value body.value) y toks_of body.second.second.1 (forms.while_ c.value body.value) (λ line. refl)
-        (λ line. outer kind_l (toks_of line) (st.While c.value body.value) (one.from + two.from) (λ m le. while_at m line c.value body.value (one.at m (omega (arith, le))) (two.at m (omega (arith, le)))))
+      (λ line. outer kind_l (toks_of line) (st.While c.value body.value) (one.from + two.from) (λ m le. while_at m line c.value body.value (one.at m (omega (arith, le))) (two.at m (omega (arith, le)))))
   kind_good toks y (inr (inr (inr (inr (inr (inr (inr (inr (inl h))))))))) = subst KindGood h.second.second.1 (simple_good h.first.it.kind h.value h.first.means)
   kind_good toks y (inr (inr (inr (inr (inr (inr (inr (inr (inr (inl h)))))))))) =
       let z = h.second in
       let one = result_good z.value (from_optional (x.expr room) Canon (expr_canon room) z.front z.value z.first) in
       made (st.Return z.value) y (λ line. sign_at line k.Return ∷ (result_tokens z.value ++ sign k.Semicolon ∷ [])) z.second.second.1 (forms.return_ z.value) (λ line. refl)
-        (λ line. record { from = one.from; at = λ room le. return_at room line z.value (one.at room le) })
+      (λ line. record { from = one.from; at = λ room le. return_at room line z.value (one.at room le) })
   kind_good toks y (inr (inr (inr (inr (inr (inr (inr (inr (inr (inr (inl h))))))))))) =
       let xs = h.second.second in
       let list = spells_listed expr_tokens x.expr xs.value (exprs_good xs.value (from_listed (x.nested room).expr Canon (deep_canon room) xs.front xs.value xs.first)) in
       made (st.Print xs.value) y (λ line. sign_at line k.Print ∷ in_round (map expr_tokens xs.value)) xs.second.second.second.1 (forms.print_ xs.value) (λ line. refl)
-        (λ line. outer kind_l (sign_at line k.Print ∷ in_round (map expr_tokens xs.value)) (st.Print xs.value) list.from (λ m le. print_at m line xs.value (list.at m le)))
+      (λ line. outer kind_l (sign_at line k.Print ∷ in_round (map expr_tokens xs.value)) (st.Print xs.value) list.from (λ m le. print_at m line xs.value (list.at m le)))
   kind_good toks y (inr (inr (inr (inr (inr (inr (inr (inr (inr (inr (inr h))))))))))) =
       let xs = h.second.second in
       let list = spells_several single (λ _. lang.name) xs.value (from_separated lang.name (λ z. Spells (λ _. lang.name) (single z) z) (λ t z g. name_good z) xs.front xs.value xs.first) in
       made (st.Read xs.value) y (λ line. sign_at line k.Read ∷ in_round (map single xs.value)) xs.second.second.second.1 (forms.read_ xs.value) (λ line. refl)
-        (λ line. outer kind_l (sign_at line k.Read ∷ in_round (map single xs.value)) (st.Read xs.value) list.from (λ m le. read_at m line xs.value (list.at m le)))
+      (λ line. outer kind_l (sign_at line k.Read ∷ in_round (map single xs.value)) (st.Read xs.value) list.from (λ m le. read_at m line xs.value (list.at m le)))
 
   stmt_at : (room line : ℕ) (y : StmtKind) → line_of (kind_tokens y line) ≡ line → kind_l room (kind_tokens y line) y → stmt_l room (kind_tokens y line) (roll-Stmt (record { line = line; kind = y }))
   unfolding s.stmt

@@ -16,9 +16,8 @@ use Rattle.setl_tree.specs.declared.expr.Iter.{Iter, fold-roll-Iter}
 use Rattle.setl_tree.specs.declared.expr.Iter.TheVariants as it
 use Rattle.setl_tree.specs.declared.expr.Selector.{Selector, fold-roll-Selector}
 use Rattle.setl_tree.specs.declared.expr.Selector.TheVariants as se
-use Rattle.setl_tree.specs.Tokens.{Token, Tokens}
-use Rattle.setl_tree.specs.Canonical.{Shown, shown, tokens_of, slots_tokens, slot_tokens, pattern_tokens, op_kind, behind, optional_tokens, alone, operation, selection, sign, name_token, bracketed, with_commas, all_of, as_operand, as_primary, operand_tokens, all_prefixes, relation_kind, quantifier_kind, bound_tokens, expr_tokens, inner_tokens, iter_tokens, selector_tokens, expr_step, inner_step, iter_step, selector_step}
-
+use Rattle.setl_tree.specs.Tokens.{Tokens}
+use Rattle.setl_tree.specs.Canonical.{Shown, shown, tokens_of, op_kind, alone, operation, selection, sign, name_token, bracketed, with_commas, all_of, as_operand, as_primary, operand_tokens, all_prefixes, relation_kind, quantifier_kind, bound_tokens, expr_tokens, inner_tokens, iter_tokens, selector_tokens, expr_step, inner_step, iter_step, selector_step}
 
 pub tokens_map : (xs : List Expr) → tokens_of (map shown xs) ≡ map expr_tokens xs
 tokens_map [] = refl

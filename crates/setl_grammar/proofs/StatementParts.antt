@@ -1,5 +1,5 @@
 -- The canonical tokens of each form of statement.
-use Rattle.std.proofs.Common.{◌≡◌, ℕ, List, [], ◌∷◌, ◌++◌, map, Option, Some, None, refl, sym, ap, ◌∙◌}
+use Rattle.std.proofs.Common.{◌≡◌, ℕ, List, [], ◌∷◌, ◌++◌, map, Option, Some, None, sym, ap, ◌∙◌}
 use Rattle.setl_tree.specs.declared.kind.Kind.TheVariants as k
 use Rattle.setl_tree.specs.declared.expr.BinaryOp.{BinaryOp}
 use Rattle.setl_tree.specs.declared.expr.Expr.{Expr}
@@ -11,9 +11,9 @@ use Rattle.setl_tree.specs.declared.stmt.Branch.{Branch, roll-Branch, fold-Branc
 use Rattle.setl_tree.specs.declared.stmt.Stmt.{Stmt, roll-Stmt, fold-roll-Stmt}
 use Rattle.setl_tree.specs.declared.stmt.StmtKind.{StmtKind, fold-StmtKind, fold-roll-StmtKind}
 use Rattle.setl_tree.specs.declared.stmt.StmtKind.TheVariants as st
-use Rattle.setl_tree.specs.declared.stmt.StmtKind.TheOpen.{StmtKind-F, Branch-F, Stmt-F}
-use Rattle.setl_tree.specs.Tokens.{Token, Tokens}
-use Rattle.setl_tree.specs.Canonical.{sign_at, sign, name_at, with_commas, all_of, op_kind, from_kind, place_tokens, expr_tokens, iter_tokens, in_round, elseif_tokens, else_tokens, ending_tokens, bar_tokens, result_tokens, single, slots_tokens, kind_step, branch_step, stmt_step, stmt_tokens}
+use Rattle.setl_tree.specs.declared.stmt.StmtKind.TheOpen.{StmtKind-F}
+use Rattle.setl_tree.specs.Tokens.{Tokens}
+use Rattle.setl_tree.specs.Canonical.{sign_at, sign, name_at, with_commas, all_of, op_kind, from_kind, place_tokens, expr_tokens, iter_tokens, in_round, elseif_tokens, ending_tokens, bar_tokens, result_tokens, single, slots_tokens, kind_step, branch_step, stmt_step, stmt_tokens}
 
 abbrev pub kind_tokens : StmtKind → ℕ → Tokens
 kind_tokens = fold-StmtKind (ℕ → Tokens) Tokens Tokens kind_step branch_step stmt_step

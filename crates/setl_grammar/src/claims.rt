@@ -17,5 +17,4 @@ pub fn tree_is_unique()
 /// The canonical tokens of a tree that some tokens derive, derive that tree, with the lines that it has.
 pub fn canonical_tokens_derive()
     ensures { CanonicalTokensDerive }
-{
-}
+{}
