@@ -4,6 +4,7 @@ use Rattle.setl_tree.specs.declared.tree.Tree.{Tree}
 use Rattle.setl_tree.specs.Tokens.{Tokens}
 use Rattle.setl_tree.specs.Programs as grammar
 use Rattle.setl_tree.specs.Programs.{Derives}
+use Rattle.setl_tree.specs.Canonical.{canonical}
 use Rattle.setl_grammar.specs.ReadPrograms as reading
 
 -- a tree that is read to the end of the tokens is one that they derive with so many nestings
@@ -21,3 +22,7 @@ NestingsMayBeMore = (room more : ℕ) (toks : Tokens) (tree : Tree) → room ≤
 -- tokens derive at most one tree, however many nestings there are
 abbrev pub TreeIsUnique : Type 0
 TreeIsUnique = (toks : Tokens) (one two : Tree) → Derives toks one → Derives toks two → one ≡ two
+
+-- the canonical tokens of a tree that some tokens derive, derive that tree
+abbrev pub CanonicalTokensDerive : Type 0
+CanonicalTokensDerive = (toks : Tokens) (tree : Tree) → Derives toks tree → Derives (canonical tree) tree

@@ -1,6 +1,6 @@
 //! The laws between reading and the grammar.
 
-ghost use Rattle.setl_grammar.specs.Claims.{ReadingIsSound, ReadingIsComplete, NestingsMayBeMore, TreeIsUnique};
+ghost use Rattle.setl_grammar.specs.Claims.{ReadingIsSound, ReadingIsComplete, NestingsMayBeMore, TreeIsUnique, CanonicalTokensDerive};
 
 /// Reading finds a program's tree exactly where the tokens derive it with as many nestings as may open.
 pub fn reading_meets_grammar()
@@ -12,4 +12,9 @@ pub fn reading_meets_grammar()
 pub fn tree_is_unique()
     ensures more { NestingsMayBeMore }
     ensures unique { TreeIsUnique }
+{}
+
+/// The canonical tokens of a tree that some tokens derive, derive that tree, with the lines that it has.
+pub fn canonical_tokens_derive()
+    ensures { CanonicalTokensDerive }
 {}

@@ -7,3 +7,4 @@ pub mod Expressions
 pub mod Statements
 pub mod Modes
 pub mod Programs
+pub mod Canonical
