@@ -1,5 +1,5 @@
 -- The canonical order of data: by kinds, and inside a kind by its own order. It is this project's choice.
-use Rattle.std.specs.Prelude.{◌≡◌, ℕ, pos, negsuc, Bool, false, List, [], ◌∷◌, Some, None, refl}
+use Rattle.std.specs.Prelude.{◌≡◌, ℕ, pos, negsuc, false, List, [], ◌∷◌, Some, None, refl}
 use Rattle.std.specs.declared.cmp.Ordering.{Ordering}
 use Rattle.std.specs.declared.cmp.Ordering.TheVariants.{Less, Equal, Greater}
 use Rattle.std.specs.Ordering.{ordering_then, nat_cmp, int_cmp, bool_cmp}

@@ -15,7 +15,8 @@ use std::test::Fail;
 // {v}
 fn single(alloc: Global, v: Value) -> Result<SetBody, Memory>
     requires { depth (datum v) < 500 }
-    ensures { IfOk result (λ s. depth (set_of (Members s)) ≡ depth (datum v) + 1) }
+    ensures member { IfOk result (λ s. Members s ≡ datum v ∷ []) }
+    ensures deep { IfOk result (λ s. depth (set_of (Members s)) ≡ depth (datum v) + 1) }
 {
     let mut s = SetBody::new(alloc)?;
     s.put_at(alloc, 0, v)?;
@@ -152,32 +153,52 @@ fn values_are_keys_of_maps(rt: HostRuntime) -> Result<(), Fail> {
     Ok(())
 }
 
+fn compared_towers(alloc: Global, height: u32, other: u32) -> Result<Ordering, Memory>
+    requires both { (height ≤ 500) × (other ≤ 500) }
+{
+    Ok(tower(alloc, height)?.compare(&tower(alloc, other)?))
+}
+
+// Whether a copy of a tower is equal to it, and its depth.
+fn copied_tower(alloc: Global) -> Result<(bool, u32), Memory> {
+    let v = tower(alloc, 500)?;
+    let w = v.copy()?;
+    Ok((v == w, w.depth()))
+}
+
+// What is kept under a tower of 500, looked up by one of this height.
+fn kept_by_tower(alloc: Global, height: u32) -> Result<Option<u8>, Memory>
+    requires { height ≤ 500 }
+{
+    let mut keys = HashMap::new(alloc);
+    keys.insert(tower(alloc, 500)?, 1)?;
+    Ok(keys.get(&tower(alloc, height)?).copied())
+}
+
 #[test]
 fn values_of_depth_500_are_built_compared_copied_hashed_and_dropped(
     rt: HostRuntime,
 ) -> Result<(), Fail> {
     let alloc = rt.alloc();
-    let a = tower(alloc, 500)?;
-    let b = tower(alloc, 500)?;
-    let c = tower(alloc, 499)?;
-    assert_eq!(rt; a.depth(), 500);
-    assert_eq!(rt; a.compare(&b), Ordering::Equal);
-    assert_eq!(rt; c.compare(&a), Ordering::Less);
-    assert!(rt; a.copy()? == b);
-    let mut keys = HashMap::new(alloc);
-    keys.insert(a, 1)?;
-    assert_eq!(rt; keys.get(&b).copied(), Some(1));
-    assert_eq!(rt; keys.get(&c).copied(), None);
+    assert_eq!(rt; compared_towers(alloc, 500, 500)?, Ordering::Equal);
+    assert_eq!(rt; compared_towers(alloc, 499, 500)?, Ordering::Less);
+    assert_eq!(rt; copied_tower(alloc)?, (true, 500));
+    assert_eq!(rt; kept_by_tower(alloc, 500)?, Some(1));
+    assert_eq!(rt; kept_by_tower(alloc, 499)?, None);
     Ok(())
+}
+
+// Whether a copy of [1 {2}] is equal to it, and its depth.
+fn copied_tuple(alloc: Global) -> Result<(bool, u32), Memory> {
+    let set = Value::Set(single(alloc, Value::Int(2))?);
+    let v = Value::Tuple(two_parts(alloc, Value::Int(1), set)?);
+    let w = v.copy()?;
+    Ok((v == w, w.depth()))
 }
 
 #[test]
 fn a_copy_of_the_tuple_of_1_and_the_set_of_2_is_equal(rt: HostRuntime) -> Result<(), Fail> {
-    let alloc = rt.alloc();
-    let set = Value::Set(single(alloc, Value::Int(2))?);
-    let v = Value::Tuple(two_parts(alloc, Value::Int(1), set)?);
-    assert!(rt; v.copy()? == v);
-    assert_eq!(rt; v.depth(), 2);
+    assert_eq!(rt; copied_tuple(rt.alloc())?, (true, 2));
     Ok(())
 }
 
@@ -195,57 +216,88 @@ fn int_of(v: Option<&Value>) -> Option<i128> {
     }
 }
 
+// The length of {1}, its member, which is then taken out, and the length without it.
+fn gained_and_lost(alloc: Global) -> Result<(usize, Option<i128>, usize), Memory> {
+    let mut s = single(alloc, Value::Int(1))?;
+    let len = s.len();
+    let v = s.cut_at(0)?;
+    Ok((len, int_of(Some(&v)), s.len()))
+}
+
 #[test]
 fn a_set_gains_a_member_and_loses_it(rt: HostRuntime) -> Result<(), Fail> {
-    let mut s = single(rt.alloc(), Value::Int(1))?;
-    assert_eq!(rt; s.len(), 1);
-    assert_eq!(rt; int_of(Some(s.at(0))), Some(1));
-    let v = s.cut_at(0)?;
-    assert_eq!(rt; int_of(Some(&v)), Some(1));
-    assert_eq!(rt; s.len(), 0);
+    assert_eq!(rt; gained_and_lost(rt.alloc())?, (1, Some(1), 0));
     Ok(())
+}
+
+// What three calls of `next` give of the members of {1 2}.
+fn three_members(alloc: Global) -> Result<(Option<i128>, Option<i128>, Option<i128>), Memory> {
+    let s = one_and_two(alloc)?;
+    let mut members = s.members();
+    Ok((
+        int_of(members.next()),
+        int_of(members.next()),
+        int_of(members.next()),
+    ))
 }
 
 #[test]
 fn members_come_in_rising_order(rt: HostRuntime) -> Result<(), Fail> {
-    let s = one_and_two(rt.alloc())?;
-    let mut members = s.members();
-    assert_eq!(rt; int_of(members.next()), Some(1));
-    assert_eq!(rt; int_of(members.next()), Some(2));
-    assert_eq!(rt; int_of(members.next()), None);
+    assert_eq!(rt; three_members(rt.alloc())?, (Some(1), Some(2), None));
     Ok(())
+}
+
+// [1 om] as it is made, without the `om` at its end
+fn trimmed(alloc: Global) -> Result<TupleBody, Memory>
+    ensures { IfOk result (λ t. t ≡ Some (int (pos 1)) ∷ []) }
+{
+    let mut parts = Vec::new(alloc);
+    parts.push(Some(Value::Int(1)))?;
+    parts.push(None)?;
+    TupleBody::of(alloc, parts)
+}
+
+// The first and the last component of [1 5], which are then taken off, and the length without them.
+fn cut_at_both_ends(alloc: Global) -> Result<(Option<i128>, Option<i128>, usize), Memory> {
+    let mut t = trimmed(alloc)?;
+    t.put_at(1, Some(Value::Int(5)))?;
+    let first = t.cut_front()?;
+    let last = t.cut_back()?;
+    Ok((int_of(first.as_ref()), int_of(last.as_ref()), t.len()))
 }
 
 #[test]
 fn a_tuple_drops_om_and_changes_at_both_ends(rt: HostRuntime) -> Result<(), Fail> {
     let alloc = rt.alloc();
-    let mut parts = Vec::new(alloc);
-    parts.push(Some(Value::Int(1)))?;
-    parts.push(None)?;
-    let mut t = TupleBody::of(alloc, parts)?;
-    assert_eq!(rt; t.len(), 1);
-    t.put_at(1, Some(Value::Int(5)))?;
-    assert_eq!(rt; t.len(), 2);
-    assert_eq!(rt; int_of(t.at(0)), Some(1));
-    assert_eq!(rt; int_of(t.at(1)), Some(5));
-    assert_eq!(rt; int_of(t.cut_front()?.as_ref()), Some(1));
-    assert_eq!(rt; int_of(t.cut_back()?.as_ref()), Some(5));
-    assert_eq!(rt; t.len(), 0);
+    let t = trimmed(alloc)?;
+    assert_eq!(rt;
+        (t.len(), int_of(t.at(0)), int_of(t.at(1))),
+        (1, Some(1), None)
+    );
+    assert_eq!(rt; cut_at_both_ends(alloc)?, (Some(1), Some(5), 0));
     Ok(())
+}
+
+// The lengths of a set that lost a member, and of a copy of it that was made before.
+fn set_beside_copy(alloc: Global) -> Result<(usize, usize), Memory> {
+    let mut s = one_and_two(alloc)?;
+    let copy = s.copy()?;
+    let _one = s.cut_at(0)?;
+    Ok((s.len(), copy.len()))
+}
+
+// The first component of a tuple after it changed, and that of a copy of it that was made before.
+fn tuple_beside_copy(alloc: Global) -> Result<(Option<i128>, Option<i128>), Memory> {
+    let mut t = one_part(alloc, Value::Int(1))?;
+    let copy = t.copy()?;
+    t.put_at(0, Some(Value::Int(3)))?;
+    Ok((int_of(t.at(0)), int_of(copy.at(0))))
 }
 
 #[test]
 fn a_copy_stays_while_the_body_changes(rt: HostRuntime) -> Result<(), Fail> {
     let alloc = rt.alloc();
-    let mut s = one_and_two(alloc)?;
-    let t = s.copy()?;
-    let _one = s.cut_at(0)?;
-    assert_eq!(rt; (s.len(), t.len()), (1, 2));
-    assert_eq!(rt; int_of(Some(t.at(0))), Some(1));
-    let mut p = one_part(alloc, Value::Int(1))?;
-    let q = p.copy()?;
-    p.put_at(0, Some(Value::Int(3)))?;
-    assert_eq!(rt; int_of(p.at(0)), Some(3));
-    assert_eq!(rt; int_of(q.at(0)), Some(1));
+    assert_eq!(rt; set_beside_copy(alloc)?, (1, 2));
+    assert_eq!(rt; tuple_beside_copy(alloc)?, (Some(3), Some(1)));
     Ok(())
 }
