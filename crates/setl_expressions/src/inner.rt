@@ -1,11 +1,10 @@
 //! What stands inside braces and brackets.
 
 ghost use Rattle.std.specs.Prelude.{◌≡◌, ◌-◌, ◌∷◌, [], IfOk};
-ghost use Rattle.setl_tree.specs.declared.kind.Kind.TheVariants as k;
-ghost use Rattle.setl_grammar.specs.Reading as reading;
-ghost use Rattle.setl_grammar.specs.Reading.{Reads, expect, pure, ◌>>=◌, ◌>>◌};
+ghost use Rattle.setl_grammar.specs.Reading.{Reads};
 ghost use Rattle.setl_grammar.specs.ReadExpressions as spec;
 ghost use Rattle.setl_grammar.specs.ReadExpressions.{nested};
+ghost use Rattle.setl_expressions.specs.Behind as behind;
 ghost use Rattle.setl_expressions.specs.Nests.{Nests};
 ghost use Rattle.setl_grammar.specs.Scan.{bound_expr};
 
@@ -154,7 +153,7 @@ impl<F: Fn(&mut Cursor<'_>, usize, Part) -> Result<Expr, Fault>> Grammar<F> {
     /// `.. last` behind `first, second`.
     fn steps_to(&self, first: Expr, second: Expr, tokens: &mut Cursor<'_>) -> Result<Inner, Fault>
         requires { Nests self.now.room (F.pre self.now.inside) (F.post self.now.inside) }
-        ensures { Reads ((expect k.Dots >> ((nested self.now.room).expr >>= (λ last. pure (Inner.Range first (Some second) last)))) tokens.old) result tokens.new }
+        ensures { Reads (behind.steps_to (nested self.now.room) first second tokens.old) result tokens.new }
     {
         tokens.expect(Kind::Dots)?;
         let last = self.boxed(tokens)?;
@@ -164,7 +163,7 @@ impl<F: Fn(&mut Cursor<'_>, usize, Part) -> Result<Expr, Fault>> Grammar<F> {
     /// More expressions behind `first, second`.
     fn goes_on(&self, first: Expr, second: Expr, tokens: &mut Cursor<'_>) -> Result<Inner, Fault>
         requires { Nests self.now.room (F.pre self.now.inside) (F.post self.now.inside) }
-        ensures { Reads ((reading.more (nested self.now.room).expr >>= (λ others. pure (Inner.List (first ∷ second ∷ others)))) tokens.old) result tokens.new }
+        ensures { Reads (behind.goes_on (nested self.now.room) first second tokens.old) result tokens.new }
     {
         let others = more(&ExprRule { grammar: self }, tokens)?;
         Ok(list_of(tokens.alloc(), first, second, others)?)
