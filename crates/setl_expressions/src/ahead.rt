@@ -57,7 +57,7 @@ fn slots_ahead(tokens: &Cursor<'_>) -> Ahead
 {
     let left = tokens.left();
     let mut at = 1;
-    while left.saturating_sub(at) > 1 {
+    'slots: while left.saturating_sub(at) > 1 {
         let first = tokens.kind_behind(at);
         let end = tokens.kind_behind(at + 1);
         if same_kind(first, Kind::Minus) {
