@@ -1,0 +1,7 @@
+pub mod Words
+pub mod Plain
+pub mod Undoubled
+pub mod Clean
+pub mod Slots
+pub mod Turns
+pub mod Deeper

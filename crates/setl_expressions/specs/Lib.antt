@@ -1,0 +1,4 @@
+pub mod Spellings
+pub mod Plain
+pub mod Nests
+pub mod Behind
