@@ -163,6 +163,7 @@ impl Repeated for VarRule {
 }
 
 /// Lists, one behind the other.
+#[tactic(auto, using(crate::proofs::Lists::joined_more))]
 fn joined(alloc: Global, lists: Items<Items<Declared>>) -> Result<Items<Declared>, AllocError>
     ensures { IfOk result (λ all. all ≡ grammar.joined lists) }
 {

@@ -4,7 +4,7 @@ ghost use Rattle.std.specs.Prelude.{◌≡◌, IfOk, IfErr, Ok, Err, [], ◌∷�
 ghost use Rattle.setl_tree.specs.Operators as table;
 ghost use Rattle.setl_tree.specs.Statements as grammar;
 ghost use Rattle.setl_tree.specs.Tokens.{Token};
-ghost use Rattle.setl_grammar.specs.Reading.{Reads};
+ghost use Rattle.setl_grammar.specs.Reading.{Reads, begins_as};
 ghost use Rattle.setl_grammar.specs.ReadStatements as spec;
 
 use setl_expressions::{Cursor, NestedExpr, Repeated, Rule, begins_selector, braces, expr, listed, many, pattern, same_kind, separated, with_first};
@@ -59,6 +59,14 @@ fn simple(kind: Kind) -> Option<StmtKind>
         Kind::Pass => Some(StmtKind::Pass),
         _ => None,
     }
+}
+
+/// Whether a token of this kind is a statement of one word.
+#[tactic(auto, unfolding(setl_tree::specs::Statements::simple))]
+fn is_simple(kind: Kind) -> bool
+    ensures { result ≡ begins_as grammar.simple kind }
+{
+    matches!(kind, Kind::Quit | Kind::Continue | Kind::Fail | Kind::Stop | Kind::Pass)
 }
 
 /// Reads `end`, maybe this word, and `;`.
@@ -348,10 +356,11 @@ pub fn read_stmt(room: usize, tokens: &mut Cursor<'_>) -> Result<StmtKind, Fault
 pub fn simple_stmt(room: usize, tokens: &mut Cursor<'_>) -> Result<StmtKind, Fault>
     ensures { Reads (spec.simple_stmt room tokens.old) result tokens.new }
 {
-    let Some(word) = simple(tokens.kind()) else {
+    let word = tokens.kind();
+    if !is_simple(word) {
         return Err(tokens.refuse());
-    };
+    }
     tokens.pass();
     tokens.expect(Kind::Semicolon)?;
-    Ok(word)
+    simple(word).ok_or(tokens.refuse())
 }
