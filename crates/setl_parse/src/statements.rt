@@ -6,6 +6,7 @@ ghost use Rattle.setl_tree.specs.Statements as grammar;
 ghost use Rattle.setl_tree.specs.Tokens.{Token};
 ghost use Rattle.setl_grammar.specs.Reading.{Reads, begins_as};
 ghost use Rattle.setl_grammar.specs.ReadStatements as spec;
+ghost use Rattle.setl_parse.specs.Parts as parts;
 
 use setl_expressions::{Cursor, NestedExpr, Repeated, Rule, begins_selector, braces, expr, listed, many, pattern, same_kind, separated, with_first};
 use setl_grammar::Fault;
@@ -83,6 +84,14 @@ pub fn ending(word: Kind, tokens: &mut Cursor<'_>) -> Result<(), Fault>
     Ok(())
 }
 
+/// What was read, behind which a token of this kind stands.
+pub fn followed<T: Drop>(head: T, kind: Kind, tokens: &mut Cursor<'_>) -> Result<T, Fault>
+    ensures { Reads (parts.followed head kind tokens.old) result tokens.new }
+{
+    tokens.expect(kind)?;
+    Ok(head)
+}
+
 /// Expressions in the round brackets of a place.
 #[tactic(auto, unfolding(setl_grammar::specs::ReadStatements::place_round))]
 fn place_round(room: usize, tokens: &mut Cursor<'_>) -> Result<Selector, Fault>
@@ -144,8 +153,7 @@ fn assigned(room: usize, place: Place, tokens: &mut Cursor<'_>) -> Result<StmtKi
     ensures { Reads (spec.assigned room place tokens.old) result tokens.new }
 {
     tokens.expect(Kind::Assign)?;
-    let value = expr(room, tokens)?;
-    tokens.expect(Kind::Semicolon)?;
+    let value = followed(expr(room, tokens)?, Kind::Semicolon, tokens)?;
     Ok(StmtKind::Assign(place, value))
 }
 
@@ -159,8 +167,7 @@ fn updated(room: usize, place: Place, tokens: &mut Cursor<'_>) -> Result<StmtKin
     };
     tokens.pass();
     tokens.expect(Kind::Assign)?;
-    let value = expr(room, tokens)?;
-    tokens.expect(Kind::Semicolon)?;
+    let value = followed(expr(room, tokens)?, Kind::Semicolon, tokens)?;
     Ok(StmtKind::Update(place, op, value))
 }
 
@@ -277,8 +284,7 @@ pub fn tuple_assign(room: usize, tokens: &mut Cursor<'_>) -> Result<StmtKind, Fa
 {
     let slots = pattern(room, tokens)?;
     tokens.expect(Kind::Assign)?;
-    let value = expr(room, tokens)?;
-    tokens.expect(Kind::Semicolon)?;
+    let value = followed(expr(room, tokens)?, Kind::Semicolon, tokens)?;
     Ok(StmtKind::TupleAssign(slots, value))
 }
 
@@ -292,8 +298,7 @@ pub fn return_stmt(room: usize, tokens: &mut Cursor<'_>) -> Result<StmtKind, Fau
         tokens.expect(Kind::Semicolon)?;
         return Ok(StmtKind::Return(None));
     }
-    let value = expr(room, tokens)?;
-    tokens.expect(Kind::Semicolon)?;
+    let value = followed(expr(room, tokens)?, Kind::Semicolon, tokens)?;
     Ok(StmtKind::Return(Some(value)))
 }
 
