@@ -7,8 +7,12 @@ ghost use Rattle.setl_grammar.specs.ReadStatements.{nested_stmts};
 ghost use Rattle.setl_parse.specs.Nests.{NestsStmts};
 ghost use Rattle.setl_parse.specs.Parts as parts;
 
-use crate::statements::{behind_name, ending, followed, print_stmt, read_stmt, return_stmt, simple_stmt, tuple_assign};
-use setl_expressions::{Condition, Cursor, Repeated, Rule, iters, many, nested_expr, optional, same_kind};
+use crate::statements::{
+    behind_name, ending, followed, print_stmt, read_stmt, return_stmt, simple_stmt, tuple_assign,
+};
+use setl_expressions::{
+    Condition, Cursor, Repeated, Rule, iters, many, nested_expr, optional, same_kind,
+};
 use setl_grammar::Fault;
 use setl_tree::{Branch, Items, Kind, Stmt, StmtKind};
 
@@ -65,7 +69,8 @@ impl<'s, G: Fn(&mut Cursor<'_>, usize) -> Result<Items<Stmt>, Fault>> Rule for E
     }
 }
 
-impl<'s, G: Fn(&mut Cursor<'_>, usize) -> Result<Items<Stmt>, Fault>> Repeated for ElseifRule<'s, G> {
+impl<'s, G: Fn(&mut Cursor<'_>, usize) -> Result<Items<Stmt>, Fault>> Repeated
+    for ElseifRule<'s, G> {
     ghost use Rattle.setl_tree.specs.declared.kind.Kind.TheVariants as k;
     ghost use Rattle.setl_grammar.specs.Reading.{is};
 
@@ -163,7 +168,12 @@ impl<G: Fn(&mut Cursor<'_>, usize) -> Result<Items<Stmt>, Fault>> Statements<G> 
     }
 
     /// The head of a loop, and its statements up to its end.
-    fn looping<T: Drop>(&self, head: T, word: Kind, tokens: &mut Cursor<'_>) -> Result<(T, Items<Stmt>), Fault>
+    fn looping<T: Drop>(
+        &self,
+        head: T,
+        word: Kind,
+        tokens: &mut Cursor<'_>,
+    ) -> Result<(T, Items<Stmt>), Fault>
         requires { NestsStmts self.now.room (G.pre self.now.deep) (G.post self.now.deep) }
         ensures { Reads (parts.looping head word (nested_stmts self.now.room) tokens.old) result tokens.new }
     {
@@ -185,7 +195,11 @@ impl<G: Fn(&mut Cursor<'_>, usize) -> Result<Items<Stmt>, Fault>> Statements<G> 
 
     /// The first branch of a conditional statement, and what stands behind it.
     #[tactic(auto, unfolding(setl_grammar::specs::ReadStatements::elseifs, setl_grammar::specs::ReadStatements::else_part))]
-    fn branching<T: Drop>(&self, first: T, tokens: &mut Cursor<'_>) -> Result<(T, Items<Branch>, Option<Items<Stmt>>), Fault>
+    fn branching<T: Drop>(
+        &self,
+        first: T,
+        tokens: &mut Cursor<'_>,
+    ) -> Result<(T, Items<Branch>, Option<Items<Stmt>>), Fault>
         requires { NestsStmts self.now.room (G.pre self.now.deep) (G.post self.now.deep) }
         ensures { Reads (parts.branching first self.now.room (nested_stmts self.now.room) tokens.old) result tokens.new }
     {

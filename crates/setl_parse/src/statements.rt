@@ -8,7 +8,10 @@ ghost use Rattle.setl_grammar.specs.Reading.{Reads, begins_as};
 ghost use Rattle.setl_grammar.specs.ReadStatements as spec;
 ghost use Rattle.setl_parse.specs.Parts as parts;
 
-use setl_expressions::{Cursor, NestedExpr, Repeated, Rule, begins_selector, braces, expr, listed, many, pattern, same_kind, separated, with_first};
+use setl_expressions::{
+    Cursor, NestedExpr, Repeated, Rule, begins_selector, braces, expr, listed, many, pattern,
+    same_kind, separated, with_first,
+};
 use setl_grammar::Fault;
 use setl_tree::{BinaryOp, Expr, FromEnd, Items, Kind, Place, Selector, StmtKind, Text};
 
@@ -67,7 +70,10 @@ fn simple(kind: Kind) -> Option<StmtKind>
 fn is_simple(kind: Kind) -> bool
     ensures { result ≡ begins_as grammar.simple kind }
 {
-    matches!(kind, Kind::Quit | Kind::Continue | Kind::Fail | Kind::Stop | Kind::Pass)
+    matches!(
+        kind,
+        Kind::Quit | Kind::Continue | Kind::Fail | Kind::Stop | Kind::Pass
+    )
 }
 
 /// Reads `end`, maybe this word, and `;`.
@@ -184,7 +190,12 @@ fn stored(room: usize, place: Place, tokens: &mut Cursor<'_>) -> Result<StmtKind
 
 /// What stands behind the first selector of a place.
 #[tactic(auto, unfolding(setl_grammar::specs::ReadStatements::selected_place, setl_grammar::specs::ReadStatements::place_selectors))]
-fn selected_place(room: usize, name: Text, first: Selector, tokens: &mut Cursor<'_>) -> Result<StmtKind, Fault>
+fn selected_place(
+    room: usize,
+    name: Text,
+    first: Selector,
+    tokens: &mut Cursor<'_>,
+) -> Result<StmtKind, Fault>
     ensures { Reads (spec.selected_place room name first tokens.old) result tokens.new }
 {
     let others = many(&PlaceSelector { room }, tokens)?;
@@ -194,7 +205,12 @@ fn selected_place(room: usize, name: Text, first: Selector, tokens: &mut Cursor<
 
 /// What stands behind `name(x, ..)`.
 #[tactic(auto, unfolding(setl_grammar::specs::ReadStatements::after_arguments))]
-fn after_arguments(room: usize, name: Text, all: Items<Expr>, tokens: &mut Cursor<'_>) -> Result<StmtKind, Fault>
+fn after_arguments(
+    room: usize,
+    name: Text,
+    all: Items<Expr>,
+    tokens: &mut Cursor<'_>,
+) -> Result<StmtKind, Fault>
     ensures { Reads (spec.after_arguments room name all tokens.old) result tokens.new }
 {
     if same_kind(tokens.kind(), Kind::Semicolon) {
