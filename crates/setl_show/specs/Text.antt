@@ -1,17 +1,13 @@
 -- The bytes of tokens.
-use Rattle.std.specs.Prelude.{ℕ, ℤ, ◌==◌, if◌then◌else◌, List, [], ◌∷◌, ◌++◌, fold}
+use Rattle.std.specs.Prelude.{ℕ, ℤ, List, [], ◌∷◌, ◌++◌, fold}
 use Rattle.std.specs.Fmt.{signed_decimal}
 use Rattle.setl_tree.specs.declared.kind.Kind.{Kind}
 use Rattle.setl_tree.specs.declared.kind.Kind.TheVariants as k
 use Rattle.setl_tree.specs.Tokens.{Token, Tokens}
+use Rattle.setl_token.specs.Form.{doubled}
 use Rattle.setl_show.specs.Spelling.{spelling}
 
--- bytes with each apostrophe doubled
-abbrev pub doubled : List ℕ → List ℕ
-doubled [] = []
-doubled (b ∷ body) = if b == 39 then 39 ∷ 39 ∷ doubled body else b ∷ doubled body
-
--- between apostrophes
+-- between apostrophes, with each apostrophe doubled
 abbrev pub quoted : List ℕ → List ℕ
 quoted text = 39 ∷ (doubled text ++ 39 ∷ [])
 

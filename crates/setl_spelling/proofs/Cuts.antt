@@ -1,0 +1,1 @@
+-- The text of tokens is cut into them.

@@ -1,0 +1,13 @@
+//! Laws between texts and tokens. The functions do nothing: what they ensure is the law.
+
+ghost use Rattle.setl_spelling.specs.Claims.{TextIsSpelled};
+
+use setl_token::{blank_ends_token, piece_at_is_longest};
+
+/// The text of tokens that bytes can spell is spelled as these tokens.
+pub fn text_is_spelled()
+    ensures { TextIsSpelled }
+{
+    blank_ends_token();
+    piece_at_is_longest();
+}
