@@ -1,5 +1,5 @@
 -- The bytes of a token are of its form.
-use Rattle.std.proofs.Common.{◌≡◌, ◌≢◌, ℕ, ℤ, zero, suc, ◌+◌, ◌*◌, ◌-◌, ◌/◌, ◌%◌, ◌<◌, ◌≤◌, ◌^◌, pos, Bool, true, false, ◌&&◌, leb, List, [], ◌∷◌, ◌++◌, length, get_or, Contains, refl, sym, ap, subst, ◌∙◌, arith, IsTrue}
+use Rattle.std.proofs.Common.{◌≡◌, ◌≢◌, ℕ, ℤ, zero, suc, ◌+◌, ◌*◌, ◌-◌, ◌/◌, ◌%◌, ◌<◌, ◌≤◌, ◌^◌, pos, Bool, true, false, ◌&&◌, leb, List, [], ◌∷◌, ◌++◌, length, length-append, get_or, Contains, refl, sym, ap, subst, ◌∙◌, arith, IsTrue}
 use Rattle.std.proofs.lemmas.Bool.{leb-true}
 use Rattle.std.proofs.lemmas.Bool.Decides.{nat_tests}
 use Rattle.std.proofs.lemmas.Fmt.{decimal_by_steps_wide}
@@ -8,7 +8,7 @@ use Rattle.std.proofs.lemmas.Slice.Eq.{bytes_eq-Decides}
 use Rattle.std.proofs.lemmas.List.Folds.{list_all-append}
 use Rattle.std.proofs.lemmas.List.Sums.{fold-append}
 use Rattle.std.specs.Char.{is_ascii_digit, is_ascii_alphabetic}
-use Rattle.std.specs.Fmt.{decimal}
+use Rattle.std.specs.Fmt.{decimal, signed_decimal}
 use Rattle.std.specs.List.{list_all, list_any}
 use Rattle.std.specs.Str.{bytes_eq}
 use Rattle.setl_tree.specs.declared.kind.Kind.{Kind}
@@ -112,13 +112,13 @@ spelled_form k.Slash h value back = sign_form (spelling k.Slash) refl
 spelled_form k.Hash h value back = sign_form (spelling k.Hash) refl
 spelled_form kind h value back = word_form (spelling kind) refl refl refl refl
 
-pub spelled_reads : (kind : Kind) → IsSpelled kind → (value : ℤ) → value ≡ pos 0 → Reads (sort_of kind value) (spelling kind) kind [] value
+pub spelled_reads : (kind : Kind) → IsSpelled kind → (text : List ℕ) (value : ℤ) → text ≡ [] → value ≡ pos 0 → Reads (sort_of kind value) (spelling kind) kind text value
 unfolding sort_of spelling
-spelled_reads k.SourceEnd h value e = absurd h
-spelled_reads k.Name h value e = absurd h
-spelled_reads k.Number h value e = absurd h
-spelled_reads k.StringLiteral h value e = absurd h
-spelled_reads _ h value e = (h, refl, refl, e)
+spelled_reads k.SourceEnd h text value e v = absurd h
+spelled_reads k.Name h text value e v = absurd h
+spelled_reads k.Number h text value e v = absurd h
+spelled_reads k.StringLiteral h text value e v = absurd h
+spelled_reads _ h text value e v = (h, refl, e, v)
 
 -- ---- numbers
 
@@ -128,8 +128,44 @@ Decimal n ds = (0 < length ds) × (list_all is_ascii_digit ds ≡ true) × (valu
 one_digit : (n : ℕ) → n < 10 → Decimal n ((48 + n) ∷ [])
 one_digit n h = (omega arith, grind (arith, nat_tests), omega arith)
 
+is_digit : (d : ℕ) → d < 10 → is_ascii_digit (48 + d) ≡ true
+is_digit d h = grind (arith, nat_tests)
+
+last_digit : (n v : ℕ) → v ≡ n / 10 → with_digit v (48 + n % 10) ≡ n
+last_digit n v e = omega arith
+
 digit_more : (n : ℕ) (ds : List ℕ) → 10 ≤ n → Decimal (n / 10) ds → Decimal n (ds ++ ((48 + n % 10) ∷ []))
-digit_more n ds h d = ?
+digit_more n ds h d = (
+  omega (arith, length-append ds ((48 + n % 10) ∷ [])),
+  list_all-append is_ascii_digit ds ((48 + n % 10) ∷ []) ∙ rw (d.1, is_digit (n % 10) (omega arith)) refl,
+  fold-append with_digit 0 ds ((48 + n % 10) ∷ []) ∙ last_digit n (value_of ds) d.2,
+)
 
 pub decimal_is : (n : ℕ) → n ≤ limit → Decimal n (decimal n)
 decimal_is n h = decimal_by_steps_wide Decimal one_digit digit_more n (omega arith)
+
+abbrev NumberForm : List ℕ → ℤ → Type 0
+NumberForm back value = IsForm (piece.Token (is.Number value)) (signed_decimal value) back
+
+number_form : (value : ℤ) (b : ℕ) (back : List ℕ) → IsNumberValue value → is_blank b ≡ true → NumberForm (b ∷ back) value
+number_form value b back v e =
+    let d = decimal_is v.size v.within in
+    subst (NumberForm (b ∷ back)) (sym v.is) ((d.0, d.1, no_digit b e, omega (arith, d.2, v.within)), ap pos (sym d.2))
+
+-- ---- all tokens that bytes can spell
+
+pub form : (kind : Kind) (text : List ℕ) (value : ℤ) (b : ℕ) (back : List ℕ) → IsLegal kind text value → is_blank b ≡ true → IsForm (piece.Token (sort_of kind value)) (bytes_of kind text value) (b ∷ back)
+unfolding IsLegal sort_of bytes_of
+form k.SourceEnd text value b back h e = absurd h
+form k.Name text value b back h e = (h.0.form, λ c. h.0.free (subst (λ (z : List ℕ). Contains words z) h.0.low c))
+form k.Number text value b back h e = number_form value b back h.1 e
+form k.StringLiteral text value b back h e = record { body = text; text_is = refl; in_line = h.0; closed = no_apostrophe b e }
+form kind text value b back h e = spelled_form kind tt value (b ∷ back)
+
+pub reads : (kind : Kind) (text : List ℕ) (value : ℤ) → IsLegal kind text value → Reads (sort_of kind value) (bytes_of kind text value) kind text value
+unfolding IsLegal sort_of bytes_of
+reads k.SourceEnd text value h = absurd h
+reads k.Name text value h = (refl, sym h.0.low, h.1)
+reads k.Number text value h = (refl, h.0, refl)
+reads k.StringLiteral text value h = (refl, refl, h.1)
+reads kind text value h = spelled_reads kind tt text value h.0 h.1
