@@ -11,7 +11,7 @@ use Rattle.setl_token.specs.Form.{IsForm, IsLongest}
 use Rattle.setl_token.specs.Lex.{CutsInto, tokens_of}
 use Rattle.setl_token.specs.Pieces.{piece_at, piece}
 use Rattle.setl_show.specs.Text.{bytes_of, behind, text_of}
-use Rattle.setl_spelling.specs.Reading.{Reads, AreRead, AllLegal, IsSpelledAs}
+use Rattle.setl_spelling.specs.Reading.{Reads, AreRead, AllLegal, AreLegal, IsSpelledAs}
 use Rattle.setl_spelling.proofs.Forms.{sort_of, behind_blank, form, reads}
 
 -- a token that a blank follows is the longest at its place
@@ -66,9 +66,9 @@ are_read source front at (t ∷ toks) h a e =
       are_read source (front ++ (bytes t ++ b ∷ [])) (at + length (bytes t) + 1) toks h.1 len (e ∙ simp append_assoc),
     )
 
-pub text_spelled : BlankEnds → PieceAt → (toks : Tokens) → AllLegal toks → IsSpelledAs (text_of toks) toks
+pub text_spelled : BlankEnds → PieceAt → (toks : Tokens) → AreLegal toks → IsSpelledAs (text_of toks) toks
 text_spelled ends at toks h = record {
   lexemes = tokens_of (text_of toks) 0 (pieces_of toks);
-  spelled = record { pieces = pieces_of toks; all = cuts ends at toks h; among = refl };
-  read = are_read (text_of toks) [] 0 toks h refl refl;
+  spelled = record { pieces = pieces_of toks; all = cuts ends at toks h.all; among = refl };
+  read = are_read (text_of toks) [] 0 toks h.all refl refl;
 }

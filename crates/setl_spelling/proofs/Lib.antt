@@ -1,2 +1,6 @@
 pub mod Forms
 pub mod Cuts
+pub mod Legal
+pub mod LegalExpressions
+pub mod LegalStatements
+pub mod LegalPrograms

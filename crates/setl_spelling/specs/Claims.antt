@@ -5,11 +5,11 @@ use Rattle.setl_tree.specs.Tokens.{Tokens}
 use Rattle.setl_tree.specs.Programs.{Derives}
 use Rattle.setl_tree.specs.Canonical.{canonical}
 use Rattle.setl_show.specs.Text.{text_of}
-use Rattle.setl_spelling.specs.Reading.{IsSpelledAs, AllLegal}
+use Rattle.setl_spelling.specs.Reading.{IsSpelledAs, AreLegal}
 
 -- the text of tokens that bytes can spell is spelled as these tokens
 abbrev pub TextIsSpelled : Type 0
-TextIsSpelled = (toks : Tokens) → AllLegal toks → IsSpelledAs (text_of toks) toks
+TextIsSpelled = (toks : Tokens) → AreLegal toks → IsSpelledAs (text_of toks) toks
 
 -- where the tokens of some source derive a tree, its canonical text is spelled as its canonical tokens
 abbrev pub CanonicalTextIsSpelled : Type 0

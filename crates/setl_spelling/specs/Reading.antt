@@ -59,3 +59,7 @@ IsLegal _ text value = (text ≡ []) × (value ≡ pos 0)
 abbrev pub AllLegal : Tokens → Type 0
 AllLegal [] = Unit {0}
 AllLegal (t ∷ toks) = IsLegal t.kind t.text t.value × AllLegal toks
+
+-- tokens that some bytes read as
+pub record AreLegal (toks : Tokens) : Type 0 where
+  pub all : AllLegal toks
