@@ -4,3 +4,4 @@ pub mod Legal
 pub mod LegalExpressions
 pub mod LegalStatements
 pub mod LegalPrograms
+pub mod Sources

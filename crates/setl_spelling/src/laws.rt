@@ -1,6 +1,6 @@
 //! Laws between texts and tokens. The functions do nothing: what they ensure is the law.
 
-ghost use Rattle.setl_spelling.specs.Claims.{TextIsSpelled};
+ghost use Rattle.setl_spelling.specs.Claims.{TextIsSpelled, CanonicalTextIsSpelled};
 
 use setl_token::{blank_ends_token, piece_at_is_longest};
 
@@ -10,4 +10,12 @@ pub fn text_is_spelled()
 {
     blank_ends_token();
     piece_at_is_longest();
+}
+
+/// The canonical text of a tree that the tokens of some source derive is spelled as the canonical tokens of the tree,
+/// whatever their lines.
+pub fn canonical_text_is_spelled()
+    ensures { CanonicalTextIsSpelled }
+{
+    text_is_spelled();
 }

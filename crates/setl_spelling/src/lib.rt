@@ -1,6 +1,8 @@
-//! The law that the canonical text of a tree has the canonical tokens of the tree.
+//! The laws between the canonical text of a tree and its canonical tokens.
 #![tactic(auto)]
 
 mod laws;
+#[cfg(test)]
+mod tests;
 
-pub use laws::text_is_spelled;
+pub use laws::{canonical_text_is_spelled, text_is_spelled};
