@@ -1,5 +1,5 @@
 -- Bytes to which tokens are added one by one.
-use Rattle.std.proofs.Common.{◌≡◌, ℕ, List, [], ◌∷◌, ◌++◌, refl, sym, ◌∙◌, append_assoc}
+use Rattle.std.proofs.Common.{◌≡◌, ℕ, List, [], ◌∷◌, ◌++◌, sym, ◌∙◌, append_assoc}
 use Rattle.std.proofs.lemmas.List.{append-nil}
 use Rattle.setl_tree.specs.Tokens.{Tokens}
 use Rattle.setl_show.specs.Text.{text_of, with_tokens, put, bytes_of, behind}

@@ -5,3 +5,7 @@ pub mod LegalExpressions
 pub mod LegalStatements
 pub mod LegalPrograms
 pub mod Sources
+pub mod Moves
+pub mod MovesExpressions
+pub mod MovesStatements
+pub mod MovesPrograms

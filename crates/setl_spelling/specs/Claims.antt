@@ -14,3 +14,7 @@ TextIsSpelled = (toks : Tokens) → AreLegal toks → IsSpelledAs (text_of toks)
 -- where the tokens of some source derive a tree, its canonical text is spelled as its canonical tokens
 abbrev pub CanonicalTextIsSpelled : Type 0
 CanonicalTextIsSpelled = (source : List ℕ) (toks : Tokens) (tree : Tree) → IsSpelledAs source toks → Derives toks tree → IsSpelledAs (text_of (canonical tree)) (canonical tree)
+
+-- where the tokens of some source derive a tree, the tokens of its canonical text derive it, up to lines
+abbrev pub CanonicalTextDerives : Type 0
+CanonicalTextDerives = (source : List ℕ) (toks : Tokens) (tree : Tree) → IsSpelledAs source toks → Derives toks tree → (shown : Tokens) × IsSpelledAs (text_of (canonical tree)) shown × Derives shown tree

@@ -5,4 +5,4 @@ mod laws;
 #[cfg(test)]
 mod tests;
 
-pub use laws::{canonical_text_is_spelled, text_is_spelled};
+pub use laws::{canonical_text_derives_tree, canonical_text_is_spelled, text_is_spelled};

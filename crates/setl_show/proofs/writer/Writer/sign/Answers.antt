@@ -1,4 +1,4 @@
-use Rattle.std.proofs.Common.{◌≡◌, pos, [], ◌∙◌, sym}
+use Rattle.std.proofs.Common.{pos, [], ◌∙◌, sym}
 use Rattle.setl_show.proofs.Spelled.{spelled}
 use Rattle.setl_show.proofs.writer.Writer.sign.Goals as goal
 
