@@ -9,3 +9,4 @@ pub mod Moves
 pub mod MovesExpressions
 pub mod MovesStatements
 pub mod MovesPrograms
+pub mod Readings

@@ -22,6 +22,7 @@ use Rattle.setl_tree.specs.Modes as m
 use Rattle.setl_tree.specs.Modes.{attribute, simple_core}
 use Rattle.setl_tree.specs.Programs as g
 use Rattle.setl_tree.specs.Programs.{joined, name_behind, passing, Derives}
+use Rattle.setl_spelling.specs.Claims.{DerivesSame}
 use Rattle.setl_spelling.specs.Lines.{core_layer, mode_layer, bare_stmt, bare_mode, bare_declared, bare_line, bare_param, bare_proc, bare_tree, SameTree, SameTokens}
 use Rattle.setl_spelling.proofs.Moves.{Moves, Moved, Eq, any_two, EachTwo, MaybeTwo, maps_same, m_as, m_weak, m_pure, m_never, m_then, s_then, m_past, m_or, m_token, m_one_of, m_opening, m_name, m_many, m_optional, m_separated, m_listed, m_lined, s_many, s_optional, s_separated, s_listed}
 use Rattle.setl_spelling.proofs.MovesExpressions.{Stays}
@@ -229,11 +230,6 @@ unfolding g.program
 program_moves room = m_past (m_token k.Program) (s_then m_name (λ n. m_past (m_token k.Semicolon) (m_then (m_many var_moves) (λ vs ws hv. m_then (m_optional (repr_moves room)) (λ o p hm. m_then (stmts_move room) (λ xs ys hb. m_then (m_many (proc_moves room)) (λ ps qs hp. m_then (named_ending_moves (token k.Program) (m_weak (m_token k.Program))) (λ v w he.
     m_pure (tree_same (record { name = n; vars = joined vs; modes = unwrap_or o []; body = xs; procs = ps; end_name = v.1; end_line = v.0 }) (record { name = n; vars = joined ws; modes = unwrap_or p []; body = ys; procs = qs; end_name = w.1; end_line = w.0 }) refl (joined_same vs ws hv) (lines_or_none o p hm) hb hp he)))))))))
 
-pub record SameDerived (toks : Tokens) (tree : Tree) : Type 0 where
-  pub it : Tree
-  pub derived : Derives toks it
-  pub same : SameTree tree it
-
 -- tokens with other lines derive the same tree but for lines
-pub derives_moves : (toks other : Tokens) (tree : Tree) → SameTokens toks other → Derives toks tree → SameDerived other tree
+pub derives_moves : (toks other : Tokens) (tree : Tree) → SameTokens toks other → Derives toks tree → DerivesSame other tree
 derives_moves toks other tree h d = let r = (program_moves d.0).at toks other tree h d.1 in record { it = r.value; derived = (d.0, r.spelled); same = r.same }

@@ -1,3 +1,3 @@
 pub mod Reading
-pub mod Claims
 pub mod Lines
+pub mod Claims

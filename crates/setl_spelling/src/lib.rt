@@ -5,4 +5,7 @@ mod laws;
 #[cfg(test)]
 mod tests;
 
-pub use laws::{canonical_text_derives_tree, canonical_text_is_spelled, text_is_spelled};
+pub use laws::{
+    canonical_text_derives, canonical_text_is_spelled, lines_do_not_matter, spelling_is_determined,
+    text_is_spelled,
+};
