@@ -1,0 +1,12 @@
+pub mod Forms
+pub mod Cuts
+pub mod Legal
+pub mod LegalExpressions
+pub mod LegalStatements
+pub mod LegalPrograms
+pub mod Sources
+pub mod Moves
+pub mod MovesExpressions
+pub mod MovesStatements
+pub mod MovesPrograms
+pub mod Readings

@@ -1,0 +1,44 @@
+//! Laws between texts and tokens. The functions do nothing: what they ensure is the law.
+
+ghost use Rattle.setl_spelling.specs.Claims.{TextIsSpelled, SpellingIsDetermined, CanonicalTextIsSpelled, LinesDoNotMatter, CanonicalTextDerives};
+
+use setl_grammar::canonical_tokens_derive;
+use setl_token::{blank_ends_token, lexing_is_determined, piece_at_is_longest};
+
+/// The text of tokens that bytes can spell is spelled as these tokens.
+pub fn text_is_spelled()
+    ensures { TextIsSpelled }
+{
+    blank_ends_token();
+    piece_at_is_longest();
+}
+
+/// A source is spelled as one list of tokens, up to their lines.
+pub fn spelling_is_determined()
+    ensures { SpellingIsDetermined }
+{
+    lexing_is_determined();
+}
+
+/// The canonical text of a tree that the tokens of some source derive is spelled as the canonical tokens of the tree.
+pub fn canonical_text_is_spelled()
+    ensures { CanonicalTextIsSpelled }
+{
+    text_is_spelled();
+}
+
+/// Tokens that differ in their lines alone derive the same tree, up to lines.
+pub fn lines_do_not_matter()
+    ensures { LinesDoNotMatter }
+{}
+
+/// The tokens of the canonical text of a tree derive the tree, up to lines, for every tree that the tokens of some
+/// source derive.
+pub fn canonical_text_derives()
+    ensures { CanonicalTextDerives }
+{
+    canonical_tokens_derive();
+    canonical_text_is_spelled();
+    spelling_is_determined();
+    lines_do_not_matter();
+}
