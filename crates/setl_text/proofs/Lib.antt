@@ -4,3 +4,4 @@ pub mod Runs
 pub mod Fails
 pub mod Total
 pub mod Exact
+pub mod TextLists
