@@ -5,3 +5,5 @@ pub mod Fails
 pub mod Total
 pub mod Exact
 pub mod TextLists
+pub mod Shallow
+pub mod Rising

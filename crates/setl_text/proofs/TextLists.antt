@@ -20,7 +20,7 @@ module _ {A : Type 0} (f : A → List ℕ) where
   spaced_next : (xs : List A) (i : ℕ) (x : A) → slice_get xs i ≡ Some x → spaced (map f (take i xs)) ++ (blank_before i ++ f x) ≡ spaced (map f (take i xs) ++ f x ∷ [])
   spaced_next [] i x h = absurd (none i h)
     where
-    none : (i : ℕ) → slice_get {A = A} [] i ≡ Some x → ⊥
+    none : (i : ℕ) → slice_get {X = A} [] i ≡ Some x → ⊥
     none zero h = cc
     none (suc i) h = cc
   spaced_next (y ∷ xs) zero x h = refl
@@ -32,7 +32,7 @@ module _ {A : Type 0} (f : A → List ℕ) where
       more ∙ ap (λ l. l ++ f x) (gap ∙ ap (λ l. l ++ blank_before i) so_far)
       ∙ append_assoc (old ++ spaced (map f (take i xs))) (blank_before i) (f x)
       ∙ append_assoc old (spaced (map f (take i xs))) (blank_before i ++ f x)
-      ∙ ap (λ t. old ++ t) (spaced_next xs i x h ∙ ap spaced (sym (map-append f (take i xs) (x ∷ [])) ∙ ap (map f) (sym (take-next xs i x h) ∙ ap (λ k. take k xs) (sym (add-one {n = i})))))
+      ∙ ap (λ t. old ++ t) (spaced_next xs i x h ∙ ap spaced (sym (map-append f (take i xs) (x ∷ [])) ∙ ap (map f) (sym (take-next xs i x h) ∙ ap (λ k. take k xs) (sym (add-one i)))))
 
 -- a text between brackets
 pub enclosed_is : (old open_ inside close_ t u : List ℕ) (first last : ℕ) → open_ ≡ old ++ first ∷ [] → inside ≡ open_ ++ t → close_ ≡ inside ++ last ∷ [] → t ≡ u → close_ ≡ old ++ enclosed first u last
@@ -89,4 +89,4 @@ doubled_next bs old line new i h so_far more =
     let b = get_or bs i 0 in
     more ∙ ap (λ l. l ++ doubled (b ∷ [])) so_far
     ∙ append_assoc old (doubled (take i bs)) (doubled (b ∷ []))
-    ∙ ap (λ l. old ++ l) (sym (doubled-append (take i bs) (b ∷ [])) ∙ ap doubled (sym (take-next bs i b (get-next bs i h)) ∙ ap (λ k. take k bs) (sym (add-one {n = i}))))
+    ∙ ap (λ l. old ++ l) (sym (doubled-append (take i bs) (b ∷ [])) ∙ ap doubled (sym (take-next bs i b (get-next bs i h)) ∙ ap (λ k. take k bs) (sym (add-one i))))
