@@ -7,3 +7,4 @@ pub mod Exact
 pub mod TextLists
 pub mod Shallow
 pub mod Rising
+pub mod Going

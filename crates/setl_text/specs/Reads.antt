@@ -38,13 +38,18 @@ AnswersTold kept (Some left) kept' (Some left') result = Answered result (kept' 
 pub record Gave (kept : List ℕ) (left : Option (List ℕ)) (kept' : List ℕ) (left' : Option (List ℕ)) (result : Result Got ReadFault) : Type 0 where
   pub gave : List ℕ
   pub taken : Consumes left left' gave
-  pub answered : (more : List ℕ) → Answered result (kept' ++ more) (read_denotation (kept ++ gave ++ more))
+  pub answered : (more : List ℕ) → Answered result (kept' ++ more) (read_denotation (kept ++ (gave ++ more)))
+
+-- where the bytes left are told, these were all of them, and none is left
+abbrev pub GivesAll : Option (List ℕ) → Option (List ℕ) → List ℕ → Type 0
+GivesAll None left' gave = ⊤
+GivesAll (Some left) None gave = ⊥
+GivesAll (Some left) (Some left') gave = (left ≡ gave) × (left' ≡ [])
 
 -- Or it gave some bytes and then told its end, and the answer is that to the bytes kept followed by these alone.
 pub record GaveAll (kept : List ℕ) (left : Option (List ℕ)) (kept' : List ℕ) (left' : Option (List ℕ)) (result : Result Got ReadFault) : Type 0 where
   pub gave : List ℕ
-  pub taken : Consumes left left' gave
-  pub ended : IsAtEnd left'
+  pub taken : GivesAll left left' gave
   pub empty : kept' ≡ []
   pub answered : Answered result [] (read_denotation (kept ++ gave))
 

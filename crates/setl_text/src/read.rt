@@ -87,16 +87,20 @@ impl Reader {
         ensures answer { Answers self.old.kept (I.left input.old) self.new.kept (I.left input.new) result }
         ensures fault { self.new.fault ≡ self.old.fault }
         ensures source { SourceCounts (I.faults input.old) (I.faults input.new) result }
+        ensures later { I.faults input.old ≤ I.faults input.new }
     {
         let mut piece = Piece::Idle;
         let mut opened = Vec::new(self.alloc);
         'reads: for _ in 0..u64::MAX {
-            match self.scan_kept(piece, &mut opened)? {
-                Scanned::Found(v, _) => return Ok(got(v)),
-                Scanned::Onward(onward) => piece = onward,
+            match self.scan_kept(piece, &mut opened) {
+                Ok(Scanned::Found(v, _)) => return Ok(got(v)),
+                Ok(Scanned::Onward(onward)) => piece = onward,
+                Err(fault) => return Err(fault),
             }
-            if !self.fill(input)? {
-                return finish(self.alloc, piece, &mut opened);
+            match self.fill(input) {
+                Ok(true) => {}
+                Ok(false) => return finish(self.alloc, piece, &mut opened),
+                Err(fault) => return Err(fault),
             }
         }
         Err(ReadFault::NoMemory)
@@ -113,15 +117,16 @@ impl Reader {
         ensures scans { ScansKept self.old.kept self.new.kept (token_of piece) (opens opened.old.items) (opens opened.new.items) result }
         ensures fault { self.new.fault ≡ self.old.fault }
     {
-        match scan(self.alloc, &self.buffer[self.at..self.end], piece, opened)? {
-            Scanned::Found(v, n) => {
+        match scan(self.alloc, &self.buffer[self.at..self.end], piece, opened) {
+            Ok(Scanned::Found(v, n)) => {
                 self.at += n;
                 Ok(Scanned::Found(v, n))
             }
-            Scanned::Onward(onward) => {
+            Ok(Scanned::Onward(onward)) => {
                 self.at = self.end;
                 Ok(Scanned::Onward(onward))
             }
+            Err(fault) => Err(fault),
         }
     }
 
