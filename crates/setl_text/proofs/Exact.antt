@@ -38,9 +38,9 @@ read_total (b ∷ bs) =
     elim (cases_Bool (is_blank b)) [
       | inl e ↦ (let more = read_total bs in (more.0, behind_blank b bs e more.0 more.1))
       | inr e ↦ elim (cases_Bool (is_start b)) [
-          | inl start ↦ begun (b ∷ bs) (item_total 500 b bs start)
-          | inr none ↦ (NotForm, no_item b bs none e)
-        ]
+        | inl start ↦ begun (b ∷ bs) (item_total 500 b bs start)
+        | inr none ↦ (NotForm, no_item b bs none e)
+      ]
     ]
 
 pub reads_exactly : ReadsExactly

@@ -36,9 +36,9 @@ letters_fail b bs os never =
     elim (cases_Bool (eqb (lower b) 116)) [
       | inl t ↦ rw t (word_fails true (codes "rue") bs os low_rue (λ is. never true (ap (λ c. c ∷ map lower (front is_letter bs)) (eqb-true (lower b) 116 t) ∙ ap (λ l. 116 ∷ l) is)))
       | inr other ↦ elim (cases_Bool (eqb (lower b) 102)) [
-          | inl f ↦ rw (other, f) (word_fails false (codes "alse") bs os low_alse (λ is. never false (ap (λ c. c ∷ map lower (front is_letter bs)) (eqb-true (lower b) 102 f) ∙ ap (λ l. 102 ∷ l) is)))
-          | inr none ↦ rw (other, none) refl
-        ]
+        | inl f ↦ rw (other, f) (word_fails false (codes "alse") bs os low_alse (λ is. never false (ap (λ c. c ∷ map lower (front is_letter bs)) (eqb-true (lower b) 102 f) ∙ ap (λ l. 102 ∷ l) is)))
+        | inr none ↦ rw (other, none) refl
+      ]
     ]
 
 pub single_fails : {bs : List ℕ} {f : Fault} → SingleFails bs f → (os : List Open) → resume bs Between os ≡ failing f
@@ -54,22 +54,22 @@ other_closing : (k : Bracket) (got : List (Option Datum)) (os : List Open) (b : 
     → cond (eqb b 125) (close_bracket Brace (opened k got ∷ os)) (cond (eqb b 93) (close_bracket Square (opened k got ∷ os)) (Fails Form)) ≡ Fails Form
 other_closing Brace got os b never = rw (ne_eqb b 125 never) (cond_same (eqb b 93))
   where
-  cond_same : (t : Bool) → cond t (Fails Form) (Fails Form) ≡ Fails Form
-  cond_same true = refl
-  cond_same false = refl
+    cond_same : (t : Bool) → cond t (Fails Form) (Fails Form) ≡ Fails Form
+    cond_same true = refl
+    cond_same false = refl
 other_closing Square got os b never = rw (ne_eqb b 93 never) (cond_same (eqb b 125))
   where
-  cond_same : (t : Bool) → cond t (Fails Form) (Fails Form) ≡ Fails Form
-  cond_same true = refl
-  cond_same false = refl
+    cond_same : (t : Bool) → cond t (Fails Form) (Fails Form) ≡ Fails Form
+    cond_same true = refl
+    cond_same false = refl
 
 no_closing : (b : ℕ) → cond (eqb b 125) (close_bracket Brace []) (cond (eqb b 93) (close_bracket Square []) (Fails Form)) ≡ Fails Form
 no_closing b = two (eqb b 125) (eqb b 93)
   where
-  two : (s t : Bool) → cond s (Fails Form) (cond t (Fails Form) (Fails Form)) ≡ Fails Form
-  two true t = refl
-  two false true = refl
-  two false false = refl
+    two : (s t : Bool) → cond s (Fails Form) (cond t (Fails Form) (Fails Form)) ≡ Fails Form
+    two true t = refl
+    two false true = refl
+    two false false = refl
 
 -- a byte that begins nothing is a fault, or a closing bracket
 abbrev closes : List Open → ℕ → Step

@@ -58,4 +58,4 @@ sorted_set agree gather xs ys zs moved sorted is =
     let set = gather (map datum xs) in
     ap (map datum) is
     ∙ agree (map datum (dedup same ys)) (set_from (map datum xs)) (rising_map (dedup same ys) (IsStrictlySortedBy-dedup (on_total datum datum_cmp_total) (λ x y. refl) ys sorted)) set.rising
-      (λ d. (λ h. (set.members d).1 (added xs ys moved d h), λ h. kept xs ys moved d ((set.members d).0 h)))
+    (λ d. (λ h. (set.members d).1 (added xs ys moved d h), λ h. kept xs ys moved d ((set.members d).0 h)))

@@ -43,7 +43,6 @@ begin_deep Square (o ∷ os) h = rw (le-ltb (length (o ∷ os)) 500 h) refl
 
 -- ---- one token
 
-
 natural_runs : (b : ℕ) (bs : List ℕ) (os : List Open) → is_digit b ≡ true → IsWide (signed false (number_from 0 (front is_digit (b ∷ bs))))
     → resume (b ∷ bs) Between os ≡ after (put_value (Some (int (signed false (number_from 0 (front is_digit (b ∷ bs)))))) os) (behind is_digit bs)
 natural_runs b bs os e wide =

@@ -20,9 +20,9 @@ module _ {A : Type 0} (f : A → List ℕ) where
   spaced_next : (xs : List A) (i : ℕ) (x : A) → slice_get xs i ≡ Some x → spaced (map f (take i xs)) ++ (blank_before i ++ f x) ≡ spaced (map f (take i xs) ++ f x ∷ [])
   spaced_next [] i x h = absurd (none i h)
     where
-    none : (i : ℕ) → slice_get {X = A} [] i ≡ Some x → ⊥
-    none zero h = cc
-    none (suc i) h = cc
+      none : (i : ℕ) → slice_get {X = A} [] i ≡ Some x → ⊥
+      none zero h = cc
+      none (suc i) h = cc
   spaced_next (y ∷ xs) zero x h = refl
   spaced_next (y ∷ xs) (suc i) x h = sym (spaced-push (f y) (map f (take i xs)) (f x))
 
@@ -44,17 +44,17 @@ enclosed_is old open_ inside close_ t u first last p q r e =
 pub members_text : (ds : List Datum) → spaced (map inner_text ds) ≡ spaced (element_texts (elements_of ds))
 members_text ds = ap spaced (by ds)
   where
-  by : (ds : List Datum) → map inner_text ds ≡ element_texts (elements_of ds)
-  by [] = refl
-  by (d ∷ ds) = ap (λ ts. inner_text d ∷ ts) (by ds)
+    by : (ds : List Datum) → map inner_text ds ≡ element_texts (elements_of ds)
+    by [] = refl
+    by (d ∷ ds) = ap (λ ts. inner_text d ∷ ts) (by ds)
 
 pub components_text : (ps : List (Option Datum)) → spaced (map component_text ps) ≡ spaced (part_texts (parts_of ps))
 components_text ps = ap spaced (by ps)
   where
-  by : (ps : List (Option Datum)) → map component_text ps ≡ part_texts (parts_of ps)
-  by [] = refl
-  by (None ∷ ps) = ap (λ ts. (42 ∷ []) ∷ ts) (by ps)
-  by (Some d ∷ ps) = ap (λ ts. inner_text d ∷ ts) (by ps)
+    by : (ps : List (Option Datum)) → map component_text ps ≡ part_texts (parts_of ps)
+    by [] = refl
+    by (None ∷ ps) = ap (λ ts. (42 ∷ []) ∷ ts) (by ps)
+    by (Some d ∷ ps) = ap (λ ts. inner_text d ∷ ts) (by ps)
 
 -- members and components are less deep than what holds them
 pub member_falls : (ds : List Datum) (i : ℕ) (d : Datum) → slice_get ds i ≡ Some d → depth d < depth (set_of ds)

@@ -90,9 +90,9 @@ spelled b bs e = rw e (ap (λ n. number_from n (front is_digit bs)) (zero-add (b
 pub digit_within : (negative : Bool) (b : ℕ) → is_digit b ≡ true → within negative (b - 48) ≡ true
 digit_within negative b e = within_below negative (b - 48) 9 (let p = leb-true b 57 (and_parts (leb 48 b) (leb b 57) e).1 in omega arith) (nine negative)
   where
-  nine : (negative : Bool) → within negative 9 ≡ true
-  nine true = refl
-  nine false = refl
+    nine : (negative : Bool) → within negative 9 ≡ true
+    nine true = refl
+    nine false = refl
 
 -- ---- words
 

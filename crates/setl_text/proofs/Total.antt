@@ -46,9 +46,9 @@ quoted (suc n) (b ∷ bs) h =
     elim (cases_eq b 39) [
       | inl e ↦ subst (λ x. Quoted (x ∷ bs)) (sym e) (after_first n bs (omega arith) (quoted n))
       | inr other ↦ elim (cases_eq b 10) [
-          | inl line ↦ unclosed [] (b ∷ bs) tt line
-          | inr line ↦ quoted_more b bs other line (quoted n bs (omega arith))
-        ]
+        | inl line ↦ unclosed [] (b ∷ bs) tt line
+        | inr line ↦ quoted_more b bs other line (quoted n bs (omega arith))
+      ]
     ]
 
 -- ---- one token
@@ -88,9 +88,9 @@ begins_minus room [] = breaks Form (no_single minus_at_end)
 begins_minus room (b ∷ bs) =
     elim (cases_Bool (is_digit b)) [
       | inl e ↦ elim (wide_cases true (number_from 0 (front is_digit (b ∷ bs)))) [
-          | inl wide ↦ reads _ _ (single (negative b bs e wide)) (omega (arith, shorter is_digit bs))
-          | inr wide ↦ breaks Wide (no_single (wide_negative b bs e wide))
-        ]
+        | inl wide ↦ reads _ _ (single (negative b bs e wide)) (omega (arith, shorter is_digit bs))
+        | inr wide ↦ breaks Wide (no_single (wide_negative b bs e wide))
+      ]
       | inr e ↦ breaks Form (no_single (minus_alone b bs e))
     ]
 
@@ -106,9 +106,9 @@ begins_letter room b bs e =
     elim (cases_Bool (bytes_eq (letters b bs) (spelling true))) [
       | inl t ↦ reads _ _ (single (word true b bs e ((bytes_eq-Decides (letters b bs) (spelling true)).0 t))) (omega (arith, shorter is_letter bs))
       | inr t ↦ elim (cases_Bool (bytes_eq (letters b bs) (spelling false))) [
-          | inl f ↦ reads _ _ (single (word false b bs e ((bytes_eq-Decides (letters b bs) (spelling false)).0 f))) (omega (arith, shorter is_letter bs))
-          | inr f ↦ breaks Form (no_single (other_word b bs e (neither (letters b bs) t f)))
-        ]
+        | inl f ↦ reads _ _ (single (word false b bs e ((bytes_eq-Decides (letters b bs) (spelling false)).0 f))) (omega (arith, shorter is_letter bs))
+        | inr f ↦ breaks Form (no_single (other_word b bs e (neither (letters b bs) t f)))
+      ]
     ]
 
 -- ---- sets and tuples
@@ -159,25 +159,31 @@ begins_bracket : (k : Bracket) (room : ℕ) (bs : List ℕ) → ((room : ℕ) �
 begins_bracket k zero bs more = breaks Deep (too_deep k bs)
 begins_bracket k (suc room) bs more = by (more room)
   where
-  by : Closes k room bs → Begins (suc room) (opening k ∷ bs)
-  by (closes vs rest inner h) = reads _ rest (bracketed k inner) (omega arith)
-  by (comes_to f inner) = breaks f (inside k inner)
+    by : Closes k room bs → Begins (suc room) (opening k ∷ bs)
+    by (closes vs rest inner h) = reads _ rest (bracketed k inner) (omega arith)
+    by (comes_to f inner) = breaks f (inside k inner)
 
 begins_sign : (room b : ℕ) (bs : List ℕ) → is_start b ≡ true → ((k : Bracket) (room : ℕ) → Closes k room bs) → Begins room (b ∷ bs)
 begins_sign room b bs e more =
     elim (or_cases _ (eqb b 91) e) [
       | inr square ↦ subst (λ x. Begins room (x ∷ bs)) (sym (eqb-true b 91 square)) (begins_bracket Square room bs (more Square))
       | inl e ↦ elim (or_cases _ (eqb b 123) e) [
-      | inr brace ↦ subst (λ x. Begins room (x ∷ bs)) (sym (eqb-true b 123 brace)) (begins_bracket Brace room bs (more Brace))
-      | inl e ↦ elim (or_cases _ (eqb b 42) e) [
-      | inr star ↦ subst (λ x. Begins room (x ∷ bs)) (sym (eqb-true b 42 star)) (reads None bs (single (om bs)) (omega arith))
-      | inl e ↦ elim (or_cases _ (eqb b 39) e) [
-      | inr quote ↦ subst (λ x. Begins room (x ∷ bs)) (sym (eqb-true b 39 quote)) (begins_string room bs (quoted (length bs) bs (omega arith)))
-      | inl e ↦ elim (or_cases _ (eqb b 45) e) [
-      | inr minus ↦ subst (λ x. Begins room (x ∷ bs)) (sym (eqb-true b 45 minus)) (begins_minus room bs)
-      | inl e ↦ elim (or_cases (is_digit b) (is_letter b) e) [
-      | inl digit ↦ begins_digit room b bs digit
-      | inr letter ↦ begins_letter room b bs letter ] ] ] ] ] ]
+        | inr brace ↦ subst (λ x. Begins room (x ∷ bs)) (sym (eqb-true b 123 brace)) (begins_bracket Brace room bs (more Brace))
+        | inl e ↦ elim (or_cases _ (eqb b 42) e) [
+          | inr star ↦ subst (λ x. Begins room (x ∷ bs)) (sym (eqb-true b 42 star)) (reads None bs (single (om bs)) (omega arith))
+          | inl e ↦ elim (or_cases _ (eqb b 39) e) [
+            | inr quote ↦ subst (λ x. Begins room (x ∷ bs)) (sym (eqb-true b 39 quote)) (begins_string room bs (quoted (length bs) bs (omega arith)))
+            | inl e ↦ elim (or_cases _ (eqb b 45) e) [
+              | inr minus ↦ subst (λ x. Begins room (x ∷ bs)) (sym (eqb-true b 45 minus)) (begins_minus room bs)
+              | inl e ↦ elim (or_cases (is_digit b) (is_letter b) e) [
+                | inl digit ↦ begins_digit room b bs digit
+                | inr letter ↦ begins_letter room b bs letter
+              ]
+            ]
+          ]
+        ]
+      ]
+    ]
 
 items_total : (n : ℕ) (k : Bracket) (room : ℕ) (bs : List ℕ) → length bs ≤ n → Closes k room bs
 items_total n k room [] h = comes_to Form not_closed
@@ -186,9 +192,9 @@ items_total (suc n) k room (b ∷ bs) h =
     elim (cases_Bool (is_gap b)) [
       | inl e ↦ closes_gap k room b bs e (items_total n k room bs (omega arith))
       | inr e ↦ elim (cases_Bool (is_start b)) [
-          | inl start ↦ closes_member k room (b ∷ bs) (begins_sign room b bs start (λ j r. items_total n j r bs (omega arith))) (λ mid g. items_total n k room mid (omega arith))
-          | inr none ↦ closes_other k room b bs none e
-        ]
+        | inl start ↦ closes_member k room (b ∷ bs) (begins_sign room b bs start (λ j r. items_total n j r bs (omega arith))) (λ mid g. items_total n k room mid (omega arith))
+        | inr none ↦ closes_other k room b bs none e
+      ]
     ]
 
 pub item_total : (room b : ℕ) (bs : List ℕ) → is_start b ≡ true → Begins room (b ∷ bs)

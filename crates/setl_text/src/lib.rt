@@ -9,6 +9,8 @@ pub mod laws;
 mod place;
 mod read;
 mod scan;
+#[cfg(test)]
+mod tests;
 mod texts;
 
 pub use read::Reader;

@@ -312,7 +312,12 @@ fn after_quote(
     if b == b'\'' {
         longer(bytes, b)
     } else {
-        begin_behind(alloc, opened, Value::Text(Text::from_bytes(alloc, bytes)?), b)
+        begin_behind(
+            alloc,
+            opened,
+            Value::Text(Text::from_bytes(alloc, bytes)?),
+            b,
+        )
     }
 }
 
