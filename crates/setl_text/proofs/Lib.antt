@@ -1,0 +1,10 @@
+pub mod Classes
+pub mod Tokens
+pub mod Runs
+pub mod Fails
+pub mod Total
+pub mod Exact
+pub mod TextLists
+pub mod Shallow
+pub mod Rising
+pub mod Going

@@ -1,0 +1,13 @@
+use Rattle.std.proofs.Common.{◌≡◌}
+use Rattle.setl_text.specs.Scans.{token_of, opens, TokenFits, IsShallow}
+use Rattle.setl_text.proofs.Going.{Went}
+use Rattle.setl_text.proofs.read.Reader.read.Given as goal
+
+abbrev pub invariant-reads : goal.invariant-reads
+invariant-reads g l = record {
+  token : TokenFits (token_of l.piece);
+  shallow : IsShallow (opens l.opened.items);
+  fault : l.self.fault ≡ l.fn.self.fault;
+  faults : g.I.Source.faults l.input ≡ g.I.Source.faults l.fn.input;
+  went : Went l.fn.self.kept (g.I.Source.left l.fn.input) l.self.kept (g.I.Source.left l.input) (token_of l.piece) (opens l.opened.items);
+}

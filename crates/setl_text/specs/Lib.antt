@@ -1,0 +1,9 @@
+pub mod Texts
+pub mod TextParts
+pub mod Bytes
+pub mod Denoted
+pub mod Reading
+pub mod Laws
+pub mod Samples
+pub mod Scans
+pub mod Reads

@@ -1,0 +1,180 @@
+//! Worked texts and denotations, inputs that are cut into pieces of each size, and an input that fails in mid-stream.
+
+use crate::{Got, ReadFault, Reader, line, text};
+use setl_io::{MemSource, Source, SureSource};
+use setl_value::{Memory, Value};
+use std::alloc::Global;
+use std::process::Abort;
+use std::test::Fail;
+
+// The letter of a fault.
+fn letter(fault: ReadFault) -> u8 {
+    match fault {
+        ReadFault::Form => b'F',
+        ReadFault::Wide => b'W',
+        ReadFault::Deep => b'D',
+        ReadFault::Source => b'S',
+        ReadFault::NoMemory => b'N',
+    }
+}
+
+// Adds the text of an answer and a blank, a full stop at the end of the input, or the letter of a fault, and says
+// whether the next answer may be another one.
+fn add_answer(
+    alloc: Global,
+    all: &mut Vec<u8>,
+    answer: Result<Got, ReadFault>,
+) -> Result<bool, Memory> {
+    match answer {
+        Ok(Got::Value(v)) => all.extend_from_slice(text(alloc, &v)?.as_slice())?,
+        Ok(Got::Om) => all.push(b'*')?,
+        Ok(Got::End) => {
+            all.push(b'.')?;
+            return Ok(false);
+        }
+        Err(fault) => {
+            all.push(letter(fault))?;
+            return Ok(false);
+        }
+    }
+    all.push(b' ')?;
+    Ok(true)
+}
+
+// The answers up to the first that ends the reading, and the one after it.
+fn answers<I: Source>(alloc: Global, input: &mut I) -> Result<Vec<u8>, Memory> {
+    let mut reader = Reader::new(alloc)?;
+    let mut all = Vec::new(alloc);
+    for _ in 0..20 {
+        let answer = reader.next(input);
+        if !add_answer(alloc, &mut all, answer)? {
+            break;
+        }
+    }
+    let answer = reader.next(input);
+    add_answer(alloc, &mut all, answer)?;
+    Ok(all)
+}
+
+const INPUTS: [(&str, &str); 16] = [
+    ("{1 [2 'a']} 7", "{1 [2 'a']} 7 .."),
+    ("{3,1,2,1} [1,*,2] 'it''s'", "{1 2 3} [1 * 2] 'it''s' .."),
+    ("\t{,,1,}[* 1 * *]*\r\n", "{1} [* 1] * .."),
+    ("12true-5 007'x''''y'", "12 true -5 7 'x''''y' .."),
+    (
+        "{'b' {} [] -1 FALSE {[]} 'a'}",
+        "{false -1 'a' 'b' [] {} {[]}} ..",
+    ),
+    ("", ".."),
+    ("1 truefalse", "1 FF"),
+    ("{1 [2", "FF"),
+    ("{1 *}", "FF"),
+    ("{1]", "FF"),
+    ("-", "FF"),
+    (",1", "FF"),
+    ("'a\n'", "FF"),
+    ("1 $", "1 FF"),
+    (
+        "170141183460469231731687303715884105727 170141183460469231731687303715884105728",
+        "170141183460469231731687303715884105727 WW",
+    ),
+    (
+        "-170141183460469231731687303715884105728 -170141183460469231731687303715884105729",
+        "-170141183460469231731687303715884105728 WW",
+    ),
+];
+
+#[test]
+fn denotations_are_read_in_pieces_of_each_size(rt: HostRuntime) -> Result<(), Fail> {
+    let alloc = rt.alloc();
+    for (input, expected) in INPUTS {
+        for piece in 1..30 {
+            let mut source = MemSource::new(
+                input.as_bytes().to_vec(alloc)?,
+                piece,
+                Vec::new(alloc),
+            );
+            let all = answers(alloc, &mut source)?;
+            assert_eq!(rt;
+                all.as_slice(),
+                expected.as_bytes(),
+                "pieces of {piece} of {input}"
+            );
+        }
+    }
+    Ok(())
+}
+
+#[test]
+fn an_input_fails_at_each_read(rt: HostRuntime) -> Result<(), Fail> {
+    let alloc = rt.alloc();
+    for (failing, expected) in [
+        (1, "SS"),
+        (2, "SS"),
+        (3, "12 SS"),
+        (4, "12 {3} SS"),
+        (5, "12 {3} .S"),
+        (6, "12 {3} .."),
+    ] {
+        let mut source = MemSource::new(b"12 {3}".to_vec(alloc)?, 2, vec![in alloc; failing]?);
+        let all = answers(alloc, &mut source)?;
+        assert_eq!(rt; all.as_slice(), expected.as_bytes(), "failing at {failing}");
+    }
+    Ok(())
+}
+
+// As many opening brackets, and as many closing ones.
+fn nested(alloc: Global, depth: usize) -> Result<SureSource, Memory> {
+    let mut bytes = vec![in alloc; b'['; depth]?;
+    bytes.extend_from_slice(vec![in alloc; b']'; depth]?.as_slice())?;
+    Ok(SureSource::new(bytes))
+}
+
+fn first_letter(alloc: Global, depth: usize) -> Result<Option<u8>, Memory> {
+    let mut source = nested(alloc, depth)?;
+    Ok(answers(alloc, &mut source)?.first().copied())
+}
+
+#[test]
+fn a_value_is_at_most_500_deep(rt: HostRuntime) -> Result<(), Fail> {
+    let alloc = rt.alloc();
+    assert_eq!(rt; first_letter(alloc, 500)?, Some(b'['));
+    assert_eq!(rt; first_letter(alloc, 501)?, Some(b'D'));
+    Ok(())
+}
+
+// The values and `om` that these bytes denote.
+fn values(alloc: Global, bytes: &str) -> Result<Vec<Option<Value>>, Memory> {
+    let mut source = SureSource::new(bytes.as_bytes().to_vec(alloc)?);
+    let mut reader = Reader::new(alloc)?;
+    let mut all = Vec::new(alloc);
+    for _ in 0..20 {
+        match reader.next(&mut source) {
+            Ok(Got::Value(v)) => all.push(Some(v))?,
+            Ok(Got::Om) => all.push(None)?,
+            _ => break,
+        }
+    }
+    Ok(all)
+}
+
+fn expect_line(rt: &impl Abort, alloc: Global, input: &str, expected: &str) -> Result<(), Memory> {
+    let printed = line(alloc, values(alloc, input)?.as_slice())?;
+    assert_eq!(rt; printed.as_slice(), expected.as_bytes());
+    Ok(())
+}
+
+#[test]
+fn a_line_has_the_texts_of_its_arguments(rt: HostRuntime) -> Result<(), Fail> {
+    let alloc = rt.alloc();
+    expect_line(
+        &rt,
+        alloc,
+        "{3 1 2 1} [1 * 2] 'it''s'",
+        "{1 2 3} [1 * 2] it's\n",
+    )?;
+    expect_line(&rt, alloc, "* true", "* true\n")?;
+    expect_line(&rt, alloc, "", "\n")?;
+    assert_eq!(rt; text(alloc, &Value::Atom(7))?.as_slice(), b"#7".as_slice());
+    Ok(())
+}
