@@ -1,5 +1,6 @@
 pub mod Outcome
 pub mod Maps
+pub mod Points
 pub mod Ranges
 pub mod Texts
 pub mod Numbers

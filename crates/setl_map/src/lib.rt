@@ -8,6 +8,35 @@
 //! are left.
 #![tactic(auto)]
 
+mod gather;
+mod maps;
+mod pairs;
+
+pub use maps::{domain, image, images, lessf, put, put_all, range};
+use setl_value::Memory;
+
+/// Why a map call gave no result.
+#[derive(Clone, Copy, Debug, PartialEq, Eq)]
+pub enum MapFault {
+    /// A member of the set is no pair.
+    Kind,
+    /// The map would be more than 500 deep.
+    Deep,
+    /// Memory was refused.
+    NoMemory,
+}
+
+impl From<Memory> for MapFault {
+    ghost use Rattle.std.specs.Prelude.{◌≡◌};
+    ghost use Rattle.setl_map.specs.declared.MapFault.TheVariants.{NoMemory};
+
+    ghost from_gives = { λ _ e. e ≡ NoMemory };
+
+    fn from(_e: Memory) -> MapFault {
+        MapFault::NoMemory
+    }
+}
+
 /// The operators on values, with the folds, the enumerations, the ranges and the puts. The operands stand in the order
 /// of the source.
 #[derive(Clone, Copy, Debug, PartialEq, Eq)]

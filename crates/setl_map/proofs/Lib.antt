@@ -1,0 +1,5 @@
+pub mod Lists
+pub mod PairFacts
+pub mod Bounds
+pub mod Spans
+pub mod Gathering
