@@ -3,3 +3,4 @@ pub mod PairFacts
 pub mod Bounds
 pub mod Spans
 pub mod Gathering
+pub mod MapResults

@@ -16,9 +16,11 @@ pub(crate) fn gathered(alloc: Global, values: Vec<Value>) -> Result<SetBody, Mem
     ensures { IfOk result (λ s. Members s ≡ set_from (map datum values.items)) }
 {
     laws::rising_lists_agree();
+    laws::tests_are_exact();
     laws::operations_have_their_members();
     let mut values = values;
     values.sort()?;
     values.dedup();
-    SetBody::from_rising(alloc, values)
+    let set = SetBody::from_rising(alloc, values)?;
+    Ok(set)
 }

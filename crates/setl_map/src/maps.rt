@@ -5,11 +5,15 @@ ghost use Rattle.setl_value.specs.Body.{Members};
 ghost use Rattle.setl_value.specs.Datum.{depth, set_of};
 ghost use Rattle.setl_value.specs.DatumOf.{datum, part};
 ghost use Rattle.setl_value.specs.Pairs.{is_map, images, pair};
+ghost use Rattle.std.specs.List.{filter_map};
+ghost use Rattle.setl_set.specs.Sets.{set_from};
+ghost use Rattle.setl_map.specs.Points.{part_at};
 ghost use Rattle.setl_map.specs.Maps.{image, domain_of, range_of, without_point, put_image, put_images};
 
 use crate::MapFault;
 use crate::gather::gathered;
 use crate::pairs::{make_pair, parts_between, span};
+use setl_set::laws;
 use setl_value::{Memory, SetBody, Value};
 use std::alloc::Global;
 
@@ -23,8 +27,15 @@ pub fn image(alloc: Global, f: &SetBody, x: &Value) -> Result<Option<Value>, Map
     if !f.is_map() {
         return Err(MapFault::Kind);
     }
+    Ok(only_image(alloc, f, x)?)
+}
+
+// The one image of `x` in a map.
+fn only_image(alloc: Global, f: &SetBody, x: &Value) -> Result<Option<Value>, Memory>
+    requires { IsTrue (is_map (Members f.now)) }
+    ensures { IfOk result (λ y. part y ≡ image (datum x.now) (Members f.now)) }
+{
     let (from, to) = span(f, x);
-    f.learn();
     if to - from != 1 {
         return Ok(None);
     }
@@ -41,10 +52,19 @@ pub fn images(alloc: Global, f: &SetBody, x: &Value) -> Result<SetBody, MapFault
     if !f.is_map() {
         return Err(MapFault::Kind);
     }
-    let (from, to) = span(f, x);
+    Ok(all_images(alloc, f, x)?)
+}
+
+// The set of the images of `x` in a map.
+fn all_images(alloc: Global, f: &SetBody, x: &Value) -> Result<SetBody, Memory>
+    requires { IsTrue (is_map (Members f.now)) }
+    ensures { IfOk result (λ s. Members s ≡ images (datum x.now) (Members f.now)) }
+{
     f.learn();
+    let (from, to) = span(f, x);
     let images = parts_between(alloc, f, false, from, to)?;
-    Ok(SetBody::from_rising(alloc, images)?)
+    let set = SetBody::from_rising(alloc, images)?;
+    Ok(set)
 }
 
 /// The set of first parts. Kind exactly where a member is no pair.
@@ -56,9 +76,7 @@ pub fn domain(alloc: Global, f: &SetBody) -> Result<SetBody, MapFault>
     if !f.is_map() {
         return Err(MapFault::Kind);
     }
-    f.learn();
-    let firsts = parts_between(alloc, f, true, 0, f.len())?;
-    Ok(gathered(alloc, firsts)?)
+    Ok(set_of_parts(alloc, f, true)?)
 }
 
 /// The set of images. Kind exactly where a member is no pair.
@@ -70,9 +88,17 @@ pub fn range(alloc: Global, f: &SetBody) -> Result<SetBody, MapFault>
     if !f.is_map() {
         return Err(MapFault::Kind);
     }
+    Ok(set_of_parts(alloc, f, false)?)
+}
+
+// The set of first parts, or else of second parts.
+fn set_of_parts(alloc: Global, f: &SetBody, first: bool) -> Result<SetBody, Memory>
+    ensures { IfOk result (λ s. Members s ≡ set_from (filter_map (part_at first) (Members f.now))) }
+{
     f.learn();
-    let seconds = parts_between(alloc, f, false, 0, f.len())?;
-    Ok(gathered(alloc, seconds)?)
+    let parts = parts_between(alloc, f, first, 0, f.len())?;
+    let set = gathered(alloc, parts)?;
+    Ok(set)
 }
 
 /// Takes all pairs with the first part `x` out. Kind exactly where a member is no pair. After a fault the map is as
@@ -132,9 +158,21 @@ fn put_pair(alloc: Global, f: &mut SetBody, x: Value, y: Value) -> Result<(), Ma
     if x.depth() >= 499 || y.depth() >= 499 {
         return Err(MapFault::Deep);
     }
+    Ok(put_shallow(alloc, f, x, y)?)
+}
+
+// The same of values that are less deep.
+fn put_shallow(alloc: Global, f: &mut SetBody, x: Value, y: Value) -> Result<(), Memory>
+    requires map { IsTrue (is_map (Members f.old)) }
+    requires shallow { (depth (datum x) < 499) × (depth (datum y) < 499) }
+    ensures put { OnOk result (Members f.new ≡ put_image (datum x) (Some (datum y)) (Members f.old)) }
+    ensures refused { OnErr result (f.new ≡ f.old) }
+{
+    laws::operations_have_their_members();
+    f.learn();
     let (from, to) = span(f, &x);
     let pairs = one_pair(alloc, x, y)?;
-    Ok(f.replace(from, to, pairs)?)
+    f.replace(from, to, pairs)
 }
 
 // The list of one pair.
@@ -158,19 +196,45 @@ pub fn put_all(alloc: Global, f: &mut SetBody, x: Value, s: &SetBody) -> Result<
     if !f.is_map() {
         return Err(MapFault::Kind);
     }
+    put_images(alloc, f, x, s)
+}
+
+// Makes the members of `s` the images of `x` in a map.
+fn put_images(alloc: Global, f: &mut SetBody, x: Value, s: &SetBody) -> Result<(), MapFault>
+    requires { IsTrue (is_map (Members f.old)) }
+    ensures put { OnOk result (Members f.new ≡ put_images (datum x) (Members s.now) (Members f.old)) }
+    ensures refused { OnErr result (f.new ≡ f.old) }
+    ensures never_kind { result ≡ Err MapFault.Kind → ⊥ }
+    ensures deep { (result ≡ Err MapFault.Deep) ↔ (500 < depth (set_of (put_images (datum x) (Members s.now) (Members f.old)))) }
+{
     f.learn();
     s.learn();
     if s.len() != 0 && (x.depth() >= 499 || s.depth() == 500) {
         return Err(MapFault::Deep);
     }
-    let (from, to) = span(f, &x);
-    let pairs = pairs_from(alloc, &x, s)?;
-    Ok(f.replace(from, to, pairs)?)
+    Ok(put_shallow_images(alloc, f, &x, s)?)
+}
+
+// The same of values that are less deep.
+fn put_shallow_images(alloc: Global, f: &mut SetBody, x: &Value, s: &SetBody) -> Result<(), Memory>
+    requires map { IsTrue (is_map (Members f.old)) }
+    requires shallow { (length (Members s.now) ≡ 0) ⊎ ((depth (datum x.now) < 499) × (depth (set_of (Members s.now)) < 500)) }
+    ensures put { OnOk result (Members f.new ≡ put_images (datum x.now) (Members s.now) (Members f.old)) }
+    ensures refused { OnErr result (f.new ≡ f.old) }
+{
+    laws::rising_lists_agree();
+    laws::tests_are_exact();
+    laws::operations_have_their_members();
+    f.learn();
+    s.learn();
+    let (from, to) = span(f, x);
+    let pairs = pairs_from(alloc, x, s)?;
+    f.replace(from, to, pairs)
 }
 
 // The pairs of `x` and each member of `s`.
 fn pairs_from(alloc: Global, x: &Value, s: &SetBody) -> Result<Vec<Value>, Memory>
-    requires { length (Members s.now) ≡ 0 ⊎ ((depth (datum x.now) < 499) × (depth (set_of (Members s.now)) < 500)) }
+    requires { (length (Members s.now) ≡ 0) ⊎ ((depth (datum x.now) < 499) × (depth (set_of (Members s.now)) < 500)) }
     ensures { IfOk result (λ ps. map datum ps.items ≡ map (λ y. pair (datum x.now) y) (Members s.now)) }
 {
     let mut pairs = Vec::with_capacity(alloc, s.len())?;
