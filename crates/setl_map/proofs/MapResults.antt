@@ -1,5 +1,5 @@
 -- What the calls on maps make of the pairs between two bounds.
-use Rattle.std.specs.Prelude.{◌≡◌, ◌⊎◌, ℕ, zero, suc, ◌+◌, ◌-◌, ◌<◌, ◌≤◌, Bool, true, false, not, ◌||◌, cond, List, [], ◌∷◌, ◌++◌, Option, Some, None, IsSome, map, max, length, take, drop, slice_range, min, refl}
+use Rattle.std.specs.Prelude.{◌≡◌, ◌⊎◌, ℕ, zero, suc, ◌+◌, ◌-◌, ◌<◌, ◌≤◌, Bool, true, false, not, ◌||◌, cond, List, [], ◌∷◌, ◌++◌, Option, Some, None, IsSome, map, max, length, take, drop, slice_range, min, nat_le, nat_lt, refl}
 use Rattle.std.specs.List.{AllByRecursion, filter, filter_map, cons_option, list_any}
 use Rattle.std.specs.List.Sorted.{IsStrictlySortedBy}
 use Rattle.std.specs.declared.cmp.Ordering.{Ordering}
@@ -8,6 +8,7 @@ use Rattle.std.specs.Ordering.{is_eq, ordering_then, ordering_reverse}
 use Rattle.std.specs.Option.{option_to_list}
 use Rattle.std.proofs.Common.{ap, sym, ◌∙◌, subst, arith}
 use Rattle.std.proofs.lemmas.Bool.{false≢true}
+use Rattle.std.proofs.lemmas.Bool.Decides.{nat_tests}
 use Rattle.std.proofs.lemmas.List.{length-take, length-drop}
 use Rattle.std.proofs.lemmas.List.Folds.{list_any-append}
 use Rattle.std.proofs.lemmas.List.Kept.{IsStrictlySortedBy-filter}
@@ -20,7 +21,7 @@ use Rattle.setl_value.specs.Pairs.{pair, pair_parts, second_of, pairs_at, images
 use Rattle.setl_set.specs.Sets.{has_datum, insert_datum, insert_by, set_from, union_of}
 use Rattle.setl_set.specs.Laws.{RisingListsAgree, TestsMembership, Gathers, Inserts}
 use Rattle.setl_map.specs.Maps.{only, image, without_point, put_image, put_images}
-use Rattle.setl_map.specs.Points.{is_before, comes_before, IsBound, part_at}
+use Rattle.setl_map.specs.Points.{is_before, comes_before, IsBound, part_at, pair_depth}
 use Rattle.setl_map.proofs.PairFacts.{pair_of, IsPair, all_pairs}
 use Rattle.setl_map.proofs.Spans.{is_at, IsSplit}
 use Rattle.setl_map.proofs.Gathering.{depth_insert, depth_set_from, is_set_from}
@@ -142,7 +143,7 @@ not_only (y ∷ []) h = absurd (h refl)
 not_only (y ∷ z ∷ ys) h = refl
 
 pub only_popped : (vs left : List Value) (r : Option Value) → length vs ≡ 1 → vs ≡ left ++ option_to_list r → IsSome r → part r ≡ only (map datum vs)
-only_popped vs left None n e s = absurd s
+only_popped vs left None n e s = absurd (false≢true s)
 only_popped vs [] (Some v) n e s = ap (λ l. only (map datum l)) (sym e)
 only_popped vs (w ∷ left) (Some v) n e s = absurd (omega (arith, ap length e, n, length_snoc left v))
   where
@@ -310,7 +311,7 @@ put_all_between agree tests gathers x ys ds i j s r =
     is_set_from agree tests gathers ((take i ds ++ point_pairs x ys) ++ drop j ds) ((take i ds ++ drop j ds) ++ point_pairs x ys) r (λ d. has_swapped d (take i ds) (point_pairs x ys) (drop j ds))
     ∙ ap (λ l. set_from (l ++ point_pairs x ys)) (sym s.others)
 
-depth_pairs : (x : Datum) (ys : List Datum) → elements_depth (elements_of (point_pairs x ys)) ≤ 1 + max (depth x) (elements_depth (elements_of ys))
+pub depth_pairs : (x : Datum) (ys : List Datum) → elements_depth (elements_of (point_pairs x ys)) ≤ 1 + max (depth x) (elements_depth (elements_of ys))
 depth_pairs x [] = omega arith
 depth_pairs x (y ∷ ys) = omega (arith, depth_pairs x ys)
 
@@ -329,3 +330,16 @@ depth_no_pairs x (y ∷ ys) h = absurd (omega arith)
 pub depth_all_pairs : (x : Datum) (ys : List Datum) → (length ys ≡ 0 → ⊥) → elements_depth (elements_of (point_pairs x ys)) ≡ 1 + max (depth x) (elements_depth (elements_of ys))
 depth_all_pairs x [] h = absurd (h refl)
 depth_all_pairs x (y ∷ ys) h = depth_some_pairs x y ys
+
+-- ---- which changes are too deep
+
+pub deep_put : (x : Datum) (y : Option Datum) (ds : List Datum) → depth (set_of ds) ≤ 500 → nat_le 500 (pair_depth x y) ≡ nat_lt 500 (depth (set_of (put_image x y ds)))
+deep_put x None ds h = let w = depth_without x ds in grind (arith, nat_tests)
+deep_put x (Some y) ds h = let w = depth_without x ds in let d = depth_put x y ds in grind (arith, nat_tests)
+
+pub deep_put_all : (x : Datum) (ys ds : List Datum) → depth (set_of ds) ≤ 500 → nat_lt 500 (depth (set_of (point_pairs x ys))) ≡ nat_lt 500 (depth (set_of (put_images x ys ds)))
+deep_put_all x ys ds h = let w = depth_without x ds in let d = depth_put_all x ys ds in grind (arith, nat_tests)
+
+pub take_whole : (ds : List Datum) → take (length ds) ds ≡ ds
+take_whole [] = refl
+take_whole (d ∷ ds) = ap (λ l. d ∷ l) (take_whole ds)

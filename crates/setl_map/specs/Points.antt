@@ -5,10 +5,10 @@ use Rattle.std.specs.declared.cmp.Ordering.{Ordering}
 use Rattle.std.specs.declared.cmp.Ordering.TheVariants.{Less, Equal, Greater}
 use Rattle.std.specs.Borrow.{Bor}
 use Rattle.setl_value.specs.declared.Value.{Value}
-use Rattle.setl_value.specs.Datum.{Datum}
+use Rattle.setl_value.specs.Datum.{Datum, depth}
 use Rattle.setl_value.specs.DatumOf.{datum}
 use Rattle.setl_value.specs.Order.{datum_cmp}
-use Rattle.setl_value.specs.Pairs.{pair_parts, first_of, second_of}
+use Rattle.setl_value.specs.Pairs.{pair, pair_parts, first_of, second_of}
 
 -- the data of two values
 abbrev pub pair_data : Bor Value × Bor Value → Datum × Datum
@@ -36,3 +36,8 @@ pub record IsBound (past : Bool) (x : Datum) (ds : List Datum) (i : ℕ) : Type 
 -- the first part of a pair, or else the second
 abbrev pub part_at : Bool → Datum → Option Datum
 part_at first d = if first then first_of (pair_parts d) else second_of (pair_parts d)
+
+-- the depth of the pair of x and y, and 0 where y is `om`
+abbrev pub pair_depth : Datum → Option Datum → ℕ
+pair_depth x None = 0
+pair_depth x (Some y) = depth (pair x y)

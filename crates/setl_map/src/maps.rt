@@ -1,13 +1,13 @@
 //! The calls on maps.
 
-ghost use Rattle.std.specs.Prelude.{◌≡◌, ◌↔◌, ◌⊎◌, ◌<◌, ◌∷◌, [], true, false, map, length, Some, IfOk, OnErr, OnOk, IsTrue, Err};
+ghost use Rattle.std.specs.Prelude.{◌≡◌, ◌↔◌, ◌⊎◌, ◌<◌, ◌∷◌, [], true, false, map, length, Some, IfOk, OnErr, OnOk, IsTrue, Err, nat_le, nat_lt};
 ghost use Rattle.setl_value.specs.Body.{Members};
 ghost use Rattle.setl_value.specs.Datum.{depth, set_of};
 ghost use Rattle.setl_value.specs.DatumOf.{datum, part};
 ghost use Rattle.setl_value.specs.Pairs.{is_map, images, pair};
 ghost use Rattle.std.specs.List.{filter_map};
 ghost use Rattle.setl_set.specs.Sets.{set_from};
-ghost use Rattle.setl_map.specs.Points.{part_at};
+ghost use Rattle.setl_map.specs.Points.{part_at, pair_depth};
 ghost use Rattle.setl_map.specs.Maps.{image, domain_of, range_of, without_point, put_image, put_images};
 
 use crate::MapFault;
@@ -140,31 +140,45 @@ pub fn put(alloc: Global, f: &mut SetBody, x: Value, y: Option<Value>) -> Result
     if !f.is_map() {
         return Err(MapFault::Kind);
     }
-    match y {
-        None => Ok(remove_point(alloc, f, &x)?),
-        Some(y) => put_pair(alloc, f, x, y),
-    }
-}
-
-// Makes `y` the one image of `x` in a map.
-fn put_pair(alloc: Global, f: &mut SetBody, x: Value, y: Value) -> Result<(), MapFault>
-    requires { IsTrue (is_map (Members f.old)) }
-    ensures put { OnOk result (Members f.new ≡ put_image (datum x) (Some (datum y)) (Members f.old)) }
-    ensures refused { OnErr result (f.new ≡ f.old) }
-    ensures never_kind { result ≡ Err MapFault.Kind → ⊥ }
-    ensures deep { (result ≡ Err MapFault.Deep) ↔ (500 < depth (set_of (put_image (datum x) (Some (datum y)) (Members f.old)))) }
-{
     f.learn();
-    if x.depth() >= 499 || y.depth() >= 499 {
+    if is_deep(&x, &y) {
         return Err(MapFault::Deep);
     }
     Ok(put_shallow(alloc, f, x, y)?)
 }
 
-// The same of values that are less deep.
-fn put_shallow(alloc: Global, f: &mut SetBody, x: Value, y: Value) -> Result<(), Memory>
+// Whether a map with the pair of `x` and `y` would be more than 500 deep.
+fn is_deep(x: &Value, y: &Option<Value>) -> bool
+    ensures { result ≡ nat_le 500 (pair_depth (datum x.now) (part y.now)) }
+{
+    match y {
+        None => false,
+        Some(y) => x.depth().max(y.depth()) >= 499,
+    }
+}
+
+// Makes `y` the one image of `x` in a map, or leaves `x` without an image.
+fn put_shallow(
+    alloc: Global,
+    f: &mut SetBody,
+    x: Value,
+    y: Option<Value>,
+) -> Result<(), Memory>
     requires map { IsTrue (is_map (Members f.old)) }
-    requires shallow { (depth (datum x) < 499) × (depth (datum y) < 499) }
+    requires shallow { nat_le 500 (pair_depth (datum x) (part y)) ≡ false }
+    ensures put { OnOk result (Members f.new ≡ put_image (datum x) (part y) (Members f.old)) }
+    ensures refused { OnErr result (f.new ≡ f.old) }
+{
+    match y {
+        None => remove_point(alloc, f, &x),
+        Some(y) => put_pair(alloc, f, x, y),
+    }
+}
+
+// Makes `y` the one image of `x` in a map.
+fn put_pair(alloc: Global, f: &mut SetBody, x: Value, y: Value) -> Result<(), Memory>
+    requires map { IsTrue (is_map (Members f.old)) }
+    requires shallow { depth (pair (datum x) (datum y)) < 500 }
     ensures put { OnOk result (Members f.new ≡ put_image (datum x) (Some (datum y)) (Members f.old)) }
     ensures refused { OnErr result (f.new ≡ f.old) }
 {
@@ -177,7 +191,7 @@ fn put_shallow(alloc: Global, f: &mut SetBody, x: Value, y: Value) -> Result<(),
 
 // The list of one pair.
 fn one_pair(alloc: Global, x: Value, y: Value) -> Result<Vec<Value>, Memory>
-    requires { (depth (datum x) < 499) × (depth (datum y) < 499) }
+    requires { depth (pair (datum x) (datum y)) < 500 }
     ensures { IfOk result (λ ps. map datum ps.items ≡ pair (datum x) (datum y) ∷ []) }
 {
     let mut pairs = Vec::with_capacity(alloc, 1)?;
@@ -196,29 +210,26 @@ pub fn put_all(alloc: Global, f: &mut SetBody, x: Value, s: &SetBody) -> Result<
     if !f.is_map() {
         return Err(MapFault::Kind);
     }
-    put_images(alloc, f, x, s)
-}
-
-// Makes the members of `s` the images of `x` in a map.
-fn put_images(alloc: Global, f: &mut SetBody, x: Value, s: &SetBody) -> Result<(), MapFault>
-    requires { IsTrue (is_map (Members f.old)) }
-    ensures put { OnOk result (Members f.new ≡ put_images (datum x) (Members s.now) (Members f.old)) }
-    ensures refused { OnErr result (f.new ≡ f.old) }
-    ensures never_kind { result ≡ Err MapFault.Kind → ⊥ }
-    ensures deep { (result ≡ Err MapFault.Deep) ↔ (500 < depth (set_of (put_images (datum x) (Members s.now) (Members f.old)))) }
-{
     f.learn();
-    s.learn();
-    if s.len() != 0 && (x.depth() >= 499 || s.depth() == 500) {
+    if are_deep(&x, s) {
         return Err(MapFault::Deep);
     }
     Ok(put_shallow_images(alloc, f, &x, s)?)
 }
 
-// The same of values that are less deep.
+// Whether a map with the pairs of `x` and each member of `s` would be more than 500 deep.
+fn are_deep(x: &Value, s: &SetBody) -> bool
+    ensures { result ≡ nat_lt 500 (depth (set_of (map (λ y. pair (datum x.now) y) (Members s.now)))) }
+{
+    x.learn();
+    s.learn();
+    s.len() != 0 && (x.depth() + 1).max(s.depth()) >= 500
+}
+
+// Makes the members of `s` the images of `x` in a map.
 fn put_shallow_images(alloc: Global, f: &mut SetBody, x: &Value, s: &SetBody) -> Result<(), Memory>
     requires map { IsTrue (is_map (Members f.old)) }
-    requires shallow { (length (Members s.now) ≡ 0) ⊎ ((depth (datum x.now) < 499) × (depth (set_of (Members s.now)) < 500)) }
+    requires shallow { nat_lt 500 (depth (set_of (map (λ y. pair (datum x.now) y) (Members s.now)))) ≡ false }
     ensures put { OnOk result (Members f.new ≡ put_images (datum x.now) (Members s.now) (Members f.old)) }
     ensures refused { OnErr result (f.new ≡ f.old) }
 {
@@ -234,7 +245,7 @@ fn put_shallow_images(alloc: Global, f: &mut SetBody, x: &Value, s: &SetBody) ->
 
 // The pairs of `x` and each member of `s`.
 fn pairs_from(alloc: Global, x: &Value, s: &SetBody) -> Result<Vec<Value>, Memory>
-    requires { (length (Members s.now) ≡ 0) ⊎ ((depth (datum x.now) < 499) × (depth (set_of (Members s.now)) < 500)) }
+    requires { nat_lt 500 (depth (set_of (map (λ y. pair (datum x.now) y) (Members s.now)))) ≡ false }
     ensures { IfOk result (λ ps. map datum ps.items ≡ map (λ y. pair (datum x.now) y) (Members s.now)) }
 {
     let mut pairs = Vec::with_capacity(alloc, s.len())?;

@@ -1,10 +1,12 @@
-use Rattle.std.proofs.Common.{arith, sym, ap, ◌∙◌, ◌++◌, ◌∷◌, [], ◌≡◌, take, map, inl, inr}
+use Rattle.std.proofs.Common.{arith, sym, ap, ◌∙◌, ◌++◌, ◌∷◌, [], ◌≡◌, take, map, length}
 use Rattle.std.proofs.lemmas.List.{map-append}
 use Rattle.setl_value.specs.Body.{Members}
 use Rattle.setl_value.specs.Datum.{Datum, depth}
 use Rattle.setl_value.specs.DatumOf.{datum}
 use Rattle.setl_value.specs.Pairs.{pair}
 use Rattle.setl_map.proofs.Lists.{take_get, member_depth}
+use Rattle.std.proofs.lemmas.Bool.{ltb-false}
+use Rattle.setl_map.proofs.MapResults.{depth_all_pairs}
 use Rattle.setl_map.proofs.maps.pairs_from.Goals as goal
 
 pub make_pair-requires : goal.make_pair-requires
@@ -12,7 +14,10 @@ make_pair-requires c =
     let x = ap (λ v. depth (datum v)) c.in_ok-copy.ensures.same in
     let y = ap (λ v. depth (datum v)) c.in_ok-copy-2.ensures.same in
     let m = member_depth (Members c.args.s.now) c.loop-i.i (datum c.at-y.result.now) c.at-y.ensures.member in
-    elim c.requires [ inl e ↦ absurd (omega (arith, e, c.len-i-end.ensures, c.loop-i-test.true)) | inr p ↦ (omega (arith, x, p.0), omega (arith, y, p.1, m)) ]
+    let n : (length (Members c.args.s.now) ≡ 0 → ⊥) = λ n. absurd (omega (arith, n, c.len-i-end.ensures, c.loop-i-test.true)) in
+    let d = depth_all_pairs (datum c.args.x.now) (Members c.args.s.now) n in
+    let s = ltb-false 500 _ c.requires in
+    (omega (arith, x, d, s), omega (arith, y, m, d, s))
 
 pub loop-i-preserved : goal.loop-i-preserved
 loop-i-preserved c =
