@@ -4,3 +4,4 @@ pub mod Bounds
 pub mod Spans
 pub mod Gathering
 pub mod MapResults
+pub mod MapLaws

@@ -1,6 +1,7 @@
 pub mod Outcome
 pub mod Maps
 pub mod Points
+pub mod Laws
 pub mod Ranges
 pub mod Texts
 pub mod Numbers

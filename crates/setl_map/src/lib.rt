@@ -9,6 +9,7 @@
 #![tactic(auto)]
 
 mod gather;
+pub mod laws;
 mod maps;
 mod pairs;
 
@@ -158,3 +159,6 @@ pub enum Operator {
     /// The whole after `f{x} := s`, of the whole, the selector and the part.
     PutImages,
 }
+
+#[cfg(test)]
+mod tests;
