@@ -68,9 +68,9 @@ unfolding IsStrictlySortedBy
 before_more past x [] m e r p h b = absurd (none-some e h)
 before_more past x (c ∷ cs) zero e r p h b = (subst (λ z. comes_before past x z ≡ true) (sym (some_same c e h)) b, tt)
 before_more past x (c ∷ cs) (suc m) e r p h b = (
-      before_smaller past x c e p.0 (all_at IsPair cs m e p.1 h) (all_at (λ y. datum_cmp c y ≡ Less) cs m e r.0 h) b,
-      before_more past x cs m e r.1 p.1 h b,
-    )
+  before_smaller past x c e p.0 (all_at IsPair cs m e p.1 h) (all_at (λ y. datum_cmp c y ≡ Less) cs m e r.0 h) b,
+  before_more past x cs m e r.1 p.1 h b,
+)
 
 all_after : (past : Bool) (x c : Datum) (cs : List Datum) → IsPair c → AllByRecursion IsPair cs → AllByRecursion (λ y. datum_cmp c y ≡ Less) cs → comes_before past x c ≡ false → After past x cs
 all_after past x c [] p q l h = tt

@@ -74,7 +74,6 @@ by_test x d f false = refl
 images_cons : (x d : Datum) (f : List Datum) (b : Bool) → b ≡ is_at x d → images x (d ∷ f) ≡ cond b (cons_option (second_of (pair_parts d)) (images x f)) (images x f)
 images_cons x d f b e = ap (filter_map (λ c. second_of (pair_parts c))) (ap (λ t. cond t (d ∷ pairs_at x f) (pairs_at x f)) (sym e)) ∙ by_test x d f b
 
-
 has_images : (x y : Datum) (f : List Datum) → has_datum y (images x f) ≡ has_datum (pair x y) f
 unfolding added
 has_images x y [] = refl
@@ -86,6 +85,6 @@ has_images x y (d ∷ f) =
 
 pub images_by_pairs : TestsMembership → ImagesByPairs
 images_by_pairs tests x y f = (
-      λ c. (tests (pair x y) f).0 (sym (has_images x y f) ∙ (tests y (images x f)).1 c),
-      λ c. (tests y (images x f)).0 (has_images x y f ∙ (tests (pair x y) f).1 c),
-    )
+  λ c. (tests (pair x y) f).0 (sym (has_images x y f) ∙ (tests y (images x f)).1 c),
+  λ c. (tests y (images x f)).0 (has_images x y f ∙ (tests (pair x y) f).1 c),
+)

@@ -231,9 +231,9 @@ point_pairs x ys = map (λ y. pair x y) ys
 pairs_below : (x y : Datum) (ys : List Datum) → AllByRecursion (λ z. datum_cmp y z ≡ Less) ys → AllByRecursion (λ e. datum_cmp (pair x y) e ≡ Less) (point_pairs x ys)
 pairs_below x y [] a = tt
 pairs_below x y (z ∷ ys) a = (
-      ap (λ o. ordering_then o (ordering_then (datum_cmp y z) Equal)) (itself x) ∙ ap (λ o. ordering_then o Equal) a.0,
-      pairs_below x y ys a.1,
-    )
+  ap (λ o. ordering_then o (ordering_then (datum_cmp y z) Equal)) (itself x) ∙ ap (λ o. ordering_then o Equal) a.0,
+  pairs_below x y ys a.1,
+)
 
 rising_pairs : (x : Datum) (ys : List Datum) → IsRising ys → IsRising (point_pairs x ys)
 unfolding IsStrictlySortedBy
@@ -265,9 +265,9 @@ rising_between : (xs zs ys : List Datum) → IsRising (xs ++ ys) → IsRising zs
 unfolding IsStrictlySortedBy
 rising_between [] zs ys r s a b t = rising_append zs ys s t b
 rising_between (x ∷ xs) zs ys r s a b t = (
-      all_append (λ y. datum_cmp x y ≡ Less) (xs ++ zs) ys (all_append (λ y. datum_cmp x y ≡ Less) xs zs (all_left (λ y. datum_cmp x y ≡ Less) xs ys r.0) a.0) (all_right (λ y. datum_cmp x y ≡ Less) xs ys r.0),
-      rising_between xs zs ys r.1 s a.1 b t,
-    )
+  all_append (λ y. datum_cmp x y ≡ Less) (xs ++ zs) ys (all_append (λ y. datum_cmp x y ≡ Less) xs zs (all_left (λ y. datum_cmp x y ≡ Less) xs ys r.0) a.0) (all_right (λ y. datum_cmp x y ≡ Less) xs ys r.0),
+  rising_between xs zs ys r.1 s a.1 b t,
+)
 
 rising_right : (xs ys : List Datum) → IsRising (xs ++ ys) → IsRising ys
 unfolding IsStrictlySortedBy

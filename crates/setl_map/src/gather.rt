@@ -10,8 +10,9 @@ use setl_set::laws;
 use setl_value::{Memory, SetBody, Value};
 use std::alloc::Global;
 
-/// The set of these values, sorted and without repeats.
-pub(crate) fn gathered(alloc: Global, values: Vec<Value>) -> Result<SetBody, Memory>
+/// The set of these values, which may come in any order and with repeats. They are sorted once. The set is at most 500
+/// deep.
+pub fn gathered(alloc: Global, values: Vec<Value>) -> Result<SetBody, Memory>
     requires { depth (set_of (map datum values.items)) ≤ 500 }
     ensures { IfOk result (λ s. Members s ≡ set_from (map datum values.items)) }
 {

@@ -13,6 +13,7 @@ pub mod laws;
 mod maps;
 mod pairs;
 
+pub use gather::gathered;
 pub use maps::{domain, image, images, lessf, put, put_all, range};
 use setl_value::Memory;
 

@@ -158,12 +158,7 @@ fn is_deep(x: &Value, y: &Option<Value>) -> bool
 }
 
 // Makes `y` the one image of `x` in a map, or leaves `x` without an image.
-fn put_shallow(
-    alloc: Global,
-    f: &mut SetBody,
-    x: Value,
-    y: Option<Value>,
-) -> Result<(), Memory>
+fn put_shallow(alloc: Global, f: &mut SetBody, x: Value, y: Option<Value>) -> Result<(), Memory>
     requires map { IsTrue (is_map (Members f.old)) }
     requires shallow { nat_le 500 (pair_depth (datum x) (part y)) ≡ false }
     ensures put { OnOk result (Members f.new ≡ put_image (datum x) (part y) (Members f.old)) }

@@ -2,7 +2,10 @@
 #![tactic(auto)]
 
 mod answers;
+mod collections;
 mod numbers;
+mod selections;
+mod truths;
 
 pub use setl_map::Operator;
 use setl_value::{Memory, Value};
@@ -46,4 +49,3 @@ pub struct Answer {
     pub value: Option<Value>,
     pub charged: u64,
 }
-

@@ -85,6 +85,7 @@ pub(crate) fn lesser(a: &Value, b: &Value) -> Result<Answer, OpFault>
 }
 
 /// The sum, the union, or one after the other.
+#[tactic(auto, using(crate::proofs::Views::members_back, crate::proofs::Views::parts_back))]
 pub(crate) fn plus(alloc: Global, a: &Value, b: &Value) -> Result<Answer, OpFault>
     ensures { Tells result (plus (datum a.now) (datum b.now)) }
 {
@@ -108,6 +109,7 @@ fn joined(alloc: Global, a: &Text, b: &Text) -> Result<Answer, OpFault>
 }
 
 /// The difference.
+#[tactic(auto, using(crate::proofs::Views::members_back, crate::proofs::Views::parts_back))]
 pub(crate) fn minus(alloc: Global, a: &Value, b: &Value) -> Result<Answer, OpFault>
     ensures { Tells result (minus (datum a.now) (datum b.now)) }
 {
@@ -119,6 +121,7 @@ pub(crate) fn minus(alloc: Global, a: &Value, b: &Value) -> Result<Answer, OpFau
 }
 
 /// The remainder, or the symmetric difference.
+#[tactic(auto, using(crate::proofs::Views::members_back, crate::proofs::Views::parts_back))]
 pub(crate) fn modulo(alloc: Global, a: &Value, b: &Value) -> Result<Answer, OpFault>
     ensures { Tells result (modulo (datum a.now) (datum b.now)) }
 {

@@ -146,6 +146,6 @@ depth_drop (x ∷ xs) (suc i) = omega (arith, depth_drop xs i)
 pub depth_replaced : (ds : List Datum) (i j : ℕ) (ms : List Datum)
     → (depth (set_of ms) ≤ depth (set_of (replaced ds i j ms))) × (depth (set_of (replaced ds i j ms)) ≤ max (depth (set_of ds)) (depth (set_of ms)))
 depth_replaced ds i j ms = (
-      omega (arith, depth_append (take i ds ++ ms) (drop j ds), depth_append (take i ds) ms),
-      omega (arith, depth_append (take i ds ++ ms) (drop j ds), depth_append (take i ds) ms, depth_take ds i, depth_drop ds j),
-    )
+  omega (arith, depth_append (take i ds ++ ms) (drop j ds), depth_append (take i ds) ms),
+  omega (arith, depth_append (take i ds ++ ms) (drop j ds), depth_append (take i ds) ms, depth_take ds i, depth_drop ds j),
+)

@@ -31,7 +31,12 @@ pub(crate) fn cut_in<T: Clone>(items: &mut Rc<Vec<T>>, i: usize) -> Result<T, Me
 }
 
 /// Puts `by` in the place of the items from the `from`-th up to before the `to`-th.
-pub(crate) fn replace_in<T: Clone + Drop>(items: &mut Rc<Vec<T>>, from: usize, to: usize, by: Vec<T>) -> Result<(), Memory>
+pub(crate) fn replace_in<T: Clone + Drop>(
+    items: &mut Rc<Vec<T>>,
+    from: usize,
+    to: usize,
+    by: Vec<T>,
+) -> Result<(), Memory>
     requires exact { (x y : T) → T.is_clone x y → y ≡ x }
     requires inside { (from ≤ to) × (to ≤ length items.old.value.items) }
     ensures replaced { OnOk result (items.new.value.items ≡ take from items.old.value.items ++ by.items ++ drop to items.old.value.items) }
@@ -41,7 +46,12 @@ pub(crate) fn replace_in<T: Clone + Drop>(items: &mut Rc<Vec<T>>, from: usize, t
     replace_between(list, from, to, by)
 }
 
-fn replace_between<T: Drop>(list: &mut Vec<T>, from: usize, to: usize, by: Vec<T>) -> Result<(), Memory>
+fn replace_between<T: Drop>(
+    list: &mut Vec<T>,
+    from: usize,
+    to: usize,
+    by: Vec<T>,
+) -> Result<(), Memory>
     requires { (from ≤ to) × (to ≤ length list.old.items) }
     ensures replaced { OnOk result (list.new.items ≡ take from list.old.items ++ by.items ++ drop to list.old.items) }
     ensures refused { OnErr result (list.new.items ≡ list.old.items) }

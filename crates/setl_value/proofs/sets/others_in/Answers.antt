@@ -10,6 +10,6 @@ overflow_add-count c = omega (arith, c.loop-v.invariant.1, c.other-count.ensures
 
 pub loop-v-preserved : goal.loop-v-preserved
 loop-v-preserved c = (
-      omega (arith, c.loop-v.invariant.0, c.other-count.ensures, count_more c.args.members.now c.loop-v.v-index c.v-item.result (omega arith) c.v-item.is),
-      omega (arith, c.loop-v.invariant.1, c.other-count.ensures, at_most_one (is_some (pair_parts (datum c.v-item.result)))),
-    )
+  omega (arith, c.loop-v.invariant.0, c.other-count.ensures, count_more c.args.members.now c.loop-v.v-index c.v-item.result (omega arith) c.v-item.is),
+  omega (arith, c.loop-v.invariant.1, c.other-count.ensures, at_most_one (is_some (pair_parts (datum c.v-item.result)))),
+)
