@@ -2,14 +2,16 @@
 
 ghost use Rattle.std.specs.Prelude.{◌≡◌};
 ghost use Rattle.setl_value.specs.Body.{Members};
-ghost use Rattle.setl_value.specs.Datum.{set_of};
+ghost use Rattle.setl_value.specs.Datum.{set_of, tuple_of};
 ghost use Rattle.setl_value.specs.DatumOf.{datum};
-ghost use Rattle.setl_map.specs.Collections.{size, least_member, less_datum, domain, range, lessf_datum};
+ghost use Rattle.setl_map.specs.Collections.{size, least_member, less_datum, with_datum, domain, range, lessf_datum};
 ghost use Rattle.setl_operators.specs.Answers.{Tells};
 
-use crate::answers::{free, set};
+use crate::answers::{free, set, tuple};
 use crate::{Answer, OpFault};
-use setl_value::{SetBody, Value};
+use setl_set::SetFault;
+use setl_tuple::TupleFault;
+use setl_value::{SetBody, TupleBody, Value};
 use std::alloc::Global;
 
 /// The number of members, components or bytes.
@@ -57,13 +59,49 @@ pub(crate) fn less(whole: Value, v: &Value) -> Result<Answer, OpFault>
     }
 }
 
-#[tactic(auto, using(crate::proofs::Views::members_back))]
 fn without(s: SetBody, v: &Value) -> Result<Answer, OpFault>
     ensures { Tells result (less_datum (set_of (Members s)) (datum v.now)) }
 {
     let mut s = s;
     setl_set::less(&mut s, v)?;
     set(s)
+}
+
+/// A set with one member more, or a tuple with one component more.
+pub(crate) fn with(alloc: Global, whole: Value, v: Value) -> Result<Answer, OpFault>
+    ensures { Tells result (with_datum (datum whole) (datum v)) }
+{
+    match whole {
+        Value::Set(s) => with_member(alloc, s, v),
+        Value::Tuple(t) => with_component(t, v),
+        _ => Err(OpFault::Kind),
+    }
+}
+
+fn with_member(alloc: Global, s: SetBody, v: Value) -> Result<Answer, OpFault>
+    ensures { Tells result (with_datum (set_of (Members s)) (datum v)) }
+{
+    s.learn();
+    v.learn();
+    let mut s = s;
+    match setl_set::with(alloc, &mut s, v) {
+        Ok(()) => set(s),
+        Err(SetFault::Deep) => Err(OpFault::Deep),
+        Err(SetFault::NoMemory) => Err(OpFault::NoMemory),
+    }
+}
+
+fn with_component(t: TupleBody, v: Value) -> Result<Answer, OpFault>
+    ensures { Tells result (with_datum (tuple_of t) (datum v)) }
+{
+    t.learn();
+    v.learn();
+    let mut t = t;
+    match setl_tuple::with(&mut t, v) {
+        Ok(()) => tuple(t),
+        Err(TupleFault::Deep) => Err(OpFault::Deep),
+        Err(_) => Err(OpFault::NoMemory),
+    }
 }
 
 /// The set of the first parts of a map.
@@ -76,7 +114,6 @@ pub(crate) fn domain(alloc: Global, v: &Value) -> Result<Answer, OpFault>
     }
 }
 
-#[tactic(auto, using(crate::proofs::Views::members_back))]
 fn set_domain(alloc: Global, s: &SetBody) -> Result<Answer, OpFault>
     ensures { Tells result (domain (set_of (Members s.now))) }
 {
@@ -99,7 +136,6 @@ pub(crate) fn range(alloc: Global, v: &Value) -> Result<Answer, OpFault>
     }
 }
 
-#[tactic(auto, using(crate::proofs::Views::members_back))]
 fn set_range(alloc: Global, s: &SetBody) -> Result<Answer, OpFault>
     ensures { Tells result (range (set_of (Members s.now))) }
 {
@@ -122,7 +158,6 @@ pub(crate) fn lessf(alloc: Global, f: Value, x: &Value) -> Result<Answer, OpFaul
     }
 }
 
-#[tactic(auto, using(crate::proofs::Views::members_back))]
 fn without_point(alloc: Global, f: SetBody, x: &Value) -> Result<Answer, OpFault>
     ensures { Tells result (lessf_datum (set_of (Members f)) (datum x.now)) }
 {

@@ -1,15 +1,15 @@
 //! The arithmetic operators, some of which serve sets, tuples and strings too.
 
 ghost use Rattle.std.specs.Prelude.{◌++◌};
-ghost use Rattle.setl_value.specs.Datum.{text};
+ghost use Rattle.setl_value.specs.Datum.{text, tuple_of};
 ghost use Rattle.setl_value.specs.DatumOf.{datum};
 ghost use Rattle.setl_map.specs.Outcome.{value};
 ghost use Rattle.setl_operators.specs.Answers.{Tells};
-ghost use Rattle.setl_map.specs.Numbers.{negate, absolute, is_even, is_odd, raise, divide, greater, lesser, plus, minus, modulo};
+ghost use Rattle.setl_map.specs.Numbers.{negate, absolute, is_even, is_odd, raise, divide, greater, lesser, plus, minus, modulo, times, replicated};
 
 use crate::answers::{free, set, string, truth, tuple, whole};
 use crate::{Answer, OpFault};
-use setl_value::{Text, Value};
+use setl_value::{Text, TupleBody, Value};
 use std::alloc::Global;
 
 pub(crate) fn negate(v: &Value) -> Result<Answer, OpFault>
@@ -85,7 +85,6 @@ pub(crate) fn lesser(a: &Value, b: &Value) -> Result<Answer, OpFault>
 }
 
 /// The sum, the union, or one after the other.
-#[tactic(auto, using(crate::proofs::Views::members_back, crate::proofs::Views::parts_back))]
 pub(crate) fn plus(alloc: Global, a: &Value, b: &Value) -> Result<Answer, OpFault>
     ensures { Tells result (plus (datum a.now) (datum b.now)) }
 {
@@ -109,7 +108,6 @@ fn joined(alloc: Global, a: &Text, b: &Text) -> Result<Answer, OpFault>
 }
 
 /// The difference.
-#[tactic(auto, using(crate::proofs::Views::members_back, crate::proofs::Views::parts_back))]
 pub(crate) fn minus(alloc: Global, a: &Value, b: &Value) -> Result<Answer, OpFault>
     ensures { Tells result (minus (datum a.now) (datum b.now)) }
 {
@@ -121,7 +119,6 @@ pub(crate) fn minus(alloc: Global, a: &Value, b: &Value) -> Result<Answer, OpFau
 }
 
 /// The remainder, or the symmetric difference.
-#[tactic(auto, using(crate::proofs::Views::members_back, crate::proofs::Views::parts_back))]
 pub(crate) fn modulo(alloc: Global, a: &Value, b: &Value) -> Result<Answer, OpFault>
     ensures { Tells result (modulo (datum a.now) (datum b.now)) }
 {
@@ -129,5 +126,58 @@ pub(crate) fn modulo(alloc: Global, a: &Value, b: &Value) -> Result<Answer, OpFa
         (Value::Int(x), Value::Int(y)) => whole(setl_scalar::modulo(*x, *y)),
         (Value::Set(x), Value::Set(y)) => set(setl_set::symm(alloc, x, y)?),
         _ => Err(OpFault::Kind),
+    }
+}
+
+/// The product, the intersection, or copies one after another, which charge their number.
+pub(crate) fn times(alloc: Global, a: &Value, b: &Value, turns: u64) -> Result<Answer, OpFault>
+    ensures { Tells result (times turns (datum a.now) (datum b.now)) }
+{
+    match (a, b) {
+        (Value::Int(x), Value::Int(y)) => whole(setl_scalar::mul(*x, *y)),
+        (Value::Set(x), Value::Set(y)) => set(setl_set::meet(alloc, x, y)?),
+        (Value::Int(n), Value::Tuple(t)) => tuples(alloc, *n, t, turns),
+        (Value::Tuple(t), Value::Int(n)) => tuples(alloc, *n, t, turns),
+        (Value::Int(n), Value::Text(t)) => strings(alloc, *n, t, turns),
+        (Value::Text(t), Value::Int(n)) => strings(alloc, *n, t, turns),
+        _ => Err(OpFault::Kind),
+    }
+}
+
+/// Copies of a tuple.
+fn tuples(alloc: Global, n: i128, t: &TupleBody, turns: u64) -> Result<Answer, OpFault>
+    ensures { Tells result (replicated turns n (tuple_of t.now)) }
+{
+    if n < 0 {
+        return Err(OpFault::Range);
+    }
+    if n > i128::from(turns) {
+        return Err(OpFault::Spent);
+    }
+    match setl_tuple::repeat(alloc, t, n) {
+        Ok(s) => Ok(Answer {
+            value: Some(Value::Tuple(s)),
+            charged: n as u64,
+        }),
+        Err(_) => Err(OpFault::NoMemory),
+    }
+}
+
+/// Copies of a string.
+fn strings(alloc: Global, n: i128, t: &Text, turns: u64) -> Result<Answer, OpFault>
+    ensures { Tells result (replicated turns n (text t.now)) }
+{
+    if n < 0 {
+        return Err(OpFault::Range);
+    }
+    if n > i128::from(turns) {
+        return Err(OpFault::Spent);
+    }
+    match setl_scalar::repeat(alloc, t, n) {
+        Ok(s) => Ok(Answer {
+            value: Some(Value::Text(s)),
+            charged: n as u64,
+        }),
+        Err(_) => Err(OpFault::NoMemory),
     }
 }

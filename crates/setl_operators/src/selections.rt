@@ -32,7 +32,6 @@ pub(crate) fn get(alloc: Global, whole: &Value, at: &Value) -> Result<Answer, Op
     }
 }
 
-#[tactic(auto, using(crate::proofs::Views::members_back))]
 fn image(alloc: Global, f: &SetBody, x: &Value) -> Result<Answer, OpFault>
     ensures { Tells result (get (set_of (Members f.now)) (datum x.now)) }
 {
@@ -91,7 +90,6 @@ pub(crate) fn images(alloc: Global, f: &Value, x: &Value) -> Result<Answer, OpFa
     }
 }
 
-#[tactic(auto, using(crate::proofs::Views::members_back))]
 fn set_images(alloc: Global, f: &SetBody, x: &Value) -> Result<Answer, OpFault>
     ensures { Tells result (images_of (set_of (Members f.now)) (datum x.now)) }
 {

@@ -100,7 +100,6 @@ fn is_at(v: &Value, t: &TupleBody, i: usize) -> bool
 }
 
 /// Whether all members of one set are members of the other.
-#[tactic(auto, using(crate::proofs::Views::members_back))]
 pub(crate) fn subset(a: &Value, b: &Value) -> Result<Answer, OpFault>
     ensures { Tells result (subset (datum a.now) (datum b.now)) }
 {
