@@ -66,8 +66,8 @@ shallow d h = let t : nat_le (depth d) 500 ≡ true = grind (arith, nat_tests) i
 pub too_deep : (d : Datum) → 500 < depth d → within_depth d ≡ Fails DeepFault
 too_deep d h = let t : nat_le (depth d) 500 ≡ false = grind (arith, nat_tests) in ap (λ b. if b then value d else Fails DeepFault) t
 
-pub with_set : (xs : List Datum) (d : Datum) → depth (set_of xs) ≤ 500 → depth d < 500 → set_value (insert_datum d xs) ≡ with_datum (set_of xs) d
-with_set xs d h k = shallow (set_of (insert_datum d xs)) (omega (arith, depth_insert d xs)) ∙ ap (λ l. within_depth (set_of (insert_datum d l))) (sym (members_back xs))
+pub with_set : (xs : List Datum) (d : Datum) → within_depth (set_of (insert_datum d xs)) ≡ with_datum (set_of xs) d
+with_set xs d = ap (λ l. within_depth (set_of (insert_datum d l))) (sym (members_back xs))
 
 pub with_deep_set : (xs : List Datum) (d : Datum) → depth d ≡ 500 → with_datum (set_of xs) d ≡ Fails DeepFault
 with_deep_set xs d k = ap (λ l. within_depth (set_of (insert_datum d l))) (members_back xs) ∙ too_deep (set_of (insert_datum d xs)) (omega (arith, depth_insert d xs))
@@ -77,8 +77,8 @@ parts_snoc [] d = omega arith
 parts_snoc (None ∷ ps) d = parts_snoc ps d
 parts_snoc (Some e ∷ ps) d = omega (arith, parts_snoc ps d)
 
-pub with_tuple : (ps : List (Option Datum)) (d : Datum) → depth (tuple_of ps) ≤ 500 → depth d < 500 → tuple_value (with_of ps d) ≡ with_datum (tuple_of ps) d
-with_tuple ps d h k = shallow (tuple_of (with_of ps d)) (omega (arith, parts_snoc ps d)) ∙ ap (λ l. within_depth (tuple_of (with_of l d))) (sym (parts_back ps))
+pub with_tuple : (ps : List (Option Datum)) (d : Datum) → within_depth (tuple_of (with_of ps d)) ≡ with_datum (tuple_of ps) d
+with_tuple ps d = ap (λ l. within_depth (tuple_of (with_of l d))) (sym (parts_back ps))
 
 pub with_deep_tuple : (ps : List (Option Datum)) (d : Datum) → depth d ≡ 500 → with_datum (tuple_of ps) d ≡ Fails DeepFault
 with_deep_tuple ps d k = ap (λ l. within_depth (tuple_of (with_of l d))) (parts_back ps) ∙ too_deep (tuple_of (with_of ps d)) (omega (arith, parts_snoc ps d))

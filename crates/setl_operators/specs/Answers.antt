@@ -1,6 +1,9 @@
 -- What a call of an operator tells of the operator's outcome.
-use Rattle.std.specs.Prelude.{◌≡◌, Result, Ok, Err}
-use Rattle.setl_value.specs.DatumOf.{part}
+use Rattle.std.specs.Prelude.{◌≡◌, List, map, Vec, Result, Ok, Err}
+use Rattle.std.proofs.Common.{Global}
+use Rattle.setl_value.specs.Datum.{Datum}
+use Rattle.setl_value.specs.declared.Value.{Value}
+use Rattle.setl_value.specs.DatumOf.{datum, part}
 use Rattle.setl_operators.specs.declared.Answer.{Answer}
 use Rattle.setl_operators.specs.declared.OpFault.{OpFault}
 use Rattle.setl_operators.specs.declared.OpFault.TheVariants.{Kind, Om, Wide, Zero, Range, Deep, Spent, NoMemory}
@@ -17,3 +20,7 @@ Tells (Err Range) o = o ≡ Fails RangeFault
 Tells (Err Deep) o = o ≡ Fails DeepFault
 Tells (Err Spent) o = o ≡ Overspends
 Tells (Err NoMemory) o = Unit {0}
+
+-- the data of a list of values
+abbrev pub value_data : Vec Value Global → List Datum
+value_data vs = map datum vs.items

@@ -2,11 +2,11 @@
 
 ghost use Rattle.std.specs.Prelude.{◌≡◌, ℤ, Result, IfOk, Ok, Err};
 ghost use Rattle.setl_value.specs.Body.{Members};
-ghost use Rattle.setl_value.specs.Datum.{text};
+ghost use Rattle.setl_value.specs.Datum.{set_of, text, tuple_of};
 ghost use Rattle.setl_value.specs.DatumOf.{datum};
 ghost use Rattle.setl_operators.specs.Answers.{Tells};
 ghost use Rattle.setl_map.specs.Numbers.{whole};
-ghost use Rattle.setl_map.specs.Outcome.{value, truth, set_value, tuple_value};
+ghost use Rattle.setl_map.specs.Outcome.{value, truth, set_value, tuple_value, within_depth};
 
 use crate::{Answer, OpFault};
 use setl_scalar::ScalarFault;
@@ -61,4 +61,20 @@ pub(crate) fn whole(r: Result<i128, ScalarFault>) -> Result<Answer, OpFault>
         Err(ScalarFault::Range) => Err(OpFault::Range),
         Err(ScalarFault::NoMemory) => Err(OpFault::NoMemory),
     }
+}
+
+/// A set, which is at most 500 deep as each value is.
+pub(crate) fn shallow_set(s: SetBody) -> Result<Answer, OpFault>
+    ensures { Tells result (within_depth (set_of (Members s))) }
+{
+    s.learn();
+    set(s)
+}
+
+/// A tuple, which is at most 500 deep as each value is.
+pub(crate) fn shallow_tuple(t: TupleBody) -> Result<Answer, OpFault>
+    ensures { Tells result (within_depth (tuple_of t)) }
+{
+    t.learn();
+    tuple(t)
 }

@@ -7,7 +7,7 @@ ghost use Rattle.setl_value.specs.DatumOf.{datum};
 ghost use Rattle.setl_map.specs.Collections.{size, least_member, less_datum, with_datum, domain, range, lessf_datum};
 ghost use Rattle.setl_operators.specs.Answers.{Tells};
 
-use crate::answers::{free, set, tuple};
+use crate::answers::{free, set, shallow_set, shallow_tuple};
 use crate::{Answer, OpFault};
 use setl_set::SetFault;
 use setl_tuple::TupleFault;
@@ -81,11 +81,9 @@ pub(crate) fn with(alloc: Global, whole: Value, v: Value) -> Result<Answer, OpFa
 fn with_member(alloc: Global, s: SetBody, v: Value) -> Result<Answer, OpFault>
     ensures { Tells result (with_datum (set_of (Members s)) (datum v)) }
 {
-    s.learn();
-    v.learn();
     let mut s = s;
     match setl_set::with(alloc, &mut s, v) {
-        Ok(()) => set(s),
+        Ok(()) => shallow_set(s),
         Err(SetFault::Deep) => Err(OpFault::Deep),
         Err(SetFault::NoMemory) => Err(OpFault::NoMemory),
     }
@@ -94,11 +92,9 @@ fn with_member(alloc: Global, s: SetBody, v: Value) -> Result<Answer, OpFault>
 fn with_component(t: TupleBody, v: Value) -> Result<Answer, OpFault>
     ensures { Tells result (with_datum (tuple_of t) (datum v)) }
 {
-    t.learn();
-    v.learn();
     let mut t = t;
     match setl_tuple::with(&mut t, v) {
-        Ok(()) => tuple(t),
+        Ok(()) => shallow_tuple(t),
         Err(TupleFault::Deep) => Err(OpFault::Deep),
         Err(_) => Err(OpFault::NoMemory),
     }

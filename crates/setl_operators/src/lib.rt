@@ -3,6 +3,7 @@
 
 mod answers;
 mod collections;
+mod enumerations;
 mod numbers;
 mod selections;
 mod truths;
