@@ -301,3 +301,13 @@ fn a_copy_stays_while_the_body_changes(rt: HostRuntime) -> Result<(), Fail> {
     assert_eq!(rt; tuple_beside_copy(alloc)?, (Some(3), Some(1)));
     Ok(())
 }
+
+#[test]
+fn only_pairs_make_a_map(rt: HostRuntime) -> Result<(), Fail> {
+    let alloc = rt.alloc();
+    let empty = SetBody::new(alloc)?;
+    let numbers = one_and_two(alloc)?;
+    assert!(rt; empty.is_map());
+    assert!(rt; !numbers.is_map());
+    Ok(())
+}

@@ -1,0 +1,53 @@
+use Rattle.std.proofs.Common.{arith, ◌≡◌, ◌∙◌, ap, sym, subst, rules, append-nil, take, drop, map, ◌++◌, ◌∷◌, [], OnOk, Some}
+use Rattle.setl_value.specs.Body.{Members}
+use Rattle.setl_value.specs.Datum.{depth, set_of}
+use Rattle.setl_value.specs.DatumOf.{datum}
+use Rattle.setl_value.specs.Order.{IsRising}
+use Rattle.setl_map.proofs.Bounds.{rising_from_set}
+use Rattle.setl_map.proofs.PairFacts.{all_pairs}
+use Rattle.setl_map.proofs.Spans.{IsSplit, split_by_bounds}
+use Rattle.setl_map.specs.Maps.{put_image}
+use Rattle.setl_map.proofs.MapResults.{put_between, rising_put, depth_put, depth_without}
+use Rattle.setl_map.proofs.maps.put_pair.Goals as goal
+
+pub replace-requires-clause-inside : goal.replace-requires-clause-inside
+replace-requires-clause-inside c =
+    let ds = Members c.args.f.now in
+    let s = split_by_bounds (datum c.args.x) ds c.span-from.result.0 c.span-from.result.1 (all_pairs ds c.requires.map) c.span-from.ensures.from c.span-from.ensures.to in
+    (s.ordered, c.span-from.ensures.to.within)
+
+pub replace-requires-clause-rising : goal.replace-requires-clause-rising
+replace-requires-clause-rising c =
+    let ds = Members c.args.f.now in
+    let x = datum c.args.x in
+    let y = datum c.args.y in
+    let i = c.span-from.result.0 in
+    let j = c.span-from.result.1 in
+    let p = all_pairs ds c.requires.map in
+    let s = split_by_bounds x ds i j p c.span-from.ensures.from c.span-from.ensures.to in
+    let e : take i ds ++ map datum c.in_ok-pairs.pairs.items ++ drop j ds ≡ put_image x (Some y) ds = ap (λ l. take i ds ++ l ++ drop j ds) c.in_ok-pairs.ensures ∙ put_between x y ds i j p c.span-from.ensures.from c.span-from.ensures.to s in
+    subst IsRising (sym e) (rising_put c.operations_have_their_members.ensures.insert x y ds (rising_from_set ds c.learn.ensures))
+
+pub replace-requires-clause-shallow : goal.replace-requires-clause-shallow
+replace-requires-clause-shallow c =
+    let ds = Members c.args.f.now in
+    let x = datum c.args.x in
+    let y = datum c.args.y in
+    let i = c.span-from.result.0 in
+    let j = c.span-from.result.1 in
+    let p = all_pairs ds c.requires.map in
+    let s = split_by_bounds x ds i j p c.span-from.ensures.from c.span-from.ensures.to in
+    let e : take i ds ++ map datum c.in_ok-pairs.pairs.items ++ drop j ds ≡ put_image x (Some y) ds = ap (λ l. take i ds ++ l ++ drop j ds) c.in_ok-pairs.ensures ∙ put_between x y ds i j p c.span-from.ensures.from c.span-from.ensures.to s in
+    omega (arith, ap (λ l. depth (set_of l)) e, depth_put x y ds, depth_without x ds, c.learn.ensures.1, c.requires.shallow)
+
+pub returns-clause-put : goal.returns-clause-put
+returns-clause-put c =
+    let ds = Members c.args.f.now in
+    let x = datum c.args.x in
+    let y = datum c.args.y in
+    let i = c.span-from.result.0 in
+    let j = c.span-from.result.1 in
+    let p = all_pairs ds c.requires.map in
+    let s = split_by_bounds x ds i j p c.span-from.ensures.from c.span-from.ensures.to in
+    let e : take i ds ++ map datum c.in_ok-pairs.pairs.items ++ drop j ds ≡ put_image x (Some y) ds = ap (λ l. take i ds ++ l ++ drop j ds) c.in_ok-pairs.ensures ∙ put_between x y ds i j p c.span-from.ensures.from c.span-from.ensures.to s in
+    subst (λ l. OnOk c.replace.result (Members c.replace.new.self ≡ l)) e c.replace.ensures.replaced

@@ -1,0 +1,252 @@
+//! The calls on maps.
+
+ghost use Rattle.std.specs.Prelude.{◌≡◌, ◌↔◌, ◌⊎◌, ◌<◌, ◌∷◌, [], true, false, map, length, Some, IfOk, OnErr, OnOk, IsTrue, Err, nat_le, nat_lt};
+ghost use Rattle.setl_value.specs.Body.{Members};
+ghost use Rattle.setl_value.specs.Datum.{depth, set_of};
+ghost use Rattle.setl_value.specs.DatumOf.{datum, part};
+ghost use Rattle.setl_value.specs.Pairs.{is_map, images, pair};
+ghost use Rattle.std.specs.List.{filter_map};
+ghost use Rattle.setl_set.specs.Sets.{set_from};
+ghost use Rattle.setl_map.specs.Points.{part_at, pair_depth};
+ghost use Rattle.setl_map.specs.Maps.{image, domain_of, range_of, without_point, put_image, put_images};
+
+use crate::MapFault;
+use crate::gather::gathered;
+use crate::pairs::{make_pair, parts_between, span};
+use setl_set::laws;
+use setl_value::{Memory, SetBody, Value};
+use std::alloc::Global;
+
+/// The one image of `x`, and None where it has none or several. Kind exactly where a member is no pair. Its cost is
+/// that of two searches by halving.
+pub fn image(alloc: Global, f: &SetBody, x: &Value) -> Result<Option<Value>, MapFault>
+    ensures value { IfOk result (λ y. part y ≡ image (datum x.now) (Members f.now)) }
+    ensures kind { (result ≡ Err MapFault.Kind) ↔ (is_map (Members f.now) ≡ false) }
+    ensures never_deep { result ≡ Err MapFault.Deep → ⊥ }
+{
+    if !f.is_map() {
+        return Err(MapFault::Kind);
+    }
+    Ok(only_image(alloc, f, x)?)
+}
+
+// The one image of `x` in a map.
+fn only_image(alloc: Global, f: &SetBody, x: &Value) -> Result<Option<Value>, Memory>
+    requires { IsTrue (is_map (Members f.now)) }
+    ensures { IfOk result (λ y. part y ≡ image (datum x.now) (Members f.now)) }
+{
+    let (from, to) = span(f, x);
+    if to - from != 1 {
+        return Ok(None);
+    }
+    let mut image = parts_between(alloc, f, false, from, to)?;
+    Ok(image.pop())
+}
+
+/// The set of the images of `x`. Kind exactly where a member is no pair.
+pub fn images(alloc: Global, f: &SetBody, x: &Value) -> Result<SetBody, MapFault>
+    ensures value { IfOk result (λ s. Members s ≡ images (datum x.now) (Members f.now)) }
+    ensures kind { (result ≡ Err MapFault.Kind) ↔ (is_map (Members f.now) ≡ false) }
+    ensures never_deep { result ≡ Err MapFault.Deep → ⊥ }
+{
+    if !f.is_map() {
+        return Err(MapFault::Kind);
+    }
+    Ok(all_images(alloc, f, x)?)
+}
+
+// The set of the images of `x` in a map.
+fn all_images(alloc: Global, f: &SetBody, x: &Value) -> Result<SetBody, Memory>
+    requires { IsTrue (is_map (Members f.now)) }
+    ensures { IfOk result (λ s. Members s ≡ images (datum x.now) (Members f.now)) }
+{
+    f.learn();
+    let (from, to) = span(f, x);
+    let images = parts_between(alloc, f, false, from, to)?;
+    let set = SetBody::from_rising(alloc, images)?;
+    Ok(set)
+}
+
+/// The set of first parts. Kind exactly where a member is no pair.
+pub fn domain(alloc: Global, f: &SetBody) -> Result<SetBody, MapFault>
+    ensures value { IfOk result (λ s. Members s ≡ domain_of (Members f.now)) }
+    ensures kind { (result ≡ Err MapFault.Kind) ↔ (is_map (Members f.now) ≡ false) }
+    ensures never_deep { result ≡ Err MapFault.Deep → ⊥ }
+{
+    if !f.is_map() {
+        return Err(MapFault::Kind);
+    }
+    Ok(set_of_parts(alloc, f, true)?)
+}
+
+/// The set of images. Kind exactly where a member is no pair.
+pub fn range(alloc: Global, f: &SetBody) -> Result<SetBody, MapFault>
+    ensures value { IfOk result (λ s. Members s ≡ range_of (Members f.now)) }
+    ensures kind { (result ≡ Err MapFault.Kind) ↔ (is_map (Members f.now) ≡ false) }
+    ensures never_deep { result ≡ Err MapFault.Deep → ⊥ }
+{
+    if !f.is_map() {
+        return Err(MapFault::Kind);
+    }
+    Ok(set_of_parts(alloc, f, false)?)
+}
+
+// The set of first parts, or else of second parts.
+fn set_of_parts(alloc: Global, f: &SetBody, first: bool) -> Result<SetBody, Memory>
+    ensures { IfOk result (λ s. Members s ≡ set_from (filter_map (part_at first) (Members f.now))) }
+{
+    f.learn();
+    let parts = parts_between(alloc, f, first, 0, f.len())?;
+    let set = gathered(alloc, parts)?;
+    Ok(set)
+}
+
+/// Takes all pairs with the first part `x` out. Kind exactly where a member is no pair. After a fault the map is as
+/// before.
+pub fn lessf(alloc: Global, f: &mut SetBody, x: &Value) -> Result<(), MapFault>
+    ensures removed { OnOk result (Members f.new ≡ without_point (datum x.now) (Members f.old)) }
+    ensures refused { OnErr result (f.new ≡ f.old) }
+    ensures kind { (result ≡ Err MapFault.Kind) ↔ (is_map (Members f.old) ≡ false) }
+    ensures never_deep { result ≡ Err MapFault.Deep → ⊥ }
+{
+    if !f.is_map() {
+        return Err(MapFault::Kind);
+    }
+    Ok(remove_point(alloc, f, x)?)
+}
+
+// Takes all pairs with the first part `x` out of a map.
+fn remove_point(alloc: Global, f: &mut SetBody, x: &Value) -> Result<(), Memory>
+    requires { IsTrue (is_map (Members f.old)) }
+    ensures removed { OnOk result (Members f.new ≡ without_point (datum x.now) (Members f.old)) }
+    ensures refused { OnErr result (f.new ≡ f.old) }
+{
+    let (from, to) = span(f, x);
+    f.learn();
+    if from == to {
+        return Ok(());
+    }
+    f.replace(from, to, Vec::new(alloc))
+}
+
+/// Makes `y` the one image of `x`, or leaves `x` without an image where `y` is None. Kind exactly where a member is no
+/// pair, Deep exactly where the map would be more than 500 deep. After a fault the map is as before.
+pub fn put(alloc: Global, f: &mut SetBody, x: Value, y: Option<Value>) -> Result<(), MapFault>
+    ensures put { OnOk result (Members f.new ≡ put_image (datum x) (part y) (Members f.old)) }
+    ensures refused { OnErr result (f.new ≡ f.old) }
+    ensures kind { (result ≡ Err MapFault.Kind) ↔ (is_map (Members f.old) ≡ false) }
+    ensures deep { (result ≡ Err MapFault.Deep) ↔ ((is_map (Members f.old) ≡ true) × (500 < depth (set_of (put_image (datum x) (part y) (Members f.old))))) }
+{
+    if !f.is_map() {
+        return Err(MapFault::Kind);
+    }
+    f.learn();
+    if is_deep(&x, &y) {
+        return Err(MapFault::Deep);
+    }
+    Ok(put_shallow(alloc, f, x, y)?)
+}
+
+// Whether a map with the pair of `x` and `y` would be more than 500 deep.
+fn is_deep(x: &Value, y: &Option<Value>) -> bool
+    ensures { result ≡ nat_le 500 (pair_depth (datum x.now) (part y.now)) }
+{
+    match y {
+        None => false,
+        Some(y) => x.depth().max(y.depth()) >= 499,
+    }
+}
+
+// Makes `y` the one image of `x` in a map, or leaves `x` without an image.
+fn put_shallow(alloc: Global, f: &mut SetBody, x: Value, y: Option<Value>) -> Result<(), Memory>
+    requires map { IsTrue (is_map (Members f.old)) }
+    requires shallow { nat_le 500 (pair_depth (datum x) (part y)) ≡ false }
+    ensures put { OnOk result (Members f.new ≡ put_image (datum x) (part y) (Members f.old)) }
+    ensures refused { OnErr result (f.new ≡ f.old) }
+{
+    match y {
+        None => remove_point(alloc, f, &x),
+        Some(y) => put_pair(alloc, f, x, y),
+    }
+}
+
+// Makes `y` the one image of `x` in a map.
+fn put_pair(alloc: Global, f: &mut SetBody, x: Value, y: Value) -> Result<(), Memory>
+    requires map { IsTrue (is_map (Members f.old)) }
+    requires shallow { depth (pair (datum x) (datum y)) < 500 }
+    ensures put { OnOk result (Members f.new ≡ put_image (datum x) (Some (datum y)) (Members f.old)) }
+    ensures refused { OnErr result (f.new ≡ f.old) }
+{
+    laws::operations_have_their_members();
+    f.learn();
+    let (from, to) = span(f, &x);
+    let pairs = one_pair(alloc, x, y)?;
+    f.replace(from, to, pairs)
+}
+
+// The list of one pair.
+fn one_pair(alloc: Global, x: Value, y: Value) -> Result<Vec<Value>, Memory>
+    requires { depth (pair (datum x) (datum y)) < 500 }
+    ensures { IfOk result (λ ps. map datum ps.items ≡ pair (datum x) (datum y) ∷ []) }
+{
+    let mut pairs = Vec::with_capacity(alloc, 1)?;
+    pairs.push(make_pair(alloc, x, y)?)?;
+    Ok(pairs)
+}
+
+/// Makes the members of `s` the images of `x`. Kind exactly where a member of the map is no pair, Deep exactly where the
+/// map would be more than 500 deep. After a fault the map is as before.
+pub fn put_all(alloc: Global, f: &mut SetBody, x: Value, s: &SetBody) -> Result<(), MapFault>
+    ensures put { OnOk result (Members f.new ≡ put_images (datum x) (Members s.now) (Members f.old)) }
+    ensures refused { OnErr result (f.new ≡ f.old) }
+    ensures kind { (result ≡ Err MapFault.Kind) ↔ (is_map (Members f.old) ≡ false) }
+    ensures deep { (result ≡ Err MapFault.Deep) ↔ ((is_map (Members f.old) ≡ true) × (500 < depth (set_of (put_images (datum x) (Members s.now) (Members f.old))))) }
+{
+    if !f.is_map() {
+        return Err(MapFault::Kind);
+    }
+    f.learn();
+    if are_deep(&x, s) {
+        return Err(MapFault::Deep);
+    }
+    Ok(put_shallow_images(alloc, f, &x, s)?)
+}
+
+// Whether a map with the pairs of `x` and each member of `s` would be more than 500 deep.
+fn are_deep(x: &Value, s: &SetBody) -> bool
+    ensures { result ≡ nat_lt 500 (depth (set_of (map (λ y. pair (datum x.now) y) (Members s.now)))) }
+{
+    x.learn();
+    s.learn();
+    s.len() != 0 && (x.depth() + 1).max(s.depth()) >= 500
+}
+
+// Makes the members of `s` the images of `x` in a map.
+fn put_shallow_images(alloc: Global, f: &mut SetBody, x: &Value, s: &SetBody) -> Result<(), Memory>
+    requires map { IsTrue (is_map (Members f.old)) }
+    requires shallow { nat_lt 500 (depth (set_of (map (λ y. pair (datum x.now) y) (Members s.now)))) ≡ false }
+    ensures put { OnOk result (Members f.new ≡ put_images (datum x.now) (Members s.now) (Members f.old)) }
+    ensures refused { OnErr result (f.new ≡ f.old) }
+{
+    laws::rising_lists_agree();
+    laws::tests_are_exact();
+    laws::operations_have_their_members();
+    f.learn();
+    s.learn();
+    let (from, to) = span(f, x);
+    let pairs = pairs_from(alloc, x, s)?;
+    f.replace(from, to, pairs)
+}
+
+// The pairs of `x` and each member of `s`.
+fn pairs_from(alloc: Global, x: &Value, s: &SetBody) -> Result<Vec<Value>, Memory>
+    requires { nat_lt 500 (depth (set_of (map (λ y. pair (datum x.now) y) (Members s.now)))) ≡ false }
+    ensures { IfOk result (λ ps. map datum ps.items ≡ map (λ y. pair (datum x.now) y) (Members s.now)) }
+{
+    let mut pairs = Vec::with_capacity(alloc, s.len())?;
+    for i in 0..s.len() {
+        let y = s.at(i);
+        pairs.push(make_pair(alloc, x.copy()?, y.copy()?)?)?;
+    }
+    Ok(pairs)
+}

@@ -1,0 +1,64 @@
+//! The enumerations `{a, b, ..}` and `[a, b, ..]`.
+
+ghost use Rattle.std.specs.Prelude.{◌≡◌, ◌++◌, ◌∷◌, [], map, nat_lt, IfOk, OnOk};
+ghost use Rattle.std.specs.Option.{option_map};
+ghost use Rattle.setl_value.specs.Datum.{depth, set_of};
+ghost use Rattle.setl_value.specs.DatumOf.{datum, part};
+ghost use Rattle.setl_map.specs.Collections.{enumerate_set};
+ghost use Rattle.setl_map.specs.Outcome.{all_values};
+ghost use Rattle.setl_operators.specs.Answers.{Tells, value_data};
+
+use crate::answers::set;
+use crate::{Answer, OpFault};
+use setl_value::{Memory, Value};
+use std::alloc::Global;
+
+/// The set of some operands, of which none is `om`.
+pub(crate) fn enumerate_set(alloc: Global, operands: &[Option<Value>]) -> Result<Answer, OpFault>
+    ensures { Tells result (enumerate_set (all_values (map part operands.now))) }
+{
+    let Some(values) = all_values(alloc, operands)? else {
+        return Err(OpFault::Om);
+    };
+    if are_deep(values.as_slice()) {
+        return Err(OpFault::Deep);
+    }
+    set(setl_map::gathered(alloc, values)?)
+}
+
+/// Copies of some operands, and None where one of them is `om`.
+pub(crate) fn all_values(
+    alloc: Global,
+    operands: &[Option<Value>],
+) -> Result<Option<Vec<Value>>, Memory>
+    ensures { IfOk result (λ o. all_values (map part operands.now) ≡ option_map value_data o) }
+{
+    let mut values = Vec::with_capacity(alloc, operands.len())?;
+    for operand in operands {
+        match operand {
+            None => return Ok(None),
+            Some(v) => push_copy(v, &mut values)?,
+        }
+    }
+    Ok(Some(values))
+}
+
+fn push_copy(v: &Value, values: &mut Vec<Value>) -> Result<(), Memory>
+    ensures { OnOk result (map datum values.new.items ≡ map datum values.old.items ++ datum v.now ∷ []) }
+{
+    values.push(v.copy()?)?;
+    Ok(())
+}
+
+/// Whether the set of these values would be more than 500 deep.
+fn are_deep(values: &[Value]) -> bool
+    ensures { result ≡ nat_lt 500 (depth (set_of (map datum values.now))) }
+{
+    for v in values {
+        v.learn();
+        if v.depth() == 500 {
+            return true;
+        }
+    }
+    false
+}
