@@ -26,5 +26,8 @@ pub mod StraightRuns
 pub mod Means
 pub mod Answers
 pub mod Laws
+pub mod Source
 pub mod Samples
 pub mod LanguageSamples
+pub mod Table
+pub mod worked

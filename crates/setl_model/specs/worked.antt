@@ -1,0 +1,17 @@
+pub mod Integers
+pub mod Comparisons
+pub mod Sets
+pub mod Sequences
+pub mod Ranges
+pub mod Maps
+pub mod Updates
+pub mod Folds
+pub mod Loops
+pub mod Formers
+pub mod Quantifiers
+pub mod Procedures
+pub mod Backtracking
+pub mod Reading
+pub mod Declarations
+pub mod Events
+pub mod Whole
