@@ -98,3 +98,54 @@ depth_insert [] zero d = omega arith
 depth_insert [] (suc i) d = omega arith
 depth_insert (e ∷ ds) zero d = omega arith
 depth_insert (e ∷ ds) (suc i) d = omega (arith, depth_insert ds i d)
+
+-- ---- some members in the place of others
+
+all_take : {X : Type 0} (P : X → Type 0) (xs : List X) (i : ℕ) → AllByRecursion P xs → AllByRecursion P (take i xs)
+all_take P xs zero a = tt
+all_take P [] (suc i) a = tt
+all_take P (x ∷ xs) (suc i) a = (a.0, all_take P xs i a.1)
+
+all_drop : {X : Type 0} (P : X → Type 0) (xs : List X) (i : ℕ) → AllByRecursion P xs → AllByRecursion P (drop i xs)
+all_drop P xs zero a = a
+all_drop P [] (suc i) a = tt
+all_drop P (x ∷ xs) (suc i) a = all_drop P xs i a.1
+
+all_append : {X : Type 0} (P : X → Type 0) (xs ys : List X) → AllByRecursion P xs → AllByRecursion P ys → AllByRecursion P (xs ++ ys)
+all_append P [] ys a b = b
+all_append P (x ∷ xs) ys a b = (a.0, all_append P xs ys a.1 b)
+
+-- ms in the place of the members from the i-th up to before the j-th
+abbrev pub replaced : {X : Type 0} → List X → ℕ → ℕ → List X → List X
+replaced xs i j ys = take i xs ++ ys ++ drop j xs
+
+pub map-replaced : {X Y : Type 0} (f : X → Y) (xs : List X) (i j : ℕ) (ys : List X) → map f (replaced xs i j ys) ≡ replaced (map f xs) i j (map f ys)
+map-replaced f xs i j ys =
+    map-append f (take i xs ++ ys) (drop j xs) ∙ ap (λ l. l ++ map f (drop j xs)) (map-append f (take i xs) ys) ∙ (λ k. sym (take-map f i xs) k ++ map f ys ++ sym (drop-map f j xs) k)
+
+pub set_replaced : (ds : List Datum) (i j : ℕ) (ms : List Datum) → IsSetList ds → AllByRecursion IsWellFormed ms → IsRising (replaced ds i j ms) → depth (set_of (replaced ds i j ms)) ≤ 500 → IsSetList (replaced ds i j ms)
+set_replaced ds i j ms h a r p =
+    let fine = stand_in ds h.0.0 in
+    set_from (replaced ds i j ms) (all_append IsWellFormed (take i ds ++ ms) (drop j ds) (all_append IsWellFormed (take i ds) ms (all_take IsWellFormed ds i fine) a) (all_drop IsWellFormed ds j fine)) r p
+
+depth_append : (xs ys : List Datum) → elements_depth (elements_of (xs ++ ys)) ≡ max (elements_depth (elements_of xs)) (elements_depth (elements_of ys))
+depth_append [] ys = omega arith
+depth_append (x ∷ xs) ys = omega (arith, depth_append xs ys)
+
+depth_take : (xs : List Datum) (i : ℕ) → elements_depth (elements_of (take i xs)) ≤ elements_depth (elements_of xs)
+depth_take xs zero = omega arith
+depth_take [] (suc i) = omega arith
+depth_take (x ∷ xs) (suc i) = omega (arith, depth_take xs i)
+
+depth_drop : (xs : List Datum) (i : ℕ) → elements_depth (elements_of (drop i xs)) ≤ elements_depth (elements_of xs)
+depth_drop xs zero = omega arith
+depth_drop [] (suc i) = omega arith
+depth_drop (x ∷ xs) (suc i) = omega (arith, depth_drop xs i)
+
+-- the depth after it is at least that of ms, and at most the greater of both
+pub depth_replaced : (ds : List Datum) (i j : ℕ) (ms : List Datum)
+    → (depth (set_of ms) ≤ depth (set_of (replaced ds i j ms))) × (depth (set_of (replaced ds i j ms)) ≤ max (depth (set_of ds)) (depth (set_of ms)))
+depth_replaced ds i j ms = (
+      omega (arith, depth_append (take i ds ++ ms) (drop j ds), depth_append (take i ds) ms),
+      omega (arith, depth_append (take i ds ++ ms) (drop j ds), depth_append (take i ds) ms, depth_take ds i, depth_drop ds j),
+    )

@@ -1,6 +1,6 @@
 -- Maps are sets of pairs, over the rising lists of their members. A pair is a tuple of length two whose first component
 -- isn't `om`.
-use Rattle.std.specs.Prelude.{◌≡◌, Bool, false, true, List, [], ◌∷◌, is_some, Option, Some, None, refl, pos}
+use Rattle.std.specs.Prelude.{◌≡◌, ℕ, ◌+◌, Bool, false, true, List, [], ◌∷◌, is_some, cond, Option, Some, None, refl, pos}
 use Rattle.std.specs.List.{filter, filter_map, list_all}
 use Rattle.std.specs.Ordering.{is_eq}
 use Rattle.setl_value.specs.Datum.{Datum, int, tuple, no_part, om_then, part_then}
@@ -18,6 +18,16 @@ pair_parts d = None
 -- a map is a set of pairs
 abbrev pub is_map : List Datum → Bool
 is_map ds = list_all (λ d. is_some (pair_parts d)) ds
+
+-- how many of these are no pairs
+abbrev pub other_count : List Datum → ℕ
+other_count [] = 0
+other_count (d ∷ ds) = cond (is_some (pair_parts d)) 0 1 + other_count ds
+
+-- whether a place of a tuple has a component that isn't `om`
+abbrev pub is_there : Option (Option Datum) → Bool
+is_there None = false
+is_there (Some p) = is_some p
 
 abbrev pub first_of : Option (Datum × Datum) → Option Datum
 first_of None = None

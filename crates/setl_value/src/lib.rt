@@ -48,6 +48,8 @@ pub enum Value {
 pub struct SetBody {
     items: Rc<Vec<Value>>,
     deep: u32,
+    // How many members are no pairs, so that a test for a map looks at none.
+    others: usize,
 }
 
 /// The components of a tuple, each a value or `om`, the last one a value. Contracts see it as that list.
@@ -69,10 +71,11 @@ impl Model for SetBody {
 
     ghost use Rattle.setl_value.specs.DatumOf.{datum};
     ghost use Rattle.setl_value.specs.WellFormed.{IsSetList};
+    ghost use Rattle.setl_value.specs.Pairs.{other_count};
 
     ghost view = { λ s. record { rising = map datum s.items.value.items } };
 
-    ghost invariant = { λ s. IsSetList (map datum s.items.value.items) × (s.deep ≡ depth (set_of (map datum s.items.value.items))) };
+    ghost invariant = { λ s. IsSetList (map datum s.items.value.items) × (s.deep ≡ depth (set_of (map datum s.items.value.items))) × (s.others ≡ other_count (map datum s.items.value.items)) };
 
     ghost size = { λ b. depth (set_of (Members b)) };
 

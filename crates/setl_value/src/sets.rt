@@ -1,16 +1,17 @@
 //! The body of a set: a strictly rising list of members, and its depth.
 
-ghost use Rattle.std.specs.Prelude.{◌≡◌, ◌<◌, ◌≤◌, ◌+◌, List, [], length, slice_get, map, max, IfOk, OnErr, OnOk, Some};
+ghost use Rattle.std.specs.Prelude.{◌≡◌, ◌<◌, ◌≤◌, ◌+◌, ◌++◌, List, [], length, slice_get, take, drop, map, max, is_some, if◌then◌else◌, IfOk, OnErr, OnOk, Some};
 ghost use Rattle.std.specs.List.{insert, remove, AllByRecursion};
 ghost use Rattle.std.specs.Iterator.{YieldsFirstBy, item_count};
 ghost use Rattle.setl_value.specs.Body.{Members};
-ghost use Rattle.setl_value.specs.Datum.{Datum, depth, set_of};
+ghost use Rattle.setl_value.specs.Datum.{Datum, depth, set_of, tuple_of};
 ghost use Rattle.setl_value.specs.DatumOf.{datum};
 ghost use Rattle.setl_value.specs.Order.{IsRising};
+ghost use Rattle.setl_value.specs.Pairs.{is_map, other_count, pair_parts, is_there};
 ghost use Rattle.setl_value.specs.WellFormed.{IsValue, IsSetList, IsWellFormed};
 
-use crate::shared::{cut_in, put_in};
-use crate::{Memory, SetBody, Value};
+use crate::shared::{cut_in, put_in, replace_in};
+use crate::{Memory, SetBody, TupleBody, Value};
 use std::alloc::Global;
 use std::marker::Model;
 use std::rc::Rc;
@@ -24,6 +25,7 @@ impl SetBody {
         Ok(SetBody {
             items: Rc::new(alloc, items)?,
             deep: 1,
+            others: 0,
         })
     }
 
@@ -35,9 +37,11 @@ impl SetBody {
     {
         learn_members(items.as_slice());
         let deep = depth_of(items.as_slice(), 500);
+        let others = others_in(items.as_slice());
         Ok(SetBody {
             items: Rc::new(alloc, items)?,
             deep,
+            others,
         })
     }
 
@@ -46,6 +50,13 @@ impl SetBody {
         ensures { result ≡ length (Members self.now) }
     {
         self.items.len()
+    }
+
+    /// Whether all members are pairs, tuples of length two whose first component isn't `om`. It looks at no member.
+    pub fn is_map(&self) -> bool
+        ensures { result ≡ is_map (Members self.now) }
+    {
+        self.others == 0
     }
 
     /// The i-th member in rising order, counted from 0.
@@ -77,8 +88,10 @@ impl SetBody {
     {
         v.learn();
         let deep = v.depth() + 1;
+        let other = other(&v);
         put_in(&mut self.items, i, v)?;
         self.deep = self.deep.max(deep);
+        self.others += other;
         Ok(())
     }
 
@@ -90,7 +103,25 @@ impl SetBody {
     {
         let v = cut_in(&mut self.items, i)?;
         self.deep = depth_without(self.items.as_slice(), self.deep, v.depth());
+        self.others -= other(&v);
         Ok(v)
+    }
+
+    /// Puts members in the place of those from the `from`-th up to before the `to`-th. The list stays rising and the
+    /// depth at most 500. Where memory is refused, the set is as before.
+    pub fn replace(&mut self, from: usize, to: usize, by: Vec<Value>) -> Result<(), Memory>
+        requires inside { (from ≤ to) × (to ≤ length (Members self.old)) }
+        requires rising { IsRising (take from (Members self.old) ++ map datum by.items ++ drop to (Members self.old)) }
+        requires shallow { depth (set_of (take from (Members self.old) ++ map datum by.items ++ drop to (Members self.old))) ≤ 500 }
+        ensures replaced { OnOk result (Members self.new ≡ take from (Members self.old) ++ map datum by.items ++ drop to (Members self.old)) }
+        ensures refused { OnErr result (self.new ≡ self.old) }
+    {
+        learn_members(by.as_slice());
+        let most = self.deep.max(depth_of(by.as_slice(), 500));
+        replace_in(&mut self.items, from, to, by)?;
+        self.deep = depth_of(self.items.as_slice(), most);
+        self.others = others_in(self.items.as_slice());
+        Ok(())
     }
 
     /// One more than the greatest depth of a member, and 1 for the empty set.
@@ -107,6 +138,7 @@ impl SetBody {
         Ok(SetBody {
             items: self.items.clone()?,
             deep: self.deep,
+            others: self.others,
         })
     }
 
@@ -193,4 +225,40 @@ fn depth_of(members: &[Value], most: u32) -> u32
         rest = others;
     }
     deepest
+}
+
+// 1 for a value that is no pair, and 0 for a pair.
+fn other(v: &Value) -> usize
+    ensures { result ≡ (if is_some (pair_parts (datum v.now)) then 0 else 1) }
+{
+    match v {
+        Value::Tuple(t) => usize::from(!is_pair(t)),
+        _ => 1,
+    }
+}
+
+// Whether a tuple is a pair.
+#[tactic(auto, using(crate::proofs::Others::pair_test))]
+fn is_pair(t: &TupleBody) -> bool
+    ensures { result ≡ is_some (pair_parts (tuple_of t.now)) }
+{
+    t.len() == 2 && is_there(t, 0) && is_there(t, 1)
+}
+
+// Whether the i-th component is there and isn't `om`.
+fn is_there(t: &TupleBody, i: usize) -> bool
+    ensures { result ≡ is_there (slice_get t.now i) }
+{
+    t.at(i).is_some()
+}
+
+// How many members are no pairs.
+fn others_in(members: &[Value]) -> usize
+    ensures { result ≡ other_count (map datum members.now) }
+{
+    let mut count = 0;
+    for v in members {
+        count += other(v);
+    }
+    count
 }

@@ -1,6 +1,6 @@
 //! Changes of a list that may have several owners: it is copied first where it has others.
 
-ghost use Rattle.std.specs.Prelude.{◌≡◌, ◌<◌, ◌≤◌, length, slice_get, IfOk, OnErr, OnOk, Some};
+ghost use Rattle.std.specs.Prelude.{◌≡◌, ◌<◌, ◌≤◌, ◌++◌, take, drop, length, slice_get, IfOk, OnErr, OnOk, Some};
 ghost use Rattle.std.specs.List.{insert, remove};
 
 use crate::Memory;
@@ -28,4 +28,24 @@ pub(crate) fn cut_in<T: Clone>(items: &mut Rc<Vec<T>>, i: usize) -> Result<T, Me
 {
     let list = Rc::make_mut(items)?;
     Ok(list.remove(i))
+}
+
+/// Puts `by` in the place of the items from the `from`-th up to before the `to`-th.
+pub(crate) fn replace_in<T: Clone + Drop>(items: &mut Rc<Vec<T>>, from: usize, to: usize, by: Vec<T>) -> Result<(), Memory>
+    requires exact { (x y : T) → T.is_clone x y → y ≡ x }
+    requires inside { (from ≤ to) × (to ≤ length items.old.value.items) }
+    ensures replaced { OnOk result (items.new.value.items ≡ take from items.old.value.items ++ by.items ++ drop to items.old.value.items) }
+    ensures refused { OnErr result (items.new.value.items ≡ items.old.value.items) }
+{
+    let list = Rc::make_mut(items)?;
+    replace_between(list, from, to, by)
+}
+
+fn replace_between<T: Drop>(list: &mut Vec<T>, from: usize, to: usize, by: Vec<T>) -> Result<(), Memory>
+    requires { (from ≤ to) × (to ≤ length list.old.items) }
+    ensures replaced { OnOk result (list.new.items ≡ take from list.old.items ++ by.items ++ drop to list.old.items) }
+    ensures refused { OnErr result (list.new.items ≡ list.old.items) }
+{
+    let _gone = list.splice(from..to, by)?;
+    Ok(())
 }

@@ -1,0 +1,13 @@
+pub mod Outcome
+pub mod Maps
+pub mod Ranges
+pub mod Texts
+pub mod Numbers
+pub mod Truths
+pub mod Collections
+pub mod Selections
+pub mod RangeRows
+pub mod Puts
+pub mod Folds
+pub mod Operators
+pub mod OperatorRows

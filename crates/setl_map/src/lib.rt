@@ -1,0 +1,131 @@
+//! Maps, and the operators on values.
+//!
+//! A map is a set of pairs, and a pair is a tuple of length two whose first component isn't `om`. Contracts read a map
+//! as `Members`, the strictly rising list of its pairs, and state each result by a definition on such lists (`images`,
+//! `domain_of`, `put_image` and the like).
+//!
+//! The table of the operators is the definition `op_of`: what an operator makes of its operands, with the turns that
+//! are left.
+#![tactic(auto)]
+
+/// The operators on values, with the folds, the enumerations, the ranges and the puts. The operands stand in the order
+/// of the source.
+#[derive(Clone, Copy, Debug, PartialEq, Eq)]
+pub enum Operator {
+    /// `- i`
+    Negate,
+    /// `abs i`
+    Abs,
+    /// `even i`
+    Even,
+    /// `odd i`
+    Odd,
+    /// `# v`
+    Size,
+    /// `not b`
+    Not,
+    /// `pow s`
+    Pow,
+    /// `domain f`
+    Domain,
+    /// `range f`
+    Range,
+    /// `arb s`
+    Arb,
+    /// `str v`
+    Str,
+    /// `is_integer v`
+    IsInteger,
+    /// `is_string v`
+    IsString,
+    /// `is_boolean v`
+    IsBoolean,
+    /// `is_atom v`
+    IsAtom,
+    /// `is_tuple v`
+    IsTuple,
+    /// `is_set v`
+    IsSet,
+    /// `is_map v`
+    IsMap,
+    /// `+/ v`
+    FoldAdd,
+    /// `*/ v`
+    FoldMultiply,
+    /// `max/ v`
+    FoldMax,
+    /// `min/ v`
+    FoldMin,
+    /// `and/ v`
+    FoldAnd,
+    /// `or/ v`
+    FoldOr,
+    /// `a + b`
+    Add,
+    /// `a - b`
+    Subtract,
+    /// `a * b`
+    Multiply,
+    /// `a ** b`
+    Power,
+    /// `a div b`
+    Divide,
+    /// `a mod b`
+    Modulo,
+    /// `a max b`
+    Max,
+    /// `a min b`
+    Min,
+    /// `s with v`, `t with v`
+    With,
+    /// `s less v`
+    Less,
+    /// `f lessf x`
+    Lessf,
+    /// `n npow s`
+    Npow,
+    /// `a = b`
+    Equal,
+    /// `a /= b`
+    NotEqual,
+    /// `a < b`
+    Below,
+    /// `a <= b`
+    AtMost,
+    /// `a > b`
+    Above,
+    /// `a >= b`
+    AtLeast,
+    /// `v in s`, `v in t`
+    In,
+    /// `v notin s`, `v notin t`
+    NotIn,
+    /// `a subset b`
+    Subset,
+    /// `a incs b`
+    Includes,
+    /// `f(x)`, `t(i)`
+    Get,
+    /// `f{x}`
+    Images,
+    /// `t(i..j)`
+    Slice,
+    /// `t(i..)`
+    Tail,
+    /// `{a, b, ..}`, with any number of operands
+    SetOf,
+    /// `[a, b, ..]`, with any number of operands
+    TupleOf,
+    /// `{a..b}`
+    SetRange,
+    /// `[a..b]`
+    TupleRange,
+    /// `{a, b..c}`
+    SetStep,
+    /// `[a, b..c]`
+    TupleStep,
+    /// The whole after `f(x) := y` or `t(i) := y`, of the whole, the selector and the part.
+    Put,
+    /// The whole after `f{x} := s`, of the whole, the selector and the part.
+    PutImages,
+}
