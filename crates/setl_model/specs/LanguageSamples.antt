@@ -1,10 +1,11 @@
 -- Worked programs of the whole language.
 use Rattle.std.specs.Prelude.{[], ◌∷◌, codes, Some, None}
 use Rattle.setl_value.specs.Datum.{text}
-use Rattle.setl_model.specs.Variable.{Own, Bound}
-use Rattle.setl_model.specs.Operators.{Negate, Add, Subtract, Divide, Modulo, Power, Abs, Size, Equal, NotEqual, With, Less, In, SetRange, TupleRange, Pow, Npow, Get, Images, FoldAdd, FoldMax}
+use Rattle.setl_modes.specs.Variable.{Own, Bound}
+use Rattle.setl_map.specs.declared.Operator.TheVariants.{Negate, Add, Subtract, Divide, Modulo, Power, Abs, Size, Equal, NotEqual, With, Less, In, SetRange, TupleRange, Pow, Npow, Get, Images, FoldAdd, FoldMax}
 use Rattle.setl_model.specs.Collections.{OfSet}
-use Rattle.setl_model.specs.Modes.{Integers, Elements, Sets, SingleMaps, Sparse}
+use Rattle.setl_modes.specs.declared.mode.Form.TheVariants.{Sparse}
+use Rattle.setl_modes.specs.Modes.{Integers, Elements, Sets, SingleMaps}
 use Rattle.setl_model.specs.Program.{Or, Exists, Point, Points, Expr, Literal, Undefined, Name, Connect, Selection, Quantified, Call, Eof, Ok, more_iterators, no_condition, only_if, no_argument, rw_argument, no_selector, round_selector, brace_selector, TakeFirst, TakeLast, Assign, AssignParts, TakeFrom, Perform, If, For, Fail, Return, Read, no_stmt, Rw, Program}
 use Rattle.setl_model.specs.Source.{f, i, j, k, n, q, s, t, x, y, z, number, exprs, one, two, enumeration, set_of, tuple_of, pair_of, over, between, assign, put, combine, print, at, alone, lines_from, lines}
 

@@ -1,8 +1,9 @@
 -- Short forms, by which programs are written down.
 use Rattle.std.specs.Prelude.{ℕ, zero, suc, ◌+◌, true, false, List, [], ◌∷◌, codes, pos}
 use Rattle.setl_value.specs.Datum.{Datum, bool, int, text, set, no_element, element_then}
-use Rattle.setl_model.specs.Variable.{Variable, Own}
-use Rattle.setl_model.specs.Operators.{Operator, Negate, With, Get, Images, Slice, Tail, SetOf, TupleOf}
+use Rattle.setl_modes.specs.Variable.{Variable, Own}
+use Rattle.setl_map.specs.declared.Operator.{Operator}
+use Rattle.setl_map.specs.declared.Operator.TheVariants.{Negate, With, Get, Images, Slice, Tail, SetOf, TupleOf}
 use Rattle.setl_model.specs.Program.{Member, Values, Between, Expr, Literal, Apply, Exprs, no_expr, more_exprs, Iterators, no_iterator, more_iterators, no_selector, round_selector, brace_selector, Stmt, Assign, Update, Print, Block, no_stmt, more_stmts, Procedure, Program}
 
 -- ---- variables

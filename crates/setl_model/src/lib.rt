@@ -4,9 +4,9 @@
 pub mod worked;
 
 ghost use Rattle.std.specs.Prelude.{◌≡◌, true, false, [], codes};
-ghost use Rattle.setl_model.specs.Events.{Done, Spent, Stopped, Wide, Form, Unfit, Nothing};
-ghost use Rattle.setl_model.specs.Variable.{Global};
-ghost use Rattle.setl_model.specs.Texts.{print_line};
+ghost use Rattle.setl_modes.specs.Events.{Done, Spent, Stopped, Wide, Form, Unfit, Nothing};
+ghost use Rattle.setl_modes.specs.Variable.{Global};
+ghost use Rattle.setl_text.specs.Texts.{print_line};
 ghost use Rattle.setl_model.specs.Answers.{error_line};
 ghost use Rattle.setl_model.specs.Means.{Means};
 ghost use Rattle.setl_model.specs.Samples.{mixed_values, nested_values, empty_program, growing_set, copied_set, several_lines};

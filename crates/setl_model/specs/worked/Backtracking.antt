@@ -1,10 +1,10 @@
 -- Worked rows of backtracking.
 use Rattle.std.specs.Prelude.{List, [], ◌∷◌, codes}
-use Rattle.setl_model.specs.Variable.{Global, Bound}
-use Rattle.setl_model.specs.Operators.{With, Add, Subtract, Equal, NotEqual, Size, Abs}
+use Rattle.setl_modes.specs.Variable.{Global, Bound}
+use Rattle.setl_map.specs.declared.Operator.TheVariants.{With, Add, Subtract, Equal, NotEqual, Size, Abs}
 use Rattle.setl_model.specs.Collections.{OfSet}
 use Rattle.setl_model.specs.Program.{Or, Exists, Name, Connect, Selection, Quantified, Call, Newat, Eof, Ok, no_condition, only_if, no_argument, rd_argument, rw_argument, Perform, If, For, Quit, Fail, Stop, Return, Read, no_stmt, Rd, Rw}
-use Rattle.setl_model.specs.Events.{Nothing, Done, Stopped, Spent}
+use Rattle.setl_modes.specs.Events.{Nothing, Done, Stopped, Spent}
 use Rattle.setl_model.specs.Source.{its, i, j, k, n, q, s, x, y, number, one, two, tuple_of, enumeration, row_of, at_round, over, between, assign, combine, print, on_line, at, alone, lines_from, just, with_procedures}
 use Rattle.setl_model.specs.Table.{Row, does, ends, reads}
 

@@ -1,8 +1,8 @@
 -- Worked rows of comparisons, kinds and the canonical order.
 use Rattle.std.specs.Prelude.{List, [], ◌∷◌, ◌++◌, codes}
-use Rattle.setl_model.specs.Operators.{Equal, NotEqual, Below, AtMost, Above, AtLeast, In, NotIn, Subset, Includes, IsInteger, IsString, IsBoolean, IsAtom, IsTuple, IsSet, IsMap}
+use Rattle.setl_map.specs.declared.Operator.TheVariants.{Equal, NotEqual, Below, AtMost, Above, AtLeast, In, NotIn, Subset, Includes, IsInteger, IsString, IsBoolean, IsAtom, IsTuple, IsSet, IsMap}
 use Rattle.setl_model.specs.Program.{Undefined, Newat}
-use Rattle.setl_model.specs.Events.{Om, Kind}
+use Rattle.setl_modes.specs.Events.{Om, Kind}
 use Rattle.setl_model.specs.Source.{yes, no, number, quoted, one, two, minus, set_of, tuple_of, enumeration, row_of}
 use Rattle.setl_model.specs.Table.{Row, writes, all_stop}
 

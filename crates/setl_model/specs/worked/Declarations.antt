@@ -1,11 +1,12 @@
 -- Worked rows of declarations.
 use Rattle.std.specs.Prelude.{List, [], ◌∷◌, ◌++◌, codes, Some}
-use Rattle.setl_model.specs.Variable.{Global, Bound}
-use Rattle.setl_model.specs.Operators.{With, Less}
+use Rattle.setl_modes.specs.Variable.{Global, Bound}
+use Rattle.setl_map.specs.declared.Operator.TheVariants.{With, Less}
 use Rattle.setl_model.specs.Collections.{OfSet}
-use Rattle.setl_model.specs.Modes.{General, Integers, Strings, Booleans, Atoms, Elements, Sets, Tuples, SingleMaps, MultiMaps, Plain, Local, Remote, Sparse}
+use Rattle.setl_modes.specs.declared.mode.Form.TheVariants.{Plain, Local, Remote, Sparse}
+use Rattle.setl_modes.specs.Modes.{General, Integers, Strings, Booleans, Atoms, Elements, Sets, Tuples, SingleMaps, MultiMaps}
 use Rattle.setl_model.specs.Program.{Exists, Undefined, Name, Former, Quantified, Call, Newat, no_condition, no_argument, rd_argument, rw_argument, no_selector, TakeLeast, AssignParts, TakeFrom, Perform, For, Read, no_stmt, Rd, Rw}
-use Rattle.setl_model.specs.Events.{Unfit, Done, Stopped}
+use Rattle.setl_modes.specs.Events.{Unfit, Done, Stopped}
 use Rattle.setl_model.specs.Source.{its, f, s, t, x, y, yes, no, number, quoted, minus, set_of, tuple_of, enumeration, row_of, over, assign, put, put_brace, combine, print, on_line, at, alone, lines_from}
 use Rattle.setl_model.specs.Table.{Row, does, ends, all_end, reads, unbased}
 

@@ -1,12 +1,12 @@
 -- Worked rows of events.
 use Rattle.std.specs.Prelude.{false, List, [], ◌∷◌, codes, Some, None, pos}
 use Rattle.setl_value.specs.Datum.{bool, int, set_of as set_data, tuple_of as tuple_data}
-use Rattle.setl_model.specs.Variable.{Global, Bound}
-use Rattle.setl_model.specs.Operators.{Add, Equal, Below}
+use Rattle.setl_modes.specs.Variable.{Global, Bound}
+use Rattle.setl_map.specs.declared.Operator.TheVariants.{Add, Equal, Below}
 use Rattle.setl_model.specs.Collections.{OfSet}
-use Rattle.setl_model.specs.Modes.{Integers}
+use Rattle.setl_modes.specs.Modes.{Integers}
 use Rattle.setl_model.specs.Program.{Exists, Forall, Member, Point, Values, Points, Undefined, Name, Former, Quantified, Call, Ok, no_iterator, more_iterators, no_condition, no_argument, rd_argument, wr_argument, rw_argument, no_selector, TakeLeast, TakeFirst, AssignParts, TakeFrom, Perform, If, For, Fail, Return, no_stmt, Rd, Wr, Rw}
-use Rattle.setl_model.specs.Events.{Called, Returned, Stored, Printed, Kept, Back}
+use Rattle.setl_modes.specs.Events.{Called, Returned, Stored, Printed, Kept, Back}
 use Rattle.setl_model.specs.Source.{its, f, s, t, x, y, z, number, quoted, exprs, two, set_of, tuple_of, enumeration, row_of, over, assign, put, combine, print, on_line, at, alone, lines_from, just, with_procedures}
 use Rattle.setl_model.specs.Table.{EventRow, tells}
 

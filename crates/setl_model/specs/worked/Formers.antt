@@ -1,10 +1,10 @@
 -- Worked rows of formers.
 use Rattle.std.specs.Prelude.{List, [], ◌∷◌, ◌++◌, codes, Some}
-use Rattle.setl_model.specs.Variable.{Bound}
-use Rattle.setl_model.specs.Operators.{Add, Subtract, Multiply, Equal, NotEqual, Below, Above, In, Size, Even}
+use Rattle.setl_modes.specs.Variable.{Bound}
+use Rattle.setl_map.specs.declared.Operator.TheVariants.{Add, Subtract, Multiply, Equal, NotEqual, Below, Above, In, Size, Even}
 use Rattle.setl_model.specs.Collections.{OfSet, OfTuple}
 use Rattle.setl_model.specs.Program.{Or, Member, Components, Point, Values, Between, TupleSteps, Points, Undefined, Name, Connect, Former, Selection, no_iterator, more_iterators, no_condition, only_if}
-use Rattle.setl_model.specs.Events.{Om, Kind, Zero, Deep, Stopped, Spent}
+use Rattle.setl_modes.specs.Events.{Om, Kind, Zero, Deep, Stopped, Spent}
 use Rattle.setl_model.specs.Source.{f, s, x, y, yes, number, quoted, exprs, one, two, minus, set_of, tuple_of, enumeration, row_of, from_to, over, between, assign, print, on_line, alone, just, deepest, nearly}
 use Rattle.setl_model.specs.Table.{Row, writes, all_stop, does, ends}
 

@@ -1,8 +1,8 @@
 -- Worked rows of quantifiers.
 use Rattle.std.specs.Prelude.{List, [], ◌∷◌, ◌++◌, codes, Some, None}
-use Rattle.setl_model.specs.Operators.{Add, Equal, Below, Above}
+use Rattle.setl_map.specs.declared.Operator.TheVariants.{Add, Equal, Below, Above}
 use Rattle.setl_model.specs.Program.{Exists, Forall, NotExists, Member, Components, Point, Values, Between, Points, Undefined, Name, Quantified, no_iterator, more_iterators, If, no_stmt}
-use Rattle.setl_model.specs.Events.{Om, Kind, Stopped, Spent}
+use Rattle.setl_modes.specs.Events.{Om, Kind, Stopped, Spent}
 use Rattle.setl_model.specs.Source.{f, n, x, y, yes, number, quoted, exprs, two, set_of, tuple_of, enumeration, row_of, over, assign, print, on_line, at, alone, just}
 use Rattle.setl_model.specs.Table.{Row, does, ends, all_end}
 

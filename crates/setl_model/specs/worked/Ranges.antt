@@ -1,8 +1,8 @@
 -- Worked rows of ranges.
 use Rattle.std.specs.Prelude.{List, [], ◌∷◌, ◌++◌, codes}
-use Rattle.setl_model.specs.Operators.{Subtract, SetRange, TupleRange, SetStep, TupleStep}
+use Rattle.setl_map.specs.declared.Operator.TheVariants.{Subtract, SetRange, TupleRange, SetStep, TupleStep}
 use Rattle.setl_model.specs.Program.{Undefined}
-use Rattle.setl_model.specs.Events.{Om, Kind, Zero}
+use Rattle.setl_modes.specs.Events.{Om, Kind, Zero}
 use Rattle.setl_model.specs.Source.{yes, number, quoted, two, three, minus}
 use Rattle.setl_model.specs.Table.{Row, writes, spends, all_stop}
 

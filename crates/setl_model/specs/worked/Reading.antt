@@ -1,7 +1,7 @@
 -- Worked rows of reading.
 use Rattle.std.specs.Prelude.{List, [], ◌∷◌, codes}
 use Rattle.setl_model.specs.Program.{Name, Eof, Read, no_stmt}
-use Rattle.setl_model.specs.Events.{Form, Wide, Done, Stopped}
+use Rattle.setl_modes.specs.Events.{Form, Wide, Done, Stopped}
 use Rattle.setl_model.specs.Source.{x, y, z, number, assign, print, on_line, at, lines_from, just}
 use Rattle.setl_model.specs.Table.{Row, reads}
 

@@ -1,8 +1,8 @@
 -- Worked rows of sets.
 use Rattle.std.specs.Prelude.{List, [], ◌∷◌, ◌++◌, codes}
-use Rattle.setl_model.specs.Operators.{With, Less, Npow, Add, Subtract, Multiply, Modulo, Equal, In, Size, Pow, Arb}
+use Rattle.setl_map.specs.declared.Operator.TheVariants.{With, Less, Npow, Add, Subtract, Multiply, Modulo, Equal, In, Size, Pow, Arb}
 use Rattle.setl_model.specs.Program.{Undefined, Call, no_argument, Return}
-use Rattle.setl_model.specs.Events.{Om, Kind, Deep, Stopped, Range as OutOfRange}
+use Rattle.setl_modes.specs.Events.{Om, Kind, Deep, Stopped, Range as OutOfRange}
 use Rattle.setl_model.specs.Source.{yes, number, quoted, one, two, minus, set_of, tuple_of, enumeration, row_of, print, on_line, alone, with_procedures, deepest, nearly}
 use Rattle.setl_model.specs.Table.{Row, writes, spends, all_stop, ends}
 

@@ -1,11 +1,12 @@
 -- Worked rows of whole programs.
 use Rattle.std.specs.Prelude.{List, [], ◌∷◌, codes}
-use Rattle.setl_model.specs.Variable.{Bound}
-use Rattle.setl_model.specs.Operators.{With, Npow, Add, NotEqual, NotIn, Size, Pow, FoldAdd, FoldMax, SetRange, TupleRange}
+use Rattle.setl_modes.specs.Variable.{Bound}
+use Rattle.setl_map.specs.declared.Operator.TheVariants.{With, Npow, Add, NotEqual, NotIn, Size, Pow, FoldAdd, FoldMax, SetRange, TupleRange}
 use Rattle.setl_model.specs.Collections.{OfTuple}
-use Rattle.setl_model.specs.Modes.{Integers, Elements, Sets, MultiMaps, Local, Remote, Sparse}
+use Rattle.setl_modes.specs.declared.mode.Form.TheVariants.{Local, Remote, Sparse}
+use Rattle.setl_modes.specs.Modes.{Integers, Elements, Sets, MultiMaps}
 use Rattle.setl_model.specs.Program.{Undefined, Name, Former, no_condition, no_selector, TakeFirst, TakeFrom, If, For, While, no_stmt}
-use Rattle.setl_model.specs.Events.{Wide, Done, Stopped, Spent}
+use Rattle.setl_modes.specs.Events.{Wide, Done, Stopped, Spent}
 use Rattle.setl_model.specs.Source.{own, g, s, t, x, y, number, quoted, one, two, set_of, tuple_of, enumeration, row_of, at_brace, over, assign, combine, print, on_line, at, alone, lines_from, just}
 use Rattle.setl_model.specs.Table.{Row, does, ends, unbased}
 
