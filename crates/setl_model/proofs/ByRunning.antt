@@ -5,7 +5,8 @@ use Rattle.setl_modes.specs.Run.{State, Next, Goes, Ends, run}
 use Rattle.setl_model.specs.Core.{Core}
 use Rattle.setl_model.specs.Step.{language, test_of}
 use Rattle.setl_model.specs.Means.{first}
-use Rattle.setl_model.specs.Table.{Row, Holds, AllHold, EventRow, Tells, AllTell}
+use Rattle.setl_model.specs.Table.{Row, Holds, AllHold, EventRow, Tells, AllTell, DumpRow, Dumps, AllDump}
+use Rattle.setl_model.specs.Dump.{layout}
 
 -- what was written at an end
 abbrev ending : Next Core → Option (List ℕ × End)
@@ -64,3 +65,31 @@ pub table_tells : (rs : List EventRow) → map told rs ≡ map foretold rs → A
 table_tells [] h = tt
 table_tells (r ∷ rs) h =
     (row_tells r (first_alike (told r) (foretold r) (map told rs) (map foretold rs) h), table_tells rs (others_alike (told r) (foretold r) (map told rs) (map foretold rs) h))
+
+-- the dump at an end
+abbrev dumping : DumpRow → Next Core → Option (List ℕ)
+dumping r (Goes s) = None
+dumping r (Ends e s) = Some (layout r.names r.program.modes s)
+
+abbrev pub dumped : DumpRow → Option (List ℕ)
+dumped r = dumping r (run (language r.program) (test_of r.program true) 20000 (first r.program [] r.turns))
+
+abbrev pub expected : DumpRow → Option (List ℕ)
+expected r = Some r.text
+
+some_alike : {A : Type 0} (a b : A) → Some a ≡ Some b → a ≡ b
+some_alike a b h = cc
+
+from_dumping : (r : DumpRow) (n : Next Core) → dumping r n ≡ Some r.text → (e : End) × (l : State Core) × (n ≡ Ends e l) × (layout r.names r.program.modes l ≡ r.text)
+from_dumping r (Goes s) h = cc
+from_dumping r (Ends e s) h = (e, s, refl, some_alike (layout r.names r.program.modes s) r.text h)
+
+row_dumps : (r : DumpRow) → dumped r ≡ expected r → Dumps r
+row_dumps r h =
+    let at_end = from_dumping r (run (language r.program) (test_of r.program true) 20000 (first r.program [] r.turns)) h in
+    record { steps = 20000; last = at_end.1; end = at_end.0; ends = at_end.2; dump = at_end.3 }
+
+pub table_dumps : (rs : List DumpRow) → map dumped rs ≡ map expected rs → AllDump rs
+table_dumps [] h = tt
+table_dumps (r ∷ rs) h =
+    (row_dumps r (first_alike (dumped r) (expected r) (map dumped rs) (map expected rs) h), table_dumps rs (others_alike (dumped r) (expected r) (map dumped rs) (map expected rs) h))

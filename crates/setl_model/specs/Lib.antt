@@ -12,6 +12,8 @@ pub mod Step
 pub mod StraightRuns
 pub mod Means
 pub mod Answers
+pub mod Entered
+pub mod Dump
 pub mod Laws
 pub mod Source
 pub mod Samples

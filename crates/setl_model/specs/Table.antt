@@ -6,6 +6,7 @@ use Rattle.setl_modes.specs.Run.{State, Ends, run}
 use Rattle.setl_model.specs.Core.{Core}
 use Rattle.setl_model.specs.Step.{language, test_of}
 use Rattle.setl_model.specs.Means.{Means, first}
+use Rattle.setl_model.specs.Dump.{layout}
 use Rattle.setl_model.specs.Source.{print, lines}
 
 -- A worked program: what it reads, its turns, whether its declarations count, what it writes and how it ends.
@@ -87,3 +88,27 @@ pub record Tells (r : EventRow) : Type 0 where
 abbrev pub AllTell : List EventRow → Type 0
 AllTell [] = Unit {0}
 AllTell (r ∷ rs) = Tells r × AllTell rs
+
+-- ---- rows of dumps
+
+-- What the dump of a worked program holds at its end, with the names of its bases.
+pub record DumpRow : Type 0 where
+  pub program : Program
+  pub names : List (List ℕ)
+  pub turns : ℕ
+  pub text : List ℕ
+
+abbrev pub dumps : ℕ → List (List ℕ) → Program → List ℕ → DumpRow
+dumps turns names p text = record { program = p; names = names; turns = turns; text = text }
+
+-- the run of the program, with its declarations, ends with this dump
+pub record Dumps (r : DumpRow) : Type 0 where
+  pub steps : ℕ
+  pub last : State Core
+  pub end : End
+  pub ends : run (language r.program) (test_of r.program true) steps (first r.program [] r.turns) ≡ Ends end last
+  pub dump : layout r.names r.program.modes last ≡ r.text
+
+abbrev pub AllDump : List DumpRow → Type 0
+AllDump [] = Unit {0}
+AllDump (r ∷ rs) = Dumps r × AllDump rs

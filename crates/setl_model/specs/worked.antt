@@ -15,3 +15,4 @@ pub mod Reading
 pub mod Declarations
 pub mod Events
 pub mod Whole
+pub mod Dumps

@@ -1,6 +1,6 @@
 //! Worked programs, topic by topic. Each table has programs with what they read, write and tell, and how they end.
 
-ghost use Rattle.setl_model.specs.Table.{AllHold, AllTell};
+ghost use Rattle.setl_model.specs.Table.{AllHold, AllTell, AllDump};
 ghost use Rattle.setl_model.specs.worked.Integers.{integer_rows, wide_rows, integer_stops, boolean_rows};
 ghost use Rattle.setl_model.specs.worked.Comparisons.{equality_rows, order_rows, membership_rows, kind_rows, canonical_rows};
 ghost use Rattle.setl_model.specs.worked.Sets.{set_rows, enumeration_rows, subset_rows, depth_rows};
@@ -18,6 +18,7 @@ ghost use Rattle.setl_model.specs.worked.Reading.{reading_rows, eof_rows, readin
 ghost use Rattle.setl_model.specs.worked.Declarations.{mode_rows, whole_value_rows, every_store_rows};
 ghost use Rattle.setl_model.specs.worked.Events.{event_rows};
 ghost use Rattle.setl_model.specs.worked.Whole.{whole_rows};
+ghost use Rattle.setl_model.specs.worked.Dumps.{dump_rows};
 
 /// Worked rows of integers and booleans.
 pub fn integers()
@@ -136,4 +137,9 @@ pub fn events()
 /// Worked rows of whole programs.
 pub fn whole()
     ensures whole_rows { AllHold whole_rows }
+{}
+
+/// Worked rows of dumps.
+pub fn dumps()
+    ensures dump_rows { AllDump dump_rows }
 {}

@@ -3,8 +3,8 @@ use Rattle.std.specs.Prelude.{List, [], ◌∷◌, ◌++◌, codes, Some}
 use Rattle.setl_modes.specs.Variable.{Global, Bound}
 use Rattle.setl_map.specs.declared.Operator.TheVariants.{With, Less}
 use Rattle.setl_model.specs.Collections.{OfSet}
-use Rattle.setl_modes.specs.declared.mode.Form.TheVariants.{Plain, Local, Remote, Sparse}
 use Rattle.setl_modes.specs.Modes.{General, Integers, Strings, Booleans, Atoms, Elements, Sets, Tuples, SingleMaps, MultiMaps}
+use Rattle.setl_modes.specs.declared.mode.Form.TheVariants.{Plain, Local, Remote, Sparse}
 use Rattle.setl_model.specs.Program.{Exists, Undefined, Name, Former, Quantified, Call, Newat, no_condition, no_argument, rd_argument, rw_argument, no_selector, TakeLeast, AssignParts, TakeFrom, Perform, For, Read, no_stmt, Rd, Rw}
 use Rattle.setl_modes.specs.Events.{Unfit, Done, Stopped}
 use Rattle.setl_model.specs.Source.{its, f, s, t, x, y, yes, no, number, quoted, minus, set_of, tuple_of, enumeration, row_of, over, assign, put, put_brace, combine, print, on_line, at, alone, lines_from}
@@ -24,10 +24,10 @@ mode_rows =
     -- repr x: int; end repr;
     -- x := {1};
     ∷ all_end (Stopped (Unfit x) 3) (
-    record { main = alone 3 (assign x (quoted (codes "a"))); procedures = []; modes = (x, Integers) ∷ [] }
-    ∷ record { main = alone 3 (assign x yes); procedures = []; modes = (x, Integers) ∷ [] }
-    ∷ record { main = alone 3 (assign x (enumeration (1 ∷ []))); procedures = []; modes = (x, Integers) ∷ [] }
-    ∷ [])
+        record { main = alone 3 (assign x (quoted (codes "a"))); procedures = []; modes = (x, Integers) ∷ [] }
+        ∷ record { main = alone 3 (assign x yes); procedures = []; modes = (x, Integers) ∷ [] }
+        ∷ record { main = alone 3 (assign x (enumeration (1 ∷ []))); procedures = []; modes = (x, Integers) ∷ [] }
+        ∷ [])
     -- repr x: string; end repr;
     -- x := 'a'; x := ''; x := om; print(1);
     ++ does 0 (record { main = on_line 3 (assign x (quoted (codes "a")) ∷ assign x (quoted (codes "")) ∷ assign x Undefined ∷ print (number 1 ∷ []) ∷ []); procedures = []; modes = (x, Strings) ∷ [] }) (codes "1\n")
@@ -37,9 +37,9 @@ mode_rows =
     -- repr x: string; end repr;
     -- x := [];
     ∷ all_end (Stopped (Unfit x) 3) (
-    record { main = alone 3 (assign x (number 1)); procedures = []; modes = (x, Strings) ∷ [] }
-    ∷ record { main = alone 3 (assign x (tuple_of [])); procedures = []; modes = (x, Strings) ∷ [] }
-    ∷ [])
+        record { main = alone 3 (assign x (number 1)); procedures = []; modes = (x, Strings) ∷ [] }
+        ∷ record { main = alone 3 (assign x (tuple_of [])); procedures = []; modes = (x, Strings) ∷ [] }
+        ∷ [])
     -- repr x: boolean; end repr;
     -- x := true; x := om; print(1);
     ++ does 0 (record { main = on_line 3 (assign x yes ∷ assign x Undefined ∷ print (number 1 ∷ []) ∷ []); procedures = []; modes = (x, Booleans) ∷ [] }) (codes "1\n")
@@ -49,9 +49,9 @@ mode_rows =
     -- repr x: boolean; end repr;
     -- x := 'true';
     ∷ all_end (Stopped (Unfit x) 3) (
-    record { main = alone 3 (assign x (number 1)); procedures = []; modes = (x, Booleans) ∷ [] }
-    ∷ record { main = alone 3 (assign x (quoted (codes "true"))); procedures = []; modes = (x, Booleans) ∷ [] }
-    ∷ [])
+        record { main = alone 3 (assign x (number 1)); procedures = []; modes = (x, Booleans) ∷ [] }
+        ∷ record { main = alone 3 (assign x (quoted (codes "true"))); procedures = []; modes = (x, Booleans) ∷ [] }
+        ∷ [])
     -- repr x: atom; end repr;
     -- x := om; print(1);
     ++ does 0 (record { main = on_line 3 (assign x Undefined ∷ print (number 1 ∷ []) ∷ []); procedures = []; modes = (x, Atoms) ∷ [] }) (codes "1\n")
@@ -61,9 +61,9 @@ mode_rows =
     -- repr x: atom; end repr;
     -- x := {};
     ∷ all_end (Stopped (Unfit x) 3) (
-    record { main = alone 3 (assign x (number 1)); procedures = []; modes = (x, Atoms) ∷ [] }
-    ∷ record { main = alone 3 (assign x (set_of [])); procedures = []; modes = (x, Atoms) ∷ [] }
-    ∷ [])
+        record { main = alone 3 (assign x (number 1)); procedures = []; modes = (x, Atoms) ∷ [] }
+        ∷ record { main = alone 3 (assign x (set_of [])); procedures = []; modes = (x, Atoms) ∷ [] }
+        ∷ [])
     -- repr x: general; y: atom; end repr;
     -- x := 1; x := {[], 2}; x := 'a'; x := om; y := newat; print(x, y);
     ++ does 1 (record { main = on_line 3 (assign x (number 1) ∷ assign x (set_of (tuple_of [] ∷ number 2 ∷ [])) ∷ assign x (quoted (codes "a")) ∷ assign x Undefined ∷ assign y Newat ∷ print (Name x ∷ Name y ∷ []) ∷ []); procedures = []; modes = (x, General) ∷ (y, Atoms) ∷ [] }) (codes "* #1\n")
@@ -74,8 +74,8 @@ mode_rows =
     -- repr base b: int; x: elmt b; end repr;
     -- x := 'a';
     ∷ all_end (Stopped (Unfit x) 3) (
-    record { main = alone 3 (assign x (quoted (codes "a"))); procedures = []; modes = (x, Elements 0 Integers) ∷ [] }
-    ∷ [])
+        record { main = alone 3 (assign x (quoted (codes "a"))); procedures = []; modes = (x, Elements 0 Integers) ∷ [] }
+        ∷ [])
     -- repr x: set(int); end repr;
     -- x := {}; x := {1, 2}; x := om; print(1);
     ++ does 0 (record { main = on_line 3 (assign x (set_of []) ∷ assign x (enumeration (1 ∷ 2 ∷ [])) ∷ assign x Undefined ∷ print (number 1 ∷ []) ∷ []); procedures = []; modes = (x, Sets Plain Integers) ∷ [] }) (codes "1\n")
@@ -87,10 +87,10 @@ mode_rows =
     -- repr x: set(int); end repr;
     -- x := 1;
     ∷ all_end (Stopped (Unfit x) 3) (
-    record { main = alone 3 (assign x (set_of (number 1 ∷ quoted (codes "a") ∷ []))); procedures = []; modes = (x, Sets Plain Integers) ∷ [] }
-    ∷ record { main = alone 3 (assign x (row_of (1 ∷ []))); procedures = []; modes = (x, Sets Plain Integers) ∷ [] }
-    ∷ record { main = alone 3 (assign x (number 1)); procedures = []; modes = (x, Sets Plain Integers) ∷ [] }
-    ∷ [])
+        record { main = alone 3 (assign x (set_of (number 1 ∷ quoted (codes "a") ∷ []))); procedures = []; modes = (x, Sets Plain Integers) ∷ [] }
+        ∷ record { main = alone 3 (assign x (row_of (1 ∷ []))); procedures = []; modes = (x, Sets Plain Integers) ∷ [] }
+        ∷ record { main = alone 3 (assign x (number 1)); procedures = []; modes = (x, Sets Plain Integers) ∷ [] }
+        ∷ [])
     -- repr base b: int; x: remote set(elmt b); end repr;
     -- x := {}; x := {1, 2}; x := om; print(1);
     ++ does 0 (record { main = on_line 3 (assign x (set_of []) ∷ assign x (enumeration (1 ∷ 2 ∷ [])) ∷ assign x Undefined ∷ print (number 1 ∷ []) ∷ []); procedures = []; modes = (x, Sets Remote (Elements 0 Integers)) ∷ [] }) (codes "1\n")
@@ -100,9 +100,9 @@ mode_rows =
     -- repr base b: int; x: remote set(elmt b); end repr;
     -- x := [1];
     ∷ all_end (Stopped (Unfit x) 3) (
-    record { main = alone 3 (assign x (set_of (number 1 ∷ quoted (codes "a") ∷ []))); procedures = []; modes = (x, Sets Remote (Elements 0 Integers)) ∷ [] }
-    ∷ record { main = alone 3 (assign x (row_of (1 ∷ []))); procedures = []; modes = (x, Sets Remote (Elements 0 Integers)) ∷ [] }
-    ∷ [])
+        record { main = alone 3 (assign x (set_of (number 1 ∷ quoted (codes "a") ∷ []))); procedures = []; modes = (x, Sets Remote (Elements 0 Integers)) ∷ [] }
+        ∷ record { main = alone 3 (assign x (row_of (1 ∷ []))); procedures = []; modes = (x, Sets Remote (Elements 0 Integers)) ∷ [] }
+        ∷ [])
     -- repr x: tuple(int); end repr;
     -- x := []; x := [1, om, 2]; x := om; print(1);
     ++ does 0 (record { main = on_line 3 (assign x (tuple_of []) ∷ assign x (tuple_of (number 1 ∷ Undefined ∷ number 2 ∷ [])) ∷ assign x Undefined ∷ print (number 1 ∷ []) ∷ []); procedures = []; modes = (x, Tuples Integers) ∷ [] }) (codes "1\n")
@@ -112,9 +112,9 @@ mode_rows =
     -- repr x: tuple(int); end repr;
     -- x := {1};
     ∷ all_end (Stopped (Unfit x) 3) (
-    record { main = alone 3 (assign x (tuple_of (number 1 ∷ quoted (codes "a") ∷ []))); procedures = []; modes = (x, Tuples Integers) ∷ [] }
-    ∷ record { main = alone 3 (assign x (enumeration (1 ∷ []))); procedures = []; modes = (x, Tuples Integers) ∷ [] }
-    ∷ [])
+        record { main = alone 3 (assign x (tuple_of (number 1 ∷ quoted (codes "a") ∷ []))); procedures = []; modes = (x, Tuples Integers) ∷ [] }
+        ∷ record { main = alone 3 (assign x (enumeration (1 ∷ []))); procedures = []; modes = (x, Tuples Integers) ∷ [] }
+        ∷ [])
     -- repr x: smap(int) string; end repr;
     -- x := {}; x := {[1, 'a'], [2, 'a']}; x := om; print(1);
     ++ does 0 (record { main = on_line 3 (assign x (set_of []) ∷ assign x (set_of (tuple_of (number 1 ∷ quoted (codes "a") ∷ []) ∷ tuple_of (number 2 ∷ quoted (codes "a") ∷ []) ∷ [])) ∷ assign x Undefined ∷ print (number 1 ∷ []) ∷ []); procedures = []; modes = (x, SingleMaps Plain Integers Strings) ∷ [] }) (codes "1\n")
@@ -132,13 +132,13 @@ mode_rows =
     -- repr x: smap(int) string; end repr;
     -- x := {[om, 'a']};
     ∷ all_end (Stopped (Unfit x) 3) (
-    record { main = alone 3 (assign x (set_of (tuple_of (number 1 ∷ quoted (codes "a") ∷ []) ∷ tuple_of (number 1 ∷ quoted (codes "b") ∷ []) ∷ []))); procedures = []; modes = (x, SingleMaps Plain Integers Strings) ∷ [] }
-    ∷ record { main = alone 3 (assign x (set_of (tuple_of (quoted (codes "a") ∷ quoted (codes "a") ∷ []) ∷ []))); procedures = []; modes = (x, SingleMaps Plain Integers Strings) ∷ [] }
-    ∷ record { main = alone 3 (assign x (set_of (row_of (1 ∷ 2 ∷ []) ∷ []))); procedures = []; modes = (x, SingleMaps Plain Integers Strings) ∷ [] }
-    ∷ record { main = alone 3 (assign x (enumeration (1 ∷ []))); procedures = []; modes = (x, SingleMaps Plain Integers Strings) ∷ [] }
-    ∷ record { main = alone 3 (assign x (row_of (1 ∷ []))); procedures = []; modes = (x, SingleMaps Plain Integers Strings) ∷ [] }
-    ∷ record { main = alone 3 (assign x (set_of (tuple_of (Undefined ∷ quoted (codes "a") ∷ []) ∷ []))); procedures = []; modes = (x, SingleMaps Plain Integers Strings) ∷ [] }
-    ∷ [])
+        record { main = alone 3 (assign x (set_of (tuple_of (number 1 ∷ quoted (codes "a") ∷ []) ∷ tuple_of (number 1 ∷ quoted (codes "b") ∷ []) ∷ []))); procedures = []; modes = (x, SingleMaps Plain Integers Strings) ∷ [] }
+        ∷ record { main = alone 3 (assign x (set_of (tuple_of (quoted (codes "a") ∷ quoted (codes "a") ∷ []) ∷ []))); procedures = []; modes = (x, SingleMaps Plain Integers Strings) ∷ [] }
+        ∷ record { main = alone 3 (assign x (set_of (row_of (1 ∷ 2 ∷ []) ∷ []))); procedures = []; modes = (x, SingleMaps Plain Integers Strings) ∷ [] }
+        ∷ record { main = alone 3 (assign x (enumeration (1 ∷ []))); procedures = []; modes = (x, SingleMaps Plain Integers Strings) ∷ [] }
+        ∷ record { main = alone 3 (assign x (row_of (1 ∷ []))); procedures = []; modes = (x, SingleMaps Plain Integers Strings) ∷ [] }
+        ∷ record { main = alone 3 (assign x (set_of (tuple_of (Undefined ∷ quoted (codes "a") ∷ []) ∷ []))); procedures = []; modes = (x, SingleMaps Plain Integers Strings) ∷ [] }
+        ∷ [])
     -- repr x: mmap{int} set(string); end repr;
     -- x := {}; x := {[1, 'a'], [1, 'b'], [2, 'a']}; x := om; print(1);
     ++ does 0 (record { main = on_line 3 (assign x (set_of []) ∷ assign x (set_of (tuple_of (number 1 ∷ quoted (codes "a") ∷ []) ∷ tuple_of (number 1 ∷ quoted (codes "b") ∷ []) ∷ tuple_of (number 2 ∷ quoted (codes "a") ∷ []) ∷ [])) ∷ assign x Undefined ∷ print (number 1 ∷ []) ∷ []); procedures = []; modes = (x, MultiMaps Plain Integers (Sets Plain Strings)) ∷ [] }) (codes "1\n")
@@ -152,11 +152,11 @@ mode_rows =
     -- repr x: mmap{int} set(string); end repr;
     -- x := {[1, 'a'], [1, 2]};
     ∷ all_end (Stopped (Unfit x) 3) (
-    record { main = alone 3 (assign x (set_of (row_of (1 ∷ 2 ∷ []) ∷ []))); procedures = []; modes = (x, MultiMaps Plain Integers (Sets Plain Strings)) ∷ [] }
-    ∷ record { main = alone 3 (assign x (set_of (tuple_of (quoted (codes "a") ∷ quoted (codes "a") ∷ []) ∷ []))); procedures = []; modes = (x, MultiMaps Plain Integers (Sets Plain Strings)) ∷ [] }
-    ∷ record { main = alone 3 (assign x (enumeration (1 ∷ []))); procedures = []; modes = (x, MultiMaps Plain Integers (Sets Plain Strings)) ∷ [] }
-    ∷ record { main = alone 3 (assign x (set_of (tuple_of (number 1 ∷ quoted (codes "a") ∷ []) ∷ row_of (1 ∷ 2 ∷ []) ∷ []))); procedures = []; modes = (x, MultiMaps Plain Integers (Sets Plain Strings)) ∷ [] }
-    ∷ [])
+        record { main = alone 3 (assign x (set_of (row_of (1 ∷ 2 ∷ []) ∷ []))); procedures = []; modes = (x, MultiMaps Plain Integers (Sets Plain Strings)) ∷ [] }
+        ∷ record { main = alone 3 (assign x (set_of (tuple_of (quoted (codes "a") ∷ quoted (codes "a") ∷ []) ∷ []))); procedures = []; modes = (x, MultiMaps Plain Integers (Sets Plain Strings)) ∷ [] }
+        ∷ record { main = alone 3 (assign x (enumeration (1 ∷ []))); procedures = []; modes = (x, MultiMaps Plain Integers (Sets Plain Strings)) ∷ [] }
+        ∷ record { main = alone 3 (assign x (set_of (tuple_of (number 1 ∷ quoted (codes "a") ∷ []) ∷ row_of (1 ∷ 2 ∷ []) ∷ []))); procedures = []; modes = (x, MultiMaps Plain Integers (Sets Plain Strings)) ∷ [] }
+        ∷ [])
     -- repr base b: int; x: local mmap{elmt b} remote set(elmt b); end repr;
     -- x := {[1, 2], [1, 3]}; x := om; print(1);
     ++ does 0 (record { main = on_line 3 (assign x (set_of (row_of (1 ∷ 2 ∷ []) ∷ row_of (1 ∷ 3 ∷ []) ∷ [])) ∷ assign x Undefined ∷ print (number 1 ∷ []) ∷ []); procedures = []; modes = (x, MultiMaps Local (Elements 0 Integers) (Sets Remote (Elements 0 Integers))) ∷ [] }) (codes "1\n")
@@ -166,9 +166,9 @@ mode_rows =
     -- repr base b: int; x: local mmap{elmt b} remote set(elmt b); end repr;
     -- x := {['a', 1]};
     ∷ all_end (Stopped (Unfit x) 3) (
-    record { main = alone 3 (assign x (set_of (tuple_of (number 1 ∷ quoted (codes "a") ∷ []) ∷ []))); procedures = []; modes = (x, MultiMaps Local (Elements 0 Integers) (Sets Remote (Elements 0 Integers))) ∷ [] }
-    ∷ record { main = alone 3 (assign x (set_of (tuple_of (quoted (codes "a") ∷ number 1 ∷ []) ∷ []))); procedures = []; modes = (x, MultiMaps Local (Elements 0 Integers) (Sets Remote (Elements 0 Integers))) ∷ [] }
-    ∷ [])
+        record { main = alone 3 (assign x (set_of (tuple_of (number 1 ∷ quoted (codes "a") ∷ []) ∷ []))); procedures = []; modes = (x, MultiMaps Local (Elements 0 Integers) (Sets Remote (Elements 0 Integers))) ∷ [] }
+        ∷ record { main = alone 3 (assign x (set_of (tuple_of (quoted (codes "a") ∷ number 1 ∷ []) ∷ []))); procedures = []; modes = (x, MultiMaps Local (Elements 0 Integers) (Sets Remote (Elements 0 Integers))) ∷ [] }
+        ∷ [])
 
 -- a store needs that the whole new value fits
 abbrev pub whole_value_rows : List Row

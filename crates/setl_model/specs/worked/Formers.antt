@@ -68,29 +68,29 @@ abbrev pub former_stops : List Row
 former_stops =
     -- om: {x : x in [1, om, 2]}; {x in [1, om, 2] | true}; [x : x in om]; [x : x in [1] | om]; {x in om | true}
     all_stop Om (
-    Former OfSet (Name (Bound 1 (codes "x"))) (over (Bound 1 (codes "x")) (tuple_of (number 1 ∷ Undefined ∷ number 2 ∷ []))) no_condition
-    ∷ Selection OfSet (over (Bound 1 (codes "x")) (tuple_of (number 1 ∷ Undefined ∷ number 2 ∷ []))) (only_if yes)
-    ∷ Former OfTuple (Name (Bound 1 (codes "x"))) (over (Bound 1 (codes "x")) Undefined) no_condition
-    ∷ Former OfTuple (Name (Bound 1 (codes "x"))) (over (Bound 1 (codes "x")) (row_of (1 ∷ []))) (only_if Undefined)
-    ∷ Selection OfSet (over (Bound 1 (codes "x")) Undefined) (only_if yes)
-    ∷ [])
+        Former OfSet (Name (Bound 1 (codes "x"))) (over (Bound 1 (codes "x")) (tuple_of (number 1 ∷ Undefined ∷ number 2 ∷ []))) no_condition
+        ∷ Selection OfSet (over (Bound 1 (codes "x")) (tuple_of (number 1 ∷ Undefined ∷ number 2 ∷ []))) (only_if yes)
+        ∷ Former OfTuple (Name (Bound 1 (codes "x"))) (over (Bound 1 (codes "x")) Undefined) no_condition
+        ∷ Former OfTuple (Name (Bound 1 (codes "x"))) (over (Bound 1 (codes "x")) (row_of (1 ∷ []))) (only_if Undefined)
+        ∷ Selection OfSet (over (Bound 1 (codes "x")) Undefined) (only_if yes)
+        ∷ [])
     -- kind: [x : x in 5]; [x : x in [1] | x]; {x in {1} | 'a'}; [x : [x] in [1]]; {[x] in {1} | true}
     ++ all_stop Kind (
-    Former OfTuple (Name (Bound 1 (codes "x"))) (over (Bound 1 (codes "x")) (number 5)) no_condition
-    ∷ Former OfTuple (Name (Bound 1 (codes "x"))) (over (Bound 1 (codes "x")) (row_of (1 ∷ []))) (only_if (Name (Bound 1 (codes "x"))))
-    ∷ Selection OfSet (over (Bound 1 (codes "x")) (enumeration (1 ∷ []))) (only_if (quoted (codes "a")))
-    ∷ Former OfTuple (Name (Bound 1 (codes "x"))) (more_iterators (Components (Some (Bound 1 (codes "x")) ∷ [])) Values (exprs (row_of (1 ∷ []) ∷ [])) no_iterator) no_condition
-    ∷ Selection OfSet (more_iterators (Components (Some (Bound 1 (codes "x")) ∷ [])) Values (exprs (enumeration (1 ∷ []) ∷ [])) no_iterator) (only_if yes)
-    ∷ [])
+        Former OfTuple (Name (Bound 1 (codes "x"))) (over (Bound 1 (codes "x")) (number 5)) no_condition
+        ∷ Former OfTuple (Name (Bound 1 (codes "x"))) (over (Bound 1 (codes "x")) (row_of (1 ∷ []))) (only_if (Name (Bound 1 (codes "x"))))
+        ∷ Selection OfSet (over (Bound 1 (codes "x")) (enumeration (1 ∷ []))) (only_if (quoted (codes "a")))
+        ∷ Former OfTuple (Name (Bound 1 (codes "x"))) (more_iterators (Components (Some (Bound 1 (codes "x")) ∷ [])) Values (exprs (row_of (1 ∷ []) ∷ [])) no_iterator) no_condition
+        ∷ Selection OfSet (more_iterators (Components (Some (Bound 1 (codes "x")) ∷ [])) Values (exprs (enumeration (1 ∷ []) ∷ [])) no_iterator) (only_if yes)
+        ∷ [])
     -- deep: {deepest : x in [1]}; [deepest : x in [1]]
     ++ all_stop Deep (
-    Former OfSet deepest (over (Bound 1 (codes "x")) (row_of (1 ∷ []))) no_condition
-    ∷ Former OfTuple deepest (over (Bound 1 (codes "x")) (row_of (1 ∷ []))) no_condition
-    ∷ [])
+        Former OfSet deepest (over (Bound 1 (codes "x")) (row_of (1 ∷ []))) no_condition
+        ∷ Former OfTuple deepest (over (Bound 1 (codes "x")) (row_of (1 ∷ []))) no_condition
+        ∷ [])
     -- print({x in deepest | true} = deepest, [nearly : x in [1]] = [nearly], {y : y in deepest} = deepest);
     ++ writes 3 (
-    two Equal (Selection OfSet (over (Bound 1 (codes "x")) deepest) (only_if yes)) deepest
-    ∷ two Equal (Former OfTuple nearly (over (Bound 2 (codes "x")) (row_of (1 ∷ []))) no_condition) (tuple_of (nearly ∷ []))
-    ∷ two Equal (Former OfSet (Name (Bound 3 (codes "y"))) (over (Bound 3 (codes "y")) deepest) no_condition) deepest
-    ∷ []) (codes "true true true")
+        two Equal (Selection OfSet (over (Bound 1 (codes "x")) deepest) (only_if yes)) deepest
+        ∷ two Equal (Former OfTuple nearly (over (Bound 2 (codes "x")) (row_of (1 ∷ []))) no_condition) (tuple_of (nearly ∷ []))
+        ∷ two Equal (Former OfSet (Name (Bound 3 (codes "y"))) (over (Bound 3 (codes "y")) deepest) no_condition) deepest
+        ∷ []) (codes "true true true")
     ∷ []

@@ -35,28 +35,28 @@ source_rows =
     -- (for x in ['a'..2]) end for;
     -- (for x in [1, 1..'a']) end for;
     ∷ all_end (Stopped Kind 2) (
-    just (alone 2 (For (over x (number 5)) no_condition no_stmt))
-    ∷ just (alone 2 (For (over x yes) no_condition no_stmt))
-    ∷ just (alone 2 (For (over x Newat) no_condition no_stmt))
-    ∷ just (alone 2 (For (between x (quoted (codes "a")) (number 2)) no_condition no_stmt))
-    ∷ just (alone 2 (For (more_iterators (Member x) TupleSteps (exprs (number 1 ∷ number 1 ∷ quoted (codes "a") ∷ [])) no_iterator) no_condition no_stmt))
-    ∷ [])
+        just (alone 2 (For (over x (number 5)) no_condition no_stmt))
+        ∷ just (alone 2 (For (over x yes) no_condition no_stmt))
+        ∷ just (alone 2 (For (over x Newat) no_condition no_stmt))
+        ∷ just (alone 2 (For (between x (quoted (codes "a")) (number 2)) no_condition no_stmt))
+        ∷ just (alone 2 (For (more_iterators (Member x) TupleSteps (exprs (number 1 ∷ number 1 ∷ quoted (codes "a") ∷ [])) no_iterator) no_condition no_stmt))
+        ∷ [])
     -- om 2:
     -- (for x in om) end for;
     -- (for x in [om..2]) end for;
     -- (for x in {1, om..'a'}) end for;
     ++ all_end (Stopped Om 2) (
-    just (alone 2 (For (over x Undefined) no_condition no_stmt))
-    ∷ just (alone 2 (For (between x Undefined (number 2)) no_condition no_stmt))
-    ∷ just (alone 2 (For (more_iterators (Member x) SetSteps (exprs (number 1 ∷ Undefined ∷ quoted (codes "a") ∷ [])) no_iterator) no_condition no_stmt))
-    ∷ [])
+        just (alone 2 (For (over x Undefined) no_condition no_stmt))
+        ∷ just (alone 2 (For (between x Undefined (number 2)) no_condition no_stmt))
+        ∷ just (alone 2 (For (more_iterators (Member x) SetSteps (exprs (number 1 ∷ Undefined ∷ quoted (codes "a") ∷ [])) no_iterator) no_condition no_stmt))
+        ∷ [])
     -- zero 2:
     -- (for x in [1, 1..3]) end for;
     -- (for x in {2, 2..1}) end for;
     ++ all_end (Stopped Zero 2) (
-    just (alone 2 (For (more_iterators (Member x) TupleSteps (exprs (number 1 ∷ number 1 ∷ number 3 ∷ [])) no_iterator) no_condition no_stmt))
-    ∷ just (alone 2 (For (more_iterators (Member x) SetSteps (exprs (number 2 ∷ number 2 ∷ number 1 ∷ [])) no_iterator) no_condition no_stmt))
-    ∷ [])
+        just (alone 2 (For (more_iterators (Member x) TupleSteps (exprs (number 1 ∷ number 1 ∷ number 3 ∷ [])) no_iterator) no_condition no_stmt))
+        ∷ just (alone 2 (For (more_iterators (Member x) SetSteps (exprs (number 2 ∷ number 2 ∷ number 1 ∷ [])) no_iterator) no_condition no_stmt))
+        ∷ [])
 
 -- members that are taken apart, and points of maps
 abbrev pub pattern_rows : List Row
@@ -85,14 +85,14 @@ pattern_rows =
     -- f := {1}; (for y = f(x)) end for;
     -- f := 5; (for y = f(x)) end for;
     ∷ all_end (Stopped Kind 2) (
-    just (on_line 2 (assign f (enumeration (1 ∷ [])) ∷ For (more_iterators (Point y x) Points (exprs (Name f ∷ [])) no_iterator) no_condition no_stmt ∷ []))
-    ∷ just (on_line 2 (assign f (number 5) ∷ For (more_iterators (Point y x) Points (exprs (Name f ∷ [])) no_iterator) no_condition no_stmt ∷ []))
-    ∷ [])
+        just (on_line 2 (assign f (enumeration (1 ∷ [])) ∷ For (more_iterators (Point y x) Points (exprs (Name f ∷ [])) no_iterator) no_condition no_stmt ∷ []))
+        ∷ just (on_line 2 (assign f (number 5) ∷ For (more_iterators (Point y x) Points (exprs (Name f ∷ [])) no_iterator) no_condition no_stmt ∷ []))
+        ∷ [])
     -- om 2:
     -- f := om; (for y = f(x)) end for;
     ++ all_end (Stopped Om 2) (
-    just (on_line 2 (assign f Undefined ∷ For (more_iterators (Point y x) Points (exprs (Name f ∷ [])) no_iterator) no_condition no_stmt ∷ []))
-    ∷ [])
+        just (on_line 2 (assign f Undefined ∷ For (more_iterators (Point y x) Points (exprs (Name f ∷ [])) no_iterator) no_condition no_stmt ∷ []))
+        ∷ [])
 
 -- loops store ordinary variables, which keep their last values
 abbrev pub loop_rows : List Row
@@ -123,14 +123,14 @@ loop_rows =
     -- | 'a')
     -- end for;
     ∷ all_end (Stopped Kind 2) (
-    just (alone 2 (For (over x (row_of (1 ∷ []))) (only_if (Name x)) no_stmt))
-    ∷ just (alone 2 (For (over x (row_of (1 ∷ []))) (only_if (quoted (codes "a"))) no_stmt))
-    ∷ [])
+        just (alone 2 (For (over x (row_of (1 ∷ []))) (only_if (Name x)) no_stmt))
+        ∷ just (alone 2 (For (over x (row_of (1 ∷ []))) (only_if (quoted (codes "a"))) no_stmt))
+        ∷ [])
     -- om 2:
     -- (for x in [1] | om) end for;
     ++ all_end (Stopped Om 2) (
-    just (alone 2 (For (over x (row_of (1 ∷ []))) (only_if Undefined) no_stmt))
-    ∷ [])
+        just (alone 2 (For (over x (row_of (1 ∷ []))) (only_if Undefined) no_stmt))
+        ∷ [])
     -- a stop in the body has the line of the statement there:
     -- (for x in [1])
     -- print(x + 'a'); end for;
@@ -176,14 +176,14 @@ while_rows =
     -- (while 'a')
     -- end while;
     ∷ all_end (Stopped Kind 2) (
-    just (alone 2 (While (number 1) no_stmt))
-    ∷ just (alone 2 (While (quoted (codes "a")) no_stmt))
-    ∷ [])
+        just (alone 2 (While (number 1) no_stmt))
+        ∷ just (alone 2 (While (quoted (codes "a")) no_stmt))
+        ∷ [])
     -- om 2:
     -- (while om) end while;
     ++ all_end (Stopped Om 2) (
-    just (alone 2 (While Undefined no_stmt))
-    ∷ [])
+        just (alone 2 (While Undefined no_stmt))
+        ∷ [])
 
 -- a condition of `if` and of `elseif` has the line of the `if`
 abbrev pub choice_rows : List Row
@@ -201,18 +201,18 @@ choice_rows =
     -- then pass; elseif
     -- 'a' then end if;
     ∷ all_end (Stopped Kind 2) (
-    just (alone 2 (If (number 1) no_stmt no_stmt))
-    ∷ just (alone 2 (If no (alone 2 Pass) (alone 2 (If (number 1) (alone 3 Pass) no_stmt))))
-    ∷ just (alone 2 (If no (alone 2 Pass) (alone 2 (If no (alone 4 Pass) (alone 2 (If (quoted (codes "a")) no_stmt no_stmt))))))
-    ∷ [])
+        just (alone 2 (If (number 1) no_stmt no_stmt))
+        ∷ just (alone 2 (If no (alone 2 Pass) (alone 2 (If (number 1) (alone 3 Pass) no_stmt))))
+        ∷ just (alone 2 (If no (alone 2 Pass) (alone 2 (If no (alone 4 Pass) (alone 2 (If (quoted (codes "a")) no_stmt no_stmt))))))
+        ∷ [])
     -- om 2:
     -- if om then end if;
     -- if false then
     -- elseif om then end if;
     ++ all_end (Stopped Om 2) (
-    just (alone 2 (If Undefined no_stmt no_stmt))
-    ∷ just (alone 2 (If no no_stmt (alone 2 (If Undefined no_stmt no_stmt))))
-    ∷ [])
+        just (alone 2 (If Undefined no_stmt no_stmt))
+        ∷ just (alone 2 (If no no_stmt (alone 2 (If Undefined no_stmt no_stmt))))
+        ∷ [])
     -- if true
     -- then print(1 div 0);
     -- end if;

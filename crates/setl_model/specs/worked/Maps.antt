@@ -15,48 +15,48 @@ map_rows =
     does 9 (just (lines_from 2 (assign f (set_of (row_of (1 ∷ 2 ∷ []) ∷ row_of (1 ∷ 3 ∷ []) ∷ row_of (2 ∷ 5 ∷ []) ∷ [])) ∷ print (at_round (Name f) (number 1) ∷ at_brace (Name f) (number 1) ∷ at_round (Name f) (number 2) ∷ at_brace (Name f) (number 9) ∷ at_round (Name f) (number 9) ∷ []) ∷ print (one Domain (Name f) ∷ one Range (Name f) ∷ two Lessf (Name f) (number 1) ∷ two Lessf (Name f) (number 9) ∷ []) ∷ []))) (codes "* {2 3} 5 {} *\n{1 2} {2 3 5} {[2 5]} {[1 2] [1 3] [2 5]}\n")
     -- print(domain {}, range {}, {}(1), {}{1}, {} lessf 1);
     ∷ writes 0 (
-    one Domain (set_of [])
-    ∷ one Range (set_of [])
-    ∷ at_round (set_of []) (number 1)
-    ∷ at_brace (set_of []) (number 1)
-    ∷ two Lessf (set_of []) (number 1)
-    ∷ []) (codes "{} {} * {} {}")
+        one Domain (set_of [])
+        ∷ one Range (set_of [])
+        ∷ at_round (set_of []) (number 1)
+        ∷ at_brace (set_of []) (number 1)
+        ∷ two Lessf (set_of []) (number 1)
+        ∷ []) (codes "{} {} * {} {}")
     -- print({[[1, 2], 3]}(1, 2), {[[1], 5]}(1, om), {[[1, 2], 3]}{1, 2}, {[[], 4]}(om, om));
     ∷ writes 0 (
-    at_round (set_of (tuple_of (row_of (1 ∷ 2 ∷ []) ∷ number 3 ∷ []) ∷ [])) (tuple_of (number 1 ∷ number 2 ∷ []))
-    ∷ at_round (set_of (tuple_of (row_of (1 ∷ []) ∷ number 5 ∷ []) ∷ [])) (tuple_of (number 1 ∷ Undefined ∷ []))
-    ∷ at_brace (set_of (tuple_of (row_of (1 ∷ 2 ∷ []) ∷ number 3 ∷ []) ∷ [])) (tuple_of (number 1 ∷ number 2 ∷ []))
-    ∷ at_round (set_of (tuple_of (tuple_of [] ∷ number 4 ∷ []) ∷ [])) (tuple_of (Undefined ∷ Undefined ∷ []))
-    ∷ []) (codes "3 5 {3} 4")
+        at_round (set_of (tuple_of (row_of (1 ∷ 2 ∷ []) ∷ number 3 ∷ []) ∷ [])) (tuple_of (number 1 ∷ number 2 ∷ []))
+        ∷ at_round (set_of (tuple_of (row_of (1 ∷ []) ∷ number 5 ∷ []) ∷ [])) (tuple_of (number 1 ∷ Undefined ∷ []))
+        ∷ at_brace (set_of (tuple_of (row_of (1 ∷ 2 ∷ []) ∷ number 3 ∷ []) ∷ [])) (tuple_of (number 1 ∷ number 2 ∷ []))
+        ∷ at_round (set_of (tuple_of (tuple_of [] ∷ number 4 ∷ []) ∷ [])) (tuple_of (Undefined ∷ Undefined ∷ []))
+        ∷ []) (codes "3 5 {3} 4")
     -- kind: domain {1}; range {[1]}; {1} lessf 1; {1}(1); {1}{1}; [1]{1}; 'a'{1}; 1{1}; domain [1]; {[1, 2], 3}(1); 1
     --   lessf 1; range 'a'; {[om, 2]}(2)
     ∷ all_stop Kind (
-    one Domain (enumeration (1 ∷ []))
-    ∷ one Range (set_of (row_of (1 ∷ []) ∷ []))
-    ∷ two Lessf (enumeration (1 ∷ [])) (number 1)
-    ∷ at_round (enumeration (1 ∷ [])) (number 1)
-    ∷ at_brace (enumeration (1 ∷ [])) (number 1)
-    ∷ at_brace (row_of (1 ∷ [])) (number 1)
-    ∷ at_brace (quoted (codes "a")) (number 1)
-    ∷ at_brace (number 1) (number 1)
-    ∷ one Domain (row_of (1 ∷ []))
-    ∷ at_round (set_of (row_of (1 ∷ 2 ∷ []) ∷ number 3 ∷ [])) (number 1)
-    ∷ two Lessf (number 1) (number 1)
-    ∷ one Range (quoted (codes "a"))
-    ∷ at_round (set_of (tuple_of (Undefined ∷ number 2 ∷ []) ∷ [])) (number 2)
-    ∷ [])
+        one Domain (enumeration (1 ∷ []))
+        ∷ one Range (set_of (row_of (1 ∷ []) ∷ []))
+        ∷ two Lessf (enumeration (1 ∷ [])) (number 1)
+        ∷ at_round (enumeration (1 ∷ [])) (number 1)
+        ∷ at_brace (enumeration (1 ∷ [])) (number 1)
+        ∷ at_brace (row_of (1 ∷ [])) (number 1)
+        ∷ at_brace (quoted (codes "a")) (number 1)
+        ∷ at_brace (number 1) (number 1)
+        ∷ one Domain (row_of (1 ∷ []))
+        ∷ at_round (set_of (row_of (1 ∷ 2 ∷ []) ∷ number 3 ∷ [])) (number 1)
+        ∷ two Lessf (number 1) (number 1)
+        ∷ one Range (quoted (codes "a"))
+        ∷ at_round (set_of (tuple_of (Undefined ∷ number 2 ∷ []) ∷ [])) (number 2)
+        ∷ [])
     -- om: domain om; range om; {}(om); {}{om}; om{1}; {1}(om); 1{om}; {} lessf om; om lessf 1
     ++ all_stop Om (
-    one Domain Undefined
-    ∷ one Range Undefined
-    ∷ at_round (set_of []) Undefined
-    ∷ at_brace (set_of []) Undefined
-    ∷ at_brace Undefined (number 1)
-    ∷ at_round (enumeration (1 ∷ [])) Undefined
-    ∷ at_brace (number 1) Undefined
-    ∷ two Lessf (set_of []) Undefined
-    ∷ two Lessf Undefined (number 1)
-    ∷ [])
+        one Domain Undefined
+        ∷ one Range Undefined
+        ∷ at_round (set_of []) Undefined
+        ∷ at_brace (set_of []) Undefined
+        ∷ at_brace Undefined (number 1)
+        ∷ at_round (enumeration (1 ∷ [])) Undefined
+        ∷ at_brace (number 1) Undefined
+        ∷ two Lessf (set_of []) Undefined
+        ∷ two Lessf Undefined (number 1)
+        ∷ [])
 
 -- the images of a point are replaced
 abbrev pub put_rows : List Row
@@ -81,12 +81,12 @@ put_rows =
     -- t := [];
     -- t(1) := deepest;
     ∷ all_end (Stopped Deep 3) (
-    just (lines_from 2 (assign f (set_of []) ∷ put f (number 1) deepest ∷ []))
-    ∷ just (lines_from 2 (assign f (set_of []) ∷ put f deepest (number 1) ∷ []))
-    ∷ just (lines_from 2 (assign f (set_of []) ∷ put_brace f (number 1) deepest ∷ []))
-    ∷ just (lines_from 2 (assign f (set_of []) ∷ put f (number 1) nearly ∷ []))
-    ∷ just (lines_from 2 (assign t (tuple_of []) ∷ put t (number 1) deepest ∷ []))
-    ∷ [])
+        just (lines_from 2 (assign f (set_of []) ∷ put f (number 1) deepest ∷ []))
+        ∷ just (lines_from 2 (assign f (set_of []) ∷ put f deepest (number 1) ∷ []))
+        ∷ just (lines_from 2 (assign f (set_of []) ∷ put_brace f (number 1) deepest ∷ []))
+        ∷ just (lines_from 2 (assign f (set_of []) ∷ put f (number 1) nearly ∷ []))
+        ∷ just (lines_from 2 (assign t (tuple_of []) ∷ put t (number 1) deepest ∷ []))
+        ∷ [])
     -- kind 3:
     -- f := {1};
     -- f(1) := 2;
@@ -109,17 +109,17 @@ put_rows =
     -- f := [1];
     -- f('a') := 1;
     ++ all_end (Stopped Kind 3) (
-    just (lines_from 2 (assign f (enumeration (1 ∷ [])) ∷ put f (number 1) (number 2) ∷ []))
-    ∷ just (lines_from 2 (assign f (enumeration (1 ∷ [])) ∷ put f (number 1) Undefined ∷ []))
-    ∷ just (lines_from 2 (assign f (enumeration (1 ∷ [])) ∷ put_brace f (number 1) (set_of []) ∷ []))
-    ∷ just (lines_from 2 (assign f (set_of []) ∷ put_brace f (number 1) (number 2) ∷ []))
-    ∷ just (lines_from 2 (assign f (set_of []) ∷ put_brace f (number 1) (row_of (2 ∷ [])) ∷ []))
-    ∷ just (lines_from 2 (assign f (number 1) ∷ put f (number 1) Undefined ∷ []))
-    ∷ just (lines_from 2 (assign f (row_of (1 ∷ [])) ∷ put_brace f (number 1) (enumeration (2 ∷ [])) ∷ []))
-    ∷ just (lines_from 2 (assign f (quoted (codes "ab")) ∷ put f (number 1) (quoted (codes "x")) ∷ []))
-    ∷ just (lines_from 2 (assign f (quoted (codes "ab")) ∷ put f (number 0) (quoted (codes "x")) ∷ []))
-    ∷ just (lines_from 2 (assign f (row_of (1 ∷ [])) ∷ put f (quoted (codes "a")) (number 1) ∷ []))
-    ∷ [])
+        just (lines_from 2 (assign f (enumeration (1 ∷ [])) ∷ put f (number 1) (number 2) ∷ []))
+        ∷ just (lines_from 2 (assign f (enumeration (1 ∷ [])) ∷ put f (number 1) Undefined ∷ []))
+        ∷ just (lines_from 2 (assign f (enumeration (1 ∷ [])) ∷ put_brace f (number 1) (set_of []) ∷ []))
+        ∷ just (lines_from 2 (assign f (set_of []) ∷ put_brace f (number 1) (number 2) ∷ []))
+        ∷ just (lines_from 2 (assign f (set_of []) ∷ put_brace f (number 1) (row_of (2 ∷ [])) ∷ []))
+        ∷ just (lines_from 2 (assign f (number 1) ∷ put f (number 1) Undefined ∷ []))
+        ∷ just (lines_from 2 (assign f (row_of (1 ∷ [])) ∷ put_brace f (number 1) (enumeration (2 ∷ [])) ∷ []))
+        ∷ just (lines_from 2 (assign f (quoted (codes "ab")) ∷ put f (number 1) (quoted (codes "x")) ∷ []))
+        ∷ just (lines_from 2 (assign f (quoted (codes "ab")) ∷ put f (number 0) (quoted (codes "x")) ∷ []))
+        ∷ just (lines_from 2 (assign f (row_of (1 ∷ [])) ∷ put f (quoted (codes "a")) (number 1) ∷ []))
+        ∷ [])
     -- om 3:
     -- f := om;
     -- f(1) := 2;
@@ -136,14 +136,14 @@ put_rows =
     -- f := 1;
     -- f(om) := om;
     ++ all_end (Stopped Om 3) (
-    just (lines_from 2 (assign f Undefined ∷ put f (number 1) (number 2) ∷ []))
-    ∷ just (lines_from 2 (assign f (enumeration (1 ∷ [])) ∷ put f Undefined (number 1) ∷ []))
-    ∷ just (lines_from 2 (assign f (set_of []) ∷ put_brace f (number 1) Undefined ∷ []))
-    ∷ just (lines_from 2 (assign f (set_of []) ∷ put_brace f Undefined (set_of []) ∷ []))
-    ∷ just (lines_from 2 (assign f (number 1) ∷ put_brace f (number 1) Undefined ∷ []))
-    ∷ just (lines_from 2 (assign f Undefined ∷ put f (number 1) Undefined ∷ []))
-    ∷ just (lines_from 2 (assign f (number 1) ∷ put f Undefined Undefined ∷ []))
-    ∷ [])
+        just (lines_from 2 (assign f Undefined ∷ put f (number 1) (number 2) ∷ []))
+        ∷ just (lines_from 2 (assign f (enumeration (1 ∷ [])) ∷ put f Undefined (number 1) ∷ []))
+        ∷ just (lines_from 2 (assign f (set_of []) ∷ put_brace f (number 1) Undefined ∷ []))
+        ∷ just (lines_from 2 (assign f (set_of []) ∷ put_brace f Undefined (set_of []) ∷ []))
+        ∷ just (lines_from 2 (assign f (number 1) ∷ put_brace f (number 1) Undefined ∷ []))
+        ∷ just (lines_from 2 (assign f Undefined ∷ put f (number 1) Undefined ∷ []))
+        ∷ just (lines_from 2 (assign f (number 1) ∷ put f Undefined Undefined ∷ []))
+        ∷ [])
 
 -- a put past the end of a tuple charges a turn for each `om` between; a put of `om` there does nothing
 abbrev pub tuple_put_rows : List Row
@@ -169,7 +169,7 @@ tuple_put_rows =
     -- t := [];
     -- t(-1) := 1;
     ∷ all_end (Stopped OutOfRange 3) (
-    just (lines_from 2 (assign t (row_of (1 ∷ [])) ∷ put t (number 0) (number 1) ∷ []))
-    ∷ just (lines_from 2 (assign t (row_of (1 ∷ [])) ∷ put t (number 0) Undefined ∷ []))
-    ∷ just (lines_from 2 (assign t (tuple_of []) ∷ put t (minus 1) (number 1) ∷ []))
-    ∷ [])
+        just (lines_from 2 (assign t (row_of (1 ∷ [])) ∷ put t (number 0) (number 1) ∷ []))
+        ∷ just (lines_from 2 (assign t (row_of (1 ∷ [])) ∷ put t (number 0) Undefined ∷ []))
+        ∷ just (lines_from 2 (assign t (tuple_of []) ∷ put t (minus 1) (number 1) ∷ []))
+        ∷ [])

@@ -45,18 +45,18 @@ quantifier_rows =
     -- y := exists x in 5 | true;
     -- y := forall [x] in [1] | true;
     ∷ all_end (Stopped Kind 2) (
-    just (alone 2 (assign y (Quantified Exists (over x (row_of (1 ∷ []))) (Name x))))
-    ∷ just (alone 2 (assign y (Quantified Forall (over x (row_of (1 ∷ []))) (number 5))))
-    ∷ just (alone 2 (assign y (Quantified NotExists (over x (tuple_of (yes ∷ []))) (quoted (codes "a")))))
-    ∷ just (alone 2 (assign y (Quantified Exists (over x (number 5)) yes)))
-    ∷ just (alone 2 (assign y (Quantified Forall (more_iterators (Components (Some x ∷ [])) Values (exprs (row_of (1 ∷ []) ∷ [])) no_iterator) yes)))
-    ∷ [])
+        just (alone 2 (assign y (Quantified Exists (over x (row_of (1 ∷ []))) (Name x))))
+        ∷ just (alone 2 (assign y (Quantified Forall (over x (row_of (1 ∷ []))) (number 5))))
+        ∷ just (alone 2 (assign y (Quantified NotExists (over x (tuple_of (yes ∷ []))) (quoted (codes "a")))))
+        ∷ just (alone 2 (assign y (Quantified Exists (over x (number 5)) yes)))
+        ∷ just (alone 2 (assign y (Quantified Forall (more_iterators (Components (Some x ∷ [])) Values (exprs (row_of (1 ∷ []) ∷ [])) no_iterator) yes)))
+        ∷ [])
     -- om 2:
     -- y := exists x in [1] | om;
     -- y := forall x in [1] | om;
     -- y := exists x in om | true;
     ++ all_end (Stopped Om 2) (
-    just (alone 2 (assign y (Quantified Exists (over x (row_of (1 ∷ []))) Undefined)))
-    ∷ just (alone 2 (assign y (Quantified Forall (over x (row_of (1 ∷ []))) Undefined)))
-    ∷ just (alone 2 (assign y (Quantified Exists (over x Undefined) yes)))
-    ∷ [])
+        just (alone 2 (assign y (Quantified Exists (over x (row_of (1 ∷ []))) Undefined)))
+        ∷ just (alone 2 (assign y (Quantified Forall (over x (row_of (1 ∷ []))) Undefined)))
+        ∷ just (alone 2 (assign y (Quantified Exists (over x Undefined) yes)))
+        ∷ [])

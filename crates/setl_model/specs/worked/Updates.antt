@@ -54,12 +54,12 @@ nested_rows =
     -- t := [1];
     -- t(1) +:= om;
     ∷ all_end (Stopped Om 3) (
-    just (lines_from 2 (assign x Undefined ∷ combine Add x (number 1) ∷ []))
-    ∷ just (lines_from 2 (assign t (row_of (1 ∷ [])) ∷ combine_round Add t (number 5) (number 1) ∷ []))
-    ∷ just (lines_from 2 (assign t (row_of (1 ∷ [])) ∷ Assign (record { variable = t; selectors = (round_selector (number 3) (round_selector (number 1) no_selector)) }) (number 2) ∷ []))
-    ∷ just (lines_from 2 (assign f (set_of []) ∷ Assign (record { variable = f; selectors = (round_selector (number 9) (round_selector (number 1) no_selector)) }) (number 2) ∷ []))
-    ∷ just (lines_from 2 (assign t (row_of (1 ∷ [])) ∷ combine_round Add t (number 1) Undefined ∷ []))
-    ∷ [])
+        just (lines_from 2 (assign x Undefined ∷ combine Add x (number 1) ∷ []))
+        ∷ just (lines_from 2 (assign t (row_of (1 ∷ [])) ∷ combine_round Add t (number 5) (number 1) ∷ []))
+        ∷ just (lines_from 2 (assign t (row_of (1 ∷ [])) ∷ Assign (record { variable = t; selectors = (round_selector (number 3) (round_selector (number 1) no_selector)) }) (number 2) ∷ []))
+        ∷ just (lines_from 2 (assign f (set_of []) ∷ Assign (record { variable = f; selectors = (round_selector (number 9) (round_selector (number 1) no_selector)) }) (number 2) ∷ []))
+        ∷ just (lines_from 2 (assign t (row_of (1 ∷ [])) ∷ combine_round Add t (number 1) Undefined ∷ []))
+        ∷ [])
     -- kind 3:
     -- t := [1];
     -- t(1) +:= 'a';
@@ -70,11 +70,11 @@ nested_rows =
     -- f := {[1, 2]};
     -- f{1}(1) := 2;
     ++ all_end (Stopped Kind 3) (
-    just (lines_from 2 (assign t (row_of (1 ∷ [])) ∷ combine_round Add t (number 1) (quoted (codes "a")) ∷ []))
-    ∷ just (lines_from 2 (assign t (row_of (1 ∷ [])) ∷ Assign (record { variable = t; selectors = (round_selector (number 1) (round_selector (number 1) no_selector)) }) (number 2) ∷ []))
-    ∷ just (lines_from 2 (assign t (tuple_of (quoted (codes "ab") ∷ [])) ∷ Update Add (record { variable = t; selectors = (round_selector (number 1) (round_selector (number 1) no_selector)) }) (quoted (codes "c")) ∷ []))
-    ∷ just (lines_from 2 (assign f (set_of (row_of (1 ∷ 2 ∷ []) ∷ [])) ∷ Assign (record { variable = f; selectors = (brace_selector (number 1) (round_selector (number 1) no_selector)) }) (number 2) ∷ []))
-    ∷ [])
+        just (lines_from 2 (assign t (row_of (1 ∷ [])) ∷ combine_round Add t (number 1) (quoted (codes "a")) ∷ []))
+        ∷ just (lines_from 2 (assign t (row_of (1 ∷ [])) ∷ Assign (record { variable = t; selectors = (round_selector (number 1) (round_selector (number 1) no_selector)) }) (number 2) ∷ []))
+        ∷ just (lines_from 2 (assign t (tuple_of (quoted (codes "ab") ∷ [])) ∷ Update Add (record { variable = t; selectors = (round_selector (number 1) (round_selector (number 1) no_selector)) }) (quoted (codes "c")) ∷ []))
+        ∷ just (lines_from 2 (assign f (set_of (row_of (1 ∷ 2 ∷ []) ∷ [])) ∷ Assign (record { variable = f; selectors = (brace_selector (number 1) (round_selector (number 1) no_selector)) }) (number 2) ∷ []))
+        ∷ [])
     -- range 3:
     -- t := [1];
     -- t(0) +:= 'a';
@@ -85,11 +85,11 @@ nested_rows =
     -- x := 2;
     -- x **:= -1;
     ++ all_end (Stopped OutOfRange 3) (
-    just (lines_from 2 (assign t (row_of (1 ∷ [])) ∷ combine_round Add t (number 0) (quoted (codes "a")) ∷ []))
-    ∷ just (lines_from 2 (assign t (tuple_of (row_of (1 ∷ []) ∷ [])) ∷ Assign (record { variable = t; selectors = (round_selector (number 1) (round_selector (number 0) no_selector)) }) (number 1) ∷ []))
-    ∷ just (lines_from 2 (assign t (row_of (1 ∷ [])) ∷ Assign (record { variable = t; selectors = (round_selector (number 0) (round_selector Undefined no_selector)) }) (number 1) ∷ []))
-    ∷ just (lines_from 2 (assign x (number 2) ∷ combine Power x (minus 1) ∷ []))
-    ∷ [])
+        just (lines_from 2 (assign t (row_of (1 ∷ [])) ∷ combine_round Add t (number 0) (quoted (codes "a")) ∷ []))
+        ∷ just (lines_from 2 (assign t (tuple_of (row_of (1 ∷ []) ∷ [])) ∷ Assign (record { variable = t; selectors = (round_selector (number 1) (round_selector (number 0) no_selector)) }) (number 1) ∷ []))
+        ∷ just (lines_from 2 (assign t (row_of (1 ∷ [])) ∷ Assign (record { variable = t; selectors = (round_selector (number 0) (round_selector Undefined no_selector)) }) (number 1) ∷ []))
+        ∷ just (lines_from 2 (assign x (number 2) ∷ combine Power x (minus 1) ∷ []))
+        ∷ [])
 
 -- the smaller value is stored first, then what was taken; an empty source stores `om` in the variable alone
 abbrev pub taking_rows : List Row
@@ -119,12 +119,12 @@ taking_rows =
     -- s := 'ab';
     -- x fromb s;
     ∷ all_end (Stopped Kind 3) (
-    just (lines_from 2 (assign s (row_of (1 ∷ [])) ∷ TakeFrom TakeLeast x (record { variable = s; selectors = no_selector }) ∷ []))
-    ∷ just (lines_from 2 (assign s (enumeration (1 ∷ [])) ∷ TakeFrom TakeFirst x (record { variable = s; selectors = no_selector }) ∷ []))
-    ∷ just (lines_from 2 (assign s (quoted (codes "ab")) ∷ TakeFrom TakeLast x (record { variable = s; selectors = no_selector }) ∷ []))
-    ∷ just (lines_from 2 (assign s (number 5) ∷ TakeFrom TakeLeast x (record { variable = s; selectors = no_selector }) ∷ []))
-    ∷ just (lines_from 2 (assign s (quoted (codes "ab")) ∷ TakeFrom TakeFirst x (record { variable = s; selectors = no_selector }) ∷ []))
-    ∷ [])
+        just (lines_from 2 (assign s (row_of (1 ∷ [])) ∷ TakeFrom TakeLeast x (record { variable = s; selectors = no_selector }) ∷ []))
+        ∷ just (lines_from 2 (assign s (enumeration (1 ∷ [])) ∷ TakeFrom TakeFirst x (record { variable = s; selectors = no_selector }) ∷ []))
+        ∷ just (lines_from 2 (assign s (quoted (codes "ab")) ∷ TakeFrom TakeLast x (record { variable = s; selectors = no_selector }) ∷ []))
+        ∷ just (lines_from 2 (assign s (number 5) ∷ TakeFrom TakeLeast x (record { variable = s; selectors = no_selector }) ∷ []))
+        ∷ just (lines_from 2 (assign s (quoted (codes "ab")) ∷ TakeFrom TakeFirst x (record { variable = s; selectors = no_selector }) ∷ []))
+        ∷ [])
     -- om 3:
     -- s := om;
     -- x from s;
@@ -135,11 +135,11 @@ taking_rows =
     -- s := [1];
     -- x frome s(2);
     ++ all_end (Stopped Om 3) (
-    just (lines_from 2 (assign s Undefined ∷ TakeFrom TakeLeast x (record { variable = s; selectors = no_selector }) ∷ []))
-    ∷ just (lines_from 2 (assign s (set_of []) ∷ TakeFrom TakeLeast x (record { variable = s; selectors = (round_selector (number 1) no_selector) }) ∷ []))
-    ∷ just (lines_from 2 (assign s Undefined ∷ TakeFrom TakeFirst x (record { variable = s; selectors = no_selector }) ∷ []))
-    ∷ just (lines_from 2 (assign s (row_of (1 ∷ [])) ∷ TakeFrom TakeLast x (record { variable = s; selectors = (round_selector (number 2) no_selector) }) ∷ []))
-    ∷ [])
+        just (lines_from 2 (assign s Undefined ∷ TakeFrom TakeLeast x (record { variable = s; selectors = no_selector }) ∷ []))
+        ∷ just (lines_from 2 (assign s (set_of []) ∷ TakeFrom TakeLeast x (record { variable = s; selectors = (round_selector (number 1) no_selector) }) ∷ []))
+        ∷ just (lines_from 2 (assign s Undefined ∷ TakeFrom TakeFirst x (record { variable = s; selectors = no_selector }) ∷ []))
+        ∷ just (lines_from 2 (assign s (row_of (1 ∷ [])) ∷ TakeFrom TakeLast x (record { variable = s; selectors = (round_selector (number 2) no_selector) }) ∷ []))
+        ∷ [])
 
 -- a tuple is taken apart from left to right; a missing component is `om`, a further one is ignored
 abbrev pub parting_rows : List Row
@@ -154,15 +154,15 @@ parting_rows =
     -- [x] := {1};
     -- [-] := true;
     ∷ all_end (Stopped Kind 2) (
-    just (alone 2 (AssignParts (Some x ∷ []) (number 5)))
-    ∷ just (alone 2 (AssignParts (Some x ∷ []) (quoted (codes "ab"))))
-    ∷ just (alone 2 (AssignParts (Some x ∷ []) (enumeration (1 ∷ []))))
-    ∷ just (alone 2 (AssignParts (None ∷ []) yes))
-    ∷ [])
+        just (alone 2 (AssignParts (Some x ∷ []) (number 5)))
+        ∷ just (alone 2 (AssignParts (Some x ∷ []) (quoted (codes "ab"))))
+        ∷ just (alone 2 (AssignParts (Some x ∷ []) (enumeration (1 ∷ []))))
+        ∷ just (alone 2 (AssignParts (None ∷ []) yes))
+        ∷ [])
     -- om 2:
     -- [x] := om;
     -- [-, -] := om;
     ++ all_end (Stopped Om 2) (
-    just (alone 2 (AssignParts (Some x ∷ []) Undefined))
-    ∷ just (alone 2 (AssignParts (None ∷ None ∷ []) Undefined))
-    ∷ [])
+        just (alone 2 (AssignParts (Some x ∷ []) Undefined))
+        ∷ just (alone 2 (AssignParts (None ∷ None ∷ []) Undefined))
+        ∷ [])

@@ -3,8 +3,8 @@ use Rattle.std.specs.Prelude.{List, [], ◌∷◌, codes}
 use Rattle.setl_modes.specs.Variable.{Bound}
 use Rattle.setl_map.specs.declared.Operator.TheVariants.{With, Npow, Add, NotEqual, NotIn, Size, Pow, FoldAdd, FoldMax, SetRange, TupleRange}
 use Rattle.setl_model.specs.Collections.{OfTuple}
-use Rattle.setl_modes.specs.declared.mode.Form.TheVariants.{Local, Remote, Sparse}
 use Rattle.setl_modes.specs.Modes.{Integers, Elements, Sets, MultiMaps}
+use Rattle.setl_modes.specs.declared.mode.Form.TheVariants.{Local, Remote, Sparse}
 use Rattle.setl_model.specs.Program.{Undefined, Name, Former, no_condition, no_selector, TakeFirst, TakeFrom, If, For, While, no_stmt}
 use Rattle.setl_modes.specs.Events.{Wide, Done, Stopped, Spent}
 use Rattle.setl_model.specs.Source.{own, g, s, t, x, y, number, quoted, one, two, set_of, tuple_of, enumeration, row_of, at_brace, over, assign, combine, print, on_line, at, alone, lines_from, just}
@@ -13,7 +13,7 @@ use Rattle.setl_model.specs.Table.{Row, does, ends, unbased}
 -- programs of several parts
 abbrev pub whole_rows : List Row
 whole_rows =
-    --
+    -- 
     does 9 (just no_stmt) []
     -- print({3,1,2,1}, [1,om,2], 'it''s');
     ∷ does 9 (just (alone 2 (print (enumeration (3 ∷ 1 ∷ 2 ∷ 1 ∷ []) ∷ tuple_of (number 1 ∷ Undefined ∷ number 2 ∷ []) ∷ quoted (codes "it's") ∷ [])))) (codes "{1 2 3} [1 * 2] it's\n")
