@@ -20,3 +20,4 @@ pub mod Samples
 pub mod LanguageSamples
 pub mod Table
 pub mod worked
+pub mod trees
