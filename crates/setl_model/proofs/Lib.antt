@@ -2,3 +2,5 @@ mod Runs
 mod Laws
 mod Rows
 mod LanguageRows
+mod ByRunning
+mod tables

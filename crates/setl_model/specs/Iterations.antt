@@ -1,15 +1,15 @@
 -- Steps of iterators, formers, quantifiers and loops over members.
 use Rattle.std.specs.Prelude.{ℕ, ◌==◌, suc, pos, ◌-ℤ◌, Bool, true, false, List, [], ◌∷◌, ◌++◌, map, reverse, nat_le, unsigned_abs, if◌then◌else◌, Option, Some, None}
 use Rattle.setl_value.specs.Datum.{Datum, bool, int, text, tuple, set, element_list, part_list, depth}
-use Rattle.setl_model.specs.Sets.{set_from}
-use Rattle.setl_model.specs.Integers.{range_from, step_from}
-use Rattle.setl_model.specs.Tuples.{letters}
-use Rattle.setl_model.specs.Maps.{is_map, image, domain_of}
-use Rattle.setl_model.specs.Operators.{Fault, OmFault, KindFault, ZeroFault, DeepFault, all_values}
+use Rattle.setl_set.specs.Sets.{set_from}
+use Rattle.setl_value.specs.Pairs.{is_map}
+use Rattle.setl_map.specs.Ranges.{range_from, step_from}
+use Rattle.setl_map.specs.Maps.{image, domain_of}
+use Rattle.setl_map.specs.Outcome.{Fault, OmFault, KindFault, ZeroFault, DeepFault, all_values}
 use Rattle.setl_model.specs.Collections.{Collection, OfSet, OfTuple, collection}
 use Rattle.setl_model.specs.Program.{Quantifier, Exists, Forall, NotExists, Slots, Binding, Member, Components, Point, Begin, Values, Between, SetSteps, TupleSteps, Points, Exprs, no_expr, more_exprs, Iterators, no_iterator, more_iterators, Condition, no_condition, only_if, no_stmt}
-use Rattle.setl_model.specs.Events.{Stuck}
-use Rattle.setl_model.specs.Run.{Store, Move, Halts}
+use Rattle.setl_modes.specs.Events.{Stuck}
+use Rattle.setl_modes.specs.Run.{Store, Move, Halts}
 use Rattle.setl_model.specs.Core.{Execute, Evaluate, Result, Iterate, Goal, Collect, Select, Decide, Repeat, Item, One, Two, Level, Iteration, IterationFrame, Sources, ToBind, IsBound, Testing, Body, Paused, Frame, InIteration, Storing, Core, line_of}
 use Rattle.setl_model.specs.Moves.{go, stop, turn, branch}
 use Rattle.setl_model.specs.Slots.{Parting, Parted, NotParted, parting, om_stores}
@@ -26,6 +26,11 @@ singles vs = map One vs
 
 abbrev pub members : List Datum → List Item
 members ds = map (λ d. One (Some d)) ds
+
+-- the bytes of a string as strings of length 1
+abbrev pub letters : List ℕ → List (Option Datum)
+letters [] = []
+letters (b ∷ bs) = Some (text (b ∷ [])) ∷ letters bs
 
 -- the arguments of a map with their images
 abbrev pub map_points : List Datum → List Datum → List Item

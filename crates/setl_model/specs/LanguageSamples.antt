@@ -1,78 +1,13 @@
 -- Worked programs of the whole language.
-use Rattle.std.specs.Prelude.{ℕ, ◌+◌, List, [], ◌∷◌, codes, Some, None}
+use Rattle.std.specs.Prelude.{[], ◌∷◌, codes, Some, None}
 use Rattle.setl_value.specs.Datum.{text}
-use Rattle.setl_model.specs.Variable.{Variable, Own, Bound}
-use Rattle.setl_model.specs.Operators.{Operator, Negate, Add, Subtract, Divide, Modulo, Power, Abs, Size, Equal, NotEqual, With, Less, In, SetRange, TupleRange, Pow, Npow, Get, Images, SetOf, TupleOf, FoldAdd, FoldMax}
+use Rattle.setl_modes.specs.Variable.{Own, Bound}
+use Rattle.setl_map.specs.declared.Operator.TheVariants.{Negate, Add, Subtract, Divide, Modulo, Power, Abs, Size, Equal, NotEqual, With, Less, In, SetRange, TupleRange, Pow, Npow, Get, Images, FoldAdd, FoldMax}
 use Rattle.setl_model.specs.Collections.{OfSet}
-use Rattle.setl_model.specs.Modes.{Integers, Elements, Sets, SingleMaps, Sparse}
-use Rattle.setl_model.specs.Program.{Or, Exists, Member, Point, Values, Between, Points, Expr, Literal, Undefined, Name, Apply, Connect, Selection, Quantified, Call, Eof, Ok, Iterators, no_iterator, more_iterators, no_condition, only_if, no_argument, rw_argument, no_selector, round_selector, brace_selector, TakeFirst, TakeLast, Stmt, Assign, Update, AssignParts, TakeFrom, Perform, If, For, Fail, Return, Read, Block, no_stmt, more_stmts, Rw, Program}
-use Rattle.setl_model.specs.Samples.{s, t, number, exprs, numbers, enumeration, assign, print}
-
--- ---- parts of programs
-
-abbrev pub f : Variable
-f = Own 0 (codes "f")
-
-abbrev n : Variable
-n = Own 0 (codes "n")
-
-abbrev x : Variable
-x = Own 0 (codes "x")
-
-abbrev y : Variable
-y = Own 0 (codes "y")
-
-abbrev z : Variable
-z = Own 0 (codes "z")
-
-abbrev one : Operator → Expr → Expr
-one o a = Apply o (exprs (a ∷ []))
-
-abbrev two : Operator → Expr → Expr → Expr
-two o a b = Apply o (exprs (a ∷ b ∷ []))
-
-abbrev tuple_of : List Expr → Expr
-tuple_of es = Apply TupleOf (exprs es)
-
-abbrev set_of : List Expr → Expr
-set_of es = Apply SetOf (exprs es)
-
-abbrev pair_of : ℕ → ℕ → Expr
-pair_of a b = tuple_of (numbers (a ∷ b ∷ []))
-
--- x op:= e
-abbrev combine : Operator → Variable → Expr → Stmt
-combine o v e = Update o (record { variable = v; selectors = no_selector }) e
-
--- v(i) := e
-abbrev put : Variable → Expr → Expr → Stmt
-put v i e = Assign (record { variable = v; selectors = round_selector i no_selector }) e
-
--- the iterator v in e
-abbrev over : Variable → Expr → Iterators
-over v e = more_iterators (Member v) Values (exprs (e ∷ [])) no_iterator
-
--- the iterator v in [a..b]
-abbrev between : Variable → Expr → Expr → Iterators
-between v a b = more_iterators (Member v) Between (exprs (a ∷ b ∷ [])) no_iterator
-
--- a statement at its line, before others
-abbrev at : ℕ → Stmt → Block → Block
-at line st rest = more_stmts line st rest
-
-abbrev alone : ℕ → Stmt → Block
-alone line st = more_stmts line st no_stmt
-
--- statements on lines from n on
-abbrev lines_from : ℕ → List Stmt → Block
-lines_from m [] = no_stmt
-lines_from m (st ∷ sts) = more_stmts m st (lines_from (m + 1) sts)
-
--- a program whose statements stand on lines 2, 3 and on
-abbrev lines : List Stmt → Program
-lines sts = record { main = lines_from 2 sts; procedures = []; modes = [] }
-
--- ---- programs
+use Rattle.setl_modes.specs.declared.mode.Form.TheVariants.{Sparse}
+use Rattle.setl_modes.specs.Modes.{Integers, Elements, Sets, SingleMaps}
+use Rattle.setl_model.specs.Program.{Or, Exists, Point, Points, Expr, Literal, Undefined, Name, Connect, Selection, Quantified, Call, Eof, Ok, more_iterators, no_condition, only_if, no_argument, rw_argument, no_selector, round_selector, brace_selector, TakeFirst, TakeLast, Assign, AssignParts, TakeFrom, Perform, If, For, Fail, Return, Read, no_stmt, Rw, Program}
+use Rattle.setl_model.specs.Source.{f, i, j, k, n, q, s, t, x, y, z, number, exprs, one, two, enumeration, set_of, tuple_of, pair_of, over, between, assign, put, combine, print, at, alone, lines_from, lines}
 
 -- f := {[1,2],[1,3],[2,5]};
 -- print(f(1), f{1}, f(2), f{9});
@@ -197,18 +132,6 @@ declared_map = record {
   procedures = [];
   modes = (f, SingleMaps Sparse (Elements 0 Integers) Integers) ∷ [];
 }
-
-abbrev q : Variable
-q = Own 0 (codes "q")
-
-abbrev i : Variable
-i = Own 0 (codes "i")
-
-abbrev j : Variable
-j = Own 0 (codes "j")
-
-abbrev k : Variable
-k = Own 0 (codes "k")
 
 -- q(k) = j or abs (q(k) - j) = i - k
 abbrev is_attacked : Expr

@@ -1,10 +1,11 @@
 -- The moves of which every step is one.
-use Rattle.std.specs.Prelude.{ℕ, ◌-◌, Bool, true, false, List, [], ◌∷◌, nat_le, Option, Some, None}
+use Rattle.std.specs.Prelude.{ℕ, ◌-◌, true, false, List, [], ◌∷◌, Option, Some, None}
 use Rattle.setl_value.specs.Datum.{Datum, bool}
-use Rattle.setl_model.specs.Variable.{Variable, Bound}
-use Rattle.setl_model.specs.Operators.{Fault, OmFault, KindFault, Outcome, Gives, Fails, Overspends}
-use Rattle.setl_model.specs.Events.{Stopped, Spent, stop_of}
-use Rattle.setl_model.specs.Run.{Store, Move, Moves, Halts}
+use Rattle.setl_modes.specs.Variable.{Variable, Bound}
+use Rattle.setl_map.specs.Outcome.{Fault, OmFault, KindFault, ZeroFault, RangeFault, WideFault, DeepFault, Outcome, Gives, Fails, Overspends}
+use Rattle.setl_modes.specs.Events.{StopKind, Om, Kind, Zero, Range, Wide, Deep, Stopped, Spent}
+use Rattle.setl_modes.specs.Turns.{left_after}
+use Rattle.setl_modes.specs.Run.{Store, Move, Moves, Halts}
 use Rattle.setl_model.specs.Core.{Hand, Result, Frame, Core, line_of, write_variable}
 
 -- goes on with this in hand over these frames
@@ -20,6 +21,15 @@ abbrev pub store_or_bind : ℕ → Variable → Option Datum → Hand → List F
 store_or_bind line (Bound former name) v hand work c = go hand work (record c { shared = write_variable (Bound former name) v c.shared })
 store_or_bind line x v hand work c = go_storing line ((x, v) ∷ []) hand work c
 
+-- the stop by a fault of an operator
+abbrev pub stop_of : Fault → StopKind
+stop_of OmFault = Om
+stop_of KindFault = Kind
+stop_of ZeroFault = Zero
+stop_of RangeFault = Range
+stop_of WideFault = Wide
+stop_of DeepFault = Deep
+
 -- ends the run by a fault at a line
 abbrev pub stop : Fault → ℕ → Move Core
 stop fault line = Halts (Stopped (stop_of fault) line)
@@ -28,13 +38,14 @@ stop fault line = Halts (Stopped (stop_of fault) line)
 abbrev pub charge : ℕ → Core → Core
 charge n c = record c { shared = record c.shared { left = c.shared.left - n } }
 
-abbrev pub turn_if : Bool → Core → (Core → Move Core) → Move Core
-turn_if true c next = next (charge 1 c)
-turn_if false c next = Halts Spent
+-- goes on with so many turns left, where there are enough
+abbrev pub go_with : Option ℕ → Core → (Core → Move Core) → Move Core
+go_with (Some left) c next = next (record c { shared = record c.shared { left = left } })
+go_with None c next = Halts Spent
 
 -- goes on after one turn, if one is left
 abbrev pub turn : Core → (Core → Move Core) → Move Core
-turn c next = turn_if (nat_le 1 c.shared.left) c next
+turn c next = go_with (left_after 1 c.shared.left) c next
 
 -- goes on with what an operation at a line gives; its charge is not above the turns left
 abbrev pub with_outcome : Outcome → ℕ → Core → (Option Datum → Core → Move Core) → Move Core

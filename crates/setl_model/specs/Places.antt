@@ -1,10 +1,13 @@
 -- Steps of updates.
 use Rattle.std.specs.Prelude.{ℕ, List, [], ◌∷◌, reverse, Option, Some, None}
-use Rattle.setl_value.specs.Datum.{Datum, tuple, set, element_list, part_list}
-use Rattle.setl_model.specs.Variable.{Variable}
-use Rattle.setl_model.specs.Operators.{Fault, OmFault, KindFault, Outcome, Gives, Get, Images, Put, PutImages, op_of, then_with, set_of_list, tuple_of_list}
+use Rattle.setl_value.specs.Datum.{Datum, tuple, set, element_list, part_list, set_of, tuple_of}
+use Rattle.setl_modes.specs.Variable.{Variable}
+use Rattle.setl_map.specs.declared.Operator.TheVariants.{Get, Images, Put, PutImages}
+use Rattle.setl_map.specs.Outcome.{Fault, OmFault, KindFault, Outcome, Gives, then_with}
+use Rattle.setl_map.specs.Operators.{op_of}
+use Rattle.setl_value.specs.WellFormed.{trim}
 use Rattle.setl_model.specs.Program.{Selectors, no_selector, round_selector, brace_selector, Place, Taking, TakeLeast, TakeFirst, TakeLast, no_stmt}
-use Rattle.setl_model.specs.Run.{Move}
+use Rattle.setl_modes.specs.Run.{Move}
 use Rattle.setl_model.specs.Core.{Execute, Evaluate, Result, Selected, Round, Brace, Change, Puts, Combines, Takes, RoundSelector, BraceSelector, Dropping, Frame, InStmt, Storing, Core, read_variable}
 use Rattle.setl_model.specs.Moves.{go, go_storing, stop, with_outcome}
 
@@ -48,16 +51,16 @@ pub data Taken : Type 0 where
 
 abbrev pub take_least : List Datum → Taken
 take_least [] = IsEmpty
-take_least (d ∷ ds) = TakesOut (set_of_list ds) (Some d)
+take_least (d ∷ ds) = TakesOut (set_of ds) (Some d)
 
 abbrev pub take_first : List (Option Datum) → Taken
 take_first [] = IsEmpty
-take_first (p ∷ ps) = TakesOut (tuple_of_list ps) p
+take_first (p ∷ ps) = TakesOut (tuple_of (trim ps)) p
 
 -- the components in reverse order
 abbrev pub take_last : List (Option Datum) → Taken
 take_last [] = IsEmpty
-take_last (p ∷ ps) = TakesOut (tuple_of_list (reverse ps)) p
+take_last (p ∷ ps) = TakesOut (tuple_of (trim (reverse ps))) p
 
 abbrev pub take_out : Taking → Option Datum → Taken
 take_out TakeLeast (Some (set ms)) = take_least (element_list ms)

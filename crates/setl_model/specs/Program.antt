@@ -1,10 +1,10 @@
 -- Programs as plain trees, in which each name stands for its variable.
 use Rattle.std.specs.Prelude.{ℕ, List, Option}
 use Rattle.setl_value.specs.Datum.{Datum}
-use Rattle.setl_model.specs.Variable.{Variable}
-use Rattle.setl_model.specs.Operators.{Operator}
+use Rattle.setl_modes.specs.Variable.{Variable}
+use Rattle.setl_map.specs.declared.Operator.{Operator}
 use Rattle.setl_model.specs.Collections.{Collection}
-use Rattle.setl_model.specs.Modes.{Mode}
+use Rattle.setl_modes.specs.Modes.{Mode}
 
 -- The operators that evaluate their right part only where the left one doesn't decide.
 pub data Connective : Type 0 where

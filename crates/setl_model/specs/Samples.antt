@@ -1,49 +1,9 @@
 -- Worked programs, each with what it writes.
-use Rattle.std.specs.Prelude.{true, false, negsuc, Option, Some, None, ℕ, List, [], ◌∷◌, codes, pos}
+use Rattle.std.specs.Prelude.{true, false, negsuc, Option, Some, None, List, [], ◌∷◌, codes, pos}
 use Rattle.setl_value.specs.Datum.{Datum, bool, int, text, atom, tuple, set, no_part, parts_of, elements_of}
-use Rattle.setl_model.specs.Sets.{set_from}
-use Rattle.setl_model.specs.Variable.{Variable, Own}
-use Rattle.setl_model.specs.Operators.{SetOf, With}
-use Rattle.setl_model.specs.Program.{Expr, Literal, Name, Apply, Exprs, no_expr, more_exprs, Stmt, Assign, Update, Print, Block, no_stmt, more_stmts, no_selector, Program}
-
-abbrev pub s : Variable
-s = Own 0 (codes "s")
-
-abbrev pub t : Variable
-t = Own 0 (codes "t")
-
-abbrev pub number : ℕ → Expr
-number n = Literal (int (pos n))
-
-abbrev pub exprs : List Expr → Exprs
-exprs [] = no_expr
-exprs (e ∷ es) = more_exprs e (exprs es)
-
-abbrev pub numbers : List ℕ → List Expr
-numbers [] = []
-numbers (n ∷ ns) = number n ∷ numbers ns
-
--- {n, ..}
-abbrev pub enumeration : List ℕ → Expr
-enumeration ns = Apply SetOf (exprs (numbers ns))
-
-abbrev pub assign : Variable → Expr → Stmt
-assign x e = Assign (record { variable = x; selectors = no_selector }) e
-
--- x with:= e
-abbrev pub add_to : Variable → Expr → Stmt
-add_to x e = Update With (record { variable = x; selectors = no_selector }) e
-
-abbrev pub print : List Expr → Stmt
-print es = Print (exprs es)
-
--- statements on one line
-abbrev pub block : List Stmt → Block
-block [] = no_stmt
-block (st ∷ sts) = more_stmts 1 st (block sts)
-
-abbrev pub program : List Stmt → Program
-program sts = record { main = block sts; procedures = []; modes = [] }
+use Rattle.setl_set.specs.Sets.{set_from}
+use Rattle.setl_model.specs.Program.{Name, Program}
+use Rattle.setl_model.specs.Source.{s, t, number, enumeration, assign, add_to, print, program}
 
 -- no statement
 abbrev pub empty_program : Program

@@ -1,9 +1,9 @@
 -- How a tuple is taken apart.
 use Rattle.std.specs.Prelude.{List, [], ◌∷◌, Option, Some, None}
 use Rattle.setl_value.specs.Datum.{Datum, tuple, part_list}
-use Rattle.setl_model.specs.Operators.{Fault, OmFault, KindFault}
+use Rattle.setl_map.specs.Outcome.{Fault, OmFault, KindFault}
 use Rattle.setl_model.specs.Program.{Slots}
-use Rattle.setl_model.specs.Run.{Store}
+use Rattle.setl_modes.specs.Run.{Store}
 
 -- The stores by which variables take their parts, or why there are none.
 pub data Parting : Type 0 where

@@ -1,11 +1,10 @@
 -- Which sources aren't accepted.
-use Rattle.std.proofs.Common.{◌≡◌, ◌∙◌, true, false, List, ℕ, Err, sym, ap, subst, true≢false}
+use Rattle.std.proofs.Common.{◌≡◌, ◌∙◌, false, List, ℕ, sym, ap, subst, true≢false}
 use Rattle.setl_token.specs.Lex.{Spelled}
 use Rattle.setl_token.specs.Text.{Lexed}
 use Rattle.setl_token.specs.declared.LexFault.{LexFault}
 use Rattle.setl_token.specs.declared.LexFault.TheVariants as fault
 use Rattle.setl_token.specs.declared.Token.{Token}
-use Rattle.setl_top.specs.Accepted.{Accepted}
 use Rattle.setl_top.specs.Conditions.{meets, no_kinds}
 use Rattle.setl_top.specs.Loads.{NotAccepted, unread_of}
 use Rattle.setl_top.specs.Reads.{NotSmall}

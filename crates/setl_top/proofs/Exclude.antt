@@ -1,20 +1,19 @@
 -- Which answers exclude which.
-use Rattle.std.proofs.Common.{◌≡◌, ◌∙◌, ◌⊎◌, inl, inr, ◌<◌, ◌≤◌, ◌^◌, ◌-◌, ℕ, Bool, List, [], ◌∷◌, ◌++◌, length, Option, Some, refl, sym, ap, subst, arith}
-use Rattle.setl_io.specs.Files.{Texts, IsText}
+use Rattle.std.proofs.Common.{◌≡◌, ◌∙◌, inl, inr, ℕ, Bool, List, [], ◌∷◌, ◌++◌, Option, Some, refl, sym, ap, subst, arith}
+use Rattle.setl_io.specs.Files.{IsText}
 use Rattle.setl_token.specs.Lex.{Spelled}
 use Rattle.setl_token.specs.declared.Token.{Token}
 use Rattle.setl_model.specs.Answers.{RunStatus, status_of, error_line}
-use Rattle.setl_model.specs.Events.{End}
+use Rattle.setl_modes.specs.Events.{End}
 use Rattle.setl_model.specs.Laws.{OneMeaning}
 use Rattle.setl_model.specs.Means.{Means}
 use Rattle.setl_model.specs.Program.{Program}
 use Rattle.setl_top.specs.Accepted.{Accepted, Refusal, too_long, not_built, program_of}
-use Rattle.setl_top.specs.Headline.{Moment, Headline, Ended, AnyRose, ReadCause, load_failed, read_failed, WriteCause, out_failed, err_failed, Answers, faulty_words, refused, run_ended, Job, IsInput, IsToRun, status_for}
+use Rattle.setl_top.specs.Headline.{Moment, AnyRose, ReadCause, load_failed, read_failed, WriteCause, out_failed, err_failed, faulty_words, refused, run_ended, Job, IsInput, IsToRun, status_for}
 use Rattle.setl_top.specs.Laws.{IsComplete, RefusesExactly, EndsExactly, TellsTexts}
 use Rattle.setl_top.specs.Small.{IsSmall}
 use Rattle.setl_top.specs.Symbols.{symbols}
-use Rattle.setl_top.specs.Words.{Command, Run, Spells, HasFile, RunsFile, IsFaulty}
-use Rattle.setl_top.specs.declared.status.Status.{Status}
+use Rattle.setl_top.specs.Words.{Command, Run, Spells, HasFile, RunsFile}
 use Rattle.setl_top.specs.declared.status.Status.TheVariants.{Done, Refused, Words, Stopped, Spent, ReadFault, WriteFault, NoMemory}
 use Rattle.setl_top.proofs.OneTree.{one_tree}
 

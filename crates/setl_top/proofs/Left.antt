@@ -1,5 +1,5 @@
 -- The tokens that are left at a place, and the one in front.
-use Rattle.std.proofs.Common.{◌≡◌, ◌∙◌, ℕ, zero, suc, List, [], ◌∷◌, drop, map, slice_get, Option, Some, None, Result, Err, refl, sym, ap}
+use Rattle.std.proofs.Common.{◌≡◌, ℕ, zero, suc, List, [], ◌∷◌, drop, map, slice_get, Some, Result, Err, ap}
 
 -- what stands at a place is the front of what is left there
 pub front_of : {A B : Type 0} (f : A → B) (xs : List A) (i : ℕ) (t : A) → slice_get xs i ≡ Some t → drop i (map f xs) ≡ f t ∷ drop 1 (drop i (map f xs))

@@ -1,24 +1,10 @@
 -- Sets of integers, their members and their texts.
-use Rattle.std.proofs.Common.{◌≡◌, ◌∙◌, ℕ, zero, suc, ℤ, List, [], ◌∷◌, ◌++◌, map, slice_get, get_or, length, ◌<◌, Option, Some, refl, sym, ap, subst, append_assoc, arith}
+use Rattle.std.proofs.Common.{◌≡◌, ◌∙◌, ℕ, zero, suc, ℤ, List, [], ◌∷◌, ◌++◌, map, slice_get, get_or, length, ◌<◌, Some, refl, sym, ap, subst, append_assoc, arith}
 use Rattle.std.specs.List.{AllByRecursion}
-use Rattle.std.specs.declared.cmp.Ordering.{Ordering}
-use Rattle.std.specs.declared.cmp.Ordering.TheVariants.{Less, Equal, Greater}
-use Rattle.setl_value.specs.Datum.{Datum, int, set, Elements, elements_of, element_list, element_list-elements_of}
-use Rattle.setl_value.specs.Order.{datum_cmp}
-use Rattle.setl_set.specs.Sets as sets
-use Rattle.setl_model.specs.Sets as model
-use Rattle.setl_model.specs.Texts.{inner_text, whole_text, element_texts, spaced}
+use Rattle.setl_value.specs.Datum.{Datum, int, elements_of, element_list, element_list-elements_of}
+use Rattle.setl_set.specs.Sets.{insert_datum}
+use Rattle.setl_text.specs.Texts.{inner_text, whole_text, element_texts, spaced}
 use Rattle.setl_top.specs.Values.{IsInteger, IsIntegers, IsPlain, integer, integers, set_of, with_member}
-
--- the insertion of the meaning is that of the sets
-pub insert_same : (d : Datum) (ds : List Datum) → model.insert_datum d ds ≡ sets.insert_datum d ds
-insert_same d [] = refl
-insert_same d (e ∷ es) = by (datum_cmp d e) (insert_same d es)
-  where
-    by : (o : Ordering) → model.insert_datum d es ≡ sets.insert_datum d es → model.insert_by o d e es (model.insert_datum d es) ≡ sets.insert_by o d e es (sets.insert_datum d es)
-    by Less h = refl
-    by Equal h = refl
-    by Greater h = ap (λ xs. e ∷ xs) h
 
 pub set_of_same : (xs ys : List Datum) → set_of xs ≡ set_of ys → xs ≡ ys
 set_of_same xs ys h =
@@ -53,8 +39,8 @@ set_text ds old open_ inside close_ p q r =
     ∙ ap (λ ts. old ++ 123 ∷ (spaced ts ++ 125 ∷ [])) (sym (element_texts-elements_of ds))
 
 -- a member more
-pub with_member-set_of : (ds : List Datum) (z : ℤ) → with_member (Some (set_of ds)) z ≡ Some (set_of (model.insert_datum (int z) ds))
-with_member-set_of ds z = ap (λ xs. Some (set_of (model.insert_datum (int z) xs))) (element_list-elements_of ds)
+pub with_member-set_of : (ds : List Datum) (z : ℤ) → with_member (Some (set_of ds)) z ≡ Some (set_of (insert_datum (int z) ds))
+with_member-set_of ds z = ap (λ xs. Some (set_of (insert_datum (int z) xs))) (element_list-elements_of ds)
 
 pub all_map_at : {A B : Type 0} (P : B → Type 0) (f : A → B) (xs : List A) (i : ℕ) (x : A) → AllByRecursion P (map f xs) → slice_get xs i ≡ Some x → P (f x)
 all_map_at P f [] zero x h e = absurd (cc)

@@ -1,8 +1,7 @@
 -- Tokens have at most one tree by the small grammar.
 use Rattle.std.proofs.Common.{◌≡◌, ◌∙◌, ℕ, ℤ, List, [], ◌∷◌, ◌++◌, codes, refl, sym, ap, subst, append_assoc, Bool, true, false, true≢false, bytes_eq}
-use Rattle.std.proofs.lemmas.List.{append-nil}
-use Rattle.setl_top.specs.Symbols.{Symbol, Word, Name, Sign, Symbols, WordAt, NameAt, NumberAt, SignAt}
-use Rattle.setl_top.specs.Tree.{Expr, Variable, Integer, SetOf, Action, Assign, With, Print, Stmt, Tree}
+use Rattle.setl_top.specs.Symbols.{Word, Sign, Symbols, WordAt, NameAt, SignAt}
+use Rattle.setl_top.specs.Tree.{Expr, SetOf, Action, Assign, With, Print, Stmt, Tree}
 use Rattle.setl_top.specs.Small.{Many, close, item, AfterComma, Listed, none, some, Number, Value, variable, integer, set, Change, assign, with_member, Body, change, print, Statement, Ending, IsSmall}
 
 -- a part of the grammar finds one value and one rest

@@ -1,11 +1,11 @@
 -- Lists of the grammar in the course of being read.
-use Rattle.std.proofs.Common.{◌≡◌, ◌∙◌, ℕ, ℤ, List, [], ◌∷◌, ◌++◌, length, codes, refl, sym, ap, subst, append_assoc, bytes_eq, true, false, ◌<◌, ◌+◌, arith}
+use Rattle.std.proofs.Common.{◌≡◌, ◌∙◌, ℕ, List, [], ◌∷◌, ◌++◌, codes, sym, ap, subst, append_assoc, bytes_eq, true, false}
 use Rattle.std.proofs.lemmas.List.{append-nil}
-use Rattle.setl_top.specs.Symbols.{Symbol, Symbols, WordAt, NumberAt, SignAt}
+use Rattle.setl_top.specs.Symbols.{Symbols, WordAt, SignAt}
 use Rattle.setl_top.specs.Tree.{Tree}
 use Rattle.setl_top.specs.Cursor.{NoWord, NoSign}
 use Rattle.setl_top.specs.Reads.{No, Goes, AfterEnd, NoEnd, Heading, NoHeading, NotSmall}
-use Rattle.setl_top.specs.Small.{Many, close, AfterComma, Listed, none, some, Statement, Ending, IsSmall}
+use Rattle.setl_top.specs.Small.{Many, close, AfterComma, Listed, none, some, Statement, Ending}
 use Rattle.setl_top.proofs.OneTree.{IsOne, AreApart, SoFar, nothing, further, joined, no_many, one_many, one_sign, differ, is_sign, no_statement, one_statement, statement_apart, ending_once}
 
 -- a list went on by the items that were read from a start up to now

@@ -1,7 +1,6 @@
 -- Each part of the grammar leaves fewer tokens.
-use Rattle.std.proofs.Common.{◌≡◌, ℕ, ℤ, List, [], ◌∷◌, length, codes, ap, ◌<◌, ◌≤◌, arith}
+use Rattle.std.proofs.Common.{◌≡◌, ℕ, List, ◌∷◌, length, codes, ap, ◌<◌, arith}
 use Rattle.setl_top.specs.Symbols.{Symbol, Symbols, SignAt}
-use Rattle.setl_top.specs.Tree.{Expr, Action, Stmt}
 use Rattle.setl_top.specs.Small.{Many, close, item, AfterComma, Listed, none, some, Number, Value, variable, integer, set, Change, assign, with_member, Body, Statement, change, print}
 
 abbrev pub Shortens : {A : Type 0} → (Symbols → A → Symbols → Type 0) → Type 0

@@ -1,7 +1,7 @@
 -- Texts with one blank between two, one more at a time.
-use Rattle.std.proofs.Common.{◌≡◌, ◌∙◌, ℕ, zero, suc, ◌+◌, ◌<◌, List, [], ◌∷◌, ◌++◌, length, take, map, slice_get, Some, refl, sym, ap, append_assoc, arith, add-one}
+use Rattle.std.proofs.Common.{◌≡◌, ◌∙◌, ℕ, zero, suc, ◌+◌, ◌<◌, List, [], ◌∷◌, ◌++◌, take, map, slice_get, Some, refl, sym, ap, append_assoc, arith, add-one}
 use Rattle.std.proofs.lemmas.List.{append-nil, map-append}
-use Rattle.setl_model.specs.Texts.{spaced}
+use Rattle.setl_text.specs.Texts.{spaced}
 
 spaced-push : (t : List ℕ) (ts : List (List ℕ)) (u : List ℕ) → spaced ((t ∷ ts) ++ u ∷ []) ≡ spaced (t ∷ ts) ++ (32 ∷ u)
 spaced-push t [] u = refl

@@ -3,14 +3,14 @@ use Rattle.std.specs.Prelude.{◌≡◌, ◌<◌, ◌≤◌, ◌^◌, true, ℕ,
 use Rattle.setl_value.specs.Datum.{int}
 use Rattle.setl_token.specs.Lex.{Spelled}
 use Rattle.setl_token.specs.declared.Token.{Token}
-use Rattle.setl_model.specs.Operators as operator
+use Rattle.setl_map.specs.declared.Operator.TheVariants as operator
 use Rattle.setl_model.specs.Program.{Program, Place, no_selector, Exprs, no_expr, more_exprs, Block, no_stmt, more_stmts}
 use Rattle.setl_model.specs.Program as plain
-use Rattle.setl_model.specs.Variable.{Own}
+use Rattle.setl_modes.specs.Variable.{Own}
 use Rattle.setl_top.specs.Conditions.{meets, no_kinds}
 use Rattle.setl_top.specs.Small.{IsSmall}
 use Rattle.setl_top.specs.Symbols.{symbols}
-use Rattle.setl_top.specs.Tree.{Expr, Variable, Integer, SetOf, Action, Assign, With, Print, Stmt, Tree}
+use Rattle.setl_top.specs.Tree.{Expr, Variable, Integer, SetOf, Action, Assign, With, Print, Tree}
 
 -- the variable of a name as a place
 abbrev pub place_of : List ℕ → Place

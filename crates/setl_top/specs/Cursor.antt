@@ -1,5 +1,5 @@
 -- The tokens that are left at a place.
-use Rattle.std.specs.Prelude.{◌≡◌, ℕ, ℤ, List, drop}
+use Rattle.std.specs.Prelude.{ℕ, ℤ, List, drop}
 use Rattle.setl_top.specs.Symbols.{Symbols, WordAt, NameAt, NumberAt, SignAt, symbols}
 use Rattle.setl_top.specs.declared.small.cursor.Cursor.{Cursor}
 

@@ -1,7 +1,7 @@
 -- Laws over the headline and the definitions under it.
 use Rattle.std.specs.Prelude.{◌≡◌, ◌⊎◌, ℕ, Bool, List, [], ◌∷◌, ◌++◌, Option, Some}
 use Rattle.setl_model.specs.Answers.{RunStatus, status_of, error_line}
-use Rattle.setl_model.specs.Events.{End, Done}
+use Rattle.setl_modes.specs.Events.{End, Done}
 use Rattle.setl_model.specs.Means.{Means}
 use Rattle.setl_model.specs.Program.{Program}
 use Rattle.setl_top.specs.Accepted.{Accepted, Refusal}

@@ -3,7 +3,7 @@
 use Rattle.std.specs.Prelude.{◌≡◌, ◌≤◌, ◌<◌, ◌⊎◌, ℕ, Bool, List, ◌++◌, Option, length, take}
 use Rattle.std.specs.Io.KnownBytes.{Appends}
 use Rattle.setl_io.specs.Faults.{Rose}
-use Rattle.setl_model.specs.Events.{Done}
+use Rattle.setl_modes.specs.Events.{Done}
 use Rattle.setl_model.specs.Means.{Means}
 use Rattle.setl_model.specs.Program.{Program}
 use Rattle.setl_top.specs.Moments.{AtState, AtPrint}

@@ -5,7 +5,7 @@
 --   body      = name change | "print" "(" [ value { "," value } ] ")"
 --   change    = ":=" value | "with" ":=" number
 --   value     = name | number | "{" [ number { "," number } ] "}"
-use Rattle.std.specs.Prelude.{◌≡◌, ℕ, ℤ, List, [], ◌∷◌, codes}
+use Rattle.std.specs.Prelude.{ℕ, ℤ, List, [], ◌∷◌, codes}
 use Rattle.setl_top.specs.Symbols.{Symbols, WordAt, NameAt, NumberAt, SignAt}
 use Rattle.setl_top.specs.Tree.{Expr, Variable, Integer, SetOf, Action, Assign, With, Print, Stmt, Tree}
 

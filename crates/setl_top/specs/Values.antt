@@ -1,10 +1,9 @@
 -- What a statement of the small language does to the values of names, and what it writes.
-use Rattle.std.specs.Prelude.{◌≡◌, ℕ, ℤ, Bool, List, [], ◌∷◌, Option, Some, None, if◌then◌else◌, map, bytes_eq, IsSome}
+use Rattle.std.specs.Prelude.{◌≡◌, ℕ, ℤ, List, [], Option, Some, None, if◌then◌else◌, map, bytes_eq}
 use Rattle.std.specs.List.{AllByRecursion}
-use Rattle.std.specs.Option.{option_map}
 use Rattle.setl_value.specs.Datum.{Datum, int, set, elements_of, element_list}
-use Rattle.setl_model.specs.Sets.{set_from, insert_datum}
-use Rattle.setl_model.specs.Texts.{print_line}
+use Rattle.setl_set.specs.Sets.{set_from, insert_datum}
+use Rattle.setl_text.specs.Texts.{print_line}
 use Rattle.setl_top.specs.Tree.{Expr, Variable, Integer, SetOf, Action, Assign, With, Print}
 
 -- the value of each name that was assigned

@@ -4,7 +4,7 @@ ghost use Rattle.std.specs.Fmt.{signed_decimal};
 ghost use Rattle.std.specs.List.{AllByRecursion};
 ghost use Rattle.setl_value.specs.Body.{Members};
 ghost use Rattle.setl_value.specs.DatumOf.{datum};
-ghost use Rattle.setl_model.specs.Texts.{inner_text, whole_text, spaced};
+ghost use Rattle.setl_text.specs.Texts.{inner_text, whole_text, spaced};
 ghost use Rattle.setl_top.specs.Values.{IsInteger, IsPlain};
 
 use itoa::Buffer;

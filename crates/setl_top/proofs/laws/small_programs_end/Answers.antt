@@ -1,5 +1,5 @@
-use Rattle.std.proofs.Common.{subst, sym, ℕ, List, Bool}
-use Rattle.setl_model.specs.Events.{Done}
+use Rattle.std.proofs.Common.{subst, sym}
+use Rattle.setl_modes.specs.Events.{Done}
 use Rattle.setl_model.specs.Means.{Means}
 use Rattle.setl_model.specs.Program.{Program}
 use Rattle.setl_top.proofs.Running.{small_is_done}

@@ -1,6 +1,5 @@
 use Rattle.std.proofs.Common.{◌≡◌, ◌∙◌, sym, map}
 use Rattle.std.proofs.lemmas.Result.{err_from_is_err_and}
-use Rattle.setl_top.specs.Conditions.{meets, no_kinds}
 use Rattle.setl_top.specs.Parsed.{stmt_of}
 use Rattle.setl_top.specs.declared.small.reader.Unread.TheVariants as unread
 use Rattle.setl_top.proofs.Accepting.{not_spelled, not_small, not_met}

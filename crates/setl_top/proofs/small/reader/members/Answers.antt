@@ -1,11 +1,10 @@
-use Rattle.std.proofs.Common.{refl, codes, subst, ◌∙◌, sym, rules, FitsSigned, ap, ◌++◌, [], ◌∷◌}
+use Rattle.std.proofs.Common.{codes, subst, ◌∙◌, rules, FitsSigned, ap, ◌++◌, [], ◌∷◌}
 use Rattle.std.specs.Int.{w128}
 use Rattle.std.proofs.lemmas.Int.{to_z-of_z}
-use Rattle.setl_top.specs.Cursor.{left, NoSign}
-use Rattle.setl_top.specs.Small.{AfterComma, Number, Listed, none}
+use Rattle.setl_top.specs.Cursor.{left}
+use Rattle.setl_top.specs.Small.{Number, none}
 use Rattle.setl_top.specs.Symbols.{SignAt}
-use Rattle.setl_top.proofs.OneTree.{one_number, number_apart}
-use Rattle.setl_top.proofs.Reading.{listed_some, no_listed, no_listed_rest}
+use Rattle.setl_top.proofs.Reading.{listed_some}
 use Rattle.setl_top.proofs.small.reader.members.Goals as goal
 
 pub returns-then-sign-clause-read : goal.returns-then-sign-clause-read

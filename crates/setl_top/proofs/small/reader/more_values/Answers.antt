@@ -1,4 +1,4 @@
-use Rattle.std.proofs.Common.{refl, codes, subst, map, ◌++◌, ◌∷◌, [], ◌∙◌, ap, arith}
+use Rattle.std.proofs.Common.{refl, codes, subst, map, ◌∙◌, ap, arith}
 use Rattle.std.proofs.lemmas.List.{map-append}
 use Rattle.std.proofs.lemmas.Result.{err_from_is_err_and}
 use Rattle.setl_top.specs.Cursor.{left, NoSign}

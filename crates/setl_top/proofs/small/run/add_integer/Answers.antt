@@ -1,13 +1,9 @@
-use Rattle.std.proofs.Common.{◌∙◌, sym, FitsSigned}
+use Rattle.std.proofs.Common.{FitsSigned}
 use Rattle.std.specs.Int.{w128}
 use Rattle.std.proofs.lemmas.Int.{to_z-of_z}
-use Rattle.setl_value.specs.Body.{Members}
-use Rattle.setl_value.specs.Datum.{int}
-use Rattle.setl_top.proofs.Members.{insert_same}
 use Rattle.setl_top.proofs.small.run.add_integer.Goals as goal
 
 pub returns-in-Ok : goal.returns-in-Ok
 returns-in-Ok c =
     let fits : FitsSigned w128 c.args.member = c.ranges.member in
-    let added = simp to_z-of_z at c.in-Ok.ensures.added in
-    added ∙ sym (insert_same (int c.args.member) (Members c.args.set.now))
+    simp to_z-of_z at c.in-Ok.ensures.added

@@ -1,5 +1,5 @@
 use Rattle.std.proofs.Common.{◌≡◌, take, map, ◌++◌, []}
-use Rattle.setl_model.specs.Texts.{argument_text, spaced}
+use Rattle.setl_text.specs.Texts.{argument_text, spaced}
 use Rattle.setl_top.specs.Parsed.{expr_of}
 use Rattle.setl_top.specs.TableValues.{values_in}
 use Rattle.setl_top.specs.Values.{value_of}

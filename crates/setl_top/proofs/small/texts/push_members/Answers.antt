@@ -1,7 +1,7 @@
 use Rattle.std.proofs.Common.{arith, ◌∙◌, ◌++◌, ◌≡◌, ap}
 use Rattle.setl_value.specs.Body.{Members}
 use Rattle.setl_value.specs.DatumOf.{datum}
-use Rattle.setl_model.specs.Texts.{inner_text}
+use Rattle.setl_text.specs.Texts.{inner_text}
 use Rattle.setl_top.proofs.Spaced.{text_first, text_more}
 use Rattle.setl_top.proofs.small.texts.push_members.Goals as goal
 use Rattle.setl_top.proofs.small.texts.push_members.Goals.{then-i-gt0+in_ok-push, else-i-gt0}

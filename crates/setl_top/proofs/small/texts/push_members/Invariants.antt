@@ -1,6 +1,6 @@
 use Rattle.std.proofs.Common.{◌≡◌, ◌++◌, take, map}
 use Rattle.setl_value.specs.Body.{Members}
-use Rattle.setl_model.specs.Texts.{inner_text, spaced}
+use Rattle.setl_text.specs.Texts.{inner_text, spaced}
 use Rattle.setl_top.proofs.small.texts.push_members.Given as goal
 
 abbrev pub invariant-members : goal.invariant-members

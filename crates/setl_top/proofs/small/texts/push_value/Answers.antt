@@ -1,7 +1,7 @@
 use Rattle.std.proofs.Common.{subst, Some, ◌∙◌, ap, ◌++◌, sym}
 use Rattle.setl_value.specs.Body.{Members}
 use Rattle.setl_value.specs.DatumOf.{datum}
-use Rattle.setl_model.specs.Texts.{whole_text}
+use Rattle.setl_text.specs.Texts.{whole_text}
 use Rattle.setl_top.specs.Values.{IsPlain}
 use Rattle.setl_top.proofs.Members.{plain_members, set_text}
 use Rattle.setl_top.proofs.small.texts.push_value.Goals as goal

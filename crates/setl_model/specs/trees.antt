@@ -1,0 +1,7 @@
+pub mod Numbered
+pub mod Scope
+pub mod Words
+pub mod Expressions
+pub mod Statements
+pub mod Modes
+pub mod Programs

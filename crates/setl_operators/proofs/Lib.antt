@@ -1,4 +1,0 @@
-pub mod Lists
-pub mod Operands
-pub mod Views
-pub mod Rows

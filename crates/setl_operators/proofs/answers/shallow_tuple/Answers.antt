@@ -1,9 +1,0 @@
-use Rattle.std.proofs.Common.{subst}
-use Rattle.setl_value.specs.Body.{Members}
-use Rattle.setl_value.specs.Datum.{tuple_of}
-use Rattle.setl_operators.specs.Answers.{Tells}
-use Rattle.setl_operators.proofs.Rows.{shallow}
-use Rattle.setl_operators.proofs.answers.shallow_tuple.Goals as goal
-
-pub returns : goal.returns
-returns c = subst (Tells c.tuple.result) (shallow (tuple_of (c.args.t)) c.learn.ensures.1) c.tuple.ensures
