@@ -3,7 +3,6 @@ pub mod Maps
 pub mod Points
 pub mod Laws
 pub mod Ranges
-pub mod Texts
 pub mod Numbers
 pub mod Truths
 pub mod Collections

@@ -12,7 +12,7 @@ use Rattle.setl_map.specs.Selections.{get, images_of, slice, tail}
 use Rattle.setl_map.specs.RangeRows.{as_set, as_tuple, range_of_integers, stepped_integers}
 use Rattle.setl_map.specs.Puts.{put, put_set}
 use Rattle.setl_map.specs.Folds.{folded}
-use Rattle.setl_map.specs.Texts.{whole_text}
+use Rattle.setl_text.specs.Texts.{whole_text}
 
 abbrev pub op_of : Operator → List (Option Datum) → ℕ → Outcome
 op_of Negate vs left = unary negate (all_values vs)
