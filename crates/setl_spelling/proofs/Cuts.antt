@@ -41,8 +41,7 @@ cuts ends at (t ∷ toks) h =
     let rest : List ℕ = text_of toks in
     let blank : is_blank b ≡ true = behind_blank t.kind in
     let some : 0 < length (b ∷ rest) = omega arith in
-    let later : CutsInto (b ∷ rest) (piece is.Blank 1 ∷ pieces_of toks) [] = (some, (at (b ∷ rest) (piece is.Blank 1) some).0 (a_blank b rest blank), cuts ends at toks h.1) in
-    (
+    let later : CutsInto (b ∷ rest) (piece is.Blank 1 ∷ pieces_of toks) [] = (some, (at (b ∷ rest) (piece is.Blank 1) some).0 (a_blank b rest blank), cuts ends at toks h.1) in (
       omega (arith, length-append (bytes t) (b ∷ rest)),
       ends (sort_of t.kind t.value) (bytes t) b rest (form t.kind t.text t.value b rest h.0 blank) blank,
       subst (λ (z : List ℕ). CutsInto z (piece is.Blank 1 ∷ pieces_of toks) []) (sym (drop-append_seam (bytes t) (b ∷ rest))) later,
@@ -60,8 +59,7 @@ are_read source front at (t ∷ toks) h a e =
     let b : ℕ = behind t.kind in
     let rest : List ℕ = text_of toks in
     let text : take (at + length (bytes t) - at) (drop at source) ≡ bytes t = ap (λ (s : List ℕ). take (at + length (bytes t) - at) (drop at s)) e ∙ text_at front (bytes t) (b ∷ rest) at a in
-    let len : at + length (bytes t) + 1 ≡ length (front ++ (bytes t ++ b ∷ [])) = omega (arith, length-append front (bytes t ++ b ∷ []), length-append (bytes t) (b ∷ [])) in
-    (
+    let len : at + length (bytes t) + 1 ≡ length (front ++ (bytes t ++ b ∷ [])) = omega (arith, length-append front (bytes t ++ b ∷ []), length-append (bytes t) (b ∷ [])) in (
       subst (λ (z : List ℕ). Reads (sort_of t.kind t.value) z t.kind t.text t.value) (sym text) (reads t.kind t.text t.value h.0),
       are_read source (front ++ (bytes t ++ b ∷ [])) (at + length (bytes t) + 1) toks h.1 len (e ∙ simp append_assoc),
     )

@@ -125,7 +125,7 @@ m_past one two = m_then one (λ _ _ _. two)
 pub m_or : {A : Type 0} {L K M N : Tokens → A → Type 0} {R : A → A → Type 0} → Moves L K R → Moves M N R → Moves (λ toks a. L toks a ⊎ M toks a) (λ toks a. K toks a ⊎ N toks a) R
 m_or one two = record {
   at = λ toks other a h s. elim s [
-    inl l ↦ (let r = one.at toks other a h l in record { value = r.value; spelled = inl r.spelled; same = r.same })
+    | inl l ↦ (let r = one.at toks other a h l in record { value = r.value; spelled = inl r.spelled; same = r.same })
     | inr m ↦ (let r = two.at toks other a h m in record { value = r.value; spelled = inr r.spelled; same = r.same })
   ];
 }

@@ -61,7 +61,7 @@ bare_tree t = record {
   body = map bare_stmt t.body;
   procs = map bare_proc t.procs;
   end_name = t.end_name;
-  end_line = 0
+  end_line = 0;
 }
 
 -- the trees are the same up to lines

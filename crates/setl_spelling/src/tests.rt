@@ -59,11 +59,7 @@ fn members(alloc: Global) -> Result<Items<Iter>, Fail> {
 // x /= om
 fn is_there(alloc: Global) -> Result<Expr, Fail> {
     let x = Boxed::new(alloc, name(alloc, b"x")?)?;
-    Ok(Expr::Compare(
-        x,
-        Relation::NotEqual,
-        Boxed::new(alloc, Expr::Om)?,
-    ))
+    Ok(Expr::Compare(x, Relation::NotEqual, Boxed::new(alloc, Expr::Om)?))
 }
 
 // [ x : x in ( - s ) | x /= om ]
@@ -90,11 +86,7 @@ fn place(alloc: Global) -> Result<Place, Fail> {
 // y from p ( 1 ) ;
 fn taken(alloc: Global) -> Result<Stmt, Fail> {
     let from = place(alloc)?;
-    Ok(stmt(StmtKind::Take(
-        Text::of(alloc, b"y")?,
-        FromEnd::From,
-        from,
-    )))
+    Ok(stmt(StmtKind::Take(Text::of(alloc, b"y")?, FromEnd::From, from)))
 }
 
 // if x /= om then p ( 1 ) := a + ( b * 2 ) ; else pass ; end if ;
@@ -198,7 +190,8 @@ fn tree(alloc: Global) -> Result<Tree, Fail> {
     })
 }
 
-const TEXT: &[u8] = b"program t ;\nvar a , b ;\nrepr base d : tuple ( int ) ;\nend repr ;\ny from p ( 1 ) ;\nif x /= om then p ( 1 ) := a + ( b * 2 ) ;\nelse pass ;\nend if ;\n( for x in ( - s ) ) print ( [ x : x in ( - s ) | x /= om ] ) ;\nend for ;\nreturn ( f ( a ) ) { 'it''s' } ;\nproc f ( rd x ) ;\nend proc f ;\nend program ;\n";
+const TEXT: &[u8] =
+    b"program t ;\nvar a , b ;\nrepr base d : tuple ( int ) ;\nend repr ;\ny from p ( 1 ) ;\nif x /= om then p ( 1 ) := a + ( b * 2 ) ;\nelse pass ;\nend if ;\n( for x in ( - s ) ) print ( [ x : x in ( - s ) | x /= om ] ) ;\nend for ;\nreturn ( f ( a ) ) { 'it''s' } ;\nproc f ( rd x ) ;\nend proc f ;\nend program ;\n";
 
 #[test]
 fn a_tree_has_its_canonical_text(rt: HostRuntime) -> Result<(), Fail> {
