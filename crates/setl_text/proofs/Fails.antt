@@ -25,10 +25,10 @@ negative_fails b bs os e wide =
     let goes : after_minus os b ≡ Goes (InNumber true (b - 48)) os = rw e refl in
     by_step b bs _ _ _ goes (wide_runs true (b - 48) bs os (digit_within true b e) (ap (within true) (sym (spelled b bs e)) ∙ not_within true _ wide))
 
-low_rue : AllByRecursion IsLow (codes "rue")
+pub low_rue : AllByRecursion IsLow (codes "rue")
 low_rue = ((omega arith, omega arith), ((omega arith, omega arith), ((omega arith, omega arith), tt)))
 
-low_alse : AllByRecursion IsLow (codes "alse")
+pub low_alse : AllByRecursion IsLow (codes "alse")
 low_alse = ((omega arith, omega arith), ((omega arith, omega arith), ((omega arith, omega arith), ((omega arith, omega arith), tt))))
 
 letters_fail : (b : ℕ) (bs : List ℕ) (os : List Open) → ((v : Bool) → lower b ∷ map lower (front is_letter bs) ≡ spelling v → ⊥) → proceed (first_letter b os) b bs (resume bs) ≡ NotForm

@@ -86,7 +86,7 @@ put_is Brace None got os admits = absurd admits
 put_is Square None got os admits = refl
 put_is k (Some d) got os admits = refl
 
-close_runs : (k : Bracket) (vs : List (Option Datum)) (rest : List ℕ) (os : List Open) → resume (closing k ∷ rest) Between (opened k vs ∷ os) ≡ after (put_value (Some (collected k vs)) os) rest
+pub close_runs : (k : Bracket) (vs : List (Option Datum)) (rest : List ℕ) (os : List Open) → resume (closing k ∷ rest) Between (opened k vs ∷ os) ≡ after (put_value (Some (collected k vs)) os) rest
 close_runs Brace vs rest os = after_taken (put_value (Some (collected Brace vs)) os) 125 rest
 close_runs Square vs rest os = after_taken (put_value (Some (collected Square vs)) os) 93 rest
 
