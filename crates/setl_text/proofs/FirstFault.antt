@@ -1,14 +1,13 @@
 -- Where a fault of form stands: the bytes before it can be continued to a denotation, and those up to it can't.
-use Rattle.std.proofs.Common.{◌≡◌, ℕ, ◌+◌, ◌-◌, ◌*◌, ◌<◌, ◌≤◌, Bool, true, false, cond, nat_lt, List, [], ◌∷◌, ◌++◌, length, map, refl, sym, ap, subst, ◌∙◌, Some, None, Option, arith, inl, inr, append-nil, leb, eqb}
-use Rattle.std.specs.Prelude.{codes}
+use Rattle.std.proofs.Common.{◌≡◌, ℕ, ◌+◌, ◌-◌, ◌*◌, Bool, true, false, cond, nat_lt, List, [], ◌∷◌, ◌++◌, length, refl, sym, ap, ◌∙◌, Some, None, Option, arith, eqb}
 use Rattle.std.specs.List.{AllByRecursion}
-use Rattle.std.proofs.lemmas.Bool.{cases_Bool, lt-leb, le-leb, eq-eqb}
+use Rattle.std.proofs.lemmas.Bool.{lt-leb, le-leb, eq-eqb}
 use Rattle.setl_value.specs.Datum.{Datum, bool, int, text}
 use Rattle.setl_text.specs.Bytes.{Bracket, Brace, Square, closing, is_digit, is_letter, lower, signed}
-use Rattle.setl_text.specs.Denoted.{Denoted, ReadFails, Fault, Form, Wide, Deep, collected}
-use Rattle.setl_text.specs.Reading.{Reading, Denotes, NotForm, failing, Token, Between, AfterMinus, InNumber, InWord, InString, AfterQuote, Open, opened, Step, Goes, Ends, EndsBefore, Fails, Placed, Whole, Inside, Unfit, put_value, taken, gap_at, open_bracket, close_bracket, first_letter, begin, before, within, sized, after_minus, in_number, in_word, in_string, after_quote, step, finish, proceed, resume, read_denotation}
-use Rattle.setl_text.specs.Laws.{CanContinue, StopsThere, FormStandsFirst}
-use Rattle.setl_text.proofs.Tokens.{IsLow, after, after_taken, after_before, after_end}
+use Rattle.setl_text.specs.Denoted.{Form, Wide, Deep, collected}
+use Rattle.setl_text.specs.Reading.{Denotes, NotForm, Token, Between, AfterMinus, InNumber, InWord, InString, AfterQuote, Open, opened, Step, Goes, Ends, EndsBefore, Fails, Placed, Whole, Inside, Unfit, put_value, taken, gap_at, open_bracket, close_bracket, begin, before, within, step, finish, proceed, resume}
+use Rattle.setl_text.specs.Laws.{StopsThere, FormStandsFirst}
+use Rattle.setl_text.proofs.Tokens.{IsLow, after, after_before, after_end}
 use Rattle.setl_text.proofs.Runs.{denoted_runs, close_runs}
 use Rattle.setl_text.proofs.Fails.{read_fails, low_rue, low_alse}
 use Rattle.setl_text.proofs.Exact.{reads_exactly}
