@@ -1,12 +1,9 @@
 -- What a byte is where an integer, word, string, set or tuple may begin.
-use Rattle.std.proofs.Common.{◌≡◌, ◌≢◌, ℕ, suc, ◌+◌, ◌-◌, ◌<◌, ◌≤◌, Bool, true, false, cond, ◌||◌, ◌&&◌, ltb, leb, eqb, List, [], ◌∷◌, length, refl, sym, ap, ◌∙◌, arith, Some, None, Option}
-use Rattle.std.specs.Prelude.{codes}
-use Rattle.std.proofs.lemmas.Bool.{and_parts, leb-true, ne_eqb, eq-eqb, lt-leb, lt-ltb, le-ltb, false≢true, and_left}
+use Rattle.std.proofs.Common.{◌≡◌, ℕ, ◌-◌, ◌<◌, true, false, leb, List, [], ◌∷◌, refl, arith}
+use Rattle.std.proofs.lemmas.Bool.{and_parts, leb-true, ne_eqb, lt-leb}
 use Rattle.std.proofs.lemmas.Bool.Decides.{nat_tests}
-use Rattle.setl_value.specs.Datum.{Datum}
-use Rattle.setl_text.specs.Bytes.{is_blank, is_gap, is_digit, is_letter, is_start, lower, Bracket, Brace, Square, opening, closing}
-use Rattle.setl_text.specs.Denoted.{collected, Form, Deep}
-use Rattle.setl_text.specs.Reading.{Token, Between, AfterMinus, InNumber, InWord, InString, AfterQuote, Open, opened, Step, Goes, Ends, EndsBefore, Fails, gap_at, begin, first_letter, open_bracket, close_bracket, taken, put_value}
+use Rattle.setl_text.specs.Bytes.{is_blank, is_gap, is_digit, is_letter}
+use Rattle.setl_text.specs.Reading.{InNumber, Open, Goes, gap_at, begin, first_letter}
 
 pub no_blank : (b : ℕ) → 44 < b → is_blank b ≡ false
 no_blank b h =

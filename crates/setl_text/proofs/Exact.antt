@@ -1,5 +1,5 @@
 -- The computed reading is exactly what the relations say.
-use Rattle.std.proofs.Common.{◌≡◌, ℕ, ◌<◌, Bool, true, false, List, [], ◌∷◌, refl, sym, ap, subst, ◌∙◌, Some, None, Option, inl, inr}
+use Rattle.std.proofs.Common.{◌≡◌, ℕ, true, List, [], ◌∷◌, sym, subst, ◌∙◌, inl, inr}
 use Rattle.std.proofs.lemmas.Bool.{cases_Bool}
 use Rattle.setl_text.specs.Bytes.{is_blank, is_start}
 use Rattle.setl_text.specs.Denoted.{blank, item, Fault, Form, Wide, Deep, ItemFails, after_blank, in_item, no_item}

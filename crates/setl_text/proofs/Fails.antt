@@ -1,13 +1,13 @@
 -- A fault is computed as what it is.
-use Rattle.std.proofs.Common.{◌≡◌, ℕ, suc, zero, ◌+◌, ◌-◌, ◌*◌, ◌<◌, ◌≤◌, Bool, true, false, cond, ◌||◌, ltb, leb, eqb, List, [], ◌∷◌, ◌++◌, map, length, refl, sym, ap, ◌∙◌, arith, Some, None, Option, append_assoc, append-nil, inl, inr}
+use Rattle.std.proofs.Common.{◌≡◌, ℕ, suc, ◌+◌, ◌-◌, ◌<◌, Bool, true, false, cond, ◌||◌, eqb, List, [], ◌∷◌, ◌++◌, map, length, refl, sym, ap, ◌∙◌, arith, Option, inl, inr}
 use Rattle.std.specs.Prelude.{codes}
 use Rattle.std.specs.List.{AllByRecursion}
-use Rattle.std.proofs.lemmas.Bool.{ne_eqb, eq-eqb, eqb-true, eqb-false, le-ltb, false≢true, true≢false, cases_Bool}
-use Rattle.setl_value.specs.Datum.{Datum, bool, int, text}
+use Rattle.std.proofs.lemmas.Bool.{ne_eqb, eqb-true, true≢false, cases_Bool}
+use Rattle.setl_value.specs.Datum.{Datum}
 use Rattle.setl_value.specs.WellFormed.{IsWide}
-use Rattle.setl_text.specs.Bytes.{is_blank, is_gap, is_digit, is_letter, is_start, lower, front, behind, number_from, signed, Bracket, Brace, Square, opening, closing}
-use Rattle.setl_text.specs.Denoted.{spelling, Admits, Fault, Form, Wide, Deep, Item, SingleFails, wide_natural, wide_negative, minus_at_end, minus_alone, other_word, open_string, ItemFails, no_single, too_deep, inside, ItemsFail, after_gap, after_member, in_member, om_in_set, not_closed, no_start, ReadFails, after_blank, in_item, no_item}
-use Rattle.setl_text.specs.Reading.{Reading, NotForm, TooWide, TooDeep, failing, Token, Between, AfterMinus, InNumber, InWord, InString, Open, opened, Step, Goes, Fails, gap_at, begin, first_letter, close_bracket, after_minus, within, put_value, proceed, resume, read_denotation}
+use Rattle.setl_text.specs.Bytes.{is_digit, is_letter, is_start, lower, front, number_from, signed, Bracket, Brace, Square, opening, closing}
+use Rattle.setl_text.specs.Denoted.{spelling, Fault, Form, SingleFails, wide_natural, wide_negative, minus_at_end, minus_alone, other_word, open_string, ItemFails, no_single, too_deep, inside, ItemsFail, after_gap, after_member, in_member, om_in_set, not_closed, no_start, ReadFails, after_blank, in_item, no_item}
+use Rattle.setl_text.specs.Reading.{NotForm, TooWide, failing, Between, AfterMinus, InNumber, Open, opened, Step, Goes, Fails, gap_at, begin, first_letter, close_bracket, after_minus, within, proceed, resume, read_denotation}
 use Rattle.setl_text.proofs.Classes.{begin_digit, begin_letter}
 use Rattle.setl_text.proofs.Tokens.{after, wide_runs, not_within, digit_within, spelled, word_fails, string_fails, IsLow}
 use Rattle.setl_text.proofs.Runs.{by_step, begin_minus, begin_quote, begin_bracket, begin_deep, item_runs, put_is}
@@ -25,10 +25,10 @@ negative_fails b bs os e wide =
     let goes : after_minus os b ≡ Goes (InNumber true (b - 48)) os = rw e refl in
     by_step b bs _ _ _ goes (wide_runs true (b - 48) bs os (digit_within true b e) (ap (within true) (sym (spelled b bs e)) ∙ not_within true _ wide))
 
-low_rue : AllByRecursion IsLow (codes "rue")
+pub low_rue : AllByRecursion IsLow (codes "rue")
 low_rue = ((omega arith, omega arith), ((omega arith, omega arith), ((omega arith, omega arith), tt)))
 
-low_alse : AllByRecursion IsLow (codes "alse")
+pub low_alse : AllByRecursion IsLow (codes "alse")
 low_alse = ((omega arith, omega arith), ((omega arith, omega arith), ((omega arith, omega arith), ((omega arith, omega arith), tt))))
 
 letters_fail : (b : ℕ) (bs : List ℕ) (os : List Open) → ((v : Bool) → lower b ∷ map lower (front is_letter bs) ≡ spelling v → ⊥) → proceed (first_letter b os) b bs (resume bs) ≡ NotForm

@@ -1,13 +1,13 @@
 -- How far a call of the reader went.
-use Rattle.std.proofs.Common.{◌≡◌, ℕ, List, [], ◌∷◌, ◌++◌, drop, refl, sym, ap, subst, ◌∙◌, Some, None, Ok, Err, Option, Result, Bool, true, false, inl, inr, append_assoc, append-nil, ◌+◌, ◌-◌, ◌≤◌, take, length, arith, min, length-take}
+use Rattle.std.proofs.Common.{◌≡◌, ℕ, List, [], ◌++◌, drop, refl, sym, ap, subst, ◌∙◌, Some, None, Ok, Err, Option, Result, false, inl, inr, append_assoc, append-nil, ◌+◌, ◌-◌, ◌≤◌, take, arith, length-take}
 use Rattle.std.proofs.lemmas.List.{drop-take, drop-drop, drop_all}
 use Rattle.std.specs.Io.KnownBytes.{Consumes, Keeps, IsAtEnd}
 use Rattle.std.proofs.KnownBytes.{Consumes-nil, Consumes-trans, Consumes-kept}
 use Rattle.setl_value.specs.declared.Value.{Value}
 use Rattle.setl_value.specs.DatumOf.{part}
-use Rattle.setl_text.specs.Reading.{Reading, Denotes, AtEnd, NotForm, TooWide, TooDeep, Token, Between, Open, finish, resume, read_denotation}
+use Rattle.setl_text.specs.Reading.{Reading, Denotes, Token, Between, Open, finish, resume, read_denotation}
 use Rattle.setl_text.specs.Scans.{token_of, reading_of, Scans, Finishes}
-use Rattle.setl_text.specs.Reads.{Answered, Answers, AnswersTold, Gave, GaveAll, GivesAll, ScansKept, Fills}
+use Rattle.setl_text.specs.Reads.{Answered, Answers, AnswersTold, GivesAll, ScansKept, Fills}
 use Rattle.setl_text.specs.declared.scan.Piece.{Piece}
 use Rattle.setl_text.specs.declared.read.Scanned.TheVariants.{Onward, Found}
 use Rattle.setl_text.specs.declared.Got.{Got}

@@ -8,3 +8,4 @@ pub mod TextLists
 pub mod Shallow
 pub mod Rising
 pub mod Going
+pub mod FirstFault

@@ -1,13 +1,12 @@
 -- A denotation is computed as what it is.
-use Rattle.std.proofs.Common.{◌≡◌, ℕ, suc, zero, ◌+◌, ◌-◌, ◌*◌, ◌<◌, ◌≤◌, Bool, true, false, cond, ltb, leb, eqb, List, [], ◌∷◌, ◌++◌, map, length, refl, sym, ap, ◌∙◌, arith, Some, None, Option, append_assoc, append-nil, zero-add, inl, inr}
-use Rattle.std.specs.Prelude.{codes, ℤ, pos, negsuc}
-use Rattle.std.proofs.lemmas.Bool.{ne_eqb, eq-eqb, eqb-true, lt-ltb, le-ltb, false≢true, true≢false, cases_Bool}
-use Rattle.setl_value.specs.Datum.{Datum, bool, int, text}
+use Rattle.std.proofs.Common.{◌≡◌, ℕ, suc, ◌+◌, ◌-◌, ◌<◌, ◌≤◌, Bool, true, false, eqb, List, [], ◌∷◌, ◌++◌, map, length, refl, sym, ap, ◌∙◌, arith, Some, None, Option, append_assoc, append-nil}
+use Rattle.std.specs.Prelude.{codes}
+use Rattle.std.proofs.lemmas.Bool.{ne_eqb, eq-eqb, lt-ltb, le-ltb}
+use Rattle.setl_value.specs.Datum.{Datum, bool, int}
 use Rattle.setl_value.specs.WellFormed.{IsWide}
-use Rattle.setl_text.specs.Bytes.{is_blank, is_gap, is_digit, is_letter, lower, front, behind, number_from, signed, Bracket, Brace, Square, opening, closing}
-use Rattle.setl_text.specs.Texts.{doubled}
-use Rattle.setl_text.specs.Denoted.{spelling, collected, Admits, Single, natural, negative, word, string, om, Item, single, bracketed, Items, nothing, gap, member, Denoted, blank, item, OnlyBlanks, Form, Wide, Deep}
-use Rattle.setl_text.specs.Reading.{Reading, Denotes, AtEnd, NotForm, TooWide, Token, Between, AfterMinus, InNumber, InWord, InString, AfterQuote, Open, opened, Step, Goes, Ends, EndsBefore, Fails, begin, first_letter, after_minus, taken, put_value, Placed, Whole, Inside, Unfit, within, proceed, resume, read_denotation}
+use Rattle.setl_text.specs.Bytes.{is_digit, is_letter, lower, front, behind, number_from, signed, Bracket, Brace, Square, opening, closing}
+use Rattle.setl_text.specs.Denoted.{spelling, collected, Admits, Single, natural, negative, word, string, om, Item, single, bracketed, Items, nothing, gap, member, Denoted, blank, item, OnlyBlanks, Deep}
+use Rattle.setl_text.specs.Reading.{Reading, Denotes, AtEnd, Between, AfterMinus, InNumber, InString, Open, opened, Step, Goes, Fails, begin, first_letter, after_minus, taken, put_value, Inside, within, proceed, resume, read_denotation}
 use Rattle.setl_text.proofs.Classes.{begin_digit, begin_letter}
 use Rattle.setl_text.proofs.Tokens.{after, after_taken, number_runs, is_within, spelled, word_runs, string_runs}
 
@@ -86,7 +85,7 @@ put_is Brace None got os admits = absurd admits
 put_is Square None got os admits = refl
 put_is k (Some d) got os admits = refl
 
-close_runs : (k : Bracket) (vs : List (Option Datum)) (rest : List ℕ) (os : List Open) → resume (closing k ∷ rest) Between (opened k vs ∷ os) ≡ after (put_value (Some (collected k vs)) os) rest
+pub close_runs : (k : Bracket) (vs : List (Option Datum)) (rest : List ℕ) (os : List Open) → resume (closing k ∷ rest) Between (opened k vs ∷ os) ≡ after (put_value (Some (collected k vs)) os) rest
 close_runs Brace vs rest os = after_taken (put_value (Some (collected Brace vs)) os) 125 rest
 close_runs Square vs rest os = after_taken (put_value (Some (collected Square vs)) os) 93 rest
 

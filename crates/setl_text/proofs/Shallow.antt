@@ -1,19 +1,18 @@
 -- The sets and tuples that are open, and how deep they are.
-use Rattle.std.proofs.Common.{◌≡◌, ℕ, suc, zero, ◌+◌, ◌<◌, ◌≤◌, max, Bool, true, false, cond, List, [], ◌∷◌, ◌++◌, map, length, reverse, refl, sym, ap, subst, ◌∙◌, arith, Some, None, Option}
-use Rattle.std.specs.Option.{option_to_list}
+use Rattle.std.proofs.Common.{◌≡◌, ℕ, suc, ◌+◌, ◌≤◌, max, List, [], ◌∷◌, ◌++◌, map, length, reverse, refl, sym, ap, subst, ◌∙◌, arith, Some, None, Option}
 use Rattle.std.proofs.lemmas.List.{reverse-append, map-append, length-reverse}
 use Rattle.std.specs.declared.cmp.Ordering.{Ordering}
 use Rattle.std.specs.declared.cmp.Ordering.TheVariants.{Less, Equal, Greater}
 use Rattle.setl_set.specs.Sets.{set_from, insert_datum, insert_by}
 use Rattle.setl_value.specs.declared.Value.{Value}
-use Rattle.setl_value.specs.Datum.{Datum, depth, part_depth, parts_depth, parts_of, elements_depth, elements_of, set_of, tuple_of}
-use Rattle.setl_value.specs.DatumOf.{datum, part}
+use Rattle.setl_value.specs.Datum.{Datum, depth, part_depth, parts_depth, parts_of, elements_depth, elements_of}
+use Rattle.setl_value.specs.DatumOf.{datum}
 use Rattle.setl_value.specs.Order.{datum_cmp}
 use Rattle.setl_value.specs.WellFormed.{trim, trim_onto}
 use Rattle.setl_text.specs.Bytes.{Bracket, Brace, Square}
 use Rattle.setl_text.specs.Denoted.{present}
-use Rattle.setl_text.specs.Reading.{Open, opened, Placed, Whole, Inside, Unfit, put_value}
-use Rattle.setl_text.specs.Scans.{open_of, opens, open_depth, IsShallow}
+use Rattle.setl_text.specs.Reading.{Open, opened, Inside, put_value}
+use Rattle.setl_text.specs.Scans.{open_of, opens, IsShallow}
 use Rattle.setl_text.specs.declared.place.Collection.{Collection}
 
 pub opens-push : (cs : List Collection) (c : Collection) → opens (cs ++ c ∷ []) ≡ open_of c ∷ opens cs

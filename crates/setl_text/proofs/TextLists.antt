@@ -1,8 +1,8 @@
 -- Texts with one blank between two, one more at a time, and doubled apostrophes.
-use Rattle.std.proofs.Common.{◌≡◌, ◌∙◌, ℕ, zero, suc, ◌+◌, ◌<◌, List, [], ◌∷◌, ◌++◌, length, take, map, max, get_or, slice_get, Some, None, Option, refl, sym, ap, append_assoc, arith, add-one, eqb, Bool, true, false, cond}
-use Rattle.std.proofs.lemmas.List.{append-nil, map-append, take_all}
+use Rattle.std.proofs.Common.{◌≡◌, ◌∙◌, ℕ, zero, suc, ◌+◌, ◌<◌, List, [], ◌∷◌, ◌++◌, length, take, map, get_or, slice_get, Some, None, Option, refl, sym, ap, append_assoc, arith, add-one, eqb, Bool, true, false, cond}
+use Rattle.std.proofs.lemmas.List.{map-append}
 use Rattle.std.proofs.lemmas.Option.{slice_get-get_or}
-use Rattle.setl_value.specs.Datum.{Datum, depth, elements_depth, elements_of, parts_depth, parts_of, set_of, tuple_of}
+use Rattle.setl_value.specs.Datum.{Datum, depth, elements_of, parts_of, set_of, tuple_of}
 use Rattle.setl_text.specs.Texts.{spaced, doubled, inner_text, element_texts, part_texts, enclosed}
 use Rattle.setl_text.specs.TextParts.{blank_before, component_text}
 

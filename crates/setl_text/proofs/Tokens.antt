@@ -1,15 +1,14 @@
 -- What the computed reading makes of the bytes of one integer, word or string.
-use Rattle.std.proofs.Common.{◌≡◌, ℕ, suc, zero, ◌+◌, ◌-◌, ◌*◌, ◌^◌, ◌<◌, ◌≤◌, Bool, true, false, cond, ltb, leb, eqb, List, [], ◌∷◌, ◌++◌, map, length, refl, sym, ap, ◌∙◌, arith, Some, None, Option, append_assoc, append-nil, zero-add, inl, inr}
-use Rattle.std.specs.Prelude.{codes, ℤ, pos, negsuc}
+use Rattle.std.proofs.Common.{◌≡◌, ℕ, suc, zero, ◌+◌, ◌-◌, ◌*◌, ◌^◌, ◌<◌, ◌≤◌, Bool, true, false, cond, leb, eqb, List, [], ◌∷◌, ◌++◌, map, refl, sym, ap, ◌∙◌, arith, Some, Option, append_assoc, append-nil, zero-add, inl, inr}
 use Rattle.std.specs.List.{AllByRecursion}
-use Rattle.std.proofs.lemmas.Bool.{and_parts, leb-true, ltb-true, ltb-false, ne_eqb, eq-eqb, eqb-true, eqb-false, lt-leb, lt-ltb, le-ltb, false≢true, true≢false, and_left, cases_Bool}
+use Rattle.std.proofs.lemmas.Bool.{and_parts, leb-true, ltb-true, ne_eqb, eq-eqb, eqb-true, lt-ltb, true≢false, cases_Bool}
 use Rattle.std.proofs.lemmas.Bool.Decides.{nat_tests}
 use Rattle.setl_value.specs.Datum.{Datum, bool, int, text}
 use Rattle.setl_value.specs.WellFormed.{IsWide}
-use Rattle.setl_text.specs.Bytes.{is_blank, is_gap, is_digit, is_letter, lower, front, behind, number_from, signed}
+use Rattle.setl_text.specs.Bytes.{is_digit, is_letter, lower, front, behind, number_from, signed}
 use Rattle.setl_text.specs.Texts.{doubled}
-use Rattle.setl_text.specs.Denoted.{spelling, NoQuote, NotNewline, EndsLine, Form, Wide}
-use Rattle.setl_text.specs.Reading.{Reading, Denotes, AtEnd, NotForm, TooWide, Token, Between, AfterMinus, InNumber, InWord, InString, AfterQuote, Open, opened, Step, Goes, Ends, EndsBefore, Fails, begin, before, sized, within, taken, put_value, Placed, Whole, Inside, Unfit, placed_at_end, finish, proceed, resume}
+use Rattle.setl_text.specs.Denoted.{NoQuote, NotNewline, EndsLine}
+use Rattle.setl_text.specs.Reading.{Reading, Denotes, NotForm, TooWide, Between, InNumber, InWord, InString, AfterQuote, Open, opened, before, within, taken, put_value, Placed, Whole, Inside, Unfit, placed_at_end, proceed, resume}
 
 -- what follows where a value or `om` was placed and these bytes are left
 abbrev pub after : Placed → List ℕ → Reading

@@ -1,15 +1,14 @@
 -- Each input is a denotation, or blanks alone, or has a fault.
-use Rattle.std.proofs.Common.{◌≡◌, ℕ, suc, zero, ◌+◌, ◌-◌, ◌*◌, ◌<◌, ◌≤◌, Bool, true, false, cond, ◌||◌, leb, eqb, List, [], ◌∷◌, ◌++◌, map, length, refl, sym, ap, subst, ◌∙◌, ◌⊎◌, arith, Some, None, Option, inl, inr, length-append}
-use Rattle.std.specs.Prelude.{codes, bytes_eq}
+use Rattle.std.proofs.Common.{◌≡◌, ℕ, suc, zero, ◌<◌, ◌≤◌, Bool, true, false, cond, eqb, List, [], ◌∷◌, ◌++◌, map, length, refl, sym, subst, ◌∙◌, ◌⊎◌, arith, Some, None, Option, inl, inr, length-append}
+use Rattle.std.specs.Prelude.{bytes_eq}
 use Rattle.std.specs.List.{AllByRecursion}
-use Rattle.std.proofs.lemmas.Bool.{ne_eqb, eq-eqb, eqb-true, eqb-false, false≢true, true≢false, cases_Bool, cases_eq, or_cases}
-use Rattle.std.proofs.lemmas.Bool.Decides.{Decides-ltb}
+use Rattle.std.proofs.lemmas.Bool.{ne_eqb, eqb-true, false≢true, cases_Bool, cases_eq, or_cases}
 use Rattle.std.proofs.lemmas.Slice.Eq.{bytes_eq-Decides}
 use Rattle.setl_value.specs.Datum.{Datum}
 use Rattle.setl_value.specs.WellFormed.{IsWide}
-use Rattle.setl_text.specs.Bytes.{is_blank, is_gap, is_digit, is_letter, is_start, lower, front, behind, number_from, signed, Bracket, Brace, Square, opening, closing}
+use Rattle.setl_text.specs.Bytes.{is_gap, is_digit, is_letter, is_start, lower, front, behind, number_from, signed, Bracket, Brace, Square, opening, closing}
 use Rattle.setl_text.specs.Texts.{doubled}
-use Rattle.setl_text.specs.Denoted.{spelling, collected, Admits, NoQuote, NotNewline, EndsLine, Fault, Form, Wide, Deep, Single, natural, negative, word, string, om, Item, single, bracketed, Items, nothing, gap, member, SingleFails, wide_natural, wide_negative, minus_at_end, minus_alone, other_word, open_string, ItemFails, no_single, too_deep, inside, ItemsFail, after_gap, after_member, in_member, om_in_set, not_closed, no_start}
+use Rattle.setl_text.specs.Denoted.{spelling, Admits, NoQuote, NotNewline, EndsLine, Fault, Form, Wide, Deep, natural, negative, word, string, om, Item, single, bracketed, Items, nothing, gap, member, wide_natural, wide_negative, minus_at_end, minus_alone, other_word, open_string, ItemFails, no_single, too_deep, inside, ItemsFail, after_gap, after_member, in_member, om_in_set, not_closed, no_start}
 use Rattle.setl_text.specs.Reading.{within}
 use Rattle.setl_text.proofs.Tokens.{is_wide, is_within}
 

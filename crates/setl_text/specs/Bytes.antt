@@ -1,5 +1,5 @@
 -- The bytes of denotations.
-use Rattle.std.specs.Prelude.{ℕ, ◌+◌, ◌-◌, ◌*◌, ◌==◌, ◌&&◌, ◌||◌, Bool, true, false, not, List, [], ◌∷◌, nat_le, cond, ℤ, pos, neg_ℤ, if◌then◌else◌}
+use Rattle.std.specs.Prelude.{ℕ, ◌+◌, ◌-◌, ◌*◌, ◌==◌, ◌&&◌, ◌||◌, Bool, true, false, List, [], ◌∷◌, nat_le, cond, ℤ, pos, neg_ℤ, if◌then◌else◌}
 
 abbrev pub is_blank : ℕ → Bool
 is_blank b = b == 9 || b == 10 || b == 13 || b == 32

@@ -1,5 +1,5 @@
 -- The same by computation, byte by byte. `Laws` says that it is what `Denoted` and `ReadFails` say.
-use Rattle.std.specs.Prelude.{ℕ, zero, suc, ◌+◌, ◌-◌, ◌*◌, ◌^◌, ◌==◌, Bool, true, false, List, [], ◌∷◌, ◌++◌, length, nat_lt, codes, Option, Some, None, if◌then◌else◌}
+use Rattle.std.specs.Prelude.{ℕ, ◌+◌, ◌-◌, ◌*◌, ◌^◌, ◌==◌, Bool, true, false, List, [], ◌∷◌, ◌++◌, length, nat_lt, codes, Option, Some, None, if◌then◌else◌}
 use Rattle.setl_value.specs.Datum.{Datum, bool, int, text}
 use Rattle.setl_text.specs.Bytes.{is_blank, is_gap, is_digit, is_letter, lower, signed, Bracket, Brace, Square}
 use Rattle.setl_text.specs.Denoted.{collected, Fault, Form, Wide, Deep}

@@ -1,9 +1,9 @@
 -- Worked rows of texts and denotations.
-use Rattle.std.specs.Prelude.{◌≡◌, ℕ, zero, suc, pos, negsuc, true, false, List, [], ◌∷◌, ◌++◌, codes, Some, None, refl}
+use Rattle.std.specs.Prelude.{◌≡◌, ℕ, zero, suc, pos, negsuc, true, false, List, [], ◌∷◌, codes, Some, None, refl}
 use Rattle.std.specs.Fmt.{digits}
 use Rattle.setl_value.specs.Datum.{bool, int, text, atom, set_of, tuple_of}
 use Rattle.setl_text.specs.Texts.{print_line, inner_text}
-use Rattle.setl_text.specs.Reading.{Reading, Denotes, AtEnd, NotForm, TooWide, TooDeep, read_denotation}
+use Rattle.setl_text.specs.Reading.{Denotes, AtEnd, NotForm, TooWide, TooDeep, read_denotation}
 
 -- `{1 2 3} [1 * 2] it's`
 a_line : print_line (Some (set_of (int (pos 1) ∷ int (pos 2) ∷ int (pos 3) ∷ [])) ∷ Some (tuple_of (Some (int (pos 1)) ∷ None ∷ Some (int (pos 2)) ∷ [])) ∷ Some (text (codes "it's")) ∷ []) ≡ codes "{1 2 3} [1 * 2] it's\n"

@@ -1,5 +1,5 @@
 -- What the state of the reader stands for, and what each of its steps does.
-use Rattle.std.specs.Prelude.{◌≡◌, ℕ, ◌+◌, ◌≤◌, Bool, true, List, [], ◌∷◌, ◌++◌, length, map, reverse, drop, Result, Ok, Err, Option, Some, None, ⊤, ◌==◌, if◌then◌else◌}
+use Rattle.std.specs.Prelude.{◌≡◌, ℕ, ◌+◌, ◌≤◌, true, List, [], ◌∷◌, ◌++◌, length, map, reverse, drop, Result, Ok, Err, Option, Some, None, ⊤, ◌==◌, if◌then◌else◌}
 use Rattle.std.specs.List.{All}
 use Rattle.setl_value.specs.Datum.{Datum, parts_depth, parts_of}
 use Rattle.setl_value.specs.DatumOf.{datum, part}

@@ -1,4 +1,4 @@
-use Rattle.std.proofs.Common.{◌≡◌, ◌++◌, ◌∷◌, [], arith, ap, sym, ◌∙◌, subst, Some, map}
+use Rattle.std.proofs.Common.{arith, ap, sym, ◌∙◌, subst, Some, map}
 use Rattle.setl_set.specs.Sets.{set_from}
 use Rattle.setl_value.specs.Datum.{depth, set_of}
 use Rattle.setl_value.specs.DatumOf.{datum}

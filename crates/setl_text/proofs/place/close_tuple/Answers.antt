@@ -1,5 +1,5 @@
 use Rattle.std.proofs.Common.{arith, ap, map}
-use Rattle.setl_value.specs.Datum.{depth, tuple_of, parts_depth, parts_of}
+use Rattle.setl_value.specs.Datum.{parts_depth, parts_of}
 use Rattle.setl_value.specs.DatumOf.{part}
 use Rattle.setl_text.specs.Bytes.{Square}
 use Rattle.setl_text.specs.Scans.{open_of}

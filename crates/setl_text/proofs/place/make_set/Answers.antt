@@ -1,5 +1,4 @@
 use Rattle.std.proofs.Common.{arith, ap, map}
-use Rattle.setl_set.specs.Sets.{set_from}
 use Rattle.setl_value.specs.Datum.{elements_depth, elements_of}
 use Rattle.setl_value.specs.DatumOf.{datum}
 use Rattle.setl_text.proofs.Shallow.{depth_set_from}

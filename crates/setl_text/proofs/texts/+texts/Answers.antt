@@ -1,7 +1,6 @@
-use Rattle.std.proofs.Common.{◌≡◌, ◌<◌, ◌+◌, ◌*◌, arith, ap, ◌∙◌, sym, Some, None, slice_get, length, get_or}
+use Rattle.std.proofs.Common.{◌≡◌, arith, Some, None, slice_get, get_or}
 use Rattle.std.proofs.lemmas.Option.{slice_get-get_or}
 use Rattle.setl_value.specs.Body.{Members}
-use Rattle.setl_value.specs.Datum.{depth, set_of, tuple_of}
 use Rattle.setl_value.specs.DatumOf.{datum}
 use Rattle.setl_text.specs.Texts.{inner_text}
 use Rattle.setl_text.specs.TextParts.{component_text}

@@ -1,4 +1,4 @@
-use Rattle.std.proofs.Common.{◌≡◌, [], ap, ◌∙◌, Some, slice_get, map, length, arith, ◌++◌}
+use Rattle.std.proofs.Common.{◌≡◌, [], ap, ◌∙◌, Some, slice_get, map, length}
 use Rattle.std.proofs.lemmas.Option.{slice_get_read, slice_get-map}
 use Rattle.std.specs.Option.{option_map}
 use Rattle.setl_value.specs.DatumOf.{part}

@@ -1,4 +1,4 @@
-use Rattle.std.proofs.Common.{◌∙◌, Ok, true, false}
+use Rattle.std.proofs.Common.{◌∙◌}
 use Rattle.setl_text.specs.Scans.{token_of, opens}
 use Rattle.setl_text.proofs.Going.{went_found, went_wrong, went_onward, went_filled, went_unfilled, went_finished, went_on}
 use Rattle.setl_text.proofs.read.Reader.read.Goals as goal
