@@ -14,7 +14,8 @@ use Rattle.setl_map.specs.Outcome.{Outcome, Gives, Fails, DeepFault, KindFault, 
 use Rattle.setl_map.specs.Numbers.{plus, minus, times, modulo}
 use Rattle.setl_map.specs.Truths.{subset}
 use Rattle.setl_value.specs.Pairs.{is_map, images}
-use Rattle.setl_map.specs.Maps.{image, domain_of, range_of, without_point}
+use Rattle.setl_map.specs.Maps.{image, domain_of, range_of, without_point, put_image, put_images}
+use Rattle.setl_map.specs.Puts.{put_value, put_set}
 use Rattle.setl_map.specs.Collections.{less_datum, with_datum, on_map, domain, range, lessf_datum, least, least_member}
 use Rattle.setl_map.specs.Selections.{get, images_of}
 use Rattle.setl_operators.proofs.Views.{members_back, parts_back}
@@ -136,3 +137,23 @@ least_of_some xs d h = ap (λ o. Gives o 0) (sym (least_first xs d h)) ∙ ap (�
 
 pub least_of_none : (xs : List Datum) → length xs ≡ 0 → least_member (set_of xs) ≡ Gives None 0
 least_of_none xs h = ap (λ l. Gives (least l) 0) (members_back xs) ∙ ap (λ o. Gives o 0) (least_none xs h)
+
+-- ---- puts
+
+pub put_map : (left : ℕ) (xs : List Datum) (x : Datum) (y : Option Datum) → is_map xs ≡ true → within_depth (set_of (put_image x y xs)) ≡ put_value left (set_of xs) x y
+put_map left xs x y h = on_map_yes (λ f. within_depth (set_of (put_image x y f))) xs h
+
+pub put_other : (left : ℕ) (xs : List Datum) (x : Datum) (y : Option Datum) → is_map xs ≡ false → put_value left (set_of xs) x y ≡ Fails KindFault
+put_other left xs x y h = on_map_no (λ f. within_depth (set_of (put_image x y f))) xs h
+
+pub put_deep : (left : ℕ) (xs : List Datum) (x : Datum) (y : Option Datum) → is_map xs ≡ true → 500 < depth (set_of (put_image x y xs)) → put_value left (set_of xs) x y ≡ Fails DeepFault
+put_deep left xs x y h l = sym (put_map left xs x y h) ∙ too_deep (set_of (put_image x y xs)) l
+
+pub puts_map : (xs ys : List Datum) (x : Datum) → is_map xs ≡ true → within_depth (set_of (put_images x ys xs)) ≡ put_set (set_of xs) x (set_of ys)
+puts_map xs ys x h = on_map_yes (λ f. within_depth (set_of (put_images x ys f))) xs h ∙ ap (λ l. on_map (λ f. within_depth (set_of (put_images x l f))) (element_list (elements_of xs))) (sym (members_back ys))
+
+pub puts_other : (xs ys : List Datum) (x : Datum) → is_map xs ≡ false → put_set (set_of xs) x (set_of ys) ≡ Fails KindFault
+puts_other xs ys x h = on_map_no (λ f. within_depth (set_of (put_images x (element_list (elements_of ys)) f))) xs h
+
+pub puts_deep : (xs ys : List Datum) (x : Datum) → is_map xs ≡ true → 500 < depth (set_of (put_images x ys xs)) → put_set (set_of xs) x (set_of ys) ≡ Fails DeepFault
+puts_deep xs ys x h l = sym (puts_map xs ys x h) ∙ too_deep (set_of (put_images x ys xs)) l

@@ -5,6 +5,7 @@ mod answers;
 mod collections;
 mod enumerations;
 mod numbers;
+mod puts;
 mod selections;
 mod truths;
 
