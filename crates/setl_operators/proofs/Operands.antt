@@ -3,7 +3,8 @@ use Rattle.std.specs.Prelude.{◌≡◌, ℕ, zero, suc, ◌+◌, ◌<◌, ◌�
 use Rattle.std.proofs.Common.{ap, sym, ◌∙◌, arith, get_or}
 use Rattle.std.proofs.lemmas.List.{map-append, take_more}
 use Rattle.setl_value.specs.declared.Value.{Value}
-use Rattle.setl_value.specs.Datum.{Datum, depth, elements_depth, elements_of}
+use Rattle.setl_value.specs.Datum.{Datum, depth, elements_depth, elements_of, part_depth, parts_depth, parts_of}
+use Rattle.setl_value.specs.WellFormed.{trim, trim_onto}
 use Rattle.setl_value.specs.DatumOf.{datum, part}
 use Rattle.setl_map.specs.Outcome.{all_values, one_more}
 
@@ -50,3 +51,35 @@ pub depth_at : (vs : List Value) (i : ℕ) (v : Value) → i < length vs → v �
 depth_at [] i v l e = absurd (omega arith)
 depth_at (w ∷ vs) zero v l e = omega (arith, ap (λ u. depth (datum u)) e)
 depth_at (w ∷ vs) (suc i) v l e = omega (arith, depth_at vs i v (omega arith) e)
+
+-- ---- components
+
+parts_append : (ps : List (Option Datum)) (p : Option Datum) → parts_depth (parts_of (ps ++ p ∷ [])) ≡ max (parts_depth (parts_of ps)) (part_depth p)
+parts_append [] None = omega arith
+parts_append [] (Some d) = omega arith
+parts_append (None ∷ ps) p = parts_append ps p
+parts_append (Some e ∷ ps) p = omega (arith, parts_append ps p)
+
+pub parts_more : (os : List (Option Value)) (i : ℕ) (o : Option Value) → i < length os → o ≡ get_or os i o
+    → parts_depth (parts_of (map part (take (i + 1) os))) ≡ max (parts_depth (parts_of (map part (take i os)))) (part_depth (part o))
+parts_more os i o l e =
+    ap (λ xs. parts_depth (parts_of (map part xs))) (take_more os i o l) ∙ ap (λ xs. parts_depth (parts_of xs)) (map-append part (take i os) (get_or os i o ∷ []))
+    ∙ omega (arith, parts_append (map part (take i os)) (part (get_or os i o)), ap (λ w. part_depth (part w)) e)
+
+parts_cons : (p : Option Datum) (ps : List (Option Datum)) → parts_depth (parts_of (p ∷ ps)) ≡ max (part_depth p) (parts_depth (parts_of ps))
+parts_cons None ps = omega arith
+parts_cons (Some d) ps = omega arith
+
+pub parts_at : (os : List (Option Value)) (i : ℕ) (o : Option Value) → i < length os → o ≡ get_or os i o → part_depth (part o) ≤ parts_depth (parts_of (map part os))
+parts_at [] i o l e = absurd (omega arith)
+parts_at (p ∷ os) zero o l e = omega (arith, ap (λ u. part_depth (part u)) e, parts_cons (part p) (map part os))
+parts_at (p ∷ os) (suc i) o l e = omega (arith, parts_at os i o (omega arith) e, parts_cons (part p) (map part os))
+
+trim_onto_depth : (p : Option Datum) (qs : List (Option Datum)) → parts_depth (parts_of (trim_onto p qs)) ≡ max (part_depth p) (parts_depth (parts_of qs))
+trim_onto_depth None [] = omega arith
+trim_onto_depth (Some d) qs = omega arith
+trim_onto_depth None (q ∷ qs) = parts_cons None (q ∷ qs)
+
+pub trim_depth : (ps : List (Option Datum)) → parts_depth (parts_of (trim ps)) ≡ parts_depth (parts_of ps)
+trim_depth [] = refl
+trim_depth (p ∷ ps) = omega (arith, trim_onto_depth p (trim ps), trim_depth ps, parts_cons p ps)

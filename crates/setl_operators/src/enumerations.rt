@@ -1,16 +1,16 @@
 //! The enumerations `{a, b, ..}` and `[a, b, ..]`.
 
-ghost use Rattle.std.specs.Prelude.{◌≡◌, ◌++◌, ◌∷◌, [], map, nat_lt, IfOk, OnOk};
+ghost use Rattle.std.specs.Prelude.{◌≡◌, ◌++◌, ◌∷◌, ◌≤◌, [], map, nat_lt, IfOk, OnOk};
 ghost use Rattle.std.specs.Option.{option_map};
-ghost use Rattle.setl_value.specs.Datum.{depth, set_of};
+ghost use Rattle.setl_value.specs.Datum.{depth, part_depth, set_of, tuple_of};
 ghost use Rattle.setl_value.specs.DatumOf.{datum, part};
-ghost use Rattle.setl_map.specs.Collections.{enumerate_set};
+ghost use Rattle.setl_map.specs.Collections.{enumerate_set, enumerate_tuple};
 ghost use Rattle.setl_map.specs.Outcome.{all_values};
 ghost use Rattle.setl_operators.specs.Answers.{Tells, value_data};
 
-use crate::answers::set;
+use crate::answers::{set, shallow_tuple};
 use crate::{Answer, OpFault};
-use setl_value::{Memory, Value};
+use setl_value::{Memory, TupleBody, Value};
 use std::alloc::Global;
 
 /// The set of some operands, of which none is `om`.
@@ -61,4 +61,43 @@ fn are_deep(values: &[Value]) -> bool
         }
     }
     false
+}
+
+/// The tuple of some operands, without the `om` at its end.
+pub(crate) fn enumerate_tuple(
+    alloc: Global,
+    operands: Vec<Option<Value>>,
+) -> Result<Answer, OpFault>
+    ensures { Tells result (enumerate_tuple (map part operands.items)) }
+{
+    if has_deep(operands.as_slice()) {
+        return Err(OpFault::Deep);
+    }
+    shallow_tuple(TupleBody::of(alloc, operands)?)
+}
+
+/// Whether the tuple of these components would be more than 500 deep.
+fn has_deep(parts: &[Option<Value>]) -> bool
+    ensures { result ≡ nat_lt 500 (depth (tuple_of (map part parts.now))) }
+{
+    for p in parts {
+        if part_depth(p) == 500 {
+            return true;
+        }
+    }
+    false
+}
+
+/// The depth of a component, and 0 for `om`.
+fn part_depth(p: &Option<Value>) -> u32
+    ensures value { result ≡ part_depth (part p.now) }
+    ensures bound { result ≤ 500 }
+{
+    match p {
+        None => 0,
+        Some(v) => {
+            v.learn();
+            v.depth()
+        }
+    }
 }
