@@ -1,6 +1,6 @@
 -- What the calls on maps make of the pairs between two bounds.
-use Rattle.std.specs.Prelude.{◌≡◌, ◌⊎◌, ℕ, zero, suc, ◌+◌, ◌-◌, ◌<◌, ◌≤◌, Bool, true, false, not, ◌||◌, cond, List, [], ◌∷◌, ◌++◌, Option, Some, None, IsSome, map, max, length, take, drop, slice_range, min, nat_le, nat_lt, refl}
-use Rattle.std.specs.List.{AllByRecursion, filter, filter_map, cons_option, list_any}
+use Rattle.std.specs.Prelude.{◌≡◌, ℕ, zero, suc, ◌+◌, ◌-◌, ◌≤◌, Bool, true, false, not, ◌||◌, cond, List, [], ◌∷◌, ◌++◌, Option, Some, None, IsSome, map, max, length, take, drop, slice_range, nat_le, nat_lt, refl}
+use Rattle.std.specs.List.{AllByRecursion, filter_map, cons_option, list_any}
 use Rattle.std.specs.List.Sorted.{IsStrictlySortedBy}
 use Rattle.std.specs.declared.cmp.Ordering.{Ordering}
 use Rattle.std.specs.declared.cmp.Ordering.TheVariants.{Less, Equal, Greater}
@@ -13,16 +13,16 @@ use Rattle.std.proofs.lemmas.List.{length-take, length-drop}
 use Rattle.std.proofs.lemmas.List.Folds.{list_any-append}
 use Rattle.std.proofs.lemmas.List.Kept.{IsStrictlySortedBy-filter}
 use Rattle.setl_value.specs.declared.Value.{Value}
-use Rattle.setl_value.specs.Datum.{Datum, bool, int, text, atom, tuple, set, no_part, om_then, part_then, depth, part_depth, elements_depth, elements_of, set_of}
+use Rattle.setl_value.specs.Datum.{Datum, tuple, no_part, part_then, depth, part_depth, elements_depth, elements_of, set_of}
 use Rattle.setl_value.specs.DatumOf.{datum, part}
 use Rattle.setl_value.specs.Order.{datum_cmp, IsRising}
 use Rattle.setl_value.specs.OrderLaws.{datum_cmp_total, same_if_eq, equal_iff_same}
-use Rattle.setl_value.specs.Pairs.{pair, pair_parts, second_of, pairs_at, images, is_map}
-use Rattle.setl_set.specs.Sets.{has_datum, insert_datum, insert_by, set_from, union_of}
+use Rattle.setl_value.specs.Pairs.{pair, pair_parts, second_of, pairs_at, images}
+use Rattle.setl_set.specs.Sets.{has_datum, insert_datum, insert_by, set_from}
 use Rattle.setl_set.specs.Laws.{RisingListsAgree, TestsMembership, Gathers, Inserts}
-use Rattle.setl_map.specs.Maps.{only, image, without_point, put_image, put_images}
+use Rattle.setl_map.specs.Maps.{only, without_point, put_image, put_images}
 use Rattle.setl_map.specs.Points.{is_before, comes_before, IsBound, part_at, pair_depth}
-use Rattle.setl_map.proofs.PairFacts.{pair_of, IsPair, all_pairs}
+use Rattle.setl_map.proofs.PairFacts.{pair_of, IsPair}
 use Rattle.setl_map.proofs.Spans.{is_at, IsSplit}
 use Rattle.setl_map.proofs.Gathering.{depth_insert, depth_set_from, is_set_from}
 

@@ -1,10 +1,10 @@
 -- Pairs: which data they are, and which tuples.
-use Rattle.std.specs.Prelude.{◌≡◌, ◌⊎◌, Bool, true, false, ◌&&◌, List, [], ◌∷◌, Option, Some, None, is_some, length, slice_get, refl}
+use Rattle.std.specs.Prelude.{◌≡◌, ◌⊎◌, true, List, [], ◌∷◌, Option, Some, None, is_some, length, slice_get, refl}
 use Rattle.std.specs.List.{AllByRecursion}
 use Rattle.std.specs.Option.{unwrap_or}
 use Rattle.std.proofs.Common.{ap, sym, ◌∙◌, inl, inr, arith}
 use Rattle.std.proofs.lemmas.Bool.{false≢true, and_parts}
-use Rattle.setl_value.specs.Datum.{Datum, bool, int, text, atom, set, tuple, part_then, om_then, no_part, tuple_of}
+use Rattle.setl_value.specs.Datum.{Datum, tuple, part_then, no_part, tuple_of}
 use Rattle.setl_value.specs.Pairs.{pair, pair_parts, is_map}
 
 -- a datum with two parts is the pair of them

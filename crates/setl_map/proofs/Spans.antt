@@ -1,15 +1,15 @@
 -- The pairs of one point, between two bounds.
-use Rattle.std.specs.Prelude.{◌≡◌, ℕ, zero, suc, ◌-◌, ◌≤◌, Bool, true, false, not, cond, List, [], ◌∷◌, ◌++◌, Some, None, refl, take, drop, length}
-use Rattle.std.specs.List.{AllByRecursion, filter}
+use Rattle.std.specs.Prelude.{◌≡◌, ℕ, zero, suc, ◌-◌, ◌≤◌, Bool, true, false, not, cond, List, [], ◌∷◌, ◌++◌, refl, take, drop, length}
+use Rattle.std.specs.List.{AllByRecursion}
 use Rattle.std.specs.declared.cmp.Ordering.{Ordering}
 use Rattle.std.specs.declared.cmp.Ordering.TheVariants.{Less, Equal, Greater}
 use Rattle.std.specs.Ordering.{is_eq, ordering_reverse}
-use Rattle.std.proofs.Common.{ap, sym, ◌∙◌, subst, arith}
+use Rattle.std.proofs.Common.{ap, sym, ◌∙◌, arith}
 use Rattle.std.proofs.lemmas.Bool.{false≢true, true≢false}
 use Rattle.setl_value.specs.Datum.{Datum}
 use Rattle.setl_value.specs.Order.{datum_cmp}
 use Rattle.setl_value.specs.OrderLaws.{datum_cmp_total}
-use Rattle.setl_value.specs.Pairs.{pair, pair_parts, first_of, is_datum, pairs_at}
+use Rattle.setl_value.specs.Pairs.{pair_parts, first_of, is_datum, pairs_at}
 use Rattle.setl_map.specs.Maps.{without_point}
 use Rattle.setl_map.specs.Points.{is_before, comes_before, IsBound}
 use Rattle.setl_map.proofs.PairFacts.{pair_of, IsPair}

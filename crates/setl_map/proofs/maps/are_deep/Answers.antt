@@ -1,8 +1,8 @@
-use Rattle.std.proofs.Common.{arith, sym, ◌∙◌}
+use Rattle.std.proofs.Common.{arith, ◌∙◌}
 use Rattle.std.proofs.lemmas.Bool.Decides.{nat_tests}
 use Rattle.setl_value.specs.Body.{Members}
 use Rattle.setl_value.specs.DatumOf.{datum}
-use Rattle.setl_map.proofs.MapResults.{depth_all_pairs, depth_no_pairs}
+use Rattle.setl_map.proofs.MapResults.{depth_all_pairs}
 use Rattle.setl_map.proofs.maps.are_deep.Goals as goal
 
 pub returns-then-len-ne0 : goal.returns-then-len-ne0

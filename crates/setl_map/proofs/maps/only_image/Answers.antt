@@ -1,11 +1,8 @@
-use Rattle.std.proofs.Common.{arith, ◌≡◌, ◌∙◌, ap, sym, subst, rules, append-nil, take, drop, map, ◌++◌, ◌∷◌, [], OnOk, Some}
+use Rattle.std.proofs.Common.{arith, ◌≡◌, ◌∙◌, ap, sym}
 use Rattle.setl_value.specs.Body.{Members}
-use Rattle.setl_value.specs.Datum.{depth, set_of}
 use Rattle.setl_value.specs.DatumOf.{datum}
-use Rattle.setl_value.specs.Order.{IsRising}
-use Rattle.setl_map.proofs.Bounds.{rising_from_set}
 use Rattle.setl_map.proofs.PairFacts.{all_pairs}
-use Rattle.setl_map.proofs.Spans.{IsSplit, split_by_bounds}
+use Rattle.setl_map.proofs.Spans.{split_by_bounds}
 use Rattle.std.proofs.Common.{length}
 use Rattle.std.proofs.lemmas.List.{length-map}
 use Rattle.setl_map.specs.Maps.{only}

@@ -1,13 +1,12 @@
-use Rattle.std.proofs.Common.{arith, ◌≡◌, ◌∙◌, ap, sym, subst, rules, append-nil, take, drop, map, ◌++◌, ◌∷◌, [], OnOk, Some}
+use Rattle.std.proofs.Common.{arith, ◌≡◌, ◌∙◌, ap, sym, subst, take, drop, map, ◌++◌, OnOk}
 use Rattle.setl_value.specs.Body.{Members}
 use Rattle.setl_value.specs.Datum.{depth, set_of}
 use Rattle.setl_value.specs.DatumOf.{datum}
 use Rattle.setl_value.specs.Order.{IsRising}
 use Rattle.setl_map.proofs.Bounds.{rising_from_set}
 use Rattle.setl_map.proofs.PairFacts.{all_pairs}
-use Rattle.setl_map.proofs.Spans.{IsSplit, split_by_bounds}
+use Rattle.setl_map.proofs.Spans.{split_by_bounds}
 use Rattle.std.proofs.lemmas.Bool.{ltb-false}
-use Rattle.setl_map.specs.Maps.{put_images}
 use Rattle.setl_map.proofs.MapResults.{point_pairs, put_all_between, rising_put_all, deep_put_all}
 use Rattle.setl_map.proofs.maps.put_shallow_images.Goals as goal
 

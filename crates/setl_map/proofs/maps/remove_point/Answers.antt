@@ -1,11 +1,11 @@
-use Rattle.std.proofs.Common.{arith, ◌≡◌, ◌∙◌, ap, sym, subst, rules, append-nil, take, drop, map, ◌++◌, ◌∷◌, [], OnOk, Some}
+use Rattle.std.proofs.Common.{arith, ◌≡◌, ◌∙◌, ap, sym, subst, append-nil, take, drop, map, ◌++◌, OnOk}
 use Rattle.setl_value.specs.Body.{Members}
 use Rattle.setl_value.specs.Datum.{depth, set_of}
 use Rattle.setl_value.specs.DatumOf.{datum}
 use Rattle.setl_value.specs.Order.{IsRising}
 use Rattle.setl_map.proofs.Bounds.{rising_from_set}
 use Rattle.setl_map.proofs.PairFacts.{all_pairs}
-use Rattle.setl_map.proofs.Spans.{IsSplit, split_by_bounds}
+use Rattle.setl_map.proofs.Spans.{split_by_bounds}
 use Rattle.setl_map.specs.Maps.{without_point}
 use Rattle.setl_map.proofs.MapResults.{whole, rising_without, depth_without}
 use Rattle.setl_map.proofs.maps.remove_point.Goals as goal
