@@ -3,10 +3,26 @@
 //! `resolve` tests the rules 1 to 18 of a program on its syntax tree, and gives the variables of each body.
 #![tactic(auto)]
 
+mod around;
+mod bodies;
+mod bound;
 mod broken;
+mod expressions;
 mod head;
+mod laws;
 mod name;
+mod names;
 mod occurrence;
+mod procs;
+mod program;
 
-pub use broken::{BodyNames, RuleFault};
+mod rules;
+mod scope;
+mod simple;
+mod statements;
+
+pub use bodies::BodyNames;
+pub use broken::RuleFault;
+pub use laws::worked_programs;
+pub use program::resolve;
 pub use std::alloc::AllocError as Memory;

@@ -1,0 +1,3 @@
+pub mod NameLists
+pub mod Own
+pub mod Calls
