@@ -52,3 +52,22 @@ stored_here ps xs i p x hp hx ep ex = rw (add-one, drop-cons ps i p hp, drop-con
 
 pub stored_past : (ps : List Param) (xs : List Argument) (i : ℕ) → length xs ≤ i → stored ps (drop i xs) ≡ []
 stored_past ps xs i h = rw (drop_all i xs h) (stored_none ps)
+
+or_false : (a : Bool) → a || false ≡ a
+or_false true = refl
+or_false false = refl
+
+stores_nothing : (s : Stores) → stores_from s [] ≡ s
+stores_nothing s = rw (or_false s.no_variable, or_false s.bound_around, append-nil s.names) refl
+
+pub stores_end : (ps : List Param) (xs : List Argument) (i : ℕ) (s whole : Stores) → length xs ≤ i → stores_from s (stored (drop i ps) (drop i xs)) ≡ whole → s ≡ whole
+stores_end ps xs i s whole h inv = sym (stores_nothing s) ∙ (rw (stored_past (drop i ps) xs i h) at inv)
+
+pub stores_next : (ps : List Param) (xs : List Argument) (i : ℕ) (p : Param) (x : Argument) (s new whole : Stores) → i < length ps → i < length xs → p ≡ get_or ps i p → x ≡ get_or xs i x →
+    is_stored p.passing ≡ true → new ≡ with_store s x → stores_from s (stored (drop i ps) (drop i xs)) ≡ whole → stores_from new (stored (drop (i + 1) ps) (drop (i + 1) xs)) ≡ whole
+stores_next ps xs i p x s new whole hp hx ep ex is en inv =
+    rw en (one_more_store s x (stored (drop (i + 1) ps) (drop (i + 1) xs)) ∙ (rw (stored_here ps xs i p x hp hx ep ex, is) at inv))
+
+pub stores_skip : (ps : List Param) (xs : List Argument) (i : ℕ) (p : Param) (x : Argument) (s whole : Stores) → i < length ps → i < length xs → p ≡ get_or ps i p → x ≡ get_or xs i x →
+    is_stored p.passing ≡ false → stores_from s (stored (drop i ps) (drop i xs)) ≡ whole → stores_from s (stored (drop (i + 1) ps) (drop (i + 1) xs)) ≡ whole
+stores_skip ps xs i p x s whole hp hx ep ex is inv = rw (stored_here ps xs i p x hp hx ep ex, is) at inv

@@ -7,10 +7,10 @@ use Rattle.std.specs.List.{list_any}
 use Rattle.indexmap.specs.IndexSet.{insert_key}
 use Rattle.setl_names.specs.Names.{Name, has, with_name, with_names}
 
-abbrev items_of : Vec ℕ → List ℕ
+abbrev pub items_of : Vec ℕ → List ℕ
 items_of v = v.items
 
-abbrev same_key : Vec ℕ → Vec ℕ → Bool
+abbrev pub same_key : Vec ℕ → Vec ℕ → Bool
 same_key x y = bytes_eq x.items y.items
 
 -- a name is among the keys as it is among the names

@@ -142,6 +142,11 @@ abbrev pub selected : Part → List Behind → Standing
 selected x [] p = x.standing p
 selected x (s ∷ ss) p = before x s p ++ all_behind ss p
 
+-- the same of a name
+abbrev pub name_selected : Name → List Behind → Standing
+name_selected f [] p = named f p
+name_selected f (s ∷ ss) p = by (Some f) s.list (named f) s.standing p ++ all_behind ss p
+
 -- ---- iterators
 
 abbrev pub names_of_turns : List Turn → List Name

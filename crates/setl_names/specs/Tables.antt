@@ -13,5 +13,5 @@ abbrev pub value_at : {T S : Type 0} → IndexMap (Vec ℕ) T S → Name → Opt
 value_at table name = get_by (λ key. bytes_eq name key.items) table
 
 -- the table gives the parameters of each procedure by its name
-abbrev pub Finds : {S : Type 0} → IndexMap (Vec ℕ) (List Param) S → List Proc → Type 0
-Finds table procs = (x : Name) → value_at table x ≡ params_of procs x
+abbrev pub Finds : {T S : Type 0} → IndexMap (Vec ℕ) T S → (T → List Param) → List Proc → Type 0
+Finds table params procs = (x : Name) → option_map params (value_at table x) ≡ params_of procs x

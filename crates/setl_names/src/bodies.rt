@@ -105,6 +105,7 @@ fn is_of_body(name: &[u8], procs: &Procs<'_>, vars: &Names, params: &Names) -> b
 }
 
 /// The body's own names in the order of their first appearance.
+#[tactic(auto, using(crate::proofs::Own::own_step))]
 pub fn slots(
     alloc: Global,
     procs: &Procs<'_>,

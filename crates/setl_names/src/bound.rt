@@ -117,7 +117,11 @@ pub fn bound_list<'t>(alloc: Global, bound: &'t Bound) -> Result<Items<Name<'t>>
 }
 
 /// Notes the names that one list of iterators binds, or a filter.
-pub fn bind<'t>(names: Items<Name<'t>>, line: u32, found: &mut Items<Occurrence<'t>>) -> Result<(), AllocError>
+pub fn bind<'t>(
+    names: Items<Name<'t>>,
+    line: u32,
+    found: &mut Items<Occurrence<'t>>,
+) -> Result<(), AllocError>
     ensures { OnOk result (found.new ≡ found.old ++ spec.bound names.entry (in_statement line)) }
 {
     found.push(Occurrence {

@@ -1,12 +1,14 @@
 //! What stands in expressions.
 
-ghost use Rattle.std.specs.Prelude.{◌≡◌, ◌++◌, map, option_map, OnOk, IfOk};
+ghost use Rattle.std.specs.Prelude.{◌≡◌, ◌++◌, map, option_map, OnOk, IfOk, IfSome};
 ghost use Rattle.setl_names.specs.Names.{with_names};
 ghost use Rattle.setl_names.specs.Occurrences as spec;
 ghost use Rattle.setl_names.specs.Occurrences.{part, turn, behind, standing_in, inner_standing};
 ghost use Rattle.setl_names.specs.Scopes.{place};
 
-use crate::bound::{add_turn, all_quantified, bind, bound, bound_list, bound_name, bound_names, named, turn_names};
+use crate::bound::{
+    add_turn, all_quantified, bind, bound, bound_list, bound_name, bound_names, named, turn_names,
+};
 use crate::name::Name;
 use crate::occurrence::{Argument, Occurrence, What};
 use crate::scope::Scope;
@@ -15,7 +17,8 @@ use std::alloc::{AllocError, Global};
 
 /// The name that an expression is, if it is a name alone.
 fn name_of<'t>(x: &'t Expr) -> Option<Name<'t>>
-    ensures { result ≡ (part x.now).name }
+    ensures name { result ≡ (part x.now).name }
+    ensures standing { IfSome result (λ name. (part x.now).standing ≡ spec.named name) }
 {
     match x {
         Expr::Name(name) => Some(Name::new(name)),
@@ -53,7 +56,12 @@ fn argument<'t>(x: &'t Expr, line: u32, scope: &Scope) -> Argument<'t>
 }
 
 /// Arguments in their order.
-fn arguments<'t>(alloc: Global, xs: &'t [Expr], line: u32, scope: &Scope) -> Result<Items<Argument<'t>>, AllocError>
+fn arguments<'t>(
+    alloc: Global,
+    xs: &'t [Expr],
+    line: u32,
+    scope: &Scope,
+) -> Result<Items<Argument<'t>>, AllocError>
     ensures { IfOk result (λ all. all ≡ spec.arguments (map part xs.now) (place line scope.now)) }
 {
     let mut all = Items::new(alloc);
@@ -84,6 +92,7 @@ pub fn apply<'t>(
 
 /// What stands in an expression.
 #[cycle(standing)]
+#[tactic(auto, using(crate::proofs::Standing::chain_found, crate::proofs::Standing::compare_found, crate::proofs::Standing::plain_found, crate::proofs::Standing::name_found, crate::proofs::Standing::quantified_found))]
 pub fn expr<'t>(
     x: &'t Expr,
     line: u32,
@@ -113,36 +122,30 @@ pub fn expr<'t>(
         Expr::Tuple(x) => inner(x, line, alloc, scope, found),
         Expr::Chain(first, others) => {
             expr(first.get(), line, alloc, scope, found)?;
-            operands(others.as_slice(), line, alloc, scope, found)
+            operands(others.as_slice(), line, alloc, scope, found)?;
+            Ok(())
         }
         Expr::Compare(a, _, b) => {
             expr(a.get(), line, alloc, scope, found)?;
-            expr(b.get(), line, alloc, scope, found)
+            expr(b.get(), line, alloc, scope, found)?;
+            Ok(())
         }
         Expr::Prefixed(_, x) => expr(x.get(), line, alloc, scope, found),
         Expr::Selected(x, ss) => match name_of(x.get()) {
             None => {
                 expr(x.get(), line, alloc, scope, found)?;
-                selectors(ss.as_slice(), line, alloc, scope, found)
+                selectors(ss.as_slice(), line, alloc, scope, found)?;
+                Ok(())
             }
-            Some(name) => match ss.as_slice() {
-                [Selector::Round(xs), others @ ..] => {
-                    apply(alloc, name.text(), xs.as_slice(), line, scope, found)?;
-                    exprs(xs.as_slice(), line, alloc, scope, found)?;
-                    selectors(others, line, alloc, scope, found)
-                }
-                others => {
-                    expr(x.get(), line, alloc, scope, found)?;
-                    selectors(others, line, alloc, scope, found)
-                }
-            },
+            Some(name) => name_selected(ss.as_slice(), name.text(), line, alloc, scope, found),
         },
         Expr::Quantified(_, turns, x) => {
             let names = turn_names(alloc, turns.as_slice())?;
             all_quantified(names.as_slice(), line, scope, found)?;
             variable_turns(turns.as_slice(), line, alloc, scope, found)?;
             bind(names, line, found)?;
-            expr(x.get(), line, alloc, scope, found)
+            expr(x.get(), line, alloc, scope, found)?;
+            Ok(())
         }
     }
 }
@@ -203,7 +206,7 @@ fn optional<'t>(
 
 /// What stands inside braces or brackets.
 #[cycle(standing)]
-#[tactic(auto, using(crate::proofs::NameLists::taken_back, crate::proofs::NameLists::with_names_append))]
+#[tactic(auto, using(crate::proofs::NameLists::taken_back, crate::proofs::Standing::former_found, crate::proofs::Standing::filter_found))]
 fn inner<'t>(
     x: &'t Inner,
     line: u32,
@@ -230,7 +233,8 @@ fn inner<'t>(
             own_turns(turns.as_slice(), line, alloc, scope, found)?;
             optional(condition, line, alloc, scope, found)?;
             scope.leave(mark);
-            bind(names, line, found)
+            bind(names, line, found)?;
+            Ok(())
         }
         Inner::Filter(bound, source, condition) => {
             let names = bound_list(alloc, bound)?;
@@ -240,7 +244,8 @@ fn inner<'t>(
             scope.own.put_all(names.as_slice())?;
             expr(condition.get(), line, alloc, scope, found)?;
             scope.leave(mark);
-            bind(names, line, found)
+            bind(names, line, found)?;
+            Ok(())
         }
     }
 }
@@ -291,7 +296,7 @@ pub fn variable_turns<'t>(
 
 /// What stands in iterators that bind a former's own names. These are then put into the scope.
 #[cycle(standing)]
-#[tactic(auto, using(crate::proofs::NameLists::with_names_append))]
+#[tactic(auto, using(crate::proofs::Turns::own_found, crate::proofs::Turns::own_names))]
 fn own_turns<'t>(
     turns: &'t [Iter],
     line: u32,
@@ -310,6 +315,41 @@ fn own_turns<'t>(
         scope.own.put_all(names.as_slice())?;
     }
     Ok(())
+}
+
+/// What stands in a name with selectors.
+#[cycle(standing)]
+#[tactic(auto, using(crate::proofs::Standing::round_found, crate::proofs::Standing::slice_found, crate::proofs::Standing::braces_found))]
+fn name_selected<'t>(
+    ss: &'t [Selector],
+    name: &'t Text,
+    line: u32,
+    alloc: Global,
+    scope: &mut Scope,
+    found: &mut Items<Occurrence<'t>>,
+) -> Result<(), AllocError>
+    ensures found { OnOk result (found.new ≡ found.old ++ spec.name_selected name.now (map behind ss.now) (place line scope.old)) }
+    ensures scope { OnOk result (scope.new ≡ scope.old) }
+{
+    match ss {
+        [] => named(name, line, scope, found),
+        [Selector::Round(xs), others @ ..] => {
+            apply(alloc, name, xs.as_slice(), line, scope, found)?;
+            exprs(xs.as_slice(), line, alloc, scope, found)?;
+            selectors(others, line, alloc, scope, found)?;
+            Ok(())
+        }
+        [Selector::Slice(_, _), ..] => {
+            named(name, line, scope, found)?;
+            selectors(ss, line, alloc, scope, found)?;
+            Ok(())
+        }
+        [Selector::Braces(_), ..] => {
+            named(name, line, scope, found)?;
+            selectors(ss, line, alloc, scope, found)?;
+            Ok(())
+        }
+    }
 }
 
 /// What stands in a selector that isn't the list of a call.

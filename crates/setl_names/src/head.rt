@@ -50,15 +50,15 @@ fn param_entries<'t>(alloc: Global, params: &'t [Param]) -> Result<Items<Entry<'
 /// Declared names as entries.
 fn declared_entries<'t>(
     alloc: Global,
-    names: &'t [Declared],
+    vars: &'t [Declared],
 ) -> Result<Items<Entry<'t>>, AllocError>
-    ensures { IfOk result (λ es. es ≡ map heads.declared_entry names.now) }
+    ensures { IfOk result (λ es. es ≡ map heads.declared_entry vars.now) }
 {
     let mut entries = Items::new(alloc);
-    for declared in names {
+    for item in vars {
         entries.push(Entry {
-            line: declared.line,
-            name: Name::new(&declared.name),
+            line: item.line,
+            name: Name::new(&item.name),
         })?;
     }
     Ok(entries)
@@ -168,7 +168,12 @@ fn param_breaks(
 }
 
 /// The first break so far and of the rules on procedures' names.
-fn proc_breaks(alloc: Global, first: Option<Break>, name: &Text, procs: &[Proc]) -> Result<Option<Break>, AllocError>
+fn proc_breaks(
+    alloc: Global,
+    first: Option<Break>,
+    name: &Text,
+    procs: &[Proc],
+) -> Result<Option<Break>, AllocError>
     ensures { IfOk result (λ f. f ≡ fold earlier first (spec.proc_breaks name.now procs.now)) }
 {
     let first = ends(first, procs);

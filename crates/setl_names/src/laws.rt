@@ -1,9 +1,11 @@
-//! Worked programs.
+//! Worked rows.
 
-ghost use Rattle.setl_names.specs.Samples.{WorkedBreaks, WorkedSlots};
+ghost use Rattle.setl_names.specs.Samples.{WorkedHeads, WorkedRules, WorkedSlots, WorkedOrder};
 
-/// For each rule a program that breaks it, with its line, and a sound neighbour; and the slots of some bodies.
-pub fn worked_programs()
-    ensures breaks { WorkedBreaks }
+/// For each rule what breaks it and a sound neighbour, the slots of a body, and the first of some breaks.
+pub fn worked_rows()
+    ensures heads { WorkedHeads }
+    ensures rules { WorkedRules }
     ensures slots { WorkedSlots }
+    ensures order { WorkedOrder }
 {}

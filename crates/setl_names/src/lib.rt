@@ -15,14 +15,15 @@ mod names;
 mod occurrence;
 mod procs;
 mod program;
-
 mod rules;
 mod scope;
 mod simple;
 mod statements;
+#[cfg(test)]
+mod tests;
 
 pub use bodies::BodyNames;
 pub use broken::RuleFault;
-pub use laws::worked_programs;
+pub use laws::worked_rows;
 pub use program::resolve;
 pub use std::alloc::AllocError as Memory;

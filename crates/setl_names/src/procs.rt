@@ -17,18 +17,23 @@ pub struct Procs<'t> {
 
 impl<'t> Model for Procs<'t> {
     ghost use Rattle.std.specs.Prelude.{List};
+    ghost use Rattle.std.specs.Coded.{codes};
+    ghost use Rattle.setl_tree.specs.contracts.stmt.Stmt as stmt;
     ghost use Rattle.setl_tree.specs.declared.tree.Proc.{Proc as TreeProc};
     ghost use Rattle.setl_names.specs.Tables.{Finds};
 
     ghost Value = { List TreeProc };
 
+    ghost coded = { Prim.hlevel (codes, stmt.the_row.coded) };
+
     ghost view = { λ p. p.procs.now };
 
-    ghost invariant = { λ p. Finds p.params p.procs.now };
+    ghost invariant = { λ p. Finds p.params (λ r. r.now) p.procs.now };
 }
 
 impl<'t> Procs<'t> {
     /// The table of some procedures. Of two of one name the first counts.
+    #[tactic(auto, using(crate::proofs::Tables::finds_none, crate::proofs::Tables::finds_next))]
     pub fn new(alloc: Global, procs: &'t [Proc]) -> Result<Procs<'t>, AllocError>
         ensures { IfOk result (λ p. p ≡ procs.now) }
     {

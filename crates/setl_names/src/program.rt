@@ -40,8 +40,7 @@ fn resolve_body(
     body: BodyParts<'_>,
     found: &mut Found,
 ) -> Result<(), AllocError>
-    ensures {
-        let whole = record { name = body.entry.name.now; params = body.entry.params.now; statements = body.entry.statements.now; in_procedure = body.entry.in_procedure } in
+    ensures { let whole = record { name = body.entry.name.now; params = body.entry.params.now; statements = body.entry.statements.now; in_procedure = body.entry.in_procedure } in
         OnOk result (found.new ≡ with_body procs.now vars.now whole found.old) }
 {
     let around = Around {
@@ -112,6 +111,7 @@ fn resolve_all(alloc: Global, tree: &Tree) -> Result<Found, AllocError>
 /// It gives the names of each body, the main program first, then the procedures in their order. Where a rule of 1 to 18
 /// is broken, the error is `Broken` with the first break by line, and of one line that of the lowest number.
 /// `NoMemory` is want of memory.
+#[tactic(auto, using(crate::proofs::Whole::resolved_ok, crate::proofs::Whole::resolved_err))]
 pub fn resolve(alloc: Global, tree: &Tree) -> Result<Items<BodyNames>, RuleFault>
     ensures { Resolves tree.now result }
 {

@@ -54,7 +54,12 @@ fn add_store<'t>(stores: &mut Stores<'t>, argument: &Argument<'t>) -> Result<(),
 }
 
 /// The arguments for the `wr` and `rw` parameters.
-fn find_stores<'t>(alloc: Global, params: &[Param], arguments: &[Argument<'t>]) -> Result<Stores<'t>, AllocError>
+#[tactic(auto, using(crate::proofs::Calls::stores_end, crate::proofs::Calls::stores_next, crate::proofs::Calls::stores_skip))]
+fn find_stores<'t>(
+    alloc: Global,
+    params: &[Param],
+    arguments: &[Argument<'t>],
+) -> Result<Stores<'t>, AllocError>
     ensures { IfOk result (λ s. s ≡ stores_of (rules.stored params.now arguments.now)) }
 {
     let mut all = Stores {
@@ -109,6 +114,7 @@ fn applied_break(
 }
 
 /// The first break so far and of one thing that stands in a statement.
+#[tactic(auto, using(crate::proofs::Calls::applied_as))]
 fn occurrence_break(
     alloc: Global,
     first: Option<Break>,
@@ -120,7 +126,14 @@ fn occurrence_break(
     let line = occurrence.line;
     match &occurrence.what {
         What::Name(name, _) => Ok(noted_if(first, line, 9, procs.has(name.text().bytes()))),
-        What::Applied(name, _, arguments) => applied_break(alloc, first, line, procs, name.text(), arguments.as_slice()),
+        What::Applied(name, _, arguments) => applied_break(
+            alloc,
+            first,
+            line,
+            procs,
+            name.text(),
+            arguments.as_slice(),
+        ),
         What::CallStatement(name) => Ok(noted_if(first, line, 12, !procs.has(name.text().bytes()))),
         What::EmptyList => Ok(noted(first, line, 12)),
         What::Bound(names) => Ok(noted_if(first, line, 15, has_repeat(alloc, names.as_slice())?)),

@@ -15,7 +15,12 @@ use setl_tree::{Expr, Items, Iter, Place, Slot, Text};
 use std::alloc::{AllocError, Global};
 
 /// What stands in an expression of a statement.
-pub fn expression<'t>(x: &'t Expr, line: u32, alloc: Global, found: &mut Items<Occurrence<'t>>) -> Result<(), AllocError>
+pub fn expression<'t>(
+    x: &'t Expr,
+    line: u32,
+    alloc: Global,
+    found: &mut Items<Occurrence<'t>>,
+) -> Result<(), AllocError>
     ensures { OnOk result (found.new ≡ found.old ++ standing_in x.now (in_statement line)) }
 {
     let mut scope = Scope::new(alloc);
@@ -51,7 +56,12 @@ pub fn expressions<'t>(
 }
 
 /// What stands in a place that is stored to.
-pub fn target<'t>(x: &'t Place, line: u32, alloc: Global, found: &mut Items<Occurrence<'t>>) -> Result<(), AllocError>
+pub fn target<'t>(
+    x: &'t Place,
+    line: u32,
+    alloc: Global,
+    found: &mut Items<Occurrence<'t>>,
+) -> Result<(), AllocError>
     ensures { OnOk result (found.new ≡ found.old ++ told.target x.now (in_statement line)) }
 {
     let mut scope = Scope::new(alloc);
@@ -127,7 +137,12 @@ pub fn ordinary_turns<'t>(
 }
 
 /// Notes the names of a `read`.
-pub fn texts<'t>(names: &'t [Text], line: u32, alloc: Global, found: &mut Items<Occurrence<'t>>) -> Result<(), AllocError>
+pub fn texts<'t>(
+    names: &'t [Text],
+    line: u32,
+    alloc: Global,
+    found: &mut Items<Occurrence<'t>>,
+) -> Result<(), AllocError>
     ensures { OnOk result (found.new ≡ found.old ++ spec.all_named names.now (in_statement line)) }
 {
     let scope = Scope::new(alloc);

@@ -7,7 +7,10 @@ ghost use Rattle.setl_names.specs.Statements.{stmt_told, kind_told, branch_told}
 
 use crate::around::Around;
 use crate::occurrence::{Occurrence, What};
-use crate::simple::{call, expression, expressions, optional_expression, ordinary_turns, take, target, texts, tuple_target};
+use crate::simple::{
+    call, expression, expressions, optional_expression, ordinary_turns, take, target, texts,
+    tuple_target,
+};
 use setl_tree::{Branch, Items, Stmt, StmtKind};
 use std::alloc::{AllocError, Global};
 

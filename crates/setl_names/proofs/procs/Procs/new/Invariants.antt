@@ -8,5 +8,5 @@ decreases-loop-at l = l.at
 abbrev pub invariant-loop-at : goal.invariant-loop-at
 invariant-loop-at l = record {
   within : l.at ≤ length l.procs;
-  finds : Finds l.params (drop l.at l.procs);
+  finds : Finds l.params (λ r. r.now) (drop l.at l.procs);
 }
