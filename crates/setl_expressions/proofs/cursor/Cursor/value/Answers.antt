@@ -1,0 +1,29 @@
+use Rattle.std.proofs.Common.{refl}
+use Rattle.setl_expressions.specs.Plain.{plain_token}
+use Rattle.setl_expressions.proofs.Plain.{token_at}
+use Rattle.setl_expressions.proofs.cursor.Cursor.value.Goals as goal
+
+pub returns-in-Number : goal.returns-in-Number
+unfolding plain_token
+returns-in-Number c =
+    rw (← c.self.view_is, token_at c.self.inside.list.now c.self.inside.at c.at.result.now c.at.ensures.value, c.in-Number.is) refl
+
+pub returns-in-Name : goal.returns-in-Name
+unfolding plain_token
+returns-in-Name c =
+    rw (← c.self.view_is, token_at c.self.inside.list.now c.self.inside.at c.at.result.now c.at.ensures.value, c.in-Name.is) refl
+
+pub returns-in-Str : goal.returns-in-Str
+unfolding plain_token
+returns-in-Str c =
+    rw (← c.self.view_is, token_at c.self.inside.list.now c.self.inside.at c.at.result.now c.at.ensures.value, c.in-Str.is) refl
+
+pub returns-in-Word : goal.returns-in-Word
+unfolding plain_token
+returns-in-Word c =
+    rw (← c.self.view_is, token_at c.self.inside.list.now c.self.inside.at c.at.result.now c.at.ensures.value, c.in-Word.is) refl
+
+pub returns-in-Sign : goal.returns-in-Sign
+unfolding plain_token
+returns-in-Sign c =
+    rw (← c.self.view_is, token_at c.self.inside.list.now c.self.inside.at c.at.result.now c.at.ensures.value, c.in-Sign.is) refl

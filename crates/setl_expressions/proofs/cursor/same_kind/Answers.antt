@@ -1,0 +1,7 @@
+use Rattle.std.proofs.Common.{rules}
+use Rattle.setl_grammar.specs.Reading.{same_kind}
+use Rattle.setl_expressions.proofs.cursor.same_kind.Goals as goal
+
+pub returns : goal.returns
+unfolding same_kind
+returns c = search rules

@@ -1,0 +1,164 @@
+//! Prefixes and levels of operators.
+
+ghost use Rattle.std.specs.Prelude.{◌≡◌};
+ghost use Rattle.setl_grammar.specs.Reading.{Reads};
+ghost use Rattle.setl_grammar.specs.ReadExpressions as spec;
+
+use crate::cursor::{Cursor, same_kind};
+use crate::operators::{chain_of, fold_sign, not_sign, op_at, prefix_op};
+use crate::rule::{Repeated, Rule, many};
+use setl_grammar::Fault;
+use setl_tree::{BinaryOp, Expr, Kind, Prefix};
+
+/// An operator of a level and its right operand.
+#[derive(Drop)]
+struct Operand<'r, R> {
+    level: u8,
+    item: &'r R,
+}
+
+impl<'r, R: Rule<Out = Expr>> Rule for Operand<'r, R> {
+    type Out = (BinaryOp, Expr);
+
+    ghost use Rattle.setl_grammar.specs.ReadExpressions.{operand};
+
+    ghost can_read = { λ s. R.can_read s.item.now };
+
+    ghost reader = { λ s. operand s.level (R.reader s.item.now) };
+
+    #[tactic(auto, unfolding(setl_grammar::specs::Reading::one_of))]
+    fn read(&self, tokens: &mut Cursor<'_>) -> Result<(BinaryOp, Expr), Fault> {
+        let Some(op) = op_at(self.level, tokens.kind()) else {
+            return Err(tokens.refuse());
+        };
+        tokens.pass();
+        let right = self.item.read(tokens)?;
+        Ok((op, right))
+    }
+}
+
+impl<'r, R: Rule<Out = Expr>> Repeated for Operand<'r, R> {
+    ghost use Rattle.setl_tree.specs.Operators.{op_at};
+    ghost use Rattle.setl_grammar.specs.Reading.{begins_as};
+
+    ghost begins_with = { λ s. begins_as (op_at s.level) };
+
+    fn begins(&self, kind: Kind) -> bool {
+        op_at(self.level, kind).is_some()
+    }
+}
+
+/// What goes on from the first operand of a level.
+#[tactic(auto, unfolding(setl_grammar::specs::ReadExpressions::operands))]
+pub fn chain_from<R: Rule<Out = Expr>>(level: u8, item: &R, first: Expr, tokens: &mut Cursor<'_>) -> Result<Expr, Fault>
+    requires { R.can_read item.now }
+    ensures { Reads (spec.chain_from level (R.reader item.now) first tokens.old) result tokens.new }
+{
+    let others = many(&Operand { level, item }, tokens)?;
+    Ok(chain_of(tokens.alloc(), first, others)?)
+}
+
+/// A level of operators that group to the left.
+#[derive(Drop)]
+pub struct Chain<R> {
+    pub level: u8,
+    pub item: R,
+}
+
+impl<R: Rule<Out = Expr>> Rule for Chain<R> {
+    type Out = Expr;
+
+    ghost use Rattle.setl_grammar.specs.ReadExpressions.{chain};
+
+    ghost can_read = { λ s. R.can_read s.item };
+
+    ghost reader = { λ s. chain s.level (R.reader s.item) };
+
+    fn read(&self, tokens: &mut Cursor<'_>) -> Result<Expr, Fault> {
+        let first = self.item.read(tokens)?;
+        chain_from(self.level, &self.item, first, tokens)
+    }
+}
+
+/// Reads the sign of a fold and the `/` behind it.
+#[tactic(auto, unfolding(setl_grammar::specs::ReadExpressions::fold, setl_grammar::specs::Reading::one_of))]
+fn fold(tokens: &mut Cursor<'_>) -> Result<Prefix, Fault>
+    ensures { Reads (spec.fold tokens.old) result tokens.new }
+{
+    let Some(sign) = fold_sign(tokens.kind()) else {
+        return Err(tokens.refuse());
+    };
+    tokens.pass();
+    tokens.expect(Kind::Slash)?;
+    Ok(Prefix::Folded(sign))
+}
+
+/// A prefix that binds tighter than every binary operator.
+pub struct PrefixRule;
+
+impl Rule for PrefixRule {
+    type Out = Prefix;
+
+    ghost use Rattle.setl_grammar.specs.ReadExpressions.{prefix};
+
+    ghost can_read = { λ s. Unit {0} };
+
+    ghost reader = { λ s. prefix };
+
+    #[tactic(auto, unfolding(setl_grammar::specs::ReadExpressions::prefix, setl_grammar::specs::Reading::one_of))]
+    fn read(&self, tokens: &mut Cursor<'_>) -> Result<Prefix, Fault> {
+        if fold_sign(tokens.kind()).is_some() {
+            return fold(tokens);
+        }
+        let Some(op) = prefix_op(tokens.kind()) else {
+            return Err(tokens.refuse());
+        };
+        tokens.pass();
+        Ok(op)
+    }
+}
+
+impl Repeated for PrefixRule {
+    ghost use Rattle.setl_grammar.specs.ReadExpressions.{begins_prefix};
+
+    ghost begins_with = { λ s. begins_prefix };
+
+    #[tactic(auto, unfolding(setl_grammar::specs::ReadExpressions::begins_prefix))]
+    fn begins(&self, kind: Kind) -> bool {
+        fold_sign(kind).is_some() || prefix_op(kind).is_some()
+    }
+}
+
+/// The prefix `not`.
+pub struct NotRule;
+
+impl Rule for NotRule {
+    type Out = Prefix;
+
+    ghost use Rattle.setl_tree.specs.Operators.{not_sign};
+    ghost use Rattle.setl_grammar.specs.Reading.{one_of};
+
+    ghost can_read = { λ s. Unit {0} };
+
+    ghost reader = { λ s. one_of not_sign };
+
+    #[tactic(auto, unfolding(setl_grammar::specs::Reading::one_of))]
+    fn read(&self, tokens: &mut Cursor<'_>) -> Result<Prefix, Fault> {
+        let Some(sign) = not_sign(tokens.kind()) else {
+            return Err(tokens.refuse());
+        };
+        tokens.pass();
+        Ok(sign)
+    }
+}
+
+impl Repeated for NotRule {
+    ghost use Rattle.setl_tree.specs.Operators.{not_sign};
+    ghost use Rattle.setl_grammar.specs.Reading.{begins_as};
+
+    ghost begins_with = { λ s. begins_as not_sign };
+
+    fn begins(&self, kind: Kind) -> bool {
+        not_sign(kind).is_some()
+    }
+}

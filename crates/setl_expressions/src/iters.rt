@@ -1,0 +1,134 @@
+//! What iterators bind, and iterators.
+
+ghost use Rattle.std.specs.Prelude.{◌≡◌, ◌-◌};
+ghost use Rattle.setl_grammar.specs.Reading.{Reads};
+ghost use Rattle.setl_grammar.specs.ReadExpressions as spec;
+ghost use Rattle.setl_grammar.specs.ReadExpressions.{nested};
+ghost use Rattle.setl_expressions.specs.Nests.{Nests};
+
+use crate::cursor::{Cursor, same_kind};
+use crate::grammar::{Grammar, Part};
+use crate::rule::{Rule, separated};
+use setl_grammar::Fault;
+use setl_tree::{Bound, Expr, Items, Iter, Kind, Slot, Text};
+
+/// A component of a tuple pattern.
+struct SlotRule;
+
+impl Rule for SlotRule {
+    type Out = Slot;
+
+    ghost use Rattle.setl_grammar.specs.ReadExpressions.{slot};
+
+    ghost can_read = { λ s. Unit {0} };
+
+    ghost reader = { λ s. slot };
+
+    #[tactic(auto, unfolding(setl_grammar::specs::ReadExpressions::slot))]
+    fn read(&self, tokens: &mut Cursor<'_>) -> Result<Slot, Fault> {
+        if same_kind(tokens.kind(), Kind::Name) {
+            return Ok(Slot::Name(tokens.name()?));
+        }
+        tokens.expect(Kind::Minus)?;
+        Ok(Slot::Skip)
+    }
+}
+
+/// A tuple pattern.
+#[tactic(auto, unfolding(setl_grammar::specs::ReadExpressions::pattern))]
+pub fn pattern(room: usize, tokens: &mut Cursor<'_>) -> Result<Items<Slot>, Fault>
+    ensures { Reads (spec.pattern room tokens.old) result tokens.new }
+{
+    tokens.open(room, Kind::LeftBracket)?;
+    let slots = separated(&SlotRule, tokens)?;
+    tokens.expect(Kind::RightBracket)?;
+    Ok(slots)
+}
+
+/// What an iterator binds.
+#[tactic(auto, unfolding(setl_grammar::specs::ReadExpressions::bound))]
+pub fn bound(room: usize, tokens: &mut Cursor<'_>) -> Result<Bound, Fault>
+    ensures { Reads (spec.bound room tokens.old) result tokens.new }
+{
+    if same_kind(tokens.kind(), Kind::Name) {
+        return Ok(Bound::Name(tokens.name()?));
+    }
+    Ok(Bound::Pattern(pattern(room, tokens)?))
+}
+
+/// The map and its argument behind `value =`.
+#[tactic(auto, unfolding(setl_grammar::specs::ReadExpressions::image))]
+fn image(room: usize, value: Text, tokens: &mut Cursor<'_>) -> Result<Iter, Fault>
+    ensures { Reads (spec.image room value tokens.old) result tokens.new }
+{
+    let map = tokens.name()?;
+    tokens.open(room, Kind::LeftParen)?;
+    let argument = tokens.name()?;
+    tokens.expect(Kind::RightParen)?;
+    Ok(Iter::Image(value, map, argument))
+}
+
+/// An iterator.
+#[derive(Drop)]
+struct IterRule<'g, F> {
+    grammar: &'g Grammar<F>,
+}
+
+impl<'g, F: Fn(&mut Cursor<'_>, usize, Part) -> Result<Expr, Fault>> Rule for IterRule<'g, F> {
+    type Out = Iter;
+
+    ghost use Rattle.std.specs.Prelude.{◌-◌};
+    ghost use Rattle.setl_grammar.specs.ReadExpressions.{nested, iter};
+    ghost use Rattle.setl_expressions.specs.Nests.{Nests};
+
+    ghost can_read = { λ s. Nests s.grammar.now.room (F.pre s.grammar.now.inside) (F.post s.grammar.now.inside) };
+
+    ghost reader = { λ s. iter (s.grammar.now.room - 1) (nested s.grammar.now.room).source };
+
+    #[tactic(auto, unfolding(setl_grammar::specs::ReadExpressions::iter))]
+    fn read(&self, tokens: &mut Cursor<'_>) -> Result<Iter, Fault> {
+        if same_kind(tokens.kind(), Kind::Name) {
+            let name = tokens.name()?;
+            return self.grammar.named_iter(name, tokens);
+        }
+        self.grammar.pattern_iter(tokens)
+    }
+}
+
+impl<F: Fn(&mut Cursor<'_>, usize, Part) -> Result<Expr, Fault>> Grammar<F> {
+    /// An iterator behind its name.
+    #[tactic(auto, unfolding(setl_grammar::specs::ReadExpressions::named_iter))]
+    fn named_iter(&self, name: Text, tokens: &mut Cursor<'_>) -> Result<Iter, Fault>
+        requires { Nests self.now.room (F.pre self.now.inside) (F.post self.now.inside) }
+        ensures { Reads (spec.named_iter (self.now.room - 1) (nested self.now.room).source name tokens.old) result tokens.new }
+    {
+        if same_kind(tokens.kind(), Kind::Equal) {
+            tokens.expect(Kind::Equal)?;
+            return image(self.room.saturating_sub(1), name, tokens);
+        }
+        tokens.expect(Kind::In)?;
+        let source = self.source(tokens)?;
+        Ok(Iter::Over(Bound::Name(name), source))
+    }
+
+    /// An iterator that binds the components of a pattern.
+    #[tactic(auto, unfolding(setl_grammar::specs::ReadExpressions::pattern_iter))]
+    fn pattern_iter(&self, tokens: &mut Cursor<'_>) -> Result<Iter, Fault>
+        requires { Nests self.now.room (F.pre self.now.inside) (F.post self.now.inside) }
+        ensures { Reads (spec.pattern_iter (self.now.room - 1) (nested self.now.room).source tokens.old) result tokens.new }
+    {
+        let slots = pattern(self.room.saturating_sub(1), tokens)?;
+        tokens.expect(Kind::In)?;
+        let source = self.source(tokens)?;
+        Ok(Iter::Over(Bound::Pattern(slots), source))
+    }
+
+    /// Iterators one nesting deeper, with commas between.
+    #[tactic(auto, unfolding(setl_grammar::specs::ReadExpressions::iters))]
+    pub fn iters(&self, tokens: &mut Cursor<'_>) -> Result<Items<Iter>, Fault>
+        requires { Nests self.now.room (F.pre self.now.inside) (F.post self.now.inside) }
+        ensures { Reads (spec.iters (self.now.room - 1) (nested self.now.room).source tokens.old) result tokens.new }
+    {
+        separated(&IterRule { grammar: self }, tokens)
+    }
+}

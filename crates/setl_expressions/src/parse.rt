@@ -1,0 +1,124 @@
+//! Expressions with at most so many nestings.
+
+ghost use Rattle.std.specs.Prelude.{◌-◌};
+ghost use Rattle.setl_grammar.specs.Reading.{Reads};
+ghost use Rattle.setl_grammar.specs.ReadExpressions as spec;
+ghost use Rattle.setl_expressions.specs.Nests.{reader_of};
+
+use crate::cursor::{Cursor, same_kind};
+use crate::grammar::{Grammar, Part};
+use crate::rule::{Repeated, Rule};
+use setl_grammar::Fault;
+use setl_tree::{Expr, Items, Iter, Kind, Selector};
+
+/// A part of expressions where so many nestings may still open around it.
+fn nested(tokens: &mut Cursor<'_>, room: usize, part: Part) -> Result<Expr, Fault>
+    ensures { Reads (reader_of (spec.nested room) part tokens.old) result tokens.new }
+{
+    if room == 0 {
+        return Err(tokens.refuse());
+    }
+    let grammar = Grammar {
+        room: room - 1,
+        inside: nested,
+    };
+    match part {
+        Part::Whole => grammar.whole(tokens),
+        Part::Source => grammar.e7(tokens),
+        Part::After(a) => grammar.after_comparison(a, tokens),
+    }
+}
+
+/// An expression with at most so many nestings inside one another.
+#[tactic(auto, unfolding(setl_grammar::specs::ReadExpressions::expr))]
+pub fn expr(room: usize, tokens: &mut Cursor<'_>) -> Result<Expr, Fault>
+    ensures { Reads (spec.expr room tokens.old) result tokens.new }
+{
+    Grammar {
+        room,
+        inside: nested,
+    }
+    .whole(tokens)
+}
+
+/// An expression one nesting deeper.
+pub fn nested_expr(room: usize, tokens: &mut Cursor<'_>) -> Result<Expr, Fault>
+    ensures { Reads ((spec.nested room).expr tokens.old) result tokens.new }
+{
+    nested(tokens, room, Part::Whole)
+}
+
+/// An expression one nesting deeper, as a rule.
+#[derive(Drop)]
+pub struct NestedExpr {
+    pub room: usize,
+}
+
+impl Rule for NestedExpr {
+    type Out = Expr;
+
+    ghost use Rattle.setl_grammar.specs.ReadExpressions.{nested};
+
+    ghost can_read = { λ s. Unit {0} };
+
+    ghost reader = { λ s. (nested s.room).expr };
+
+    fn read(&self, tokens: &mut Cursor<'_>) -> Result<Expr, Fault> {
+        nested_expr(self.room, tokens)
+    }
+}
+
+/// A condition behind a bar, as a rule.
+#[derive(Drop)]
+pub struct Condition {
+    pub room: usize,
+}
+
+impl Rule for Condition {
+    type Out = Expr;
+
+    ghost use Rattle.setl_grammar.specs.ReadExpressions.{nested, condition};
+
+    ghost can_read = { λ s. Unit {0} };
+
+    ghost reader = { λ s. condition s.room (nested s.room) };
+
+    #[tactic(auto, unfolding(setl_grammar::specs::ReadExpressions::condition))]
+    fn read(&self, tokens: &mut Cursor<'_>) -> Result<Expr, Fault> {
+        tokens.expect(Kind::Bar)?;
+        nested_expr(self.room, tokens)
+    }
+}
+
+impl Repeated for Condition {
+    ghost use Rattle.setl_tree.specs.declared.kind.Kind.TheVariants as k;
+    ghost use Rattle.setl_grammar.specs.Reading.{is};
+
+    ghost begins_with = { λ s. is k.Bar };
+
+    fn begins(&self, kind: Kind) -> bool {
+        same_kind(kind, Kind::Bar)
+    }
+}
+
+/// Iterators one nesting deeper, with commas between.
+pub fn iters(room: usize, tokens: &mut Cursor<'_>) -> Result<Items<Iter>, Fault>
+    ensures { Reads (spec.iters (room - 1) (spec.nested room).source tokens.old) result tokens.new }
+{
+    Grammar {
+        room,
+        inside: nested,
+    }
+    .iters(tokens)
+}
+
+/// Expressions in braces.
+pub fn braces(room: usize, tokens: &mut Cursor<'_>) -> Result<Selector, Fault>
+    ensures { Reads (spec.braces room (spec.nested room) tokens.old) result tokens.new }
+{
+    Grammar {
+        room,
+        inside: nested,
+    }
+    .braces(tokens)
+}

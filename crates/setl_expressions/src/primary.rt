@@ -1,0 +1,417 @@
+//! Selectors, primary expressions and whole expressions.
+
+ghost use Rattle.std.specs.Prelude.{◌≡◌, ◌-◌, IfOk};
+ghost use Rattle.setl_tree.specs.declared.kind.Kind.TheVariants as k;
+ghost use Rattle.setl_tree.specs.Operators.{quantifier};
+ghost use Rattle.setl_grammar.specs.Reading.{Reads, opening_one_of};
+ghost use Rattle.setl_grammar.specs.ReadExpressions as spec;
+ghost use Rattle.setl_grammar.specs.ReadExpressions.{nested};
+ghost use Rattle.setl_expressions.specs.Nests.{Nests};
+
+use crate::chain::{Chain, NotRule, PrefixRule, chain_from};
+use crate::cursor::{Cursor, same_kind};
+use crate::grammar::{Grammar, Part};
+use crate::inner::ExprRule;
+use crate::operators::{constant, prefixed, quantifier, relation_op, selected};
+use crate::rule::{Repeated, Rule, many, more, separated, with_first};
+use setl_grammar::Fault;
+use setl_tree::{Boxed, Expr, Items, Kind, Quantifier, Relation, Selector};
+use std::alloc::{AllocError, Global};
+
+/// The signs that open a selector.
+#[tactic(auto, unfolding(setl_grammar::specs::ReadExpressions::begins_selector))]
+pub fn begins_selector(kind: Kind) -> bool
+    ensures { result ≡ spec.begins_selector kind }
+{
+    matches!(kind, Kind::LeftParen | Kind::LeftBrace)
+}
+
+/// The word of a quantifier, where so many nestings may still open and it opens one.
+#[tactic(auto, unfolding(setl_grammar::specs::Reading::opening_one_of))]
+fn open_quantifier(room: usize, tokens: &mut Cursor<'_>) -> Result<Quantifier, Fault>
+    ensures { Reads (opening_one_of room quantifier tokens.old) result tokens.new }
+{
+    let Some(word) = quantifier(tokens.kind()) else {
+        return Err(tokens.refuse());
+    };
+    if room == 0 {
+        return Err(Fault::Nesting(tokens.left()));
+    }
+    tokens.pass();
+    Ok(word)
+}
+
+/// A comparison.
+fn compare(alloc: Global, a: Expr, op: Relation, b: Expr) -> Result<Expr, AllocError>
+    ensures { IfOk result (λ e. e ≡ Expr.Compare a op b) }
+{
+    Ok(Expr::Compare(Boxed::new(alloc, a)?, op, Boxed::new(alloc, b)?))
+}
+
+/// A selector.
+#[derive(Drop)]
+struct SelectorRule<'g, F> {
+    grammar: &'g Grammar<F>,
+}
+
+impl<'g, F: Fn(&mut Cursor<'_>, usize, Part) -> Result<Expr, Fault>> Rule for SelectorRule<'g, F> {
+    type Out = Selector;
+
+    ghost use Rattle.std.specs.Prelude.{◌-◌};
+    ghost use Rattle.setl_grammar.specs.ReadExpressions.{nested, selector};
+    ghost use Rattle.setl_expressions.specs.Nests.{Nests};
+
+    ghost can_read = { λ s. Nests s.grammar.now.room (F.pre s.grammar.now.inside) (F.post s.grammar.now.inside) };
+
+    ghost reader = { λ s. selector s.grammar.now.room (nested s.grammar.now.room) };
+
+    fn read(&self, tokens: &mut Cursor<'_>) -> Result<Selector, Fault> {
+        self.grammar.selector(tokens)
+    }
+}
+
+impl<'g, F: Fn(&mut Cursor<'_>, usize, Part) -> Result<Expr, Fault>> Repeated for SelectorRule<'g, F> {
+    ghost use Rattle.setl_grammar.specs.ReadExpressions.{begins_selector};
+
+    ghost begins_with = { λ s. begins_selector };
+
+    fn begins(&self, kind: Kind) -> bool {
+        begins_selector(kind)
+    }
+}
+
+/// An operand with its prefixes.
+#[derive(Drop)]
+struct PrefixedRule<'g, F> {
+    grammar: &'g Grammar<F>,
+}
+
+impl<'g, F: Fn(&mut Cursor<'_>, usize, Part) -> Result<Expr, Fault>> Rule for PrefixedRule<'g, F> {
+    type Out = Expr;
+
+    ghost use Rattle.std.specs.Prelude.{◌-◌};
+    ghost use Rattle.setl_grammar.specs.ReadExpressions.{nested, e11};
+    ghost use Rattle.setl_expressions.specs.Nests.{Nests};
+
+    ghost can_read = { λ s. Nests s.grammar.now.room (F.pre s.grammar.now.inside) (F.post s.grammar.now.inside) };
+
+    ghost reader = { λ s. e11 s.grammar.now.room (nested s.grammar.now.room) };
+
+    fn read(&self, tokens: &mut Cursor<'_>) -> Result<Expr, Fault> {
+        self.grammar.e11(tokens)
+    }
+}
+
+/// A comparison with its prefixes `not`.
+#[derive(Drop)]
+struct ComparedRule<'g, F> {
+    grammar: &'g Grammar<F>,
+}
+
+impl<'g, F: Fn(&mut Cursor<'_>, usize, Part) -> Result<Expr, Fault>> Rule for ComparedRule<'g, F> {
+    type Out = Expr;
+
+    ghost use Rattle.std.specs.Prelude.{◌-◌};
+    ghost use Rattle.setl_grammar.specs.ReadExpressions.{nested, e5};
+    ghost use Rattle.setl_expressions.specs.Nests.{Nests};
+
+    ghost can_read = { λ s. Nests s.grammar.now.room (F.pre s.grammar.now.inside) (F.post s.grammar.now.inside) };
+
+    ghost reader = { λ s. e5 s.grammar.now.room (nested s.grammar.now.room) };
+
+    fn read(&self, tokens: &mut Cursor<'_>) -> Result<Expr, Fault> {
+        self.grammar.e5(tokens)
+    }
+}
+
+impl<F: Fn(&mut Cursor<'_>, usize, Part) -> Result<Expr, Fault>> Grammar<F> {
+    /// A slice behind `( expr ..`.
+    #[tactic(auto, unfolding(setl_grammar::specs::ReadExpressions::slice))]
+    fn slice(&self, from: Expr, tokens: &mut Cursor<'_>) -> Result<Selector, Fault>
+        requires { Nests self.now.room (F.pre self.now.inside) (F.post self.now.inside) }
+        ensures { Reads (spec.slice self.now.room (nested self.now.room) from tokens.old) result tokens.new }
+    {
+        if same_kind(tokens.kind(), Kind::RightParen) {
+            tokens.expect(Kind::RightParen)?;
+            return Ok(Selector::Slice(Boxed::new(tokens.alloc(), from)?, None));
+        }
+        let to = self.boxed(tokens)?;
+        tokens.expect(Kind::RightParen)?;
+        Ok(Selector::Slice(Boxed::new(tokens.alloc(), from)?, Some(to)))
+    }
+
+    /// What stands behind `( expr`.
+    #[tactic(auto, unfolding(setl_grammar::specs::ReadExpressions::arguments))]
+    fn arguments(&self, first: Expr, tokens: &mut Cursor<'_>) -> Result<Selector, Fault>
+        requires { Nests self.now.room (F.pre self.now.inside) (F.post self.now.inside) }
+        ensures { Reads (spec.arguments self.now.room (nested self.now.room) first tokens.old) result tokens.new }
+    {
+        if same_kind(tokens.kind(), Kind::Dots) {
+            tokens.expect(Kind::Dots)?;
+            return self.slice(first, tokens);
+        }
+        let others = more(&ExprRule { grammar: self }, tokens)?;
+        tokens.expect(Kind::RightParen)?;
+        Ok(Selector::Round(with_first(tokens.alloc(), first, others)?))
+    }
+
+    /// What stands behind `(`.
+    #[tactic(auto, unfolding(setl_grammar::specs::ReadExpressions::round))]
+    fn round(&self, tokens: &mut Cursor<'_>) -> Result<Selector, Fault>
+        requires { Nests self.now.room (F.pre self.now.inside) (F.post self.now.inside) }
+        ensures { Reads (spec.round self.now.room (nested self.now.room) tokens.old) result tokens.new }
+    {
+        if same_kind(tokens.kind(), Kind::RightParen) {
+            tokens.expect(Kind::RightParen)?;
+            return Ok(Selector::Round(Items::new(tokens.alloc())));
+        }
+        let first = self.expr(tokens)?;
+        self.arguments(first, tokens)
+    }
+
+    /// `{x, ..}` behind a primary expression.
+    #[tactic(auto, unfolding(setl_grammar::specs::ReadExpressions::braces))]
+    pub fn braces(&self, tokens: &mut Cursor<'_>) -> Result<Selector, Fault>
+        requires { Nests self.now.room (F.pre self.now.inside) (F.post self.now.inside) }
+        ensures { Reads (spec.braces self.now.room (nested self.now.room) tokens.old) result tokens.new }
+    {
+        tokens.open(self.room, Kind::LeftBrace)?;
+        let all = separated(&ExprRule { grammar: self }, tokens)?;
+        tokens.expect(Kind::RightBrace)?;
+        Ok(Selector::Braces(all))
+    }
+
+    /// A selector.
+    #[tactic(auto, unfolding(setl_grammar::specs::ReadExpressions::selector))]
+    fn selector(&self, tokens: &mut Cursor<'_>) -> Result<Selector, Fault>
+        requires { Nests self.now.room (F.pre self.now.inside) (F.post self.now.inside) }
+        ensures { Reads (spec.selector self.now.room (nested self.now.room) tokens.old) result tokens.new }
+    {
+        if same_kind(tokens.kind(), Kind::LeftParen) {
+            tokens.open(self.room, Kind::LeftParen)?;
+            return self.round(tokens);
+        }
+        self.braces(tokens)
+    }
+
+    /// An expression in round brackets.
+    #[tactic(auto, unfolding(setl_grammar::specs::ReadExpressions::parenthesized))]
+    fn parenthesized(&self, tokens: &mut Cursor<'_>) -> Result<Expr, Fault>
+        requires { Nests self.now.room (F.pre self.now.inside) (F.post self.now.inside) }
+        ensures { Reads (spec.parenthesized self.now.room (nested self.now.room) tokens.old) result tokens.new }
+    {
+        tokens.open(self.room, Kind::LeftParen)?;
+        let x = self.expr(tokens)?;
+        tokens.expect(Kind::RightParen)?;
+        Ok(x)
+    }
+
+    /// `if condition then value else other end`
+    #[tactic(auto, unfolding(setl_grammar::specs::ReadExpressions::if_expr))]
+    fn if_expr(&self, tokens: &mut Cursor<'_>) -> Result<Expr, Fault>
+        requires { Nests self.now.room (F.pre self.now.inside) (F.post self.now.inside) }
+        ensures { Reads (spec.if_expr self.now.room (nested self.now.room) tokens.old) result tokens.new }
+    {
+        tokens.open(self.room, Kind::If)?;
+        let condition = self.boxed(tokens)?;
+        tokens.expect(Kind::Then)?;
+        let value = self.boxed(tokens)?;
+        tokens.expect(Kind::Else)?;
+        let other = self.boxed(tokens)?;
+        tokens.expect(Kind::End)?;
+        Ok(Expr::If(condition, value, other))
+    }
+
+    /// A set in its brackets.
+    #[tactic(auto, unfolding(setl_grammar::specs::ReadExpressions::set))]
+    fn set(&self, tokens: &mut Cursor<'_>) -> Result<Expr, Fault>
+        requires { Nests self.now.room (F.pre self.now.inside) (F.post self.now.inside) }
+        ensures { Reads (spec.set self.now.room (nested self.now.room) tokens.old) result tokens.new }
+    {
+        tokens.open(self.room, Kind::LeftBrace)?;
+        let inner = self.inner(tokens)?;
+        tokens.expect(Kind::RightBrace)?;
+        Ok(Expr::Set(inner))
+    }
+
+    /// A tuple in its brackets.
+    #[tactic(auto, unfolding(setl_grammar::specs::ReadExpressions::tuple))]
+    fn tuple(&self, tokens: &mut Cursor<'_>) -> Result<Expr, Fault>
+        requires { Nests self.now.room (F.pre self.now.inside) (F.post self.now.inside) }
+        ensures { Reads (spec.tuple self.now.room (nested self.now.room) tokens.old) result tokens.new }
+    {
+        tokens.open(self.room, Kind::LeftBracket)?;
+        let inner = self.inner(tokens)?;
+        tokens.expect(Kind::RightBracket)?;
+        Ok(Expr::Tuple(inner))
+    }
+
+    /// A number.
+    fn number(&self, tokens: &mut Cursor<'_>) -> Result<Expr, Fault>
+        requires { Nests self.now.room (F.pre self.now.inside) (F.post self.now.inside) }
+        ensures { Reads (spec.primary_by self.now.room (nested self.now.room) k.Number tokens.old) result tokens.new }
+    {
+        let value = tokens.value();
+        tokens.expect(Kind::Number)?;
+        Ok(Expr::Number(value))
+    }
+
+    /// A string.
+    fn string(&self, tokens: &mut Cursor<'_>) -> Result<Expr, Fault>
+        requires { Nests self.now.room (F.pre self.now.inside) (F.post self.now.inside) }
+        ensures { Reads (spec.primary_by self.now.room (nested self.now.room) k.StringLiteral tokens.old) result tokens.new }
+    {
+        let text = tokens.text()?;
+        tokens.expect(Kind::StringLiteral)?;
+        Ok(Expr::Text(text))
+    }
+
+    /// A name.
+    fn name(&self, tokens: &mut Cursor<'_>) -> Result<Expr, Fault>
+        requires { Nests self.now.room (F.pre self.now.inside) (F.post self.now.inside) }
+        ensures { Reads (spec.primary_by self.now.room (nested self.now.room) k.Name tokens.old) result tokens.new }
+    {
+        Ok(Expr::Name(tokens.name()?))
+    }
+
+    /// A primary expression.
+    #[tactic(auto, unfolding(setl_grammar::specs::ReadExpressions::primary, setl_grammar::specs::Reading::one_of))]
+    fn primary(&self, tokens: &mut Cursor<'_>) -> Result<Expr, Fault>
+        requires { Nests self.now.room (F.pre self.now.inside) (F.post self.now.inside) }
+        ensures { Reads (spec.primary self.now.room (nested self.now.room) tokens.old) result tokens.new }
+    {
+        match tokens.kind() {
+            Kind::Number => self.number(tokens),
+            Kind::StringLiteral => self.string(tokens),
+            Kind::Name => self.name(tokens),
+            Kind::LeftParen => self.parenthesized(tokens),
+            Kind::If => self.if_expr(tokens),
+            Kind::LeftBrace => self.set(tokens),
+            Kind::LeftBracket => self.tuple(tokens),
+            kind => {
+                let Some(word) = constant(kind) else {
+                    return Err(tokens.refuse());
+                };
+                tokens.pass();
+                Ok(word)
+            }
+        }
+    }
+
+    /// A primary expression with its selectors.
+    #[tactic(auto, unfolding(setl_grammar::specs::ReadExpressions::e12, setl_grammar::specs::ReadExpressions::selectors))]
+    fn e12(&self, tokens: &mut Cursor<'_>) -> Result<Expr, Fault>
+        requires { Nests self.now.room (F.pre self.now.inside) (F.post self.now.inside) }
+        ensures { Reads (spec.e12 self.now.room (nested self.now.room) tokens.old) result tokens.new }
+    {
+        let primary = self.primary(tokens)?;
+        let selectors = many(&SelectorRule { grammar: self }, tokens)?;
+        Ok(selected(tokens.alloc(), primary, selectors)?)
+    }
+
+    /// An operand with its prefixes.
+    #[tactic(auto, unfolding(setl_grammar::specs::ReadExpressions::e11, setl_grammar::specs::ReadExpressions::prefixes))]
+    fn e11(&self, tokens: &mut Cursor<'_>) -> Result<Expr, Fault>
+        requires { Nests self.now.room (F.pre self.now.inside) (F.post self.now.inside) }
+        ensures { Reads (spec.e11 self.now.room (nested self.now.room) tokens.old) result tokens.new }
+    {
+        let prefixes = many(&PrefixRule, tokens)?;
+        let operand = self.e12(tokens)?;
+        Ok(prefixed(tokens.alloc(), prefixes, operand)?)
+    }
+
+    /// What comparisons compare.
+    #[tactic(auto, unfolding(setl_grammar::specs::ReadExpressions::e7))]
+    pub fn e7(&self, tokens: &mut Cursor<'_>) -> Result<Expr, Fault>
+        requires { Nests self.now.room (F.pre self.now.inside) (F.post self.now.inside) }
+        ensures { Reads (spec.e7 self.now.room (nested self.now.room) tokens.old) result tokens.new }
+    {
+        let power = Chain { level: 10, item: PrefixedRule { grammar: self } };
+        let product = Chain { level: 9, item: power };
+        let sum = Chain { level: 8, item: product };
+        Chain { level: 7, item: sum }.read(tokens)
+    }
+
+    /// What goes on from the left side of a comparison.
+    #[tactic(auto, unfolding(setl_grammar::specs::ReadExpressions::compared, setl_grammar::specs::Reading::one_of))]
+    fn compared(&self, a: Expr, tokens: &mut Cursor<'_>) -> Result<Expr, Fault>
+        requires { Nests self.now.room (F.pre self.now.inside) (F.post self.now.inside) }
+        ensures { Reads (spec.compared self.now.room (nested self.now.room) a tokens.old) result tokens.new }
+    {
+        let Some(op) = relation_op(tokens.kind()) else {
+            return Ok(a);
+        };
+        tokens.pass();
+        let b = self.e7(tokens)?;
+        Ok(compare(tokens.alloc(), a, op, b)?)
+    }
+
+    /// A comparison, or what comparisons compare.
+    #[tactic(auto, unfolding(setl_grammar::specs::ReadExpressions::e6))]
+    fn e6(&self, tokens: &mut Cursor<'_>) -> Result<Expr, Fault>
+        requires { Nests self.now.room (F.pre self.now.inside) (F.post self.now.inside) }
+        ensures { Reads (spec.e6 self.now.room (nested self.now.room) tokens.old) result tokens.new }
+    {
+        let a = self.e7(tokens)?;
+        self.compared(a, tokens)
+    }
+
+    /// A comparison with its prefixes `not`.
+    #[tactic(auto, unfolding(setl_grammar::specs::ReadExpressions::e5, setl_grammar::specs::ReadExpressions::nots))]
+    fn e5(&self, tokens: &mut Cursor<'_>) -> Result<Expr, Fault>
+        requires { Nests self.now.room (F.pre self.now.inside) (F.post self.now.inside) }
+        ensures { Reads (spec.e5 self.now.room (nested self.now.room) tokens.old) result tokens.new }
+    {
+        let nots = many(&NotRule, tokens)?;
+        let operand = self.e6(tokens)?;
+        Ok(prefixed(tokens.alloc(), nots, operand)?)
+    }
+
+    /// An expression that is no quantifier.
+    #[tactic(auto, unfolding(setl_grammar::specs::ReadExpressions::e2))]
+    fn e2(&self, tokens: &mut Cursor<'_>) -> Result<Expr, Fault>
+        requires { Nests self.now.room (F.pre self.now.inside) (F.post self.now.inside) }
+        ensures { Reads (spec.e2 self.now.room (nested self.now.room) tokens.old) result tokens.new }
+    {
+        let both = Chain { level: 4, item: ComparedRule { grammar: self } };
+        let one = Chain { level: 3, item: both };
+        Chain { level: 2, item: one }.read(tokens)
+    }
+
+    /// What goes on from an operand of `and`.
+    #[tactic(auto, unfolding(setl_grammar::specs::ReadExpressions::after))]
+    pub fn after_comparison(&self, a: Expr, tokens: &mut Cursor<'_>) -> Result<Expr, Fault>
+        requires { Nests self.now.room (F.pre self.now.inside) (F.post self.now.inside) }
+        ensures { Reads (spec.after self.now.room (nested self.now.room) a tokens.old) result tokens.new }
+    {
+        let a = chain_from(4, &ComparedRule { grammar: self }, a, tokens)?;
+        let a = chain_from(3, &Chain { level: 4, item: ComparedRule { grammar: self } }, a, tokens)?;
+        let both = Chain { level: 4, item: ComparedRule { grammar: self } };
+        chain_from(2, &Chain { level: 3, item: both }, a, tokens)
+    }
+
+    /// `exists iterators | condition` and the like.
+    #[tactic(auto, unfolding(setl_grammar::specs::ReadExpressions::quantified, setl_grammar::specs::Reading::opening_one_of))]
+    fn quantified(&self, tokens: &mut Cursor<'_>) -> Result<Expr, Fault>
+        requires { Nests self.now.room (F.pre self.now.inside) (F.post self.now.inside) }
+        ensures { Reads (spec.quantified self.now.room (nested self.now.room) tokens.old) result tokens.new }
+    {
+        let quantifier = open_quantifier(self.room, tokens)?;
+        let over = self.iters(tokens)?;
+        tokens.expect(Kind::Bar)?;
+        let condition = self.boxed(tokens)?;
+        Ok(Expr::Quantified(quantifier, over, condition))
+    }
+
+    /// An expression.
+    #[tactic(auto, unfolding(setl_grammar::specs::ReadExpressions::whole))]
+    pub fn whole(&self, tokens: &mut Cursor<'_>) -> Result<Expr, Fault>
+        requires { Nests self.now.room (F.pre self.now.inside) (F.post self.now.inside) }
+        ensures { Reads (spec.whole self.now.room (nested self.now.room) tokens.old) result tokens.new }
+    {
+        if quantifier(tokens.kind()).is_some() {
+            return self.quantified(tokens);
+        }
+        self.e2(tokens)
+    }
+}

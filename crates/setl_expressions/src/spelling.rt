@@ -1,0 +1,163 @@
+//! The kinds of reserved words and signs.
+
+ghost use Rattle.std.specs.Prelude.{◌≡◌, ◌==◌, map, filter, length};
+ghost use Rattle.setl_token.specs.Bytes.{lower};
+ghost use Rattle.std.specs.Str.{bytes_eq};
+ghost use Rattle.setl_expressions.specs.Spellings.{spellings, kind_in};
+
+use setl_tree::Kind;
+
+/// The reserved words and the signs, the shortest first.
+const SPELLINGS: [(&str, Kind); 105] = [
+    (";", Kind::Semicolon),
+    (":", Kind::Colon),
+    (",", Kind::Comma),
+    ("(", Kind::LeftParen),
+    (")", Kind::RightParen),
+    ("{", Kind::LeftBrace),
+    ("}", Kind::RightBrace),
+    ("[", Kind::LeftBracket),
+    ("]", Kind::RightBracket),
+    ("|", Kind::Bar),
+    ("=", Kind::Equal),
+    ("<", Kind::LessThan),
+    (">", Kind::GreaterThan),
+    ("+", Kind::Plus),
+    ("-", Kind::Minus),
+    ("*", Kind::Star),
+    ("/", Kind::Slash),
+    ("#", Kind::Hash),
+    ("if", Kind::If),
+    ("in", Kind::In),
+    ("ok", Kind::Ok),
+    ("om", Kind::Om),
+    ("or", Kind::Or),
+    ("rd", Kind::Rd),
+    ("rw", Kind::Rw),
+    ("wr", Kind::Wr),
+    (":=", Kind::Assign),
+    ("..", Kind::Dots),
+    ("/=", Kind::NotEqual),
+    ("<=", Kind::AtMost),
+    (">=", Kind::AtLeast),
+    ("**", Kind::Power),
+    ("abs", Kind::Abs),
+    ("and", Kind::And),
+    ("arb", Kind::Arb),
+    ("div", Kind::Div),
+    ("end", Kind::End),
+    ("eof", Kind::Eof),
+    ("for", Kind::For),
+    ("int", Kind::Int),
+    ("max", Kind::Max),
+    ("min", Kind::Min),
+    ("mod", Kind::Mod),
+    ("not", Kind::Not),
+    ("odd", Kind::Odd),
+    ("pow", Kind::Pow),
+    ("set", Kind::Set),
+    ("str", Kind::Str),
+    ("var", Kind::Var),
+    ("atom", Kind::Atom),
+    ("base", Kind::Base),
+    ("elmt", Kind::Elmt),
+    ("else", Kind::Else),
+    ("even", Kind::Even),
+    ("fail", Kind::Fail),
+    ("from", Kind::From),
+    ("impl", Kind::Impl),
+    ("incs", Kind::Incs),
+    ("less", Kind::Less),
+    ("mmap", Kind::Mmap),
+    ("npow", Kind::Npow),
+    ("pass", Kind::Pass),
+    ("proc", Kind::Proc),
+    ("quit", Kind::Quit),
+    ("read", Kind::Read),
+    ("repr", Kind::Repr),
+    ("smap", Kind::Smap),
+    ("stop", Kind::Stop),
+    ("then", Kind::Then),
+    ("true", Kind::True),
+    ("with", Kind::With),
+    ("false", Kind::False),
+    ("fromb", Kind::Fromb),
+    ("frome", Kind::Frome),
+    ("lessf", Kind::Lessf),
+    ("local", Kind::Local),
+    ("newat", Kind::Newat),
+    ("notin", Kind::Notin),
+    ("print", Kind::Print),
+    ("range", Kind::Range),
+    ("tuple", Kind::Tuple),
+    ("while", Kind::While),
+    ("domain", Kind::Domain),
+    ("elseif", Kind::Elseif),
+    ("exists", Kind::Exists),
+    ("forall", Kind::Forall),
+    ("is_map", Kind::IsMap),
+    ("is_set", Kind::IsSet),
+    ("remote", Kind::Remote),
+    ("return", Kind::Return),
+    ("sparse", Kind::Sparse),
+    ("string", Kind::String),
+    ("subset", Kind::Subset),
+    ("boolean", Kind::Boolean),
+    ("general", Kind::General),
+    ("integer", Kind::Integer),
+    ("is_atom", Kind::IsAtom),
+    ("program", Kind::Program),
+    ("continue", Kind::Continue),
+    ("is_tuple", Kind::IsTuple),
+    ("is_string", Kind::IsString),
+    ("notexists", Kind::Notexists),
+    ("procedure", Kind::Procedure),
+    ("is_boolean", Kind::IsBoolean),
+    ("is_integer", Kind::IsInteger),
+];
+
+/// The reserved words and signs of so many bytes.
+fn spellings_of_len(len: usize) -> &'static [(&'static str, Kind)]
+    ensures { map (λ s. (s.0.now, s.1)) result.now ≡ filter (λ s. length s.0 == len) spellings }
+{
+    match len {
+        1 => &SPELLINGS[0..18],
+        2 => &SPELLINGS[18..32],
+        3 => &SPELLINGS[32..49],
+        4 => &SPELLINGS[49..71],
+        5 => &SPELLINGS[71..82],
+        6 => &SPELLINGS[82..93],
+        7 => &SPELLINGS[93..98],
+        8 => &SPELLINGS[98..100],
+        9 => &SPELLINGS[100..103],
+        10 => &SPELLINGS[103..105],
+        _ => &[],
+    }
+}
+
+/// Whether a text, with its upper case letters read as lower case, is this text.
+fn reads_as(text: &[u8], word: &[u8]) -> bool
+    ensures { result ≡ bytes_eq (lower text.now) word.now }
+{
+    if text.len() != word.len() {
+        return false;
+    }
+    for i in 0..text.len() {
+        if text[i].to_ascii_lowercase() != word[i] {
+            return false;
+        }
+    }
+    true
+}
+
+/// The kind of the reserved word or sign that a text is, whatever the case of its letters; `SourceEnd` if it is none.
+pub fn spelled_kind(text: &[u8]) -> Kind
+    ensures { result ≡ kind_in spellings (lower text.now) }
+{
+    for (word, kind) in spellings_of_len(text.len()) {
+        if reads_as(text, word.as_bytes()) {
+            return *kind;
+        }
+    }
+    Kind::SourceEnd
+}

@@ -1,0 +1,30 @@
+-- The places of faults, and the outcome of reading a whole program.
+use Rattle.std.specs.Prelude.{ℕ, ◌-◌, List, [], ◌∷◌, length, slice_get, Option, Some, None, Result, Ok, Err}
+use Rattle.setl_tree.specs.declared.tree.Tree.{Tree}
+use Rattle.setl_token.specs.declared.Token.{Token as Lexeme}
+use Rattle.setl_token.specs.Text.{Lexed}
+use Rattle.setl_grammar.specs.declared.fault.Fault.{Fault}
+use Rattle.setl_grammar.specs.declared.fault.Fault.TheVariants as left
+use Rattle.setl_grammar.specs.Reading.{Outcome}
+use Rattle.setl_parse.specs.declared.fault.ParseFault.{ParseFault}
+use Rattle.setl_parse.specs.declared.fault.ParseFault.TheVariants as at
+
+-- the first byte of a token, or the length of the source where there is none
+abbrev pub first_byte : Option Lexeme → ℕ → ℕ
+first_byte (Some t) end = t.from
+first_byte None end = end
+
+-- the place at which so many tokens are left
+abbrev pub place_of : Lexed → ℕ → ℕ
+place_of l count = first_byte (slice_get l.tokens (length l.tokens - count)) (length l.source)
+
+abbrev pub fault_of : Lexed → Fault → ParseFault
+fault_of l left.Memory = at.NoMemory
+fault_of l (left.Syntax count) = at.Syntax (place_of l count)
+fault_of l (left.Nesting count) = at.Nesting (place_of l count)
+
+-- the outcome where all tokens have to be read
+abbrev pub outcome_of : Lexed → Outcome Tree → Result Tree ParseFault
+outcome_of l (Ok (tree, [])) = Ok tree
+outcome_of l (Ok (tree, t ∷ rest)) = Err (fault_of l (left.Syntax (length (t ∷ rest))))
+outcome_of l (Err e) = Err (fault_of l e)

@@ -1,0 +1,284 @@
+//! Statements that hold statements.
+
+ghost use Rattle.std.specs.Prelude.{◌≡◌};
+ghost use Rattle.setl_grammar.specs.Reading.{Reads};
+ghost use Rattle.setl_grammar.specs.ReadStatements as spec;
+ghost use Rattle.setl_grammar.specs.ReadStatements.{nested_stmts};
+ghost use Rattle.setl_parse.specs.Nests.{NestsStmts};
+
+use crate::statements::{behind_name, ending, print_stmt, read_stmt, return_stmt, simple_stmt, tuple_assign};
+use setl_expressions::{Condition, Cursor, Repeated, Rule, iters, many, nested_expr, optional, same_kind};
+use setl_grammar::Fault;
+use setl_tree::{Branch, Items, Kind, Stmt, StmtKind};
+
+/// The rules of statements where so many nestings may still open. Each takes the statements that stand one nesting
+/// deeper from `deep`, and is so proved by itself.
+#[derive(Drop)]
+pub struct Statements<G> {
+    pub room: usize,
+    pub deep: G,
+}
+
+#[tactic(auto, unfolding(setl_grammar::specs::ReadStatements::begins_stmt))]
+fn begins_stmt(kind: Kind) -> bool
+    ensures { result ≡ spec.begins_stmt kind }
+{
+    matches!(
+        kind,
+        Kind::Name
+            | Kind::LeftBracket
+            | Kind::If
+            | Kind::LeftParen
+            | Kind::Quit
+            | Kind::Continue
+            | Kind::Fail
+            | Kind::Stop
+            | Kind::Pass
+            | Kind::Return
+            | Kind::Print
+            | Kind::Read
+    )
+}
+
+/// An `elseif` branch.
+#[derive(Drop)]
+struct ElseifRule<'s, G> {
+    statements: &'s Statements<G>,
+}
+
+impl<'s, G: Fn(&mut Cursor<'_>, usize) -> Result<Items<Stmt>, Fault>> Rule for ElseifRule<'s, G> {
+    type Out = Branch;
+
+    ghost use Rattle.setl_tree.specs.declared.kind.Kind.TheVariants as k;
+    ghost use Rattle.setl_grammar.specs.Reading.{expect, ◌>>◌};
+    ghost use Rattle.setl_grammar.specs.ReadStatements.{nested_stmts, branch};
+    ghost use Rattle.setl_parse.specs.Nests.{NestsStmts};
+
+    ghost can_read = { λ s. NestsStmts s.statements.now.room (G.pre s.statements.now.deep) (G.post s.statements.now.deep) };
+
+    ghost reader = { λ s. expect k.Elseif >> branch s.statements.now.room (nested_stmts s.statements.now.room) };
+
+    fn read(&self, tokens: &mut Cursor<'_>) -> Result<Branch, Fault> {
+        tokens.expect(Kind::Elseif)?;
+        self.statements.branch(tokens)
+    }
+}
+
+impl<'s, G: Fn(&mut Cursor<'_>, usize) -> Result<Items<Stmt>, Fault>> Repeated for ElseifRule<'s, G> {
+    ghost use Rattle.setl_tree.specs.declared.kind.Kind.TheVariants as k;
+    ghost use Rattle.setl_grammar.specs.Reading.{is};
+
+    ghost begins_with = { λ s. is k.Elseif };
+
+    fn begins(&self, kind: Kind) -> bool {
+        same_kind(kind, Kind::Elseif)
+    }
+}
+
+/// The statements behind `else`.
+#[derive(Drop)]
+struct ElseRule<'s, G> {
+    statements: &'s Statements<G>,
+}
+
+impl<'s, G: Fn(&mut Cursor<'_>, usize) -> Result<Items<Stmt>, Fault>> Rule for ElseRule<'s, G> {
+    type Out = Items<Stmt>;
+
+    ghost use Rattle.setl_tree.specs.declared.kind.Kind.TheVariants as k;
+    ghost use Rattle.setl_grammar.specs.Reading.{expect, ◌>>◌};
+    ghost use Rattle.setl_grammar.specs.ReadStatements.{nested_stmts};
+    ghost use Rattle.setl_parse.specs.Nests.{NestsStmts};
+
+    ghost can_read = { λ s. NestsStmts s.statements.now.room (G.pre s.statements.now.deep) (G.post s.statements.now.deep) };
+
+    ghost reader = { λ s. expect k.Else >> nested_stmts s.statements.now.room };
+
+    fn read(&self, tokens: &mut Cursor<'_>) -> Result<Items<Stmt>, Fault> {
+        tokens.expect(Kind::Else)?;
+        self.statements.deeper(tokens)
+    }
+}
+
+impl<'s, G: Fn(&mut Cursor<'_>, usize) -> Result<Items<Stmt>, Fault>> Repeated for ElseRule<'s, G> {
+    ghost use Rattle.setl_tree.specs.declared.kind.Kind.TheVariants as k;
+    ghost use Rattle.setl_grammar.specs.Reading.{is};
+
+    ghost begins_with = { λ s. is k.Else };
+
+    fn begins(&self, kind: Kind) -> bool {
+        same_kind(kind, Kind::Else)
+    }
+}
+
+/// A statement.
+#[derive(Drop)]
+struct StmtRule<'s, G> {
+    statements: &'s Statements<G>,
+}
+
+impl<'s, G: Fn(&mut Cursor<'_>, usize) -> Result<Items<Stmt>, Fault>> Rule for StmtRule<'s, G> {
+    type Out = Stmt;
+
+    ghost use Rattle.setl_tree.specs.declared.kind.Kind.TheVariants as k;
+    ghost use Rattle.setl_grammar.specs.Reading.{is};
+    ghost use Rattle.setl_grammar.specs.ReadStatements.{nested_stmts, stmt};
+    ghost use Rattle.setl_parse.specs.Nests.{NestsStmts};
+
+    ghost can_read = { λ s. NestsStmts s.statements.now.room (G.pre s.statements.now.deep) (G.post s.statements.now.deep) };
+
+    ghost reader = { λ s. stmt s.statements.now.room (nested_stmts s.statements.now.room) };
+
+    fn read(&self, tokens: &mut Cursor<'_>) -> Result<Stmt, Fault> {
+        self.statements.stmt(tokens)
+    }
+}
+
+impl<'s, G: Fn(&mut Cursor<'_>, usize) -> Result<Items<Stmt>, Fault>> Repeated for StmtRule<'s, G> {
+    ghost use Rattle.setl_grammar.specs.ReadStatements.{begins_stmt};
+
+    ghost begins_with = { λ s. begins_stmt };
+
+    fn begins(&self, kind: Kind) -> bool {
+        begins_stmt(kind)
+    }
+}
+
+impl<G: Fn(&mut Cursor<'_>, usize) -> Result<Items<Stmt>, Fault>> Statements<G> {
+    /// Statements one nesting deeper.
+    fn deeper(&self, tokens: &mut Cursor<'_>) -> Result<Items<Stmt>, Fault>
+        requires { NestsStmts self.now.room (G.pre self.now.deep) (G.post self.now.deep) }
+        ensures { Reads (nested_stmts self.now.room tokens.old) result tokens.new }
+    {
+        (self.deep)(tokens, self.room)
+    }
+
+    /// A condition with the statements that it guards.
+    #[tactic(auto, unfolding(setl_grammar::specs::ReadStatements::branch))]
+    fn branch(&self, tokens: &mut Cursor<'_>) -> Result<Branch, Fault>
+        requires { NestsStmts self.now.room (G.pre self.now.deep) (G.post self.now.deep) }
+        ensures { Reads (spec.branch self.now.room (nested_stmts self.now.room) tokens.old) result tokens.new }
+    {
+        let condition = nested_expr(self.room, tokens)?;
+        tokens.expect(Kind::Then)?;
+        let body = self.deeper(tokens)?;
+        Ok(Branch { condition, body })
+    }
+
+    /// A conditional statement.
+    #[tactic(auto, unfolding(setl_grammar::specs::ReadStatements::if_stmt, setl_grammar::specs::ReadStatements::elseifs, setl_grammar::specs::ReadStatements::else_part))]
+    fn if_stmt(&self, tokens: &mut Cursor<'_>) -> Result<StmtKind, Fault>
+        requires { NestsStmts self.now.room (G.pre self.now.deep) (G.post self.now.deep) }
+        ensures { Reads (spec.if_stmt self.now.room (nested_stmts self.now.room) tokens.old) result tokens.new }
+    {
+        tokens.open(self.room, Kind::If)?;
+        let first = self.branch(tokens)?;
+        let others = many(&ElseifRule { statements: self }, tokens)?;
+        let last = optional(&ElseRule { statements: self }, tokens)?;
+        ending(Kind::If, tokens)?;
+        Ok(StmtKind::If(first, others, last))
+    }
+
+    /// A loop over iterators behind `(`.
+    #[tactic(auto, unfolding(setl_grammar::specs::ReadStatements::for_loop))]
+    fn for_loop(&self, tokens: &mut Cursor<'_>) -> Result<StmtKind, Fault>
+        requires { NestsStmts self.now.room (G.pre self.now.deep) (G.post self.now.deep) }
+        ensures { Reads (spec.for_loop self.now.room (nested_stmts self.now.room) tokens.old) result tokens.new }
+    {
+        tokens.expect(Kind::For)?;
+        let over = iters(self.room, tokens)?;
+        let condition = optional(&Condition { room: self.room }, tokens)?;
+        tokens.expect(Kind::RightParen)?;
+        let body = self.deeper(tokens)?;
+        ending(Kind::For, tokens)?;
+        Ok(StmtKind::For(over, condition, body))
+    }
+
+    /// A loop under a condition behind `(`.
+    #[tactic(auto, unfolding(setl_grammar::specs::ReadStatements::while_loop))]
+    fn while_loop(&self, tokens: &mut Cursor<'_>) -> Result<StmtKind, Fault>
+        requires { NestsStmts self.now.room (G.pre self.now.deep) (G.post self.now.deep) }
+        ensures { Reads (spec.while_loop self.now.room (nested_stmts self.now.room) tokens.old) result tokens.new }
+    {
+        tokens.expect(Kind::While)?;
+        let condition = nested_expr(self.room, tokens)?;
+        tokens.expect(Kind::RightParen)?;
+        let body = self.deeper(tokens)?;
+        ending(Kind::While, tokens)?;
+        Ok(StmtKind::While(condition, body))
+    }
+
+    /// A loop.
+    #[tactic(auto, unfolding(setl_grammar::specs::ReadStatements::for_or_while))]
+    fn loop_stmt(&self, tokens: &mut Cursor<'_>) -> Result<StmtKind, Fault>
+        requires { NestsStmts self.now.room (G.pre self.now.deep) (G.post self.now.deep) }
+        ensures { Reads (spec.loop self.now.room (nested_stmts self.now.room) tokens.old) result tokens.new }
+    {
+        tokens.open(self.room, Kind::LeftParen)?;
+        if same_kind(tokens.kind(), Kind::For) {
+            return self.for_loop(tokens);
+        }
+        self.while_loop(tokens)
+    }
+
+    /// A statement without its line.
+    #[tactic(auto, unfolding(setl_grammar::specs::ReadStatements::stmt_kind))]
+    fn stmt_kind(&self, tokens: &mut Cursor<'_>) -> Result<StmtKind, Fault>
+        requires { NestsStmts self.now.room (G.pre self.now.deep) (G.post self.now.deep) }
+        ensures { Reads (spec.stmt_kind self.now.room (nested_stmts self.now.room) tokens.old) result tokens.new }
+    {
+        match tokens.kind() {
+            Kind::Name => {
+                let name = tokens.name()?;
+                behind_name(self.room, name, tokens)
+            }
+            Kind::LeftBracket => tuple_assign(self.room, tokens),
+            Kind::If => self.if_stmt(tokens),
+            Kind::LeftParen => self.loop_stmt(tokens),
+            Kind::Return => return_stmt(self.room, tokens),
+            Kind::Print => print_stmt(self.room, tokens),
+            Kind::Read => read_stmt(self.room, tokens),
+            _ => simple_stmt(self.room, tokens),
+        }
+    }
+
+    /// A statement.
+    #[tactic(auto, unfolding(setl_grammar::specs::ReadStatements::stmt))]
+    fn stmt(&self, tokens: &mut Cursor<'_>) -> Result<Stmt, Fault>
+        requires { NestsStmts self.now.room (G.pre self.now.deep) (G.post self.now.deep) }
+        ensures { Reads (spec.stmt self.now.room (nested_stmts self.now.room) tokens.old) result tokens.new }
+    {
+        let line = tokens.line();
+        let kind = self.stmt_kind(tokens)?;
+        Ok(Stmt { line, kind })
+    }
+
+    /// Statements.
+    #[tactic(auto, unfolding(setl_grammar::specs::ReadStatements::stmts))]
+    pub fn all(&self, tokens: &mut Cursor<'_>) -> Result<Items<Stmt>, Fault>
+        requires { NestsStmts self.now.room (G.pre self.now.deep) (G.post self.now.deep) }
+        ensures { Reads (spec.stmts self.now.room tokens.old) result tokens.new }
+    {
+        many(&StmtRule { statements: self }, tokens)
+    }
+}
+
+/// Statements where so many nestings may still open around them.
+fn nested(tokens: &mut Cursor<'_>, room: usize) -> Result<Items<Stmt>, Fault>
+    ensures { Reads (nested_stmts room tokens.old) result tokens.new }
+{
+    if room == 0 {
+        return Err(tokens.refuse());
+    }
+    Statements {
+        room: room - 1,
+        deep: nested,
+    }
+    .all(tokens)
+}
+
+/// Statements with at most so many nestings inside one another.
+pub fn stmts(room: usize, tokens: &mut Cursor<'_>) -> Result<Items<Stmt>, Fault>
+    ensures { Reads (spec.stmts room tokens.old) result tokens.new }
+{
+    Statements { room, deep: nested }.all(tokens)
+}
