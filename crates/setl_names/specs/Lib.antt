@@ -1,0 +1,11 @@
+pub mod Names
+pub mod Places
+pub mod Occurrences
+pub mod Statements
+pub mod Bodies
+pub mod Procedures
+pub mod Variables
+pub mod Heads
+pub mod Rules
+pub mod Breaks
+pub mod Resolves

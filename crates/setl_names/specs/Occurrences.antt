@@ -1,0 +1,237 @@
+-- What stands in an expression, in the order of the source's tokens.
+use Rattle.std.specs.Prelude.{true, List, [], ◌∷◌, ◌++◌, Option, Some, None}
+use Rattle.setl_tree.specs.declared.expr.BinaryOp.{BinaryOp}
+use Rattle.setl_tree.specs.declared.expr.Slot.{Slot}
+use Rattle.setl_tree.specs.declared.expr.Slot.TheVariants as sl
+use Rattle.setl_tree.specs.declared.expr.Bound.{Bound}
+use Rattle.setl_tree.specs.declared.expr.Bound.TheVariants as bd
+use Rattle.setl_tree.specs.declared.expr.Expr.{Expr, fold-Expr}
+use Rattle.setl_tree.specs.declared.expr.Expr.TheOpen.{Expr-F, Inner-F, Iter-F, Selector-F}
+use Rattle.setl_tree.specs.declared.expr.Inner.{Inner, fold-Inner}
+use Rattle.setl_tree.specs.declared.expr.Iter.{Iter, fold-Iter}
+use Rattle.setl_tree.specs.declared.expr.Selector.{Selector, fold-Selector}
+use Rattle.setl_names.specs.declared.occurrence.Argument.{Argument}
+use Rattle.setl_names.specs.declared.occurrence.Argument.TheVariants as arg
+use Rattle.setl_names.specs.declared.occurrence.What.{What}
+use Rattle.setl_names.specs.declared.occurrence.What.TheVariants as what
+use Rattle.setl_names.specs.declared.occurrence.Occurrence.{Occurrence}
+use Rattle.setl_names.specs.Names.{Name, has}
+use Rattle.setl_names.specs.Places.{Place, inside_former, with_own}
+
+-- What stands in a part of the program, by its place.
+abbrev pub Standing : Type 0
+Standing = Place → List Occurrence
+
+abbrev pub at : Place → What → Occurrence
+at p w = record { line = p.line; what = w }
+
+-- nothing
+abbrev pub none : Standing
+none p = []
+
+abbrev pub all_of : List Standing → Standing
+all_of [] p = []
+all_of (x ∷ xs) p = x p ++ all_of xs p
+
+abbrev pub optional : Option Standing → Standing
+optional None p = []
+optional (Some x) p = x p
+
+-- a name that doesn't stand before a list in round brackets
+abbrev pub named : Name → Standing
+named x p = at p (what.Name x (has p.own x)) ∷ []
+
+abbrev pub all_named : List Name → Standing
+all_named [] p = []
+all_named (x ∷ xs) p = named x p ++ all_named xs p
+
+-- names that become a former's own names
+abbrev pub all_own : List Name → Standing
+all_own [] p = []
+all_own (x ∷ xs) p = at p (what.Name x true) ∷ all_own xs p
+
+-- names that a quantifier binds
+abbrev pub all_quantified : List Name → Standing
+all_quantified [] p = []
+all_quantified (x ∷ xs) p = at p (what.Quantified x (has p.inside x)) ∷ all_quantified xs p
+
+-- ---- bound names
+
+abbrev pub names_of_slots : List Slot → List Name
+names_of_slots [] = []
+names_of_slots (sl.Name x ∷ slots) = x ∷ names_of_slots slots
+names_of_slots (sl.Skip ∷ slots) = names_of_slots slots
+
+abbrev pub names_of_bound : Bound → List Name
+names_of_bound (bd.Name x) = x ∷ []
+names_of_bound (bd.Pattern slots) = names_of_slots slots
+
+-- ---- expressions
+
+-- An expression: what stands in it, and its name if it is a name alone.
+pub record Part : Type 0 where
+  pub standing : Standing
+  pub name : Option Name
+
+abbrev pub unnamed : Standing → Part
+unnamed s = record { standing = s; name = None }
+
+-- An iterator: the names that it binds, what stands in it where these are variables, and where they are a former's own.
+pub record Turn : Type 0 where
+  pub names : List Name
+  pub as_variables : Standing
+  pub as_own : Standing
+
+-- A selector: what stands in it, and its expressions if it is a list in round brackets.
+pub record Behind : Type 0 where
+  pub standing : Standing
+  pub list : Option (List Part)
+
+abbrev pub standings : List Part → List Standing
+standings [] = []
+standings (x ∷ xs) = x.standing ∷ standings xs
+
+abbrev pub all_parts : List Part → Standing
+all_parts xs p = all_of (standings xs) p
+
+abbrev pub optional_part : Option Part → Standing
+optional_part None p = []
+optional_part (Some x) p = x.standing p
+
+abbrev pub operands : List (BinaryOp × Part) → Standing
+operands [] p = []
+operands (x ∷ xs) p = x.1.standing p ++ operands xs p
+
+abbrev pub argument_named : Option Name → Place → Argument
+argument_named None p = arg.Other
+argument_named (Some x) p = arg.Name x (has p.own x) (has p.inside x)
+
+abbrev pub arguments : List Part → Place → List Argument
+arguments [] p = []
+arguments (x ∷ xs) p = argument_named x.name p ∷ arguments xs p
+
+-- a name before a list in round brackets
+abbrev pub applied : Name → List Part → Standing
+applied f xs p = at p (what.Applied f (has p.own f) (arguments xs p)) ∷ all_parts xs p
+
+-- a list in round brackets that doesn't stand behind a name
+abbrev pub loose_list : List Part → Standing
+loose_list [] p = at p what.EmptyList ∷ []
+loose_list (x ∷ xs) p = all_parts (x ∷ xs) p
+
+abbrev pub all_behind : List Behind → Standing
+all_behind [] p = []
+all_behind (x ∷ xs) p = x.standing p ++ all_behind xs p
+
+-- a name and the selector behind it
+abbrev pub name_before : Name → Option (List Part) → Standing → Standing
+name_before f None s p = named f p ++ s p
+name_before f (Some xs) s p = applied f xs p
+
+-- a name with selectors, of which the first may be a list in round brackets
+abbrev pub name_selected : Name → List Behind → Standing
+name_selected f [] p = named f p
+name_selected f (x ∷ xs) p = name_before f x.list x.standing p ++ all_behind xs p
+
+-- the primary expression of a selection by its name, and the selectors
+abbrev pub selected_by : Option Name → Standing → List Behind → Standing
+selected_by None s ss p = s p ++ all_behind ss p
+selected_by (Some f) s ss p = name_selected f ss p
+
+abbrev pub selected : Part → List Behind → Standing
+selected x ss p = selected_by x.name x.standing ss p
+
+-- ---- iterators
+
+abbrev pub names_of_turns : List Turn → List Name
+names_of_turns [] = []
+names_of_turns (i ∷ is) = i.names ++ names_of_turns is
+
+-- the names that one list of iterators binds
+abbrev pub bound : List Name → Standing
+bound names p = at p (what.Bound names) ∷ []
+
+abbrev pub turns_as_variables : List Turn → Standing
+turns_as_variables [] p = []
+turns_as_variables (i ∷ is) p = i.as_variables p ++ turns_as_variables is p
+
+-- the iterators of a former, each of which sees the names of those before it
+abbrev pub turns_as_own : List Turn → Standing
+turns_as_own [] p = []
+turns_as_own (i ∷ is) p = i.as_own p ++ turns_as_own is (with_own i.names p)
+
+-- the iterators of a loop or a quantifier
+abbrev pub ordinary_turns : List Turn → Standing
+ordinary_turns is p = bound (names_of_turns is) p ++ turns_as_variables is p
+
+-- a former: the value and the condition see all names that it binds
+abbrev pub former : Part → List Turn → Option Part → Standing
+former x is c p =
+    let names = names_of_turns is in
+    let within = inside_former names p in
+    let last = with_own names within in
+    x.standing last ++ (bound names within ++ (turns_as_own is within ++ optional_part c last))
+
+-- a former that collects what it binds
+abbrev pub filter : List Name → Part → Part → Standing
+filter names s c p =
+    let within = inside_former names p in
+    bound names within ++ (all_own names within ++ (s.standing within ++ c.standing (with_own names within)))
+
+abbrev pub expr_step : Expr-F Part Standing Turn Behind → Part
+expr_step (Expr-F.Number n) = unnamed none
+expr_step (Expr-F.Text t) = unnamed none
+expr_step Expr-F.Om = unnamed none
+expr_step Expr-F.True = unnamed none
+expr_step Expr-F.False = unnamed none
+expr_step Expr-F.Newat = unnamed none
+expr_step Expr-F.Eof = unnamed none
+expr_step Expr-F.Ok = unnamed none
+expr_step (Expr-F.Name x) = record { standing = named x; name = Some x }
+expr_step (Expr-F.If a b c) = unnamed (λ p. a.standing p ++ (b.standing p ++ c.standing p))
+expr_step (Expr-F.Set x) = unnamed x
+expr_step (Expr-F.Tuple x) = unnamed x
+expr_step (Expr-F.Chain first others) = unnamed (λ p. first.standing p ++ operands others p)
+expr_step (Expr-F.Compare a o b) = unnamed (λ p. a.standing p ++ b.standing p)
+expr_step (Expr-F.Prefixed ps x) = unnamed x.standing
+expr_step (Expr-F.Selected x ss) = unnamed (selected x ss)
+expr_step (Expr-F.Quantified q is x) = unnamed (λ p. all_quantified (names_of_turns is) p ++ (ordinary_turns is p ++ x.standing p))
+
+abbrev pub inner_step : Inner-F Part Standing Turn Behind → Standing
+inner_step (Inner-F.List xs) = all_parts xs
+inner_step (Inner-F.Range a b c) = λ p. a.standing p ++ (optional_part b p ++ c.standing p)
+inner_step (Inner-F.Former x is c) = former x is c
+inner_step (Inner-F.Filter b s c) = filter (names_of_bound b) s c
+
+abbrev pub iter_step : Iter-F Part Standing Turn Behind → Turn
+iter_step (Iter-F.Over b s) = record {
+  names = names_of_bound b;
+  as_variables = λ p. all_named (names_of_bound b) p ++ s.standing p;
+  as_own = λ p. all_own (names_of_bound b) p ++ s.standing p;
+}
+iter_step (Iter-F.Image y f x) = record {
+  names = y ∷ x ∷ [];
+  as_variables = λ p. all_named (y ∷ f ∷ x ∷ []) p;
+  as_own = λ p. at p (what.Name y true) ∷ (named f p ++ at p (what.Name x true) ∷ []);
+}
+
+abbrev pub selector_step : Selector-F Part Standing Turn Behind → Behind
+selector_step (Selector-F.Round xs) = record { standing = loose_list xs; list = Some xs }
+selector_step (Selector-F.Slice a b) = record { standing = λ p. a.standing p ++ optional_part b p; list = None }
+selector_step (Selector-F.Braces xs) = record { standing = all_parts xs; list = None }
+
+abbrev pub part : Expr → Part
+part = fold-Expr Part Standing Turn Behind expr_step inner_step iter_step selector_step
+
+abbrev pub inner_standing : Inner → Standing
+inner_standing = fold-Inner Part Standing Turn Behind expr_step inner_step iter_step selector_step
+
+abbrev pub turn : Iter → Turn
+turn = fold-Iter Part Standing Turn Behind expr_step inner_step iter_step selector_step
+
+abbrev pub behind : Selector → Behind
+behind = fold-Selector Part Standing Turn Behind expr_step inner_step iter_step selector_step
+
+-- what stands in an expression
+abbrev pub standing_in : Expr → Standing
+standing_in x = (part x).standing
