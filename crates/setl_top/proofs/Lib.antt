@@ -1,9 +1,6 @@
 pub mod Fronts
-pub mod OneTree
-pub mod Reading
-pub mod Left
-pub mod Accepting
 pub mod Ends
+pub mod OneReason
 pub mod Exclude
 pub mod Leading
 pub mod Integers
@@ -14,4 +11,4 @@ pub mod Running
 pub mod Members
 pub mod Spaced
 pub mod Tables
-pub mod Shorter
+pub mod Each
