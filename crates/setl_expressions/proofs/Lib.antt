@@ -1,5 +1,6 @@
 pub mod Words
 pub mod Plain
+pub mod Undoubled
 pub mod Clean
 pub mod Slots
 pub mod Turns

@@ -1,6 +1,6 @@
 -- Plain tokens by their index.
-use Rattle.std.proofs.Common.{◌≡◌, ℕ, zero, suc, ◌+◌, ◌<◌, ◌≤◌, Bool, true, false, List, [], ◌∷◌, length, map, drop, Option, Some, Ok, Err, refl, ap, arith, add-one}
-use Rattle.std.proofs.lemmas.List.{drop-drop}
+use Rattle.std.proofs.Common.{◌≡◌, ℕ, zero, suc, ◌+◌, ◌-◌, ◌<◌, ◌≤◌, Bool, true, false, List, [], ◌∷◌, length, map, drop, Option, Some, Ok, Err, refl, ap, arith, add-one, length-drop}
+use Rattle.std.proofs.lemmas.List.{drop-drop, length-map}
 use Rattle.std.specs.List.{slice_get}
 use Rattle.setl_tree.specs.Tokens.{Token, Tokens}
 use Rattle.setl_token.specs.declared.Token.{Token as Lexeme}
@@ -47,11 +47,14 @@ pub rest_at : (xs : Tokens) (i : ℕ) → rest_of (drop i xs) ≡ drop (i + 1) x
 rest_at xs i = rw add-one (drop_rest xs i)
 
 -- behind the last token
-pub kind_past : (n : ℕ) (toks : Tokens) → length toks ≤ n → SourceEnd ≡ next_kind (drop n toks)
-kind_past zero [] e = refl
-kind_past zero (t ∷ toks) e = absurd (omega (arith, e))
-kind_past (suc n) [] e = refl
-kind_past (suc n) (t ∷ toks) e = kind_past n toks (omega (arith, e))
+past : (n : ℕ) (toks : Tokens) → length toks ≤ n → SourceEnd ≡ next_kind (drop n toks)
+past zero [] e = refl
+past zero (t ∷ toks) e = absurd (omega (arith, e))
+past (suc n) [] e = refl
+past (suc n) (t ∷ toks) e = past n toks (omega (arith, e))
+
+pub kind_past : (n at : ℕ) (l : Lexed) → length l.tokens - at ≤ n → SourceEnd ≡ next_kind (drop n (drop at (plain_tokens l)))
+kind_past n at l e = past n (drop at (plain_tokens l)) (omega (arith, e, length-drop at (plain_tokens l), length-map l.tokens (plain_token l.source)))
 
 pub kind_further : (n at : ℕ) (toks : Tokens) → next_kind (drop n (drop at toks)) ≡ next_kind (drop (at + n) toks)
 kind_further n at toks = ap next_kind (drop-drop n at toks)

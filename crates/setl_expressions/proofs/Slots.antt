@@ -1,5 +1,5 @@
 -- What the tokens behind an opening bracket show, slot by slot.
-use Rattle.std.proofs.Common.{◌≡◌, ℕ, zero, suc, ◌+◌, ◌<◌, ◌≤◌, Bool, true, false, List, [], ◌∷◌, ◌++◌, length, drop, refl, sym, ap, ◌∙◌, arith, length-drop}
+use Rattle.std.proofs.Common.{◌≡◌, ℕ, zero, suc, ◌+◌, ◌<◌, ◌≤◌, Bool, true, false, cond, List, [], ◌∷◌, ◌++◌, length, drop, refl, sym, ap, ◌∙◌, arith, length-drop}
 use Rattle.std.proofs.lemmas.List.{drop-drop}
 use Rattle.setl_tree.specs.Tokens.{Token, Tokens}
 use Rattle.setl_tree.specs.declared.kind.Kind.{Kind}
@@ -19,8 +19,7 @@ abbrev pub kind_at : Tokens → ℕ → Kind
 kind_at toks n = next_kind (drop n toks)
 
 abbrev pub cond_ahead : Bool → Ahead
-cond_ahead true = Pattern
-cond_ahead false = Expression
+cond_ahead b = cond b Pattern Expression
 
 -- a skipped component
 skip_here : (toks : Tokens) → 1 < length toks → same_kind (next_kind toks) k.Minus ≡ true → slots_ahead toks ≡ cond_ahead (ends_slot (kind_at toks 1))

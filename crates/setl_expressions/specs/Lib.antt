@@ -1,3 +1,4 @@
 pub mod Spellings
 pub mod Plain
 pub mod Nests
+pub mod Behind

@@ -55,8 +55,9 @@ fn after_last(kind: Kind, next: Kind) -> Ahead
 fn slots_ahead(tokens: &Cursor<'_>) -> Ahead
     ensures { result ≡ scan.slots_ahead (drop 1 tokens.now) }
 {
+    let left = tokens.left();
     let mut at = 1;
-    while at + 1 < tokens.left() {
+    'slots: while left.saturating_sub(at) > 1 {
         let first = tokens.kind_behind(at);
         let end = tokens.kind_behind(at + 1);
         if same_kind(first, Kind::Minus) {

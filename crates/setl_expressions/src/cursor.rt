@@ -96,7 +96,8 @@ impl<'a> Cursor<'a> {
     pub fn kind_behind(&self, others: usize) -> Kind
         ensures { result ≡ spec.next_kind (drop others self.now) }
     {
-        if others >= self.left() {
+        let left = self.list.len() - self.at;
+        if others >= left {
             return Kind::SourceEnd;
         }
         kind_at(self.list, self.at + others)

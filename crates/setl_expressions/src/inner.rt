@@ -4,13 +4,14 @@ ghost use Rattle.std.specs.Prelude.{◌≡◌, ◌-◌, ◌∷◌, [], IfOk};
 ghost use Rattle.setl_grammar.specs.Reading.{Reads};
 ghost use Rattle.setl_grammar.specs.ReadExpressions as spec;
 ghost use Rattle.setl_grammar.specs.ReadExpressions.{nested};
+ghost use Rattle.setl_expressions.specs.Behind as behind;
 ghost use Rattle.setl_expressions.specs.Nests.{Nests};
 ghost use Rattle.setl_grammar.specs.Scan.{bound_expr};
 
 use crate::ahead::{ahead, bound_as_expr};
 use crate::cursor::{Cursor, same_kind};
 use crate::grammar::{Grammar, Part};
-use crate::iters::bound;
+use crate::iterators::bound;
 use crate::rule::{Repeated, Rule, more, optional, with_first};
 use setl_grammar::{Ahead, Fault};
 use setl_tree::{Bound, Boxed, Expr, Inner, Items, Kind, Relation};
@@ -149,6 +150,25 @@ impl<F: Fn(&mut Cursor<'_>, usize, Part) -> Result<Expr, Fault>> Grammar<F> {
         Ok(Inner::Former(Boxed::new(tokens.alloc(), value)?, over, condition))
     }
 
+    /// `.. last` behind `first, second`.
+    fn steps_to(&self, first: Expr, second: Expr, tokens: &mut Cursor<'_>) -> Result<Inner, Fault>
+        requires { Nests self.now.room (F.pre self.now.inside) (F.post self.now.inside) }
+        ensures { Reads (behind.steps_to (nested self.now.room) first second tokens.old) result tokens.new }
+    {
+        tokens.expect(Kind::Dots)?;
+        let last = self.boxed(tokens)?;
+        Ok(stepped(tokens.alloc(), first, second, last)?)
+    }
+
+    /// More expressions behind `first, second`.
+    fn goes_on(&self, first: Expr, second: Expr, tokens: &mut Cursor<'_>) -> Result<Inner, Fault>
+        requires { Nests self.now.room (F.pre self.now.inside) (F.post self.now.inside) }
+        ensures { Reads (behind.goes_on (nested self.now.room) first second tokens.old) result tokens.new }
+    {
+        let others = more(&ExprRule { grammar: self }, tokens)?;
+        Ok(list_of(tokens.alloc(), first, second, others)?)
+    }
+
     /// What stands behind `a, b`.
     #[tactic(auto, unfolding(setl_grammar::specs::ReadExpressions::third))]
     fn third(&self, a: Expr, b: Expr, tokens: &mut Cursor<'_>) -> Result<Inner, Fault>
@@ -156,12 +176,9 @@ impl<F: Fn(&mut Cursor<'_>, usize, Part) -> Result<Expr, Fault>> Grammar<F> {
         ensures { Reads (spec.third (self.now.room - 1) (nested self.now.room) a b tokens.old) result tokens.new }
     {
         if same_kind(tokens.kind(), Kind::Dots) {
-            tokens.expect(Kind::Dots)?;
-            let last = self.boxed(tokens)?;
-            return Ok(stepped(tokens.alloc(), a, b, last)?);
+            return self.steps_to(a, b, tokens);
         }
-        let others = more(&ExprRule { grammar: self }, tokens)?;
-        Ok(list_of(tokens.alloc(), a, b, others)?)
+        self.goes_on(a, b, tokens)
     }
 
     /// What stands behind `a`, where no `:` or `..` does.

@@ -1,7 +1,7 @@
 use Rattle.std.proofs.Common.{rules}
 use Rattle.setl_expressions.specs.Plain.{plain_token}
 use Rattle.setl_expressions.proofs.Plain.{token_at, none_at}
-use Rattle.setl_expressions.proofs.Clean.{token_clean}
+use Rattle.setl_expressions.proofs.Clean.{clean_form}
 use Rattle.setl_expressions.proofs.content.content.Goals as goal
 
 pub returns-then-at-len : goal.returns-then-at-len
@@ -10,13 +10,13 @@ returns-then-at-len c = rw (none_at c.args.list.now c.args.at (rw (← c.len.ens
 pub name_text-requires : goal.name_text-requires
 name_text-requires c =
     let text = rw c.at.ensures.value at c.text.ensures in
-    let clean = rw c.in-Name.is at (token_clean c.args.list.now c.len.ensures.spelled c.args.at c.at.result.now c.at.ensures.value) in
+    let clean = rw c.in-Name.is at (clean_form c.at.result.now.kind _ _ c.at.ensures.formed.form) in
     rw text clean
 
 pub string_text-requires : goal.string_text-requires
 string_text-requires c =
     let text = rw c.at.ensures.value at c.text-in-Str.ensures in
-    let clean = rw c.in-Str.is at (token_clean c.args.list.now c.len.ensures.spelled c.args.at c.at.result.now c.at.ensures.value) in
+    let clean = rw c.in-Str.is at (clean_form c.at.result.now.kind _ _ c.at.ensures.formed.form) in
     rw text clean
 
 pub returns-in-Name : goal.returns-in-Name
