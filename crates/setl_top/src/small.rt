@@ -1,5 +1,6 @@
 //! The small language: its programs are told among syntax trees and run here, until the whole language is.
 mod conditions;
+mod gather;
 mod program;
 mod run;
 mod tables;

@@ -21,7 +21,9 @@ struct Left {
 
 /// Whether a call answered so, and its outputs gained these texts.
 fn left_so(left: &Left, status: Status, out: &str, err: &str) -> bool {
-    left.status == status && left.out.as_slice() == out.as_bytes() && left.err.as_slice() == err.as_bytes()
+    left.status == status
+        && left.out.as_slice() == out.as_bytes()
+        && left.err.as_slice() == err.as_bytes()
 }
 
 /// A call over an outside that doesn't fail, with this source in the file `a`.
@@ -41,7 +43,14 @@ fn call(alloc: Global, line: &str, source: Vec<u8>) -> Result<Left, Memory> {
 }
 
 /// Whether the words on this source answer so.
-fn answers(alloc: Global, line: &str, source: &str, status: Status, out: &str, err: &str) -> Result<bool, Memory> {
+fn answers(
+    alloc: Global,
+    line: &str,
+    source: &str,
+    status: Status,
+    out: &str,
+    err: &str,
+) -> Result<bool, Memory> {
     let left = call(alloc, line, source.as_bytes().to_vec(alloc)?)?;
     Ok(left_so(&left, status, out, err))
 }
@@ -66,7 +75,10 @@ fn programs_print_their_values(rt: HostRuntime) -> Result<(), Fail> {
             "{1 2}\n0\n",
         ),
     ] {
-        assert!(rt; answers(rt.alloc(), "run a", source, Status::Done, out, "")?, "at {source}");
+        assert!(rt;
+            answers(rt.alloc(), "run a", source, Status::Done, out, "")?,
+            "at {source}"
+        );
     }
     Ok(())
 }
@@ -75,19 +87,43 @@ fn programs_print_their_values(rt: HostRuntime) -> Result<(), Fail> {
 fn sources_are_refused_for_their_first_reason(rt: HostRuntime) -> Result<(), Fail> {
     for (words, source, line) in [
         ("run a", "program p; print(x); end program;", "not built\n"),
-        ("run a", "program p; x := 1; x with:= 2; end program;", "not built\n"),
-        ("run a", "program p; x with:= 2; end program;", "not built\n"),
-        ("run a", "program p; print(x); x := 1; end program;", "not built\n"),
+        (
+            "run a",
+            "program p; x := 1; x with:= 2; end program;",
+            "not built\n",
+        ),
+        (
+            "run a",
+            "program p; x with:= 2; end program;",
+            "not built\n",
+        ),
+        (
+            "run a",
+            "program p; print(x); x := 1; end program;",
+            "not built\n",
+        ),
         ("run a", "program p; x := -1; end program;", "not built\n"),
-        ("run a", "program p; print('a'); end program;", "not built\n"),
+        (
+            "run a",
+            "program p; print('a'); end program;",
+            "not built\n",
+        ),
         ("run a", "program p; end program p;", "not built\n"),
-        ("run a", "program p; var x; x := 1; end program;", "not built\n"),
+        (
+            "run a",
+            "program p; var x; x := 1; end program;",
+            "not built\n",
+        ),
         ("run a", "program p; end program", "at 22: syntax\n"),
         ("run a", "program p; end program; x", "at 24: syntax\n"),
         ("run a", "program print; end program;", "at 8: syntax\n"),
         ("check a", "", "at 0: syntax\n"),
         ("check a", "program p; ? end program;", "at 11: byte\n"),
-        ("check a", "program p; x := {1,}; end program; 'it", "at 35: open string\n"),
+        (
+            "check a",
+            "program p; x := {1,}; end program; 'it",
+            "at 35: open string\n",
+        ),
         (
             "check a",
             "170141183460469231731687303715884105728 ?",
@@ -98,16 +134,31 @@ fn sources_are_refused_for_their_first_reason(rt: HostRuntime) -> Result<(), Fai
             "program p; print({3,1,2,1}, [1,om,2], 'it''s');",
             "at 47: syntax\n",
         ),
-        ("check a", "program p; print('it''s); end program;", "at 17: open string\n"),
-        ("check a", "program p; quit; x := ; end program;", "at 22: syntax\n"),
-        ("check a", "program p;\nquit;\nend program;", "line 2: rule 13\n"),
+        (
+            "check a",
+            "program p; print('it''s); end program;",
+            "at 17: open string\n",
+        ),
+        (
+            "check a",
+            "program p; quit; x := ; end program;",
+            "at 22: syntax\n",
+        ),
+        (
+            "check a",
+            "program p;\nquit;\nend program;",
+            "line 2: rule 13\n",
+        ),
         (
             "check a",
             "program p;\nrepr base n: int; s: sparse set(elmt n); end repr;\ns := {1}; print(s);\ns with:= 'a'; print(s);\nend program;",
             "not built\n",
         ),
     ] {
-        assert!(rt; answers(rt.alloc(), words, source, Status::Refused, "", line)?, "at {source}");
+        assert!(rt;
+            answers(rt.alloc(), words, source, Status::Refused, "", line)?,
+            "at {source}"
+        );
     }
     Ok(())
 }
@@ -115,14 +166,20 @@ fn sources_are_refused_for_their_first_reason(rt: HostRuntime) -> Result<(), Fai
 /// Whether a check of the first source breaks this rule on line 2, and a check of the second is done.
 fn tells_rule(alloc: Global, rule: u8, broken: &str, kept: &str) -> Result<bool, Memory> {
     let line = format!(in alloc; "line 2: rule {rule}\n")?;
-    Ok(answers(alloc, "check a", broken, Status::Refused, "", line.as_str())?
-        && answers(alloc, "check a", kept, Status::Done, "", "")?)
+    Ok(
+        answers(alloc, "check a", broken, Status::Refused, "", line.as_str())?
+            && answers(alloc, "check a", kept, Status::Done, "", "")?,
+    )
 }
 
 #[test]
 fn each_rule_is_told_and_a_neighbour_keeps_it(rt: HostRuntime) -> Result<(), Fail> {
     for (rule, broken, kept) in [
-        (1, "program p;\nend program q;", "program p;\nend program p;"),
+        (
+            1,
+            "program p;\nend program q;",
+            "program p;\nend program p;",
+        ),
         (
             2,
             "program p; proc f();\nend proc g; end program;",
@@ -138,7 +195,11 @@ fn each_rule_is_told_and_a_neighbour_keeps_it(rt: HostRuntime) -> Result<(), Fai
             "program p;\nproc p(); end proc; end program;",
             "program p;\nproc q(); end proc; end program;",
         ),
-        (5, "program p;\nvar a, a; end program;", "program p;\nvar a, b; end program;"),
+        (
+            5,
+            "program p;\nvar a, a; end program;",
+            "program p;\nvar a, b; end program;",
+        ),
         (
             6,
             "program p;\nvar f; proc f(); end proc; end program;",
@@ -212,8 +273,21 @@ fn each_rule_is_told_and_a_neighbour_keeps_it(rt: HostRuntime) -> Result<(), Fai
 
 #[test]
 fn other_words_are_told_by_the_status_alone(rt: HostRuntime) -> Result<(), Fail> {
-    for line in ["", "run", "check", "run x y", "check x y", "run -x", "check -x", "checks a", "--help"] {
-        assert!(rt; answers(rt.alloc(), line, GROWING, Status::Words, "", "")?, "at {line}");
+    for line in [
+        "",
+        "run",
+        "check",
+        "run x y",
+        "check x y",
+        "run -x",
+        "check -x",
+        "checks a",
+        "--help",
+    ] {
+        assert!(rt;
+            answers(rt.alloc(), line, GROWING, Status::Words, "", "")?,
+            "at {line}"
+        );
     }
     assert_eq!(rt; Status::Words.number(), 2);
     Ok(())
@@ -233,8 +307,18 @@ fn parentheses(alloc: Global, count: usize) -> Result<Vec<u8>, Memory> {
 fn sources_are_refused_past_their_limits(rt: HostRuntime) -> Result<(), Fail> {
     let alloc = rt.alloc();
     for (source, status, out, line) in [
-        (vec![in alloc; b' '; (1 << 24) + 1]?, Status::Refused, "", "source too long\n"),
-        (parentheses(alloc, 200)?, Status::Refused, "", "at 216: nesting\n"),
+        (
+            vec![in alloc; b' '; (1 << 24) + 1]?,
+            Status::Refused,
+            "",
+            "source too long\n",
+        ),
+        (
+            parentheses(alloc, 200)?,
+            Status::Refused,
+            "",
+            "at 216: nesting\n",
+        ),
         (parentheses(alloc, 199)?, Status::Done, "1\n", ""),
     ] {
         let left = call(alloc, "run a", source)?;
@@ -256,7 +340,10 @@ struct Faults {
 fn faulty_call(alloc: Global, line: &str, source: &str, faults: Faults) -> Result<Left, Memory> {
     let words = words_of(alloc, line)?;
     let mut files = MemFiles::new(alloc, vec![in alloc; faults.load]?)?;
-    files.add(String::from_str(alloc, "a")?, source.as_bytes().to_vec(alloc)?)?;
+    files.add(
+        String::from_str(alloc, "a")?,
+        source.as_bytes().to_vec(alloc)?,
+    )?;
     let mut input = SureSource::new(Vec::new(alloc));
     let mut out = MemSink::new(alloc, faults.most, vec![in alloc; faults.write]?)?;
     let mut err = MemSink::new(alloc, 99, vec![in alloc; faults.tell]?)?;
@@ -273,18 +360,98 @@ const TWO: &str = "program p; print(1); print(22); end program;";
 #[test]
 fn faults_of_the_outside(rt: HostRuntime) -> Result<(), Fail> {
     for (load, write, most, tell, line, source, status, out, err) in [
-        (1, 0, 99, 0, "run a", TWO, Status::ReadFault, "", "read fault\n"),
+        (
+            1,
+            0,
+            99,
+            0,
+            "run a",
+            TWO,
+            Status::ReadFault,
+            "",
+            "read fault\n",
+        ),
         (1, 0, 99, 1, "check a", TWO, Status::ReadFault, "", ""),
-        (0, 0, 99, 0, "run b", TWO, Status::ReadFault, "", "read fault\n"),
-        (0, 1, 99, 0, "run a", TWO, Status::WriteFault, "", "write fault\n"),
+        (
+            0,
+            0,
+            99,
+            0,
+            "run b",
+            TWO,
+            Status::ReadFault,
+            "",
+            "read fault\n",
+        ),
+        (
+            0,
+            1,
+            99,
+            0,
+            "run a",
+            TWO,
+            Status::WriteFault,
+            "",
+            "write fault\n",
+        ),
         (0, 1, 99, 1, "run a", TWO, Status::WriteFault, "", ""),
-        (0, 2, 99, 0, "run a", TWO, Status::WriteFault, "1\n", "write fault\n"),
-        (0, 4, 1, 0, "run a", TWO, Status::WriteFault, "1\n2", "write fault\n"),
+        (
+            0,
+            2,
+            99,
+            0,
+            "run a",
+            TWO,
+            Status::WriteFault,
+            "1\n",
+            "write fault\n",
+        ),
+        (
+            0,
+            4,
+            1,
+            0,
+            "run a",
+            TWO,
+            Status::WriteFault,
+            "1\n2",
+            "write fault\n",
+        ),
         (0, 0, 1, 0, "run a", TWO, Status::Done, "1\n22\n", ""),
-        (0, 0, 0, 0, "run a", TWO, Status::WriteFault, "", "write fault\n"),
+        (
+            0,
+            0,
+            0,
+            0,
+            "run a",
+            TWO,
+            Status::WriteFault,
+            "",
+            "write fault\n",
+        ),
         (0, 1, 99, 1, "check a", TWO, Status::Done, "", ""),
-        (0, 0, 99, 1, "check a", "x", Status::WriteFault, "", "write fault\n"),
-        (0, 0, 99, 2, "check a", "x", Status::Refused, "", "at 0: syntax\n"),
+        (
+            0,
+            0,
+            99,
+            1,
+            "check a",
+            "x",
+            Status::WriteFault,
+            "",
+            "write fault\n",
+        ),
+        (
+            0,
+            0,
+            99,
+            2,
+            "check a",
+            "x",
+            Status::Refused,
+            "",
+            "at 0: syntax\n",
+        ),
     ] {
         let faults = Faults {
             load,
@@ -293,7 +460,10 @@ fn faults_of_the_outside(rt: HostRuntime) -> Result<(), Fail> {
             tell,
         };
         let left = faulty_call(rt.alloc(), line, source, faults)?;
-        assert!(rt; left_so(&left, status, out, err), "at {load} {write} {most} {tell}");
+        assert!(rt;
+            left_so(&left, status, out, err),
+            "at {load} {write} {most} {tell}"
+        );
     }
     Ok(())
 }
