@@ -46,7 +46,7 @@ run_not_check : (words : List (List ℕ)) (a b : List ℕ) → Spells words (Run
 unfolding first_byte
 run_not_check words a b s t =
     let bytes : 114 ≡ 99 = sym (ap first_byte s.0) ∙ ap first_byte t.0 in
-    omega arith
+    omega (arith, bytes)
 
 -- words spell one command
 pub one_command : (words : List (List ℕ)) (c d : Command) → Spells words c → Spells words d → c ≡ d

@@ -1,5 +1,5 @@
 -- A sorted list without repeats is the set of its values.
-use Rattle.std.specs.Prelude.{◌≡◌, ◌↔◌, Bool, true, false, ◌||◌, cond, ◌+◌, ℕ, ℤ, List, [], ◌∷◌, map, max, refl}
+use Rattle.std.specs.Prelude.{◌≡◌, ◌↔◌, Bool, true, false, ◌||◌, cond, ◌+◌, ◌≤◌, ℕ, ℤ, List, [], ◌∷◌, map, max, refl}
 use Rattle.std.specs.List.{AllByRecursion, list_any, dedup, Contains}
 use Rattle.std.specs.List.Sorted.{IsStrictlySortedBy, IsSorted, IsPermutation}
 use Rattle.std.specs.Cmp.{on_total}
@@ -86,8 +86,23 @@ elements_flat : (zs : List ℤ) → elements_depth (elements_of (map int zs)) �
 elements_flat [] = refl
 elements_flat (z ∷ zs) = ap (λ n. max 0 n) (elements_flat zs)
 
-pub set_flat : (zs : List ℤ) → depth (set_of (map int zs)) ≡ 1
-set_flat zs = ap (λ n. 1 + n) (elements_flat zs)
+depth_insert_by : (o : Ordering) (d e : Datum) (es more : List Datum) → datum_cmp d e ≡ o → elements_depth (elements_of more) ≡ max (depth d) (elements_depth (elements_of es))
+    → elements_depth (elements_of (insert_by o d e es more)) ≡ max (depth d) (elements_depth (elements_of (e ∷ es)))
+depth_insert_by Less d e es more p h = refl
+depth_insert_by Equal d e es more p h = omega (arith, ap depth (same_datum d e p))
+depth_insert_by Greater d e es more p h = omega (arith, h)
+
+depth_insert : (d : Datum) (ds : List Datum) → elements_depth (elements_of (insert_datum d ds)) ≡ max (depth d) (elements_depth (elements_of ds))
+depth_insert d [] = refl
+depth_insert d (e ∷ es) = depth_insert_by (datum_cmp d e) d e es (insert_datum d es) refl (depth_insert d es)
+
+depth_set_from : (ds : List Datum) → elements_depth (elements_of (set_from ds)) ≡ elements_depth (elements_of ds)
+depth_set_from [] = refl
+depth_set_from (d ∷ ds) = omega (arith, depth_insert d (set_from ds), depth_set_from ds)
+
+-- a set of integers is no deeper than a value may be
+pub shallow : (zs : List ℤ) (ds : List Datum) → ds ≡ set_from (map int zs) → 1 + elements_depth (elements_of ds) ≤ 500
+shallow zs ds e = omega (arith, ap (λ l. elements_depth (elements_of l)) e, depth_set_from (map int zs), elements_flat zs)
 
 -- ---- the set of the meaning
 

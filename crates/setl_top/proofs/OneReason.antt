@@ -14,7 +14,7 @@ use Rattle.setl_parse.specs.declared.fault.ParseFault.{ParseFault}
 use Rattle.setl_parse.specs.declared.fault.ParseFault.TheVariants as fault
 use Rattle.setl_names.specs.Breaks.{breaks, first_break, break_at}
 use Rattle.setl_names.specs.declared.broken.Break.{Break}
-use Rattle.setl_top.specs.Accepted.{IsParsed, IsProgram, IsBuilt, IsUnspelled, IsUnparsed, IsUnsound, IsUnbuilt, IsRefusedFor}
+use Rattle.setl_top.specs.Accepted.{lexed, IsParsed, IsProgram, IsBuilt, IsUnspelled, IsUnparsed, IsUnsound, IsUnbuilt, IsRefusedFor}
 use Rattle.setl_top.specs.Words.{Command}
 use Rattle.setl_top.specs.declared.reason.Reason.{Reason}
 use Rattle.setl_top.specs.declared.reason.Reason.TheVariants as reason
@@ -28,13 +28,13 @@ pub record FrontLaws : Type 0 where
 
 -- the tokens of a source derive this tree
 abbrev Derived : List ℕ → List Token → Tree → Type 0
-Derived source ts tree = grammar.program 200 (plain_tokens (record { source = source; tokens = ts })) tree
+Derived source ts tree = grammar.program 200 (plain_tokens (lexed source ts)) tree
 
 -- a source has one tree
 pub one_parsed : FrontLaws → (source : List ℕ) (t u : Tree) → IsParsed source t → IsParsed source u → t ≡ u
 one_parsed laws source t u a b =
     let tokens = laws.one_spelling source b.tokens a.tokens b.spelled a.spelled in
-    laws.one_tree (plain_tokens (record { source = source; tokens = a.tokens })) t u (200, a.derived) (200, subst (λ ts. Derived source ts u) tokens b.derived)
+    laws.one_tree (plain_tokens (lexed source a.tokens)) t u (200, a.derived) (200, subst (λ ts. Derived source ts u) tokens b.derived)
 
 pub one_program_tree : FrontLaws → (source : List ℕ) (t u : Tree) → IsProgram source t → IsProgram source u → t ≡ u
 one_program_tree laws source t u a b = one_parsed laws source t u a.parsed b.parsed
@@ -107,7 +107,7 @@ not_refused laws command source r h = not_at_stage laws command source r (stage 
 one_stop : FrontLaws → (source : List ℕ) (s t : ParseFault) → IsUnparsed source s → IsUnparsed source t → s ≡ t
 one_stop laws source s t a b =
     let tokens = laws.one_spelling source b.tokens a.tokens b.spelled a.spelled in
-    let other = subst (λ ts. outcome_of (record { source = source; tokens = ts }) (reading.program 200 (plain_tokens (record { source = source; tokens = ts }))) ≡ Err t) tokens b.stops in
+    let other = subst (λ ts. outcome_of (lexed source ts) (reading.program 200 (plain_tokens (lexed source ts))) ≡ Err t) tokens b.stops in
     let mine = a.stops in
     cc
 

@@ -2,6 +2,7 @@
 use Rattle.std.specs.Prelude.{◌≡◌, ◌<◌, ◌≤◌, ◌^◌, true, ℕ, ℤ, List, [], ◌∷◌, length, Some, None, Err}
 use Rattle.setl_value.specs.Datum.{int}
 use Rattle.setl_token.specs.Lex.{Spelled, LexFails}
+use Rattle.setl_token.specs.Text.{Lexed}
 use Rattle.setl_token.specs.declared.Cause.{Cause}
 use Rattle.setl_token.specs.declared.Cause.TheVariants as cause
 use Rattle.setl_token.specs.declared.Token.{Token}
@@ -59,12 +60,16 @@ program_of tree = record { main = plain_block tree; procedures = []; modes = [] 
 
 -- ---- programs
 
+-- a source with its tokens
+abbrev pub lexed : List ℕ → List Token → Lexed
+lexed source tokens = record { source = source; tokens = tokens }
+
 -- the source has at most 2^24 bytes and is spelled by tokens that derive the tree within 200 nestings
 pub record IsParsed (source : List ℕ) (tree : Tree) : Type 0 where
   pub short : length source ≤ 2 ^ 24
   pub tokens : List Token
   pub spelled : Spelled source tokens
-  pub derived : grammar.program 200 (plain_tokens (record { source = source; tokens = tokens })) tree
+  pub derived : grammar.program 200 (plain_tokens (lexed source tokens)) tree
 
 -- and no rule is broken
 pub record IsProgram (source : List ℕ) (tree : Tree) : Type 0 where
@@ -105,8 +110,8 @@ pub record IsUnparsed (source : List ℕ) (stop : ParseFault) : Type 0 where
   pub short : length source ≤ 2 ^ 24
   pub tokens : List Token
   pub spelled : Spelled source tokens
-  pub none : (tree : Tree) → grammar.program 200 (plain_tokens (record { source = source; tokens = tokens })) tree → ⊥
-  pub stops : let list = record { source = source; tokens = tokens } in outcome_of list (reading.program 200 (plain_tokens list)) ≡ Err stop
+  pub none : (tree : Tree) → grammar.program 200 (plain_tokens (lexed source tokens)) tree → ⊥
+  pub stops : outcome_of (lexed source tokens) (reading.program 200 (plain_tokens (lexed source tokens))) ≡ Err stop
 
 -- the source has a tree, and this is the first of its breaks, by line and then by rule
 pub record IsUnsound (source : List ℕ) (broken : Break) : Type 0 where
