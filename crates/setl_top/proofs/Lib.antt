@@ -1,5 +1,6 @@
 pub mod Fronts
 pub mod Ends
+pub mod Loading
 pub mod OneReason
 pub mod Exclude
 pub mod Leading

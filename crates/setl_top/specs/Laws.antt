@@ -10,7 +10,7 @@ use Rattle.setl_top.specs.Headline.{Moment, Headline, Ended, AnyRose, Answers, J
 use Rattle.setl_top.specs.Words.{Command, Check, Spells, HasFile}
 use Rattle.setl_top.specs.declared.status.Status.{Status}
 use Rattle.setl_top.specs.declared.status.Status.TheVariants.{NoMemory, Refused}
-use Rattle.setl_top.specs.declared.status.Status.TheVariants as status
+use Rattle.setl_top.specs.declared.status.Status.TheVariants as ended
 
 -- the call failed in none of the three ways only where it came to its end
 abbrev pub IsComplete : Type 0
@@ -30,7 +30,7 @@ RefusesExactly = (words : List (List ℕ)) (before : Moment) (texts : List ℕ �
 abbrev pub ChecksExactly : Type 0
 ChecksExactly = (words : List (List ℕ)) (before : Moment) (texts : List ℕ → Option (List ℕ)) (name source : List ℕ) (status : Status) (out err : List ℕ) →
     TellsTexts before texts → Spells words (Check name) → texts name ≡ Some source → Answers words before status out err →
-    ((status ≡ status.Done) ↔ ((tree : Tree) × IsProgram source tree × IsBuilt (Check name) tree)) × (out ≡ []) × (status ≡ status.Done → err ≡ [])
+    ((status ≡ ended.Done) ↔ ((tree : Tree) × IsProgram source tree × IsBuilt (Check name) tree)) × (out ≡ []) × (status ≡ ended.Done → err ≡ [])
 
 abbrev pub EndsExactly : Type 0
 EndsExactly = (words : List (List ℕ)) (before : Moment) (texts : List ℕ → Option (List ℕ)) (input : List ℕ) (job : Job) (said : List ℕ) (end : End) (ending : RunStatus) (status : Status) (out err : List ℕ) →

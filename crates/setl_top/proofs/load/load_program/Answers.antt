@@ -1,0 +1,11 @@
+use Rattle.setl_top.proofs.Loading.{not_accepted_then, no_room_then}
+use Rattle.setl_top.proofs.load.load_program.Goals as goal
+
+pub returns-in-Err-Refused-clause-not_loaded : goal.returns-in-Err-Refused-clause-not_loaded
+returns-in-Err-Refused-clause-not_loaded g c =
+    let known = c.in-Ok.ensures in
+    let why = rw c.deref.ensures.value at (rw c.in-Err-Refused.field-0-is at c.in-Err-Refused.ensures.why) in
+    λ command. not_accepted_then command _ _ _ known.still _ _ c.in-Ok.source.items c.in-Err-Refused.reason _ known.loaded.text (why command) c.refuse.ensures.told
+
+pub returns-clause-not_loaded : goal.returns-clause-not_loaded
+returns-clause-not_loaded g c = λ command. no_room_then command _ _ _ c.in-Ok.ensures.still _ _ c.try_line.ensures.front
