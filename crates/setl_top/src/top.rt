@@ -13,9 +13,9 @@ use std::alloc::Global;
 
 /// Does what the words of the command line ask for, and tells how that ended.
 ///
-/// `words` are those after the program's own name: `run FILE` or `check FILE`. `files` has the sources by name, and `input` is what a program
-/// reads. `out` gains what the program prints, each line at its `print`; `err` gains the last line of a call that
-/// wasn't done, if it has one.
+/// `words` are those after the program's own name: `run FILE` or `check FILE`. `files` has the sources by name, and
+/// `input` is what a program reads. `out` gains what the program prints, each line at its `print`; `err` gains the last
+/// line of a call that wasn't done, if it has one. A check leaves `input` and `out` as they were, however it ends.
 ///
 /// `ReadFault` comes only where the count of faults of `files` or `input` rose in the call, `WriteFault` only where that
 /// of `out` or `err` rose, and `NoMemory` only where memory was refused. After these the error line is tried once.
