@@ -1,5 +1,5 @@
 -- Where no nesting may open.
-use Rattle.std.proofs.Common.{◌≡◌, length, Result, Ok, Err, refl}
+use Rattle.std.proofs.Common.{◌≡◌, length, Err, refl}
 use Rattle.setl_tree.specs.Tokens.{Tokens}
 use Rattle.setl_grammar.specs.declared.fault.Fault.TheVariants.{Syntax}
 use Rattle.setl_grammar.specs.ReadExpressions.{nested}

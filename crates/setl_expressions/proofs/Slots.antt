@@ -1,15 +1,15 @@
 -- What the tokens behind an opening bracket show, slot by slot.
-use Rattle.std.proofs.Common.{◌≡◌, ℕ, zero, suc, ◌+◌, ◌<◌, ◌≤◌, Bool, true, false, cond, List, [], ◌∷◌, ◌++◌, length, drop, refl, sym, ap, ◌∙◌, arith, length-drop}
+use Rattle.std.proofs.Common.{◌≡◌, ℕ, ◌+◌, ◌<◌, ◌≤◌, Bool, true, false, cond, List, [], ◌∷◌, ◌++◌, length, drop, refl, ap, ◌∙◌, arith, length-drop}
 use Rattle.std.proofs.lemmas.List.{drop-drop}
-use Rattle.setl_tree.specs.Tokens.{Token, Tokens}
+use Rattle.setl_tree.specs.Tokens.{Tokens}
 use Rattle.setl_tree.specs.declared.kind.Kind.{Kind}
 use Rattle.setl_tree.specs.declared.kind.Kind.TheVariants as k
 use Rattle.setl_grammar.specs.declared.ahead.Ahead.{Ahead}
-use Rattle.setl_grammar.specs.declared.ahead.Ahead.TheVariants.{Expression, Either, Pattern}
+use Rattle.setl_grammar.specs.declared.ahead.Ahead.TheVariants.{Expression, Pattern}
 use Rattle.setl_grammar.specs.Reading.{next_kind, same_kind, rest_of}
 use Rattle.setl_tree.specs.declared.expr.Slot.{Slot}
 use Rattle.setl_tree.specs.declared.expr.Expr.{Expr}
-use Rattle.setl_grammar.specs.Scan.{slot_expr, slot_exprs, slots_ahead, after_name, ends_slot, either_at}
+use Rattle.setl_grammar.specs.Scan.{slot_expr, slot_exprs, slots_ahead, after_name, ends_slot}
 
 pub rest_is_drop : (toks : Tokens) → rest_of toks ≡ drop 1 toks
 rest_is_drop [] = refl

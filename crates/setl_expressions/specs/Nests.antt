@@ -1,5 +1,5 @@
 -- What reads the parts of expressions that stand one nesting deeper.
-use Rattle.std.specs.Prelude.{◌≡◌, ℕ, Result}
+use Rattle.std.specs.Prelude.{ℕ, Result}
 use Rattle.std.specs.Borrow.{MutBor}
 use Rattle.setl_tree.specs.declared.expr.Expr.{Expr}
 use Rattle.setl_tree.specs.Tokens.{Tokens}

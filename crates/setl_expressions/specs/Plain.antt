@@ -1,5 +1,5 @@
 -- The tokens of a source as plain data, of which the grammar speaks.
-use Rattle.std.specs.Prelude.{ℕ, ℤ, pos, ◌-◌, ◌==◌, Bool, if◌then◌else◌, List, [], ◌∷◌, length, take, drop, map}
+use Rattle.std.specs.Prelude.{ℕ, ℤ, pos, ◌-◌, ◌==◌, if◌then◌else◌, List, [], ◌∷◌, length, take, drop, map}
 use Rattle.setl_tree.specs.declared.kind.Kind.{Kind}
 use Rattle.setl_tree.specs.declared.kind.Kind.TheVariants as k
 use Rattle.setl_tree.specs.Tokens.{Token, Tokens}
@@ -49,7 +49,7 @@ plain_token source t = record {
   kind = kind_of t.kind (token_text source t);
   text = content_of t.kind (token_text source t);
   value = value_of t.kind;
-  line = t.line
+  line = t.line;
 }
 
 -- the tokens of a source, in their order

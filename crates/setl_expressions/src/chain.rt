@@ -50,7 +50,12 @@ impl<'r, R: Rule<Out = Expr>> Repeated for Operand<'r, R> {
 
 /// What goes on from the first operand of a level.
 #[tactic(auto, unfolding(setl_grammar::specs::ReadExpressions::operands))]
-pub fn chain_from<R: Rule<Out = Expr>>(level: u8, item: &R, first: Expr, tokens: &mut Cursor<'_>) -> Result<Expr, Fault>
+pub fn chain_from<R: Rule<Out = Expr>>(
+    level: u8,
+    item: &R,
+    first: Expr,
+    tokens: &mut Cursor<'_>,
+) -> Result<Expr, Fault>
     requires { R.can_read item.now }
     ensures { Reads (spec.chain_from level (R.reader item.now) first tokens.old) result tokens.new }
 {

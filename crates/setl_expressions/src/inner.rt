@@ -62,7 +62,8 @@ impl<'g, F: Fn(&mut Cursor<'_>, usize, Part) -> Result<Expr, Fault>> Rule for Co
     }
 }
 
-impl<'g, F: Fn(&mut Cursor<'_>, usize, Part) -> Result<Expr, Fault>> Repeated for ConditionRule<'g, F> {
+impl<'g, F: Fn(&mut Cursor<'_>, usize, Part) -> Result<Expr, Fault>> Repeated
+    for ConditionRule<'g, F> {
     ghost use Rattle.setl_tree.specs.declared.kind.Kind.TheVariants as k;
     ghost use Rattle.setl_grammar.specs.Reading.{is};
 
@@ -89,7 +90,12 @@ fn stepped(alloc: Global, first: Expr, second: Expr, last: Boxed<Expr>) -> Resul
 }
 
 /// Two or more expressions.
-fn list_of(alloc: Global, first: Expr, second: Expr, others: Items<Expr>) -> Result<Inner, AllocError>
+fn list_of(
+    alloc: Global,
+    first: Expr,
+    second: Expr,
+    others: Items<Expr>,
+) -> Result<Inner, AllocError>
     ensures { IfOk result (λ i. i ≡ Inner.List (first ∷ second ∷ others)) }
 {
     let behind = with_first(alloc, second, others)?;
@@ -116,7 +122,11 @@ fn membership(alloc: Global, bound: Bound, source: Expr) -> Result<Expr, AllocEr
     ensures { IfOk result (λ e. e ≡ Expr.Compare (bound_expr bound) Relation.In source) }
 {
     let left = bound_as_expr(alloc, bound)?;
-    Ok(Expr::Compare(Boxed::new(alloc, left)?, Relation::In, Boxed::new(alloc, source)?))
+    Ok(Expr::Compare(
+        Boxed::new(alloc, left)?,
+        Relation::In,
+        Boxed::new(alloc, source)?,
+    ))
 }
 
 impl<F: Fn(&mut Cursor<'_>, usize, Part) -> Result<Expr, Fault>> Grammar<F> {
@@ -247,7 +257,12 @@ impl<F: Fn(&mut Cursor<'_>, usize, Part) -> Result<Expr, Fault>> Grammar<F> {
 
     /// What stands behind `bound in source`, which may be the left side of an expression.
     #[tactic(auto, unfolding(setl_grammar::specs::ReadExpressions::filter_or_plain))]
-    fn filter_or_plain(&self, bound: Bound, source: Expr, tokens: &mut Cursor<'_>) -> Result<Inner, Fault>
+    fn filter_or_plain(
+        &self,
+        bound: Bound,
+        source: Expr,
+        tokens: &mut Cursor<'_>,
+    ) -> Result<Inner, Fault>
         requires { Nests self.now.room (F.pre self.now.inside) (F.post self.now.inside) }
         ensures { Reads (spec.filter_or_plain (self.now.room - 1) (nested self.now.room) bound source tokens.old) result tokens.new }
     {

@@ -168,7 +168,11 @@ pub fn constant(kind: Kind) -> Option<Expr>
 }
 
 /// A chain of operators of one level, or its one operand alone.
-pub fn chain_of(alloc: Global, first: Expr, others: Items<(BinaryOp, Expr)>) -> Result<Expr, AllocError>
+pub fn chain_of(
+    alloc: Global,
+    first: Expr,
+    others: Items<(BinaryOp, Expr)>,
+) -> Result<Expr, AllocError>
     ensures { IfOk result (λ e. e ≡ table.chain_of first others) }
 {
     if others.is_empty() {
@@ -188,7 +192,11 @@ pub fn prefixed(alloc: Global, prefixes: Items<Prefix>, operand: Expr) -> Result
 }
 
 /// A primary expression with its selectors.
-pub fn selected(alloc: Global, primary: Expr, selectors: Items<Selector>) -> Result<Expr, AllocError>
+pub fn selected(
+    alloc: Global,
+    primary: Expr,
+    selectors: Items<Selector>,
+) -> Result<Expr, AllocError>
     ensures { IfOk result (λ e. e ≡ table.selected primary selectors) }
 {
     if selectors.is_empty() {

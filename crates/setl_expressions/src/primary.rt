@@ -70,7 +70,8 @@ impl<'g, F: Fn(&mut Cursor<'_>, usize, Part) -> Result<Expr, Fault>> Rule for Se
     }
 }
 
-impl<'g, F: Fn(&mut Cursor<'_>, usize, Part) -> Result<Expr, Fault>> Repeated for SelectorRule<'g, F> {
+impl<'g, F: Fn(&mut Cursor<'_>, usize, Part) -> Result<Expr, Fault>> Repeated
+    for SelectorRule<'g, F> {
     ghost use Rattle.setl_grammar.specs.ReadExpressions.{begins_selector};
 
     ghost begins_with = { λ s. begins_selector };
@@ -326,10 +327,23 @@ impl<F: Fn(&mut Cursor<'_>, usize, Part) -> Result<Expr, Fault>> Grammar<F> {
         requires { Nests self.now.room (F.pre self.now.inside) (F.post self.now.inside) }
         ensures { Reads (spec.e7 self.now.room (nested self.now.room) tokens.old) result tokens.new }
     {
-        let power = Chain { level: 10, item: PrefixedRule { grammar: self } };
-        let product = Chain { level: 9, item: power };
-        let sum = Chain { level: 8, item: product };
-        Chain { level: 7, item: sum }.read(tokens)
+        let power = Chain {
+            level: 10,
+            item: PrefixedRule { grammar: self },
+        };
+        let product = Chain {
+            level: 9,
+            item: power,
+        };
+        let sum = Chain {
+            level: 8,
+            item: product,
+        };
+        Chain {
+            level: 7,
+            item: sum,
+        }
+        .read(tokens)
     }
 
     /// What goes on from the left side of a comparison.
@@ -373,9 +387,19 @@ impl<F: Fn(&mut Cursor<'_>, usize, Part) -> Result<Expr, Fault>> Grammar<F> {
         requires { Nests self.now.room (F.pre self.now.inside) (F.post self.now.inside) }
         ensures { Reads (spec.e2 self.now.room (nested self.now.room) tokens.old) result tokens.new }
     {
-        let both = Chain { level: 4, item: ComparedRule { grammar: self } };
-        let one = Chain { level: 3, item: both };
-        Chain { level: 2, item: one }.read(tokens)
+        let both = Chain {
+            level: 4,
+            item: ComparedRule { grammar: self },
+        };
+        let one = Chain {
+            level: 3,
+            item: both,
+        };
+        Chain {
+            level: 2,
+            item: one,
+        }
+        .read(tokens)
     }
 
     /// What goes on from an operand of `and`.
@@ -385,9 +409,28 @@ impl<F: Fn(&mut Cursor<'_>, usize, Part) -> Result<Expr, Fault>> Grammar<F> {
         ensures { Reads (spec.after self.now.room (nested self.now.room) a tokens.old) result tokens.new }
     {
         let a = chain_from(4, &ComparedRule { grammar: self }, a, tokens)?;
-        let a = chain_from(3, &Chain { level: 4, item: ComparedRule { grammar: self } }, a, tokens)?;
-        let both = Chain { level: 4, item: ComparedRule { grammar: self } };
-        chain_from(2, &Chain { level: 3, item: both }, a, tokens)
+        let a = chain_from(
+            3,
+            &Chain {
+                level: 4,
+                item: ComparedRule { grammar: self },
+            },
+            a,
+            tokens,
+        )?;
+        let both = Chain {
+            level: 4,
+            item: ComparedRule { grammar: self },
+        };
+        chain_from(
+            2,
+            &Chain {
+                level: 3,
+                item: both,
+            },
+            a,
+            tokens,
+        )
     }
 
     /// `exists iterators | condition` and the like.

@@ -66,7 +66,11 @@ pub fn optional<R: Repeated>(rule: &R, tokens: &mut Cursor<'_>) -> Result<Option
 }
 
 /// The items with one in front.
-pub fn with_first<T: Drop>(alloc: Global, first: T, others: Items<T>) -> Result<Items<T>, AllocError>
+pub fn with_first<T: Drop>(
+    alloc: Global,
+    first: T,
+    others: Items<T>,
+) -> Result<Items<T>, AllocError>
     ensures { IfOk result (λ all. all ≡ first ∷ others) }
 {
     let mut all = Items::new(alloc);
@@ -130,7 +134,11 @@ pub fn more<R: Rule>(rule: &R, tokens: &mut Cursor<'_>) -> Result<Items<R::Out>,
 
 /// Parts with commas between up to the token that closes them, or nothing.
 #[tactic(auto, unfolding(setl_grammar::specs::Reading::listed))]
-pub fn listed<R: Rule>(close: Kind, rule: &R, tokens: &mut Cursor<'_>) -> Result<Items<R::Out>, Fault>
+pub fn listed<R: Rule>(
+    close: Kind,
+    rule: &R,
+    tokens: &mut Cursor<'_>,
+) -> Result<Items<R::Out>, Fault>
     requires { R.can_read rule.now }
     ensures { Reads (spec.listed close (R.reader rule.now) tokens.old) result tokens.new }
 {

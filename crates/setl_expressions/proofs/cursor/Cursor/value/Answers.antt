@@ -1,5 +1,5 @@
-use Rattle.std.proofs.Common.{refl, rules, arith}
-use Rattle.std.proofs.lemmas.Int.{to_z-of_z, ints}
+use Rattle.std.proofs.Common.{refl, rules}
+use Rattle.std.proofs.lemmas.Int.{to_z-of_z}
 use mir.Syntax.{w128}
 use Rattle.setl_expressions.specs.Plain.{plain_token}
 use Rattle.setl_expressions.proofs.Plain.{token_at}
@@ -8,8 +8,7 @@ use Rattle.setl_expressions.proofs.cursor.Cursor.value.Goals as goal
 pub returns-in-Number : goal.returns-in-Number
 unfolding plain_token
 returns-in-Number c =
-
-    rw (← c.self.view_is, token_at c.self.inside.list.now c.self.inside.at c.at.result.now c.at.ensures.value, c.in-Number.is) (to_z-of_z w128 c.in-Number.n (first_of (search rules, omega arith, grind (arith, ints))))
+    rw (← c.self.view_is, token_at c.self.inside.list.now c.self.inside.at c.at.result.now c.at.ensures.value, c.in-Number.is) (to_z-of_z w128 c.in-Number.n (search rules))
 
 pub returns-in-Name : goal.returns-in-Name
 unfolding plain_token
