@@ -1,5 +1,5 @@
 -- The places of faults, and the outcome of reading a whole program.
-use Rattle.std.specs.Prelude.{ℕ, ◌-◌, List, [], ◌∷◌, length, slice_get, Option, Some, None, Result, Ok, Err}
+use Rattle.std.specs.Prelude.{ℕ, ◌-◌, [], ◌∷◌, length, slice_get, Option, Some, None, Result, Ok, Err}
 use Rattle.setl_tree.specs.declared.tree.Tree.{Tree}
 use Rattle.setl_token.specs.declared.Token.{Token as Lexeme}
 use Rattle.setl_token.specs.Text.{Lexed}

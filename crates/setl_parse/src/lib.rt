@@ -9,22 +9,21 @@ mod statements;
 #[cfg(test)]
 mod tests;
 
-use crate::programs::program;
-use setl_expressions::Cursor;
-use setl_grammar::{reading_meets_grammar, tree_is_unique};
-use setl_token::TokenList;
-use setl_tree::Tree;
-use std::alloc::Global;
-
-pub use fault::ParseFault;
-use fault::fault_at;
-
 ghost use Rattle.std.specs.Prelude.{◌≡◌, ◌≢◌, IfOk, IfErr, MatchResult, Err};
 ghost use Rattle.setl_tree.specs.Programs as grammar;
 ghost use Rattle.setl_tree.specs.Programs.{Derives};
 ghost use Rattle.setl_grammar.specs.ReadPrograms as reading;
 ghost use Rattle.setl_expressions.specs.Plain.{plain_tokens};
 ghost use Rattle.setl_parse.specs.Places.{outcome_of};
+
+use crate::programs::program;
+pub use fault::ParseFault;
+use fault::fault_at;
+use setl_expressions::Cursor;
+use setl_grammar::{reading_meets_grammar, tree_is_unique};
+use setl_token::TokenList;
+use setl_tree::Tree;
+use std::alloc::Global;
 
 /// How many nestings may be open inside one another.
 pub const NESTINGS: usize = 200;

@@ -233,7 +233,11 @@ impl<H: Fn(&mut Cursor<'_>, usize) -> Result<WrittenMode, Fault>> Modes<H> {
         let line = tokens.line();
         let attribute = optional(&AttributeRule, tokens)?;
         let core = self.core(tokens)?;
-        Ok(WrittenMode { line, attribute, core })
+        Ok(WrittenMode {
+            line,
+            attribute,
+            core,
+        })
     }
 }
 

@@ -5,9 +5,14 @@ ghost use Rattle.setl_grammar.specs.Reading.{Reads};
 ghost use Rattle.setl_grammar.specs.ReadStatements as spec;
 ghost use Rattle.setl_grammar.specs.ReadStatements.{nested_stmts};
 ghost use Rattle.setl_parse.specs.Nests.{NestsStmts};
+ghost use Rattle.setl_parse.specs.Parts as parts;
 
-use crate::statements::{behind_name, ending, print_stmt, read_stmt, return_stmt, simple_stmt, tuple_assign};
-use setl_expressions::{Condition, Cursor, Repeated, Rule, iters, many, nested_expr, optional, same_kind};
+use crate::statements::{
+    behind_name, ending, followed, print_stmt, read_stmt, return_stmt, simple_stmt, tuple_assign,
+};
+use setl_expressions::{
+    Condition, Cursor, Repeated, Rule, iters, many, nested_expr, optional, same_kind,
+};
 use setl_grammar::Fault;
 use setl_tree::{Branch, Items, Kind, Stmt, StmtKind};
 
@@ -64,7 +69,8 @@ impl<'s, G: Fn(&mut Cursor<'_>, usize) -> Result<Items<Stmt>, Fault>> Rule for E
     }
 }
 
-impl<'s, G: Fn(&mut Cursor<'_>, usize) -> Result<Items<Stmt>, Fault>> Repeated for ElseifRule<'s, G> {
+impl<'s, G: Fn(&mut Cursor<'_>, usize) -> Result<Items<Stmt>, Fault>> Repeated
+    for ElseifRule<'s, G> {
     ghost use Rattle.setl_tree.specs.declared.kind.Kind.TheVariants as k;
     ghost use Rattle.setl_grammar.specs.Reading.{is};
 
@@ -152,29 +158,66 @@ impl<G: Fn(&mut Cursor<'_>, usize) -> Result<Items<Stmt>, Fault>> Statements<G> 
         (self.deep)(tokens, self.room)
     }
 
+    /// What was read, and the statements that it guards.
+    fn guarding<T: Drop>(&self, head: T, tokens: &mut Cursor<'_>) -> Result<(T, Items<Stmt>), Fault>
+        requires { NestsStmts self.now.room (G.pre self.now.deep) (G.post self.now.deep) }
+        ensures { Reads (parts.guarding head (nested_stmts self.now.room) tokens.old) result tokens.new }
+    {
+        let body = self.deeper(tokens)?;
+        Ok((head, body))
+    }
+
+    /// The head of a loop, and its statements up to its end.
+    fn looping<T: Drop>(
+        &self,
+        head: T,
+        word: Kind,
+        tokens: &mut Cursor<'_>,
+    ) -> Result<(T, Items<Stmt>), Fault>
+        requires { NestsStmts self.now.room (G.pre self.now.deep) (G.post self.now.deep) }
+        ensures { Reads (parts.looping head word (nested_stmts self.now.room) tokens.old) result tokens.new }
+    {
+        let body = self.deeper(tokens)?;
+        ending(word, tokens)?;
+        Ok((head, body))
+    }
+
     /// A condition with the statements that it guards.
     #[tactic(auto, unfolding(setl_grammar::specs::ReadStatements::branch))]
     fn branch(&self, tokens: &mut Cursor<'_>) -> Result<Branch, Fault>
         requires { NestsStmts self.now.room (G.pre self.now.deep) (G.post self.now.deep) }
         ensures { Reads (spec.branch self.now.room (nested_stmts self.now.room) tokens.old) result tokens.new }
     {
-        let condition = nested_expr(self.room, tokens)?;
-        tokens.expect(Kind::Then)?;
-        let body = self.deeper(tokens)?;
+        let condition = followed(nested_expr(self.room, tokens)?, Kind::Then, tokens)?;
+        let (condition, body) = self.guarding(condition, tokens)?;
         Ok(Branch { condition, body })
     }
 
+    /// The first branch of a conditional statement, and what stands behind it.
+    #[tactic(auto, unfolding(setl_grammar::specs::ReadStatements::elseifs, setl_grammar::specs::ReadStatements::else_part))]
+    fn branching<T: Drop>(
+        &self,
+        first: T,
+        tokens: &mut Cursor<'_>,
+    ) -> Result<(T, Items<Branch>, Option<Items<Stmt>>), Fault>
+        requires { NestsStmts self.now.room (G.pre self.now.deep) (G.post self.now.deep) }
+        ensures { Reads (parts.branching first self.now.room (nested_stmts self.now.room) tokens.old) result tokens.new }
+    {
+        let others = many(&ElseifRule { statements: self }, tokens)?;
+        let last = optional(&ElseRule { statements: self }, tokens)?;
+        ending(Kind::If, tokens)?;
+        Ok((first, others, last))
+    }
+
     /// A conditional statement.
-    #[tactic(auto, unfolding(setl_grammar::specs::ReadStatements::if_stmt, setl_grammar::specs::ReadStatements::elseifs, setl_grammar::specs::ReadStatements::else_part))]
+    #[tactic(auto, unfolding(setl_grammar::specs::ReadStatements::if_stmt))]
     fn if_stmt(&self, tokens: &mut Cursor<'_>) -> Result<StmtKind, Fault>
         requires { NestsStmts self.now.room (G.pre self.now.deep) (G.post self.now.deep) }
         ensures { Reads (spec.if_stmt self.now.room (nested_stmts self.now.room) tokens.old) result tokens.new }
     {
         tokens.open(self.room, Kind::If)?;
         let first = self.branch(tokens)?;
-        let others = many(&ElseifRule { statements: self }, tokens)?;
-        let last = optional(&ElseRule { statements: self }, tokens)?;
-        ending(Kind::If, tokens)?;
+        let (first, others, last) = self.branching(first, tokens)?;
         Ok(StmtKind::If(first, others, last))
     }
 
@@ -187,10 +230,9 @@ impl<G: Fn(&mut Cursor<'_>, usize) -> Result<Items<Stmt>, Fault>> Statements<G> 
         tokens.expect(Kind::For)?;
         let over = iters(self.room, tokens)?;
         let condition = optional(&Condition { room: self.room }, tokens)?;
-        tokens.expect(Kind::RightParen)?;
-        let body = self.deeper(tokens)?;
-        ending(Kind::For, tokens)?;
-        Ok(StmtKind::For(over, condition, body))
+        let condition = followed(condition, Kind::RightParen, tokens)?;
+        let (head, body) = self.looping((over, condition), Kind::For, tokens)?;
+        Ok(StmtKind::For(head.0, head.1, body))
     }
 
     /// A loop under a condition behind `(`.
@@ -200,10 +242,8 @@ impl<G: Fn(&mut Cursor<'_>, usize) -> Result<Items<Stmt>, Fault>> Statements<G> 
         ensures { Reads (spec.while_loop self.now.room (nested_stmts self.now.room) tokens.old) result tokens.new }
     {
         tokens.expect(Kind::While)?;
-        let condition = nested_expr(self.room, tokens)?;
-        tokens.expect(Kind::RightParen)?;
-        let body = self.deeper(tokens)?;
-        ending(Kind::While, tokens)?;
+        let condition = followed(nested_expr(self.room, tokens)?, Kind::RightParen, tokens)?;
+        let (condition, body) = self.looping(condition, Kind::While, tokens)?;
         Ok(StmtKind::While(condition, body))
     }
 

@@ -91,7 +91,11 @@ impl Rule for ParamRule {
         let line = tokens.line();
         let passing = optional(&PassingRule, tokens)?.unwrap_or(Passing::Rd);
         let name = tokens.name()?;
-        Ok(Param { passing, name, line })
+        Ok(Param {
+            passing,
+            name,
+            line,
+        })
     }
 }
 
@@ -221,13 +225,26 @@ fn program_end(tokens: &mut Cursor<'_>) -> Result<(u32, Option<Text>), Fault>
 }
 
 /// A procedure behind its parameters.
-fn proc_body(room: usize, line: u32, name: Text, params: Items<Param>, tokens: &mut Cursor<'_>) -> Result<Proc, Fault>
+fn proc_body(
+    room: usize,
+    line: u32,
+    name: Text,
+    params: Items<Param>,
+    tokens: &mut Cursor<'_>,
+) -> Result<Proc, Fault>
     ensures { Reads (proc_from room line name params tokens.old) result tokens.new }
 {
     tokens.expect(Kind::Semicolon)?;
     let body = stmts(room, tokens)?;
     let (end_line, end_name) = proc_end(tokens)?;
-    Ok(Proc { line, name, params, body, end_name, end_line })
+    Ok(Proc {
+        line,
+        name,
+        params,
+        body,
+        end_name,
+        end_line,
+    })
 }
 
 /// A procedure.
@@ -250,7 +267,9 @@ impl Rule for ProcRule {
         let line = tokens.line();
         proc_word(tokens)?;
         let name = tokens.name()?;
-        let params = optional(&ParamsRule { room: self.room }, tokens)?.unwrap_or(Items::new(tokens.alloc()));
+        let params = optional(&ParamsRule { room: self.room }, tokens)?.unwrap_or(Items::new(
+            tokens.alloc(),
+        ));
         proc_body(self.room, line, name, params, tokens)
     }
 }
@@ -267,13 +286,27 @@ impl Repeated for ProcRule {
 
 /// A program behind its declarations.
 #[tactic(auto, unfolding(setl_grammar::specs::ReadPrograms::procs))]
-fn program_body(room: usize, name: Text, vars: Items<Declared>, modes: Items<ReprLine>, tokens: &mut Cursor<'_>) -> Result<Tree, Fault>
+fn program_body(
+    room: usize,
+    name: Text,
+    vars: Items<Declared>,
+    modes: Items<ReprLine>,
+    tokens: &mut Cursor<'_>,
+) -> Result<Tree, Fault>
     ensures { Reads (program_from room name vars modes tokens.old) result tokens.new }
 {
     let body = stmts(room, tokens)?;
     let procs = many(&ProcRule { room }, tokens)?;
     let (end_line, end_name) = program_end(tokens)?;
-    Ok(Tree { name, vars, modes, body, procs, end_name, end_line })
+    Ok(Tree {
+        name,
+        vars,
+        modes,
+        body,
+        procs,
+        end_name,
+        end_line,
+    })
 }
 
 /// A program.

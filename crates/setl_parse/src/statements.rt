@@ -6,8 +6,12 @@ ghost use Rattle.setl_tree.specs.Statements as grammar;
 ghost use Rattle.setl_tree.specs.Tokens.{Token};
 ghost use Rattle.setl_grammar.specs.Reading.{Reads, begins_as};
 ghost use Rattle.setl_grammar.specs.ReadStatements as spec;
+ghost use Rattle.setl_parse.specs.Parts as parts;
 
-use setl_expressions::{Cursor, NestedExpr, Repeated, Rule, begins_selector, braces, expr, listed, many, pattern, same_kind, separated, with_first};
+use setl_expressions::{
+    Cursor, NestedExpr, Repeated, Rule, begins_selector, braces, expr, listed, many, pattern,
+    same_kind, separated, with_first,
+};
 use setl_grammar::Fault;
 use setl_tree::{BinaryOp, Expr, FromEnd, Items, Kind, Place, Selector, StmtKind, Text};
 
@@ -66,7 +70,10 @@ fn simple(kind: Kind) -> Option<StmtKind>
 fn is_simple(kind: Kind) -> bool
     ensures { result ≡ begins_as grammar.simple kind }
 {
-    matches!(kind, Kind::Quit | Kind::Continue | Kind::Fail | Kind::Stop | Kind::Pass)
+    matches!(
+        kind,
+        Kind::Quit | Kind::Continue | Kind::Fail | Kind::Stop | Kind::Pass
+    )
 }
 
 /// Reads `end`, maybe this word, and `;`.
@@ -81,6 +88,14 @@ pub fn ending(word: Kind, tokens: &mut Cursor<'_>) -> Result<(), Fault>
     }
     tokens.expect(Kind::Semicolon)?;
     Ok(())
+}
+
+/// What was read, behind which a token of this kind stands.
+pub fn followed<T: Drop>(head: T, kind: Kind, tokens: &mut Cursor<'_>) -> Result<T, Fault>
+    ensures { Reads (parts.followed head kind tokens.old) result tokens.new }
+{
+    tokens.expect(kind)?;
+    Ok(head)
 }
 
 /// Expressions in the round brackets of a place.
@@ -144,8 +159,7 @@ fn assigned(room: usize, place: Place, tokens: &mut Cursor<'_>) -> Result<StmtKi
     ensures { Reads (spec.assigned room place tokens.old) result tokens.new }
 {
     tokens.expect(Kind::Assign)?;
-    let value = expr(room, tokens)?;
-    tokens.expect(Kind::Semicolon)?;
+    let value = followed(expr(room, tokens)?, Kind::Semicolon, tokens)?;
     Ok(StmtKind::Assign(place, value))
 }
 
@@ -159,8 +173,7 @@ fn updated(room: usize, place: Place, tokens: &mut Cursor<'_>) -> Result<StmtKin
     };
     tokens.pass();
     tokens.expect(Kind::Assign)?;
-    let value = expr(room, tokens)?;
-    tokens.expect(Kind::Semicolon)?;
+    let value = followed(expr(room, tokens)?, Kind::Semicolon, tokens)?;
     Ok(StmtKind::Update(place, op, value))
 }
 
@@ -177,7 +190,12 @@ fn stored(room: usize, place: Place, tokens: &mut Cursor<'_>) -> Result<StmtKind
 
 /// What stands behind the first selector of a place.
 #[tactic(auto, unfolding(setl_grammar::specs::ReadStatements::selected_place, setl_grammar::specs::ReadStatements::place_selectors))]
-fn selected_place(room: usize, name: Text, first: Selector, tokens: &mut Cursor<'_>) -> Result<StmtKind, Fault>
+fn selected_place(
+    room: usize,
+    name: Text,
+    first: Selector,
+    tokens: &mut Cursor<'_>,
+) -> Result<StmtKind, Fault>
     ensures { Reads (spec.selected_place room name first tokens.old) result tokens.new }
 {
     let others = many(&PlaceSelector { room }, tokens)?;
@@ -187,7 +205,12 @@ fn selected_place(room: usize, name: Text, first: Selector, tokens: &mut Cursor<
 
 /// What stands behind `name(x, ..)`.
 #[tactic(auto, unfolding(setl_grammar::specs::ReadStatements::after_arguments))]
-fn after_arguments(room: usize, name: Text, all: Items<Expr>, tokens: &mut Cursor<'_>) -> Result<StmtKind, Fault>
+fn after_arguments(
+    room: usize,
+    name: Text,
+    all: Items<Expr>,
+    tokens: &mut Cursor<'_>,
+) -> Result<StmtKind, Fault>
     ensures { Reads (spec.after_arguments room name all tokens.old) result tokens.new }
 {
     if same_kind(tokens.kind(), Kind::Semicolon) {
@@ -277,8 +300,7 @@ pub fn tuple_assign(room: usize, tokens: &mut Cursor<'_>) -> Result<StmtKind, Fa
 {
     let slots = pattern(room, tokens)?;
     tokens.expect(Kind::Assign)?;
-    let value = expr(room, tokens)?;
-    tokens.expect(Kind::Semicolon)?;
+    let value = followed(expr(room, tokens)?, Kind::Semicolon, tokens)?;
     Ok(StmtKind::TupleAssign(slots, value))
 }
 
@@ -292,8 +314,7 @@ pub fn return_stmt(room: usize, tokens: &mut Cursor<'_>) -> Result<StmtKind, Fau
         tokens.expect(Kind::Semicolon)?;
         return Ok(StmtKind::Return(None));
     }
-    let value = expr(room, tokens)?;
-    tokens.expect(Kind::Semicolon)?;
+    let value = followed(expr(room, tokens)?, Kind::Semicolon, tokens)?;
     Ok(StmtKind::Return(Some(value)))
 }
 
