@@ -1,9 +1,12 @@
 -- The breaks of a program's rules, and the first of them.
 use Rattle.std.specs.Prelude.{ℕ, Bool, ◌||◌, ◌&&◌, nat_lt, nat_eq, List, [], ◌∷◌, ◌++◌, fold, Option, Some, None, if◌then◌else◌}
+use Rattle.setl_tree.specs.declared.tree.Declared.{Declared}
+use Rattle.setl_tree.specs.declared.tree.Param.{Param}
 use Rattle.setl_tree.specs.declared.tree.Proc.{Proc}
 use Rattle.setl_tree.specs.declared.tree.Tree.{Tree}
 use Rattle.setl_names.specs.declared.broken.Break.{Break}
 use Rattle.setl_names.specs.declared.occurrence.Occurrence.{Occurrence}
+use Rattle.setl_names.specs.Names.{Name}
 use Rattle.setl_names.specs.Bodies.{Body, bodies, occurrences}
 use Rattle.setl_names.specs.Heads.{rule_1, rule_2, rule_3, rule_4, rule_5, rule_6, rule_7, rule_8}
 use Rattle.setl_names.specs.Rules.{rule_9, rule_10, rule_11, rule_12, rule_13, rule_14, rule_15, rule_16, rule_17, rule_18}
@@ -39,16 +42,25 @@ abbrev pub all_body_breaks : List Proc → List Body → List Break
 all_body_breaks procs [] = []
 all_body_breaks procs (b ∷ bs) = body_breaks procs b ++ all_body_breaks procs bs
 
--- the breaks in the parameter lists of procedures
+-- the breaks in a parameter list
+abbrev pub list_breaks : List Proc → List Param → List Break
+list_breaks procs params = tagged 7 (rule_7 params) ++ tagged 8 (rule_8 procs params)
+
 abbrev pub param_breaks : List Proc → List Proc → List Break
 param_breaks procs [] = []
-param_breaks procs (p ∷ ps) = tagged 7 (rule_7 p.params) ++ (tagged 8 (rule_8 procs p.params) ++ param_breaks procs ps)
+param_breaks procs (p ∷ ps) = list_breaks procs p.params ++ param_breaks procs ps
+
+-- the breaks of the procedures' names
+abbrev pub proc_breaks : Name → List Proc → List Break
+proc_breaks name procs = tagged 2 (rule_2 procs) ++ (tagged 3 (rule_3 procs) ++ tagged 4 (rule_4 name procs))
+
+-- the breaks in `var`
+abbrev pub var_breaks : List Proc → List Declared → List Break
+var_breaks procs vars = tagged 5 (rule_5 vars) ++ tagged 6 (rule_6 procs vars)
 
 -- the breaks outside statements
 abbrev pub head_breaks : Tree → List Break
-head_breaks t =
-    tagged 1 (rule_1 t) ++ (tagged 2 (rule_2 t.procs) ++ (tagged 3 (rule_3 t.procs) ++ (tagged 4 (rule_4 t.name t.procs)
-    ++ (tagged 5 (rule_5 t.vars) ++ (tagged 6 (rule_6 t.procs t.vars) ++ param_breaks t.procs t.procs)))))
+head_breaks t = broken t.end_line 1 (rule_1 t) ++ (proc_breaks t.name t.procs ++ (var_breaks t.procs t.vars ++ param_breaks t.procs t.procs))
 
 -- all breaks of the rules 1 to 18
 abbrev pub breaks : Tree → List Break

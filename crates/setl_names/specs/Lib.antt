@@ -1,11 +1,16 @@
 pub mod Names
 pub mod Places
+pub mod Scopes
 pub mod Occurrences
 pub mod Statements
 pub mod Bodies
 pub mod Procedures
+pub mod Tables
 pub mod Variables
 pub mod Heads
 pub mod Rules
 pub mod Breaks
+pub mod Stores
 pub mod Resolves
+pub mod Found
+pub mod Samples

@@ -22,7 +22,11 @@ with_names xs (y ∷ ys) = with_names (with_name xs y) ys
 abbrev pub in_order : List Name → List Name
 in_order xs = with_names [] xs
 
+-- whether a name of a list is among these or stands earlier in the list
+abbrev pub repeats_after : List Name → List Name → Bool
+repeats_after seen [] = false
+repeats_after seen (x ∷ xs) = has seen x || repeats_after (with_name seen x) xs
+
 -- whether a name stands twice in a list
 abbrev pub has_repeat : List Name → Bool
-has_repeat [] = false
-has_repeat (x ∷ xs) = has xs x || has_repeat xs
+has_repeat xs = repeats_after [] xs

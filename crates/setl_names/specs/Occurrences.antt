@@ -1,5 +1,5 @@
 -- What stands in an expression, in the order of the source's tokens.
-use Rattle.std.specs.Prelude.{true, List, [], ◌∷◌, ◌++◌, Option, Some, None}
+use Rattle.std.specs.Prelude.{ℕ, Bool, true, false, ◌||◌, List, [], ◌∷◌, ◌++◌, Option, Some, None}
 use Rattle.setl_tree.specs.declared.expr.BinaryOp.{BinaryOp}
 use Rattle.setl_tree.specs.declared.expr.Slot.{Slot}
 use Rattle.setl_tree.specs.declared.expr.Slot.TheVariants as sl
@@ -41,14 +41,16 @@ optional (Some x) p = x p
 abbrev pub named : Name → Standing
 named x p = at p (what.Name x (has p.own x)) ∷ []
 
-abbrev pub all_named : List Name → Standing
-all_named [] p = []
-all_named (x ∷ xs) p = named x p ++ all_named xs p
+-- a bound name, which is a former's own name or a variable
+abbrev pub bound_name : (own : Bool) → Name → Standing
+bound_name own x p = at p (what.Name x (own || has p.own x)) ∷ []
 
--- names that become a former's own names
-abbrev pub all_own : List Name → Standing
-all_own [] p = []
-all_own (x ∷ xs) p = at p (what.Name x true) ∷ all_own xs p
+abbrev pub bound_names : (own : Bool) → List Name → Standing
+bound_names own [] p = []
+bound_names own (x ∷ xs) p = bound_name own x p ++ bound_names own xs p
+
+abbrev pub all_named : List Name → Standing
+all_named xs p = bound_names false xs p
 
 -- names that a quantifier binds
 abbrev pub all_quantified : List Name → Standing
@@ -76,11 +78,10 @@ pub record Part : Type 0 where
 abbrev pub unnamed : Standing → Part
 unnamed s = record { standing = s; name = None }
 
--- An iterator: the names that it binds, what stands in it where these are variables, and where they are a former's own.
+-- An iterator: the names that it binds, and what stands in it where these are a former's own names or variables.
 pub record Turn : Type 0 where
   pub names : List Name
-  pub as_variables : Standing
-  pub as_own : Standing
+  pub standing : (own : Bool) → Standing
 
 -- A selector: what stands in it, and its expressions if it is a list in round brackets.
 pub record Behind : Type 0 where
@@ -110,9 +111,13 @@ abbrev pub arguments : List Part → Place → List Argument
 arguments [] p = []
 arguments (x ∷ xs) p = argument_named x.name p ∷ arguments xs p
 
+-- a name before a list in round brackets, without what stands in the list
+abbrev pub application : Name → List Part → Standing
+application f xs p = at p (what.Applied f (has p.own f) (arguments xs p)) ∷ []
+
 -- a name before a list in round brackets
 abbrev pub applied : Name → List Part → Standing
-applied f xs p = at p (what.Applied f (has p.own f) (arguments xs p)) ∷ all_parts xs p
+applied f xs p = application f xs p ++ all_parts xs p
 
 -- a list in round brackets that doesn't stand behind a name
 abbrev pub loose_list : List Part → Standing
@@ -123,23 +128,24 @@ abbrev pub all_behind : List Behind → Standing
 all_behind [] p = []
 all_behind (x ∷ xs) p = x.standing p ++ all_behind xs p
 
--- a name and the selector behind it
-abbrev pub name_before : Name → Option (List Part) → Standing → Standing
-name_before f None s p = named f p ++ s p
-name_before f (Some xs) s p = applied f xs p
+abbrev pub by : Option Name → Option (List Part) → Standing → Standing → Standing
+by None list s t p = s p ++ t p
+by (Some f) None s t p = s p ++ t p
+by (Some f) (Some xs) s t p = applied f xs p
 
--- a name with selectors, of which the first may be a list in round brackets
+-- a primary expression and the first selector behind it: a name before a list in round brackets, or anything else
+abbrev pub before : Part → Behind → Standing
+before x s p = by x.name s.list x.standing s.standing p
+
+-- a selection
+abbrev pub selected : Part → List Behind → Standing
+selected x [] p = x.standing p
+selected x (s ∷ ss) p = before x s p ++ all_behind ss p
+
+-- the same of a name
 abbrev pub name_selected : Name → List Behind → Standing
 name_selected f [] p = named f p
-name_selected f (x ∷ xs) p = name_before f x.list x.standing p ++ all_behind xs p
-
--- the primary expression of a selection by its name, and the selectors
-abbrev pub selected_by : Option Name → Standing → List Behind → Standing
-selected_by None s ss p = s p ++ all_behind ss p
-selected_by (Some f) s ss p = name_selected f ss p
-
-abbrev pub selected : Part → List Behind → Standing
-selected x ss p = selected_by x.name x.standing ss p
+name_selected f (s ∷ ss) p = by (Some f) s.list (named f) s.standing p ++ all_behind ss p
 
 -- ---- iterators
 
@@ -151,18 +157,19 @@ names_of_turns (i ∷ is) = i.names ++ names_of_turns is
 abbrev pub bound : List Name → Standing
 bound names p = at p (what.Bound names) ∷ []
 
-abbrev pub turns_as_variables : List Turn → Standing
-turns_as_variables [] p = []
-turns_as_variables (i ∷ is) p = i.as_variables p ++ turns_as_variables is p
+-- iterators that bind variables
+abbrev pub variable_turns : List Turn → Standing
+variable_turns [] p = []
+variable_turns (i ∷ is) p = i.standing false p ++ variable_turns is p
 
--- the iterators of a former, each of which sees the names of those before it
-abbrev pub turns_as_own : List Turn → Standing
-turns_as_own [] p = []
-turns_as_own (i ∷ is) p = i.as_own p ++ turns_as_own is (with_own i.names p)
+-- iterators that bind a former's own names, each of which sees the names of those before it
+abbrev pub own_turns : List Turn → Standing
+own_turns [] p = []
+own_turns (i ∷ is) p = i.standing true p ++ own_turns is (with_own i.names p)
 
 -- the iterators of a loop or a quantifier
 abbrev pub ordinary_turns : List Turn → Standing
-ordinary_turns is p = bound (names_of_turns is) p ++ turns_as_variables is p
+ordinary_turns is p = variable_turns is p ++ bound (names_of_turns is) p
 
 -- a former: the value and the condition see all names that it binds
 abbrev pub former : Part → List Turn → Option Part → Standing
@@ -170,13 +177,13 @@ former x is c p =
     let names = names_of_turns is in
     let within = inside_former names p in
     let last = with_own names within in
-    x.standing last ++ (bound names within ++ (turns_as_own is within ++ optional_part c last))
+    x.standing last ++ (own_turns is within ++ (optional_part c last ++ bound names within))
 
 -- a former that collects what it binds
 abbrev pub filter : List Name → Part → Part → Standing
 filter names s c p =
     let within = inside_former names p in
-    bound names within ++ (all_own names within ++ (s.standing within ++ c.standing (with_own names within)))
+    bound_names true names within ++ (s.standing within ++ (c.standing (with_own names within) ++ bound names within))
 
 abbrev pub expr_step : Expr-F Part Standing Turn Behind → Part
 expr_step (Expr-F.Number n) = unnamed none
@@ -195,7 +202,7 @@ expr_step (Expr-F.Chain first others) = unnamed (λ p. first.standing p ++ opera
 expr_step (Expr-F.Compare a o b) = unnamed (λ p. a.standing p ++ b.standing p)
 expr_step (Expr-F.Prefixed ps x) = unnamed x.standing
 expr_step (Expr-F.Selected x ss) = unnamed (selected x ss)
-expr_step (Expr-F.Quantified q is x) = unnamed (λ p. all_quantified (names_of_turns is) p ++ (ordinary_turns is p ++ x.standing p))
+expr_step (Expr-F.Quantified q is x) = unnamed (λ p. all_quantified (names_of_turns is) p ++ (variable_turns is p ++ (bound (names_of_turns is) p ++ x.standing p)))
 
 abbrev pub inner_step : Inner-F Part Standing Turn Behind → Standing
 inner_step (Inner-F.List xs) = all_parts xs
@@ -204,16 +211,8 @@ inner_step (Inner-F.Former x is c) = former x is c
 inner_step (Inner-F.Filter b s c) = filter (names_of_bound b) s c
 
 abbrev pub iter_step : Iter-F Part Standing Turn Behind → Turn
-iter_step (Iter-F.Over b s) = record {
-  names = names_of_bound b;
-  as_variables = λ p. all_named (names_of_bound b) p ++ s.standing p;
-  as_own = λ p. all_own (names_of_bound b) p ++ s.standing p;
-}
-iter_step (Iter-F.Image y f x) = record {
-  names = y ∷ x ∷ [];
-  as_variables = λ p. all_named (y ∷ f ∷ x ∷ []) p;
-  as_own = λ p. at p (what.Name y true) ∷ (named f p ++ at p (what.Name x true) ∷ []);
-}
+iter_step (Iter-F.Over b s) = record { names = names_of_bound b; standing = λ own p. bound_names own (names_of_bound b) p ++ s.standing p }
+iter_step (Iter-F.Image y f x) = record { names = y ∷ x ∷ []; standing = λ own p. bound_name own y p ++ (named f p ++ bound_name own x p) }
 
 abbrev pub selector_step : Selector-F Part Standing Turn Behind → Behind
 selector_step (Selector-F.Round xs) = record { standing = loose_list xs; list = Some xs }

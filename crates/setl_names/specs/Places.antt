@@ -1,5 +1,6 @@
 -- Where expressions and statements stand.
-use Rattle.std.specs.Prelude.{ℕ, Bool, true, List}
+use Rattle.std.specs.Prelude.{ℕ, true, List, []}
+use Rattle.setl_names.specs.declared.around.Around.{Around}
 use Rattle.setl_names.specs.Names.{Name, with_names}
 
 -- Where an expression stands: the line of its statement, the names that mean a former's own name there, and the names
@@ -9,10 +10,9 @@ pub record Place : Type 0 where
   pub own : List Name
   pub inside : List Name
 
--- Where a statement stands: in a loop of its body or not, and in a procedure or in the main program.
-pub record Around : Type 0 where
-  pub in_loop : Bool
-  pub in_procedure : Bool
+-- the place of the expressions in a statement of this line
+abbrev pub in_statement : ℕ → Place
+in_statement line = record { line = line; own = []; inside = [] }
 
 -- the same place inside a former that binds these names, before it binds one
 abbrev pub inside_former : List Name → Place → Place
@@ -22,5 +22,6 @@ inside_former names p = record p { inside = with_names p.inside names }
 abbrev pub with_own : List Name → Place → Place
 with_own names p = record p { own = with_names p.own names }
 
+-- where the statements of a loop stand
 abbrev pub in_a_loop : Around → Around
 in_a_loop a = record a { in_loop = true }

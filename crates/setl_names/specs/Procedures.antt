@@ -12,8 +12,5 @@ params_of (p ∷ ps) x = if bytes_eq x p.name then Some p.params else params_of 
 abbrev pub is_procedure : List Proc → Name → Bool
 is_procedure ps x = is_some (params_of ps x)
 
-abbrev pub proc_names : List Proc → List Name
-proc_names ps = map (λ p. p.name) ps
-
 abbrev pub param_names : List Param → List Name
 param_names ps = map (λ p. p.name) ps

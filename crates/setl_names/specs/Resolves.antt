@@ -1,7 +1,7 @@
 -- Name resolution of a program: the names of its bodies, or its first break of a rule.
 use Rattle.std.specs.Prelude.{◌≡◌, List, map, Some, None, Result, Ok, Err}
 use Rattle.setl_tree.specs.declared.tree.Tree.{Tree}
-use Rattle.setl_names.specs.declared.broken.BodyNames.{BodyNames}
+use Rattle.setl_names.specs.declared.bodies.BodyNames.{BodyNames}
 use Rattle.setl_names.specs.declared.broken.RuleFault.{RuleFault}
 use Rattle.setl_names.specs.declared.broken.RuleFault.TheVariants as fault
 use Rattle.setl_names.specs.Bodies.{bodies}

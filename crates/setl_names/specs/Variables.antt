@@ -2,7 +2,7 @@
 use Rattle.std.specs.Prelude.{Bool, true, false, List, [], ◌∷◌, map, Option, Some, None, if◌then◌else◌}
 use Rattle.setl_tree.specs.declared.tree.Declared.{Declared}
 use Rattle.setl_tree.specs.declared.tree.Proc.{Proc}
-use Rattle.setl_names.specs.declared.broken.BodyNames.{BodyNames}
+use Rattle.setl_names.specs.declared.bodies.BodyNames.{BodyNames}
 use Rattle.setl_names.specs.declared.occurrence.What.{What}
 use Rattle.setl_names.specs.declared.occurrence.What.TheVariants as what
 use Rattle.setl_names.specs.declared.occurrence.Occurrence.{Occurrence}
@@ -48,9 +48,12 @@ abbrev pub of_body : (params vars : List Name) → List Name → List Name
 of_body params vars [] = []
 of_body params vars (x ∷ xs) = if is_of_body (variable [] params vars x) then x ∷ of_body params vars xs else of_body params vars xs
 
--- the body's own names in the order of their first appearance
+-- the body's own names in the order of their first appearance among these occurrences
+abbrev pub slots_among : List Proc → (params vars : List Name) → List Occurrence → List Name
+slots_among procs params vars us = in_order (of_body params vars (variables procs us))
+
 abbrev pub slots : List Proc → (vars : List Name) → Body → List Name
-slots procs vars b = in_order (of_body (param_names b.params) vars (variables procs (occurrences b)))
+slots procs vars b = slots_among procs (param_names b.params) vars (occurrences b)
 
 abbrev pub body_names : List Proc → (vars : List Name) → Body → BodyNames
 body_names procs vars b = record { name = b.name; params = b.params; slots = slots procs vars b }

@@ -1,5 +1,8 @@
 //! Breaks of rules.
 
+ghost use Rattle.std.specs.Prelude.{◌≡◌, fold};
+ghost use Rattle.setl_names.specs.Breaks as spec;
+
 use setl_tree::{Items, Param, Text};
 use std::alloc::AllocError;
 
@@ -29,11 +32,37 @@ impl From<AllocError> for RuleFault {
     }
 }
 
-/// The names of a body: its own, its parameters', and those of its own variables without the parameters, in the order
-/// of their first appearance in its statements.
-#[derive(Drop)]
-pub struct BodyNames {
-    pub name: Text,
-    pub params: Items<Param>,
-    pub slots: Items<Text>,
+/// Whether a break stands on a lower line, or on the same line with a rule of a lower number.
+fn precedes(a: Break, b: Break) -> bool
+    ensures { result ≡ spec.precedes a b }
+{
+    a.line < b.line || (a.line == b.line && a.rule < b.rule)
+}
+
+/// The first break so far and of this one.
+pub fn noted(first: Option<Break>, line: u32, rule: u8) -> Option<Break>
+    ensures { result ≡ spec.earlier first (spec.break_at line rule) }
+{
+    let found = Break { line, rule };
+    match first {
+        None => Some(found),
+        Some(first) => {
+            if precedes(found, first) {
+                Some(found)
+            } else {
+                Some(first)
+            }
+        }
+    }
+}
+
+/// The first break so far and of this one, if there is one.
+pub fn noted_if(first: Option<Break>, line: u32, rule: u8, is_broken: bool) -> Option<Break>
+    ensures { result ≡ fold spec.earlier first (spec.broken line rule is_broken) }
+{
+    if is_broken {
+        noted(first, line, rule)
+    } else {
+        first
+    }
 }

@@ -3,10 +3,27 @@
 //! `resolve` tests the rules 1 to 18 of a program on its syntax tree, and gives the variables of each body.
 #![tactic(auto)]
 
+mod around;
+mod bodies;
+mod bound;
 mod broken;
+mod expressions;
 mod head;
+mod laws;
 mod name;
+mod names;
 mod occurrence;
+mod procs;
+mod program;
+mod rules;
+mod scope;
+mod simple;
+mod statements;
+#[cfg(test)]
+mod tests;
 
-pub use broken::{BodyNames, RuleFault};
+pub use bodies::BodyNames;
+pub use broken::RuleFault;
+pub use laws::worked_rows;
+pub use program::resolve;
 pub use std::alloc::AllocError as Memory;

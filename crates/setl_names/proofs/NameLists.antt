@@ -1,0 +1,51 @@
+-- Lists of names and the keys that stand for them.
+use Rattle.std.proofs.Common.{◌≡◌, ℕ, Bool, true, false, cond, List, [], ◌∷◌, ◌++◌, ◌||◌, map, take, length, refl, ap, sym, ◌∙◌, bytes_eq, append_assoc}
+use Rattle.std.proofs.lemmas.List.{append-nil, take-map}
+use Rattle.std.proofs.Math.Seq.{take-append_seam}
+use Rattle.std.specs.Global.{Vec}
+use Rattle.std.specs.List.{list_any}
+use Rattle.indexmap.specs.IndexSet.{insert_key}
+use Rattle.setl_names.specs.Names.{Name, has, with_name, with_names}
+
+abbrev pub items_of : Vec ℕ → List ℕ
+items_of v = v.items
+
+abbrev pub same_key : Vec ℕ → Vec ℕ → Bool
+same_key x y = bytes_eq x.items y.items
+
+-- a name is among the keys as it is among the names
+pub has_key : (x : Name) (ks : List (Vec ℕ)) → list_any (λ (v : Vec ℕ). bytes_eq x v.items) ks ≡ has (map items_of ks) x
+has_key x [] = refl
+has_key x (k ∷ ks) = ap (λ b. bytes_eq x k.items || b) (has_key x ks)
+
+map_end : (ks : List (Vec ℕ)) (k : Vec ℕ) → map items_of (ks ++ k ∷ []) ≡ map items_of ks ++ k.items ∷ []
+map_end [] k = refl
+map_end (x ∷ ks) k = ap (λ z. x.items ∷ z) (map_end ks k)
+
+by_test : (b : Bool) (ks : List (Vec ℕ)) (k : Vec ℕ) → map items_of (cond b ks (ks ++ k ∷ [])) ≡ cond b (map items_of ks) (map items_of ks ++ k.items ∷ [])
+by_test true ks k = refl
+by_test false ks k = map_end ks k
+
+-- a key that is put stands for a name that is put
+pub with_key : (ks : List (Vec ℕ)) (k : Vec ℕ) → map items_of (insert_key same_key ks k) ≡ with_name (map items_of ks) k.items
+with_key ks k = by_test (list_any (same_key k) ks) ks k ∙ ap (λ b. cond b (map items_of ks) (map items_of ks ++ k.items ∷ [])) (has_key k.items ks)
+
+pub taken : (n : ℕ) (ks : List (Vec ℕ)) → map items_of (take n ks) ≡ take n (map items_of ks)
+taken n ks = sym (take-map items_of n ks)
+
+-- names behind one another
+pub with_names_append : (xs ys zs : List Name) → with_names (with_names xs ys) zs ≡ with_names xs (ys ++ zs)
+with_names_append xs [] zs = refl
+with_names_append xs (y ∷ ys) zs = with_names_append (with_name xs y) ys zs
+
+longer : (b : Bool) (xs : List Name) (y : Name) (all : List Name) → ((ws : List Name) × (all ≡ cond b xs (xs ++ y ∷ []) ++ ws)) → (ws : List Name) × (all ≡ xs ++ ws)
+longer true xs y all g = g
+longer false xs y all g = (y ∷ g.0, g.1 ∙ append_assoc xs (y ∷ []) g.0)
+
+grown : (xs ys : List Name) → (ws : List Name) × (with_names xs ys ≡ xs ++ ws)
+grown xs [] = ([], sym (append-nil xs))
+grown xs (y ∷ ys) = longer (has xs y) xs y (with_names (with_name xs y) ys) (grown (with_name xs y) ys)
+
+-- the names that were there stay in front
+pub taken_back : (xs ys : List Name) → take (length xs) (with_names xs ys) ≡ xs
+taken_back xs ys = ap (take (length xs)) (grown xs ys).1 ∙ take-append_seam xs (grown xs ys).0

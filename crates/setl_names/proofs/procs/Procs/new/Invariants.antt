@@ -1,0 +1,12 @@
+use Rattle.std.proofs.Common.{◌≡◌, ◌≤◌, ℕ, List, drop, length}
+use Rattle.setl_names.specs.Tables.{Finds}
+use Rattle.setl_names.proofs.procs.Procs.new.Given as goal
+
+abbrev pub decreases-loop-at : goal.decreases-loop-at
+decreases-loop-at l = l.at
+
+abbrev pub invariant-loop-at : goal.invariant-loop-at
+invariant-loop-at l = record {
+  within : l.at ≤ length l.procs;
+  finds : Finds l.params (λ r. r.now) (drop l.at l.procs);
+}

@@ -1,0 +1,25 @@
+-- What resolving finds, body by body.
+use Rattle.std.specs.Prelude.{ℕ, List, [], ◌∷◌, ◌++◌, map, fold, Option}
+use Rattle.setl_tree.specs.declared.tree.Proc.{Proc}
+use Rattle.setl_tree.specs.declared.tree.Tree.{Tree}
+use Rattle.setl_names.specs.declared.program.Found.{Found}
+use Rattle.setl_names.specs.Names.{Name, in_order}
+use Rattle.setl_names.specs.Bodies.{Body, bodies, occurrences}
+use Rattle.setl_names.specs.Breaks.{earlier, body_breaks, head_breaks, first_break}
+use Rattle.setl_names.specs.Procedures.{param_names}
+use Rattle.setl_names.specs.Variables.{slots_among, var_names}
+
+-- with the breaks and the names of one more body, where `vars` are the names in `var`
+abbrev pub with_body : List Proc → (vars : List Name) → Body → Found → Found
+with_body procs vars b f = record {
+  first = fold earlier f.first (body_breaks procs b);
+  names = f.names ++ record { name = b.name; params = b.params; slots = slots_among procs (in_order (param_names b.params)) vars (occurrences b) } ∷ [];
+}
+
+abbrev pub with_bodies : List Proc → (vars : List Name) → List Body → Found → Found
+with_bodies procs vars [] f = f
+with_bodies procs vars (b ∷ bs) f = with_bodies procs vars bs (with_body procs vars b f)
+
+-- what resolving finds in a program
+abbrev pub whole_program : Tree → Found
+whole_program t = with_bodies t.procs (in_order (var_names t.vars)) (bodies t) (record { first = first_break (head_breaks t); names = [] })

@@ -1,0 +1,17 @@
+-- The table of procedures as the code keeps it.
+use Rattle.std.specs.Prelude.{◌≡◌, ℕ, List, Option, bytes_eq}
+use Rattle.std.specs.Global.{Vec}
+use Rattle.std.specs.Option.{option_map}
+use Rattle.indexmap.specs.IndexMap.{IndexMap, get_by}
+use Rattle.setl_tree.specs.declared.tree.Proc.{Proc}
+use Rattle.setl_tree.specs.declared.tree.Param.{Param}
+use Rattle.setl_names.specs.Names.{Name}
+use Rattle.setl_names.specs.Procedures.{params_of}
+
+-- the value at each name
+abbrev pub value_at : {T S : Type 0} → IndexMap (Vec ℕ) T S → Name → Option T
+value_at table name = get_by (λ key. bytes_eq name key.items) table
+
+-- the table gives the parameters of each procedure by its name
+abbrev pub Finds : {T S : Type 0} → IndexMap (Vec ℕ) T S → (T → List Param) → List Proc → Type 0
+Finds table params procs = (x : Name) → option_map params (value_at table x) ≡ params_of procs x

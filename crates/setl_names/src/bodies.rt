@@ -1,0 +1,131 @@
+//! The names of bodies.
+
+ghost use Rattle.std.specs.Prelude.{◌≡◌, IfOk};
+ghost use Rattle.setl_names.specs.Names.{in_order};
+ghost use Rattle.setl_names.specs.Procedures.{param_names};
+ghost use Rattle.setl_names.specs.Stores as found;
+ghost use Rattle.setl_names.specs.Variables as spec;
+
+use crate::name::Name;
+use crate::names::Names;
+use crate::occurrence::{Occurrence, What};
+use crate::procs::Procs;
+use setl_tree::{Declared, Items, Param, Text};
+use std::alloc::{AllocError, Global};
+
+/// The names of a body: its own, its parameters, and the variables of its own in the order in which their names first
+/// stand in its statements. Parameters, names in `var`, names of procedures and the own names of formers are not among
+/// these.
+#[derive(Drop)]
+pub struct BodyNames {
+    pub name: Text,
+    pub params: Items<Param>,
+    pub slots: Items<Text>,
+}
+
+/// The same text again. An error is want of memory.
+pub fn copied(alloc: Global, text: &Text) -> Result<Text, AllocError>
+    ensures { IfOk result (λ t. t ≡ text.now) }
+{
+    Text::of(alloc, text.bytes())
+}
+
+/// The same parameters again. An error is want of memory.
+pub fn copied_params(alloc: Global, params: &[Param]) -> Result<Items<Param>, AllocError>
+    ensures { IfOk result (λ all. all ≡ params.now) }
+{
+    let mut all = Items::new(alloc);
+    for param in params {
+        let name = copied(alloc, &param.name)?;
+        all.push(Param {
+            passing: param.passing,
+            name,
+            line: param.line,
+        })?;
+    }
+    Ok(all)
+}
+
+/// The names of parameters, each once.
+pub fn names_of_params(alloc: Global, params: &[Param]) -> Result<Names, AllocError>
+    ensures { IfOk result (λ names. names ≡ in_order (param_names params.now)) }
+{
+    let mut names = Names::new(alloc);
+    for param in params {
+        names.put(param.name.bytes())?;
+    }
+    Ok(names)
+}
+
+/// The names in `var`, each once.
+pub fn names_of_vars(alloc: Global, vars: &[Declared]) -> Result<Names, AllocError>
+    ensures { IfOk result (λ names. names ≡ in_order (spec.var_names vars.now)) }
+{
+    let mut names = Names::new(alloc);
+    for declared in vars {
+        names.put(declared.name.bytes())?;
+    }
+    Ok(names)
+}
+
+/// The name that stands in a statement and is no former's own name.
+fn free_name<'t>(what: &What<'t>) -> Option<Name<'t>>
+    ensures { result ≡ spec.free_name what.now }
+{
+    match what {
+        What::Name(name, own) => {
+            if *own {
+                None
+            } else {
+                Some(Name::new(name.text()))
+            }
+        }
+        What::Applied(name, own, _) => {
+            if *own {
+                None
+            } else {
+                Some(Name::new(name.text()))
+            }
+        }
+        What::CallStatement(_) => None,
+        What::EmptyList => None,
+        What::Bound(_) => None,
+        What::Quantified(_, _) => None,
+        What::Target(_) => None,
+        What::Quit(_) => None,
+        What::Return(_) => None,
+    }
+}
+
+/// Whether a name means a variable of the body's own, in a body with these parameters.
+fn is_of_body(name: &[u8], procs: &Procs<'_>, vars: &Names, params: &Names) -> bool
+    ensures { result ≡ found.is_own_name procs.now params.now vars.now name.now }
+{
+    !procs.has(name) && !params.has(name) && !vars.has(name)
+}
+
+/// The body's own names in the order of their first appearance.
+#[tactic(auto, using(crate::proofs::Own::own_step))]
+pub fn slots(
+    alloc: Global,
+    procs: &Procs<'_>,
+    vars: &Names,
+    params: &Names,
+    occurrences: &[Occurrence<'_>],
+) -> Result<Items<Text>, AllocError>
+    ensures { IfOk result (λ all. all ≡ spec.slots_among procs.now params.now vars.now occurrences.now) }
+{
+    let mut seen = Names::new(alloc);
+    let mut all = Items::new(alloc);
+    for occurrence in occurrences {
+        if let Some(name) = free_name(&occurrence.what) {
+            let bytes = name.text().bytes();
+            if is_of_body(bytes, procs, vars, params) {
+                if seen.put(bytes)? {
+                    all.push(copied(alloc, name.text())?)?;
+                }
+            }
+        }
+    }
+    Ok(all)
+}

@@ -1,0 +1,67 @@
+//! The procedures of a program, found by their names.
+
+ghost use Rattle.std.specs.Prelude.{◌≡◌, IfOk, option_map};
+ghost use Rattle.setl_names.specs.Procedures as spec;
+
+use indexmap::IndexMap;
+use setl_tree::{Items, Param, Proc};
+use std::alloc::{AllocError, Global};
+use std::marker::Model;
+
+/// The procedures of a program with a table from their names. Contracts see the list of them.
+#[derive(Drop)]
+pub struct Procs<'t> {
+    procs: &'t [Proc],
+    params: IndexMap<Vec<u8>, &'t Items<Param>>,
+}
+
+impl<'t> Model for Procs<'t> {
+    ghost use Rattle.std.specs.Prelude.{List};
+    ghost use Rattle.std.specs.Coded.{codes};
+    ghost use Rattle.setl_tree.specs.contracts.stmt.Stmt as stmt;
+    ghost use Rattle.setl_tree.specs.declared.tree.Proc.{Proc as TreeProc};
+    ghost use Rattle.setl_names.specs.Tables.{Finds};
+
+    ghost Value = { List TreeProc };
+
+    ghost coded = { Prim.hlevel (codes, stmt.the_row.coded) };
+
+    ghost view = { λ p. p.procs.now };
+
+    ghost invariant = { λ p. Finds p.params (λ r. r.now) p.procs.now };
+}
+
+impl<'t> Procs<'t> {
+    /// The table of some procedures. Of two of one name the first counts.
+    #[tactic(auto, using(crate::proofs::Tables::finds_none, crate::proofs::Tables::finds_next))]
+    pub fn new(alloc: Global, procs: &'t [Proc]) -> Result<Procs<'t>, AllocError>
+        ensures { IfOk result (λ p. p ≡ procs.now) }
+    {
+        let mut params = IndexMap::new(alloc);
+        let mut at = procs.len();
+        while at > 0 {
+            at -= 1;
+            let proc = &procs[at];
+            let name = Vec::from_slice(alloc, proc.name.bytes())?;
+            params.insert(name, &proc.params)?;
+        }
+        Ok(Procs { procs, params })
+    }
+
+    /// The parameters of the procedure of this name; `None` where there is none.
+    pub fn params_of(&self, name: &[u8]) -> Option<&'t [Param]>
+        ensures { option_map (λ params. params.now) result ≡ spec.params_of self.now name.now }
+    {
+        match self.params.get(name) {
+            None => None,
+            Some(params) => Some(params.as_slice()),
+        }
+    }
+
+    /// Whether a procedure has this name.
+    pub fn has(&self, name: &[u8]) -> bool
+        ensures { result ≡ spec.is_procedure self.now name.now }
+    {
+        self.params_of(name).is_some()
+    }
+}
