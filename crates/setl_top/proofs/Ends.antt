@@ -1,30 +1,20 @@
 -- How the parts of a call make its headline.
-use Rattle.std.proofs.Common.{◌≡◌, ◌∙◌, ◌⊎◌, inl, inr, ◌<◌, ◌≤◌, ◌+◌, ◌^◌, ◌-◌, ℕ, Bool, true, List, [], ◌∷◌, ◌++◌, length, take, Option, None, Some, refl, sym, ap, subst, arith, codes}
+use Rattle.std.proofs.Common.{◌≡◌, ◌⊎◌, inl, inr, ◌≤◌, ◌^◌, ◌-◌, ℕ, true, List, [], ◌∷◌, ◌++◌, take, Option, None, Some, refl, sym, subst, arith, codes}
 use Rattle.std.specs.Io.KnownBytes.{Appends}
 use Rattle.setl_io.specs.Faults.{Rose}
-use Rattle.setl_io.specs.declared.whole.WriteFault.TheVariants as fault
-use Rattle.setl_io.specs.Files.{Texts, IsText}
-use Rattle.setl_model.specs.Answers.{IsDone, IsStopped, IsSpent, RunStatus, status_of, error_line}
-use Rattle.setl_model.specs.Core.{Core}
-use Rattle.setl_model.specs.Events.{End, Done as DoneEnd}
-use Rattle.setl_model.specs.Means.{Means, Reaches}
-use Rattle.setl_model.specs.Program.{Program}
-use Rattle.setl_model.specs.Run.{State, Goes, Ends, Next, Machine, Test, step, settle, store_all, if_fits, Move, Moves, Halts, and_then, run}
-use Rattle.setl_model.specs.Step.{language, test_of}
-use Rattle.setl_tree.specs.declared.tree.Tree.{Tree as Whole}
-use Rattle.setl_top.specs.Accepted.{Accepted, Refusal, program_of}
-use Rattle.setl_top.specs.Fronts.{IsFront}
+use Rattle.setl_model.specs.Answers.{IsDone, IsStopped, IsSpent, RunStatus}
+use Rattle.setl_model.specs.Events.{Done as DoneEnd}
+use Rattle.setl_top.specs.Accepted.{program_of}
 use Rattle.setl_top.specs.Lines.{AppendsFront, AppendsFronts}
 use Rattle.setl_top.specs.Loads.{LoadedSmall, NotLoaded, not_accepted, not_read, no_room, sides, Checks, checked_so, not_checked}
-use Rattle.setl_top.specs.Moments.{AtState, AtPrint}
 use Rattle.setl_top.specs.Reasons.{reason_line}
 use Rattle.setl_top.specs.Runs.{RunsTo, RunsInto, RunsUpTo}
 use Rattle.setl_top.specs.Tells.{Tells, whole, failed, no_memory}
 use Rattle.setl_top.specs.Tree.{Tree}
 use Rattle.setl_top.specs.Words.{IsFaulty, Spells, HasFile, Command, Run, Check}
-use Rattle.setl_top.specs.Headline.{Moment, Job, IsInput, IsToRun, Answers, faulty_words, refused, checked, run_ended, status_for, UpToAny, no_program, at_state, in_print, UpToPrint, at_print, ReadCause, load_failed, TellsFault, IsQuiet, LeavesInput, LeavesRest, CheckLeavesRest, Ended, ReadFailed, WriteFailed, MemoryFailed, WriteCause, out_failed, err_failed, Headline}
+use Rattle.setl_top.specs.Headline.{Moment, Job, IsInput, IsToRun, Answers, faulty_words, refused, checked, run_ended, status_for, no_program, at_state, in_print, at_print, load_failed, TellsFault, IsQuiet, LeavesRest, Ended, WriteFailed, MemoryFailed, out_failed, err_failed, Headline}
 use Rattle.setl_top.specs.declared.status.Status.{Status}
-use Rattle.setl_top.specs.declared.status.Status.TheVariants.{Done, Refused, Words, Stopped, Spent, ReadFault, WriteFault, NoMemory}
+use Rattle.setl_top.specs.declared.status.Status.TheVariants.{Done, Refused, Words}
 use Rattle.setl_top.proofs.Fronts.{appends_none, front_none}
 
 -- faulty words change nothing

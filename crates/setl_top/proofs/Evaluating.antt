@@ -5,10 +5,10 @@ use Rattle.setl_value.specs.Datum.{Datum, int}
 use Rattle.setl_model.specs.Core.{Hand, Evaluate, Result, Frame, InExpr, Operands, Core}
 use Rattle.setl_model.specs.Events.{Event}
 use Rattle.setl_model.specs.Expressions.{operands}
-use Rattle.setl_model.specs.Moves.{go, deliver, charge}
-use Rattle.setl_model.specs.Operators.{Outcome, Gives, SetOf as SetOperator, all_values, one_more, enumerate_set}
+use Rattle.setl_model.specs.Moves.{deliver}
+use Rattle.setl_model.specs.Operators.{Gives, SetOf as SetOperator, all_values, one_more, enumerate_set}
 use Rattle.setl_model.specs.Program.{Program, Literal}
-use Rattle.setl_model.specs.Run.{State, Moves}
+use Rattle.setl_model.specs.Run.{Moves}
 use Rattle.setl_model.specs.Sets.{set_from}
 use Rattle.setl_model.specs.Step.{language}
 use Rattle.setl_model.specs.Variable.{Environment, Own, value_in}
@@ -16,7 +16,7 @@ use Rattle.setl_top.specs.Accepted.{plain_value, literals}
 use Rattle.setl_top.specs.Tree.{Expr, Variable, Integer, SetOf}
 use Rattle.setl_top.specs.Values.{Values, value_of, set_of}
 use Rattle.setl_top.proofs.Integers.{from_integers, integers_within}
-use Rattle.setl_top.proofs.Leading.{Comes, state, comes_none, comes_then, comes_on, charge_none}
+use Rattle.setl_top.proofs.Leading.{Comes, state, comes_then, comes_on, charge_none}
 
 -- the environment holds the values
 abbrev pub IsEnvironment : Environment → Values → Type 0

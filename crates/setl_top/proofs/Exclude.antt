@@ -1,19 +1,17 @@
 -- Which answers exclude which.
-use Rattle.std.proofs.Common.{◌≡◌, ◌∙◌, ◌⊎◌, inl, inr, ◌<◌, ◌≤◌, ◌^◌, ◌-◌, ◌↔◌, ℕ, Bool, List, [], ◌∷◌, ◌++◌, length, Option, Some, refl, sym, ap, subst, arith}
-use Rattle.setl_io.specs.Files.{Texts, IsText}
-use Rattle.setl_tree.specs.declared.tree.Tree.{Tree}
+use Rattle.std.proofs.Common.{◌≡◌, ◌∙◌, inl, inr, ℕ, Bool, List, [], ◌∷◌, ◌++◌, Option, Some, refl, sym, ap, subst, arith}
+use Rattle.setl_io.specs.Files.{IsText}
 use Rattle.setl_model.specs.Answers.{RunStatus, status_of, error_line}
 use Rattle.setl_model.specs.Events.{End}
 use Rattle.setl_model.specs.Laws.{OneMeaning}
 use Rattle.setl_model.specs.Means.{Means}
 use Rattle.setl_model.specs.Program.{Program}
 use Rattle.setl_top.specs.Accepted.{IsProgram, IsBuilt, Accepted, Refusal, IsRefusedFor, program_of}
-use Rattle.setl_top.specs.Headline.{Moment, Headline, Ended, AnyRose, ReadCause, load_failed, read_failed, WriteCause, out_failed, err_failed, Answers, faulty_words, refused, checked, run_ended, Job, IsInput, IsToRun, status_for}
+use Rattle.setl_top.specs.Headline.{Moment, AnyRose, ReadCause, load_failed, read_failed, WriteCause, out_failed, err_failed, faulty_words, refused, checked, run_ended, Job, IsInput, IsToRun, status_for}
 use Rattle.setl_top.specs.Laws.{IsComplete, RefusesExactly, ChecksExactly, EndsExactly, TellsTexts}
 use Rattle.setl_top.specs.Reasons.{reason_line}
 use Rattle.setl_top.specs.Small.{small_of}
-use Rattle.setl_top.specs.Words.{Command, Run, Check, Spells, HasFile, RunsFile, IsFaulty}
-use Rattle.setl_top.specs.declared.status.Status.{Status}
+use Rattle.setl_top.specs.Words.{Command, Run, Check, Spells, HasFile, RunsFile}
 use Rattle.setl_top.specs.declared.status.Status.TheVariants.{Done, Refused, Words, Stopped, Spent, ReadFault, WriteFault, NoMemory}
 use Rattle.setl_top.proofs.OneReason.{FrontLaws, one_reason, one_program_tree, not_refused}
 

@@ -3,11 +3,11 @@ use Rattle.std.proofs.Common.{◌≡◌, ◌∙◌, ℕ, ℤ, Bool, true, false,
 use Rattle.std.specs.List.{AllByRecursion, list_all}
 use Rattle.std.specs.Option.{option_map, option_map_or}
 use Rattle.std.proofs.lemmas.Slice.Eq.{bytes_eq-Decides}
-use Rattle.setl_value.specs.Datum.{Datum, int, elements_of, element_list-elements_of}
-use Rattle.setl_model.specs.Sets.{set_from, insert_datum}
+use Rattle.setl_value.specs.Datum.{Datum, int}
+use Rattle.setl_model.specs.Sets.{insert_datum}
 use Rattle.setl_top.specs.Conditions.{Kinds, no_kinds, with_kind, kind_of, is_set, after_action, meets}
 use Rattle.setl_top.specs.Tree.{Expr, Variable, Integer, SetOf, Action, Assign, With, Print, Stmt, Tree}
-use Rattle.setl_top.specs.Values.{Values, value_of, bound, with_member, values_after, set_of, CanPerform, IsIntegers, IsInteger, IsPlain, integer, integers}
+use Rattle.setl_top.specs.Values.{Values, value_of, bound, with_member, values_after, CanPerform, IsIntegers, IsPlain, integer, integers}
 use Rattle.setl_top.specs.declared.small.conditions.Kind.{Kind}
 use Rattle.setl_top.specs.declared.small.conditions.Kind.TheVariants as kind
 use Rattle.setl_top.proofs.Integers.{with_integer, from_integers}

@@ -1,7 +1,7 @@
 -- Fronts of lines that an output gains.
-use Rattle.std.proofs.Common.{◌≡◌, ◌∙◌, ◌<◌, ◌≤◌, ◌+◌, ℕ, List, [], ◌∷◌, ◌++◌, length, take, drop, Option, None, Some, refl, sym, ap, subst, append_assoc, Result, Ok, Err, OnOk, OnErr}
+use Rattle.std.proofs.Common.{◌∙◌, ℕ, List, [], ◌++◌, take, drop, Option, None, Some, refl, sym, ap, append_assoc, Result, Ok, Err, OnOk, OnErr}
 use Rattle.std.proofs.lemmas.List.{take-append-drop, append-nil}
-use Rattle.std.specs.Io.KnownBytes.{Appends, Keeps}
+use Rattle.std.specs.Io.KnownBytes.{Appends}
 use Rattle.setl_io.specs.Sink.{AppendsPart}
 use Rattle.setl_io.specs.declared.whole.WriteFault.{WriteFault}
 use Rattle.setl_top.specs.Fronts.{IsFront}

@@ -1,16 +1,16 @@
 -- A sorted list without repeats is the set of its values.
-use Rattle.std.specs.Prelude.{◌≡◌, ◌↔◌, Bool, true, false, ◌||◌, cond, ◌+◌, ◌≤◌, ℕ, ℤ, List, [], ◌∷◌, map, max, refl}
-use Rattle.std.specs.List.{AllByRecursion, list_any, dedup, Contains}
+use Rattle.std.specs.Prelude.{◌≡◌, Bool, true, false, ◌||◌, cond, ◌+◌, ◌≤◌, ℤ, List, [], ◌∷◌, map, max, refl}
+use Rattle.std.specs.List.{AllByRecursion, list_any, dedup}
 use Rattle.std.specs.List.Sorted.{IsStrictlySortedBy, IsSorted, IsPermutation}
 use Rattle.std.specs.Cmp.{on_total}
 use Rattle.std.specs.declared.cmp.Ordering.{Ordering}
 use Rattle.std.specs.declared.cmp.Ordering.TheVariants.{Less, Equal, Greater}
 use Rattle.std.specs.Ordering.{is_eq, on, eq_by_cmp}
-use Rattle.std.proofs.Common.{ap, sym, ◌∙◌, subst, arith}
+use Rattle.std.proofs.Common.{ap, sym, ◌∙◌, arith}
 use Rattle.std.proofs.lemmas.List.Kept.{IsStrictlySortedBy-dedup}
 use Rattle.std.proofs.lemmas.List.Sorted.{list_any-IsPermutation}
 use Rattle.setl_value.specs.declared.Value.{Value}
-use Rattle.setl_value.specs.Datum.{Datum, int, depth, elements_depth, elements_of, set_of}
+use Rattle.setl_value.specs.Datum.{Datum, int, depth, elements_depth, elements_of}
 use Rattle.setl_value.specs.DatumOf.{datum}
 use Rattle.setl_value.specs.Order.{datum_cmp, IsRising}
 use Rattle.setl_value.specs.OrderLaws.{datum_cmp_total, same_datum, same_if_eq}

@@ -1,9 +1,9 @@
 -- Sets of integers are within the limit of depth.
-use Rattle.std.proofs.Common.{◌≡◌, ◌∙◌, ℕ, ◌+◌, max, ℤ, true, List, [], ◌∷◌, map, Option, Some, refl, sym, ap, subst, nat_le}
+use Rattle.std.proofs.Common.{◌≡◌, ◌∙◌, ◌+◌, max, ℤ, List, [], ◌∷◌, map, Some, refl, ap, nat_le}
 use Rattle.std.specs.List.{AllByRecursion}
 use Rattle.std.specs.declared.cmp.Ordering.{Ordering}
 use Rattle.std.specs.declared.cmp.Ordering.TheVariants.{Less, Equal, Greater}
-use Rattle.setl_value.specs.Datum.{Datum, int, set, elements_of, elements_depth, depth}
+use Rattle.setl_value.specs.Datum.{Datum, int, elements_of, elements_depth, depth}
 use Rattle.setl_value.specs.Order.{datum_cmp}
 use Rattle.setl_model.specs.Sets.{insert_datum, insert_by, set_from}
 use Rattle.setl_model.specs.Operators.{within_depth, within_depth_by, Gives}

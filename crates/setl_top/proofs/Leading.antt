@@ -1,12 +1,12 @@
 -- Steps of the meaning that lead from one state to another, whatever the events told on the way.
-use Rattle.std.proofs.Common.{◌≡◌, ◌∙◌, ℕ, zero, suc, ◌-◌, Bool, true, false, List, [], ◌∷◌, ◌++◌, Option, refl, sym, ap, subst, arith}
+use Rattle.std.proofs.Common.{◌≡◌, ◌∙◌, ℕ, ◌-◌, Bool, true, List, [], ◌∷◌, ◌++◌, Option, refl, ap, arith}
 use Rattle.std.proofs.lemmas.List.{append-nil}
 use Rattle.setl_value.specs.Datum.{Datum}
 use Rattle.setl_model.specs.Core.{Core}
 use Rattle.setl_model.specs.Events.{Event, Printed, Stored, Stopped, Unfit}
 use Rattle.setl_model.specs.Moves.{charge}
 use Rattle.setl_model.specs.Program.{Program}
-use Rattle.setl_model.specs.Run.{Move, Moves, Halts, State, Goes, Ends, Next, and_then, step, settle, run, store_all, if_fits}
+use Rattle.setl_model.specs.Run.{Moves, State, Goes, and_then, step, settle, run, if_fits}
 use Rattle.setl_model.specs.RunLaws.{runs_join}
 use Rattle.setl_model.specs.Step.{language, test_of}
 use Rattle.setl_model.specs.Variable.{Variable}

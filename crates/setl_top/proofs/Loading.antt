@@ -1,5 +1,5 @@
 -- What was told after a load that told nothing.
-use Rattle.std.proofs.Common.{◌≡◌, ℕ, List, [], ◌∷◌, ◌++◌, Option, sym, subst, codes}
+use Rattle.std.proofs.Common.{ℕ, List, [], ◌∷◌, ◌++◌, Option, subst, codes}
 use Rattle.setl_io.specs.Files.{Texts, IsText}
 use Rattle.setl_top.specs.Accepted.{IsRefusedFor}
 use Rattle.setl_top.specs.Lines.{AppendsFront}

@@ -1,9 +1,9 @@
 -- Sets of integers, their members and their texts.
-use Rattle.std.proofs.Common.{◌≡◌, ◌∙◌, ℕ, zero, suc, ℤ, List, [], ◌∷◌, ◌++◌, map, slice_get, get_or, length, ◌<◌, Option, Some, refl, sym, ap, subst, append_assoc, arith}
+use Rattle.std.proofs.Common.{◌≡◌, ◌∙◌, ℕ, zero, suc, ℤ, List, [], ◌∷◌, ◌++◌, map, slice_get, get_or, length, ◌<◌, Some, refl, sym, ap, subst, append_assoc, arith}
 use Rattle.std.specs.List.{AllByRecursion}
 use Rattle.std.specs.declared.cmp.Ordering.{Ordering}
 use Rattle.std.specs.declared.cmp.Ordering.TheVariants.{Less, Equal, Greater}
-use Rattle.setl_value.specs.Datum.{Datum, int, set, Elements, elements_of, element_list, element_list-elements_of}
+use Rattle.setl_value.specs.Datum.{Datum, int, elements_of, element_list, element_list-elements_of}
 use Rattle.setl_value.specs.Order.{datum_cmp}
 use Rattle.setl_set.specs.Sets as sets
 use Rattle.setl_model.specs.Sets as model

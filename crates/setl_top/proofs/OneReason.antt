@@ -1,5 +1,5 @@
 -- A source is refused for one reason, or it is a program that the command can work on, and not both.
-use Rattle.std.proofs.Common.{◌≡◌, ◌∙◌, ◌<◌, ◌≤◌, ◌^◌, ℕ, List, length, Option, Some, None, Result, Err, refl, sym, ap, subst, arith}
+use Rattle.std.proofs.Common.{◌≡◌, ◌<◌, ◌≤◌, ◌^◌, ℕ, List, length, Err, refl, ap, subst, arith}
 use Rattle.setl_token.specs.Lex.{Spelled, LexFails}
 use Rattle.setl_token.specs.declared.Cause.{Cause}
 use Rattle.setl_token.specs.declared.Cause.TheVariants as cause

@@ -1,20 +1,19 @@
 -- The meaning performs the statements of the small language as their values say.
-use Rattle.std.proofs.Common.{◌≡◌, ◌∙◌, ℕ, ℤ, Bool, true, false, cond, ◌&&◌, nat_eq, List, [], ◌∷◌, ◌++◌, map, reverse, Option, Some, None, refl, sym, ap, subst, append_assoc, bytes_eq}
-use Rattle.std.specs.List.{AllByRecursion}
-use Rattle.std.proofs.lemmas.List.{append-nil, reverse-append}
+use Rattle.std.proofs.Common.{◌≡◌, ◌∙◌, ℕ, ℤ, Bool, true, false, cond, List, [], ◌∷◌, ◌++◌, map, reverse, Option, Some, refl, sym, ap, subst, append_assoc, bytes_eq}
+use Rattle.std.proofs.lemmas.List.{append-nil}
 use Rattle.std.proofs.lemmas.Slice.Eq.{bytes_eq-Decides}
-use Rattle.setl_value.specs.Datum.{Datum, int, set, elements_of, element_list, element_list-elements_of}
+use Rattle.setl_value.specs.Datum.{Datum, int, elements_of, element_list, element_list-elements_of}
 use Rattle.setl_model.specs.Core.{Hand, Execute, Evaluate, Result, Frame, InStmt, Then, AssignRight, UpdateRight, PrintParts, Core, write_variable}
 use Rattle.setl_model.specs.Events.{Event, Printed}
 use Rattle.setl_model.specs.Moves.{with_outcome, go_storing}
-use Rattle.setl_model.specs.Operators.{Outcome, Gives, With as WithOperator, op_of, within_depth}
+use Rattle.setl_model.specs.Operators.{Gives, With as WithOperator, op_of, within_depth}
 use Rattle.setl_model.specs.Program.{Program, Literal, Block, no_stmt, more_stmts}
-use Rattle.setl_model.specs.Run.{State, Moves}
+use Rattle.setl_model.specs.Run.{Moves}
 use Rattle.setl_model.specs.Sets.{insert_datum}
 use Rattle.setl_model.specs.Statements.{print_parts}
 use Rattle.setl_model.specs.Step.{language, test_of}
 use Rattle.setl_model.specs.Texts.{print_line}
-use Rattle.setl_model.specs.Variable.{Environment, Own, Variable, value_in, with_value, is_variable}
+use Rattle.setl_model.specs.Variable.{Environment, Own, Variable, value_in, with_value}
 use Rattle.setl_model.specs.VariableLaws.{value_stored, value_elsewhere}
 use Rattle.setl_top.specs.Accepted.{plain_value, plain_values, plain_action, place_of, program_of}
 use Rattle.setl_top.specs.Tree.{Expr, Action, Assign, With, Print, Tree}

@@ -1,16 +1,15 @@
 -- A run of a small program in its course.
-use Rattle.std.proofs.Common.{◌≡◌, ◌∙◌, ◌<◌, ◌+◌, ◌⊎◌, inl, inr, ℕ, Bool, true, List, [], ◌∷◌, ◌++◌, length, take, Option, None, refl, sym, ap, subst, append_assoc}
+use Rattle.std.proofs.Common.{◌≡◌, ◌⊎◌, inl, inr, ℕ, Bool, true, List, [], ◌∷◌, ◌++◌, take, Option, None, refl, subst}
 use Rattle.std.proofs.lemmas.List.{append-nil}
 use Rattle.std.specs.Io.KnownBytes.{Appends}
 use Rattle.setl_io.specs.Sink.{AppendsPart}
 use Rattle.setl_model.specs.Core.{Core, Execute}
-use Rattle.setl_model.specs.Events.{Event, Done}
-use Rattle.setl_model.specs.Means.{Reaches, Means, HasPrint, first}
-use Rattle.setl_model.specs.Program.{Program}
-use Rattle.setl_model.specs.Run.{State, Goes, Ends, run, and_then, settle}
+use Rattle.setl_model.specs.Events.{Done}
+use Rattle.setl_model.specs.Means.{Means, first}
+use Rattle.setl_model.specs.Run.{Ends}
 use Rattle.setl_model.specs.RunLaws.{runs_join}
 use Rattle.setl_model.specs.Step.{language, test_of}
-use Rattle.setl_top.specs.Accepted.{program_of, plain_block, plain_action}
+use Rattle.setl_top.specs.Accepted.{program_of, plain_block}
 use Rattle.setl_top.specs.Conditions.{Kinds, no_kinds, meets}
 use Rattle.setl_top.specs.Moments.{AtState, AtPrint}
 use Rattle.setl_top.specs.Breaks.{Breaks}

@@ -1,5 +1,5 @@
 -- Texts with one blank between two, one more at a time.
-use Rattle.std.proofs.Common.{◌≡◌, ◌∙◌, ℕ, zero, suc, ◌+◌, ◌<◌, List, [], ◌∷◌, ◌++◌, length, take, map, slice_get, Some, refl, sym, ap, append_assoc, arith, add-one}
+use Rattle.std.proofs.Common.{◌≡◌, ◌∙◌, ℕ, zero, suc, ◌+◌, ◌<◌, List, [], ◌∷◌, ◌++◌, take, map, slice_get, Some, refl, sym, ap, append_assoc, arith, add-one}
 use Rattle.std.proofs.lemmas.List.{append-nil, map-append}
 use Rattle.setl_model.specs.Texts.{spaced}
 

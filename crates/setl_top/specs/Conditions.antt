@@ -4,7 +4,7 @@
 use Rattle.std.specs.Prelude.{ℕ, Bool, true, false, List, [], ◌∷◌, Option, Some, None, is_some, if◌then◌else◌, bytes_eq}
 use Rattle.std.specs.Option.{option_map, option_map_or}
 use Rattle.std.specs.List.{list_all}
-use Rattle.setl_top.specs.Tree.{Expr, Variable, Integer, SetOf, Action, Assign, With, Print, Stmt, Tree}
+use Rattle.setl_top.specs.Tree.{Expr, Variable, Integer, SetOf, Action, Assign, With, Print, Tree}
 use Rattle.setl_top.specs.declared.small.conditions.Kind.{Kind}
 use Rattle.setl_top.specs.declared.small.conditions.Kind.TheVariants as kind
 

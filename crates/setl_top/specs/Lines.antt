@@ -1,5 +1,5 @@
 -- What the error output gains from a line that is tried.
-use Rattle.std.specs.Prelude.{◌≡◌, ℕ, List, [], ◌∷◌, ◌++◌, Option, codes}
+use Rattle.std.specs.Prelude.{ℕ, List, [], ◌∷◌, ◌++◌, Option, codes}
 use Rattle.std.specs.Io.KnownBytes.{Appends}
 use Rattle.setl_top.specs.Fronts.{IsFront}
 use Rattle.setl_io.specs.declared.whole.WriteFault.{WriteFault}

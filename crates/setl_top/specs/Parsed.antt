@@ -1,5 +1,5 @@
 -- The trees that programs of the code stand for.
-use Rattle.std.specs.Prelude.{List, map}
+use Rattle.std.specs.Prelude.{map}
 use Rattle.setl_top.specs.Tree.{Expr, Variable, Integer, SetOf, Action, Assign, With, Print, Stmt}
 use Rattle.setl_top.specs.declared.small.program.Expression.{Expression}
 use Rattle.setl_top.specs.declared.small.program.Expression.TheVariants as expression

@@ -1,7 +1,6 @@
 -- What a statement of the small language does to the values of names, and what it writes.
-use Rattle.std.specs.Prelude.{◌≡◌, ℕ, ℤ, Bool, List, [], ◌∷◌, Option, Some, None, if◌then◌else◌, map, bytes_eq, IsSome}
+use Rattle.std.specs.Prelude.{◌≡◌, ℕ, ℤ, List, [], Option, Some, None, if◌then◌else◌, map, bytes_eq}
 use Rattle.std.specs.List.{AllByRecursion}
-use Rattle.std.specs.Option.{option_map}
 use Rattle.setl_value.specs.Datum.{Datum, int, set, elements_of, element_list}
 use Rattle.setl_model.specs.Sets.{set_from, insert_datum}
 use Rattle.setl_model.specs.Texts.{print_line}

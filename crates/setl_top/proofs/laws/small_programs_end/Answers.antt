@@ -1,4 +1,4 @@
-use Rattle.std.proofs.Common.{subst, sym, ℕ, List, Bool}
+use Rattle.std.proofs.Common.{subst, sym}
 use Rattle.setl_model.specs.Events.{Done}
 use Rattle.setl_model.specs.Means.{Means}
 use Rattle.setl_model.specs.Program.{Program}

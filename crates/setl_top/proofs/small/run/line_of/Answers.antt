@@ -1,4 +1,4 @@
-use Rattle.std.proofs.Common.{arith, ◌∙◌, ◌++◌, ◌∷◌, [], ◌≡◌, ◌<◌, ap, sym, length, map}
+use Rattle.std.proofs.Common.{arith, ◌∙◌, ◌++◌, ◌∷◌, [], ◌≡◌, ap, sym, map}
 use Rattle.std.proofs.lemmas.List.{take_all}
 use Rattle.setl_model.specs.Texts.{argument_text, spaced}
 use Rattle.setl_top.specs.declared.small.program.Expression.{Expression}

@@ -1,10 +1,9 @@
-use Rattle.std.proofs.Common.{◌≡◌, ◌∙◌, ◌+◌, ◌∷◌, List, ap, sym, subst, map, drop, rules, arith, bytes_eq}
+use Rattle.std.proofs.Common.{◌∙◌, ◌+◌, ◌∷◌, ap, sym, subst, map, drop, rules, arith, bytes_eq}
 use Rattle.std.proofs.lemmas.List.{drop_more, drop_all}
 use Rattle.std.specs.Global.{Vec}
 use Rattle.std.specs.Map.{lookup}
 use Rattle.std.specs.Option.{option_map}
 use Rattle.setl_value.specs.DatumOf.{datum}
-use Rattle.setl_top.specs.Breaks.{Breaks}
 use Rattle.setl_top.specs.Parsed.{stmt_of, action_of}
 use Rattle.setl_top.specs.TableValues.{values_in}
 use Rattle.setl_top.proofs.Running.{InRun, in_run_none, in_run_can, in_run_more, in_run_done, in_run_failed, in_run_starved}
