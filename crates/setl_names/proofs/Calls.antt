@@ -13,7 +13,7 @@ use Rattle.setl_names.specs.Breaks.{earlier, broken, occurrence_breaks}
 use Rattle.setl_names.specs.Names.{Name}
 use Rattle.setl_names.specs.Procedures.{params_of}
 use Rattle.setl_names.specs.Rules.{is_stored, stored, is_no_variable, is_bound_around, argument_names, is_empty, has_other_count, stores_no_variable, is_empty_selection, stores_bound_around, stores_twice}
-use Rattle.setl_names.specs.Stores.{with_store, stores_from, applied_by, applied_breaks}
+use Rattle.setl_names.specs.Stores.{with_store, with_argument, stores_from, applied_by, applied_breaks}
 
 by_params : (line : ℕ) (o : Option (List Param)) (xs : List Argument) →
     broken line 10 (has_other_count o xs) ++ (broken line 11 (stores_no_variable o xs) ++ (broken line 12 (is_empty_selection o xs)
@@ -63,11 +63,14 @@ stores_nothing s = rw (or_false s.no_variable, or_false s.bound_around, append-n
 pub stores_end : (ps : List Param) (xs : List Argument) (i : ℕ) (s whole : Stores) → length xs ≤ i → stores_from s (stored (drop i ps) (drop i xs)) ≡ whole → s ≡ whole
 stores_end ps xs i s whole h inv = sym (stores_nothing s) ∙ (rw (stored_past (drop i ps) xs i h) at inv)
 
-pub stores_next : (ps : List Param) (xs : List Argument) (i : ℕ) (p : Param) (x : Argument) (s new whole : Stores) → i < length ps → i < length xs → p ≡ get_or ps i p → x ≡ get_or xs i x →
-    is_stored p.passing ≡ true → new ≡ with_store s x → stores_from s (stored (drop i ps) (drop i xs)) ≡ whole → stores_from new (stored (drop (i + 1) ps) (drop (i + 1) xs)) ≡ whole
-stores_next ps xs i p x s new whole hp hx ep ex is en inv =
-    rw en (one_more_store s x (stored (drop (i + 1) ps) (drop (i + 1) xs)) ∙ (rw (stored_here ps xs i p x hp hx ep ex, is) at inv))
+step_by : (b : Bool) (s : Stores) (x : Argument) (xs : List Argument) → stores_from (cond b (with_store s x) s) xs ≡ stores_from s (cond b (x ∷ xs) xs)
+step_by true s x xs = one_more_store s x xs
+step_by false s x xs = refl
 
-pub stores_skip : (ps : List Param) (xs : List Argument) (i : ℕ) (p : Param) (x : Argument) (s whole : Stores) → i < length ps → i < length xs → p ≡ get_or ps i p → x ≡ get_or xs i x →
-    is_stored p.passing ≡ false → stores_from s (stored (drop i ps) (drop i xs)) ≡ whole → stores_from s (stored (drop (i + 1) ps) (drop (i + 1) xs)) ≡ whole
-stores_skip ps xs i p x s whole hp hx ep ex is inv = rw (stored_here ps xs i p x hp hx ep ex, is) at inv
+pub stores_step : (ps : List Param) (xs : List Argument) (i : ℕ) (p : Param) (x : Argument) (s new whole : Stores) → i < length ps → i < length xs → p ≡ get_or ps i p → x ≡ get_or xs i x →
+    new ≡ with_argument s p x → stores_from s (stored (drop i ps) (drop i xs)) ≡ whole → stores_from new (stored (drop (i + 1) ps) (drop (i + 1) xs)) ≡ whole
+stores_step ps xs i p x s new whole hp hx ep ex en inv =
+    ap (λ (z : Stores). stores_from z (stored (drop (i + 1) ps) (drop (i + 1) xs))) en
+    ∙ step_by (is_stored p.passing) s x (stored (drop (i + 1) ps) (drop (i + 1) xs))
+    ∙ ap (stores_from s) (sym (stored_here ps xs i p x hp hx ep ex))
+    ∙ inv

@@ -1,5 +1,7 @@
 -- What resolving finds, body by body.
-use Rattle.std.specs.Prelude.{ℕ, List, [], ◌∷◌, ◌++◌, map, fold, Option}
+use Rattle.std.specs.Prelude.{Bool, List, [], ◌∷◌, ◌++◌, map, fold}
+use Rattle.setl_tree.specs.declared.stmt.Stmt.{Stmt}
+use Rattle.setl_tree.specs.declared.tree.Param.{Param}
 use Rattle.setl_tree.specs.declared.tree.Proc.{Proc}
 use Rattle.setl_tree.specs.declared.tree.Tree.{Tree}
 use Rattle.setl_names.specs.declared.program.Found.{Found}
@@ -8,6 +10,9 @@ use Rattle.setl_names.specs.Bodies.{Body, bodies, occurrences}
 use Rattle.setl_names.specs.Breaks.{earlier, body_breaks, head_breaks, first_break}
 use Rattle.setl_names.specs.Procedures.{param_names}
 use Rattle.setl_names.specs.Variables.{slots_among, var_names}
+
+abbrev pub body_of : Name → List Param → List Stmt → Bool → Body
+body_of name params statements in_procedure = record { name = name; params = params; statements = statements; in_procedure = in_procedure }
 
 -- with the breaks and the names of one more body, where `vars` are the names in `var`
 abbrev pub with_body : List Proc → (vars : List Name) → Body → Found → Found

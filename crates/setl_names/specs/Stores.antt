@@ -1,5 +1,5 @@
 -- What the code finds out of the arguments for `wr` and `rw` parameters, and the breaks of a call.
-use Rattle.std.specs.Prelude.{ℕ, Bool, true, false, not, ◌||◌, ◌&&◌, List, [], ◌∷◌, ◌++◌, Option, Some, None}
+use Rattle.std.specs.Prelude.{ℕ, Bool, true, false, not, ◌||◌, ◌&&◌, List, [], ◌∷◌, ◌++◌, Option, Some, None, if◌then◌else◌}
 use Rattle.std.specs.List.{list_any}
 use Rattle.setl_tree.specs.declared.tree.Param.{Param}
 use Rattle.setl_tree.specs.declared.tree.Proc.{Proc}
@@ -10,7 +10,7 @@ use Rattle.setl_names.specs.declared.rules.Stores.{Stores}
 use Rattle.setl_names.specs.Breaks.{broken}
 use Rattle.setl_names.specs.Names.{Name, has}
 use Rattle.setl_names.specs.Procedures.{params_of, is_procedure}
-use Rattle.setl_names.specs.Rules.{is_no_variable, is_bound_around, argument_names, is_empty, has_other_count, stores_no_variable, stores_bound_around, stores_twice}
+use Rattle.setl_names.specs.Rules.{is_stored, is_no_variable, is_bound_around, argument_names, is_empty, has_other_count, stores_no_variable, stores_bound_around, stores_twice}
 
 abbrev pub no_stores : Stores
 no_stores = record { no_variable = false; bound_around = false; names = [] }
@@ -18,6 +18,10 @@ no_stores = record { no_variable = false; bound_around = false; names = [] }
 abbrev pub with_store : Stores → Argument → Stores
 with_store s arg.Other = record { no_variable = true; bound_around = s.bound_around; names = s.names }
 with_store s (arg.Name x own inside) = record { no_variable = s.no_variable || own; bound_around = s.bound_around || inside; names = s.names ++ x ∷ [] }
+
+-- with an argument for this parameter
+abbrev pub with_argument : Stores → Param → Argument → Stores
+with_argument s p x = if is_stored p.passing then with_store s x else s
 
 -- with some more arguments
 abbrev pub stores_from : Stores → List Argument → Stores

@@ -206,7 +206,7 @@ fn optional<'t>(
 
 /// What stands inside braces or brackets.
 #[cycle(standing)]
-#[tactic(auto, using(crate::proofs::NameLists::taken_back, crate::proofs::Standing::former_found, crate::proofs::Standing::filter_found))]
+#[tactic(auto, using(crate::proofs::NameLists::taken_back))]
 fn inner<'t>(
     x: &'t Inner,
     line: u32,
@@ -296,7 +296,6 @@ pub fn variable_turns<'t>(
 
 /// What stands in iterators that bind a former's own names. These are then put into the scope.
 #[cycle(standing)]
-#[tactic(auto, using(crate::proofs::Turns::own_found, crate::proofs::Turns::own_names))]
 fn own_turns<'t>(
     turns: &'t [Iter],
     line: u32,

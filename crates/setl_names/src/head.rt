@@ -47,6 +47,16 @@ fn param_entries<'t>(alloc: Global, params: &'t [Param]) -> Result<Items<Entry<'
     Ok(entries)
 }
 
+/// A declared name as an entry.
+fn declared_entry(item: &Declared) -> Entry<'_>
+    ensures { result ≡ heads.declared_entry item.now }
+{
+    Entry {
+        line: item.line,
+        name: Name::new(&item.name),
+    }
+}
+
 /// Declared names as entries.
 fn declared_entries<'t>(
     alloc: Global,
@@ -56,10 +66,7 @@ fn declared_entries<'t>(
 {
     let mut entries = Items::new(alloc);
     for item in vars {
-        entries.push(Entry {
-            line: item.line,
-            name: Name::new(&item.name),
-        })?;
+        entries.push(declared_entry(item))?;
     }
     Ok(entries)
 }

@@ -33,7 +33,7 @@ impl<'t> Model for Procs<'t> {
 
 impl<'t> Procs<'t> {
     /// The table of some procedures. Of two of one name the first counts.
-    #[tactic(auto, using(crate::proofs::Tables::finds_none, crate::proofs::Tables::finds_next))]
+    #[tactic(auto, using(crate::proofs::Tables::finds_none))]
     pub fn new(alloc: Global, procs: &'t [Proc]) -> Result<Procs<'t>, AllocError>
         ensures { IfOk result (λ p. p ≡ procs.now) }
     {

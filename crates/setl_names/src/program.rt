@@ -3,7 +3,7 @@
 ghost use Rattle.std.specs.Prelude.{◌≡◌, map, IfOk, OnOk};
 ghost use Rattle.setl_names.specs.Bodies.{proc_body};
 ghost use Rattle.setl_names.specs.Resolves.{Resolves};
-ghost use Rattle.setl_names.specs.Found.{with_body, with_bodies, whole_program};
+ghost use Rattle.setl_names.specs.Found.{body_of, with_body, with_bodies, whole_program};
 
 use crate::around::Around;
 use crate::bodies::{BodyNames, copied, copied_params, names_of_params, names_of_vars, slots};
@@ -40,8 +40,7 @@ fn resolve_body(
     body: BodyParts<'_>,
     found: &mut Found,
 ) -> Result<(), AllocError>
-    ensures { let whole = record { name = body.entry.name.now; params = body.entry.params.now; statements = body.entry.statements.now; in_procedure = body.entry.in_procedure } in
-        OnOk result (found.new ≡ with_body procs.now vars.now whole found.old) }
+    ensures { OnOk result (found.new ≡ with_body procs.now vars.now (body_of body.entry.name.now body.entry.params.now body.entry.statements.now body.entry.in_procedure) found.old) }
 {
     let around = Around {
         in_loop: false,
@@ -111,13 +110,15 @@ fn resolve_all(alloc: Global, tree: &Tree) -> Result<Found, AllocError>
 /// It gives the names of each body, the main program first, then the procedures in their order. Where a rule of 1 to 18
 /// is broken, the error is `Broken` with the first break by line, and of one line that of the lowest number.
 /// `NoMemory` is want of memory.
-#[tactic(auto, using(crate::proofs::Whole::resolved_ok, crate::proofs::Whole::resolved_err))]
 pub fn resolve(alloc: Global, tree: &Tree) -> Result<Items<BodyNames>, RuleFault>
     ensures { Resolves tree.now result }
 {
     let found = resolve_all(alloc, tree)?;
     match found.first {
         None => Ok(found.names),
-        Some(Break { line, rule }) => Err(RuleFault::Broken { rule, line }),
+        Some(first) => Err(RuleFault::Broken {
+            rule: first.rule,
+            line: first.line,
+        }),
     }
 }

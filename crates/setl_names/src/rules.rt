@@ -53,8 +53,22 @@ fn add_store<'t>(stores: &mut Stores<'t>, argument: &Argument<'t>) -> Result<(),
     }
 }
 
+/// Adds an argument if it is for a `wr` or `rw` parameter.
+fn add_argument<'t>(
+    stores: &mut Stores<'t>,
+    param: &Param,
+    argument: &Argument<'t>,
+) -> Result<(), AllocError>
+    ensures { OnOk result (stores.new ≡ found.with_argument stores.old param.now argument.now) }
+{
+    if is_stored(param.passing) {
+        add_store(stores, argument)?;
+        return Ok(());
+    }
+    Ok(())
+}
+
 /// The arguments for the `wr` and `rw` parameters.
-#[tactic(auto, using(crate::proofs::Calls::stores_end, crate::proofs::Calls::stores_next, crate::proofs::Calls::stores_skip))]
 fn find_stores<'t>(
     alloc: Global,
     params: &[Param],
@@ -71,9 +85,7 @@ fn find_stores<'t>(
         if i >= arguments.len() {
             return Ok(all);
         }
-        if is_stored(params[i].passing) {
-            add_store(&mut all, &arguments[i])?;
-        }
+        add_argument(&mut all, &params[i], &arguments[i])?;
     }
     Ok(all)
 }

@@ -1,6 +1,6 @@
 //! What stands in statements.
 
-ghost use Rattle.std.specs.Prelude.{◌≡◌, ◌++◌, map, option_map, OnOk};
+ghost use Rattle.std.specs.Prelude.{◌≡◌, ◌++◌, map, OnOk};
 ghost use Rattle.setl_names.specs.Statements as spec;
 ghost use Rattle.setl_names.specs.Places.{in_statement};
 ghost use Rattle.setl_names.specs.Statements.{stmt_told, kind_told, branch_told};
@@ -72,7 +72,13 @@ fn kind<'t>(
         StmtKind::If(first, others, last) => {
             branch(first, line, around, alloc, found)?;
             branches(others.as_slice(), line, around, alloc, found)?;
-            else_part(last, around, alloc, found)
+            match last {
+                None => Ok(()),
+                Some(body) => {
+                    stmts(body.as_slice(), around, alloc, found)?;
+                    Ok(())
+                }
+            }
         }
         StmtKind::For(turns, condition, body) => {
             ordinary_turns(turns.as_slice(), line, alloc, found)?;
@@ -140,20 +146,4 @@ fn branches<'t>(
         branch(x, line, around, alloc, found)?;
     }
     Ok(())
-}
-
-/// What stands behind `else`, if there is one.
-#[cycle(statements)]
-fn else_part<'t>(
-    body: &'t Option<Items<Stmt>>,
-    around: Around,
-    alloc: Global,
-    found: &mut Items<Occurrence<'t>>,
-) -> Result<(), AllocError>
-    ensures { OnOk result (found.new ≡ found.old ++ spec.optional_told (option_map (map stmt_told) body.now) around) }
-{
-    match body {
-        None => Ok(()),
-        Some(body) => stmts(body.as_slice(), around, alloc, found),
-    }
 }
