@@ -30,148 +30,152 @@ fn outcome(alloc: Global, source: &str) -> Result<String, Fail> {
     Ok(text)
 }
 
+/// Sources with faults, and the places of the faults.
+const FAULTS: [(&str, &str); 67] = [
+    ("program p; x := ;", "16"),
+    ("program p; f( := 1; end program;", "14"),
+    (
+        "program p; (for x in s print(x); end for; end program;",
+        "23",
+    ),
+    ("", "0"),
+    ("x", "0"),
+    ("program ;", "8"),
+    ("program p end;", "10"),
+    ("program p; end program p", "24"),
+    ("program p; end program p; x", "26"),
+    ("program p; x = 1; end;", "13"),
+    ("program p; x + 1; end;", "15"),
+    ("program p; x := 1 end;", "18"),
+    ("program p; x := 1 + ; end;", "20"),
+    ("program p; x := (1 ; end;", "19"),
+    ("program p; x := {1, }; end;", "20"),
+    ("program p; x := [1 .. ]; end;", "22"),
+    ("program p; x := {[-, y] in s }; end;", "29"),
+    ("program p; x := {y : }; end;", "21"),
+    ("program p; x := {y : z }; end;", "23"),
+    ("program p; x := {y : z in s | }; end;", "30"),
+    ("program p; x := a = b = c; end;", "22"),
+    ("program p; x := if a then b end; end;", "28"),
+    ("program p; x := if a b; end;", "21"),
+    ("program p; x := exists 1; end;", "23"),
+    ("program p; x := exists y in s ; end;", "30"),
+    ("program p; x := f(1 .. 2, 3); end;", "24"),
+    ("program p; x := f(, 1); end;", "18"),
+    ("program p; x := s{}; end;", "18"),
+    ("program p; if a x := 1; end if; end;", "16"),
+    (
+        "program p; if a then x := 1; else y := 2; elseif b then z := 3; end if; end;",
+        "42",
+    ),
+    ("program p; if a then x := 1; end while; end;", "33"),
+    ("program p; if a then x := 1; ", "29"),
+    ("program p; (x := 1); end;", "12"),
+    ("program p; (while a) x := 1; end for; end;", "33"),
+    ("program p; (for x in s) end for end;", "32"),
+    ("program p; quit x; end;", "16"),
+    ("program p; return 1 2; end;", "20"),
+    ("program p; print x; end;", "17"),
+    ("program p; print(1, ); end;", "20"),
+    ("program p; print(1) end;", "20"),
+    ("program p; read(); end;", "16"),
+    ("program p; read(x, 1); end;", "19"),
+    ("program p; x from 1; end;", "18"),
+    ("program p; x from y + 1; end;", "20"),
+    ("program p; f() := 1; end;", "15"),
+    ("program p; f(1) + 1; end;", "18"),
+    ("program p; f(x ..) := 1; end;", "15"),
+    ("program p; [x, 1] := t; end;", "15"),
+    ("program p; [] := t; end;", "12"),
+    ("program p; [x] = t; end;", "15"),
+    ("program p; var ; end;", "15"),
+    ("program p; var x, 1; end;", "18"),
+    ("program p; x := 1; var y; end;", "19"),
+    ("program p; repr x ; end repr; end;", "18"),
+    ("program p; repr x : y; end repr; end;", "20"),
+    ("program p; repr x : set int; end repr; end;", "24"),
+    ("program p; repr x : smap(int) ; end repr; end;", "30"),
+    ("program p; repr base b : int end repr; end;", "29"),
+    ("program p; repr x : elmt int; end repr; end;", "25"),
+    ("program p; proc ; end;", "16"),
+    ("program p; proc f(x y); end; end;", "20"),
+    ("program p; proc f(x, ); end; end;", "21"),
+    ("program p; proc f; end x; end;", "23"),
+    ("program p; proc f; end proc f end;", "30"),
+    ("program p; proc f; end; x := 1; end;", "24"),
+    ("program p; 1 := x; end;", "11"),
+    ("program p; end p;", "15"),
+];
+
 #[test]
 fn finds_the_places_of_syntax_faults(rt: HostRuntime) -> Result<(), Fail> {
-    let table = [
-        ("program p; x := ;", "16"),
-        ("program p; f( := 1; end program;", "14"),
-        (
-            "program p; (for x in s print(x); end for; end program;",
-            "23",
-        ),
-        ("", "0"),
-        ("x", "0"),
-        ("program ;", "8"),
-        ("program p end;", "10"),
-        ("program p; end program p", "24"),
-        ("program p; end program p; x", "26"),
-        ("program p; x = 1; end;", "13"),
-        ("program p; x + 1; end;", "15"),
-        ("program p; x := 1 end;", "18"),
-        ("program p; x := 1 + ; end;", "20"),
-        ("program p; x := (1 ; end;", "19"),
-        ("program p; x := {1, }; end;", "20"),
-        ("program p; x := [1 .. ]; end;", "22"),
-        ("program p; x := {[-, y] in s }; end;", "29"),
-        ("program p; x := {y : }; end;", "21"),
-        ("program p; x := {y : z }; end;", "23"),
-        ("program p; x := {y : z in s | }; end;", "30"),
-        ("program p; x := a = b = c; end;", "22"),
-        ("program p; x := if a then b end; end;", "28"),
-        ("program p; x := if a b; end;", "21"),
-        ("program p; x := exists 1; end;", "23"),
-        ("program p; x := exists y in s ; end;", "30"),
-        ("program p; x := f(1 .. 2, 3); end;", "24"),
-        ("program p; x := f(, 1); end;", "18"),
-        ("program p; x := s{}; end;", "18"),
-        ("program p; if a x := 1; end if; end;", "16"),
-        (
-            "program p; if a then x := 1; else y := 2; elseif b then z := 3; end if; end;",
-            "42",
-        ),
-        ("program p; if a then x := 1; end while; end;", "33"),
-        ("program p; if a then x := 1; ", "29"),
-        ("program p; (x := 1); end;", "12"),
-        ("program p; (while a) x := 1; end for; end;", "33"),
-        ("program p; (for x in s) end for end;", "32"),
-        ("program p; quit x; end;", "16"),
-        ("program p; return 1 2; end;", "20"),
-        ("program p; print x; end;", "17"),
-        ("program p; print(1, ); end;", "20"),
-        ("program p; print(1) end;", "20"),
-        ("program p; read(); end;", "16"),
-        ("program p; read(x, 1); end;", "19"),
-        ("program p; x from 1; end;", "18"),
-        ("program p; x from y + 1; end;", "20"),
-        ("program p; f() := 1; end;", "15"),
-        ("program p; f(1) + 1; end;", "18"),
-        ("program p; f(x ..) := 1; end;", "15"),
-        ("program p; [x, 1] := t; end;", "15"),
-        ("program p; [] := t; end;", "12"),
-        ("program p; [x] = t; end;", "15"),
-        ("program p; var ; end;", "15"),
-        ("program p; var x, 1; end;", "18"),
-        ("program p; x := 1; var y; end;", "19"),
-        ("program p; repr x ; end repr; end;", "18"),
-        ("program p; repr x : y; end repr; end;", "20"),
-        ("program p; repr x : set int; end repr; end;", "24"),
-        ("program p; repr x : smap(int) ; end repr; end;", "30"),
-        ("program p; repr base b : int end repr; end;", "29"),
-        ("program p; repr x : elmt int; end repr; end;", "25"),
-        ("program p; proc ; end;", "16"),
-        ("program p; proc f(x y); end; end;", "20"),
-        ("program p; proc f(x, ); end; end;", "21"),
-        ("program p; proc f; end x; end;", "23"),
-        ("program p; proc f; end proc f end;", "30"),
-        ("program p; proc f; end; x := 1; end;", "24"),
-        ("program p; 1 := x; end;", "11"),
-        ("program p; end p;", "15"),
-    ];
-    for (source, want) in table {
+    for (source, want) in FAULTS {
         let text = outcome(rt.alloc(), source)?;
         assert_eq!(rt; text.as_str(), want, "at {source}");
     }
     Ok(())
 }
 
+/// Programs, and how many variables, `repr` lines, statements and procedures they have.
+const PROGRAMS: [(&str, &str); 14] = [
+    (
+        "program p; print({3,1,2,1}, [1,om,2], 'it''s'); end program;",
+        "0 0 1 0",
+    ),
+    ("program p; end;", "0 0 0 0"),
+    (
+        "PROGRAM p; VAR x, y; var z; x(1){2} := 3; [y, -] := x; End Program p;",
+        "3 0 2 0",
+    ),
+    (
+        "program p; x with := 1; x less := 1; x lessf := 1; x npow := 1; x + := 1; x - := 1; x max := 1; x min := 1; x * := 1; x div := 1; x mod := 1; x ** := 1; end;",
+        "0 0 12 0",
+    ),
+    (
+        "program p; x from y; x fromb y(1){2, 3}; x frome y; f(); f(1, 2); f(1)(2) := 3; f{1}(2) +:= 3; quit; continue; fail; stop; pass; return; return 1; print(); print(1, 2); read(x); read(x, y); end;",
+        "0 0 18 0",
+    ),
+    (
+        "program p; if a then pass; end; if a then elseif b then quit; elseif c then else stop; end if; end;",
+        "0 0 2 0",
+    ),
+    (
+        "program p; (for x in s) end; (for x in s, [y, -] in t, z = f(x) | x > y) x from s; end for; (while true) continue; end while; end program;",
+        "0 0 3 0",
+    ),
+    (
+        "program p; repr base b; base c, d : int; x, y : local set(elmt b); f : sparse smap(int) mmap{general} remote set(integer); g : tuple(string); h : smap(boolean) atom; end repr; end;",
+        "0 6 0 0",
+    ),
+    (
+        "program p; repr end; f(); proc f; return; end proc f; procedure g(rd x, y, wr z, rw w); return x + y; end; proc h(); end procedure; end program p;",
+        "0 0 1 3",
+    ),
+    (
+        "program p; x := exists y in s | y; x := forall y in s | y; x := notexists y in s, [z, -] in t, w = f(z) | y; end;",
+        "0 0 3 0",
+    ),
+    (
+        "program p; x := a impl b or c and not d; x := a = b; x := a /= b; x := a < b; x := a <= b; x := a > b; x := a >= b; x := a in b; x := a notin b; x := a subset b; x := a incs b; end;",
+        "0 0 11 0",
+    ),
+    (
+        "program p; x := a with b less c lessf d npow e + f - g max h min i * j div k mod l ** m; x := - # abs even odd pow domain range arb str a; x := is_integer is_string is_boolean is_atom is_tuple is_set is_map a; x := +/ */ max/ min/ and/ or/ a; end;",
+        "0 0 4 0",
+    ),
+    (
+        "program p; x := f() + f(1, 2)(3)(1 .. 2)(1 ..){1, 2}; x := [1, 'a', om, true, false, newat, eof, ok, y, (1), if a then b else c end]; end;",
+        "0 0 2 0",
+    ),
+    (
+        "program p; x := {}; x := []; x := {1 .. 2}; x := [1, 3 .. 9]; x := {y : y in s}; x := [y : y in s | y > 1]; x := {y in s | y > 1}; x := [[y, -] in s | y]; end;",
+        "0 0 8 0",
+    ),
+];
+
 #[test]
 fn parses_every_alternative(rt: HostRuntime) -> Result<(), Fail> {
-    let table = [
-        (
-            "program p; print({3,1,2,1}, [1,om,2], 'it''s'); end program;",
-            "0 0 1 0",
-        ),
-        ("program p; end;", "0 0 0 0"),
-        (
-            "PROGRAM p; VAR x, y; var z; x(1){2} := 3; [y, -] := x; End Program p;",
-            "3 0 2 0",
-        ),
-        (
-            "program p; x with := 1; x less := 1; x lessf := 1; x npow := 1; x + := 1; x - := 1; x max := 1; x min := 1; x * := 1; x div := 1; x mod := 1; x ** := 1; end;",
-            "0 0 12 0",
-        ),
-        (
-            "program p; x from y; x fromb y(1){2, 3}; x frome y; f(); f(1, 2); f(1)(2) := 3; f{1}(2) +:= 3; quit; continue; fail; stop; pass; return; return 1; print(); print(1, 2); read(x); read(x, y); end;",
-            "0 0 18 0",
-        ),
-        (
-            "program p; if a then pass; end; if a then elseif b then quit; elseif c then else stop; end if; end;",
-            "0 0 2 0",
-        ),
-        (
-            "program p; (for x in s) end; (for x in s, [y, -] in t, z = f(x) | x > y) x from s; end for; (while true) continue; end while; end program;",
-            "0 0 3 0",
-        ),
-        (
-            "program p; repr base b; base c, d : int; x, y : local set(elmt b); f : sparse smap(int) mmap{general} remote set(integer); g : tuple(string); h : smap(boolean) atom; end repr; end;",
-            "0 6 0 0",
-        ),
-        (
-            "program p; repr end; f(); proc f; return; end proc f; procedure g(rd x, y, wr z, rw w); return x + y; end; proc h(); end procedure; end program p;",
-            "0 0 1 3",
-        ),
-        (
-            "program p; x := exists y in s | y; x := forall y in s | y; x := notexists y in s, [z, -] in t, w = f(z) | y; end;",
-            "0 0 3 0",
-        ),
-        (
-            "program p; x := a impl b or c and not d; x := a = b; x := a /= b; x := a < b; x := a <= b; x := a > b; x := a >= b; x := a in b; x := a notin b; x := a subset b; x := a incs b; end;",
-            "0 0 11 0",
-        ),
-        (
-            "program p; x := a with b less c lessf d npow e + f - g max h min i * j div k mod l ** m; x := - # abs even odd pow domain range arb str a; x := is_integer is_string is_boolean is_atom is_tuple is_set is_map a; x := +/ */ max/ min/ and/ or/ a; end;",
-            "0 0 4 0",
-        ),
-        (
-            "program p; x := f() + f(1, 2)(3)(1 .. 2)(1 ..){1, 2}; x := [1, 'a', om, true, false, newat, eof, ok, y, (1), if a then b else c end]; end;",
-            "0 0 2 0",
-        ),
-        (
-            "program p; x := {}; x := []; x := {1 .. 2}; x := [1, 3 .. 9]; x := {y : y in s}; x := [y : y in s | y > 1]; x := {y in s | y > 1}; x := [[y, -] in s | y]; end;",
-            "0 0 8 0",
-        ),
-    ];
-    for (source, want) in table {
+    for (source, want) in PROGRAMS {
         let text = outcome(rt.alloc(), source)?;
         assert_eq!(rt; text.as_str(), want, "at {source}");
     }
