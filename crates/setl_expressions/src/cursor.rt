@@ -115,14 +115,14 @@ impl<'a> Cursor<'a> {
         }
     }
 
-    /// That the next token does not go on.
+    /// The fault that the next token doesn't go on, with the number of tokens left.
     pub fn refuse(&self) -> Fault
         ensures { result ≡ Fault.Syntax (length self.now) }
     {
         Fault::Syntax(self.left())
     }
 
-    /// Goes behind the next token.
+    /// Goes behind the next token; behind the last one stays.
     pub fn pass(&mut self)
         ensures { self.new ≡ spec.rest_of self.old }
     {
@@ -132,7 +132,7 @@ impl<'a> Cursor<'a> {
         }
     }
 
-    /// Goes behind the next token if it is of this kind.
+    /// Goes behind the next token if it is of this kind, otherwise a syntax fault.
     #[tactic(auto, using(crate::proofs::Plain::took, crate::proofs::Plain::refused, crate::proofs::Plain::ended))]
     pub fn expect(&mut self, kind: Kind) -> Result<(), Fault>
         ensures ok { IfOk result (λ _. spec.expect kind self.old ≡ Ok (next_token self.old, self.new)) }
@@ -148,7 +148,8 @@ impl<'a> Cursor<'a> {
         Ok(())
     }
 
-    /// Goes behind the next token if it is of this kind, where so many nestings may still open and it opens one.
+    /// Goes behind the next token if it is of this kind and opens a nesting, where so many may still open. Otherwise a
+    /// syntax fault, or where none may open and the token is of this kind a nesting fault.
     #[tactic(auto, using(crate::proofs::Plain::too_deep_at, crate::proofs::Plain::no_room, crate::proofs::Plain::opens))]
     pub fn open(&mut self, room: usize, kind: Kind) -> Result<(), Fault>
         ensures ok { IfOk result (λ _. spec.opening room kind self.old ≡ Ok (next_token self.old, self.new)) }
@@ -164,7 +165,7 @@ impl<'a> Cursor<'a> {
         self.expect(kind)
     }
 
-    /// The value of the next token, which has one if it is a number.
+    /// The value of the next token if it is a number, from 0 to 2^127 - 1; otherwise 0.
     pub fn value(&self) -> i128
         ensures { result ≡ (next_token self.now).value }
     {
@@ -181,14 +182,15 @@ impl<'a> Cursor<'a> {
         }
     }
 
-    /// What the next token holds if it is a name or a string. An error is want of memory.
+    /// The bytes of the next token if it is a name, in lower case, or what it holds if it is a string; otherwise none.
+    /// An error is want of memory.
     pub fn text(&self) -> Result<Text, AllocError>
         ensures { IfOk result (λ t. t ≡ (next_token self.now).text) }
     {
         content(self.alloc, self.list, self.at)
     }
 
-    /// Reads a name.
+    /// Reads a name, in lower case.
     #[tactic(auto, unfolding(setl_grammar::specs::Reading::name))]
     pub fn name(&mut self) -> Result<Text, Fault>
         ensures { Reads (spec.name self.old) result self.new }

@@ -34,7 +34,7 @@ impl Rule for SlotRule {
     }
 }
 
-/// A tuple pattern.
+/// Reads a tuple pattern: one or more names and `-` in brackets, where so many nestings may still open.
 #[tactic(auto, unfolding(setl_grammar::specs::ReadExpressions::pattern))]
 pub fn pattern(room: usize, tokens: &mut Cursor<'_>) -> Result<Items<Slot>, Fault>
     ensures { Reads (spec.pattern room tokens.old) result tokens.new }

@@ -1,4 +1,9 @@
-//! Reading expressions.
+//! Reading expressions from the tokens of a source.
+//!
+//! Each call gives exactly what its reader in `setl_grammar` gives on the tokens that are left: what was read, with the
+//! cursor behind it, or a fault. `Fault::Syntax` comes at the first token that doesn't go on, `Fault::Nesting` at one
+//! that goes on and opens a nesting where `room`, the number of nestings that may still open, is 0; each has the number
+//! of tokens left there. `Fault::Memory` comes for want of memory alone. Where the cursor stands after a fault isn't said.
 #![tactic(auto)]
 
 mod ahead;

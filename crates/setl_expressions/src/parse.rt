@@ -29,7 +29,7 @@ fn nested(tokens: &mut Cursor<'_>, room: usize, part: Part) -> Result<Expr, Faul
     }
 }
 
-/// An expression with at most so many nestings inside one another.
+/// Reads an expression with at most so many nestings inside one another.
 #[tactic(auto, unfolding(setl_grammar::specs::ReadExpressions::expr))]
 pub fn expr(room: usize, tokens: &mut Cursor<'_>) -> Result<Expr, Fault>
     ensures { Reads (spec.expr room tokens.old) result tokens.new }
@@ -41,14 +41,14 @@ pub fn expr(room: usize, tokens: &mut Cursor<'_>) -> Result<Expr, Fault>
     .whole(tokens)
 }
 
-/// An expression one nesting deeper.
+/// Reads an expression inside a nesting that `room` still counts; at 0 always a syntax fault.
 pub fn nested_expr(room: usize, tokens: &mut Cursor<'_>) -> Result<Expr, Fault>
     ensures { Reads ((spec.nested room).expr tokens.old) result tokens.new }
 {
     nested(tokens, room, Part::Whole)
 }
 
-/// An expression one nesting deeper, as a rule.
+/// `nested_expr` as a rule.
 #[derive(Drop)]
 pub struct NestedExpr {
     pub room: usize,
@@ -68,7 +68,7 @@ impl Rule for NestedExpr {
     }
 }
 
-/// A condition behind a bar, as a rule.
+/// A bar and a condition behind it, inside a nesting that is counted in `room`, as a rule.
 #[derive(Drop)]
 pub struct Condition {
     pub room: usize,
@@ -101,7 +101,7 @@ impl Repeated for Condition {
     }
 }
 
-/// Iterators one nesting deeper, with commas between.
+/// Reads iterators with commas between, inside a nesting that is counted in `room`.
 pub fn iters(room: usize, tokens: &mut Cursor<'_>) -> Result<Items<Iter>, Fault>
     ensures { Reads (spec.iters (room - 1) (spec.nested room).source tokens.old) result tokens.new }
 {
@@ -112,7 +112,7 @@ pub fn iters(room: usize, tokens: &mut Cursor<'_>) -> Result<Items<Iter>, Fault>
     .iters(tokens)
 }
 
-/// Expressions in braces.
+/// Reads one or more expressions in braces, where so many nestings may still open.
 pub fn braces(room: usize, tokens: &mut Cursor<'_>) -> Result<Selector, Fault>
     ensures { Reads (spec.braces room (spec.nested room) tokens.old) result tokens.new }
 {

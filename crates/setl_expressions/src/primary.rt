@@ -18,7 +18,7 @@ use setl_grammar::Fault;
 use setl_tree::{Boxed, Expr, Items, Kind, Quantifier, Relation, Selector};
 use std::alloc::{AllocError, Global};
 
-/// The signs that open a selector.
+/// Whether a token of this kind opens a selector: `(` or `{`.
 #[tactic(auto, unfolding(setl_grammar::specs::ReadExpressions::begins_selector))]
 pub fn begins_selector(kind: Kind) -> bool
     ensures { result ≡ spec.begins_selector kind }

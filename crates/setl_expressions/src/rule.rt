@@ -39,7 +39,7 @@ pub trait Repeated: Rule {
         ensures { result ≡ begins_with self.now kind };
 }
 
-/// Parts, while a next one begins.
+/// Parts in their order, while the next token begins one. A fault is the first part's that has one.
 pub fn many<R: Repeated>(rule: &R, tokens: &mut Cursor<'_>) -> Result<Items<R::Out>, Fault>
     requires { R.can_read rule.now }
     ensures { Reads (spec.many (R.begins_with rule.now) (R.reader rule.now) tokens.old) result tokens.new }
@@ -54,7 +54,7 @@ pub fn many<R: Repeated>(rule: &R, tokens: &mut Cursor<'_>) -> Result<Items<R::O
     Ok(found)
 }
 
-/// A part, if it begins here.
+/// A part, if the next token begins one, otherwise `None`. A fault is the part's.
 pub fn optional<R: Repeated>(rule: &R, tokens: &mut Cursor<'_>) -> Result<Option<R::Out>, Fault>
     requires { R.can_read rule.now }
     ensures { Reads (spec.optional (R.begins_with rule.now) (R.reader rule.now) tokens.old) result tokens.new }
@@ -65,7 +65,7 @@ pub fn optional<R: Repeated>(rule: &R, tokens: &mut Cursor<'_>) -> Result<Option
     Ok(Some(rule.read(tokens)?))
 }
 
-/// The items with one in front.
+/// The items with one in front. An error is want of memory.
 pub fn with_first<T: Drop>(
     alloc: Global,
     first: T,
@@ -79,7 +79,7 @@ pub fn with_first<T: Drop>(
     Ok(all)
 }
 
-/// One or more parts with commas between.
+/// One or more parts in their order, with commas between. No comma stands behind the last.
 #[tactic(auto, unfolding(setl_grammar::specs::Reading::separated))]
 pub fn separated<R: Rule>(rule: &R, tokens: &mut Cursor<'_>) -> Result<Items<R::Out>, Fault>
     requires { R.can_read rule.now }
@@ -123,7 +123,7 @@ impl<'r, R: Rule> Repeated for BehindComma<'r, R> {
     }
 }
 
-/// More parts, each behind a comma.
+/// Any number of parts in their order, each behind a comma.
 #[tactic(auto, unfolding(setl_grammar::specs::Reading::more))]
 pub fn more<R: Rule>(rule: &R, tokens: &mut Cursor<'_>) -> Result<Items<R::Out>, Fault>
     requires { R.can_read rule.now }
@@ -132,7 +132,8 @@ pub fn more<R: Rule>(rule: &R, tokens: &mut Cursor<'_>) -> Result<Items<R::Out>,
     many(&BehindComma { part: rule }, tokens)
 }
 
-/// Parts with commas between up to the token that closes them, or nothing.
+/// Parts in their order with commas between, or none where the next token is the one that closes them. That token is
+/// left.
 #[tactic(auto, unfolding(setl_grammar::specs::Reading::listed))]
 pub fn listed<R: Rule>(
     close: Kind,
