@@ -6,12 +6,13 @@ use Rattle.setl_model.specs.Answers.{IsDone, IsStopped, IsSpent, RunStatus}
 use Rattle.setl_modes.specs.Events.{Done as DoneEnd}
 use Rattle.setl_top.specs.Accepted.{program_of}
 use Rattle.setl_top.specs.Lines.{AppendsFront, AppendsFronts}
-use Rattle.setl_top.specs.Loads.{Loaded, NotLoaded, not_accepted, not_read, no_room}
+use Rattle.setl_top.specs.Loads.{LoadedSmall, NotLoaded, not_accepted, not_read, no_room, sides, Checks, checked_so, not_checked}
+use Rattle.setl_top.specs.Reasons.{reason_line}
 use Rattle.setl_top.specs.Runs.{RunsTo, RunsInto, RunsUpTo}
 use Rattle.setl_top.specs.Tells.{Tells, whole, failed, no_memory}
 use Rattle.setl_top.specs.Tree.{Tree}
-use Rattle.setl_top.specs.Words.{IsFaulty, Spells, HasFile, Command, Run}
-use Rattle.setl_top.specs.Headline.{Moment, Job, IsInput, IsToRun, Answers, faulty_words, refused, run_ended, status_for, no_program, at_state, in_print, at_print, load_failed, TellsFault, IsQuiet, Ended, WriteFailed, MemoryFailed, out_failed, err_failed, Headline}
+use Rattle.setl_top.specs.Words.{IsFaulty, Spells, HasFile, Command, Run, Check}
+use Rattle.setl_top.specs.Headline.{Moment, Job, IsInput, IsToRun, Answers, faulty_words, refused, checked, run_ended, status_for, no_program, at_state, in_print, at_print, load_failed, TellsFault, IsQuiet, LeavesRest, Ended, WriteFailed, MemoryFailed, out_failed, err_failed, Headline}
 use Rattle.setl_top.specs.declared.status.Status.{Status}
 use Rattle.setl_top.specs.declared.status.Status.TheVariants.{Done, Refused, Words}
 use Rattle.setl_top.proofs.Fronts.{appends_none, front_none}
@@ -37,6 +38,7 @@ run_headline words before after IsSpent e = e
 pub ended_headline : (words : List (List ℕ)) (before after : Moment) (status : Status) (out err : List ℕ) → Answers words before status out err → Ended words before after status → Headline words before after status
 ended_headline words before after _ _ _ (faulty_words h) e = e
 ended_headline words before after _ _ _ (refused command name source line a f b c) e = e
+ended_headline words before after _ _ _ (checked name source tree a f b c) e = e
 ended_headline words before after _ _ _ (run_ended job out end ending a m s) e = run_headline words before after ending e
 
 -- a fault's own line, and nothing before it
@@ -92,8 +94,10 @@ told words before after err a o l f i u _ (no_memory h) = record {
 }
 
 -- a source wasn't loaded
-pub not_loaded : (words : List (List ℕ)) (before after : Moment) (command : Command) (name : List ℕ) → Spells words command → HasFile command name → Appends before.out after.out [] → after.input ≡ before.input → after.input_faults ≤ before.input_faults → after.out_faults ≤ before.out_faults → (r : Status) → NotLoaded before.texts name before.files_faults after.files_faults before.err after.err before.err_faults after.err_faults r → Headline words before after r
-not_loaded words before after command name s f o l i u _ (not_accepted source line r t why e h) = told words before after (line ++ 10 ∷ []) (refused command name source line s f t why) o l (omega arith) i u r h
+pub not_loaded : (words : List (List ℕ)) (before after : Moment) (command : Command) (name : List ℕ) → Spells words command → HasFile command name → Appends before.out after.out [] → after.input ≡ before.input → after.input_faults ≤ before.input_faults → after.out_faults ≤ before.out_faults → (r : Status) → NotLoaded command before.texts name (sides before.files_faults after.files_faults before.err after.err before.err_faults after.err_faults) r → Headline words before after r
+not_loaded words before after command name s f o l i u _ (not_accepted source reason r t why e h) =
+    let line = reason_line reason in
+    told words before after (line ++ 10 ∷ []) (refused command name source line s f t (record { reason = reason; refused = why; tells = refl })) o l (omega arith) i u r h
 not_loaded words before after command name s f o l i u _ (not_read rose h) = record {
   out = [];
   cause = load_failed rose;
@@ -120,15 +124,15 @@ abbrev pub job_of : Moment → Tree → Job
 job_of before tree = record { program = program_of tree; input = input_of before.input; turns = 2 ^ 63 - 1; based = true }
 
 -- a program that was loaded is to be run
-pub to_run : (words : List (List ℕ)) (before : Moment) (name : List ℕ) (tree : Tree) → Spells words (Run name) → Loaded before.texts name tree → IsToRun words before (job_of before tree)
+pub to_run : (words : List (List ℕ)) (before : Moment) (name : List ℕ) (tree : Tree) → Spells words (Run name) → LoadedSmall before.texts name tree → IsToRun words before (job_of before tree)
 to_run words before name tree s l = record {
   command = Run name;
   name = name;
-  source = l.source;
+  source = l.loaded.source;
   spelled = s;
   runs = (refl, refl, refl);
-  text = l.text;
-  accepted = l.accepted;
+  text = l.loaded.text;
+  accepted = record { tree = l.tree; is_program = l.loaded.is_program; small_tree = tree; is_small = l.is_small; meaning = refl };
   input = is_input before.input;
 }
 
@@ -179,3 +183,21 @@ run_starved words before after tree a (inr r) h =
 -- nothing was added, where nothing changed
 pub appends_same : (a b : Option (List ℕ)) → b ≡ a → Appends a b []
 appends_same a b e = subst (λ c. Appends a c []) (sym e) (appends_none a)
+
+-- a check of a file, which leaves the input and the output alone
+pub check_ends : (words : List (List ℕ)) (before after : Moment) (name : List ℕ) → Spells words (Check name) → LeavesRest before after → (r : Status) → Checks before.texts name (sides before.files_faults after.files_faults before.err after.err before.err_faults after.err_faults) r → Headline words before after r
+check_ends words before after name s rest _ (checked_so tree l built still) = record {
+  out = [];
+  err = [];
+  answer = checked name l.source tree s l.text l.is_program built;
+  out_gained = appends_same before.out after.out rest.out;
+  err_gained = appends_same before.err after.err still.held;
+  input_left = tt;
+  quiet = record { files = omega (arith, still.files); input = omega (arith, rest.input_faults); out = omega (arith, rest.out_faults); err = omega (arith, still.err) };
+}
+check_ends words before after name s rest r (not_checked _ h) =
+    not_loaded words before after (Check name) name s refl (appends_same before.out after.out rest.out) rest.input (omega (arith, rest.input_faults)) (omega (arith, rest.out_faults)) r h
+
+-- nothing but the files and the error output changes
+pub rest_same : (before : Moment) (after : Moment) → after.input ≡ before.input → after.input_faults ≡ before.input_faults → after.out ≡ before.out → after.out_faults ≡ before.out_faults → LeavesRest before after
+rest_same before after i j o p = record { input = i; input_faults = j; out = o; out_faults = p }

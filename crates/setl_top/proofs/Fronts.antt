@@ -39,3 +39,7 @@ pub fronts_of : (a b c : Option (List ℕ)) (one other : List ℕ) → AppendsPa
 fronts_of a b c one other h k =
     let first = front_of_part a b one h in
     (first.0, k.0, first.1, k.1, appends_then a b c first.0 k.0 first.2 k.2)
+
+-- a front of the other alone
+pub front_alone : (a b : Option (List ℕ)) (one other : List ℕ) → AppendsFront a b other → AppendsFronts a b one other
+front_alone a b one other h = ([], h.0, front_none one, h.1, h.2)

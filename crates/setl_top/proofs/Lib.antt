@@ -1,9 +1,7 @@
 pub mod Fronts
-pub mod OneTree
-pub mod Reading
-pub mod Left
-pub mod Accepting
 pub mod Ends
+pub mod Loading
+pub mod OneReason
 pub mod Exclude
 pub mod Leading
 pub mod Integers
@@ -12,6 +10,7 @@ pub mod Performing
 pub mod Fitting
 pub mod Running
 pub mod Members
+pub mod Gathering
 pub mod Spaced
 pub mod Tables
-pub mod Shorter
+pub mod Each

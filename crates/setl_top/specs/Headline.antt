@@ -7,10 +7,11 @@ use Rattle.setl_model.specs.Answers.{RunStatus, IsDone, IsStopped, IsSpent, stat
 use Rattle.setl_modes.specs.Events.{End}
 use Rattle.setl_model.specs.Means.{Means}
 use Rattle.setl_model.specs.Program.{Program}
-use Rattle.setl_top.specs.Accepted.{Accepted, Refusal}
+use Rattle.setl_tree.specs.declared.tree.Tree.{Tree}
+use Rattle.setl_top.specs.Accepted.{IsProgram, IsBuilt, Accepted, Refusal}
 use Rattle.setl_top.specs.Fronts.{IsFront}
 use Rattle.setl_top.specs.Moments.{AtState, AtPrint, AtRead}
-use Rattle.setl_top.specs.Words.{Command, Spells, HasFile, RunsFile, IsFaulty}
+use Rattle.setl_top.specs.Words.{Command, Check, Spells, HasFile, RunsFile, IsFaulty}
 use Rattle.setl_top.specs.declared.status.Status.{Status}
 use Rattle.setl_top.specs.declared.status.Status.TheVariants.{Done, Refused, Words, Stopped, Spent, ReadFault, WriteFault, NoMemory}
 
@@ -70,7 +71,8 @@ status_for IsSpent = Spent
 -- Where nothing fails: the status, and what is added to the output and to the error output.
 pub data Answers (words : List (List ℕ)) (before : Moment) : Status → List ℕ → List ℕ → Type 0 where
   faulty_words : IsFaulty words → Answers words before Words [] []
-  refused : (command : Command) (name source line : List ℕ) → Spells words command → HasFile command name → IsText before.texts name source → Refusal source line → Answers words before Refused [] (line ++ 10 ∷ [])
+  refused : (command : Command) (name source line : List ℕ) → Spells words command → HasFile command name → IsText before.texts name source → Refusal command source line → Answers words before Refused [] (line ++ 10 ∷ [])
+  checked : (name source : List ℕ) (tree : Tree) → Spells words (Check name) → IsText before.texts name source → IsProgram source tree → IsBuilt (Check name) tree → Answers words before Done [] []
   run_ended : (job : Job) (out : List ℕ) (end : End) (ending : RunStatus) → IsToRun words before job → Means job.program job.input job.turns job.based out end → status_of end ≡ Some ending → Answers words before (status_for ending) out (error_line end)
 
 -- at a print: the output up to it, and some of its line, and not all of it
@@ -158,6 +160,16 @@ Headline words before after Spent = Ended words before after Spent
 Headline words before after ReadFault = ReadFailed words before after
 Headline words before after WriteFault = WriteFailed words before after
 Headline words before after NoMemory = MemoryFailed words before after
+
+-- a check writes nothing to the output and leaves the input as it was, however it ends
+pub record LeavesRest (before after : Moment) : Type 0 where
+  pub input : after.input ≡ before.input
+  pub input_faults : after.input_faults ≡ before.input_faults
+  pub out : after.out ≡ before.out
+  pub out_faults : after.out_faults ≡ before.out_faults
+
+abbrev pub CheckLeavesRest : List (List ℕ) → Moment → Moment → Type 0
+CheckLeavesRest words before after = (name : List ℕ) → Spells words (Check name) → LeavesRest before after
 
 -- some count rose
 abbrev pub AnyRose : Moment → Moment → Type 0

@@ -1,14 +1,16 @@
 -- Laws over the headline and the definitions under it.
-use Rattle.std.specs.Prelude.{◌≡◌, ◌⊎◌, ℕ, Bool, List, [], ◌∷◌, ◌++◌, Option, Some}
+use Rattle.std.specs.Prelude.{◌≡◌, ◌↔◌, ◌⊎◌, ℕ, Bool, List, [], ◌∷◌, ◌++◌, Option, Some}
 use Rattle.setl_model.specs.Answers.{RunStatus, status_of, error_line}
 use Rattle.setl_modes.specs.Events.{End, Done}
 use Rattle.setl_model.specs.Means.{Means}
 use Rattle.setl_model.specs.Program.{Program}
-use Rattle.setl_top.specs.Accepted.{Accepted, Refusal}
+use Rattle.setl_tree.specs.declared.tree.Tree.{Tree}
+use Rattle.setl_top.specs.Accepted.{IsProgram, IsBuilt, Accepted, Refusal}
 use Rattle.setl_top.specs.Headline.{Moment, Headline, Ended, AnyRose, Answers, Job, IsToRun, status_for}
-use Rattle.setl_top.specs.Words.{Command, Spells, HasFile}
+use Rattle.setl_top.specs.Words.{Command, Check, Spells, HasFile}
 use Rattle.setl_top.specs.declared.status.Status.{Status}
 use Rattle.setl_top.specs.declared.status.Status.TheVariants.{NoMemory, Refused}
+use Rattle.setl_top.specs.declared.status.Status.TheVariants as ended
 
 -- the call failed in none of the three ways only where it came to its end
 abbrev pub IsComplete : Type 0
@@ -21,8 +23,14 @@ TellsTexts before texts = before.texts ≡ Some texts
 
 abbrev pub RefusesExactly : Type 0
 RefusesExactly = (words : List (List ℕ)) (before : Moment) (texts : List ℕ → Option (List ℕ)) (command : Command) (name source line : List ℕ) (status : Status) (out err : List ℕ) →
-    TellsTexts before texts → Spells words command → HasFile command name → texts name ≡ Some source → Refusal source line → Answers words before status out err →
+    TellsTexts before texts → Spells words command → HasFile command name → texts name ≡ Some source → Refusal command source line → Answers words before status out err →
     (status ≡ Refused) × (out ≡ []) × (err ≡ line ++ 10 ∷ [])
+
+-- a check is done exactly where the source is a program that can be checked so far, and then nothing is told
+abbrev pub ChecksExactly : Type 0
+ChecksExactly = (words : List (List ℕ)) (before : Moment) (texts : List ℕ → Option (List ℕ)) (name source : List ℕ) (status : Status) (out err : List ℕ) →
+    TellsTexts before texts → Spells words (Check name) → texts name ≡ Some source → Answers words before status out err →
+    ((status ≡ ended.Done) ↔ ((tree : Tree) × IsProgram source tree × IsBuilt (Check name) tree)) × (out ≡ []) × (status ≡ ended.Done → err ≡ [])
 
 abbrev pub EndsExactly : Type 0
 EndsExactly = (words : List (List ℕ)) (before : Moment) (texts : List ℕ → Option (List ℕ)) (input : List ℕ) (job : Job) (said : List ℕ) (end : End) (ending : RunStatus) (status : Status) (out err : List ℕ) →

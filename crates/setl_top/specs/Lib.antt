@@ -1,13 +1,13 @@
 pub mod Words
+pub mod Commands
 pub mod Status
 pub mod Fronts
 pub mod Lines
-pub mod Symbols
 pub mod Tree
 pub mod Small
-pub mod Cursor
+pub mod Reasons
+pub mod Rules
 pub mod Parsed
-pub mod Reads
 pub mod Conditions
 pub mod Tables
 pub mod Admits

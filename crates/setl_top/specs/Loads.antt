@@ -1,38 +1,68 @@
 -- What becomes of a source.
-use Rattle.std.specs.Prelude.{◌≡◌, ℕ, true, List, [], ◌∷◌, ◌++◌, Option, codes}
+use Rattle.std.specs.Prelude.{◌≡◌, ◌≤◌, ◌^◌, ℕ, List, length, [], ◌∷◌, ◌++◌, Option, codes}
 use Rattle.setl_io.specs.Faults.{Rose}
 use Rattle.setl_io.specs.Files.{Texts, IsText}
-use Rattle.setl_model.specs.Program.{Program}
-use Rattle.setl_token.specs.declared.LexFault.{LexFault}
-use Rattle.setl_token.specs.declared.LexFault.TheVariants as fault
-use Rattle.setl_top.specs.Accepted.{Accepted, Refusal, program_of}
-use Rattle.setl_top.specs.Conditions.{meets, no_kinds}
+use Rattle.setl_tree.specs.declared.tree.Tree.{Tree}
+use Rattle.setl_top.specs.Accepted.{IsProgram, IsBuilt, IsSmall, IsRefusedFor}
 use Rattle.setl_top.specs.Lines.{AppendsFront}
+use Rattle.setl_top.specs.Reasons.{reason_line}
 use Rattle.setl_top.specs.Tells.{Tells}
-use Rattle.setl_top.specs.Tree.{Tree}
-use Rattle.setl_top.specs.declared.small.reader.Unread.{Unread}
-use Rattle.setl_top.specs.declared.small.reader.Unread.TheVariants as unread
+use Rattle.setl_top.specs.Tree as small
+use Rattle.setl_top.specs.Words.{Command, Check}
+use Rattle.setl_top.specs.declared.front.Unread.{Unread}
+use Rattle.setl_top.specs.declared.front.Unread.TheVariants as unread
+use Rattle.setl_top.specs.declared.reason.Reason.{Reason}
 use Rattle.setl_top.specs.declared.status.Status.{Status}
 use Rattle.setl_top.specs.declared.status.Status.TheVariants as status
 
--- no program is accepted
-abbrev pub NotAccepted : List ℕ → Type 0
-NotAccepted source = (program : Program) → Accepted source program → ⊥
+-- a source that wasn't read is refused for this reason, whatever the command, or memory was refused
+abbrev pub TellsWhy : List ℕ → Unread → Type 0
+TellsWhy source (unread.Refused reason) = (command : Command) → IsRefusedFor command source reason
+TellsWhy source unread.NoMemory = Unit {0}
 
--- why a source without tokens isn't read
-abbrev pub unread_of : LexFault → Unread
-unread_of fault.NoMemory = unread.NoMemory
-unread_of _ = unread.NotSmall
+-- the text of a file that was loaded
+pub record HasText (texts : Texts) (name source : List ℕ) : Type 0 where
+  pub text : IsText texts name source
+  pub short : length source ≤ 2 ^ 24
 
 -- the program of a file that was loaded
 pub record Loaded (texts : Texts) (name : List ℕ) (tree : Tree) : Type 0 where
   pub source : List ℕ
   pub text : IsText texts name source
-  pub accepted : Accepted source (program_of tree)
-  pub conditions : meets no_kinds tree ≡ true
+  pub is_program : IsProgram source tree
 
--- why no program was loaded, and what was told of it
-pub data NotLoaded (texts : Texts) (name : List ℕ) (files_before files_now : ℕ) (old new : Option (List ℕ)) (err_before err_now : ℕ) : Status → Type 0 where
-  not_accepted : (source line : List ℕ) (s : Status) → IsText texts name source → Refusal source line → files_now ≡ files_before → Tells status.Refused (line ++ 10 ∷ []) old new err_before err_now s → NotLoaded texts name files_before files_now old new err_before err_now s
-  not_read : Rose files_before files_now → AppendsFront old new (codes "read fault" ++ 10 ∷ []) → NotLoaded texts name files_before files_now old new err_before err_now status.ReadFault
-  no_room : AppendsFront old new (codes "no memory" ++ 10 ∷ []) → NotLoaded texts name files_before files_now old new err_before err_now status.NoMemory
+-- the small program of a file that was loaded
+pub record LoadedSmall (texts : Texts) (name : List ℕ) (program : small.Tree) : Type 0 where
+  pub tree : Tree
+  pub loaded : Loaded texts name tree
+  pub is_small : IsSmall tree program
+
+-- what is seen of the files and of the error output before and after
+pub record Sides : Type 0 where
+  pub files_before : ℕ
+  pub files_now : ℕ
+  pub old : Option (List ℕ)
+  pub new : Option (List ℕ)
+  pub err_before : ℕ
+  pub err_now : ℕ
+
+abbrev pub sides : ℕ → ℕ → Option (List ℕ) → Option (List ℕ) → ℕ → ℕ → Sides
+sides files_before files_now old new err_before err_now =
+    record { files_before = files_before; files_now = files_now; old = old; new = new; err_before = err_before; err_now = err_now }
+
+-- nothing was told, and nothing failed
+pub record IsStill (s : Sides) : Type 0 where
+  pub files : s.files_now ≡ s.files_before
+  pub held : s.new ≡ s.old
+  pub err : s.err_now ≡ s.err_before
+
+-- why a command has no program to work on, and what was told of it
+pub data NotLoaded (command : Command) (texts : Texts) (name : List ℕ) (s : Sides) : Status → Type 0 where
+  not_accepted : (source : List ℕ) (reason : Reason) (ends : Status) → IsText texts name source → IsRefusedFor command source reason → s.files_now ≡ s.files_before → Tells status.Refused (reason_line reason ++ 10 ∷ []) s.old s.new s.err_before s.err_now ends → NotLoaded command texts name s ends
+  not_read : Rose s.files_before s.files_now → AppendsFront s.old s.new (codes "read fault" ++ 10 ∷ []) → NotLoaded command texts name s status.ReadFault
+  no_room : AppendsFront s.old s.new (codes "no memory" ++ 10 ∷ []) → NotLoaded command texts name s status.NoMemory
+
+-- what a check of a file does
+pub data Checks (texts : Texts) (name : List ℕ) (s : Sides) : Status → Type 0 where
+  checked_so : (tree : Tree) → Loaded texts name tree → IsBuilt (Check name) tree → IsStill s → Checks texts name s status.Done
+  not_checked : (ends : Status) → NotLoaded (Check name) texts name s ends → Checks texts name s ends

@@ -1,74 +1,97 @@
--- The small grammar. Each of its parts says which tree a front of the tokens has, and which tokens are left.
---
---   program   = "program" name ";" { statement } "end" "program" ";"
---   statement = body ";"
---   body      = name change | "print" "(" [ value { "," value } ] ")"
---   change    = ":=" value | "with" ":=" number
---   value     = name | number | "{" [ number { "," number } ] "}"
-use Rattle.std.specs.Prelude.{ℕ, ℤ, List, [], ◌∷◌, codes}
-use Rattle.setl_top.specs.Symbols.{Symbols, WordAt, NameAt, NumberAt, SignAt}
-use Rattle.setl_top.specs.Tree.{Expr, Variable, Integer, SetOf, Action, Assign, With, Print, Stmt, Tree}
+-- Which programs of SETL are of the small language: no declarations, no procedures, no name behind the end, and
+-- statements that assign a value to a name, add a number to the set that a name has, or print values. A value is a name,
+-- a number or a set of numbers.
+use Rattle.std.specs.Prelude.{ℕ, ℤ, List, [], ◌∷◌, Option, Some, None, option_and_then}
+use Rattle.std.specs.Option.{option_map}
+use Rattle.setl_tree.specs.declared.expr.BinaryOp.{BinaryOp}
+use Rattle.setl_tree.specs.declared.expr.BinaryOp.TheVariants as op
+use Rattle.setl_tree.specs.declared.expr.Expr.{Expr, out-Expr}
+use Rattle.setl_tree.specs.declared.expr.Expr.TheOpen.{Expr-F, Inner-F}
+use Rattle.setl_tree.specs.declared.expr.Inner.{Inner, out-Inner}
+use Rattle.setl_tree.specs.declared.expr.Iter.{Iter}
+use Rattle.setl_tree.specs.declared.expr.Selector.{Selector}
+use Rattle.setl_tree.specs.declared.mode.ReprLine.{ReprLine}
+use Rattle.setl_tree.specs.declared.stmt.Branch.{Branch}
+use Rattle.setl_tree.specs.declared.stmt.Place.{Place}
+use Rattle.setl_tree.specs.declared.stmt.Stmt.{Stmt, out-Stmt}
+use Rattle.setl_tree.specs.declared.stmt.StmtKind.{StmtKind, out-StmtKind}
+use Rattle.setl_tree.specs.declared.stmt.StmtKind.TheOpen.{StmtKind-F}
+use Rattle.setl_tree.specs.declared.tree.Declared.{Declared}
+use Rattle.setl_tree.specs.declared.tree.Proc.{Proc}
+use Rattle.setl_tree.specs.declared.tree.Tree.{Tree}
+use Rattle.setl_top.specs.Tree.{Variable, Integer, SetOf, Action, Assign, With, Print}
+use Rattle.setl_top.specs.Tree as small
 
--- any number of items, and then what closes them
-pub data Many {A : Type 0} (Item : Symbols → A → Symbols → Type 0) (Close : Symbols → Symbols → Type 0) : Symbols → List A → Symbols → Type 0 where
-  close : {ts rest : Symbols} → Close ts rest → Many Item Close ts [] rest
-  item : {ts mid rest : Symbols} {a : A} {as' : List A} → Item ts a mid → Many Item Close mid as' rest → Many Item Close ts (a ∷ as') rest
+-- the values of all items, where each item has one
+abbrev pub each : {A B : Type 0} → (A → Option B) → List A → Option (List B)
+each f [] = Some []
+each f (x ∷ xs) = option_and_then (λ y. option_map (λ ys. y ∷ ys) (each f xs)) (f x)
 
--- "," item
-pub record AfterComma {A : Type 0} (Item : Symbols → A → Symbols → Type 0) (ts : Symbols) (a : A) (rest : Symbols) : Type 0 where
-  pub after : Symbols
-  pub comma : SignAt (codes ",") ts after
-  pub found : Item after a rest
+abbrev pub open_number : Expr-F Expr Inner Iter Selector → Option ℤ
+open_number (Expr-F.Number n) = Some n
+open_number _ = None
 
--- [ item { "," item } ], and then what closes them
-pub data Listed {A : Type 0} (Item : Symbols → A → Symbols → Type 0) (Close : Symbols → Symbols → Type 0) : Symbols → List A → Symbols → Type 0 where
-  none : {ts rest : Symbols} → Close ts rest → Listed Item Close ts [] rest
-  some : {ts mid rest : Symbols} {a : A} {as' : List A} → Item ts a mid → Many (AfterComma Item) Close mid as' rest → Listed Item Close ts (a ∷ as') rest
+-- the number that an expression is
+abbrev pub number_of : Expr → Option ℤ
+number_of e = open_number (out-Expr e)
 
-abbrev pub Number : Symbols → ℤ → Symbols → Type 0
-Number ts value rest = NumberAt value ts rest
+abbrev pub open_members : Inner-F Expr Inner Iter Selector → Option (List ℤ)
+open_members (Inner-F.List xs) = each number_of xs
+open_members _ = None
 
-pub data Value : Symbols → Expr → Symbols → Type 0 where
-  variable : {ts rest : Symbols} {name : List ℕ} {line : ℕ} → NameAt name line ts rest → Value ts (Variable name) rest
-  integer : {ts rest : Symbols} {value : ℤ} → NumberAt value ts rest → Value ts (Integer value) rest
-  set : {ts inside rest : Symbols} {members : List ℤ} → SignAt (codes "{") ts inside → Listed Number (SignAt (codes "}")) inside members rest → Value ts (SetOf members) rest
+-- the numbers of a set that is written as a list of them
+abbrev pub members_of : Inner → Option (List ℤ)
+members_of inner = open_members (out-Inner inner)
 
-pub data Change (name : List ℕ) : Symbols → Action → Symbols → Type 0 where
-  assign : {ts one rest : Symbols} {value : Expr} → SignAt (codes ":=") ts one → Value one value rest → Change name ts (Assign name value) rest
-  with_member : {ts one two rest : Symbols} {line : ℕ} {value : ℤ} → WordAt (codes "with") line ts one → SignAt (codes ":=") one two → NumberAt value two rest → Change name ts (With name value) rest
+abbrev pub open_value : Expr-F Expr Inner Iter Selector → Option small.Expr
+open_value (Expr-F.Name x) = Some (Variable x)
+open_value (Expr-F.Number n) = Some (Integer n)
+open_value (Expr-F.Set inner) = option_map SetOf (members_of inner)
+open_value _ = None
 
--- a statement without its semicolon
-pub data Body : Symbols → Stmt → Symbols → Type 0 where
-  change : {ts one rest : Symbols} {name : List ℕ} {line : ℕ} {action : Action} →
-      NameAt name line ts one → Change name one action rest → Body ts (record { line = line; action = action }) rest
-  print : {ts one two rest : Symbols} {line : ℕ} {values : List Expr} →
-      WordAt (codes "print") line ts one → SignAt (codes "(") one two → Listed Value (SignAt (codes ")")) two values rest →
-      Body ts (record { line = line; action = Print values }) rest
+-- the value that an expression is: a name, a number or a set of numbers
+abbrev pub small_value : Expr → Option small.Expr
+small_value e = open_value (out-Expr e)
 
-pub record Statement (ts : Symbols) (statement : Stmt) (rest : Symbols) : Type 0 where
-  pub after : Symbols
-  pub body : Body ts statement after
-  pub semicolon : SignAt (codes ";") after rest
+abbrev pub name_before : List ℕ → List Selector → Option (List ℕ)
+name_before x [] = Some x
+name_before x (s ∷ ss) = None
 
--- "end" "program" ";"
-pub record Ending (ts rest : Symbols) : Type 0 where
-  pub one : Symbols
-  pub two : Symbols
-  pub end_line : ℕ
-  pub program_line : ℕ
-  pub end : WordAt (codes "end") end_line ts one
-  pub program : WordAt (codes "program") program_line one two
-  pub semicolon : SignAt (codes ";") two rest
+-- the name that a place is
+abbrev pub name_of : Place → Option (List ℕ)
+name_of p = name_before p.name p.selectors
 
--- the tokens are those of a program with these statements
-pub record IsSmall (ts : Symbols) (tree : Tree) : Type 0 where
-  pub one : Symbols
-  pub two : Symbols
-  pub body : Symbols
-  pub program_line : ℕ
-  pub name : List ℕ
-  pub name_line : ℕ
-  pub program : WordAt (codes "program") program_line ts one
-  pub named : NameAt name name_line one two
-  pub semicolon : SignAt (codes ";") two body
-  pub statements : Many Statement Ending body tree []
+-- a number is added to the set that a name has
+abbrev pub addition : BinaryOp → List ℕ → ℤ → Option Action
+addition op.With x n = Some (With x n)
+addition _ x n = None
+
+-- the assignment of a value to a name
+abbrev pub assigned : Place → Expr → Option Action
+assigned p e = option_and_then (λ x. option_map (λ v. Assign x v) (small_value e)) (name_of p)
+
+-- the change of the value that a name has
+abbrev pub updated : Place → BinaryOp → Expr → Option Action
+updated p o e = option_and_then (λ x. option_and_then (λ n. addition o x n) (number_of e)) (name_of p)
+
+abbrev pub open_action : StmtKind-F StmtKind Branch Stmt → Option Action
+open_action (StmtKind-F.Assign p e) = assigned p e
+open_action (StmtKind-F.Update p o e) = updated p o e
+open_action (StmtKind-F.Print es) = option_map Print (each small_value es)
+open_action _ = None
+
+-- what a statement does
+abbrev pub small_action : StmtKind → Option Action
+small_action k = open_action (out-StmtKind k)
+
+abbrev pub small_stmt : Stmt → Option small.Stmt
+small_stmt s = option_map (λ a. record { line = (out-Stmt s).line; action = a }) (small_action (out-Stmt s).kind)
+
+-- the statements of a program that declares nothing and has no procedures and no name behind its end
+abbrev pub bare : List Declared → List ReprLine → List Proc → Option (List ℕ) → List Stmt → Option small.Tree
+bare [] [] [] None body = each small_stmt body
+bare _ _ _ _ body = None
+
+-- the program of the small language that a tree is
+abbrev pub small_of : Tree → Option small.Tree
+small_of t = bare t.vars t.modes t.procs t.end_name t.body

@@ -1,5 +1,5 @@
 //! What follows from the headline and the definitions alone. The functions have no effect: each states a law.
-ghost use Rattle.setl_top.specs.Laws.{IsComplete, RefusesExactly, EndsExactly, SmallProgramsEnd};
+ghost use Rattle.setl_top.specs.Laws.{IsComplete, RefusesExactly, ChecksExactly, EndsExactly, SmallProgramsEnd};
 
 /// Where no count of faults rose and memory was found, the call came to its end.
 pub fn completeness()
@@ -9,7 +9,19 @@ pub fn completeness()
 /// Where the texts are told and the source is refused, a call that came to its end is refused.
 pub fn refused_exactly()
     ensures { RefusesExactly }
-{}
+{
+    setl_token::lexing_is_determined();
+    setl_grammar::tree_is_unique();
+}
+
+/// Where the texts are told, a check that came to its end is done exactly where the source is a program without `repr`
+/// lines; the output gains nothing, and at `Done` the error output neither.
+pub fn checks_exactly()
+    ensures { ChecksExactly }
+{
+    setl_token::lexing_is_determined();
+    setl_grammar::tree_is_unique();
+}
 
 /// Where the texts and the input are told and the program ends so, a call that came to its end has that end's status,
 /// output and error line.
@@ -17,6 +29,7 @@ pub fn ends_exactly()
     ensures { EndsExactly }
 {
     setl_token::lexing_is_determined();
+    setl_grammar::tree_is_unique();
     setl_model::one_meaning();
 }
 

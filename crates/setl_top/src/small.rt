@@ -1,13 +1,12 @@
-//! The small language: its programs are read and run here, until the whole language is.
+//! The small language: its programs are told among syntax trees and run here, until the whole language is.
 mod conditions;
-mod cursor;
+mod gather;
 mod program;
-mod reader;
 mod run;
 mod tables;
 mod texts;
+mod translate;
 
-pub use conditions::meets_conditions;
 pub use program::Statement;
-pub use reader::{Unread, read_small};
 pub use run::{Ran, run_program};
+pub use translate::{Untold, small_program};

@@ -1,5 +1,5 @@
 use crate::{Status, setl};
-use setl_io::{Files, MemFiles, MemSink, Memory, Put, Sink, SureFiles, SureSink, SureSource};
+use setl_io::{MemFiles, MemSink, Memory, Put, Sink, SureFiles, SureSink, SureSource};
 use std::alloc::Global;
 use std::test::Fail;
 
@@ -19,11 +19,22 @@ struct Left {
     err: Vec<u8>,
 }
 
-fn call<F: Files>(alloc: Global, words: &[String], files: &mut F) -> Result<Left, Memory> {
+/// Whether a call answered so, and its outputs gained these texts.
+fn left_so(left: &Left, status: Status, out: &str, err: &str) -> bool {
+    left.status == status
+        && left.out.as_slice() == out.as_bytes()
+        && left.err.as_slice() == err.as_bytes()
+}
+
+/// A call over an outside that doesn't fail, with this source in the file `a`.
+fn call(alloc: Global, line: &str, source: Vec<u8>) -> Result<Left, Memory> {
+    let words = words_of(alloc, line)?;
+    let mut files = SureFiles::new(alloc)?;
+    files.add(String::from_str(alloc, "a")?, source)?;
     let mut input = SureSource::new(Vec::new(alloc));
     let mut out = SureSink::new(alloc)?;
     let mut err = SureSink::new(alloc)?;
-    let status = setl(alloc, words, files, &mut input, &mut out, &mut err);
+    let status = setl(alloc, &words, &mut files, &mut input, &mut out, &mut err);
     Ok(Left {
         status,
         out: out.held().to_vec(alloc)?,
@@ -31,13 +42,17 @@ fn call<F: Files>(alloc: Global, words: &[String], files: &mut F) -> Result<Left
     })
 }
 
-/// A call over an outside that doesn't fail, with this source in the file `a`.
-fn sure_call(alloc: Global, line: &str, source: &str) -> Result<Left, Memory> {
-    let mut files = SureFiles::new(alloc)?;
-    let text = source.as_bytes().to_vec(alloc)?;
-    files.add(String::from_str(alloc, "a")?, text)?;
-    let words = words_of(alloc, line)?;
-    call(alloc, &words, &mut files)
+/// Whether the words on this source answer so.
+fn answers(
+    alloc: Global,
+    line: &str,
+    source: &str,
+    status: Status,
+    out: &str,
+    err: &str,
+) -> Result<bool, Memory> {
+    let left = call(alloc, line, source.as_bytes().to_vec(alloc)?)?;
+    Ok(left_so(&left, status, out, err))
 }
 
 const GROWING: &str = "program p; s := {3,1,2,1}; s with:= 5; print(s, 7); end program;";
@@ -52,7 +67,7 @@ fn programs_print_their_values(rt: HostRuntime) -> Result<(), Fail> {
         ),
         ("program p; end program;", ""),
         (
-            "PROGRAM p; $ a comment\nX := 10; x := x; Print(); print(X, {}); END program ; ",
+            "PROGRAM p; $ a comment\nX := (10); x := x; Print(); print(X, {}); END; ",
             "\n10 {}\n",
         ),
         (
@@ -60,36 +75,8 @@ fn programs_print_their_values(rt: HostRuntime) -> Result<(), Fail> {
             "{1 2}\n0\n",
         ),
     ] {
-        let left = sure_call(rt.alloc(), "run a", source)?;
-        assert_eq!(rt; left.status, Status::Done, "at {source}");
-        assert_eq!(rt; left.out.as_slice(), out.as_bytes(), "at {source}");
-        assert_eq!(rt; left.err.as_slice(), b"".as_slice(), "at {source}");
-    }
-    Ok(())
-}
-
-#[test]
-fn other_sources_are_not_built(rt: HostRuntime) -> Result<(), Fail> {
-    for source in [
-        "program p; print(x); end program;",
-        "program p; x := 1; x with:= 2; end program;",
-        "program p; x with:= 2; end program;",
-        "program p; print(x); x := 1; end program;",
-        "program p; end program",
-        "program p; end program; x",
-        "program p; x := {1,}; end program;",
-        "program p; x := -1; end program;",
-        "program p; print('a'); end program;",
-        "program print; end program;",
-        "",
-        "program p; ? end program;",
-    ] {
-        let left = sure_call(rt.alloc(), "run a", source)?;
-        assert_eq!(rt; left.status, Status::Refused, "at {source}");
-        assert_eq!(rt; left.out.as_slice(), b"".as_slice(), "at {source}");
-        assert_eq!(rt;
-            left.err.as_slice(),
-            b"not built\n".as_slice(),
+        assert!(rt;
+            answers(rt.alloc(), "run a", source, Status::Done, out, "")?,
             "at {source}"
         );
     }
@@ -97,31 +84,246 @@ fn other_sources_are_not_built(rt: HostRuntime) -> Result<(), Fail> {
 }
 
 #[test]
-fn other_words_are_told_by_the_status_alone(rt: HostRuntime) -> Result<(), Fail> {
-    for line in ["", "run", "run x y", "run -x", "check a", "--help"] {
-        let left = sure_call(rt.alloc(), line, GROWING)?;
-        assert_eq!(rt; left.status, Status::Words, "at {line}");
-        assert_eq!(rt; left.status.number(), 2);
-        assert_eq!(rt; left.out.as_slice(), b"".as_slice(), "at {line}");
-        assert_eq!(rt; left.err.as_slice(), b"".as_slice(), "at {line}");
+fn sources_are_refused_for_their_first_reason(rt: HostRuntime) -> Result<(), Fail> {
+    for (words, source, line) in [
+        ("run a", "program p; print(x); end program;", "not built\n"),
+        (
+            "run a",
+            "program p; x := 1; x with:= 2; end program;",
+            "not built\n",
+        ),
+        (
+            "run a",
+            "program p; x with:= 2; end program;",
+            "not built\n",
+        ),
+        (
+            "run a",
+            "program p; print(x); x := 1; end program;",
+            "not built\n",
+        ),
+        ("run a", "program p; x := -1; end program;", "not built\n"),
+        (
+            "run a",
+            "program p; print('a'); end program;",
+            "not built\n",
+        ),
+        ("run a", "program p; end program p;", "not built\n"),
+        (
+            "run a",
+            "program p; var x; x := 1; end program;",
+            "not built\n",
+        ),
+        ("run a", "program p; end program", "at 22: syntax\n"),
+        ("run a", "program p; end program; x", "at 24: syntax\n"),
+        ("run a", "program print; end program;", "at 8: syntax\n"),
+        ("check a", "", "at 0: syntax\n"),
+        ("check a", "program p; ? end program;", "at 11: byte\n"),
+        (
+            "check a",
+            "program p; x := {1,}; end program; 'it",
+            "at 35: open string\n",
+        ),
+        (
+            "check a",
+            "170141183460469231731687303715884105728 ?",
+            "at 0: wide number\n",
+        ),
+        (
+            "check a",
+            "program p; print({3,1,2,1}, [1,om,2], 'it''s');",
+            "at 47: syntax\n",
+        ),
+        (
+            "check a",
+            "program p; print('it''s); end program;",
+            "at 17: open string\n",
+        ),
+        (
+            "check a",
+            "program p; quit; x := ; end program;",
+            "at 22: syntax\n",
+        ),
+        (
+            "check a",
+            "program p;\nquit;\nend program;",
+            "line 2: rule 13\n",
+        ),
+        (
+            "check a",
+            "program p;\nrepr base n: int; s: sparse set(elmt n); end repr;\ns := {1}; print(s);\ns with:= 'a'; print(s);\nend program;",
+            "not built\n",
+        ),
+    ] {
+        assert!(rt;
+            answers(rt.alloc(), words, source, Status::Refused, "", line)?,
+            "at {source}"
+        );
     }
     Ok(())
 }
 
-/// A call on a source of so many blanks.
-fn blanks_call(alloc: Global, count: usize) -> Result<Left, Memory> {
-    let mut files = SureFiles::new(alloc)?;
-    let text = vec![in alloc; b' '; count]?;
-    files.add(String::from_str(alloc, "a")?, text)?;
-    let words = words_of(alloc, "run a")?;
-    call(alloc, &words, &mut files)
+/// Whether a check of the first source breaks this rule on line 2, and a check of the second is done.
+fn tells_rule(alloc: Global, rule: u8, broken: &str, kept: &str) -> Result<bool, Memory> {
+    let line = format!(in alloc; "line 2: rule {rule}\n")?;
+    Ok(
+        answers(alloc, "check a", broken, Status::Refused, "", line.as_str())?
+            && answers(alloc, "check a", kept, Status::Done, "", "")?,
+    )
 }
 
 #[test]
-fn a_source_over_the_limit_is_too_long(rt: HostRuntime) -> Result<(), Fail> {
-    let left = blanks_call(rt.alloc(), (1 << 24) + 1)?;
-    assert_eq!(rt; left.status, Status::Refused);
-    assert_eq!(rt; left.err.as_slice(), b"source too long\n".as_slice());
+fn each_rule_is_told_and_a_neighbour_keeps_it(rt: HostRuntime) -> Result<(), Fail> {
+    for (rule, broken, kept) in [
+        (
+            1,
+            "program p;\nend program q;",
+            "program p;\nend program p;",
+        ),
+        (
+            2,
+            "program p; proc f();\nend proc g; end program;",
+            "program p; proc f();\nend proc f; end program;",
+        ),
+        (
+            3,
+            "program p; proc f(); end proc;\nproc f(); end proc; end program;",
+            "program p; proc f(); end proc;\nproc g(); end proc; end program;",
+        ),
+        (
+            4,
+            "program p;\nproc p(); end proc; end program;",
+            "program p;\nproc q(); end proc; end program;",
+        ),
+        (
+            5,
+            "program p;\nvar a, a; end program;",
+            "program p;\nvar a, b; end program;",
+        ),
+        (
+            6,
+            "program p;\nvar f; proc f(); end proc; end program;",
+            "program p;\nvar g; proc f(); end proc; end program;",
+        ),
+        (
+            7,
+            "program p;\nproc f(a, a); end proc; end program;",
+            "program p;\nproc f(a, b); end proc; end program;",
+        ),
+        (
+            8,
+            "program p;\nproc g(f); end proc; proc f(); end proc; end program;",
+            "program p;\nproc g(h); end proc; proc f(); end proc; end program;",
+        ),
+        (
+            9,
+            "program p;\nx := f; proc f(); end proc; end program;",
+            "program p;\nx := f(); proc f(); end proc; end program;",
+        ),
+        (
+            10,
+            "program p;\nf(1); proc f(); end proc; end program;",
+            "program p;\nf(1); proc f(a); end proc; end program;",
+        ),
+        (
+            11,
+            "program p;\nf(1); proc f(wr a); end proc; end program;",
+            "program p;\nf(x); proc f(wr a); end proc; end program;",
+        ),
+        (
+            12,
+            "program p;\nf(1); end program;",
+            "program p;\nf(1); proc f(a); end proc; end program;",
+        ),
+        (
+            13,
+            "program p;\nquit; end program;",
+            "program p;\n(while true) quit; end while; end program;",
+        ),
+        (
+            14,
+            "program p;\nreturn; end program;",
+            "program p;\nproc f(); return; end proc; end program;",
+        ),
+        (
+            15,
+            "program p;\nx := {a : a in s, a in t}; end program;",
+            "program p;\nx := {a : a in s, b in t}; end program;",
+        ),
+        (
+            16,
+            "program p;\nx := {exists a in s | a = 1 : a in s}; end program;",
+            "program p;\nx := {exists b in s | a = b : a in s}; end program;",
+        ),
+        (
+            17,
+            "program p;\n[a, -, a] := t; end program;",
+            "program p;\n[a, -, b] := t; end program;",
+        ),
+        (
+            18,
+            "program p;\nf(a, a); proc f(wr x, rw y); end proc; end program;",
+            "program p;\nf(a, b); proc f(wr x, rw y); end proc; end program;",
+        ),
+    ] {
+        assert!(rt; tells_rule(rt.alloc(), rule, broken, kept)?, "at {rule}");
+    }
+    Ok(())
+}
+
+#[test]
+fn other_words_are_told_by_the_status_alone(rt: HostRuntime) -> Result<(), Fail> {
+    for line in [
+        "",
+        "run",
+        "check",
+        "run x y",
+        "check x y",
+        "run -x",
+        "check -x",
+        "checks a",
+        "--help",
+    ] {
+        assert!(rt;
+            answers(rt.alloc(), line, GROWING, Status::Words, "", "")?,
+            "at {line}"
+        );
+    }
+    assert_eq!(rt; Status::Words.number(), 2);
+    Ok(())
+}
+
+/// A program that prints 1 inside so many parentheses.
+fn parentheses(alloc: Global, count: usize) -> Result<Vec<u8>, Memory> {
+    let mut source = b"program p; print(".to_vec(alloc)?;
+    source.extend_from_slice(&vec![in alloc; b'('; count]?)?;
+    source.push(b'1')?;
+    source.extend_from_slice(&vec![in alloc; b')'; count]?)?;
+    source.extend_from_slice(b"); end program;")?;
+    Ok(source)
+}
+
+#[test]
+fn sources_are_refused_past_their_limits(rt: HostRuntime) -> Result<(), Fail> {
+    let alloc = rt.alloc();
+    for (source, status, out, line) in [
+        (
+            vec![in alloc; b' '; (1 << 24) + 1]?,
+            Status::Refused,
+            "",
+            "source too long\n",
+        ),
+        (
+            parentheses(alloc, 200)?,
+            Status::Refused,
+            "",
+            "at 216: nesting\n",
+        ),
+        (parentheses(alloc, 199)?, Status::Done, "1\n", ""),
+    ] {
+        let left = call(alloc, "run a", source)?;
+        assert!(rt; left_so(&left, status, out, line), "at {line}");
+    }
     Ok(())
 }
 
@@ -135,14 +337,16 @@ struct Faults {
 }
 
 /// A call over an outside with faults.
-fn faulty_call(alloc: Global, source: &str, faults: Faults) -> Result<Left, Memory> {
+fn faulty_call(alloc: Global, line: &str, source: &str, faults: Faults) -> Result<Left, Memory> {
+    let words = words_of(alloc, line)?;
     let mut files = MemFiles::new(alloc, vec![in alloc; faults.load]?)?;
-    let text = source.as_bytes().to_vec(alloc)?;
-    files.add(String::from_str(alloc, "a")?, text)?;
+    files.add(
+        String::from_str(alloc, "a")?,
+        source.as_bytes().to_vec(alloc)?,
+    )?;
     let mut input = SureSource::new(Vec::new(alloc));
     let mut out = MemSink::new(alloc, faults.most, vec![in alloc; faults.write]?)?;
     let mut err = MemSink::new(alloc, 99, vec![in alloc; faults.tell]?)?;
-    let words = words_of(alloc, "run a")?;
     let status = setl(alloc, &words, &mut files, &mut input, &mut out, &mut err);
     Ok(Left {
         status,
@@ -151,29 +355,103 @@ fn faulty_call(alloc: Global, source: &str, faults: Faults) -> Result<Left, Memo
     })
 }
 
+const TWO: &str = "program p; print(1); print(22); end program;";
+
 #[test]
 fn faults_of_the_outside(rt: HostRuntime) -> Result<(), Fail> {
-    let two = "program p; print(1); print(22); end program;";
-    for (load, write, most, tell, source, status, out, err) in [
-        (1, 0, 99, 0, GROWING, Status::ReadFault, "", "read fault\n"),
-        (1, 0, 99, 1, GROWING, Status::ReadFault, "", ""),
+    for (load, write, most, tell, line, source, status, out, err) in [
+        (
+            1,
+            0,
+            99,
+            0,
+            "run a",
+            TWO,
+            Status::ReadFault,
+            "",
+            "read fault\n",
+        ),
+        (1, 0, 99, 1, "check a", TWO, Status::ReadFault, "", ""),
+        (
+            0,
+            0,
+            99,
+            0,
+            "run b",
+            TWO,
+            Status::ReadFault,
+            "",
+            "read fault\n",
+        ),
         (
             0,
             1,
             99,
             0,
-            GROWING,
+            "run a",
+            TWO,
             Status::WriteFault,
             "",
             "write fault\n",
         ),
-        (0, 1, 99, 1, GROWING, Status::WriteFault, "", ""),
-        (0, 2, 99, 0, two, Status::WriteFault, "1\n", "write fault\n"),
-        (0, 4, 1, 0, two, Status::WriteFault, "1\n2", "write fault\n"),
-        (0, 0, 1, 0, two, Status::Done, "1\n22\n", ""),
-        (0, 0, 0, 0, two, Status::WriteFault, "", "write fault\n"),
-        (0, 0, 99, 1, "x", Status::WriteFault, "", "write fault\n"),
-        (0, 0, 99, 2, "x", Status::Refused, "", "not built\n"),
+        (0, 1, 99, 1, "run a", TWO, Status::WriteFault, "", ""),
+        (
+            0,
+            2,
+            99,
+            0,
+            "run a",
+            TWO,
+            Status::WriteFault,
+            "1\n",
+            "write fault\n",
+        ),
+        (
+            0,
+            4,
+            1,
+            0,
+            "run a",
+            TWO,
+            Status::WriteFault,
+            "1\n2",
+            "write fault\n",
+        ),
+        (0, 0, 1, 0, "run a", TWO, Status::Done, "1\n22\n", ""),
+        (
+            0,
+            0,
+            0,
+            0,
+            "run a",
+            TWO,
+            Status::WriteFault,
+            "",
+            "write fault\n",
+        ),
+        (0, 1, 99, 1, "check a", TWO, Status::Done, "", ""),
+        (
+            0,
+            0,
+            99,
+            1,
+            "check a",
+            "x",
+            Status::WriteFault,
+            "",
+            "write fault\n",
+        ),
+        (
+            0,
+            0,
+            99,
+            2,
+            "check a",
+            "x",
+            Status::Refused,
+            "",
+            "at 0: syntax\n",
+        ),
     ] {
         let faults = Faults {
             load,
@@ -181,35 +459,12 @@ fn faults_of_the_outside(rt: HostRuntime) -> Result<(), Fail> {
             most,
             tell,
         };
-        let left = faulty_call(rt.alloc(), source, faults)?;
-        assert_eq!(rt; left.status, status, "at {load} {write} {most} {tell}");
-        assert_eq!(rt;
-            left.out.as_slice(),
-            out.as_bytes(),
-            "at {load} {write} {most} {tell}"
-        );
-        assert_eq!(rt;
-            left.err.as_slice(),
-            err.as_bytes(),
+        let left = faulty_call(rt.alloc(), line, source, faults)?;
+        assert!(rt;
+            left_so(&left, status, out, err),
             "at {load} {write} {most} {tell}"
         );
     }
-    Ok(())
-}
-
-/// A call without any file.
-fn missing_call(alloc: Global) -> Result<Left, Memory> {
-    let mut files = MemFiles::new(alloc, Vec::new(alloc))?;
-    let words = words_of(alloc, "run a")?;
-    call(alloc, &words, &mut files)
-}
-
-#[test]
-fn a_missing_file_is_a_read_fault(rt: HostRuntime) -> Result<(), Fail> {
-    let left = missing_call(rt.alloc())?;
-    assert_eq!(rt; left.status, Status::ReadFault);
-    assert_eq!(rt; left.status.number(), 5);
-    assert_eq!(rt; left.err.as_slice(), b"read fault\n".as_slice());
     Ok(())
 }
 

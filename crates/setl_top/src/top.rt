@@ -1,21 +1,21 @@
 //! The program as one call.
 ghost use Rattle.std.specs.Prelude.{ℕ, List, map, string_bytes};
-ghost use Rattle.setl_top.specs.Headline.{Headline, moment};
+ghost use Rattle.setl_top.specs.Headline.{Headline, CheckLeavesRest, moment};
 ghost use Rattle.setl_top.specs.Words.{Run, Spells};
 
 use crate::Status;
 use crate::lines::try_line;
-use crate::load::load_program;
+use crate::load::{check_file, load_small};
 use crate::small::{Ran, run_program};
-use crate::words::file_to_run;
+use crate::words::{Command, read_words};
 use setl_io::{Files, Sink, Source};
 use std::alloc::Global;
 
 /// Does what the words of the command line ask for, and tells how that ended.
 ///
-/// `words` are those after the program's own name. `files` has the sources by name, and `input` is what a program
-/// reads. `out` gains what the program prints, each line at its `print`; `err` gains the last line of a call that
-/// wasn't done, if it has one.
+/// `words` are those after the program's own name: `run FILE` or `check FILE`. `files` has the sources by name, and
+/// `input` is what a program reads. `out` gains what the program prints, each line at its `print`; `err` gains the last
+/// line of a call that wasn't done, if it has one. A check leaves `input` and `out` as they were, however it ends.
 ///
 /// `ReadFault` comes only where the count of faults of `files` or `input` rose in the call, `WriteFault` only where that
 /// of `out` or `err` rose, and `NoMemory` only where memory was refused. After these the error line is tried once.
@@ -29,9 +29,12 @@ pub fn setl<F: Files, I: Source, O: Sink, E: Sink>(
 ) -> Status
     ensures headline { let seen = moment F.texts F.faults I.left I.faults O.held O.faults E.held E.faults in
         Headline (map string_bytes words.now) (seen files.old input.old out.old err.old) (seen files.new input.new out.new err.new) result }
+    ensures rest { let seen = moment F.texts F.faults I.left I.faults O.held O.faults E.held E.faults in
+        CheckLeavesRest (map string_bytes words.now) (seen files.old input.old out.old err.old) (seen files.new input.new out.new err.new) }
 {
-    match file_to_run(words) {
-        Some(name) => run_file(alloc, name, files, input, out, err),
+    match read_words(words) {
+        Some(Command::Run(name)) => run_file(alloc, name, files, input, out, err),
+        Some(Command::Check(name)) => check_file(alloc, name, files, err),
         None => Status::Words,
     }
 }
@@ -48,7 +51,7 @@ fn run_file<F: Files, I: Source, O: Sink, E: Sink>(
     ensures headline { let seen = moment F.texts F.faults I.left I.faults O.held O.faults E.held E.faults in
         (words : List (List ℕ)) → Spells words (Run name.now) → Headline words (seen files.old _input.old out.old err.old) (seen files.new _input.new out.new err.new) result }
 {
-    let program = match load_program(alloc, name, files, err) {
+    let program = match load_small(alloc, name, files, err) {
         Ok(program) => program,
         Err(status) => return status,
     };

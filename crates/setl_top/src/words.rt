@@ -1,14 +1,29 @@
 //! The words of the command line.
 ghost use Rattle.std.specs.Prelude.{◌≡◌, ◌↔◌, ℕ, List, codes, map, string_bytes, IsTrue, IfSome, IfNone};
-ghost use Rattle.setl_top.specs.Words.{Run, Spells, IsFaulty, IsFile};
+ghost use Rattle.setl_top.specs.Commands.{command_of};
+ghost use Rattle.setl_top.specs.Words.{Spells, IsFaulty, IsFile};
 
-/// Reads the words: the file whose program is to be run. `None` comes exactly where they are of no plain form.
-pub fn file_to_run(words: &[String]) -> Option<&str>
-    ensures plain { IfSome result (λ name. Spells (map string_bytes words.now) (Run name.now)) }
+/// What the words ask for, with the name of the file.
+#[derive(Clone, Copy, Debug, PartialEq, Eq)]
+pub enum Command<'a> {
+    /// The program of the file is to be run.
+    Run(&'a str),
+    /// The source in the file is to be checked.
+    Check(&'a str),
+}
+
+/// Reads the words. `None` comes exactly where they are of no plain form.
+pub fn read_words(words: &[String]) -> Option<Command<'_>>
+    ensures plain { IfSome result (λ command. Spells (map string_bytes words.now) (command_of command)) }
     ensures faulty { IfNone result (IsFaulty (map string_bytes words.now)) }
 {
     match words {
-        [word, name] if is_run(word.as_str()) && is_file(name.as_str()) => Some(name.as_str()),
+        [word, name] if is_run(word.as_str()) && is_file(name.as_str()) => Some(Command::Run(
+            name.as_str(),
+        )),
+        [word, name] if is_check(word.as_str()) && is_file(name.as_str()) => Some(Command::Check(
+            name.as_str(),
+        )),
         _ => None,
     }
 }
@@ -18,6 +33,13 @@ fn is_run(word: &str) -> bool
     ensures { IsTrue result ↔ (word.now ≡ codes "run") }
 {
     word == "run"
+}
+
+/// Whether a word is that of a check.
+fn is_check(word: &str) -> bool
+    ensures { IsTrue result ↔ (word.now ≡ codes "check") }
+{
+    word == "check"
 }
 
 /// Whether a file may have that name in the words.

@@ -7,7 +7,7 @@ ghost use Rattle.setl_io.specs.Sink.{AppendsPart};
 ghost use Rattle.setl_value.specs.Body.{Members};
 ghost use Rattle.setl_value.specs.Datum.{int};
 ghost use Rattle.setl_value.specs.DatumOf.{datum};
-ghost use Rattle.setl_set.specs.Sets.{set_from, insert_datum};
+ghost use Rattle.setl_set.specs.Sets.{insert_datum};
 ghost use Rattle.setl_text.specs.Texts.{print_line, argument_text};
 ghost use Rattle.setl_top.specs.Accepted.{program_of};
 ghost use Rattle.setl_top.specs.Breaks.{Breaks};
@@ -18,6 +18,7 @@ ghost use Rattle.setl_top.specs.TableValues.{values_in};
 ghost use Rattle.setl_top.specs.Tree.{Assign, With, Print};
 ghost use Rattle.setl_top.specs.Values.{value_of, values_after, said_by, with_member, IsPlain, IsIntegers, CanPerform};
 
+use super::gather::set_of;
 use super::program::{Action, Expression, Statement};
 use super::tables::bind;
 use super::texts::push_value;
@@ -56,17 +57,6 @@ fn add_integer(alloc: Global, set: &mut SetBody, member: i128) -> Result<(), All
         Err(SetFault::NoMemory) => Err(AllocError),
         Err(SetFault::Deep) => unreachable!(),
     }
-}
-
-/// The set of some integers.
-fn set_of(alloc: Global, members: &[i128]) -> Result<SetBody, AllocError>
-    ensures { IfOk result (λ set. Members set ≡ set_from (map int members.now)) }
-{
-    let mut set = SetBody::new(alloc)?;
-    'members: for i in (0..members.len()).rev() {
-        add_integer(alloc, &mut set, members[i])?;
-    }
-    Ok(set)
 }
 
 /// The value of an expression.

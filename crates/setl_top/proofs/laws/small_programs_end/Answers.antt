@@ -7,5 +7,5 @@ use Rattle.setl_top.proofs.laws.small_programs_end.Goals as goal
 
 pub returns : goal.returns
 returns c = λ source program a.
-    (let done = small_is_done a.tree a.conditions in
+    (let done = small_is_done a.small_tree a.is_small.conditions in
     (done.0, λ input turns based. subst (λ (p : Program). Means p input turns based done.0 Done) (sym a.meaning) (done.1 input turns based)))

@@ -13,18 +13,18 @@ returns-in-Done g c =
     let known = c.in-Ok.ensures in
     let tree = map stmt_of c.in-Ok.program.items in
     let bytes = rw c.deref.ensures.value at c.in-Done.ensures.bytes in
-    record { headline = λ words s. run_done words _ _ tree (to_run words _ _ tree s known.loaded) bytes (appends_same _ _ known.err_held) (record { files = omega (arith, known.quiet); input = omega arith; out = omega (arith, c.in-Done.ensures.count); err = omega (arith, known.err_quiet) }) }
+    record { headline = λ words s. run_done words _ _ tree (to_run words _ _ tree s known.loaded) bytes (appends_same _ _ known.still.held) (record { files = omega (arith, known.still.files); input = omega arith; out = omega (arith, c.in-Done.ensures.count); err = omega (arith, known.still.err) }) }
 
 pub returns-in-Failed : goal.returns-in-Failed
 returns-in-Failed g c =
     let known = c.in-Ok.ensures in
     let tree = map stmt_of c.in-Ok.program.items in
     let bytes = rw c.deref.ensures.value at c.in-Failed.ensures.bytes in
-    record { headline = λ words s. run_failed words _ _ tree (to_run words _ _ tree s known.loaded) bytes c.in-Failed.ensures.count (rw known.err_held at c.try_line.ensures.front) }
+    record { headline = λ words s. run_failed words _ _ tree (to_run words _ _ tree s known.loaded) bytes c.in-Failed.ensures.count (rw known.still.held at c.try_line.ensures.front) }
 
 pub returns : goal.returns
 returns g c =
     let known = c.in-Ok.ensures in
     let tree = map stmt_of c.in-Ok.program.items in
     let bytes = rw c.deref.ensures.value at c.in-NoMemory.ensures.bytes in
-    record { headline = λ words s. run_starved words _ _ tree (to_run words _ _ tree s known.loaded) bytes (rw known.err_held at c.try_line-in-NoMemory.ensures.front) }
+    record { headline = λ words s. run_starved words _ _ tree (to_run words _ _ tree s known.loaded) bytes (rw known.still.held at c.try_line-in-NoMemory.ensures.front) }

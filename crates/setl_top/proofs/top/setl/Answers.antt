@@ -1,8 +1,13 @@
-use Rattle.setl_top.proofs.Ends.{faulty_ends}
+use Rattle.std.proofs.Common.{refl}
+use Rattle.setl_top.proofs.Ends.{faulty_ends, check_ends, rest_same}
 use Rattle.setl_top.proofs.top.setl.Goals as goal
 
-pub returns-in-None : goal.returns-in-None
-returns-in-None g c = record { headline = faulty_ends _ _ c.in-None.ensures.faulty }
+pub returns-in-None-clause-headline : goal.returns-in-None-clause-headline
+returns-in-None-clause-headline g c = faulty_ends _ _ c.in-None.ensures.faulty
 
-pub returns-in-Some : goal.returns-in-Some
-returns-in-Some g c = record { headline = c.run_file.ensures.headline _ c.in-Some.ensures.plain }
+pub returns-in-Some-Run-clause-headline : goal.returns-in-Some-Run-clause-headline
+returns-in-Some-Run-clause-headline g c = c.run_file.ensures.headline _ (rw c.in-Some-Run.field-0-is at c.in-Some-Run.ensures.plain)
+
+pub returns-in-Some-Check-clause-headline : goal.returns-in-Some-Check-clause-headline
+returns-in-Some-Check-clause-headline g c =
+    check_ends _ _ _ _ (rw c.in-Some-Check.field-0-is at c.in-Some-Check.ensures.plain) (rest_same _ _ refl refl refl refl) _ c.check_file.ensures

@@ -1,6 +1,0 @@
-use Rattle.std.proofs.Common.{sym}
-use Rattle.std.proofs.lemmas.List.{drop-drop}
-use Rattle.setl_top.proofs.small.cursor.Cursor.pass.Goals as goal
-
-pub returns-then-self-len : goal.returns-then-self-len
-returns-then-self-len c = sym (drop-drop 1 c.args.self.now.at _)
