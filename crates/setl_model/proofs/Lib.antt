@@ -4,3 +4,4 @@ mod Rows
 mod LanguageRows
 mod ByRunning
 mod tables
+mod Translated

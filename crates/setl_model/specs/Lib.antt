@@ -15,6 +15,7 @@ pub mod Answers
 pub mod Entered
 pub mod Dump
 pub mod Laws
+pub mod Ending
 pub mod Source
 pub mod Samples
 pub mod LanguageSamples

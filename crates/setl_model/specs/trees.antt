@@ -5,3 +5,4 @@ pub mod Expressions
 pub mod Statements
 pub mod Modes
 pub mod Programs
+pub mod Samples

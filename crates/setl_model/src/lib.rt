@@ -1,6 +1,7 @@
 //! The meaning of the language, as definitions, and its laws. No call of this crate does any work: each states a law.
 #![tactic(auto)]
 
+pub mod trees;
 pub mod worked;
 
 ghost use Rattle.std.specs.Prelude.{◌≡◌, true, false, [], codes};

@@ -1,5 +1,5 @@
 -- Expressions of trees as plain ones, in which each name stands for its variable.
-use Rattle.std.specs.Prelude.{ℕ, Bool, true, false, List, [], ◌∷◌, ◌++◌, map, Option, Some, None}
+use Rattle.std.specs.Prelude.{ℕ, true, false, List, [], ◌∷◌, ◌++◌, map, Option, Some, None}
 use Rattle.setl_value.specs.Datum.{bool, int, text}
 use Rattle.setl_tree.specs.declared.expr.BinaryOp.{BinaryOp}
 use Rattle.setl_tree.specs.declared.expr.Prefix.{Prefix}
@@ -18,7 +18,7 @@ use Rattle.setl_map.specs.declared.Operator.{Operator}
 use Rattle.setl_map.specs.declared.Operator.TheVariants.{Get, Images, Slice, Tail, SetOf, TupleOf, SetRange, TupleRange, SetStep, TupleStep}
 use Rattle.setl_modes.specs.Variable.{Variable, Bound as OfFormer}
 use Rattle.setl_model.specs.Collections.{Collection, OfSet, OfTuple}
-use Rattle.setl_model.specs.Program.{Slots, Binding, Member, Components, Point, Begin, Values, Between, SetSteps, TupleSteps, Points, Expr, Literal, Undefined, Name as Named, Apply, Choose, Former, Selection, Quantified, Call, Newat, Eof, Ok, Exprs, no_expr, more_exprs, Iterators, no_iterator, more_iterators, Condition, no_condition, only_if, Arguments, no_argument, rd_argument, wr_argument, rw_argument, Selectors, round_selector, brace_selector}
+use Rattle.setl_model.specs.Program.{Binding, Member, Components, Point, Begin, Values, Between, SetSteps, TupleSteps, Points, Expr, Literal, Undefined, Name as Named, Apply, Choose, Former, Selection, Quantified, Call, Newat, Eof, Ok, Exprs, no_expr, more_exprs, Iterators, no_iterator, more_iterators, Condition, no_condition, only_if, Arguments, no_argument, rd_argument, wr_argument, rw_argument, Selectors, round_selector, brace_selector}
 use Rattle.setl_model.specs.trees.Numbered.{Numbered, pure, ◌>>=◌, opened}
 use Rattle.setl_model.specs.trees.Scope.{Name, Scope, in_former, variable_of, procedure_of}
 use Rattle.setl_model.specs.trees.Words.{one, two, binary, relation, prefix, quantifier}

@@ -131,6 +131,19 @@ event_rows =
     Called 2 (codes "p")
     ∷ Stored 2 (its (codes "x")) None
     ∷ [])
+    -- what was passed in is stored at the return also where it stayed as it was:
+    -- x := 1; p(x);
+    -- proc p(wr a); end proc;
+    -- tells: store 2 x 1; call 2 p; store 2 1:a *; return p; store 2 x *
+    ∷ tells 9 (with_procedures (on_line 2 (assign x (number 1) ∷ Perform (Call 0 (wr_argument x no_argument)) ∷ []))
+    (record { name = codes "p"; parameters = record { passing = Wr; name = codes "a" } ∷ []; body = no_stmt }
+    ∷ [])) (
+    Stored 2 x (Some (int (pos 1)))
+    ∷ Called 2 (codes "p")
+    ∷ Stored 2 (its (codes "a")) None
+    ∷ Returned (codes "p")
+    ∷ Stored 2 x None
+    ∷ [])
     -- if ok then x := 1; if ok then fail; end if; fail; end if;
     -- tells: keep; store 2 x 1; keep; back; back
     ∷ tells 9 (just (alone 2 (If Ok (on_line 2 (assign x (number 1) ∷ If Ok (alone 2 Fail) no_stmt ∷ Fail

@@ -3,7 +3,7 @@ use Rattle.std.specs.Prelude.{List, [], ◌∷◌, ◌++◌, codes}
 use Rattle.setl_map.specs.declared.Operator.TheVariants.{With, Less, Npow, Add, Subtract, Multiply, Modulo, Equal, In, Size, Pow, Arb}
 use Rattle.setl_model.specs.Program.{Undefined, Call, no_argument, Return}
 use Rattle.setl_modes.specs.Events.{Om, Kind, Deep, Stopped, Range as OutOfRange}
-use Rattle.setl_model.specs.Source.{yes, number, quoted, one, two, minus, set_of, tuple_of, enumeration, row_of, print, on_line, alone, with_procedures, deepest, nearly}
+use Rattle.setl_model.specs.Source.{yes, number, quoted, one, two, minus, set_of, tuple_of, enumeration, row_of, at_round, at_brace, print, on_line, alone, with_procedures, deepest, nearly}
 use Rattle.setl_model.specs.Table.{Row, writes, spends, all_stop, ends}
 
 -- operations on sets
@@ -141,7 +141,8 @@ subset_rows =
 -- a value is at most 500 deep; `deepest` is a set of depth 500, and `nearly` its one member
 abbrev pub depth_rows : List Row
 depth_rows =
-    -- deep: {deepest}; [deepest]; [1, deepest]; {} with deepest; [] with deepest; pow deepest; 1 npow deepest
+    -- deep: {deepest}; [deepest]; [1, deepest]; {} with deepest; [] with deepest; pow deepest; 1 npow deepest;
+    --   {}(deepest, 1); {}{1, deepest}
     all_stop Deep (
     set_of (deepest ∷ [])
     ∷ tuple_of (deepest ∷ [])
@@ -150,6 +151,8 @@ depth_rows =
     ∷ two With (tuple_of []) deepest
     ∷ one Pow deepest
     ∷ two Npow (number 1) deepest
+    ∷ at_round (set_of []) (tuple_of (deepest ∷ number 1 ∷ []))
+    ∷ at_brace (set_of []) (tuple_of (number 1 ∷ deepest ∷ []))
     ∷ [])
     -- print(0 npow deepest, 5 npow deepest, pow {}, # deepest, 1 npow nearly = deepest);
     ++ writes 3 (
