@@ -19,8 +19,6 @@ mod parse;
 mod primary;
 mod rule;
 mod spelling;
-#[cfg(test)]
-mod tests;
 
 pub use cursor::{Cursor, same_kind};
 pub use iterators::pattern;

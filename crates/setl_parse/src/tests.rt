@@ -1,6 +1,7 @@
 //! What no clause says: that calls succeed, and the faults of programs whose places are known from outside.
 
 use super::{ParseFault, parse};
+use setl_show::show;
 use setl_token::tokens;
 use std::alloc::Global;
 use std::fmt::Write;
@@ -178,6 +179,56 @@ fn parses_every_alternative(rt: HostRuntime) -> Result<(), Fail> {
     for (source, want) in PROGRAMS {
         let text = outcome(rt.alloc(), source)?;
         assert_eq!(rt; text.as_str(), want, "at {source}");
+    }
+    Ok(())
+}
+
+/// The canonical text of the program of a short source; empty where it is none.
+fn shown(alloc: Global, source: &[u8]) -> Result<Vec<u8>, Fail> {
+    if source.len() > 10000 {
+        return Ok(Vec::new(alloc));
+    }
+    if let Ok(list) = tokens(alloc, source) {
+        if let Ok(tree) = parse(alloc, &list) {
+            return Ok(show(alloc, &tree)?);
+        }
+    }
+    Ok(Vec::new(alloc))
+}
+
+/// Programs, and their canonical texts, written by hand from the grammar.
+const SHOWN: [(&str, &str); 3] = [
+    (
+        "PROGRAM p; x := a+b*2; print({3,1},[1,om],'it''s'); END;",
+        "program p ;\nx := a + ( b * 2 ) ;\nprint ( { 3 , 1 } , [ 1 , om ] , 'it''s' ) ;\nend program ;\n",
+    ),
+    (
+        "program p; (for x in -s, y = f(x) | x /= om) p(x){1} +:= (f(x))(y); end; end program p;",
+        "program p ;\n( for x in ( - s ) , y = f ( x ) | x /= om ) p ( x ) { 1 } + := ( f ( x ) ) ( y ) ;\nend for ;\nend program p ;\n",
+    ),
+    (
+        "program p; var a; repr base b: integer; a: local set(elmt b); end; if ok then fail; else q(1); end; procedure q(z); return -z; end; end;",
+        "program p ;\nvar a ;\nrepr base b : int ;\na : local set ( elmt b ) ;\nend repr ;\nif ok then fail ;\nelse q ( 1 ) ;\nend if ;\nproc q ( rd z ) ;\nreturn - z ;\nend proc ;\nend program ;\n",
+    ),
+];
+
+#[test]
+fn programs_have_their_canonical_texts(rt: HostRuntime) -> Result<(), Fail> {
+    for (source, want) in SHOWN {
+        let text = shown(rt.alloc(), source.as_bytes())?;
+        assert_eq!(rt; text.as_slice(), want.as_bytes(), "at {source}");
+    }
+    Ok(())
+}
+
+// Trees with the same canonical tokens are the same but for lines.
+#[test]
+fn shown_programs_parse_to_the_same_tree(rt: HostRuntime) -> Result<(), Fail> {
+    for (source, _) in PROGRAMS {
+        let text = shown(rt.alloc(), source.as_bytes())?;
+        let again = shown(rt.alloc(), text.as_slice())?;
+        assert!(rt; !text.is_empty(), "at {source}");
+        assert_eq!(rt; again.as_slice(), text.as_slice(), "at {source}");
     }
     Ok(())
 }

@@ -2,8 +2,6 @@
 #![tactic(auto)]
 
 mod laws;
-#[cfg(test)]
-mod tests;
 
 pub use laws::{
     canonical_text_derives, canonical_text_is_spelled, lines_do_not_matter, spelling_is_determined,
