@@ -124,7 +124,7 @@ former_found x v is c line s s1 s2 s3 f0 f1 f2 f3 f4 ex es1 e1 es2 e2 es3 e3 e4 
     let outer : Scope = record { own = s.own; inside = with_names s.inside names } in
     rw (ex, is_former (place line s) v is c)
     (four f0 f1 f2 f3 f4 (standing_in v (place line all)) (own_turns (map turn is) (place line outer)) (optional_part (option_map part c) (place line all)) (bound names (in_statement line))
-        (rw es1 at e1) (rw es2 at e2) (rw (es3, es1) at e3) e4)
+    (rw es1 at e1) (rw es2 at e2) (rw (es3, es1) at e3) e4)
 
 pub filter_found : (x : Inner) (b : Bound) (v c : Expr) (line : ℕ) (s s1 s2 : Scope) (f0 f1 f2 f3 f4 : List Occurrence) → x ≡ inn.Filter b v c →
     s1 ≡ record { own = s.own; inside = with_names s.inside (names_of_bound b) } →
@@ -137,4 +137,4 @@ filter_found x b v c line s s1 s2 f0 f1 f2 f3 f4 ex es1 e1 e2 es2 e3 e4 =
     let last : Scope = record { own = with_names s.own names; inside = with_names s.inside names } in
     rw (ex, is_filter (place line s) b v c)
     (four f0 f1 f2 f3 f4 (bound_names true names (place line within)) (standing_in v (place line within)) (standing_in c (place line last)) (bound names (in_statement line))
-        (rw es1 at e1) (rw es1 at e2) (rw es2 at e3) e4)
+    (rw es1 at e1) (rw es1 at e2) (rw es2 at e3) e4)

@@ -58,7 +58,7 @@ pub finds_next : {T S : Type 0} (m n : IndexMap (Vec ℕ) T S) (f : T → List P
     n.entries ≡ insert_entry same_key m.entries key v → Finds m f (drop at procs) → Finds n f (drop next procs)
 finds_next m n f procs at next proc key v ea h ep ek ef en inv x =
     let split : drop next procs ≡ proc ∷ drop at procs =
-          drop-cons procs next proc h ∙ ap (λ (z : Proc). z ∷ drop (suc next) procs) (sym ep) ∙ ap (λ k. proc ∷ drop k procs) (sym (add-one next) ∙ ea) in
+    drop-cons procs next proc h ∙ ap (λ (z : Proc). z ∷ drop (suc next) procs) (sym ep) ∙ ap (λ k. proc ∷ drop k procs) (sym (add-one next) ∙ ea) in
     ap (λ es. option_map f (at_name x es)) en
     ∙ ap (option_map f) (at_name-insert m.entries key v x)
     ∙ map_cond f (bytes_eq x key.items) (Some v) (value_at m x)

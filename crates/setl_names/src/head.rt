@@ -58,10 +58,7 @@ fn declared_entry(item: &Declared) -> Entry<'_>
 }
 
 /// Declared names as entries.
-fn declared_entries<'t>(
-    alloc: Global,
-    vars: &'t [Declared],
-) -> Result<Items<Entry<'t>>, AllocError>
+fn declared_entries<'t>(alloc: Global, vars: &'t [Declared]) -> Result<Items<Entry<'t>>, AllocError>
     ensures { IfOk result (λ es. es ≡ map heads.declared_entry vars.now) }
 {
     let mut entries = Items::new(alloc);

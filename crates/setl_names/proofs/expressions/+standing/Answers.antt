@@ -38,7 +38,7 @@ inner-returns-in_ok-bind-in-Former-clause-found t c =
     let e3 : c.optional-in-Former.new.found ≡ c.own_turns.new.found ++ spec.optional_part (option_map spec.part c.in-Former.condition) (place p all) = grind (arith, common_steps, back) in
     let e4 : c.bind.new.found ≡ c.optional-in-Former.new.found ++ spec.bound names (in_statement p) = grind (arith, common_steps) in
     former_found c.args.x.now c.in-Former.value c.in-Former.turns c.in-Former.condition p s all outer all c.args.found.now c.expr-in-Former.new.found c.own_turns.new.found c.optional-in-Former.new.found c.bind.new.found
-        c.in-Former.is refl e1 refl e2 refl e3 e4
+    c.in-Former.is refl e1 refl e2 refl e3 e4
 
 pub inner-returns-in_ok-bind-in-Filter-clause-found : goal.inner-returns-in_ok-bind-in-Filter-clause-found
 inner-returns-in_ok-bind-in-Filter-clause-found t c =
@@ -52,4 +52,4 @@ inner-returns-in_ok-bind-in-Filter-clause-found t c =
     let e3 : c.expr-in-Filter-2.new.found ≡ c.expr-in-Filter.new.found ++ spec.standing_in c.in-Filter.condition (place p last) = grind (arith, common_steps) in
     let e4 : c.bind-in-Filter.new.found ≡ c.expr-in-Filter-2.new.found ++ spec.bound names (in_statement p) = grind (arith, common_steps) in
     filter_found c.args.x.now c.in-Filter.bound c.in-Filter.source c.in-Filter.condition p s within last c.args.found.now c.bound_names.new.found c.expr-in-Filter.new.found c.expr-in-Filter-2.new.found c.bind-in-Filter.new.found
-        c.in-Filter.is refl e1 e2 refl e3 e4
+    c.in-Filter.is refl e1 e2 refl e3 e4

@@ -8,8 +8,8 @@ returns-clause-new c =
     let keys = c.self.inside.names.keys in
     c.in_ok-insert.ensures.added
     ∙ ap not (has_key c.in_ok-key.key.items keys
-        ∙ ap (λ (n : List ℕ). has (map items_of keys) n) c.in_ok-key.ensures.items
-        ∙ ap (λ (ns : List (List ℕ)). has ns c.args.name.now) c.self.view_is)
+    ∙ ap (λ (n : List ℕ). has (map items_of keys) n) c.in_ok-key.ensures.items
+    ∙ ap (λ (ns : List (List ℕ)). has ns c.args.name.now) c.self.view_is)
 
 pub returns-clause-names : goal.returns-clause-names
 returns-clause-names c =
