@@ -5,3 +5,4 @@ pub mod Spans
 pub mod Gathering
 pub mod MapResults
 pub mod MapLaws
+pub mod Depths

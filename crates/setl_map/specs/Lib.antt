@@ -1,4 +1,5 @@
 pub mod Outcome
+pub mod Answers
 pub mod Maps
 pub mod Points
 pub mod Laws

@@ -5,9 +5,11 @@
 //! `domain_of`, `put_image` and the like).
 //!
 //! The table of the operators is the definition `op_of`: what an operator makes of its operands, with the turns that
-//! are left.
+//! are left. The calls that make these outcomes stand in crates above; what they answer is an `Answer` or an `OpFault`,
+//! and `Tells` says that it is the outcome of the table.
 #![tactic(auto)]
 
+pub mod answers;
 mod gather;
 pub mod laws;
 mod maps;
@@ -15,7 +17,7 @@ mod pairs;
 
 pub use gather::gathered;
 pub use maps::{domain, image, images, lessf, put, put_all, range};
-use setl_value::Memory;
+use setl_value::{Memory, Value};
 
 /// Why a map call gave no result.
 #[derive(Clone, Copy, Debug, PartialEq, Eq)]
@@ -37,6 +39,46 @@ impl From<Memory> for MapFault {
     fn from(_e: Memory) -> MapFault {
         MapFault::NoMemory
     }
+}
+
+/// Why an operator gave no value. Where several causes hold, the first in the order Om, Kind, Zero, Range, Spent, Wide,
+/// Deep counts; NoMemory may come at any point.
+#[derive(Clone, Copy, Debug, PartialEq, Eq)]
+pub enum OpFault {
+    /// An operand is of another kind than the operator's.
+    Kind,
+    /// An operand is `om`.
+    Om,
+    /// The integer result doesn't fit 128 bits.
+    Wide,
+    /// A divisor or a step is 0.
+    Zero,
+    /// A place, a count or an exponent is out of range.
+    Range,
+    /// The result would be more than 500 deep.
+    Deep,
+    /// The charge is above the turns left.
+    Spent,
+    /// Memory was refused.
+    NoMemory,
+}
+
+impl From<Memory> for OpFault {
+    ghost use Rattle.std.specs.Prelude.{◌≡◌};
+    ghost use Rattle.setl_map.specs.declared.OpFault.TheVariants.{NoMemory};
+
+    ghost from_gives = { λ _ e. e ≡ NoMemory };
+
+    fn from(_e: Memory) -> OpFault {
+        OpFault::NoMemory
+    }
+}
+
+/// What an operator gave: a value, or None for `om`, and the turns that it charges.
+#[derive(Drop)]
+pub struct Answer {
+    pub value: Option<Value>,
+    pub charged: u64,
 }
 
 /// The operators on values, with the folds, the enumerations, the ranges and the puts. The operands stand in the order

@@ -1,0 +1,14 @@
+//! The operators on numbers and booleans: arithmetic, which serves sets, tuples and strings too, comparisons, membership
+//! and kinds.
+#![tactic(auto)]
+
+mod numbers;
+mod truths;
+
+pub use numbers::{
+    absolute, divide, even, greater, lesser, minus, modulo, negate, odd, plus, power, times,
+};
+pub use truths::{
+    at_most, below, both, either, equal, is_atom, is_boolean, is_in, is_integer, is_map, is_set,
+    is_string, is_tuple, negation, not_equal, not_in, subset,
+};
