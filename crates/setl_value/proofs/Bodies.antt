@@ -1,5 +1,5 @@
 -- Lists that are a set's members.
-use Rattle.std.specs.Prelude.{◌≡◌, ℕ, zero, suc, ◌≤◌, List, [], ◌∷◌, ◌++◌, take, drop, map, Some, max, slice_get, length, ◌<◌}
+use Rattle.std.specs.Prelude.{◌≡◌, ℕ, zero, suc, ◌-◌, ◌≤◌, List, [], ◌∷◌, ◌++◌, take, drop, map, Some, max, slice_get, slice_range, length, ◌<◌, refl}
 use Rattle.std.proofs.Common.{slice_index_or}
 use Rattle.std.specs.List.{AllByRecursion, insert, remove}
 use Rattle.std.specs.List.Sorted.{IsStrictlySortedBy}
@@ -7,7 +7,7 @@ use Rattle.std.specs.declared.cmp.Ordering.TheVariants.{Less}
 use Rattle.std.specs.Option.{unwrap_or}
 use Rattle.std.proofs.Common.{arith, ap, sym, ◌∙◌, subst}
 use Rattle.std.proofs.lemmas.Option.{none-some}
-use Rattle.std.proofs.lemmas.List.{map-append, take-map, drop-map}
+use Rattle.std.proofs.lemmas.List.{map-append, take-map, drop-map, take-append-drop}
 use Rattle.setl_value.specs.Datum.{Datum, set, depth, elements_depth, elements_of, element_list-elements_of, set_of}
 use Rattle.setl_value.specs.Order.{datum_cmp, IsRising}
 use Rattle.setl_value.specs.WellFormed.{IsWellFormed, ElementsAreWellFormed, IsValue, IsSetList}
@@ -123,6 +123,9 @@ pub map-replaced : {X Y : Type 0} (f : X → Y) (xs : List X) (i j : ℕ) (ys : 
 map-replaced f xs i j ys =
     map-append f (take i xs ++ ys) (drop j xs) ∙ ap (λ l. l ++ map f (drop j xs)) (map-append f (take i xs) ys) ∙ (λ k. sym (take-map f i xs) k ++ map f ys ++ sym (drop-map f j xs) k)
 
+pub map-part : {X Y : Type 0} (f : X → Y) (xs : List X) (i j : ℕ) → map f (slice_range xs i j) ≡ slice_range (map f xs) i j
+map-part f xs i j = sym (take-map f (j - i) (drop i xs)) ∙ ap (take (j - i)) (sym (drop-map f i xs))
+
 pub set_replaced : (ds : List Datum) (i j : ℕ) (ms : List Datum) → IsSetList ds → AllByRecursion IsWellFormed ms → IsRising (replaced ds i j ms) → depth (set_of (replaced ds i j ms)) ≤ 500 → IsSetList (replaced ds i j ms)
 set_replaced ds i j ms h a r p =
     let fine = stand_in ds h.0.0 in
@@ -141,6 +144,26 @@ depth_drop : (xs : List Datum) (i : ℕ) → elements_depth (elements_of (drop i
 depth_drop xs zero = omega arith
 depth_drop [] (suc i) = omega arith
 depth_drop (x ∷ xs) (suc i) = omega (arith, depth_drop xs i)
+
+-- a list is what stands before i, what stands from i up to j, and what stands from j on
+pub three_parts : {X : Type 0} (xs : List X) (i j : ℕ) → i ≤ j → replaced xs i j (slice_range xs i j) ≡ xs
+three_parts xs zero j h = ap (λ n. take n xs ++ drop j xs) {x = j - 0} {y = j} (omega arith) ∙ take-append-drop j xs
+three_parts [] (suc i) j h = none_left (j - suc i) j
+  where
+    none_left : {X : Type 0} (n m : ℕ) → ◌≡◌ {A = List X} (take n [] ++ drop m []) []
+    none_left zero zero = refl
+    none_left zero (suc m) = refl
+    none_left (suc n) zero = refl
+    none_left (suc n) (suc m) = refl
+three_parts (x ∷ xs) (suc i) zero h = absurd (omega arith)
+three_parts (x ∷ xs) (suc i) (suc j) h = ap (λ n. x ∷ replaced xs i j (take n (drop i xs))) {x = suc j - suc i} {y = j - i} (omega arith) ∙ ap (λ l. x ∷ l) (three_parts xs i j (omega arith))
+
+-- what was replaced and what it was replaced by are as deep together as before and after
+pub depth_exchanged : (ds : List Datum) (i j : ℕ) (ms : List Datum) → i ≤ j
+    → max (depth (set_of (replaced ds i j ms))) (depth (set_of (slice_range ds i j))) ≡ max (depth (set_of ds)) (depth (set_of ms))
+depth_exchanged ds i j ms h =
+    let s = slice_range ds i j in
+    omega (arith, depth_append (take i ds ++ ms) (drop j ds), depth_append (take i ds) ms, depth_append (take i ds ++ s) (drop j ds), depth_append (take i ds) s, ap (λ l. elements_depth (elements_of l)) (three_parts ds i j h))
 
 -- the depth after it is at least that of ms, and at most the greater of both
 pub depth_replaced : (ds : List Datum) (i j : ℕ) (ms : List Datum)

@@ -1,8 +1,8 @@
 -- Counting the members of a set that are no pairs.
-use Rattle.std.specs.Prelude.{◌≡◌, ℕ, zero, suc, ◌+◌, ◌≤◌, ◌==◌, Bool, true, false, ◌&&◌, cond, List, [], ◌∷◌, Option, Some, None, slice_get, length, is_some, refl}
+use Rattle.std.specs.Prelude.{◌≡◌, ℕ, zero, suc, ◌+◌, ◌≤◌, ◌==◌, Bool, true, false, ◌&&◌, cond, List, [], ◌∷◌, Option, Some, None, slice_get, slice_range, length, is_some, refl}
 use Rattle.std.specs.Option.{unwrap_or}
 use Rattle.std.specs.List.{insert, remove}
-use Rattle.std.proofs.Common.{arith, ap, sym, ◌∙◌, ◌<◌, ◌++◌, take, zero-add, get_or}
+use Rattle.std.proofs.Common.{arith, ap, sym, ◌∙◌, ◌<◌, ◌++◌, take, drop, zero-add, get_or}
 use Rattle.std.specs.Prelude.{map}
 use Rattle.std.proofs.lemmas.List.{map-append, take_more}
 use Rattle.setl_value.specs.declared.Value.{Value}
@@ -10,6 +10,7 @@ use Rattle.setl_value.specs.DatumOf.{datum}
 use Rattle.std.proofs.lemmas.Bool.{ne_eqb}
 use Rattle.std.proofs.lemmas.Option.{none-some}
 use Rattle.setl_value.specs.Datum.{Datum, tuple_of}
+use Rattle.setl_value.proofs.Bodies.{replaced, three_parts}
 use Rattle.setl_value.specs.Pairs.{pair_parts, is_map, is_there, other_count}
 
 -- 1 for a datum that is no pair
@@ -47,6 +48,11 @@ count_remove (c ∷ ds) (suc i) d e = omega (arith, count_remove ds i d e)
 count_append : (xs ys : List Datum) → other_count (xs ++ ys) ≡ other_count xs + other_count ys
 count_append [] ys = omega arith
 count_append (x ∷ xs) ys = omega (arith, count_append xs ys)
+
+pub count_replaced : (ds : List Datum) (i j : ℕ) (ms : List Datum) → i ≤ j → other_count (replaced ds i j ms) + other_count (slice_range ds i j) ≡ other_count ds + other_count ms
+count_replaced ds i j ms h =
+    let s = slice_range ds i j in
+    omega (arith, count_append (take i ds ++ ms) (drop j ds), count_append (take i ds) ms, count_append (take i ds ++ s) (drop j ds), count_append (take i ds) s, ap other_count (three_parts ds i j h))
 
 -- one member more
 pub count_more : (vs : List Value) (i : ℕ) (v : Value) → i < length vs → v ≡ get_or vs i v → other_count (map datum (take (i + 1) vs)) ≡ other_count (map datum (take i vs)) + counted (datum v)

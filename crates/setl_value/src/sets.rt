@@ -108,7 +108,8 @@ impl SetBody {
     }
 
     /// Puts members in the place of those from the `from`-th up to before the `to`-th. The list stays rising and the
-    /// depth at most 500. Where memory is refused, the set is as before.
+    /// depth at most 500. Where memory is refused, the set is as before. It looks at no other members, unless a deepest
+    /// one goes.
     pub fn replace(&mut self, from: usize, to: usize, by: Vec<Value>) -> Result<(), Memory>
         requires inside { (from ≤ to) × (to ≤ length (Members self.old)) }
         requires rising { IsRising (take from (Members self.old) ++ map datum by.items ++ drop to (Members self.old)) }
@@ -117,10 +118,14 @@ impl SetBody {
         ensures refused { OnErr result (self.new ≡ self.old) }
     {
         learn_members(by.as_slice());
+        let gone = &self.items[from..to];
+        let kept = self.others - others_in(gone);
+        let deepest = depth_of(gone, self.deep) - 1;
+        let new = others_in(by.as_slice());
         let most = self.deep.max(depth_of(by.as_slice(), 500));
         replace_in(&mut self.items, from, to, by)?;
-        self.deep = depth_of(self.items.as_slice(), most);
-        self.others = others_in(self.items.as_slice());
+        self.deep = depth_without(self.items.as_slice(), most, deepest);
+        self.others = kept + new;
         Ok(())
     }
 
@@ -195,7 +200,7 @@ fn learn_members(members: &[Value])
     }
 }
 
-// The depth of a set that had the depth `before` and one more member, of depth `gone`.
+// The depth of a set that would be `before` deep with one more member, of depth `gone`.
 fn depth_without(members: &[Value], before: u32, gone: u32) -> u32
     requires small { before ≤ 500 }
     requires cut { max (depth (set_of (map datum members.now))) (gone + 1) ≡ before }
