@@ -1,0 +1,21 @@
+use Rattle.std.proofs.Common.{◌≡◌, List, refl, ap, subst, ◌∙◌}
+use Rattle.setl_tree.specs.Canonical.{canonical}
+use Rattle.setl_show.specs.Text.{text_of}
+use Rattle.setl_expressions.specs.Plain.{plain_tokens}
+use Rattle.setl_spelling.specs.Lines.{bare_tree}
+use Rattle.setl_spelling.specs.Reading.{IsSpelledAs}
+use Rattle.setl_spelling.specs.Claims.{ShownTextHasTokens, ShownTextDerives, ShownTextDerivesNoOther}
+use Rattle.setl_spelling.proofs.laws.shown_text_is_read_again.Goals as goal
+
+pub returns : goal.returns
+returns c =
+    let has_tokens : ShownTextHasTokens = λ l tree h.
+        let s = c.canonical_text_is_spelled.ensures l.source (plain_tokens l) tree (c.source_is_spelled.ensures l h.spelled) h.derived in
+        (record { source = text_of (canonical tree); tokens = s.lexemes }, record { text = refl; spelled = s.spelled }) in
+    let derives : ShownTextDerives = λ l shown tree h s.
+        c.canonical_text_derives.ensures l.source (plain_tokens l) tree (c.source_is_spelled.ensures l h.spelled) h.derived (plain_tokens shown)
+            (subst (λ z. IsSpelledAs z (plain_tokens shown)) s.text (c.source_is_spelled.ensures shown s.spelled)) in
+    let no_other : ShownTextDerivesNoOther = λ l shown tree other h s o.
+        let d = derives l shown tree h s in
+        d.same ∙ ap bare_tree (c.tree_is_unique.ensures.unique (plain_tokens shown) d.it other d.derived o) in
+    record { has_tokens = has_tokens; derives = derives; no_other = no_other }
