@@ -1,9 +1,12 @@
 -- What is claimed of canonical texts.
-use Rattle.std.specs.Prelude.{◌≡◌, ℕ, List}
+use Rattle.std.specs.Prelude.{◌≡◌, ◌⊎◌, ℕ, List, [], Ok}
 use Rattle.setl_tree.specs.declared.tree.Tree.{Tree}
 use Rattle.setl_tree.specs.Tokens.{Tokens}
 use Rattle.setl_tree.specs.Programs.{Derives}
 use Rattle.setl_tree.specs.Canonical.{canonical}
+use Rattle.setl_grammar.specs.Claims.{IsTooDeep}
+use Rattle.setl_grammar.specs.Reading.{Outcome}
+use Rattle.setl_grammar.specs.ReadPrograms as reading
 use Rattle.setl_token.specs.Lex.{Spelled}
 use Rattle.setl_token.specs.Text.{Lexed}
 use Rattle.setl_show.specs.Text.{text_of}
@@ -63,3 +66,11 @@ ShownTextDerives = (l shown : Lexed) (tree : Tree) → HasTree l tree → IsText
 -- and no other tree
 abbrev pub ShownTextDerivesNoOther : Type 0
 ShownTextDerivesNoOther = (l shown : Lexed) (tree other : Tree) → HasTree l tree → IsTextOf shown tree → Derives (plain_tokens shown) other → SameTree tree other
+
+-- a program was read up to the end of the tokens as the tree, up to lines, or reading ended at a nesting
+abbrev pub IsReadAs : Outcome Tree → Tree → Type 0
+IsReadAs outcome tree = ((it : Tree) × (outcome ≡ Ok (it, [])) × SameTree tree it) ⊎ IsTooDeep outcome
+
+-- however few nestings may open, they are read as the tree, up to lines, or reading ends at a nesting
+abbrev pub ShownTextIsRead : Type 0
+ShownTextIsRead = (l shown : Lexed) (tree : Tree) (room : ℕ) → HasTree l tree → IsTextOf shown tree → IsReadAs (reading.program room (plain_tokens shown)) tree
