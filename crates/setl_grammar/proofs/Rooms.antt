@@ -10,7 +10,7 @@ use Rattle.setl_tree.specs.declared.mode.WrittenMode.{WrittenMode}
 use Rattle.setl_tree.specs.declared.stmt.Place.{Place}
 use Rattle.setl_tree.specs.declared.stmt.Stmt.{Stmt}
 use Rattle.setl_tree.specs.Modes.{attribute}
-use Rattle.setl_tree.specs.Operators.{op_at, relation_op, update_op, quantifier}
+use Rattle.setl_tree.specs.Operators.{relation_op, update_op, quantifier}
 use Rattle.setl_tree.specs.Statements.{from_word}
 use Rattle.setl_tree.specs.Tokens.{Token, Tokens}
 use Rattle.setl_grammar.specs.declared.ahead.Ahead.{Ahead}

@@ -1,5 +1,5 @@
 -- The tokens of a source are legal.
-use Rattle.std.proofs.Common.{◌≡◌, ℕ, ℤ, suc, ◌+◌, ◌-◌, ◌*◌, ◌<◌, ◌≤◌, ◌==◌, pos, Bool, true, false, ◌&&◌, if◌then◌else◌, List, [], ◌∷◌, ◌++◌, length, take, drop, Contains, refl, sym, ap, subst, ◌∙◌, arith, IsTrue}
+use Rattle.std.proofs.Common.{◌≡◌, ℕ, ℤ, ◌==◌, pos, Bool, true, false, ◌&&◌, List, [], ◌∷◌, drop, Contains, refl, sym, ap, subst, ◌∙◌, arith}
 use Rattle.std.proofs.lemmas.Bool.{and_parts}
 use Rattle.std.proofs.lemmas.Bool.Decides.{nat_tests}
 use Rattle.std.proofs.lemmas.List.Folds.{list_all-append}
@@ -7,7 +7,7 @@ use Rattle.std.specs.Char.{is_ascii_alphabetic, to_ascii_lowercase}
 use Rattle.std.specs.List.{list_all}
 use Rattle.setl_tree.specs.declared.kind.Kind.{Kind}
 use Rattle.setl_tree.specs.declared.kind.Kind.TheVariants as k
-use Rattle.setl_tree.specs.Tokens.{Token, Tokens}
+use Rattle.setl_tree.specs.Tokens.{Tokens}
 use Rattle.setl_token.specs.declared.Token.{Token as Lexeme}
 use Rattle.setl_token.specs.declared.TokenKind.{TokenKind}
 use Rattle.setl_token.specs.declared.TokenKind.TheVariants as kind

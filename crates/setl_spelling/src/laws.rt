@@ -3,7 +3,9 @@
 ghost use Rattle.setl_spelling.specs.Claims.{TextIsSpelled, SpellingIsDetermined, CanonicalTextIsSpelled, LinesDoNotMatter, CanonicalTextDerives, SourceIsSpelled, ShownTextHasTokens, ShownTextDerives, ShownTextDerivesNoOther, ShownTextIsRead};
 
 use setl_expressions::string_holds_its_body;
-use setl_grammar::{canonical_tokens_derive, fewer_nestings_refuse_alone, reading_meets_grammar, tree_is_unique};
+use setl_grammar::{
+    canonical_tokens_derive, fewer_nestings_refuse_alone, reading_meets_grammar, tree_is_unique,
+};
 use setl_token::{blank_ends_token, lexing_is_determined, piece_at_is_longest};
 
 /// The text of tokens that bytes can spell is spelled as these tokens.
