@@ -12,3 +12,5 @@ pub mod MovesStatements
 pub mod MovesPrograms
 pub mod Readings
 pub mod Lexemes
+pub mod Alike
+pub mod AlikePrograms

@@ -74,3 +74,11 @@ IsReadAs outcome tree = ((it : Tree) × (outcome ≡ Ok (it, [])) × SameTree tr
 -- however few nestings may open, they are read as the tree, up to lines, or reading ends at a nesting
 abbrev pub ShownTextIsRead : Type 0
 ShownTextIsRead = (l shown : Lexed) (tree : Tree) (room : ℕ) → HasTree l tree → IsTextOf shown tree → IsReadAs (reading.program room (plain_tokens shown)) tree
+
+-- trees that are the same up to lines have the same canonical text
+abbrev pub SameTreesAreShownAlike : Type 0
+SameTreesAreShownAlike = (tree other : Tree) → SameTree tree other → text_of (canonical tree) ≡ text_of (canonical other)
+
+-- each tree that the tokens of the canonical text derive is shown as this text again
+abbrev pub ShownTextStays : Type 0
+ShownTextStays = (l shown : Lexed) (tree other : Tree) → HasTree l tree → IsTextOf shown tree → Derives (plain_tokens shown) other → text_of (canonical other) ≡ shown.source

@@ -1,6 +1,6 @@
 //! Laws between texts and tokens. The functions do nothing: what they ensure is the law.
 
-ghost use Rattle.setl_spelling.specs.Claims.{TextIsSpelled, SpellingIsDetermined, CanonicalTextIsSpelled, LinesDoNotMatter, CanonicalTextDerives, SourceIsSpelled, ShownTextHasTokens, ShownTextDerives, ShownTextDerivesNoOther, ShownTextIsRead};
+ghost use Rattle.setl_spelling.specs.Claims.{TextIsSpelled, SpellingIsDetermined, CanonicalTextIsSpelled, LinesDoNotMatter, CanonicalTextDerives, SourceIsSpelled, ShownTextHasTokens, ShownTextDerives, ShownTextDerivesNoOther, ShownTextIsRead, SameTreesAreShownAlike, ShownTextStays};
 
 use setl_expressions::string_holds_its_body;
 use setl_grammar::{
@@ -53,19 +53,26 @@ pub fn source_is_spelled()
     string_holds_its_body();
 }
 
+/// `show` writes the same text of trees that are the same up to lines.
+pub fn same_trees_are_shown_alike()
+    ensures { SameTreesAreShownAlike }
+{}
+
 /// The text that `show` writes of a tree is read again as this tree, for every tree that the tokens of some source
 /// derive: the text has tokens, these derive the tree, up to lines, and they derive no other. Reading gives the tree,
 /// up to lines, or ends at a token that opens one nesting too many, since the text may need more nestings than the
-/// source, by the parentheses that `show` writes.
+/// source, by the parentheses that `show` writes. Of what is read `show` writes the same text.
 pub fn shown_text_is_read_again()
     ensures has_tokens { ShownTextHasTokens }
     ensures derives { ShownTextDerives }
     ensures no_other { ShownTextDerivesNoOther }
     ensures is_read { ShownTextIsRead }
+    ensures stays { ShownTextStays }
 {
     source_is_spelled();
     canonical_text_is_spelled();
     canonical_text_derives();
+    same_trees_are_shown_alike();
     tree_is_unique();
     reading_meets_grammar();
     fewer_nestings_refuse_alone();

@@ -5,5 +5,6 @@ mod laws;
 
 pub use laws::{
     canonical_text_derives, canonical_text_is_spelled, lines_do_not_matter,
-    shown_text_is_read_again, source_is_spelled, spelling_is_determined, text_is_spelled,
+    same_trees_are_shown_alike, shown_text_is_read_again, source_is_spelled,
+    spelling_is_determined, text_is_spelled,
 };

@@ -1,4 +1,4 @@
-use Rattle.std.proofs.Common.{◌≡◌, ℕ, ◌+◌, [], Ok, refl, ap, subst, ◌∙◌, arith, inl, inr}
+use Rattle.std.proofs.Common.{◌≡◌, ℕ, ◌+◌, [], Ok, refl, sym, ap, subst, ◌∙◌, arith, inl, inr}
 use Rattle.setl_tree.specs.Canonical.{canonical}
 use Rattle.setl_tree.specs.Tokens.{Tokens}
 use Rattle.setl_grammar.specs.ReadPrograms as reading
@@ -6,7 +6,7 @@ use Rattle.setl_show.specs.Text.{text_of}
 use Rattle.setl_expressions.specs.Plain.{plain_tokens}
 use Rattle.setl_spelling.specs.Lines.{bare_tree}
 use Rattle.setl_spelling.specs.Reading.{IsSpelledAs}
-use Rattle.setl_spelling.specs.Claims.{ShownTextHasTokens, ShownTextDerives, ShownTextDerivesNoOther, ShownTextIsRead}
+use Rattle.setl_spelling.specs.Claims.{ShownTextHasTokens, ShownTextDerives, ShownTextDerivesNoOther, ShownTextIsRead, ShownTextStays}
 use Rattle.setl_spelling.proofs.laws.shown_text_is_read_again.Goals as goal
 
 pub returns : goal.returns
@@ -29,4 +29,6 @@ returns c =
       | inl same ↦ inl (d.it, same ∙ read, d.same)
       | inr deep ↦ inr deep
     ] in
-    record { has_tokens = has_tokens; derives = derives; no_other = no_other; is_read = is_read }
+    let stays : ShownTextStays = λ l shown tree other h s o.
+    sym (c.same_trees_are_shown_alike.ensures tree other (no_other l shown tree other h s o)) ∙ sym s.text in
+    record { has_tokens = has_tokens; derives = derives; no_other = no_other; is_read = is_read; stays = stays }
