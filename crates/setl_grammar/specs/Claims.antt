@@ -1,10 +1,12 @@
 -- What is claimed of reading and of the grammar.
-use Rattle.std.specs.Prelude.{◌≡◌, ℕ, ◌≤◌, [], Ok}
+use Rattle.std.specs.Prelude.{◌≡◌, ◌⊎◌, ℕ, ◌≤◌, [], Ok, Err}
 use Rattle.setl_tree.specs.declared.tree.Tree.{Tree}
 use Rattle.setl_tree.specs.Tokens.{Tokens}
 use Rattle.setl_tree.specs.Programs as grammar
 use Rattle.setl_tree.specs.Programs.{Derives}
 use Rattle.setl_tree.specs.Canonical.{canonical}
+use Rattle.setl_grammar.specs.declared.fault.Fault.TheVariants.{Nesting}
+use Rattle.setl_grammar.specs.Reading.{Outcome}
 use Rattle.setl_grammar.specs.ReadPrograms as reading
 
 -- a tree that is read to the end of the tokens is one that they derive with so many nestings
@@ -18,6 +20,14 @@ ReadingIsComplete = (room : ℕ) (toks : Tokens) (tree : Tree) → grammar.progr
 -- what tokens derive with some nestings they derive where more may open
 abbrev pub NestingsMayBeMore : Type 0
 NestingsMayBeMore = (room more : ℕ) (toks : Tokens) (tree : Tree) → room ≤ more → grammar.program room toks tree → grammar.program more toks tree
+
+-- reading ended at a token that opens one nesting too many
+abbrev pub IsTooDeep : {A : Type 0} → Outcome A → Type 0
+IsTooDeep o = (left : ℕ) × (o ≡ Err (Nesting left))
+
+-- where fewer nestings may open, a program is read with the same outcome, or reading ends at a nesting
+abbrev pub FewerNestingsMayOpen : Type 0
+FewerNestingsMayOpen = (room more : ℕ) (toks : Tokens) → room ≤ more → (reading.program room toks ≡ reading.program more toks) ⊎ IsTooDeep (reading.program room toks)
 
 -- tokens derive at most one tree, however many nestings there are
 abbrev pub TreeIsUnique : Type 0

@@ -1,11 +1,17 @@
 //! The laws between reading and the grammar.
 
-ghost use Rattle.setl_grammar.specs.Claims.{ReadingIsSound, ReadingIsComplete, NestingsMayBeMore, TreeIsUnique, CanonicalTokensDerive};
+ghost use Rattle.setl_grammar.specs.Claims.{ReadingIsSound, ReadingIsComplete, NestingsMayBeMore, FewerNestingsMayOpen, TreeIsUnique, CanonicalTokensDerive};
 
 /// Reading finds a program's tree exactly where the tokens derive it with as many nestings as may open.
 pub fn reading_meets_grammar()
     ensures sound { ReadingIsSound }
     ensures complete { ReadingIsComplete }
+{}
+
+/// Where fewer nestings may open, a program is read with the same outcome, or reading ends at a token that opens one
+/// nesting too many. So tokens that derive a tree are refused for their nestings alone.
+pub fn fewer_nestings_refuse_alone()
+    ensures { FewerNestingsMayOpen }
 {}
 
 /// Tokens derive at most one tree, and derive it also where more nestings may open.

@@ -6,5 +6,7 @@ mod claims;
 mod fault;
 
 pub use ahead::Ahead;
-pub use claims::{canonical_tokens_derive, reading_meets_grammar, tree_is_unique};
+pub use claims::{
+    canonical_tokens_derive, fewer_nestings_refuse_alone, reading_meets_grammar, tree_is_unique,
+};
 pub use fault::Fault;

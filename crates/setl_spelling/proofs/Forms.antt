@@ -1,5 +1,5 @@
 -- The bytes of a token are of its form.
-use Rattle.std.proofs.Common.{◌≡◌, ◌≢◌, ℕ, ℤ, zero, suc, ◌+◌, ◌*◌, ◌-◌, ◌/◌, ◌%◌, ◌<◌, ◌≤◌, ◌^◌, pos, Bool, true, false, ◌&&◌, leb, List, [], ◌∷◌, ◌++◌, length, length-append, get_or, Contains, refl, sym, ap, subst, ◌∙◌, arith, IsTrue}
+use Rattle.std.proofs.Common.{◌≡◌, ◌≢◌, ℕ, ℤ, ◌+◌, ◌/◌, ◌%◌, ◌<◌, ◌≤◌, pos, true, false, leb, List, [], ◌∷◌, ◌++◌, length, length-append, get_or, Contains, refl, sym, ap, subst, ◌∙◌, arith}
 use Rattle.std.proofs.lemmas.Bool.{leb-true}
 use Rattle.std.proofs.lemmas.Bool.Decides.{nat_tests}
 use Rattle.std.proofs.lemmas.Fmt.{decimal_by_steps_wide}
@@ -16,12 +16,12 @@ use Rattle.setl_tree.specs.declared.kind.Kind.TheVariants as k
 use Rattle.setl_token.specs.declared.TokenKind.{TokenKind}
 use Rattle.setl_token.specs.declared.TokenKind.TheVariants as is
 use Rattle.setl_token.specs.declared.pieces.PieceKind.TheVariants as piece
-use Rattle.setl_token.specs.Bytes.{is_blank, is_in_word, is_in_line, lower, value_of, with_digit, limit}
-use Rattle.setl_token.specs.Form.{IsForm, IsWordText, IsNumberText, IsStringText, signs}
+use Rattle.setl_token.specs.Bytes.{is_blank, is_in_word, lower, value_of, with_digit, limit}
+use Rattle.setl_token.specs.Form.{IsForm, IsWordText, signs}
 use Rattle.setl_token.specs.Reserved.{words}
 use Rattle.setl_show.specs.Spelling.{spelling, IsSpelled}
-use Rattle.setl_show.specs.Text.{bytes_of, behind, quoted}
-use Rattle.setl_spelling.specs.Reading.{IsLegal, IsNameText, IsNumberValue, Reads}
+use Rattle.setl_show.specs.Text.{bytes_of, behind}
+use Rattle.setl_spelling.specs.Reading.{IsLegal, IsNumberValue, Reads}
 
 -- the sort of a token of this kind with this value
 unfoldable pub sort_of : Kind → ℤ → TokenKind

@@ -1,5 +1,5 @@
 -- The canonical tokens of an expression that legal tokens derive are legal.
-use Rattle.std.proofs.Common.{◌≡◌, ℕ, ℤ, zero, suc, ◌-◌, pos, Bool, true, false, List, [], ◌∷◌, ◌++◌, map, Option, Some, None, refl, sym, ap, subst, ◌∙◌}
+use Rattle.std.proofs.Common.{◌≡◌, ℕ, ℤ, zero, suc, ◌-◌, pos, Bool, true, false, List, [], ◌∷◌, map, Option, Some, None, refl, sym, ap, subst, ◌∙◌}
 use Rattle.setl_tree.specs.declared.kind.Kind.{Kind}
 use Rattle.setl_tree.specs.declared.kind.Kind.TheVariants as k
 use Rattle.setl_tree.specs.declared.expr.BinaryOp.{BinaryOp}
@@ -13,9 +13,7 @@ use Rattle.setl_tree.specs.declared.expr.Prefix.TheVariants as pre
 use Rattle.setl_tree.specs.declared.expr.Quantifier.{Quantifier}
 use Rattle.setl_tree.specs.declared.expr.Quantifier.TheVariants as qu
 use Rattle.setl_tree.specs.declared.expr.Slot.{Slot}
-use Rattle.setl_tree.specs.declared.expr.Slot.TheVariants as sl
 use Rattle.setl_tree.specs.declared.expr.Bound.{Bound}
-use Rattle.setl_tree.specs.declared.expr.Bound.TheVariants as bd
 use Rattle.setl_tree.specs.declared.expr.Expr.{Expr, fold-roll-Expr}
 use Rattle.setl_tree.specs.declared.expr.Expr.TheVariants as e
 use Rattle.setl_tree.specs.declared.expr.Expr.TheOpen.{Expr-F, Inner-F, Iter-F, Selector-F}
@@ -25,14 +23,14 @@ use Rattle.setl_tree.specs.declared.expr.Iter.{Iter, fold-roll-Iter}
 use Rattle.setl_tree.specs.declared.expr.Iter.TheVariants as it
 use Rattle.setl_tree.specs.declared.expr.Selector.{Selector, fold-roll-Selector}
 use Rattle.setl_tree.specs.declared.expr.Selector.TheVariants as se
-use Rattle.setl_tree.specs.Tokens.{Token, Tokens}
+use Rattle.setl_tree.specs.Tokens.{Tokens}
 use Rattle.setl_tree.specs.Lang.{Lang}
 use Rattle.setl_tree.specs.Operators.{constant, chain_of, prefixed, selected}
 use Rattle.setl_tree.specs.Expressions as x
 use Rattle.setl_tree.specs.Canonical.{Shown, shown, tokens_of, sign, bracketed, as_operand, as_primary, operand_tokens, all_prefixes, prefix_tokens, op_kind, relation_kind, fold_kind, quantifier_kind, slot_tokens, pattern_tokens, bound_tokens, expr_tokens, inner_tokens, iter_tokens, selector_tokens, with_commas, behind_commas, expr_step, inner_step, iter_step, selector_step}
 use Rattle.setl_show.specs.Spelling.{IsSpelled}
 use Rattle.setl_spelling.specs.Reading.{IsNameText, IsLegal, AreLegal}
-use Rattle.setl_spelling.proofs.Legal.{none, both, word, named, literal, Each, Maybe, all_legal, behind_legal, commas, Keeps, anything, k_any, k_pure, k_never, k_then, k_or, k_token, k_name, k_one_of, k_many, k_optional, k_past, k_separated, k_listed}
+use Rattle.setl_spelling.proofs.Legal.{none, both, word, named, literal, Each, Maybe, all_legal, commas, Keeps, k_any, k_pure, k_never, k_then, k_or, k_token, k_name, k_one_of, k_many, k_optional, k_past, k_separated, k_listed}
 
 -- ---- operators
 

@@ -1,17 +1,16 @@
 -- The canonical tokens of a program that legal tokens derive are legal.
-use Rattle.std.proofs.Common.{◌≡◌, ℕ, zero, suc, List, [], ◌∷◌, ◌++◌, map, Option, Some, None, refl, sym, ap, subst, ◌∙◌}
+use Rattle.std.proofs.Common.{◌≡◌, ℕ, zero, suc, List, [], ◌∷◌, ◌++◌, Option, Some, None, sym, ap, subst, ◌∙◌}
 use Rattle.std.specs.Prelude.{unwrap_or}
 use Rattle.setl_tree.specs.declared.kind.Kind.{Kind}
 use Rattle.setl_tree.specs.declared.kind.Kind.TheVariants as k
 use Rattle.setl_tree.specs.declared.mode.Attribute.{Attribute}
 use Rattle.setl_tree.specs.declared.mode.Attribute.TheVariants as at
-use Rattle.setl_tree.specs.declared.mode.Core.{Core, fold-Core, fold-roll-Core}
+use Rattle.setl_tree.specs.declared.mode.Core.{Core, fold-roll-Core}
 use Rattle.setl_tree.specs.declared.mode.Core.TheVariants as co
 use Rattle.setl_tree.specs.declared.mode.Core.TheOpen.{Core-F}
 use Rattle.setl_tree.specs.declared.mode.WrittenMode.{WrittenMode, roll-WrittenMode, fold-roll-WrittenMode}
 use Rattle.setl_tree.specs.declared.mode.ReprLine.{ReprLine}
 use Rattle.setl_tree.specs.declared.mode.ReprLine.TheVariants as rl
-use Rattle.setl_tree.specs.declared.stmt.Stmt.{Stmt}
 use Rattle.setl_tree.specs.declared.tree.Declared.{Declared}
 use Rattle.setl_tree.specs.declared.tree.Param.{Param}
 use Rattle.setl_tree.specs.declared.tree.Passing.{Passing}
@@ -24,11 +23,11 @@ use Rattle.setl_tree.specs.Modes as m
 use Rattle.setl_tree.specs.Modes.{simple_core}
 use Rattle.setl_tree.specs.Programs as g
 use Rattle.setl_tree.specs.Programs.{joined, name_behind, Derives}
-use Rattle.setl_tree.specs.Canonical.{sign, attribute_kind, passing_kind, core_step, mode_step, mode_tokens, with_attribute, declared_tokens, colon_tokens, line_tokens, repr_tokens, param_tokens, optional_name, named_ending_tokens, proc_tokens, var_tokens, stmt_tokens, canonical}
+use Rattle.setl_tree.specs.Canonical.{attribute_kind, passing_kind, core_step, mode_step, mode_tokens, with_attribute, declared_tokens, colon_tokens, line_tokens, repr_tokens, param_tokens, optional_name, named_ending_tokens, proc_tokens, var_tokens, stmt_tokens, canonical}
 use Rattle.setl_show.specs.Spelling.{IsSpelled}
 use Rattle.setl_show.specs.Parts.{core_tokens}
 use Rattle.setl_spelling.specs.Reading.{IsNameText, AreLegal}
-use Rattle.setl_spelling.proofs.Legal.{none, both, word, word_at, named, named_at, Each, Maybe, all_legal, commas, Keeps, anything, k_any, k_pure, k_never, k_then, k_or, k_token, k_name, k_one_of, k_many, k_optional, k_past, k_separated, k_listed, k_lined, name_of}
+use Rattle.setl_spelling.proofs.Legal.{none, both, word, word_at, named, named_at, Each, Maybe, all_legal, commas, Keeps, k_any, k_pure, k_never, k_then, k_or, k_token, k_name, k_one_of, k_many, k_optional, k_past, k_separated, k_listed, k_lined, name_of}
 use Rattle.setl_spelling.proofs.LegalStatements.{GoodStmt, ends, stmts_keeps}
 
 -- ---- modes

@@ -1,31 +1,29 @@
 -- The canonical tokens of statements that legal tokens derive are legal.
-use Rattle.std.proofs.Common.{◌≡◌, ℕ, zero, suc, ◌-◌, List, [], ◌∷◌, ◌++◌, map, Option, Some, None, refl, sym, ap, subst, ◌∙◌}
+use Rattle.std.proofs.Common.{◌≡◌, ℕ, zero, suc, ◌-◌, List, [], ◌∷◌, ◌++◌, map, Option, Some, None, sym, ap, subst, ◌∙◌}
 use Rattle.setl_tree.specs.declared.kind.Kind.{Kind}
 use Rattle.setl_tree.specs.declared.kind.Kind.TheVariants as k
 use Rattle.setl_tree.specs.declared.expr.BinaryOp.{BinaryOp}
 use Rattle.setl_tree.specs.declared.expr.Expr.{Expr}
 use Rattle.setl_tree.specs.declared.expr.Iter.{Iter}
-use Rattle.setl_tree.specs.declared.expr.Selector.{Selector}
 use Rattle.setl_tree.specs.declared.expr.Slot.{Slot}
 use Rattle.setl_tree.specs.declared.stmt.Place.{Place}
 use Rattle.setl_tree.specs.declared.stmt.FromEnd.{FromEnd}
 use Rattle.setl_tree.specs.declared.stmt.FromEnd.TheVariants as fr
-use Rattle.setl_tree.specs.declared.stmt.Branch.{Branch, roll-Branch, fold-Branch, fold-roll-Branch}
+use Rattle.setl_tree.specs.declared.stmt.Branch.{Branch, roll-Branch, fold-roll-Branch}
 use Rattle.setl_tree.specs.declared.stmt.Stmt.{Stmt, roll-Stmt, fold-roll-Stmt}
-use Rattle.setl_tree.specs.declared.stmt.StmtKind.{StmtKind, fold-StmtKind, fold-roll-StmtKind}
+use Rattle.setl_tree.specs.declared.stmt.StmtKind.{StmtKind, fold-roll-StmtKind}
 use Rattle.setl_tree.specs.declared.stmt.StmtKind.TheVariants as st
 use Rattle.setl_tree.specs.declared.stmt.StmtKind.TheOpen.{StmtKind-F}
 use Rattle.setl_tree.specs.Tokens.{Tokens}
 use Rattle.setl_tree.specs.Lang.{Lang}
-use Rattle.setl_tree.specs.Operators.{update_op}
 use Rattle.setl_tree.specs.Expressions.{nested}
 use Rattle.setl_tree.specs.Statements as g
 use Rattle.setl_tree.specs.Statements.{simple}
-use Rattle.setl_tree.specs.Canonical.{sign, all_of, with_commas, from_kind, place_tokens, expr_tokens, iter_tokens, selector_tokens, slot_tokens, pattern_tokens, in_round, elseif_tokens, ending_tokens, bar_tokens, result_tokens, single, kind_step, branch_step, stmt_step, stmt_tokens}
+use Rattle.setl_tree.specs.Canonical.{sign, all_of, with_commas, from_kind, place_tokens, expr_tokens, iter_tokens, selector_tokens, slot_tokens, in_round, elseif_tokens, ending_tokens, bar_tokens, result_tokens, single, kind_step, branch_step, stmt_step, stmt_tokens}
 use Rattle.setl_show.specs.Spelling.{IsSpelled}
 use Rattle.setl_show.specs.Parts.{kind_tokens, branch_tokens}
 use Rattle.setl_spelling.specs.Reading.{IsNameText, AreLegal}
-use Rattle.setl_spelling.proofs.Legal.{none, both, front_of, back_of, word, word_at, named, named_at, Each, Maybe, all_legal, commas, Keeps, anything, k_any, k_pure, k_never, k_then, k_or, k_name, k_one_of, k_many, k_optional, k_past, k_separated, k_listed, k_lined}
+use Rattle.setl_spelling.proofs.Legal.{none, both, front_of, back_of, word, word_at, named, named_at, Each, Maybe, all_legal, commas, Keeps, k_any, k_pure, k_never, k_then, k_or, k_name, k_one_of, k_many, k_optional, k_past, k_separated, k_listed, k_lined}
 use Rattle.setl_spelling.proofs.LegalExpressions.{Good, GoodIter, GoodSelector, GoodPattern, op_word, selector_round, selector_braces, pattern_keeps, iters_keeps, nested_keeps, expr_keeps}
 
 -- ---- what has legal tokens

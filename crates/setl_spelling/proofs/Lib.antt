@@ -4,9 +4,13 @@ pub mod Legal
 pub mod LegalExpressions
 pub mod LegalStatements
 pub mod LegalPrograms
+pub mod Formed
 pub mod Sources
 pub mod Moves
 pub mod MovesExpressions
 pub mod MovesStatements
 pub mod MovesPrograms
 pub mod Readings
+pub mod Lexemes
+pub mod Alike
+pub mod AlikePrograms

@@ -1,14 +1,13 @@
 -- Tokens with other lines spell the same expressions.
-use Rattle.std.proofs.Common.{◌≡◌, ℕ, zero, suc, ◌-◌, refl, ap}
+use Rattle.std.proofs.Common.{ℕ, zero, suc, ◌-◌, refl, ap}
 use Rattle.setl_tree.specs.declared.kind.Kind.TheVariants as k
-use Rattle.setl_tree.specs.declared.expr.Slot.{Slot}
 use Rattle.setl_tree.specs.declared.expr.Expr.{Expr}
 use Rattle.setl_tree.specs.declared.expr.Expr.TheVariants as e
 use Rattle.setl_tree.specs.Tokens.{Tokens}
 use Rattle.setl_tree.specs.Lang.{Lang}
 use Rattle.setl_tree.specs.Operators.{op_at, relation_op, not_sign, prefix_op, fold_sign, quantifier, constant}
 use Rattle.setl_tree.specs.Expressions as x
-use Rattle.setl_spelling.proofs.Moves.{Moves, Eq, any_two, m_pure, m_never, m_then, s_then, m_past, m_or, m_token, m_one_of, m_opening, m_opening_one_of, m_name, s_many, s_optional, s_separated, s_listed}
+use Rattle.setl_spelling.proofs.Moves.{Moves, Eq, m_pure, m_never, m_then, s_then, m_past, m_or, m_token, m_one_of, m_opening, m_opening_one_of, m_name, s_many, s_optional, s_separated, s_listed}
 
 -- tokens with other lines spell the same
 abbrev pub Stays : {A : Type 0} → (Tokens → A → Type 0) → Type 0

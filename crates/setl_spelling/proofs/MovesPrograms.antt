@@ -1,7 +1,6 @@
 -- Tokens with other lines spell the same program but for lines.
-use Rattle.std.proofs.Common.{◌≡◌, ℕ, zero, suc, List, [], ◌∷◌, ◌++◌, map, Option, Some, None, refl, sym, ap, ◌∙◌}
+use Rattle.std.proofs.Common.{◌≡◌, ℕ, zero, suc, List, [], ◌∷◌, ◌++◌, Option, Some, None, refl, sym, ap, ◌∙◌}
 use Rattle.std.specs.Prelude.{unwrap_or}
-use Rattle.setl_tree.specs.declared.kind.Kind.{Kind}
 use Rattle.setl_tree.specs.declared.kind.Kind.TheVariants as k
 use Rattle.setl_tree.specs.declared.mode.Attribute.{Attribute}
 use Rattle.setl_tree.specs.declared.mode.Core.{Core, roll-Core, fold-Core, fold-roll-Core}
@@ -10,7 +9,6 @@ use Rattle.setl_tree.specs.declared.mode.Core.TheOpen.{Core-F}
 use Rattle.setl_tree.specs.declared.mode.WrittenMode.{WrittenMode, roll-WrittenMode, fold-roll-WrittenMode}
 use Rattle.setl_tree.specs.declared.mode.ReprLine.{ReprLine}
 use Rattle.setl_tree.specs.declared.mode.ReprLine.TheVariants as rl
-use Rattle.setl_tree.specs.declared.stmt.Stmt.{Stmt}
 use Rattle.setl_tree.specs.declared.tree.Declared.{Declared}
 use Rattle.setl_tree.specs.declared.tree.Param.{Param}
 use Rattle.setl_tree.specs.declared.tree.Passing.{Passing}
@@ -23,8 +21,8 @@ use Rattle.setl_tree.specs.Modes.{attribute, simple_core}
 use Rattle.setl_tree.specs.Programs as g
 use Rattle.setl_tree.specs.Programs.{joined, name_behind, passing, Derives}
 use Rattle.setl_spelling.specs.Claims.{DerivesSame}
-use Rattle.setl_spelling.specs.Lines.{core_layer, mode_layer, bare_stmt, bare_mode, bare_declared, bare_line, bare_param, bare_proc, bare_tree, SameTree, SameTokens}
-use Rattle.setl_spelling.proofs.Moves.{Moves, Moved, Eq, any_two, EachTwo, MaybeTwo, maps_same, m_as, m_weak, m_pure, m_never, m_then, s_then, m_past, m_or, m_token, m_one_of, m_opening, m_name, m_many, m_optional, m_separated, m_listed, m_lined, s_many, s_optional, s_separated, s_listed}
+use Rattle.setl_spelling.specs.Lines.{core_layer, mode_layer, bare_stmt, bare_mode, bare_declared, bare_line, bare_param, bare_proc, SameTree, SameTokens}
+use Rattle.setl_spelling.proofs.Moves.{Moves, any_two, EachTwo, MaybeTwo, maps_same, m_as, m_weak, m_pure, m_never, m_then, s_then, m_past, m_or, m_token, m_one_of, m_opening, m_name, m_many, m_optional, m_separated, m_listed, m_lined, s_optional}
 use Rattle.setl_spelling.proofs.MovesExpressions.{Stays}
 use Rattle.setl_spelling.proofs.MovesStatements.{SameStmt, ending_moves, stmts_move}
 

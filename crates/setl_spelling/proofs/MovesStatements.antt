@@ -15,7 +15,7 @@ use Rattle.setl_tree.specs.Expressions.{nested}
 use Rattle.setl_tree.specs.Statements as g
 use Rattle.setl_tree.specs.Statements.{from_word, simple}
 use Rattle.setl_spelling.specs.Lines.{stmt_layer, bare_stmt, bare_kind, bare_branch}
-use Rattle.setl_spelling.proofs.Moves.{Moves, Eq, any_two, EachTwo, MaybeTwo, maps_same, m_as, m_weak, m_pure, m_never, m_then, s_then, m_past, m_or, m_token, m_one_of, m_opening, m_name, m_many, m_optional, m_lined, s_many, s_optional, s_separated, s_listed}
+use Rattle.setl_spelling.proofs.Moves.{Moves, any_two, EachTwo, MaybeTwo, maps_same, m_weak, m_pure, m_never, m_then, s_then, m_past, m_or, m_token, m_one_of, m_opening, m_name, m_many, m_optional, m_lined, s_many, s_optional, s_separated, s_listed}
 use Rattle.setl_spelling.proofs.MovesExpressions.{Stays, pattern_stays, iters_stay, nested_stay, expr_stays}
 
 -- ---- the same but for lines

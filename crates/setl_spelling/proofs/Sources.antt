@@ -1,27 +1,25 @@
 -- The tokens of a source are legal.
-use Rattle.std.proofs.Common.{◌≡◌, ℕ, ℤ, suc, ◌+◌, ◌-◌, ◌*◌, ◌<◌, ◌≤◌, ◌==◌, pos, Bool, true, false, ◌&&◌, if◌then◌else◌, List, [], ◌∷◌, ◌++◌, length, take, drop, Contains, refl, sym, ap, subst, ◌∙◌, arith, IsTrue}
+use Rattle.std.proofs.Common.{◌≡◌, ℕ, ℤ, ◌==◌, pos, Bool, true, false, ◌&&◌, List, [], ◌∷◌, drop, Contains, refl, sym, ap, subst, ◌∙◌, arith}
 use Rattle.std.proofs.lemmas.Bool.{and_parts}
 use Rattle.std.proofs.lemmas.Bool.Decides.{nat_tests}
-use Rattle.std.proofs.lemmas.List.{drop-drop}
 use Rattle.std.proofs.lemmas.List.Folds.{list_all-append}
 use Rattle.std.specs.Char.{is_ascii_alphabetic, to_ascii_lowercase}
 use Rattle.std.specs.List.{list_all}
 use Rattle.setl_tree.specs.declared.kind.Kind.{Kind}
 use Rattle.setl_tree.specs.declared.kind.Kind.TheVariants as k
-use Rattle.setl_tree.specs.Tokens.{Token, Tokens}
+use Rattle.setl_tree.specs.Tokens.{Tokens}
 use Rattle.setl_token.specs.declared.Token.{Token as Lexeme}
 use Rattle.setl_token.specs.declared.TokenKind.{TokenKind}
 use Rattle.setl_token.specs.declared.TokenKind.TheVariants as kind
-use Rattle.setl_token.specs.declared.pieces.PieceKind.{PieceKind}
 use Rattle.setl_token.specs.declared.pieces.PieceKind.TheVariants as is
-use Rattle.setl_token.specs.declared.pieces.Piece.{Piece}
 use Rattle.setl_token.specs.Bytes.{is_in_word, is_in_line, lower, value_of}
 use Rattle.setl_token.specs.Form.{IsForm, IsWordText, IsStringText, doubled}
-use Rattle.setl_token.specs.Lex.{CutsInto, token_of, tokens_of}
 use Rattle.setl_token.specs.Reserved.{words}
+use Rattle.setl_token.specs.Text.{token_text}
 use Rattle.setl_show.specs.Spelling.{IsSpelled}
 use Rattle.setl_show.specs.Text.{quoted}
 use Rattle.setl_spelling.specs.Reading.{Reads, AreRead, IsSpelledAs, IsNameText, IsNumberValue, IsLegal, AllLegal, AreLegal}
+use Rattle.setl_spelling.proofs.Formed.{AllFormed, all_formed}
 
 -- ---- one token
 
@@ -103,30 +101,13 @@ token_legal kind.Str bytes back K text value form r = as_kind k.StringLiteral K 
 
 -- ---- all tokens
 
-abbrev Later : List ℕ → List Lexeme → Type 0
-Later source others = (toks : Tokens) → AreRead source others toks → AllLegal toks
-
-one_token : (source z : List ℕ) (at len : ℕ) (s : TokenKind) (others : List Lexeme) → z ≡ drop at source → IsForm (is.Token s) (take len z) (drop len z) → Later source others → Later source (token_of source at len (is.Token s) others)
-one_token source z at len s others e form later [] r = tt
-one_token source z at len s others e form later (t ∷ toks) r =
-    let length_is : at + len - at ≡ len = omega arith in
-    let text : take (at + len - at) (drop at source) ≡ take len z = rw (length_is, e) refl in
-    (token_legal s (take len z) (drop len z) t.kind t.text t.value form (subst (λ (y : List ℕ). Reads s y t.kind t.text t.value) text r.0), later toks r.1)
-
-one_piece : (source z : List ℕ) (at len : ℕ) (p : PieceKind) (others : List Lexeme) → z ≡ drop at source → IsForm p (take len z) (drop len z) → Later source others → Later source (token_of source at len p others)
-one_piece source z at len is.Blank others e form later = later
-one_piece source z at len is.Comment others e form later = later
-one_piece source z at len (is.Token s) others e form later = one_token source z at len s others e form later
-
-no_tokens : (source : List ℕ) → Later source []
-no_tokens source [] r = tt
-no_tokens source (t ∷ toks) r = absurd r
-
-pieces_legal : (source z : List ℕ) (at : ℕ) (ps : List Piece) → z ≡ drop at source → CutsInto z ps [] → Later source (tokens_of source at ps)
-pieces_legal source z at [] e h = no_tokens source
-pieces_legal source z at (p ∷ ps) e h = one_piece source z at p.len p.kind (tokens_of source (at + p.len) ps) e h.1.begins.1
-    (pieces_legal source (drop p.len z) (at + p.len) ps (ap (drop p.len) e ∙ drop-drop p.len at source) h.2)
+all_legal : (source : List ℕ) (ls : List Lexeme) (toks : Tokens) → AllFormed source ls → AreRead source ls toks → AllLegal toks
+all_legal source [] [] form r = tt
+all_legal source [] (t ∷ toks) form r = absurd r
+all_legal source (l ∷ ls) [] form r = absurd r
+all_legal source (l ∷ ls) (t ∷ toks) form r =
+    (token_legal l.kind (token_text source l) (drop l.to source) t.kind t.text t.value form.0.form r.0, all_legal source ls toks form.1 r.1)
 
 -- what the tokens of a source read as
 pub source_legal : (source : List ℕ) (toks : Tokens) → IsSpelledAs source toks → AreLegal toks
-source_legal source toks s = record { all = pieces_legal source source 0 s.spelled.pieces refl s.spelled.all toks (subst (λ (ls : List Lexeme). AreRead source ls toks) (sym s.spelled.among) s.read) }
+source_legal source toks s = record { all = all_legal source s.lexemes toks (all_formed source s.lexemes s.spelled) s.read }

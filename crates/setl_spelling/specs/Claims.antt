@@ -1,10 +1,16 @@
 -- What is claimed of canonical texts.
-use Rattle.std.specs.Prelude.{ℕ, List}
+use Rattle.std.specs.Prelude.{◌≡◌, ◌⊎◌, ℕ, List, [], Ok}
 use Rattle.setl_tree.specs.declared.tree.Tree.{Tree}
 use Rattle.setl_tree.specs.Tokens.{Tokens}
 use Rattle.setl_tree.specs.Programs.{Derives}
 use Rattle.setl_tree.specs.Canonical.{canonical}
+use Rattle.setl_grammar.specs.Claims.{IsTooDeep}
+use Rattle.setl_grammar.specs.Reading.{Outcome}
+use Rattle.setl_grammar.specs.ReadPrograms as reading
+use Rattle.setl_token.specs.Lex.{Spelled}
+use Rattle.setl_token.specs.Text.{Lexed}
 use Rattle.setl_show.specs.Text.{text_of}
+use Rattle.setl_expressions.specs.Plain.{plain_tokens}
 use Rattle.setl_spelling.specs.Lines.{SameTree, SameTokens}
 use Rattle.setl_spelling.specs.Reading.{IsSpelledAs, AreLegal}
 
@@ -34,3 +40,45 @@ LinesDoNotMatter = (toks other : Tokens) (tree : Tree) → SameTokens toks other
 abbrev pub CanonicalTextDerives : Type 0
 CanonicalTextDerives = (source : List ℕ) (toks : Tokens) (tree : Tree) → IsSpelledAs source toks → Derives toks tree
     → (shown : Tokens) → IsSpelledAs (text_of (canonical tree)) shown → DerivesSame shown tree
+
+-- the tokens of a source as plain data are what its bytes read as
+abbrev pub SourceIsSpelled : Type 0
+SourceIsSpelled = (l : Lexed) → Spelled l.source l.tokens → IsSpelledAs l.source (plain_tokens l)
+
+-- a source with its tokens, which derive a tree
+pub record HasTree (l : Lexed) (tree : Tree) : Type 0 where
+  pub spelled : Spelled l.source l.tokens
+  pub derived : Derives (plain_tokens l) tree
+
+-- the canonical text of a tree, with its tokens
+pub record IsTextOf (l : Lexed) (tree : Tree) : Type 0 where
+  pub text : l.source ≡ text_of (canonical tree)
+  pub spelled : Spelled l.source l.tokens
+
+-- where the tokens of some source derive a tree, its canonical text has tokens
+abbrev pub ShownTextHasTokens : Type 0
+ShownTextHasTokens = (l : Lexed) (tree : Tree) → HasTree l tree → (shown : Lexed) × IsTextOf shown tree
+
+-- and these derive the tree, up to lines
+abbrev pub ShownTextDerives : Type 0
+ShownTextDerives = (l shown : Lexed) (tree : Tree) → HasTree l tree → IsTextOf shown tree → DerivesSame (plain_tokens shown) tree
+
+-- and no other tree
+abbrev pub ShownTextDerivesNoOther : Type 0
+ShownTextDerivesNoOther = (l shown : Lexed) (tree other : Tree) → HasTree l tree → IsTextOf shown tree → Derives (plain_tokens shown) other → SameTree tree other
+
+-- a program was read up to the end of the tokens as the tree, up to lines, or reading ended at a nesting
+abbrev pub IsReadAs : Outcome Tree → Tree → Type 0
+IsReadAs outcome tree = ((it : Tree) × (outcome ≡ Ok (it, [])) × SameTree tree it) ⊎ IsTooDeep outcome
+
+-- however few nestings may open, they are read as the tree, up to lines, or reading ends at a nesting
+abbrev pub ShownTextIsRead : Type 0
+ShownTextIsRead = (l shown : Lexed) (tree : Tree) (room : ℕ) → HasTree l tree → IsTextOf shown tree → IsReadAs (reading.program room (plain_tokens shown)) tree
+
+-- trees that are the same up to lines have the same canonical text
+abbrev pub SameTreesAreShownAlike : Type 0
+SameTreesAreShownAlike = (tree other : Tree) → SameTree tree other → text_of (canonical tree) ≡ text_of (canonical other)
+
+-- each tree that the tokens of the canonical text derive is shown as this text again
+abbrev pub ShownTextStays : Type 0
+ShownTextStays = (l shown : Lexed) (tree other : Tree) → HasTree l tree → IsTextOf shown tree → Derives (plain_tokens shown) other → text_of (canonical other) ≡ shown.source

@@ -1,5 +1,5 @@
 -- Trees and tokens whatever their lines.
-use Rattle.std.specs.Prelude.{◌≡◌, ℕ, List, [], ◌∷◌, map, option_map}
+use Rattle.std.specs.Prelude.{◌≡◌, [], ◌∷◌, map, option_map}
 use Rattle.setl_tree.specs.declared.mode.Core.{Core, roll-Core}
 use Rattle.setl_tree.specs.declared.mode.Core.TheVariants as co
 use Rattle.setl_tree.specs.declared.mode.Core.TheOpen.{Core-F, WrittenMode-F}
@@ -9,7 +9,7 @@ use Rattle.setl_tree.specs.declared.mode.ReprLine.TheVariants as rl
 use Rattle.setl_tree.specs.declared.stmt.Branch.{Branch, roll-Branch, fold-Branch}
 use Rattle.setl_tree.specs.declared.stmt.Stmt.{Stmt, roll-Stmt, fold-Stmt}
 use Rattle.setl_tree.specs.declared.stmt.StmtKind.{StmtKind, roll-StmtKind, fold-StmtKind}
-use Rattle.setl_tree.specs.declared.stmt.StmtKind.TheOpen.{StmtKind-F, Branch-F, Stmt-F}
+use Rattle.setl_tree.specs.declared.stmt.StmtKind.TheOpen.{Stmt-F}
 use Rattle.setl_tree.specs.declared.tree.Declared.{Declared}
 use Rattle.setl_tree.specs.declared.tree.Param.{Param}
 use Rattle.setl_tree.specs.declared.tree.Proc.{Proc}

@@ -1,9 +1,9 @@
 -- What a token of a source reads as, whatever its line.
 use Rattle.std.specs.Prelude.{◌≡◌, ◌≤◌, ℕ, ℤ, pos, IsTrue, List, [], ◌∷◌, Contains}
-use Rattle.std.specs.List.{list_all, AllByRecursion}
+use Rattle.std.specs.List.{list_all}
 use Rattle.setl_tree.specs.declared.kind.Kind.{Kind}
 use Rattle.setl_tree.specs.declared.kind.Kind.TheVariants as k
-use Rattle.setl_tree.specs.Tokens.{Token, Tokens}
+use Rattle.setl_tree.specs.Tokens.{Tokens}
 use Rattle.setl_token.specs.declared.Token.{Token as Lexeme}
 use Rattle.setl_token.specs.declared.TokenKind.{TokenKind}
 use Rattle.setl_token.specs.declared.TokenKind.TheVariants as is

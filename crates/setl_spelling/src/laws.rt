@@ -1,8 +1,11 @@
 //! Laws between texts and tokens. The functions do nothing: what they ensure is the law.
 
-ghost use Rattle.setl_spelling.specs.Claims.{TextIsSpelled, SpellingIsDetermined, CanonicalTextIsSpelled, LinesDoNotMatter, CanonicalTextDerives};
+ghost use Rattle.setl_spelling.specs.Claims.{TextIsSpelled, SpellingIsDetermined, CanonicalTextIsSpelled, LinesDoNotMatter, CanonicalTextDerives, SourceIsSpelled, ShownTextHasTokens, ShownTextDerives, ShownTextDerivesNoOther, ShownTextIsRead, SameTreesAreShownAlike, ShownTextStays};
 
-use setl_grammar::canonical_tokens_derive;
+use setl_expressions::string_holds_its_body;
+use setl_grammar::{
+    canonical_tokens_derive, fewer_nestings_refuse_alone, reading_meets_grammar, tree_is_unique,
+};
 use setl_token::{blank_ends_token, lexing_is_determined, piece_at_is_longest};
 
 /// The text of tokens that bytes can spell is spelled as these tokens.
@@ -41,4 +44,36 @@ pub fn canonical_text_derives()
     canonical_text_is_spelled();
     spelling_is_determined();
     lines_do_not_matter();
+}
+
+/// The tokens of a source, as the plain data of which the grammar speaks, are what its bytes read as.
+pub fn source_is_spelled()
+    ensures { SourceIsSpelled }
+{
+    string_holds_its_body();
+}
+
+/// `show` writes the same text of trees that are the same up to lines.
+pub fn same_trees_are_shown_alike()
+    ensures { SameTreesAreShownAlike }
+{}
+
+/// The text that `show` writes of a tree is read again as this tree, for every tree that the tokens of some source
+/// derive: the text has tokens, these derive the tree, up to lines, and they derive no other. Reading gives the tree,
+/// up to lines, or ends at a token that opens one nesting too many, since the text may need more nestings than the
+/// source, by the parentheses that `show` writes. Of what is read `show` writes the same text.
+pub fn shown_text_is_read_again()
+    ensures has_tokens { ShownTextHasTokens }
+    ensures derives { ShownTextDerives }
+    ensures no_other { ShownTextDerivesNoOther }
+    ensures is_read { ShownTextIsRead }
+    ensures stays { ShownTextStays }
+{
+    source_is_spelled();
+    canonical_text_is_spelled();
+    canonical_text_derives();
+    same_trees_are_shown_alike();
+    tree_is_unique();
+    reading_meets_grammar();
+    fewer_nestings_refuse_alone();
 }

@@ -1,9 +1,10 @@
-//! The laws between the canonical text of a tree and its canonical tokens.
+//! The laws between sources, their tokens as plain data, trees and their canonical texts.
 #![tactic(auto)]
 
 mod laws;
 
 pub use laws::{
-    canonical_text_derives, canonical_text_is_spelled, lines_do_not_matter, spelling_is_determined,
-    text_is_spelled,
+    canonical_text_derives, canonical_text_is_spelled, lines_do_not_matter,
+    same_trees_are_shown_alike, shown_text_is_read_again, source_is_spelled,
+    spelling_is_determined, text_is_spelled,
 };
