@@ -1,170 +1,225 @@
-//! Each call once with ample memory, on {[1 2] [1 3] [2 5]}, [4 om 6] and 'abc'.
-
-ghost use Rattle.std.specs.Prelude.{◌≡◌, All};
+//! Each call with ample memory, on {[1 2] [1 3] [2 5]}, [4 om 6] and 'abc'.
 
 use crate::{
     arb, domain, get, images, less, lessf, put, put_images, range, size, slice, tail, with,
 };
-use setl_map::{Answer, OpFault};
+use setl_map::{Answer, OpFault, Operator};
 use setl_value::{SetBody, Text, TupleBody, Value};
 use std::alloc::Global;
 use std::process::Abort;
 use std::test::Fail;
 
-const MAP: [(i128, i128); 3] = [(2, 5), (1, 3), (1, 2)];
+// Data to make a value of. Letters are those of 'abc' at two places.
+#[derive(Clone, Copy)]
+enum Data {
+    Om,
+    Int(i128),
+    Letters(i128, i128),
+    Set(&'static [i128]),
+    Map(&'static [(i128, i128)]),
+    Tuple(&'static [Option<i128>]),
+}
 
-const PARTS: [Option<i128>; 3] = [Some(4), None, Some(6)];
+use Data::{Int, Letters, Map, Om, Set, Tuple};
+
+const F: Data = Map(&[(2, 5), (1, 3), (1, 2)]);
+
+const T: Data = Tuple(&[Some(4), None, Some(6)]);
+
+const S: Data = Letters(1, 3);
+
+// The value of these data, None for `om`.
+fn made(alloc: Global, data: Data) -> Result<Option<Value>, Fail> {
+    Ok(Some(match data {
+        Om => return Ok(None),
+        Int(i) => Value::Int(i),
+        Letters(i, j) => Value::Text(letters(alloc, i, j)?),
+        Set(items) => Value::Set(set(alloc, items)?),
+        Map(items) => Value::Set(map(alloc, items)?),
+        Tuple(parts) => Value::Tuple(tuple(alloc, parts)?),
+    }))
+}
+
+// The letters of 'abc' at places `i` to `j`.
+fn letters(alloc: Global, i: i128, j: i128) -> Result<Text, Fail> {
+    let abc = Text::of(alloc, b"abc")?;
+    Ok(setl_scalar::slice(alloc, &abc, i, j)?)
+}
 
 // The set of these integers.
-fn set(alloc: Global, items: &[i128]) -> Result<Value, Fail> {
+fn set(alloc: Global, items: &[i128]) -> Result<SetBody, Fail> {
     let mut s = SetBody::new(alloc)?;
     for i in items {
         setl_set::with(alloc, &mut s, Value::Int(*i))?;
     }
-    Ok(Value::Set(s))
+    Ok(s)
 }
 
 // The set of these pairs of integers.
-fn map(alloc: Global, items: &[(i128, i128)]) -> Result<Value, Fail> {
+fn map(alloc: Global, items: &[(i128, i128)]) -> Result<SetBody, Fail> {
     let mut s = SetBody::new(alloc)?;
     for (x, y) in items {
-        setl_set::with(alloc, &mut s, tuple(alloc, &[Some(*x), Some(*y)])?)?;
+        let pair = tuple(alloc, &[Some(*x), Some(*y)])?;
+        setl_set::with(alloc, &mut s, Value::Tuple(pair))?;
     }
-    Ok(Value::Set(s))
+    Ok(s)
 }
 
 // The tuple of these integers and `om`.
-fn tuple(alloc: Global, parts: &[Option<i128>]) -> Result<Value, Fail> {
+fn tuple(alloc: Global, parts: &[Option<i128>]) -> Result<TupleBody, Fail> {
     let mut t = TupleBody::of(alloc, Vec::new(alloc))?;
     for (i, part) in parts.iter().enumerate() {
         setl_tuple::put(alloc, &mut t, i as i128 + 1, part.map(Value::Int))?;
     }
-    Ok(Value::Tuple(t))
+    Ok(t)
 }
 
-// A string.
-fn string(alloc: Global, bytes: &[u8]) -> Result<Value, Fail>
-    requires { All (λ b. (b ≡ 10) → ⊥) bytes.now }
-{
-    Ok(Value::Text(Text::of(alloc, bytes)?))
-}
-
-fn int(i: i128) -> Value {
-    Value::Int(i)
-}
-
-// The answer is this value, or `om`, with this charge.
-fn gives(rt: &impl Abort, answer: Result<Answer, OpFault>, want: Option<Value>, charged: u64) {
-    match answer {
-        Ok(a) => {
-            assert!(rt; a.value == want);
-            assert_eq!(rt; a.charged, charged);
-        }
-        Err(_) => assert!(rt; false, "a fault"),
+// What an operator on one value gives.
+fn on_one(alloc: Global, what: Operator, v: &Value) -> Result<Answer, OpFault> {
+    match what {
+        Operator::Size => size(v),
+        Operator::Arb => arb(v),
+        Operator::Domain => domain(alloc, v),
+        Operator::Range => range(alloc, v),
+        _ => Err(OpFault::Kind),
     }
 }
 
-#[test]
-fn sizes_and_least_members(rt: HostRuntime) -> Result<(), Fail> {
-    let alloc = rt.alloc();
-    gives(&rt, size(&set(alloc, &[3, 1, 2])?), Some(int(3)), 0);
-    gives(&rt, size(&tuple(alloc, &PARTS)?), Some(int(3)), 0);
-    gives(&rt, size(&string(alloc, b"abc")?), Some(int(3)), 0);
-    gives(&rt, arb(&set(alloc, &[3, 1, 2])?), Some(int(1)), 0);
-    gives(&rt, arb(&set(alloc, &[])?), None, 0);
+// What an operator on a whole and a value gives.
+fn on_two(alloc: Global, what: Operator, whole: Value, x: Value) -> Result<Answer, OpFault> {
+    match what {
+        Operator::With => with(alloc, whole, x),
+        Operator::Less => less(whole, &x),
+        Operator::Lessf => lessf(alloc, whole, &x),
+        Operator::Get => get(alloc, &whole, &x),
+        Operator::Images => images(alloc, &whole, &x),
+        Operator::Tail => tail(alloc, &whole, &x),
+        _ => Err(OpFault::Kind),
+    }
+}
+
+// What an operator on a whole, a value and a value or `om` gives, with two turns.
+fn on_three(
+    alloc: Global,
+    what: Operator,
+    whole: Value,
+    x: Value,
+    y: Option<Value>,
+) -> Result<Answer, OpFault> {
+    match (what, y) {
+        (Operator::Put, y) => put(alloc, whole, x, y, 2),
+        (Operator::PutImages, Some(s)) => put_images(alloc, whole, x, &s),
+        (Operator::Slice, Some(j)) => slice(alloc, &whole, &x, &j),
+        _ => Err(OpFault::Kind),
+    }
+}
+
+// What an operator on these data gives.
+fn answered(alloc: Global, what: Operator, a: Data, b: Data, c: Data) -> Result<Answer, Fail> {
+    let Some(whole) = made(alloc, a)? else {
+        return Err(OpFault::Om.into());
+    };
+    Ok(match made(alloc, b)? {
+        None => on_one(alloc, what, &whole)?,
+        Some(x) => match what {
+            Operator::Put | Operator::PutImages | Operator::Slice => {
+                on_three(alloc, what, whole, x, made(alloc, c)?)?
+            }
+            _ => on_two(alloc, what, whole, x)?,
+        },
+    })
+}
+
+// The answer is the value of these data with this charge.
+fn gives(rt: &impl Abort, alloc: Global, a: Answer, want: Data, charged: u64) -> Result<(), Fail> {
+    assert!(rt; a.value == made(alloc, want)?);
+    assert_eq!(rt; a.charged, charged);
     Ok(())
 }
 
 #[test]
-fn members_come_and_go(rt: HostRuntime) -> Result<(), Fail> {
+fn wholes(rt: HostRuntime) -> Result<(), Fail> {
     let alloc = rt.alloc();
-    let more = with(alloc, set(alloc, &[1])?, int(2));
-    gives(&rt, more, Some(set(alloc, &[1, 2])?), 0);
-    let longer = with(alloc, tuple(alloc, &[Some(4)])?, int(2));
-    gives(&rt, longer, Some(tuple(alloc, &[Some(4), Some(2)])?), 0);
-    let fewer = less(set(alloc, &[1, 2])?, &int(1));
-    gives(&rt, fewer, Some(set(alloc, &[2])?), 0);
+    for (what, whole, x, want) in [
+        (Operator::Size, Set(&[3, 1, 2]), Om, Int(3)),
+        (Operator::Size, T, Om, Int(3)),
+        (Operator::Size, S, Om, Int(3)),
+        (Operator::Arb, Set(&[3, 1, 2]), Om, Int(1)),
+        (Operator::Arb, Set(&[]), Om, Om),
+        (Operator::Domain, F, Om, Set(&[1, 2])),
+        (Operator::Range, F, Om, Set(&[2, 3, 5])),
+        (Operator::With, Set(&[1]), Int(2), Set(&[1, 2])),
+        (
+            Operator::With,
+            T,
+            Int(2),
+            Tuple(&[Some(4), None, Some(6), Some(2)]),
+        ),
+        (Operator::Less, Set(&[1, 2]), Int(1), Set(&[2])),
+        (Operator::Lessf, F, Int(1), Map(&[(2, 5)])),
+    ] {
+        let answer = answered(alloc, what, whole, x, Om)?;
+        gives(&rt, alloc, answer, want, 0)?;
+    }
     Ok(())
 }
 
 #[test]
-fn maps_are_read(rt: HostRuntime) -> Result<(), Fail> {
+fn selections(rt: HostRuntime) -> Result<(), Fail> {
     let alloc = rt.alloc();
-    let f = map(alloc, &MAP)?;
-    gives(&rt, domain(alloc, &f), Some(set(alloc, &[1, 2])?), 0);
-    gives(&rt, range(alloc, &f), Some(set(alloc, &[2, 3, 5])?), 0);
-    gives(&rt, get(alloc, &f, &int(2)), Some(int(5)), 0);
-    gives(&rt, get(alloc, &f, &int(1)), None, 0);
-    gives(
-        &rt,
-        images(alloc, &f, &int(1)),
-        Some(set(alloc, &[2, 3])?),
-        0,
-    );
+    for (what, whole, x, y, want) in [
+        (Operator::Get, F, Int(2), Om, Int(5)),
+        (Operator::Get, F, Int(1), Om, Om),
+        (Operator::Get, T, Int(3), Om, Int(6)),
+        (Operator::Get, T, Int(9), Om, Om),
+        (Operator::Get, S, Int(2), Om, Letters(2, 2)),
+        (Operator::Get, S, Int(4), Om, Om),
+        (Operator::Images, F, Int(1), Om, Set(&[2, 3])),
+        (Operator::Slice, T, Int(1), Int(2), Tuple(&[Some(4)])),
+        (Operator::Slice, S, Int(2), Int(3), Letters(2, 3)),
+        (Operator::Tail, T, Int(2), Om, Tuple(&[None, Some(6)])),
+        (Operator::Tail, S, Int(4), Om, Letters(4, 3)),
+    ] {
+        let answer = answered(alloc, what, whole, x, y)?;
+        gives(&rt, alloc, answer, want, 0)?;
+    }
     Ok(())
 }
 
 #[test]
-fn parts_are_read(rt: HostRuntime) -> Result<(), Fail> {
+fn puts(rt: HostRuntime) -> Result<(), Fail> {
     let alloc = rt.alloc();
-    let t = tuple(alloc, &PARTS)?;
-    gives(&rt, get(alloc, &t, &int(3)), Some(int(6)), 0);
-    gives(&rt, get(alloc, &t, &int(9)), None, 0);
-    let first_two = slice(alloc, &t, &int(1), &int(2));
-    gives(&rt, first_two, Some(tuple(alloc, &[Some(4)])?), 0);
-    gives(
-        &rt,
-        tail(alloc, &t, &int(2)),
-        Some(tuple(alloc, &[None, Some(6)])?),
-        0,
-    );
-    Ok(())
-}
-
-#[test]
-fn bytes_are_read(rt: HostRuntime) -> Result<(), Fail> {
-    let alloc = rt.alloc();
-    let t = string(alloc, b"abc")?;
-    gives(&rt, get(alloc, &t, &int(2)), Some(string(alloc, b"b")?), 0);
-    gives(&rt, get(alloc, &t, &int(4)), None, 0);
-    let last_two = slice(alloc, &t, &int(2), &int(3));
-    gives(&rt, last_two, Some(string(alloc, b"bc")?), 0);
-    gives(&rt, tail(alloc, &t, &int(4)), Some(string(alloc, b"")?), 0);
-    Ok(())
-}
-
-#[test]
-fn maps_are_changed(rt: HostRuntime) -> Result<(), Fail> {
-    let alloc = rt.alloc();
-    let less_one = lessf(alloc, map(alloc, &MAP)?, &int(1));
-    gives(&rt, less_one, Some(map(alloc, &[(2, 5)])?), 0);
-    let one_image = put(alloc, map(alloc, &MAP)?, int(1), Some(int(7)), 0);
-    gives(&rt, one_image, Some(map(alloc, &[(1, 7), (2, 5)])?), 0);
-    let no_image = put(alloc, map(alloc, &MAP)?, int(1), None, 0);
-    gives(&rt, no_image, Some(map(alloc, &[(2, 5)])?), 0);
-    let two_images = put_images(alloc, map(alloc, &[(2, 5)])?, int(2), &set(alloc, &[8, 9])?);
-    gives(&rt, two_images, Some(map(alloc, &[(2, 8), (2, 9)])?), 0);
-    Ok(())
-}
-
-#[test]
-fn tuples_are_changed(rt: HostRuntime) -> Result<(), Fail> {
-    let alloc = rt.alloc();
-    let within = put(alloc, tuple(alloc, &PARTS)?, int(2), Some(int(5)), 0);
-    gives(
-        &rt,
-        within,
-        Some(tuple(alloc, &[Some(4), Some(5), Some(6)])?),
-        0,
-    );
-    let past_end = put(alloc, tuple(alloc, &[Some(4)])?, int(4), Some(int(6)), 2);
-    gives(
-        &rt,
-        past_end,
-        Some(tuple(alloc, &[Some(4), None, None, Some(6)])?),
-        2,
-    );
-    let om_past_end = put(alloc, tuple(alloc, &[Some(4)])?, int(4), None, 0);
-    gives(&rt, om_past_end, Some(tuple(alloc, &[Some(4)])?), 0);
+    for (what, whole, x, y, want, charged) in [
+        (Operator::Put, F, Int(1), Int(7), Map(&[(1, 7), (2, 5)]), 0),
+        (Operator::Put, F, Int(1), Om, Map(&[(2, 5)]), 0),
+        (
+            Operator::Put,
+            T,
+            Int(2),
+            Int(5),
+            Tuple(&[Some(4), Some(5), Some(6)]),
+            0,
+        ),
+        (
+            Operator::Put,
+            T,
+            Int(6),
+            Int(5),
+            Tuple(&[Some(4), None, Some(6), None, None, Some(5)]),
+            2,
+        ),
+        (Operator::Put, T, Int(6), Om, T, 0),
+        (
+            Operator::PutImages,
+            F,
+            Int(1),
+            Set(&[8, 9]),
+            Map(&[(1, 8), (1, 9), (2, 5)]),
+            0,
+        ),
+    ] {
+        let answer = answered(alloc, what, whole, x, y)?;
+        gives(&rt, alloc, answer, want, charged)?;
+    }
     Ok(())
 }
