@@ -26,8 +26,8 @@ abbrev pub IsTooDeep : {A : Type 0} → Outcome A → Type 0
 IsTooDeep o = (left : ℕ) × (o ≡ Err (Nesting left))
 
 -- where fewer nestings may open, a program is read with the same outcome, or reading ends at a nesting
-abbrev pub FewerNestingsMayOpen : Type 0
-FewerNestingsMayOpen = (room more : ℕ) (toks : Tokens) → room ≤ more → (reading.program room toks ≡ reading.program more toks) ⊎ IsTooDeep (reading.program room toks)
+abbrev pub NestingsMayBeFewer : Type 0
+NestingsMayBeFewer = (room more : ℕ) (toks : Tokens) → room ≤ more → (reading.program room toks ≡ reading.program more toks) ⊎ IsTooDeep (reading.program room toks)
 
 -- tokens derive at most one tree, however many nestings there are
 abbrev pub TreeIsUnique : Type 0

@@ -1,6 +1,6 @@
 //! The laws between reading and the grammar.
 
-ghost use Rattle.setl_grammar.specs.Claims.{ReadingIsSound, ReadingIsComplete, NestingsMayBeMore, FewerNestingsMayOpen, TreeIsUnique, CanonicalTokensDerive};
+ghost use Rattle.setl_grammar.specs.Claims.{ReadingIsSound, ReadingIsComplete, NestingsMayBeMore, NestingsMayBeFewer, TreeIsUnique, CanonicalTokensDerive};
 
 /// Reading finds a program's tree exactly where the tokens derive it with as many nestings as may open.
 pub fn reading_meets_grammar()
@@ -10,8 +10,8 @@ pub fn reading_meets_grammar()
 
 /// Where fewer nestings may open, a program is read with the same outcome, or reading ends at a token that opens one
 /// nesting too many. So tokens that derive a tree are refused for their nestings alone.
-pub fn fewer_nestings_refuse_alone()
-    ensures { FewerNestingsMayOpen }
+pub fn nestings_may_be_fewer()
+    ensures { NestingsMayBeFewer }
 {}
 
 /// Tokens derive at most one tree, and derive it also where more nestings may open.

@@ -7,6 +7,6 @@ mod fault;
 
 pub use ahead::Ahead;
 pub use claims::{
-    canonical_tokens_derive, fewer_nestings_refuse_alone, reading_meets_grammar, tree_is_unique,
+    canonical_tokens_derive, nestings_may_be_fewer, reading_meets_grammar, tree_is_unique,
 };
 pub use fault::Fault;

@@ -4,7 +4,7 @@ ghost use Rattle.setl_spelling.specs.Claims.{TextIsSpelled, SpellingIsDetermined
 
 use setl_expressions::string_holds_its_body;
 use setl_grammar::{
-    canonical_tokens_derive, fewer_nestings_refuse_alone, reading_meets_grammar, tree_is_unique,
+    canonical_tokens_derive, nestings_may_be_fewer, reading_meets_grammar, tree_is_unique,
 };
 use setl_token::{blank_ends_token, lexing_is_determined, piece_at_is_longest};
 
@@ -75,5 +75,5 @@ pub fn shown_text_is_read_again()
     same_trees_are_shown_alike();
     tree_is_unique();
     reading_meets_grammar();
-    fewer_nestings_refuse_alone();
+    nestings_may_be_fewer();
 }

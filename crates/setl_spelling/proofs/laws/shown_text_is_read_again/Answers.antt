@@ -25,7 +25,7 @@ returns c =
     let d = derives l shown tree h s in
     let most : ℕ = room + d.derived.0 in
     let read : reading.program most toks ≡ Ok (d.it, []) = c.reading_meets_grammar.ensures.complete most toks d.it (c.tree_is_unique.ensures.more d.derived.0 most toks d.it (omega arith) d.derived.1) in
-    elim (c.fewer_nestings_refuse_alone.ensures room most toks (omega arith)) [
+    elim (c.nestings_may_be_fewer.ensures room most toks (omega arith)) [
       | inl same ↦ inl (d.it, same ∙ read, d.same)
       | inr deep ↦ inr deep
     ] in
