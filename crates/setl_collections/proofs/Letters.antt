@@ -1,5 +1,5 @@
 -- One byte of a string.
-use Rattle.std.specs.Prelude.{◌≡◌, ℕ, ℤ, pos, negsuc, zero, suc, ◌+◌, ◌-◌, ◌<◌, ◌≤ℤ◌, ◌<ℤ◌, Bool, true, List, [], ◌∷◌, Option, Some, None, Ok, Err, length, slice_get, slice_range, take, drop, int_le, refl}
+use Rattle.std.specs.Prelude.{◌≡◌, ℕ, ℤ, pos, negsuc, zero, suc, ◌-◌, ◌<◌, ◌≤ℤ◌, ◌<ℤ◌, true, List, [], ◌∷◌, Some, None, Ok, Err, length, slice_get, slice_range, take, drop, int_le, refl}
 use Rattle.std.specs.Bool.{if◌then◌else◌}
 use Rattle.std.specs.Option.{option_map}
 use Rattle.std.proofs.Common.{ap, sym, ◌∙◌, arith}
@@ -8,7 +8,7 @@ use Rattle.std.proofs.lemmas.Option.{slice_get_past}
 use Rattle.setl_value.specs.Datum.{int, text}
 use Rattle.setl_scalar.specs.declared.ScalarFault.TheVariants.{Range}
 use Rattle.setl_scalar.specs.Texts.{are_places}
-use Rattle.setl_map.specs.Outcome.{Outcome, Gives, Fails, RangeFault, value}
+use Rattle.setl_map.specs.Outcome.{Gives, Fails, RangeFault, value}
 use Rattle.setl_map.specs.Selections.{get, slice, letter, part_of_text}
 
 -- the slice of one byte

@@ -1,4 +1,4 @@
-use Rattle.std.proofs.Common.{◌≡◌, false, ap, sym, ◌∙◌, subst}
+use Rattle.std.proofs.Common.{ap, sym, ◌∙◌, subst}
 use Rattle.setl_value.specs.Body.{Members}
 use Rattle.setl_value.specs.Datum.{set_of, element_list, elements_of}
 use Rattle.setl_value.specs.DatumOf.{datum}

@@ -1,4 +1,4 @@
-use Rattle.std.proofs.Common.{◌≡◌, false, ap, ◌∙◌, sym}
+use Rattle.std.proofs.Common.{ap, ◌∙◌, sym}
 use Rattle.setl_value.specs.Body.{Members}
 use Rattle.setl_value.specs.DatumOf.{datum}
 use Rattle.setl_map.specs.Maps.{image}

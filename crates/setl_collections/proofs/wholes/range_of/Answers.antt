@@ -1,4 +1,4 @@
-use Rattle.std.proofs.Common.{◌≡◌, false, ap, ◌∙◌, subst}
+use Rattle.std.proofs.Common.{ap, ◌∙◌, subst}
 use Rattle.setl_value.specs.Body.{Members}
 use Rattle.setl_map.specs.Maps.{range_of}
 use Rattle.setl_map.specs.Outcome.{set_value}
