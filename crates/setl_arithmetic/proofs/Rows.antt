@@ -1,42 +1,18 @@
 -- Rows of the operators' table over the lists of bodies.
-use Rattle.std.specs.Prelude.{◌≡◌, ℕ, ◌+◌, ◌≤◌, ◌<◌, ◌⊎◌, Bool, true, false, ◌++◌, List, Option, Some, nat_le, ℤ, pos, negsuc, ◌<ℤ◌, Result, Ok, Err, refl}
+use Rattle.std.specs.Prelude.{◌≡◌, ℕ, ◌+◌, ◌≤◌, ◌<◌, ◌⊎◌, Bool, true, false, List, Option, Some, nat_le, ℤ, pos, negsuc, ◌<ℤ◌, Result, Ok, Err, refl}
 use Rattle.std.specs.Bool.{if◌then◌else◌}
 use Rattle.std.proofs.Common.{ap, sym, ◌∙◌, arith, subst, inl, inr}
 use Rattle.std.proofs.lemmas.Bool.Decides.{nat_tests}
 use Rattle.std.proofs.lemmas.Int.{ints}
-use Rattle.setl_value.specs.Datum.{Datum, bool, int, text, atom, tuple, set, element_list, elements_of, set_of, tuple_of}
+use Rattle.setl_value.specs.Datum.{Datum, bool, int, text, atom, tuple, set, set_of, tuple_of}
 use Rattle.setl_scalar.specs.Texts.{copies as copies_of_text, repeat_of as repeat_of_text}
-use Rattle.setl_set.specs.Sets.{union_of, minus_of, meet_of, symm_of, is_subset}
 use Rattle.setl_tuple.specs.Tuples.{copies as copies_of_tuple, repeat_of as repeat_of_tuple}
 use Rattle.setl_map.specs.declared.OpFault.{OpFault}
 use Rattle.setl_map.specs.declared.OpFault.TheVariants.{Range, Spent}
 use Rattle.setl_map.specs.Answers.{Tells}
-use Rattle.setl_map.specs.Outcome.{Outcome, Gives, Fails, Overspends, KindFault, RangeFault, adding, charging, value, truth, set_value, tuple_value}
-use Rattle.setl_map.specs.Numbers.{plus, minus, times, modulo, replicated}
-use Rattle.setl_map.specs.Truths.{subset}
-use Rattle.setl_arithmetic.proofs.Views.{members_back, parts_back}
-
--- a function of two sets' lists
-on_sets : (f : List Datum → List Datum → Outcome) (xs ys : List Datum) → f xs ys ≡ f (element_list (elements_of xs)) (element_list (elements_of ys))
-on_sets f xs ys = λ k. f (sym (members_back xs) k) (sym (members_back ys) k)
-
-pub plus_sets : (xs ys : List Datum) → set_value (union_of xs ys) ≡ plus (set_of xs) (set_of ys)
-plus_sets xs ys = on_sets (λ l m. set_value (union_of l m)) xs ys
-
-pub minus_sets : (xs ys : List Datum) → set_value (minus_of xs ys) ≡ minus (set_of xs) (set_of ys)
-minus_sets xs ys = on_sets (λ l m. set_value (minus_of l m)) xs ys
-
-pub modulo_sets : (xs ys : List Datum) → set_value (symm_of xs ys) ≡ modulo (set_of xs) (set_of ys)
-modulo_sets xs ys = on_sets (λ l m. set_value (symm_of l m)) xs ys
-
-pub times_sets : (left : ℕ) (xs ys : List Datum) → set_value (meet_of xs ys) ≡ times left (set_of xs) (set_of ys)
-times_sets left xs ys = on_sets (λ l m. set_value (meet_of l m)) xs ys
-
-pub subset_sets : (xs ys : List Datum) → truth (is_subset xs ys) ≡ subset (set_of xs) (set_of ys)
-subset_sets xs ys = on_sets (λ l m. truth (is_subset l m)) xs ys
-
-pub plus_tuples : (ps qs : List (Option Datum)) → tuple_value (ps ++ qs) ≡ plus (tuple_of ps) (tuple_of qs)
-plus_tuples ps qs = λ k. tuple_value (sym (parts_back ps) k ++ sym (parts_back qs) k)
+use Rattle.setl_map.specs.Outcome.{Outcome, Gives, Fails, Overspends, KindFault, RangeFault, adding, charging, value, tuple_value}
+use Rattle.setl_map.specs.Numbers.{times, replicated}
+use Rattle.setl_arithmetic.proofs.Views.{parts_back}
 
 -- ---- copies
 

@@ -53,7 +53,7 @@ pub fn odd(v: &Value) -> Result<Answer, OpFault>
     }
 }
 
-/// `a ** b` of integers. Range for a negative exponent, Wide past 128 bits.
+/// `a ** b` of integers, where `0 ** 0` is 1. Kind for other operands, Range for a negative exponent, Wide past 128 bits.
 pub fn power(a: &Value, b: &Value) -> Result<Answer, OpFault>
     ensures { Tells result (raise (datum a.now) (datum b.now)) }
 {
@@ -63,7 +63,7 @@ pub fn power(a: &Value, b: &Value) -> Result<Answer, OpFault>
     }
 }
 
-/// `a div b` of integers, rounded towards zero. Zero for a divisor 0, Wide past 128 bits.
+/// `a div b` of integers, rounded towards zero. Kind for other operands, Zero for a divisor 0, Wide past 128 bits.
 pub fn divide(a: &Value, b: &Value) -> Result<Answer, OpFault>
     ensures { Tells result (divide (datum a.now) (datum b.now)) }
 {
@@ -73,7 +73,7 @@ pub fn divide(a: &Value, b: &Value) -> Result<Answer, OpFault>
     }
 }
 
-/// `a max b` of integers.
+/// `a max b` of integers. Kind for other operands.
 pub fn greater(a: &Value, b: &Value) -> Result<Answer, OpFault>
     ensures { Tells result (greater (datum a.now) (datum b.now)) }
 {
@@ -83,7 +83,7 @@ pub fn greater(a: &Value, b: &Value) -> Result<Answer, OpFault>
     }
 }
 
-/// `a min b` of integers.
+/// `a min b` of integers. Kind for other operands.
 pub fn lesser(a: &Value, b: &Value) -> Result<Answer, OpFault>
     ensures { Tells result (lesser (datum a.now) (datum b.now)) }
 {
@@ -93,7 +93,9 @@ pub fn lesser(a: &Value, b: &Value) -> Result<Answer, OpFault>
     }
 }
 
-/// `a + b`: the sum of integers, the union of sets, one tuple or string after the other.
+/// `a + b`: the sum of integers, the union of sets, one tuple or string after the other. Kind for other operands, Wide
+/// past 128 bits.
+#[tactic(auto, using(crate::proofs::Views::members_back, crate::proofs::Views::parts_back))]
 pub fn plus(alloc: Global, a: &Value, b: &Value) -> Result<Answer, OpFault>
     ensures { Tells result (plus (datum a.now) (datum b.now)) }
 {
@@ -116,7 +118,8 @@ fn joined(alloc: Global, a: &Text, b: &Text) -> Result<Answer, OpFault>
     }
 }
 
-/// `a - b`: the difference of integers or sets.
+/// `a - b`: the difference of integers or sets. Kind for other operands, Wide past 128 bits.
+#[tactic(auto, using(crate::proofs::Views::members_back))]
 pub fn minus(alloc: Global, a: &Value, b: &Value) -> Result<Answer, OpFault>
     ensures { Tells result (minus (datum a.now) (datum b.now)) }
 {
@@ -127,8 +130,9 @@ pub fn minus(alloc: Global, a: &Value, b: &Value) -> Result<Answer, OpFault>
     }
 }
 
-/// `a mod b`: the remainder of integers, which is never negative, or the symmetric difference of sets. Zero for a
-/// divisor 0.
+/// `a mod b`: the remainder of integers, from 0 to below the divisor's absolute value, or the symmetric difference of
+/// sets. Kind for other operands, Zero for a divisor 0.
+#[tactic(auto, using(crate::proofs::Views::members_back))]
 pub fn modulo(alloc: Global, a: &Value, b: &Value) -> Result<Answer, OpFault>
     ensures { Tells result (modulo (datum a.now) (datum b.now)) }
 {
@@ -139,8 +143,10 @@ pub fn modulo(alloc: Global, a: &Value, b: &Value) -> Result<Answer, OpFault>
     }
 }
 
-/// `a * b`: the product of integers, the intersection of sets, or copies of a tuple or string, which charge their
-/// number.
+/// `a * b`: the product of integers, the intersection of sets, or so many copies of a tuple or string, which charge
+/// their number. Kind for other operands, Range for a negative number of copies, Spent where it is above the turns that
+/// are left, Wide past 128 bits.
+#[tactic(auto, using(crate::proofs::Rows::times_bool, crate::proofs::Rows::times_atom))]
 pub fn times(alloc: Global, a: &Value, b: &Value, turns: u64) -> Result<Answer, OpFault>
     ensures { Tells result (times turns (datum a.now) (datum b.now)) }
 {
@@ -154,6 +160,8 @@ pub fn times(alloc: Global, a: &Value, b: &Value, turns: u64) -> Result<Answer, 
     }
 }
 
+/// An integer times any value.
+#[tactic(auto, using(crate::proofs::Rows::no_copies_of_bool, crate::proofs::Rows::no_copies_of_atom, crate::proofs::Rows::no_copies_of_set))]
 fn integer_times(alloc: Global, n: i128, b: &Value, turns: u64) -> Result<Answer, OpFault>
     ensures { Tells result (times turns (int n) (datum b.now)) }
 {
@@ -167,16 +175,18 @@ fn integer_times(alloc: Global, n: i128, b: &Value, turns: u64) -> Result<Answer
     }
 }
 
+/// A set times any value, which charges nothing.
+#[tactic(auto, using(crate::proofs::Views::members_back, crate::proofs::Rows::set_by_integer))]
 fn set_times(alloc: Global, x: &SetBody, b: &Value) -> Result<Answer, OpFault>
     ensures { (turns : ℕ) → Tells result (times turns (set_of (Members x.now)) (datum b.now)) }
 {
     match b {
         Value::Set(y) => set(setl_set::meet(alloc, x, y)?),
-        Value::Int(_) => Err(OpFault::Kind),
         _ => Err(OpFault::Kind),
     }
 }
 
+/// A tuple times any value.
 fn tuple_times(alloc: Global, t: &TupleBody, b: &Value, turns: u64) -> Result<Answer, OpFault>
     ensures { Tells result (times turns (tuple_of t.now) (datum b.now)) }
 {
@@ -186,6 +196,7 @@ fn tuple_times(alloc: Global, t: &TupleBody, b: &Value, turns: u64) -> Result<An
     }
 }
 
+/// A string times any value.
 fn string_times(alloc: Global, t: &Text, b: &Value, turns: u64) -> Result<Answer, OpFault>
     ensures { Tells result (times turns (text t.now) (datum b.now)) }
 {

@@ -15,7 +15,7 @@ use setl_map::answers::truth;
 use setl_map::{Answer, OpFault};
 use setl_value::{TupleBody, Value};
 
-/// `not v` of a boolean.
+/// `not v` of a boolean. Kind for any other value.
 pub fn negation(v: &Value) -> Result<Answer, OpFault>
     ensures { Tells result (negation (datum v.now)) }
 {
@@ -25,7 +25,7 @@ pub fn negation(v: &Value) -> Result<Answer, OpFault>
     }
 }
 
-/// Whether both booleans are true, as the fold `and/` asks.
+/// Whether both booleans are true, as the fold `and/` asks. Kind for other operands.
 pub fn both(a: &Value, b: &Value) -> Result<Answer, OpFault>
     ensures { Tells result (both (datum a.now) (datum b.now)) }
 {
@@ -35,7 +35,7 @@ pub fn both(a: &Value, b: &Value) -> Result<Answer, OpFault>
     }
 }
 
-/// Whether one of the booleans is true, as the fold `or/` asks.
+/// Whether one of the booleans is true, as the fold `or/` asks. Kind for other operands.
 pub fn either(a: &Value, b: &Value) -> Result<Answer, OpFault>
     ensures { Tells result (either (datum a.now) (datum b.now)) }
 {
@@ -45,7 +45,7 @@ pub fn either(a: &Value, b: &Value) -> Result<Answer, OpFault>
     }
 }
 
-/// `a < b` of integers by size, or of strings by their bytes.
+/// `a < b` of integers by size, or of strings by their bytes. Kind for other operands.
 pub fn below(a: &Value, b: &Value) -> Result<Answer, OpFault>
     ensures { Tells result (is_below (datum a.now) (datum b.now)) }
 {
@@ -56,7 +56,7 @@ pub fn below(a: &Value, b: &Value) -> Result<Answer, OpFault>
     }
 }
 
-/// `a <= b` of integers by size, or of strings by their bytes.
+/// `a <= b` of integers by size, or of strings by their bytes. Kind for other operands.
 pub fn at_most(a: &Value, b: &Value) -> Result<Answer, OpFault>
     ensures { Tells result (is_at_most (datum a.now) (datum b.now)) }
 {
@@ -67,14 +67,14 @@ pub fn at_most(a: &Value, b: &Value) -> Result<Answer, OpFault>
     }
 }
 
-/// `v in whole`: whether a value is a member of a set or a component of a tuple.
+/// `v in whole`: whether a value is a member of a set or a component of a tuple. Kind for any other whole.
 pub fn is_in(v: &Value, whole: &Value) -> Result<Answer, OpFault>
     ensures { Tells result (is_in (datum v.now) (datum whole.now)) }
 {
     truth(has(v, whole)?)
 }
 
-/// `v notin whole`.
+/// `v notin whole`: whether a value is no member of a set or no component of a tuple. Kind for any other whole.
 pub fn not_in(v: &Value, whole: &Value) -> Result<Answer, OpFault>
     ensures { Tells result (opposite (is_in (datum v.now) (datum whole.now))) }
 {
@@ -116,7 +116,8 @@ fn is_at(v: &Value, t: &TupleBody, i: usize) -> bool
     }
 }
 
-/// `a subset b`: whether all members of one set are members of the other.
+/// `a subset b`: whether all members of one set are members of the other. Kind for other operands.
+#[tactic(auto, using(crate::proofs::Views::members_back))]
 pub fn subset(a: &Value, b: &Value) -> Result<Answer, OpFault>
     ensures { Tells result (subset (datum a.now) (datum b.now)) }
 {
@@ -155,60 +156,42 @@ fn are_same(a: &Option<Value>, b: &Option<Value>) -> bool
 pub fn is_integer(v: &Option<Value>) -> Result<Answer, OpFault>
     ensures { Tells result (kind_test is_integer_datum (part v.now ∷ [])) }
 {
-    match v {
-        Some(Value::Int(_)) => truth(true),
-        _ => truth(false),
-    }
+    truth(matches!(v, Some(Value::Int(_))))
 }
 
 /// `is_string v`, which is false of `om`.
 pub fn is_string(v: &Option<Value>) -> Result<Answer, OpFault>
     ensures { Tells result (kind_test is_string_datum (part v.now ∷ [])) }
 {
-    match v {
-        Some(Value::Text(_)) => truth(true),
-        _ => truth(false),
-    }
+    truth(matches!(v, Some(Value::Text(_))))
 }
 
 /// `is_boolean v`, which is false of `om`.
 pub fn is_boolean(v: &Option<Value>) -> Result<Answer, OpFault>
     ensures { Tells result (kind_test is_boolean_datum (part v.now ∷ [])) }
 {
-    match v {
-        Some(Value::Bool(_)) => truth(true),
-        _ => truth(false),
-    }
+    truth(matches!(v, Some(Value::Bool(_))))
 }
 
 /// `is_atom v`, which is false of `om`.
 pub fn is_atom(v: &Option<Value>) -> Result<Answer, OpFault>
     ensures { Tells result (kind_test is_atom_datum (part v.now ∷ [])) }
 {
-    match v {
-        Some(Value::Atom(_)) => truth(true),
-        _ => truth(false),
-    }
+    truth(matches!(v, Some(Value::Atom(_))))
 }
 
 /// `is_tuple v`, which is false of `om`.
 pub fn is_tuple(v: &Option<Value>) -> Result<Answer, OpFault>
     ensures { Tells result (kind_test is_tuple_datum (part v.now ∷ [])) }
 {
-    match v {
-        Some(Value::Tuple(_)) => truth(true),
-        _ => truth(false),
-    }
+    truth(matches!(v, Some(Value::Tuple(_))))
 }
 
 /// `is_set v`, which is false of `om`.
 pub fn is_set(v: &Option<Value>) -> Result<Answer, OpFault>
     ensures { Tells result (kind_test is_set_datum (part v.now ∷ [])) }
 {
-    match v {
-        Some(Value::Set(_)) => truth(true),
-        _ => truth(false),
-    }
+    truth(matches!(v, Some(Value::Set(_))))
 }
 
 /// `is_map v`, which is false of `om`.
