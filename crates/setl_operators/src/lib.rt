@@ -6,4 +6,7 @@ mod operands;
 mod table;
 
 pub use setl_map::{Answer, OpFault, Operator};
+pub use table::op;
 
+#[cfg(test)]
+mod tests;

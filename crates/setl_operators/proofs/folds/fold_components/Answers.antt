@@ -9,9 +9,10 @@ use Rattle.setl_operators.proofs.Steps.{steps, stops}
 use Rattle.setl_operators.proofs.folds.fold_components.Goals as goal
 
 pub loop-i-preserved : goal.loop-i-preserved
-loop-i-preserved c =
-    (c.in_ok-answer.ensures.within,
-    steps (combination c.args.by) (components (datum c.args.whole.now)) c.loop-i.i (part c.loop-i.answer.value) (lent c.component-in-loop-i.result) c.loop-i.answer.charged c.in_ok-answer.answer.charged c.args.turns (part c.in_ok-answer.answer.value) c.component-in-loop-i.ensures c.in_ok-answer.ensures.tells ∙ c.loop-i.invariant.1)
+loop-i-preserved c = (
+  c.in_ok-answer.ensures.within,
+  steps (combination c.args.by) (components (datum c.args.whole.now)) c.loop-i.i (part c.loop-i.answer.value) (lent c.component-in-loop-i.result) c.loop-i.answer.charged c.in_ok-answer.answer.charged c.args.turns (part c.in_ok-answer.answer.value) c.component-in-loop-i.ensures c.in_ok-answer.ensures.tells ∙ c.loop-i.invariant.1,
+)
 
 pub returns-in_err-answer : goal.returns-in_err-answer
 returns-in_err-answer c =
