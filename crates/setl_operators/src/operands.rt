@@ -51,7 +51,7 @@ fn last(args: &mut Vec<Option<Value>>) -> Option<Value>
 /// The only operand, a value. Om where it is `om`.
 pub(crate) fn one(args: Vec<Option<Value>>) -> Result<Value, OpFault>
     requires { length args.items ≡ 1 }
-    ensures { MatchResult result (λ v. all_values (map part args.items) ≡ Some (datum v ∷ [])) (λ e. (e ≡ OpFault.Om) × (all_values (map part args.items) ≡ None)) }
+    ensures { MatchResult result (λ v. map part args.items ≡ Some (datum v) ∷ []) (λ e. (e ≡ OpFault.Om) × (all_values (map part args.items) ≡ None)) }
 {
     any_one(args).ok_or(OpFault::Om)
 }
@@ -59,7 +59,7 @@ pub(crate) fn one(args: Vec<Option<Value>>) -> Result<Value, OpFault>
 /// Both operands, which are values. Om where one is `om`.
 pub(crate) fn two(args: Vec<Option<Value>>) -> Result<(Value, Value), OpFault>
     requires { length args.items ≡ 2 }
-    ensures { MatchResult result (λ vs. all_values (map part args.items) ≡ Some (datum vs.0 ∷ datum vs.1 ∷ [])) (λ e. (e ≡ OpFault.Om) × (all_values (map part args.items) ≡ None)) }
+    ensures { MatchResult result (λ vs. map part args.items ≡ Some (datum vs.0) ∷ Some (datum vs.1) ∷ []) (λ e. (e ≡ OpFault.Om) × (all_values (map part args.items) ≡ None)) }
 {
     let (a, b) = any_two(args);
     let Some(a) = a else {
@@ -74,7 +74,7 @@ pub(crate) fn two(args: Vec<Option<Value>>) -> Result<(Value, Value), OpFault>
 /// The three operands, which are values. Om where one is `om`.
 pub(crate) fn three(args: Vec<Option<Value>>) -> Result<(Value, Value, Value), OpFault>
     requires { length args.items ≡ 3 }
-    ensures { MatchResult result (λ vs. all_values (map part args.items) ≡ Some (datum vs.0 ∷ datum vs.1 ∷ datum vs.2 ∷ [])) (λ e. (e ≡ OpFault.Om) × (all_values (map part args.items) ≡ None)) }
+    ensures { MatchResult result (λ vs. map part args.items ≡ Some (datum vs.0) ∷ Some (datum vs.1) ∷ Some (datum vs.2) ∷ []) (λ e. (e ≡ OpFault.Om) × (all_values (map part args.items) ≡ None)) }
 {
     let (a, b, c) = any_three(args);
     let Some(a) = a else {

@@ -1,6 +1,6 @@
 //! The table of the operators: which call makes what of the operands.
 
-ghost use Rattle.std.specs.Prelude.{◌≡◌, length, map};
+ghost use Rattle.std.specs.Prelude.{◌≡◌, ◌∷◌, [], Some, IsTrue, length, map};
 ghost use Rattle.setl_value.specs.Datum.{text};
 ghost use Rattle.setl_value.specs.DatumOf.{datum, part};
 ghost use Rattle.setl_map.specs.Answers.{Tells};
@@ -8,6 +8,7 @@ ghost use Rattle.setl_map.specs.Operators.{op_of, TakesOperands};
 ghost use Rattle.setl_map.specs.Outcome.{value};
 ghost use Rattle.setl_map.specs.Puts.{put};
 ghost use Rattle.setl_text.specs.Texts.{whole_text};
+ghost use Rattle.setl_operators.specs.Readers.{reads_two};
 
 use crate::folds::{Combination, fold};
 use crate::operands::{any_one, any_three, any_two, one, three, two};
@@ -22,8 +23,10 @@ use setl_collections::{
 use setl_enumerations::{
     enumerate_set, enumerate_tuple, npow, pow, set_range, set_step, tuple_range, tuple_step,
 };
+use setl_map::answers::string;
 use setl_map::{Answer, OpFault, Operator};
-use setl_value::Value;
+use setl_text::text;
+use setl_value::{Text, Value};
 use std::alloc::Global;
 
 /// What an operator makes of its operands, with these turns left: a value or `om` with its charge, or why there is none.
@@ -50,7 +53,7 @@ pub fn op(
         Operator::Domain => domain(alloc, &one(args)?),
         Operator::Range => range(alloc, &one(args)?),
         Operator::Arb => arb(&one(args)?),
-        Operator::Str => text_of(alloc, &one(args)?),
+        Operator::Str => shown(alloc, &one(args)?),
         Operator::IsInteger => is_integer(&any_one(args)),
         Operator::IsString => is_string(&any_one(args)),
         Operator::IsBoolean => is_boolean(&any_one(args)),
@@ -64,38 +67,6 @@ pub fn op(
         Operator::FoldMin => fold(alloc, Combination::Least, &one(args)?, turns),
         Operator::FoldAnd => fold(alloc, Combination::All, &one(args)?, turns),
         Operator::FoldOr => fold(alloc, Combination::Any, &one(args)?, turns),
-        Operator::Add => {
-            let (a, b) = two(args)?;
-            plus(alloc, &a, &b)
-        }
-        Operator::Subtract => {
-            let (a, b) = two(args)?;
-            minus(alloc, &a, &b)
-        }
-        Operator::Multiply => {
-            let (a, b) = two(args)?;
-            times(alloc, &a, &b, turns)
-        }
-        Operator::Power => {
-            let (a, b) = two(args)?;
-            power(&a, &b)
-        }
-        Operator::Divide => {
-            let (a, b) = two(args)?;
-            divide(&a, &b)
-        }
-        Operator::Modulo => {
-            let (a, b) = two(args)?;
-            modulo(alloc, &a, &b)
-        }
-        Operator::Max => {
-            let (a, b) = two(args)?;
-            greater(&a, &b)
-        }
-        Operator::Min => {
-            let (a, b) = two(args)?;
-            lesser(&a, &b)
-        }
         Operator::With => {
             let (a, b) = two(args)?;
             with(alloc, a, b)
@@ -108,62 +79,6 @@ pub fn op(
             let (a, b) = two(args)?;
             lessf(alloc, a, &b)
         }
-        Operator::Npow => {
-            let (a, b) = two(args)?;
-            npow(&a, &b, turns)
-        }
-        Operator::Below => {
-            let (a, b) = two(args)?;
-            below(&a, &b)
-        }
-        Operator::AtMost => {
-            let (a, b) = two(args)?;
-            at_most(&a, &b)
-        }
-        Operator::Above => {
-            let (a, b) = two(args)?;
-            below(&b, &a)
-        }
-        Operator::AtLeast => {
-            let (a, b) = two(args)?;
-            at_most(&b, &a)
-        }
-        Operator::In => {
-            let (a, b) = two(args)?;
-            is_in(&a, &b)
-        }
-        Operator::NotIn => {
-            let (a, b) = two(args)?;
-            not_in(&a, &b)
-        }
-        Operator::Subset => {
-            let (a, b) = two(args)?;
-            subset(&a, &b)
-        }
-        Operator::Includes => {
-            let (a, b) = two(args)?;
-            subset(&b, &a)
-        }
-        Operator::Get => {
-            let (a, b) = two(args)?;
-            get(alloc, &a, &b)
-        }
-        Operator::Images => {
-            let (a, b) = two(args)?;
-            images(alloc, &a, &b)
-        }
-        Operator::Tail => {
-            let (a, b) = two(args)?;
-            tail(alloc, &a, &b)
-        }
-        Operator::SetRange => {
-            let (a, b) = two(args)?;
-            set_range(alloc, &a, &b, turns)
-        }
-        Operator::TupleRange => {
-            let (a, b) = two(args)?;
-            tuple_range(alloc, &a, &b, turns)
-        }
         Operator::Equal => {
             let (a, b) = any_two(args);
             equal(&a, &b)
@@ -172,12 +87,12 @@ pub fn op(
             let (a, b) = any_two(args);
             not_equal(&a, &b)
         }
-        Operator::SetOf => enumerate_set(alloc, &args),
-        Operator::TupleOf => enumerate_tuple(alloc, args),
         Operator::Slice => {
             let (a, b, c) = three(args)?;
             slice(alloc, &a, &b, &c)
         }
+        Operator::SetOf => enumerate_set(alloc, &args),
+        Operator::TupleOf => enumerate_tuple(alloc, args),
         Operator::SetStep => {
             let (a, b, c) = three(args)?;
             set_step(alloc, &a, &b, &c, turns)
@@ -186,11 +101,53 @@ pub fn op(
             let (a, b, c) = three(args)?;
             tuple_step(alloc, &a, &b, &c, turns)
         }
+        Operator::Put => put_part(alloc, args, turns),
         Operator::PutImages => {
             let (a, b, c) = three(args)?;
             put_images(alloc, a, b, &c)
         }
-        Operator::Put => put_part(alloc, args, turns),
+        _ => {
+            let (a, b) = two(args)?;
+            of_two(alloc, what, &a, &b, turns)
+        }
+    }
+}
+
+// What an operator that reads two values makes of them.
+fn of_two(
+    alloc: Global,
+    what: Operator,
+    a: &Value,
+    b: &Value,
+    turns: u64,
+) -> Result<Answer, OpFault>
+    requires { IsTrue (reads_two what) }
+    ensures { Tells result (op_of what (Some (datum a.now) ∷ Some (datum b.now) ∷ []) turns) }
+{
+    match what {
+        Operator::Add => plus(alloc, a, b),
+        Operator::Subtract => minus(alloc, a, b),
+        Operator::Multiply => times(alloc, a, b, turns),
+        Operator::Power => power(a, b),
+        Operator::Divide => divide(a, b),
+        Operator::Modulo => modulo(alloc, a, b),
+        Operator::Max => greater(a, b),
+        Operator::Min => lesser(a, b),
+        Operator::Npow => npow(a, b, turns),
+        Operator::Below => below(a, b),
+        Operator::AtMost => at_most(a, b),
+        Operator::Above => below(b, a),
+        Operator::AtLeast => at_most(b, a),
+        Operator::In => is_in(a, b),
+        Operator::NotIn => not_in(a, b),
+        Operator::Subset => subset(a, b),
+        Operator::Includes => subset(b, a),
+        Operator::Get => get(alloc, a, b),
+        Operator::Images => images(alloc, a, b),
+        Operator::Tail => tail(alloc, a, b),
+        Operator::SetRange => set_range(alloc, a, b, turns),
+        Operator::TupleRange => tuple_range(alloc, a, b, turns),
+        _ => unreachable!(),
     }
 }
 
@@ -210,10 +167,11 @@ fn put_part(alloc: Global, args: Vec<Option<Value>>, turns: u64) -> Result<Answe
 }
 
 // The text of a value as a whole argument of `print`.
-fn text_of(alloc: Global, v: &Value) -> Result<Answer, OpFault>
+fn shown(alloc: Global, v: &Value) -> Result<Answer, OpFault>
     ensures { Tells result (value (text (whole_text (datum v.now)))) }
 {
-    let _ = alloc;
-    let _ = v;
-    Err(OpFault::NoMemory)
+    match v {
+        Value::Text(t) => string(t.copy()?),
+        _ => string(Text::from_bytes(alloc, text(alloc, v)?)?),
+    }
 }

@@ -1,7 +1,8 @@
 //! Worked rows of each operator, on operands and answers that are written as denotations.
 
+ghost use Rattle.std.specs.Bool.{OnTrue};
 ghost use Rattle.std.specs.Prelude.{◌≡◌};
-ghost use Rattle.setl_map.specs.Operators.{operand_count};
+ghost use Rattle.setl_map.specs.Operators.{operand_count, TakesOperands};
 
 use crate::{Answer, OpFault, Operator, op};
 use Operator::{
@@ -213,6 +214,16 @@ fn count(what: Operator) -> Option<usize>
     }
 }
 
+// Whether an operator has so many operands.
+fn takes(what: Operator, n: usize) -> bool
+    ensures { OnTrue result (TakesOperands what n) }
+{
+    match count(what) {
+        Some(m) => n == m,
+        None => true,
+    }
+}
+
 // The values and `om` that these bytes denote.
 fn operands(alloc: Global, denotations: &str) -> Result<Vec<Option<Value>>, Memory> {
     let mut source = SureSource::new(denotations.as_bytes().to_vec(alloc)?);
@@ -253,9 +264,7 @@ fn shown_part(alloc: Global, v: &Option<Value>) -> Result<Vec<u8>, Memory> {
 // What an operator makes of some operands, as it is shown.
 fn answer(alloc: Global, what: Operator, denotations: &str, turns: u64) -> Result<Vec<u8>, Memory> {
     let args = operands(alloc, denotations)?;
-    if let Some(n) = count(what)
-        && args.len() != n
-    {
+    if !takes(what, args.len()) {
         return b"another number of operands".to_vec(alloc);
     }
     shown(alloc, &op(alloc, what, args, turns))
