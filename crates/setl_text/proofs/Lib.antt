@@ -9,3 +9,4 @@ pub mod Shallow
 pub mod Rising
 pub mod Going
 pub mod FirstFault
+pub mod PlainTexts

@@ -2,7 +2,7 @@
 
 use crate::{Got, ReadFault, Reader, line, text};
 use setl_io::{MemSource, Source, SureSource};
-use setl_value::{Memory, Value};
+use setl_value::{Memory, Text, Value};
 use std::alloc::Global;
 use std::process::Abort;
 use std::test::Fail;
@@ -176,5 +176,13 @@ fn a_line_has_the_texts_of_its_arguments(rt: HostRuntime) -> Result<(), Fail> {
     expect_line(&rt, alloc, "* true", "* true\n")?;
     expect_line(&rt, alloc, "", "\n")?;
     assert_eq!(rt; text(alloc, &Value::Atom(7))?.as_slice(), b"#7".as_slice());
+    Ok(())
+}
+
+#[test]
+fn a_text_can_be_a_string(rt: HostRuntime) -> Result<(), Fail> {
+    let alloc = rt.alloc();
+    let printed = Text::from_bytes(alloc, text(alloc, &Value::Int(-5))?)?;
+    assert_eq!(rt; printed.bytes(), b"-5".as_slice());
     Ok(())
 }

@@ -2,6 +2,7 @@
 
 ghost use Rattle.std.specs.Prelude.{◌≡◌, ◌<◌, ◌++◌, ◌∷◌, [], Some, IfOk, OnOk, length, map, slice_get, decimal};
 ghost use Rattle.std.specs.Fmt.{signed_decimal};
+ghost use Rattle.std.specs.List.{All};
 ghost use Rattle.setl_value.specs.Body.{Members};
 ghost use Rattle.setl_value.specs.Datum.{bool, set_of, text, tuple_of};
 ghost use Rattle.setl_value.specs.DatumOf.{datum, part};
@@ -16,10 +17,13 @@ use std::alloc::Global;
 ///
 /// Booleans are `true` and `false`, integers decimal, an atom is `#` and its number, a string stands between
 /// apostrophes with each apostrophe doubled, a tuple between `[` and `]`, a set in canonical order between `{` and `}`,
-/// with one blank between two texts and `*` for `om`. The error is want of memory.
+/// with one blank between two texts and `*` for `om`. None of its bytes is 10, so it can be a string. The error is want
+/// of memory.
 pub fn text(alloc: Global, v: &Value) -> Result<Vec<u8>, Memory>
-    ensures { IfOk result (λ t. t.items ≡ inner_text (datum v.now)) }
+    ensures text { IfOk result (λ t. t.items ≡ inner_text (datum v.now)) }
+    ensures no_line_end { IfOk result (λ t. All (λ b. (b ≡ 10) → ⊥) t.items) }
 {
+    v.learn();
     let mut into = Vec::new(alloc);
     push_inner(&mut into, v)?;
     Ok(into)

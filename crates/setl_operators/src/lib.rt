@@ -1,0 +1,12 @@
+//! The operators' calls: `op` applies any operator to its operands, as the table `op_of` says.
+#![tactic(auto)]
+
+mod folds;
+mod operands;
+mod table;
+
+pub use setl_map::{Answer, OpFault, Operator};
+pub use table::op;
+
+#[cfg(test)]
+mod tests;

@@ -1,0 +1,177 @@
+//! The table of the operators: which call makes what of the operands.
+
+ghost use Rattle.std.specs.Prelude.{◌≡◌, ◌∷◌, [], Some, IsTrue, length, map};
+ghost use Rattle.setl_value.specs.Datum.{text};
+ghost use Rattle.setl_value.specs.DatumOf.{datum, part};
+ghost use Rattle.setl_map.specs.Answers.{Tells};
+ghost use Rattle.setl_map.specs.Operators.{op_of, TakesOperands};
+ghost use Rattle.setl_map.specs.Outcome.{value};
+ghost use Rattle.setl_map.specs.Puts.{put};
+ghost use Rattle.setl_text.specs.Texts.{whole_text};
+ghost use Rattle.setl_operators.specs.Readers.{reads_two};
+
+use crate::folds::{Combination, fold};
+use crate::operands::{any_one, any_three, any_two, one, three, two};
+use setl_arithmetic::{
+    absolute, at_most, below, divide, equal, even, greater, is_atom, is_boolean, is_in, is_integer,
+    is_map, is_set, is_string, is_tuple, lesser, minus, modulo, negate, negation, not_equal,
+    not_in, odd, plus, power, subset, times,
+};
+use setl_collections::{
+    arb, domain, get, images, less, lessf, put, put_images, range, size, slice, tail, with,
+};
+use setl_enumerations::{
+    enumerate_set, enumerate_tuple, npow, pow, set_range, set_step, tuple_range, tuple_step,
+};
+use setl_map::answers::string;
+use setl_map::{Answer, OpFault, Operator};
+use setl_text::text;
+use setl_value::{Text, Value};
+use std::alloc::Global;
+
+/// What an operator makes of its operands, with these turns left: a value or `om` with its charge, or why there is none.
+///
+/// The operands stand in the order of the source, and None is `om`. Where several causes hold, the first in the order
+/// Om, Kind, Zero, Range, Spent, Wide, Deep counts; NoMemory may come at any point.
+pub fn op(
+    alloc: Global,
+    what: Operator,
+    args: Vec<Option<Value>>,
+    turns: u64,
+) -> Result<Answer, OpFault>
+    requires { TakesOperands what (length args.items) }
+    ensures { Tells result (op_of what (map part args.items) turns) }
+{
+    match what {
+        Operator::Negate => negate(&one(args)?),
+        Operator::Abs => absolute(&one(args)?),
+        Operator::Even => even(&one(args)?),
+        Operator::Odd => odd(&one(args)?),
+        Operator::Size => size(&one(args)?),
+        Operator::Not => negation(&one(args)?),
+        Operator::Pow => pow(&one(args)?, turns),
+        Operator::Domain => domain(alloc, &one(args)?),
+        Operator::Range => range(alloc, &one(args)?),
+        Operator::Arb => arb(&one(args)?),
+        Operator::Str => shown(alloc, &one(args)?),
+        Operator::IsInteger => is_integer(&any_one(args)),
+        Operator::IsString => is_string(&any_one(args)),
+        Operator::IsBoolean => is_boolean(&any_one(args)),
+        Operator::IsAtom => is_atom(&any_one(args)),
+        Operator::IsTuple => is_tuple(&any_one(args)),
+        Operator::IsSet => is_set(&any_one(args)),
+        Operator::IsMap => is_map(&any_one(args)),
+        Operator::FoldAdd => fold(alloc, Combination::Sum, &one(args)?, turns),
+        Operator::FoldMultiply => fold(alloc, Combination::Product, &one(args)?, turns),
+        Operator::FoldMax => fold(alloc, Combination::Greatest, &one(args)?, turns),
+        Operator::FoldMin => fold(alloc, Combination::Least, &one(args)?, turns),
+        Operator::FoldAnd => fold(alloc, Combination::All, &one(args)?, turns),
+        Operator::FoldOr => fold(alloc, Combination::Any, &one(args)?, turns),
+        Operator::With => {
+            let (a, b) = two(args)?;
+            with(alloc, a, b)
+        }
+        Operator::Less => {
+            let (a, b) = two(args)?;
+            less(a, &b)
+        }
+        Operator::Lessf => {
+            let (a, b) = two(args)?;
+            lessf(alloc, a, &b)
+        }
+        Operator::Equal => {
+            let (a, b) = any_two(args);
+            equal(&a, &b)
+        }
+        Operator::NotEqual => {
+            let (a, b) = any_two(args);
+            not_equal(&a, &b)
+        }
+        Operator::Slice => {
+            let (a, b, c) = three(args)?;
+            slice(alloc, &a, &b, &c)
+        }
+        Operator::SetOf => enumerate_set(alloc, &args),
+        Operator::TupleOf => enumerate_tuple(alloc, args),
+        Operator::SetStep => {
+            let (a, b, c) = three(args)?;
+            set_step(alloc, &a, &b, &c, turns)
+        }
+        Operator::TupleStep => {
+            let (a, b, c) = three(args)?;
+            tuple_step(alloc, &a, &b, &c, turns)
+        }
+        Operator::Put => put_part(alloc, args, turns),
+        Operator::PutImages => {
+            let (a, b, c) = three(args)?;
+            put_images(alloc, a, b, &c)
+        }
+        _ => {
+            let (a, b) = two(args)?;
+            of_two(alloc, what, &a, &b, turns)
+        }
+    }
+}
+
+// What an operator that reads two values makes of them.
+fn of_two(
+    alloc: Global,
+    what: Operator,
+    a: &Value,
+    b: &Value,
+    turns: u64,
+) -> Result<Answer, OpFault>
+    requires { IsTrue (reads_two what) }
+    ensures { Tells result (op_of what (Some (datum a.now) ∷ Some (datum b.now) ∷ []) turns) }
+{
+    match what {
+        Operator::Add => plus(alloc, a, b),
+        Operator::Subtract => minus(alloc, a, b),
+        Operator::Multiply => times(alloc, a, b, turns),
+        Operator::Power => power(a, b),
+        Operator::Divide => divide(a, b),
+        Operator::Modulo => modulo(alloc, a, b),
+        Operator::Max => greater(a, b),
+        Operator::Min => lesser(a, b),
+        Operator::Npow => npow(a, b, turns),
+        Operator::Below => below(a, b),
+        Operator::AtMost => at_most(a, b),
+        Operator::Above => below(b, a),
+        Operator::AtLeast => at_most(b, a),
+        Operator::In => is_in(a, b),
+        Operator::NotIn => not_in(a, b),
+        Operator::Subset => subset(a, b),
+        Operator::Includes => subset(b, a),
+        Operator::Get => get(alloc, a, b),
+        Operator::Images => images(alloc, a, b),
+        Operator::Tail => tail(alloc, a, b),
+        Operator::SetRange => set_range(alloc, a, b, turns),
+        Operator::TupleRange => tuple_range(alloc, a, b, turns),
+        _ => unreachable!(),
+    }
+}
+
+// The whole with a new part, which may be `om`.
+fn put_part(alloc: Global, args: Vec<Option<Value>>, turns: u64) -> Result<Answer, OpFault>
+    requires { length args.items ≡ 3 }
+    ensures { Tells result (put turns (map part args.items)) }
+{
+    let (whole, at, new) = any_three(args);
+    let Some(whole) = whole else {
+        return Err(OpFault::Om);
+    };
+    let Some(at) = at else {
+        return Err(OpFault::Om);
+    };
+    put(alloc, whole, at, new, turns)
+}
+
+// The text of a value as a whole argument of `print`.
+fn shown(alloc: Global, v: &Value) -> Result<Answer, OpFault>
+    ensures { Tells result (value (text (whole_text (datum v.now)))) }
+{
+    match v {
+        Value::Text(t) => string(t.copy()?),
+        _ => string(Text::from_bytes(alloc, text(alloc, v)?)?),
+    }
+}
