@@ -6,7 +6,7 @@ ghost use Rattle.setl_grammar.specs.ReadExpressions as spec;
 
 use crate::cursor::{Cursor, same_kind};
 use crate::operators::{chain_of, fold_sign, not_sign, op_at, prefix_op};
-use crate::rule::{Repeated, Rule, many};
+use crate::rule::{Repeated, Rule, with_many};
 use setl_grammar::Fault;
 use setl_tree::{BinaryOp, Expr, Kind, Prefix};
 
@@ -59,7 +59,7 @@ pub fn chain_from<R: Rule<Out = Expr>>(
     requires { R.can_read item.now }
     ensures { Reads (spec.chain_from level (R.reader item.now) first tokens.old) result tokens.new }
 {
-    let others = many(&Operand { level, item }, tokens)?;
+    let (first, others) = with_many(first, &Operand { level, item }, tokens)?;
     Ok(chain_of(tokens.alloc(), first, others)?)
 }
 

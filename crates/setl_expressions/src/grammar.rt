@@ -1,13 +1,16 @@
 //! The grammar of expressions at a number of nestings.
 
 ghost use Rattle.std.specs.Prelude.{◌≡◌};
+ghost use Rattle.setl_tree.specs.declared.kind.Kind.TheVariants as k;
 ghost use Rattle.setl_grammar.specs.Reading.{Reads};
 ghost use Rattle.setl_grammar.specs.ReadExpressions.{nested};
+ghost use Rattle.setl_expressions.specs.Behind as behind;
 ghost use Rattle.setl_expressions.specs.Nests.{Nests};
 
 use crate::cursor::Cursor;
+use crate::rule::followed;
 use setl_grammar::Fault;
-use setl_tree::Expr;
+use setl_tree::{Boxed, Expr, Kind};
 
 /// What is read one nesting deeper.
 #[derive(Drop)]
@@ -37,12 +40,70 @@ impl<F: Fn(&mut Cursor<'_>, usize, Part) -> Result<Expr, Fault>> Grammar<F> {
         (self.inside)(tokens, self.room, Part::Whole)
     }
 
+    /// An expression one nesting deeper, in a box.
+    pub fn boxed(&self, tokens: &mut Cursor<'_>) -> Result<Boxed<Expr>, Fault>
+        requires { Nests self.now.room (F.pre self.now.inside) (F.post self.now.inside) }
+        ensures { Reads ((nested self.now.room).expr tokens.old) result tokens.new }
+    {
+        let x = self.expr(tokens)?;
+        Ok(Boxed::new(tokens.alloc(), x)?)
+    }
+
+    /// An expression one nesting deeper, in a box, behind which a token of this kind stands.
+    pub fn boxed_before(&self, kind: Kind, tokens: &mut Cursor<'_>) -> Result<Boxed<Expr>, Fault>
+        requires { Nests self.now.room (F.pre self.now.inside) (F.post self.now.inside) }
+        ensures { Reads (behind.before (nested self.now.room).expr kind tokens.old) result tokens.new }
+    {
+        let x = self.boxed(tokens)?;
+        followed(x, kind, tokens)
+    }
+
+    /// What was read, and behind a token of this kind an expression one nesting deeper.
+    pub fn expr_behind<T: Drop>(
+        &self,
+        head: T,
+        kind: Kind,
+        tokens: &mut Cursor<'_>,
+    ) -> Result<(T, Expr), Fault>
+        requires { Nests self.now.room (F.pre self.now.inside) (F.post self.now.inside) }
+        ensures { Reads (behind.behind head kind (nested self.now.room).expr tokens.old) result tokens.new }
+    {
+        let head = followed(head, kind, tokens)?;
+        let x = self.expr(tokens)?;
+        Ok((head, x))
+    }
+
+    /// What was read, and behind a token of this kind an expression one nesting deeper, in a box.
+    pub fn boxed_behind<T: Drop>(
+        &self,
+        head: T,
+        kind: Kind,
+        tokens: &mut Cursor<'_>,
+    ) -> Result<(T, Boxed<Expr>), Fault>
+        requires { Nests self.now.room (F.pre self.now.inside) (F.post self.now.inside) }
+        ensures { Reads (behind.behind head kind (nested self.now.room).expr tokens.old) result tokens.new }
+    {
+        let head = followed(head, kind, tokens)?;
+        let x = self.boxed(tokens)?;
+        Ok((head, x))
+    }
+
     /// The source of an iterator one nesting deeper.
     pub fn source(&self, tokens: &mut Cursor<'_>) -> Result<Expr, Fault>
         requires { Nests self.now.room (F.pre self.now.inside) (F.post self.now.inside) }
         ensures { Reads ((nested self.now.room).source tokens.old) result tokens.new }
     {
         (self.inside)(tokens, self.room, Part::Source)
+    }
+
+    /// What an iterator binds, and behind `in` its source one nesting deeper.
+    pub fn over<T: Drop>(&self, bound: T, tokens: &mut Cursor<'_>) -> Result<(T, Expr), Fault>
+        requires { Nests self.now.room (F.pre self.now.inside) (F.post self.now.inside) }
+        ensures { Reads (behind.behind bound k.In (nested self.now.room).source tokens.old) result tokens.new }
+    {
+        let bound = followed(bound, Kind::In, tokens)?;
+        let source = self.source(tokens)?;
+        Ok((bound, source))
     }
 
     /// What goes on from a comparison one nesting deeper.

@@ -12,9 +12,11 @@ use crate::ahead::{ahead, bound_as_expr};
 use crate::cursor::{Cursor, same_kind};
 use crate::grammar::{Grammar, Part};
 use crate::iterators::bound;
-use crate::rule::{Repeated, Rule, more, optional, with_first};
+use crate::rule::{
+    Repeated, Rule, boxed_second, followed, optional, with_first, with_more, with_two,
+};
 use setl_grammar::{Ahead, Fault};
-use setl_tree::{Bound, Boxed, Expr, Inner, Items, Kind, Relation};
+use setl_tree::{Bound, Boxed, Expr, Inner, Items, Iter, Kind, Relation};
 use std::alloc::{AllocError, Global};
 
 /// An expression one nesting deeper.
@@ -58,7 +60,8 @@ impl<'g, F: Fn(&mut Cursor<'_>, usize, Part) -> Result<Expr, Fault>> Rule for Co
 
     #[tactic(auto, unfolding(setl_grammar::specs::ReadExpressions::condition))]
     fn read(&self, tokens: &mut Cursor<'_>) -> Result<Boxed<Expr>, Fault> {
-        self.grammar.condition(tokens)
+        tokens.expect(Kind::Bar)?;
+        self.grammar.boxed(tokens)
     }
 }
 
@@ -82,24 +85,11 @@ fn range(alloc: Global, first: Expr, last: Boxed<Expr>) -> Result<Inner, AllocEr
 }
 
 /// `first, second .. last`
-fn stepped(alloc: Global, first: Expr, second: Expr, last: Boxed<Expr>) -> Result<Inner, AllocError>
-    ensures { IfOk result (λ i. i ≡ Inner.Range first (Some second) last) }
+fn stepped(alloc: Global, between: (Expr, Expr), last: Boxed<Expr>) -> Result<Inner, AllocError>
+    ensures { IfOk result (λ i. i ≡ Inner.Range between.0 (Some between.1) last) }
 {
-    let second = Boxed::new(alloc, second)?;
+    let (first, second) = boxed_second(alloc, between.0, between.1)?;
     Ok(Inner::Range(Boxed::new(alloc, first)?, Some(second), last))
-}
-
-/// Two or more expressions.
-fn list_of(
-    alloc: Global,
-    first: Expr,
-    second: Expr,
-    others: Items<Expr>,
-) -> Result<Inner, AllocError>
-    ensures { IfOk result (λ i. i ≡ Inner.List (first ∷ second ∷ others)) }
-{
-    let behind = with_first(alloc, second, others)?;
-    Ok(Inner::List(with_first(alloc, first, behind)?))
 }
 
 /// One expression alone.
@@ -118,35 +108,22 @@ fn closes(kind: Kind) -> bool
 }
 
 /// What a filter binds, as the expression that has the same tokens, compared by `in`.
-fn membership(alloc: Global, bound: Bound, source: Expr) -> Result<Expr, AllocError>
+fn membership(alloc: Global, bound: Bound, source: Boxed<Expr>) -> Result<Expr, AllocError>
     ensures { IfOk result (λ e. e ≡ Expr.Compare (bound_expr bound) Relation.In source) }
 {
     let left = bound_as_expr(alloc, bound)?;
-    Ok(Expr::Compare(
-        Boxed::new(alloc, left)?,
-        Relation::In,
-        Boxed::new(alloc, source)?,
-    ))
+    Ok(Expr::Compare(Boxed::new(alloc, left)?, Relation::In, source))
 }
 
 impl<F: Fn(&mut Cursor<'_>, usize, Part) -> Result<Expr, Fault>> Grammar<F> {
-    /// An expression one nesting deeper, in a box.
-    pub fn boxed(&self, tokens: &mut Cursor<'_>) -> Result<Boxed<Expr>, Fault>
+    /// The iterators of a former, and its condition.
+    fn clauses(&self, tokens: &mut Cursor<'_>) -> Result<(Items<Iter>, Option<Boxed<Expr>>), Fault>
         requires { Nests self.now.room (F.pre self.now.inside) (F.post self.now.inside) }
-        ensures { Reads ((nested self.now.room).expr tokens.old) result tokens.new }
+        ensures { Reads (behind.clauses (self.now.room - 1) (nested self.now.room) tokens.old) result tokens.new }
     {
-        let x = self.expr(tokens)?;
-        Ok(Boxed::new(tokens.alloc(), x)?)
-    }
-
-    /// `| condition`
-    #[tactic(auto, unfolding(setl_grammar::specs::ReadExpressions::condition))]
-    fn condition(&self, tokens: &mut Cursor<'_>) -> Result<Boxed<Expr>, Fault>
-        requires { Nests self.now.room (F.pre self.now.inside) (F.post self.now.inside) }
-        ensures { Reads (spec.condition (self.now.room - 1) (nested self.now.room) tokens.old) result tokens.new }
-    {
-        tokens.expect(Kind::Bar)?;
-        self.boxed(tokens)
+        let over = self.iters(tokens)?;
+        let condition = optional(&ConditionRule { grammar: self }, tokens)?;
+        Ok((over, condition))
     }
 
     /// A former behind `value :`.
@@ -155,28 +132,9 @@ impl<F: Fn(&mut Cursor<'_>, usize, Part) -> Result<Expr, Fault>> Grammar<F> {
         requires { Nests self.now.room (F.pre self.now.inside) (F.post self.now.inside) }
         ensures { Reads (spec.former (self.now.room - 1) (nested self.now.room) value tokens.old) result tokens.new }
     {
-        let over = self.iters(tokens)?;
-        let condition = optional(&ConditionRule { grammar: self }, tokens)?;
-        Ok(Inner::Former(Boxed::new(tokens.alloc(), value)?, over, condition))
-    }
-
-    /// `.. last` behind `first, second`.
-    fn steps_to(&self, first: Expr, second: Expr, tokens: &mut Cursor<'_>) -> Result<Inner, Fault>
-        requires { Nests self.now.room (F.pre self.now.inside) (F.post self.now.inside) }
-        ensures { Reads (behind.steps_to (nested self.now.room) first second tokens.old) result tokens.new }
-    {
-        tokens.expect(Kind::Dots)?;
-        let last = self.boxed(tokens)?;
-        Ok(stepped(tokens.alloc(), first, second, last)?)
-    }
-
-    /// More expressions behind `first, second`.
-    fn goes_on(&self, first: Expr, second: Expr, tokens: &mut Cursor<'_>) -> Result<Inner, Fault>
-        requires { Nests self.now.room (F.pre self.now.inside) (F.post self.now.inside) }
-        ensures { Reads (behind.goes_on (nested self.now.room) first second tokens.old) result tokens.new }
-    {
-        let others = more(&ExprRule { grammar: self }, tokens)?;
-        Ok(list_of(tokens.alloc(), first, second, others)?)
+        let value = Boxed::new(tokens.alloc(), value)?;
+        let (over, condition) = self.clauses(tokens)?;
+        Ok(Inner::Former(value, over, condition))
     }
 
     /// What stands behind `a, b`.
@@ -186,9 +144,11 @@ impl<F: Fn(&mut Cursor<'_>, usize, Part) -> Result<Expr, Fault>> Grammar<F> {
         ensures { Reads (spec.third (self.now.room - 1) (nested self.now.room) a b tokens.old) result tokens.new }
     {
         if same_kind(tokens.kind(), Kind::Dots) {
-            return self.steps_to(a, b, tokens);
+            let (between, last) = self.boxed_behind((a, b), Kind::Dots, tokens)?;
+            return Ok(stepped(tokens.alloc(), between, last)?);
         }
-        self.goes_on(a, b, tokens)
+        let (front, others) = with_more((a, b), &ExprRule { grammar: self }, tokens)?;
+        Ok(Inner::List(with_two(tokens.alloc(), front.0, front.1, others)?))
     }
 
     /// What stands behind `a`, where no `:` or `..` does.
@@ -198,8 +158,7 @@ impl<F: Fn(&mut Cursor<'_>, usize, Part) -> Result<Expr, Fault>> Grammar<F> {
         ensures { Reads (spec.second (self.now.room - 1) (nested self.now.room) a tokens.old) result tokens.new }
     {
         if same_kind(tokens.kind(), Kind::Comma) {
-            tokens.expect(Kind::Comma)?;
-            let b = self.expr(tokens)?;
+            let (a, b) = self.expr_behind(a, Kind::Comma, tokens)?;
             return self.third(a, b, tokens);
         }
         Ok(Inner::List(single(tokens.alloc(), a)?))
@@ -212,7 +171,7 @@ impl<F: Fn(&mut Cursor<'_>, usize, Part) -> Result<Expr, Fault>> Grammar<F> {
         ensures { Reads (spec.unranged (self.now.room - 1) (nested self.now.room) a tokens.old) result tokens.new }
     {
         if same_kind(tokens.kind(), Kind::Colon) {
-            tokens.expect(Kind::Colon)?;
+            let a = followed(a, Kind::Colon, tokens)?;
             return self.former(a, tokens);
         }
         self.second(a, tokens)
@@ -225,8 +184,7 @@ impl<F: Fn(&mut Cursor<'_>, usize, Part) -> Result<Expr, Fault>> Grammar<F> {
         ensures { Reads (spec.rest_of_inner (self.now.room - 1) (nested self.now.room) a tokens.old) result tokens.new }
     {
         if same_kind(tokens.kind(), Kind::Dots) {
-            tokens.expect(Kind::Dots)?;
-            let last = self.boxed(tokens)?;
+            let (a, last) = self.boxed_behind(a, Kind::Dots, tokens)?;
             return Ok(range(tokens.alloc(), a, last)?);
         }
         self.unranged(a, tokens)
@@ -246,13 +204,18 @@ impl<F: Fn(&mut Cursor<'_>, usize, Part) -> Result<Expr, Fault>> Grammar<F> {
     }
 
     /// A filter behind `bound in source`.
-    #[tactic(auto, unfolding(setl_grammar::specs::ReadExpressions::filter))]
-    fn filter(&self, bound: Bound, source: Expr, tokens: &mut Cursor<'_>) -> Result<Inner, Fault>
+    #[tactic(auto, unfolding(setl_grammar::specs::ReadExpressions::filter, setl_grammar::specs::ReadExpressions::condition))]
+    fn filter(
+        &self,
+        bound: Bound,
+        source: Boxed<Expr>,
+        tokens: &mut Cursor<'_>,
+    ) -> Result<Inner, Fault>
         requires { Nests self.now.room (F.pre self.now.inside) (F.post self.now.inside) }
         ensures { Reads (spec.filter (self.now.room - 1) (nested self.now.room) bound source tokens.old) result tokens.new }
     {
-        let condition = self.condition(tokens)?;
-        Ok(Inner::Filter(bound, Boxed::new(tokens.alloc(), source)?, condition))
+        let (head, condition) = self.boxed_behind((bound, source), Kind::Bar, tokens)?;
+        Ok(Inner::Filter(head.0, head.1, condition))
     }
 
     /// What stands behind `bound in source`, which may be the left side of an expression.
@@ -260,7 +223,7 @@ impl<F: Fn(&mut Cursor<'_>, usize, Part) -> Result<Expr, Fault>> Grammar<F> {
     fn filter_or_plain(
         &self,
         bound: Bound,
-        source: Expr,
+        source: Boxed<Expr>,
         tokens: &mut Cursor<'_>,
     ) -> Result<Inner, Fault>
         requires { Nests self.now.room (F.pre self.now.inside) (F.post self.now.inside) }
@@ -274,15 +237,23 @@ impl<F: Fn(&mut Cursor<'_>, usize, Part) -> Result<Expr, Fault>> Grammar<F> {
         self.rest_of_inner(a, tokens)
     }
 
+    /// `bound in source`, the source in a box.
+    fn bound_in(&self, tokens: &mut Cursor<'_>) -> Result<(Bound, Boxed<Expr>), Fault>
+        requires { Nests self.now.room (F.pre self.now.inside) (F.post self.now.inside) }
+        ensures { Reads (behind.bound_in (self.now.room - 1) (nested self.now.room).source tokens.old) result tokens.new }
+    {
+        let bound = bound(self.room.saturating_sub(1), tokens)?;
+        let (bound, source) = self.over(bound, tokens)?;
+        Ok(boxed_second(tokens.alloc(), bound, source)?)
+    }
+
     /// `bound in source`, and what goes on from them, where the bound may be an expression.
     #[tactic(auto, unfolding(setl_grammar::specs::ReadExpressions::bound_first))]
     fn either(&self, tokens: &mut Cursor<'_>) -> Result<Inner, Fault>
         requires { Nests self.now.room (F.pre self.now.inside) (F.post self.now.inside) }
         ensures { Reads (spec.bound_first (self.now.room - 1) (nested self.now.room) (spec.filter_or_plain (self.now.room - 1) (nested self.now.room)) tokens.old) result tokens.new }
     {
-        let bound = bound(self.room.saturating_sub(1), tokens)?;
-        tokens.expect(Kind::In)?;
-        let source = self.source(tokens)?;
+        let (bound, source) = self.bound_in(tokens)?;
         self.filter_or_plain(bound, source, tokens)
     }
 
@@ -292,9 +263,7 @@ impl<F: Fn(&mut Cursor<'_>, usize, Part) -> Result<Expr, Fault>> Grammar<F> {
         requires { Nests self.now.room (F.pre self.now.inside) (F.post self.now.inside) }
         ensures { Reads (spec.bound_first (self.now.room - 1) (nested self.now.room) (spec.filter (self.now.room - 1) (nested self.now.room)) tokens.old) result tokens.new }
     {
-        let bound = bound(self.room.saturating_sub(1), tokens)?;
-        tokens.expect(Kind::In)?;
-        let source = self.source(tokens)?;
+        let (bound, source) = self.bound_in(tokens)?;
         self.filter(bound, source, tokens)
     }
 

@@ -4,11 +4,12 @@ ghost use Rattle.std.specs.Prelude.{◌≡◌, ◌-◌};
 ghost use Rattle.setl_grammar.specs.Reading.{Reads};
 ghost use Rattle.setl_grammar.specs.ReadExpressions as spec;
 ghost use Rattle.setl_grammar.specs.ReadExpressions.{nested};
+ghost use Rattle.setl_expressions.specs.Behind as behind;
 ghost use Rattle.setl_expressions.specs.Nests.{Nests};
 
 use crate::cursor::{Cursor, same_kind};
 use crate::grammar::{Grammar, Part};
-use crate::rule::{Rule, separated};
+use crate::rule::{Rule, followed, separated};
 use setl_grammar::Fault;
 use setl_tree::{Bound, Expr, Items, Iter, Kind, Slot, Text};
 
@@ -41,8 +42,7 @@ pub fn pattern(room: usize, tokens: &mut Cursor<'_>) -> Result<Items<Slot>, Faul
 {
     tokens.open(room, Kind::LeftBracket)?;
     let slots = separated(&SlotRule, tokens)?;
-    tokens.expect(Kind::RightBracket)?;
-    Ok(slots)
+    followed(slots, Kind::RightBracket, tokens)
 }
 
 /// What an iterator binds.
@@ -56,15 +56,22 @@ pub fn bound(room: usize, tokens: &mut Cursor<'_>) -> Result<Bound, Fault>
     Ok(Bound::Pattern(pattern(room, tokens)?))
 }
 
+/// `(x)` behind a map.
+fn argument(room: usize, tokens: &mut Cursor<'_>) -> Result<Text, Fault>
+    ensures { Reads (behind.argument room tokens.old) result tokens.new }
+{
+    tokens.open(room, Kind::LeftParen)?;
+    let name = tokens.name()?;
+    followed(name, Kind::RightParen, tokens)
+}
+
 /// The map and its argument behind `value =`.
 #[tactic(auto, unfolding(setl_grammar::specs::ReadExpressions::image))]
 fn image(room: usize, value: Text, tokens: &mut Cursor<'_>) -> Result<Iter, Fault>
     ensures { Reads (spec.image room value tokens.old) result tokens.new }
 {
     let map = tokens.name()?;
-    tokens.open(room, Kind::LeftParen)?;
-    let argument = tokens.name()?;
-    tokens.expect(Kind::RightParen)?;
+    let argument = argument(room, tokens)?;
     Ok(Iter::Image(value, map, argument))
 }
 
@@ -106,8 +113,7 @@ impl<F: Fn(&mut Cursor<'_>, usize, Part) -> Result<Expr, Fault>> Grammar<F> {
             tokens.expect(Kind::Equal)?;
             return image(self.room.saturating_sub(1), name, tokens);
         }
-        tokens.expect(Kind::In)?;
-        let source = self.source(tokens)?;
+        let (name, source) = self.over(name, tokens)?;
         Ok(Iter::Over(Bound::Name(name), source))
     }
 
@@ -118,8 +124,7 @@ impl<F: Fn(&mut Cursor<'_>, usize, Part) -> Result<Expr, Fault>> Grammar<F> {
         ensures { Reads (spec.pattern_iter (self.now.room - 1) (nested self.now.room).source tokens.old) result tokens.new }
     {
         let slots = pattern(self.room.saturating_sub(1), tokens)?;
-        tokens.expect(Kind::In)?;
-        let source = self.source(tokens)?;
+        let (slots, source) = self.over(slots, tokens)?;
         Ok(Iter::Over(Bound::Pattern(slots), source))
     }
 

@@ -25,4 +25,4 @@ pub use iterators::pattern;
 pub use laws::string_holds_its_body;
 pub use parse::{Condition, NestedExpr, braces, expr, iters, nested_expr};
 pub use primary::begins_selector;
-pub use rule::{Repeated, Rule, listed, many, more, optional, separated, with_first};
+pub use rule::{Repeated, Rule, followed, listed, many, more, optional, separated, with_first};

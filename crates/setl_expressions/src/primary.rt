@@ -1,11 +1,12 @@
 //! Selectors, primary expressions and whole expressions.
 
-ghost use Rattle.std.specs.Prelude.{◌≡◌, ◌-◌, IfOk};
+ghost use Rattle.std.specs.Prelude.{◌≡◌, ◌-◌};
 ghost use Rattle.setl_tree.specs.declared.kind.Kind.TheVariants as k;
 ghost use Rattle.setl_tree.specs.Operators.{quantifier};
 ghost use Rattle.setl_grammar.specs.Reading.{Reads, opening_one_of};
 ghost use Rattle.setl_grammar.specs.ReadExpressions as spec;
 ghost use Rattle.setl_grammar.specs.ReadExpressions.{nested};
+ghost use Rattle.setl_expressions.specs.Behind as behind;
 ghost use Rattle.setl_expressions.specs.Nests.{Nests};
 
 use crate::chain::{Chain, NotRule, PrefixRule, chain_from};
@@ -13,10 +14,11 @@ use crate::cursor::{Cursor, same_kind};
 use crate::grammar::{Grammar, Part};
 use crate::inner::ExprRule;
 use crate::operators::{constant, prefixed, quantifier, relation_op, selected};
-use crate::rule::{Repeated, Rule, many, more, separated, with_first};
+use crate::rule::{
+    Repeated, Rule, boxed_second, followed, many, separated, with_first, with_many, with_more,
+};
 use setl_grammar::Fault;
-use setl_tree::{Boxed, Expr, Items, Kind, Quantifier, Relation, Selector};
-use std::alloc::{AllocError, Global};
+use setl_tree::{Boxed, Expr, Items, Kind, Quantifier, Selector};
 
 /// Whether a token of this kind opens a selector: `(` or `{`.
 #[tactic(auto, unfolding(setl_grammar::specs::ReadExpressions::begins_selector))]
@@ -39,13 +41,6 @@ fn open_quantifier(room: usize, tokens: &mut Cursor<'_>) -> Result<Quantifier, F
     }
     tokens.pass();
     Ok(word)
-}
-
-/// A comparison.
-fn compare(alloc: Global, a: Expr, op: Relation, b: Expr) -> Result<Expr, AllocError>
-    ensures { IfOk result (λ e. e ≡ Expr.Compare a op b) }
-{
-    Ok(Expr::Compare(Boxed::new(alloc, a)?, op, Boxed::new(alloc, b)?))
 }
 
 /// A selector.
@@ -132,13 +127,13 @@ impl<F: Fn(&mut Cursor<'_>, usize, Part) -> Result<Expr, Fault>> Grammar<F> {
         requires { Nests self.now.room (F.pre self.now.inside) (F.post self.now.inside) }
         ensures { Reads (spec.slice self.now.room (nested self.now.room) from tokens.old) result tokens.new }
     {
+        let from = Boxed::new(tokens.alloc(), from)?;
         if same_kind(tokens.kind(), Kind::RightParen) {
-            tokens.expect(Kind::RightParen)?;
-            return Ok(Selector::Slice(Boxed::new(tokens.alloc(), from)?, None));
+            let from = followed(from, Kind::RightParen, tokens)?;
+            return Ok(Selector::Slice(from, None));
         }
-        let to = self.boxed(tokens)?;
-        tokens.expect(Kind::RightParen)?;
-        Ok(Selector::Slice(Boxed::new(tokens.alloc(), from)?, Some(to)))
+        let to = self.boxed_before(Kind::RightParen, tokens)?;
+        Ok(Selector::Slice(from, Some(to)))
     }
 
     /// What stands behind `( expr`.
@@ -148,11 +143,11 @@ impl<F: Fn(&mut Cursor<'_>, usize, Part) -> Result<Expr, Fault>> Grammar<F> {
         ensures { Reads (spec.arguments self.now.room (nested self.now.room) first tokens.old) result tokens.new }
     {
         if same_kind(tokens.kind(), Kind::Dots) {
-            tokens.expect(Kind::Dots)?;
+            let first = followed(first, Kind::Dots, tokens)?;
             return self.slice(first, tokens);
         }
-        let others = more(&ExprRule { grammar: self }, tokens)?;
-        tokens.expect(Kind::RightParen)?;
+        let all = with_more(first, &ExprRule { grammar: self }, tokens)?;
+        let (first, others) = followed(all, Kind::RightParen, tokens)?;
         Ok(Selector::Round(with_first(tokens.alloc(), first, others)?))
     }
 
@@ -178,7 +173,7 @@ impl<F: Fn(&mut Cursor<'_>, usize, Part) -> Result<Expr, Fault>> Grammar<F> {
     {
         tokens.open(self.room, Kind::LeftBrace)?;
         let all = separated(&ExprRule { grammar: self }, tokens)?;
-        tokens.expect(Kind::RightBrace)?;
+        let all = followed(all, Kind::RightBrace, tokens)?;
         Ok(Selector::Braces(all))
     }
 
@@ -203,8 +198,17 @@ impl<F: Fn(&mut Cursor<'_>, usize, Part) -> Result<Expr, Fault>> Grammar<F> {
     {
         tokens.open(self.room, Kind::LeftParen)?;
         let x = self.expr(tokens)?;
-        tokens.expect(Kind::RightParen)?;
-        Ok(x)
+        followed(x, Kind::RightParen, tokens)
+    }
+
+    /// The two values of a conditional expression, behind `then`.
+    fn branches(&self, tokens: &mut Cursor<'_>) -> Result<(Boxed<Expr>, Boxed<Expr>), Fault>
+        requires { Nests self.now.room (F.pre self.now.inside) (F.post self.now.inside) }
+        ensures { Reads (behind.branches (nested self.now.room).expr tokens.old) result tokens.new }
+    {
+        let value = self.boxed_before(Kind::Else, tokens)?;
+        let other = self.boxed_before(Kind::End, tokens)?;
+        Ok((value, other))
     }
 
     /// `if condition then value else other end`
@@ -214,12 +218,8 @@ impl<F: Fn(&mut Cursor<'_>, usize, Part) -> Result<Expr, Fault>> Grammar<F> {
         ensures { Reads (spec.if_expr self.now.room (nested self.now.room) tokens.old) result tokens.new }
     {
         tokens.open(self.room, Kind::If)?;
-        let condition = self.boxed(tokens)?;
-        tokens.expect(Kind::Then)?;
-        let value = self.boxed(tokens)?;
-        tokens.expect(Kind::Else)?;
-        let other = self.boxed(tokens)?;
-        tokens.expect(Kind::End)?;
+        let condition = self.boxed_before(Kind::Then, tokens)?;
+        let (value, other) = self.branches(tokens)?;
         Ok(Expr::If(condition, value, other))
     }
 
@@ -231,7 +231,7 @@ impl<F: Fn(&mut Cursor<'_>, usize, Part) -> Result<Expr, Fault>> Grammar<F> {
     {
         tokens.open(self.room, Kind::LeftBrace)?;
         let inner = self.inner(tokens)?;
-        tokens.expect(Kind::RightBrace)?;
+        let inner = followed(inner, Kind::RightBrace, tokens)?;
         Ok(Expr::Set(inner))
     }
 
@@ -243,7 +243,7 @@ impl<F: Fn(&mut Cursor<'_>, usize, Part) -> Result<Expr, Fault>> Grammar<F> {
     {
         tokens.open(self.room, Kind::LeftBracket)?;
         let inner = self.inner(tokens)?;
-        tokens.expect(Kind::RightBracket)?;
+        let inner = followed(inner, Kind::RightBracket, tokens)?;
         Ok(Expr::Tuple(inner))
     }
 
@@ -306,7 +306,7 @@ impl<F: Fn(&mut Cursor<'_>, usize, Part) -> Result<Expr, Fault>> Grammar<F> {
         ensures { Reads (spec.e12 self.now.room (nested self.now.room) tokens.old) result tokens.new }
     {
         let primary = self.primary(tokens)?;
-        let selectors = many(&SelectorRule { grammar: self }, tokens)?;
+        let (primary, selectors) = with_many(primary, &SelectorRule { grammar: self }, tokens)?;
         Ok(selected(tokens.alloc(), primary, selectors)?)
     }
 
@@ -346,6 +346,19 @@ impl<F: Fn(&mut Cursor<'_>, usize, Part) -> Result<Expr, Fault>> Grammar<F> {
         .read(tokens)
     }
 
+    /// The left side of a comparison, and its right side in a box.
+    fn compared_with<T: Drop>(
+        &self,
+        left: T,
+        tokens: &mut Cursor<'_>,
+    ) -> Result<(T, Boxed<Expr>), Fault>
+        requires { Nests self.now.room (F.pre self.now.inside) (F.post self.now.inside) }
+        ensures { Reads (behind.beside left (spec.e7 self.now.room (nested self.now.room)) tokens.old) result tokens.new }
+    {
+        let right = self.e7(tokens)?;
+        Ok(boxed_second(tokens.alloc(), left, right)?)
+    }
+
     /// What goes on from the left side of a comparison.
     #[tactic(auto, unfolding(setl_grammar::specs::ReadExpressions::compared, setl_grammar::specs::Reading::one_of))]
     fn compared(&self, a: Expr, tokens: &mut Cursor<'_>) -> Result<Expr, Fault>
@@ -356,8 +369,8 @@ impl<F: Fn(&mut Cursor<'_>, usize, Part) -> Result<Expr, Fault>> Grammar<F> {
             return Ok(a);
         };
         tokens.pass();
-        let b = self.e7(tokens)?;
-        Ok(compare(tokens.alloc(), a, op, b)?)
+        let (a, b) = self.compared_with(a, tokens)?;
+        Ok(Expr::Compare(Boxed::new(tokens.alloc(), a)?, op, b))
     }
 
     /// A comparison, or what comparisons compare.
@@ -441,8 +454,7 @@ impl<F: Fn(&mut Cursor<'_>, usize, Part) -> Result<Expr, Fault>> Grammar<F> {
     {
         let quantifier = open_quantifier(self.room, tokens)?;
         let over = self.iters(tokens)?;
-        tokens.expect(Kind::Bar)?;
-        let condition = self.boxed(tokens)?;
+        let (over, condition) = self.boxed_behind(over, Kind::Bar, tokens)?;
         Ok(Expr::Quantified(quantifier, over, condition))
     }
 

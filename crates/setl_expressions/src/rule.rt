@@ -3,10 +3,11 @@
 ghost use Rattle.std.specs.Prelude.{◌≡◌, IfOk, [], ◌∷◌, ◌++◌};
 ghost use Rattle.setl_grammar.specs.Reading as spec;
 ghost use Rattle.setl_grammar.specs.Reading.{Reads};
+ghost use Rattle.setl_expressions.specs.Behind as behind;
 
 use crate::cursor::{Cursor, same_kind};
 use setl_grammar::Fault;
-use setl_tree::{Items, Kind};
+use setl_tree::{Boxed, Items, Kind};
 use std::alloc::{AllocError, Global};
 
 /// A part of the grammar that is read from tokens.
@@ -65,6 +66,27 @@ pub fn optional<R: Repeated>(rule: &R, tokens: &mut Cursor<'_>) -> Result<Option
     Ok(Some(rule.read(tokens)?))
 }
 
+/// What was read, behind which a token of this kind stands.
+pub fn followed<T: Drop>(head: T, kind: Kind, tokens: &mut Cursor<'_>) -> Result<T, Fault>
+    ensures { Reads (behind.followed head kind tokens.old) result tokens.new }
+{
+    tokens.expect(kind)?;
+    Ok(head)
+}
+
+/// What was read, and beside it the parts of `many`.
+pub fn with_many<T: Drop, R: Repeated>(
+    head: T,
+    rule: &R,
+    tokens: &mut Cursor<'_>,
+) -> Result<(T, Items<R::Out>), Fault>
+    requires { R.can_read rule.now }
+    ensures { Reads (behind.beside head (spec.many (R.begins_with rule.now) (R.reader rule.now)) tokens.old) result tokens.new }
+{
+    let parts = many(rule, tokens)?;
+    Ok((head, parts))
+}
+
 /// The items with one in front. An error is want of memory.
 pub fn with_first<T: Drop>(
     alloc: Global,
@@ -77,6 +99,31 @@ pub fn with_first<T: Drop>(
     all.push(first)?;
     all.append(others)?;
     Ok(all)
+}
+
+/// The items with two in front. An error is want of memory.
+pub fn with_two<T: Drop>(
+    alloc: Global,
+    first: T,
+    second: T,
+    others: Items<T>,
+) -> Result<Items<T>, AllocError>
+    ensures { IfOk result (λ all. all ≡ first ∷ second ∷ others) }
+{
+    let behind = with_first(alloc, second, others)?;
+    with_first(alloc, first, behind)
+}
+
+/// Two values, the second in a box. An error is want of memory.
+pub fn boxed_second<A: Drop, B: Drop>(
+    alloc: Global,
+    first: A,
+    second: B,
+) -> Result<(A, Boxed<B>), AllocError>
+    ensures { IfOk result (λ both. both ≡ (first, second)) }
+{
+    let second = Boxed::new(alloc, second)?;
+    Ok((first, second))
 }
 
 /// One or more parts in their order, with commas between. No comma stands behind the last.
@@ -130,6 +177,19 @@ pub fn more<R: Rule>(rule: &R, tokens: &mut Cursor<'_>) -> Result<Items<R::Out>,
     ensures { Reads (spec.more (R.reader rule.now) tokens.old) result tokens.new }
 {
     many(&BehindComma { part: rule }, tokens)
+}
+
+/// What was read, and beside it the parts of `more`.
+pub fn with_more<T: Drop, R: Rule>(
+    head: T,
+    rule: &R,
+    tokens: &mut Cursor<'_>,
+) -> Result<(T, Items<R::Out>), Fault>
+    requires { R.can_read rule.now }
+    ensures { Reads (behind.beside head (spec.more (R.reader rule.now)) tokens.old) result tokens.new }
+{
+    let parts = more(rule, tokens)?;
+    Ok((head, parts))
 }
 
 /// Parts in their order with commas between, or none where the next token is the one that closes them. That token is

@@ -13,10 +13,6 @@ use Rattle.setl_grammar.specs.Reading.{Reader, ◌>>=◌, ◌>>◌, pure, expect
 use Rattle.setl_grammar.specs.ReadStatements.{stmts, elseifs, else_part, ending}
 use Rattle.setl_grammar.specs.ReadPrograms.{named_ending, begins_proc, proc_word, procs, program_end}
 
--- what was read, behind which a token of this kind stands
-abbrev pub followed : {A : Type 0} → A → Kind → Reader A
-followed head kind = expect kind >> pure head
-
 -- what was read, and the statements that it guards
 abbrev pub guarding : {A : Type 0} → A → Reader (List Stmt) → Reader (A × List Stmt)
 guarding head deep = do

@@ -8,10 +8,10 @@ ghost use Rattle.setl_parse.specs.Nests.{NestsStmts};
 ghost use Rattle.setl_parse.specs.Parts as parts;
 
 use crate::statements::{
-    behind_name, ending, followed, print_stmt, read_stmt, return_stmt, simple_stmt, tuple_assign,
+    behind_name, ending, print_stmt, read_stmt, return_stmt, simple_stmt, tuple_assign,
 };
 use setl_expressions::{
-    Condition, Cursor, Repeated, Rule, iters, many, nested_expr, optional, same_kind,
+    Condition, Cursor, Repeated, Rule, followed, iters, many, nested_expr, optional, same_kind,
 };
 use setl_grammar::Fault;
 use setl_tree::{Branch, Items, Kind, Stmt, StmtKind};

@@ -6,11 +6,10 @@ ghost use Rattle.setl_tree.specs.Statements as grammar;
 ghost use Rattle.setl_tree.specs.Tokens.{Token};
 ghost use Rattle.setl_grammar.specs.Reading.{Reads, begins_as};
 ghost use Rattle.setl_grammar.specs.ReadStatements as spec;
-ghost use Rattle.setl_parse.specs.Parts as parts;
 
 use setl_expressions::{
-    Cursor, NestedExpr, Repeated, Rule, begins_selector, braces, expr, listed, many, pattern,
-    same_kind, separated, with_first,
+    Cursor, NestedExpr, Repeated, Rule, begins_selector, braces, expr, followed, listed, many,
+    pattern, same_kind, separated, with_first,
 };
 use setl_grammar::Fault;
 use setl_tree::{BinaryOp, Expr, FromEnd, Items, Kind, Place, Selector, StmtKind, Text};
@@ -88,14 +87,6 @@ pub fn ending(word: Kind, tokens: &mut Cursor<'_>) -> Result<(), Fault>
     }
     tokens.expect(Kind::Semicolon)?;
     Ok(())
-}
-
-/// What was read, behind which a token of this kind stands.
-pub fn followed<T: Drop>(head: T, kind: Kind, tokens: &mut Cursor<'_>) -> Result<T, Fault>
-    ensures { Reads (parts.followed head kind tokens.old) result tokens.new }
-{
-    tokens.expect(kind)?;
-    Ok(head)
 }
 
 /// Expressions in the round brackets of a place.
