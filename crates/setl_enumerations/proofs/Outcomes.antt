@@ -1,5 +1,5 @@
 -- Outcomes with a charge and outcomes of sets and tuples.
-use Rattle.std.specs.Prelude.{◌≡◌, ℕ, ◌+◌, ◌^◌, ◌<◌, ◌≤◌, Bool, true, false, nat_le, List, [], ◌∷◌, ◌++◌, Option, Some, None, map, max, ℤ, pos, negsuc, ◌<ℤ◌, length, refl}
+use Rattle.std.specs.Prelude.{◌≡◌, ℕ, ◌+◌, ◌^◌, ◌<◌, ◌≤◌, true, false, nat_le, List, [], ◌∷◌, Option, Some, map, max, ℤ, pos, negsuc, ◌<ℤ◌, length, refl}
 use Rattle.std.specs.Bool.{if◌then◌else◌}
 use Rattle.std.specs.declared.cmp.Ordering.{Ordering}
 use Rattle.std.specs.declared.cmp.Ordering.TheVariants.{Less, Equal, Greater}
@@ -8,7 +8,7 @@ use Rattle.std.proofs.lemmas.Bool.Decides.{nat_tests}
 use Rattle.std.proofs.lemmas.Int.{ints}
 use Rattle.setl_value.specs.declared.Value.{Value}
 use Rattle.setl_value.specs.DatumOf.{datum, part}
-use Rattle.setl_value.specs.Datum.{Datum, int, depth, elements_depth, element_list, elements_of, parts_depth, parts_of, set_of, tuple_of, element_list-elements_of}
+use Rattle.setl_value.specs.Datum.{Datum, int, depth, elements_depth, elements_of, parts_depth, parts_of, set_of, tuple_of, element_list-elements_of}
 use Rattle.setl_value.specs.Order.{datum_cmp}
 use Rattle.setl_value.specs.OrderLaws.{same_datum}
 use Rattle.setl_value.specs.WellFormed.{trim}
@@ -19,7 +19,7 @@ use Rattle.setl_enumerations.specs.Counts.{choose}
 use Rattle.setl_enumerations.proofs.Binomials.{none_above}
 use Rattle.setl_enumerations.proofs.Sizes.{subset_number, none_larger}
 use Rattle.setl_map.specs.RangeRows.{as_set, as_tuple}
-use Rattle.setl_map.specs.Outcome.{Outcome, Gives, Fails, Overspends, DeepFault, RangeFault, KindFault, adding, charging, value, within_depth}
+use Rattle.setl_map.specs.Outcome.{Outcome, Gives, Fails, Overspends, DeepFault, adding, charging, value, within_depth}
 
 pub too_deep : (d : Datum) → 500 < depth d → within_depth d ≡ Fails DeepFault
 too_deep d h = let t : nat_le (depth d) 500 ≡ false = grind (arith, nat_tests) in ap (λ b. if b then value d else Fails DeepFault) t

@@ -101,13 +101,7 @@ fn set_step_to(alloc: Global, a: i128, b: i128, c: &Value, turns: u64) -> Result
     }
 }
 
-fn tuple_step_to(
-    alloc: Global,
-    a: i128,
-    b: i128,
-    c: &Value,
-    turns: u64,
-) -> Result<Answer, OpFault>
+fn tuple_step_to(alloc: Global, a: i128, b: i128, c: &Value, turns: u64) -> Result<Answer, OpFault>
     ensures { Tells result (stepped_integers as_tuple turns (int a) (int b) (datum c.now)) }
 {
     let Value::Int(c) = c else {

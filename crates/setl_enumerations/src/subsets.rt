@@ -46,12 +46,7 @@ pub(crate) fn pow_in(alloc: Global, s: &Value, turns: u64) -> Result<Answer, OpF
 }
 
 /// `n npow s`, with memory for the subsets.
-pub(crate) fn npow_in(
-    alloc: Global,
-    n: &Value,
-    s: &Value,
-    turns: u64,
-) -> Result<Answer, OpFault>
+pub(crate) fn npow_in(alloc: Global, n: &Value, s: &Value, turns: u64) -> Result<Answer, OpFault>
     ensures { Tells result (some_subsets turns (datum n.now) (datum s.now)) }
 {
     match (n, s) {

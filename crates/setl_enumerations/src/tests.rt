@@ -125,10 +125,22 @@ const RANGES: [(i128, i128, &[i128]); 4] = [
 fn ranges_have_both_ends(rt: HostRuntime) -> Result<(), Fail> {
     for (a, b, items) in RANGES {
         let n = items.len() as u64;
-        assert!(rt; is_set(set_range(rt.alloc(), &Value::Int(a), &Value::Int(b), 3), items, n));
+        assert!(rt;
+            is_set(
+                set_range(rt.alloc(), &Value::Int(a), &Value::Int(b), 3),
+                items,
+                n
+            )
+        );
     }
     let two_to_four = [Some(2), Some(3), Some(4)];
-    assert!(rt; is_tuple(tuple_range(rt.alloc(), &Value::Int(2), &Value::Int(4), 3), &two_to_four, 3));
+    assert!(rt;
+        is_tuple(
+            tuple_range(rt.alloc(), &Value::Int(2), &Value::Int(4), 3),
+            &two_to_four,
+            3
+        )
+    );
     Ok(())
 }
 
@@ -146,10 +158,34 @@ const STEPS: [(i128, i128, i128, &[i128]); 6] = [
 fn steps_stop_at_the_bound(rt: HostRuntime) -> Result<(), Fail> {
     for (a, b, c, items) in STEPS {
         let n = items.len() as u64;
-        assert!(rt; is_set(set_step(rt.alloc(), &Value::Int(a), &Value::Int(b), &Value::Int(c), 3), items, n));
+        assert!(rt;
+            is_set(
+                set_step(
+                    rt.alloc(),
+                    &Value::Int(a),
+                    &Value::Int(b),
+                    &Value::Int(c),
+                    3
+                ),
+                items,
+                n
+            )
+        );
     }
     let falling = [Some(5), Some(3), Some(1)];
-    assert!(rt; is_tuple(tuple_step(rt.alloc(), &Value::Int(5), &Value::Int(3), &Value::Int(0), 3), &falling, 3));
+    assert!(rt;
+        is_tuple(
+            tuple_step(
+                rt.alloc(),
+                &Value::Int(5),
+                &Value::Int(3),
+                &Value::Int(0),
+                3
+            ),
+            &falling,
+            3
+        )
+    );
     Ok(())
 }
 
@@ -159,20 +195,36 @@ const LONG: [(i128, i128, u64); 3] = [(1, 3, 2), (LEAST, GREATEST, 100), (0, GRE
 #[test]
 fn ranges_have_faults(rt: HostRuntime) -> Result<(), Fail> {
     for (a, b, turns) in LONG {
-        assert_eq!(rt; fault(set_range(rt.alloc(), &Value::Int(a), &Value::Int(b), turns)), Some(OpFault::Spent));
+        assert_eq!(rt;
+            fault(set_range(rt.alloc(), &Value::Int(a), &Value::Int(b), turns)),
+            Some(OpFault::Spent)
+        );
     }
     let one = Value::Int(1);
-    assert_eq!(rt; fault(tuple_step(rt.alloc(), &one, &one, &one, 9)), Some(OpFault::Zero));
-    assert_eq!(rt; fault(tuple_range(rt.alloc(), &one, &Value::Bool(true), 9)), Some(OpFault::Kind));
+    assert_eq!(rt;
+        fault(tuple_step(rt.alloc(), &one, &one, &one, 9)),
+        Some(OpFault::Zero)
+    );
+    assert_eq!(rt;
+        fault(tuple_range(rt.alloc(), &one, &Value::Bool(true), 9)),
+        Some(OpFault::Kind)
+    );
     Ok(())
 }
 
 #[test]
 fn enumerations_are_read(rt: HostRuntime) -> Result<(), Fail> {
-    let some = vec![in rt.alloc(); Some(Value::Int(3)), Some(Value::Int(1)), Some(Value::Int(3))]?;
+    let some = vec![in rt.alloc();
+        Some(Value::Int(3)),
+        Some(Value::Int(1)),
+        Some(Value::Int(3)),
+    ]?;
     assert!(rt; is_set(enumerate_set(rt.alloc(), &some), &[1, 3], 0));
     let with_om = vec![in rt.alloc(); None, Some(Value::Int(1)), None]?;
-    assert_eq!(rt; fault(enumerate_set(rt.alloc(), &with_om)), Some(OpFault::Om));
+    assert_eq!(rt;
+        fault(enumerate_set(rt.alloc(), &with_om)),
+        Some(OpFault::Om)
+    );
     assert!(rt; is_tuple(enumerate_tuple(rt.alloc(), with_om), &[None, Some(1)], 0));
     Ok(())
 }
@@ -187,8 +239,14 @@ fn subsets_are_charged(rt: HostRuntime) -> Result<(), Fail> {
     let three = ints(alloc, &[1, 2, 3])?;
     let pairs: [&[i128]; 3] = [&[1, 2], &[1, 3], &[2, 3]];
     assert!(rt; is_set_of_sets(npow_in(alloc, &Value::Int(2), &three, 3), &pairs, 3));
-    assert_eq!(rt; fault(npow_in(alloc, &Value::Int(2), &three, 2)), Some(OpFault::Spent));
+    assert_eq!(rt;
+        fault(npow_in(alloc, &Value::Int(2), &three, 2)),
+        Some(OpFault::Spent)
+    );
     assert!(rt; is_set_of_sets(npow_in(alloc, &Value::Int(GREATEST), &three, 0), &[], 0));
-    assert_eq!(rt; fault(npow_in(alloc, &Value::Int(-1), &three, 9)), Some(OpFault::Range));
+    assert_eq!(rt;
+        fault(npow_in(alloc, &Value::Int(-1), &three, 9)),
+        Some(OpFault::Range)
+    );
     Ok(())
 }

@@ -1,4 +1,4 @@
-use Rattle.std.proofs.Common.{◌≡◌, ◌+◌, ◌<◌, None, arith, ◌∙◌, subst, sym}
+use Rattle.std.proofs.Common.{◌≡◌, None, arith, subst, sym}
 use Rattle.setl_enumerations.proofs.Binomials.{diagonal, diagonal_next}
 use Rattle.setl_enumerations.specs.Counts.{IsCount, choose}
 use Rattle.setl_enumerations.proofs.counts.subset_count.Goals as goal

@@ -16,7 +16,7 @@ of-requires c =
 pub returns : goal.returns
 returns c =
     λ by s w.
-      (let a = to_z-of_z w128 c.args.a c.ranges.a in
-      let values = c.in_ok-integers.field-0.items in
-      let is : map datum values ≡ spread c.args.a by c.args.n = c.in_ok-integers.ensures.spread by (to_z-of_z w128 c.args.step c.ranges.step ∙ s) (subst (λ x. AreWide x by c.args.n) (sym a) w) ∙ ap (λ x. spread x by c.args.n) a in
-      tuple_charged c.args.n (spread c.args.a by c.args.n) (map datum values) (map part c.in_ok-parts.parts.items) c.in_ok-of.field-0 is (ap (map part) c.in_ok-parts.ensures ∙ some_data values) c.in_ok-of.ensures.trimmed)
+    (let a = to_z-of_z w128 c.args.a c.ranges.a in
+    let values = c.in_ok-integers.field-0.items in
+    let is : map datum values ≡ spread c.args.a by c.args.n = c.in_ok-integers.ensures.spread by (to_z-of_z w128 c.args.step c.ranges.step ∙ s) (subst (λ x. AreWide x by c.args.n) (sym a) w) ∙ ap (λ x. spread x by c.args.n) a in
+    tuple_charged c.args.n (spread c.args.a by c.args.n) (map datum values) (map part c.in_ok-parts.parts.items) c.in_ok-of.field-0 is (ap (map part) c.in_ok-parts.ensures ∙ some_data values) c.in_ok-of.ensures.trimmed)

@@ -1,4 +1,4 @@
-use Rattle.std.proofs.Common.{◌≡◌, ◌<◌, ◌≤◌, Err, subst, ap, ◌∙◌}
+use Rattle.std.proofs.Common.{◌<◌, ◌≤◌, Err, subst, ap, ◌∙◌}
 use Rattle.setl_value.specs.Body.{Members}
 use Rattle.setl_map.specs.Answers.{Tells}
 use Rattle.setl_enumerations.specs.Counts.{choose}
