@@ -16,27 +16,7 @@ use setl_value::{SetBody, Value};
 use std::alloc::Global;
 
 /// `pow s`: the set of all subsets, which charges their number. Deep where it is more than 500 deep.
-pub fn pow(s: &Value, turns: u64) -> Result<Answer, OpFault>
-    ensures { Tells result (all_subsets turns (datum s.now)) }
-{
-    let _ = s;
-    let _ = turns;
-    Err(OpFault::NoMemory)
-}
-
-/// `n npow s`: the set of all subsets with n members, which charges their number. Range for a negative n, Deep where it is
-/// more than 500 deep.
-pub fn npow(n: &Value, s: &Value, turns: u64) -> Result<Answer, OpFault>
-    ensures { Tells result (some_subsets turns (datum n.now) (datum s.now)) }
-{
-    let _ = n;
-    let _ = s;
-    let _ = turns;
-    Err(OpFault::NoMemory)
-}
-
-/// `pow s`, with memory for the subsets.
-pub(crate) fn pow_in(alloc: Global, s: &Value, turns: u64) -> Result<Answer, OpFault>
+pub fn pow(alloc: Global, s: &Value, turns: u64) -> Result<Answer, OpFault>
     ensures { Tells result (all_subsets turns (datum s.now)) }
 {
     match s {
@@ -45,8 +25,9 @@ pub(crate) fn pow_in(alloc: Global, s: &Value, turns: u64) -> Result<Answer, OpF
     }
 }
 
-/// `n npow s`, with memory for the subsets.
-pub(crate) fn npow_in(alloc: Global, n: &Value, s: &Value, turns: u64) -> Result<Answer, OpFault>
+/// `n npow s`: the set of all subsets with n members, which charges their number. Range for a negative n, Deep where it is
+/// more than 500 deep.
+pub fn npow(alloc: Global, n: &Value, s: &Value, turns: u64) -> Result<Answer, OpFault>
     ensures { Tells result (some_subsets turns (datum n.now) (datum s.now)) }
 {
     match (n, s) {

@@ -1,7 +1,8 @@
 //! Rows of the operators' table: each call once on its happy path, the extremes of ranges, and the faults.
 
-use crate::subsets::{npow_in, pow_in};
-use crate::{enumerate_set, enumerate_tuple, set_range, set_step, tuple_range, tuple_step};
+use crate::{
+    enumerate_set, enumerate_tuple, npow, pow, set_range, set_step, tuple_range, tuple_step,
+};
 use setl_map::{Answer, OpFault};
 use setl_set::with;
 use setl_value::{SetBody, TupleBody, Value};
@@ -234,18 +235,18 @@ fn subsets_are_charged(rt: HostRuntime) -> Result<(), Fail> {
     let alloc = rt.alloc();
     let two = ints(alloc, &[1, 2])?;
     let all: [&[i128]; 4] = [&[], &[1], &[1, 2], &[2]];
-    assert!(rt; is_set_of_sets(pow_in(alloc, &two, 4), &all, 4));
-    assert_eq!(rt; fault(pow_in(alloc, &two, 3)), Some(OpFault::Spent));
+    assert!(rt; is_set_of_sets(pow(alloc, &two, 4), &all, 4));
+    assert_eq!(rt; fault(pow(alloc, &two, 3)), Some(OpFault::Spent));
     let three = ints(alloc, &[1, 2, 3])?;
     let pairs: [&[i128]; 3] = [&[1, 2], &[1, 3], &[2, 3]];
-    assert!(rt; is_set_of_sets(npow_in(alloc, &Value::Int(2), &three, 3), &pairs, 3));
+    assert!(rt; is_set_of_sets(npow(alloc, &Value::Int(2), &three, 3), &pairs, 3));
     assert_eq!(rt;
-        fault(npow_in(alloc, &Value::Int(2), &three, 2)),
+        fault(npow(alloc, &Value::Int(2), &three, 2)),
         Some(OpFault::Spent)
     );
-    assert!(rt; is_set_of_sets(npow_in(alloc, &Value::Int(GREATEST), &three, 0), &[], 0));
+    assert!(rt; is_set_of_sets(npow(alloc, &Value::Int(GREATEST), &three, 0), &[], 0));
     assert_eq!(rt;
-        fault(npow_in(alloc, &Value::Int(-1), &three, 9)),
+        fault(npow(alloc, &Value::Int(-1), &three, 9)),
         Some(OpFault::Range)
     );
     Ok(())
