@@ -1,8 +1,8 @@
 //! The operators on booleans and those that give booleans.
 
-ghost use Rattle.std.specs.Prelude.{◌≡◌, ◌<◌, ◌∷◌, [], length, slice_get, IfSome, MatchResult};
+ghost use Rattle.std.specs.Prelude.{◌≡◌, ◌∷◌, [], None, slice_get, MatchResult};
 ghost use Rattle.std.specs.List.{list_any};
-ghost use Rattle.std.specs.Option.{option_cmp};
+ghost use Rattle.std.specs.Option.{option_cmp, unwrap_or};
 ghost use Rattle.std.specs.Ordering.{is_eq};
 ghost use Rattle.setl_value.specs.DatumOf.{datum, part};
 ghost use Rattle.setl_value.specs.Order.{datum_cmp};
@@ -105,10 +105,9 @@ fn is_component(v: &Value, t: &TupleBody) -> bool
     false
 }
 
-/// Whether a value is the i-th component of a tuple.
+/// Whether a value is the component at index `i` of a tuple.
 fn is_at(v: &Value, t: &TupleBody, i: usize) -> bool
-    requires { i < length t.now }
-    ensures { IfSome (slice_get t.now i) (λ p. result ≡ is_datum (datum v.now) p) }
+    ensures { result ≡ is_datum (datum v.now) (unwrap_or (slice_get t.now i) None) }
 {
     match t.at(i) {
         None => false,
