@@ -68,6 +68,7 @@ pub fn tuple_step(
     }
 }
 
+// `{a..b}` over integers. The turns are tested before any memory is taken, here as below.
 fn set_between(alloc: Global, a: i128, b: i128, turns: u64) -> Result<Answer, OpFault>
     ensures { Tells result (range_of_integers as_set turns (int a) (int b)) }
 {
@@ -77,6 +78,7 @@ fn set_between(alloc: Global, a: i128, b: i128, turns: u64) -> Result<Answer, Op
     }
 }
 
+// `[a..b]` over integers.
 fn tuple_between(alloc: Global, a: i128, b: i128, turns: u64) -> Result<Answer, OpFault>
     ensures { Tells result (range_of_integers as_tuple turns (int a) (int b)) }
 {
@@ -86,6 +88,7 @@ fn tuple_between(alloc: Global, a: i128, b: i128, turns: u64) -> Result<Answer, 
     }
 }
 
+// `{a, b..c}` over integers a and b.
 fn set_step_to(alloc: Global, a: i128, b: i128, c: &Value, turns: u64) -> Result<Answer, OpFault>
     ensures { Tells result (stepped_integers as_set turns (int a) (int b) (datum c.now)) }
 {
@@ -101,6 +104,7 @@ fn set_step_to(alloc: Global, a: i128, b: i128, c: &Value, turns: u64) -> Result
     }
 }
 
+// `[a, b..c]` over integers a and b.
 fn tuple_step_to(alloc: Global, a: i128, b: i128, c: &Value, turns: u64) -> Result<Answer, OpFault>
     ensures { Tells result (stepped_integers as_tuple turns (int a) (int b) (datum c.now)) }
 {

@@ -36,6 +36,7 @@ pub fn npow(alloc: Global, n: &Value, s: &Value, turns: u64) -> Result<Answer, O
     }
 }
 
+// `pow s` over a set.
 fn all_subsets(alloc: Global, s: &SetBody, turns: u64) -> Result<Answer, OpFault>
     ensures { Tells result (all_subsets turns (set_of (Members s.now))) }
 {
@@ -49,6 +50,7 @@ fn all_subsets(alloc: Global, s: &SetBody, turns: u64) -> Result<Answer, OpFault
     }
 }
 
+// `n npow s` over an integer and a set. No subset has more members than s.
 fn some_subsets(alloc: Global, n: i128, s: &SetBody, turns: u64) -> Result<Answer, OpFault>
     ensures { Tells result (some_subsets turns (int n) (set_of (Members s.now))) }
 {
@@ -61,7 +63,7 @@ fn some_subsets(alloc: Global, n: i128, s: &SetBody, turns: u64) -> Result<Answe
     subsets_of_size(alloc, n as usize, s, turns)
 }
 
-// The set of all subsets with n members, of which there is one.
+// `n npow s` where s has n members or more.
 fn subsets_of_size(alloc: Global, n: usize, s: &SetBody, turns: u64) -> Result<Answer, OpFault>
     requires { n ≤ length (Members s.now) }
     ensures { Tells result (some_subsets turns (int (pos n)) (set_of (Members s.now))) }
