@@ -1,11 +1,11 @@
 -- What two values that are combined charge is at most the turns that are left.
-use Rattle.std.proofs.Common.{◌≡◌, ◌∙◌, ap, subst, refl, ℕ, ◌+◌, ◌-◌, ◌≤◌, Bool, true, false, Option, arith}
+use Rattle.std.proofs.Common.{◌≡◌, subst, refl, ℕ, ◌≤◌, Bool, true, false, Option, arith}
 use Rattle.std.specs.Prelude.{ℤ, pos, negsuc, Result, Ok, Err, nat_le, if◌then◌else◌}
 use Rattle.std.proofs.lemmas.Bool.Decides.{nat_tests}
 use Rattle.setl_scalar.specs.declared.ScalarFault.{ScalarFault}
 use Rattle.setl_scalar.specs.declared.ScalarFault.TheVariants.{Wide, Zero, Range, NoMemory}
 use Rattle.setl_scalar.specs.Integers.{add_of, mul_of}
-use Rattle.setl_value.specs.Datum.{Datum, bool, int, text, atom, tuple, set}
+use Rattle.setl_value.specs.Datum.{Datum, bool, int, text, tuple, set}
 use Rattle.setl_map.specs.Outcome.{Outcome, Gives, Fails, Overspends, adding, charging, value}
 use Rattle.setl_map.specs.Numbers.{whole, plus, times, replicated, greater, lesser}
 use Rattle.setl_map.specs.Truths.{both, either}

@@ -1,11 +1,11 @@
 -- The components of a set or a tuple by their indices.
-use Rattle.std.proofs.Common.{◌≡◌, ◌∙◌, ap, ℕ, ◌<◌, ◌⊎◌, inl, inr, List, length, map, slice_get, Option, Some, None, MatchOption, Bor, arith}
+use Rattle.std.proofs.Common.{◌≡◌, ◌∙◌, ap, ℕ, ◌<◌, ◌⊎◌, inl, inr, List, length, slice_get, Option, Some, None, MatchOption, Bor, arith}
 use Rattle.std.specs.Option.{option_map}
 use Rattle.std.proofs.lemmas.List.{length-map}
 use Rattle.std.proofs.lemmas.Option.{slice_get-map, slice_get-get_or}
 use Rattle.setl_value.specs.declared.Value.{Value}
 use Rattle.setl_value.specs.DatumOf.{datum}
-use Rattle.setl_value.specs.Datum.{Datum, set_of, tuple_of, elements_of, element_list, parts_of, part_list, element_list-elements_of, part_list-parts_of}
+use Rattle.setl_value.specs.Datum.{Datum, set_of, tuple_of, elements_of, element_list, element_list-elements_of, part_list-parts_of}
 use Rattle.setl_operators.specs.Combinations.{components, lent}
 
 pub count_of_set : (ds : List Datum) → length (components (set_of ds)) ≡ length ds

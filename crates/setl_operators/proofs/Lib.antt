@@ -1,3 +1,4 @@
 pub mod Components
 pub mod Charges
 pub mod Steps
+pub mod Strict

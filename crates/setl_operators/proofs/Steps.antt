@@ -1,6 +1,6 @@
 -- One step of a fold.
-use Rattle.std.proofs.Common.{◌≡◌, ◌∙◌, ap, sym, subst, refl, ℕ, suc, ◌+◌, ◌-◌, List, [], ◌∷◌, drop, slice_get, Option, Some, add-one, arith}
-use Rattle.std.specs.Prelude.{Result, Ok, Err}
+use Rattle.std.proofs.Common.{◌≡◌, ◌∙◌, ap, sym, subst, refl, ℕ, suc, ◌+◌, ◌-◌, List, ◌∷◌, drop, slice_get, Option, Some, add-one, arith}
+use Rattle.std.specs.Prelude.{Err}
 use Rattle.std.proofs.Math.Seq.{drop-cons}
 use Rattle.std.proofs.lemmas.Option.{slice_get_within, get_or_from_slice_get}
 use Rattle.setl_value.specs.Datum.{Datum}

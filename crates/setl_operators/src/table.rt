@@ -8,7 +8,7 @@ ghost use Rattle.setl_map.specs.Operators.{op_of, TakesOperands};
 ghost use Rattle.setl_map.specs.Outcome.{value};
 ghost use Rattle.setl_map.specs.Puts.{put};
 ghost use Rattle.setl_text.specs.Texts.{whole_text};
-ghost use Rattle.setl_operators.specs.Readers.{reads_two};
+ghost use Rattle.setl_operators.specs.Readers.{reads_two, takes_more};
 
 use crate::folds::{Combination, fold};
 use crate::operands::{any_one, any_three, any_two, one, three, two};
@@ -67,6 +67,22 @@ pub fn op(
         Operator::FoldMin => fold(alloc, Combination::Least, &one(args)?, turns),
         Operator::FoldAnd => fold(alloc, Combination::All, &one(args)?, turns),
         Operator::FoldOr => fold(alloc, Combination::Any, &one(args)?, turns),
+        _ => with_more(alloc, what, args, turns),
+    }
+}
+
+// What an operator with more than one operand, or any number of them, makes of them.
+fn with_more(
+    alloc: Global,
+    what: Operator,
+    args: Vec<Option<Value>>,
+    turns: u64,
+) -> Result<Answer, OpFault>
+    requires more { IsTrue (takes_more what) }
+    requires count { TakesOperands what (length args.items) }
+    ensures { Tells result (op_of what (map part args.items) turns) }
+{
+    match what {
         Operator::With => {
             let (a, b) = two(args)?;
             with(alloc, a, b)
@@ -106,14 +122,27 @@ pub fn op(
             let (a, b, c) = three(args)?;
             put_images(alloc, a, b, &c)
         }
-        _ => {
-            let (a, b) = two(args)?;
-            of_two(alloc, what, &a, &b, turns)
-        }
+        _ => read_two(alloc, what, args, turns),
     }
 }
 
-// What an operator that reads two values makes of them.
+// What an operator that reads two values makes of its operands.
+#[tactic(auto, using(crate::proofs::Strict::om_is_told))]
+fn read_two(
+    alloc: Global,
+    what: Operator,
+    args: Vec<Option<Value>>,
+    turns: u64,
+) -> Result<Answer, OpFault>
+    requires reads { IsTrue (reads_two what) }
+    requires count { length args.items ≡ 2 }
+    ensures { Tells result (op_of what (map part args.items) turns) }
+{
+    let (a, b) = two(args)?;
+    of_two(alloc, what, &a, &b, turns)
+}
+
+// What it makes of these two values.
 fn of_two(
     alloc: Global,
     what: Operator,
