@@ -63,7 +63,7 @@ pub subsets_row : Means subsets [] 7 true (codes "{{} {1} {1 2} {2}} {{1 2} {1 3
 unfolding digits
 subsets_row = record { steps = 3000; last = _; ends = refl; written = refl }
 
-pub long_range_row : Means long_range [] 99 true [] Spent
+pub long_range_row : Means long_range [] 10 true [] Spent
 unfolding digits
 long_range_row = record { steps = 3000; last = _; ends = refl; written = refl }
 

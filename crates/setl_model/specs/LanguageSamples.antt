@@ -103,9 +103,9 @@ folds =
 abbrev pub subsets : Program
 subsets = lines (print (one Pow (enumeration (1 ∷ 2 ∷ [])) ∷ two Npow (number 2) (enumeration (1 ∷ 2 ∷ 3 ∷ [])) ∷ []) ∷ [])
 
--- x := {1..100}; print(#x);
+-- x := {1..1000000}; print(#x);
 abbrev pub long_range : Program
-long_range = lines (assign x (two SetRange (number 1) (number 100)) ∷ print (one Size (Name x) ∷ []) ∷ [])
+long_range = lines (assign x (two SetRange (number 1) (number 1000000)) ∷ print (one Size (Name x) ∷ []) ∷ [])
 
 -- s: sparse set(elmt n), where base n: int
 -- s := {1}; print(s);

@@ -84,7 +84,7 @@ pub fn worked_operators()
     ensures arithmetic { Means arithmetic [] 0 true (codes "-3 1 1 1024\n") Done }
     ensures folds { Means folds [] 4 true (codes "10 * 9\n") Done }
     ensures subsets { Means subsets [] 7 true (codes "{{} {1} {1 2} {2}} {{1 2} {1 3} {2 3}}\n") Done }
-    ensures long_range { Means long_range [] 99 true [] Spent }
+    ensures long_range { Means long_range [] 10 true [] Spent }
     ensures enumeration_or_former { Means enumeration_or_former [] 1 true (codes "{true} {}\n") Done }
 {}
 
