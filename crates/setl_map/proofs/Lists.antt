@@ -2,7 +2,7 @@
 use Rattle.std.specs.Prelude.{◌≡◌, ℕ, zero, suc, ◌+◌, ◌-◌, ◌<◌, ◌≤◌, List, [], ◌∷◌, ◌++◌, Option, Some, None, slice_get, slice_range, take, drop, refl}
 use Rattle.std.specs.List.{filter_map, cons_option}
 use Rattle.std.specs.Option.{unwrap_or, option_to_list}
-use Rattle.std.proofs.Common.{ap, ◌∙◌, arith}
+use Rattle.std.proofs.Common.{ap, ◌∙◌, arith, append_assoc}
 use Rattle.std.proofs.lemmas.Option.{none-some}
 use Rattle.std.proofs.lemmas.List.Elements.{filter_map-append}
 use Rattle.setl_value.specs.Datum.{Datum, depth, elements_depth, elements_of, set_of}
@@ -33,6 +33,16 @@ one_option (Some x) = refl
 
 pub filter_map_snoc : {X Y : Type 0} (h : X → Option Y) (xs : List X) (x : X) → filter_map h (xs ++ x ∷ []) ≡ filter_map h xs ++ option_to_list (h x)
 filter_map_snoc h xs x = filter_map-append h xs (x ∷ []) ∙ ap (λ l. filter_map h xs ++ l) (one_option (h x))
+
+option_front : {X : Type 0} (o : Option X) (xs : List X) → option_to_list o ++ xs ≡ cons_option o xs
+option_front None xs = refl
+option_front (Some x) xs = refl
+
+-- what h makes of the first of some elements, and then of n more
+pub one_more_part : {X Y : Type 0} (h : X → Option Y) (n : ℕ) (made new : List Y) (x : X) (rest : List X) → new ≡ made ++ option_to_list (h x)
+    → new ++ filter_map h (take n rest) ≡ made ++ filter_map h (take (suc n) (x ∷ rest))
+one_more_part h n made new x rest e =
+    ap (λ l. l ++ filter_map h (take n rest)) e ∙ append_assoc made (option_to_list (h x)) (filter_map h (take n rest)) ∙ ap (λ l. made ++ l) (option_front (h x) (filter_map h (take n rest)))
 
 elements_get : (ds : List Datum) (i : ℕ) (d : Datum) → slice_get ds i ≡ Some d → depth d ≤ elements_depth (elements_of ds)
 elements_get [] i d h = absurd (none-some d h)

@@ -1,5 +1,5 @@
 -- What the calls on maps make of the pairs between two bounds.
-use Rattle.std.specs.Prelude.{◌≡◌, ℕ, zero, suc, ◌+◌, ◌-◌, ◌≤◌, Bool, true, false, not, ◌||◌, cond, List, [], ◌∷◌, ◌++◌, Option, Some, None, IsSome, map, max, length, take, drop, slice_range, nat_le, nat_lt, refl}
+use Rattle.std.specs.Prelude.{◌≡◌, ℕ, zero, suc, ◌+◌, ◌-◌, ◌<◌, ◌≤◌, Bool, true, false, not, ◌||◌, cond, List, [], ◌∷◌, ◌++◌, Option, Some, None, IsSome, map, max, length, take, drop, slice_range, nat_le, nat_lt, refl}
 use Rattle.std.specs.List.{AllByRecursion, filter_map, cons_option, list_any}
 use Rattle.std.specs.List.Sorted.{IsStrictlySortedBy}
 use Rattle.std.specs.declared.cmp.Ordering.{Ordering}
@@ -7,7 +7,7 @@ use Rattle.std.specs.declared.cmp.Ordering.TheVariants.{Less, Equal, Greater}
 use Rattle.std.specs.Ordering.{is_eq, ordering_then, ordering_reverse}
 use Rattle.std.specs.Option.{option_to_list}
 use Rattle.std.proofs.Common.{ap, sym, ◌∙◌, subst, arith}
-use Rattle.std.proofs.lemmas.Bool.{false≢true}
+use Rattle.std.proofs.lemmas.Bool.{false≢true, ltb-false}
 use Rattle.std.proofs.lemmas.Bool.Decides.{nat_tests}
 use Rattle.std.proofs.lemmas.List.{length-take, length-drop}
 use Rattle.std.proofs.lemmas.List.Folds.{list_any-append}
@@ -21,9 +21,9 @@ use Rattle.setl_value.specs.Pairs.{pair, pair_parts, second_of, pairs_at, images
 use Rattle.setl_set.specs.Sets.{has_datum, insert_datum, insert_by, set_from}
 use Rattle.setl_set.specs.Laws.{RisingListsAgree, TestsMembership, Gathers, Inserts}
 use Rattle.setl_map.specs.Maps.{only, without_point, put_image, put_images}
-use Rattle.setl_map.specs.Points.{is_before, comes_before, IsBound, part_at, pair_depth}
+use Rattle.setl_map.specs.Points.{is_at, is_before, comes_before, IsBound, part_at, pair_depth}
 use Rattle.setl_map.proofs.PairFacts.{pair_of, IsPair}
-use Rattle.setl_map.proofs.Spans.{is_at, IsSplit}
+use Rattle.setl_map.proofs.Spans.{IsSplit}
 use Rattle.setl_map.proofs.Gathering.{depth_insert, depth_set_from, is_set_from}
 
 -- ---- depth
@@ -52,7 +52,7 @@ depth_append : (xs ys : List Datum) → elements_depth (elements_of (xs ++ ys)) 
 depth_append [] ys = omega arith
 depth_append (x ∷ xs) ys = omega (arith, depth_append xs ys)
 
-depth_take : (n : ℕ) (ds : List Datum) → elements_depth (elements_of (take n ds)) ≤ elements_depth (elements_of ds)
+pub depth_take : (n : ℕ) (ds : List Datum) → elements_depth (elements_of (take n ds)) ≤ elements_depth (elements_of ds)
 depth_take zero ds = omega arith
 depth_take (suc n) [] = omega arith
 depth_take (suc n) (d ∷ ds) = omega (arith, depth_take n ds)
@@ -339,6 +339,21 @@ deep_put x (Some y) ds h = let w = depth_without x ds in let d = depth_put x y d
 
 pub deep_put_all : (x : Datum) (ys ds : List Datum) → depth (set_of ds) ≤ 500 → nat_lt 500 (depth (set_of (point_pairs x ys))) ≡ nat_lt 500 (depth (set_of (put_images x ys ds)))
 deep_put_all x ys ds h = let w = depth_without x ds in let d = depth_put_all x ys ds in grind (arith, nat_tests)
+
+-- the parts of the first n members from the i-th on
+pub span_is : (h : Datum → Option Datum) (ds : List Datum) (i n : ℕ) (rest : List Datum) → rest ≡ drop i ds → filter_map h (take n rest) ≡ filter_map h (slice_range ds i (i + n))
+span_is h ds i n rest e = ap (λ l. filter_map h (take n l)) e ∙ ap (λ k. filter_map h (take k (drop i ds))) {x = n} {y = i + n - i} (omega arith)
+
+-- each of some pairs that are shallow has shallow parts
+abbrev pub PartsShallow : Datum → List Datum → Type 0
+PartsShallow x ys = AllByRecursion (λ y. (depth x < 500) × (depth y < 500)) ys
+
+pairs_shallow : (x : Datum) (ys : List Datum) → elements_depth (elements_of (point_pairs x ys)) ≤ 499 → PartsShallow x ys
+pairs_shallow x [] h = tt
+pairs_shallow x (y ∷ ys) h = ((omega arith, omega arith), pairs_shallow x ys (omega arith))
+
+pub parts_shallow : (x : Datum) (ys : List Datum) → nat_lt 500 (depth (set_of (point_pairs x ys))) ≡ false → PartsShallow x ys
+parts_shallow x ys h = pairs_shallow x ys (omega (arith, ltb-false 500 _ h))
 
 pub take_whole : (ds : List Datum) → take (length ds) ds ≡ ds
 take_whole [] = refl

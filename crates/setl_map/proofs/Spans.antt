@@ -11,12 +11,8 @@ use Rattle.setl_value.specs.Order.{datum_cmp}
 use Rattle.setl_value.specs.OrderLaws.{datum_cmp_total}
 use Rattle.setl_value.specs.Pairs.{pair_parts, first_of, is_datum, pairs_at}
 use Rattle.setl_map.specs.Maps.{without_point}
-use Rattle.setl_map.specs.Points.{is_before, comes_before, IsBound}
+use Rattle.setl_map.specs.Points.{is_at, is_before, comes_before, IsBound}
 use Rattle.setl_map.proofs.PairFacts.{pair_of, IsPair}
-
--- whether this is a pair of x
-abbrev pub is_at : Datum → Datum → Bool
-is_at x d = is_datum x (first_of (pair_parts d))
 
 -- ---- one pair, by how its first part stands to x
 

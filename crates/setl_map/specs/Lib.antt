@@ -1,4 +1,5 @@
 pub mod Outcome
+pub mod Takes
 pub mod Answers
 pub mod Maps
 pub mod Points

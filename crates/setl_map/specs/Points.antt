@@ -8,11 +8,15 @@ use Rattle.setl_value.specs.declared.Value.{Value}
 use Rattle.setl_value.specs.Datum.{Datum, depth}
 use Rattle.setl_value.specs.DatumOf.{datum}
 use Rattle.setl_value.specs.Order.{datum_cmp}
-use Rattle.setl_value.specs.Pairs.{pair, pair_parts, first_of, second_of}
+use Rattle.setl_value.specs.Pairs.{pair, pair_parts, first_of, second_of, is_datum}
 
 -- the data of two values
 abbrev pub pair_data : Bor Value × Bor Value → Datum × Datum
 pair_data p = (datum p.0.now, datum p.1.now)
+
+-- whether this is a pair of x
+abbrev pub is_at : Datum → Datum → Bool
+is_at x d = is_datum x (first_of (pair_parts d))
 
 -- whether a first part is below x, or is x where `past` holds, by how it stands to x
 abbrev pub is_before : Bool → Ordering → Bool

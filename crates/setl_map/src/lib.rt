@@ -81,6 +81,15 @@ pub struct Answer {
     pub charged: u64,
 }
 
+/// What was taken out of a set or a tuple in place.
+#[derive(Drop)]
+pub struct Taken {
+    /// The part, where None is `om`.
+    pub value: Option<Value>,
+    /// Whether there was one: of an empty set or tuple nothing is taken, and nothing changes.
+    pub stored: bool,
+}
+
 /// The operators on values, with the folds, the enumerations, the ranges and the puts. The operands stand in the order
 /// of the source.
 #[derive(Clone, Copy, Debug, PartialEq, Eq)]

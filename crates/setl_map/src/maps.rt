@@ -12,13 +12,13 @@ ghost use Rattle.setl_map.specs.Maps.{image, domain_of, range_of, without_point,
 
 use crate::MapFault;
 use crate::gather::gathered;
-use crate::pairs::{make_pair, parts_between, span};
+use crate::pairs::{make_pair, parts_of, span};
 use setl_set::laws;
 use setl_value::{Memory, SetBody, Value};
 use std::alloc::Global;
 
 /// The one image of `x`, and None where it has none or several. Kind exactly where a member is no pair. Its cost is
-/// that of two searches by halving.
+/// that of one search by halving, and of a step for each image.
 pub fn image(alloc: Global, f: &SetBody, x: &Value) -> Result<Option<Value>, MapFault>
     ensures value { IfOk result (λ y. part y ≡ image (datum x.now) (Members f.now)) }
     ensures kind { (result ≡ Err MapFault.Kind) ↔ (is_map (Members f.now) ≡ false) }
@@ -35,11 +35,11 @@ fn only_image(alloc: Global, f: &SetBody, x: &Value) -> Result<Option<Value>, Me
     requires { IsTrue (is_map (Members f.now)) }
     ensures { IfOk result (λ y. part y ≡ image (datum x.now) (Members f.now)) }
 {
-    let (from, to) = span(f, x);
-    if to - from != 1 {
+    let (from, count) = span(f, x);
+    if count != 1 {
         return Ok(None);
     }
-    let mut image = parts_between(alloc, f, false, from, to)?;
+    let mut image = parts_of(alloc, f.members_from(from), count, false)?;
     Ok(image.pop())
 }
 
@@ -61,8 +61,8 @@ fn all_images(alloc: Global, f: &SetBody, x: &Value) -> Result<SetBody, Memory>
     ensures { IfOk result (λ s. Members s ≡ images (datum x.now) (Members f.now)) }
 {
     f.learn();
-    let (from, to) = span(f, x);
-    let images = parts_between(alloc, f, false, from, to)?;
+    let (from, count) = span(f, x);
+    let images = parts_of(alloc, f.members_from(from), count, false)?;
     let set = SetBody::from_rising(alloc, images)?;
     Ok(set)
 }
@@ -96,7 +96,7 @@ fn set_of_parts(alloc: Global, f: &SetBody, first: bool) -> Result<SetBody, Memo
     ensures { IfOk result (λ s. Members s ≡ set_from (filter_map (part_at first) (Members f.now))) }
 {
     f.learn();
-    let parts = parts_between(alloc, f, first, 0, f.len())?;
+    let parts = parts_of(alloc, f.members(), f.len(), first)?;
     let set = gathered(alloc, parts)?;
     Ok(set)
 }
@@ -121,12 +121,12 @@ fn remove_point(alloc: Global, f: &mut SetBody, x: &Value) -> Result<(), Memory>
     ensures removed { OnOk result (Members f.new ≡ without_point (datum x.now) (Members f.old)) }
     ensures refused { OnErr result (f.new ≡ f.old) }
 {
-    let (from, to) = span(f, x);
+    let (from, count) = span(f, x);
     f.learn();
-    if from == to {
+    if count == 0 {
         return Ok(());
     }
-    f.replace(from, to, Vec::new(alloc))
+    f.replace_in(from, count, Vec::new(alloc))
 }
 
 /// Makes `y` the one image of `x`, or leaves `x` without an image where `y` is None. Kind exactly where a member is no
@@ -179,9 +179,9 @@ fn put_pair(alloc: Global, f: &mut SetBody, x: Value, y: Value) -> Result<(), Me
 {
     laws::operations_have_their_members();
     f.learn();
-    let (from, to) = span(f, &x);
+    let (from, count) = span(f, &x);
     let pairs = one_pair(alloc, x, y)?;
-    f.replace(from, to, pairs)
+    f.replace_in(from, count, pairs)
 }
 
 // The list of one pair.
@@ -233,9 +233,9 @@ fn put_shallow_images(alloc: Global, f: &mut SetBody, x: &Value, s: &SetBody) ->
     laws::operations_have_their_members();
     f.learn();
     s.learn();
-    let (from, to) = span(f, x);
+    let (from, count) = span(f, x);
     let pairs = pairs_from(alloc, x, s)?;
-    f.replace(from, to, pairs)
+    f.replace_in(from, count, pairs)
 }
 
 // The pairs of `x` and each member of `s`.
@@ -244,8 +244,7 @@ fn pairs_from(alloc: Global, x: &Value, s: &SetBody) -> Result<Vec<Value>, Memor
     ensures { IfOk result (λ ps. map datum ps.items ≡ map (λ y. pair (datum x.now) y) (Members s.now)) }
 {
     let mut pairs = Vec::with_capacity(alloc, s.len())?;
-    for i in 0..s.len() {
-        let y = s.at(i);
+    for y in s.members() {
         pairs.push(make_pair(alloc, x.copy()?, y.copy()?)?)?;
     }
     Ok(pairs)

@@ -1,17 +1,17 @@
 //! The pairs of a map: their parts, and where those of one point stand.
 
-ghost use Rattle.std.specs.Prelude.{◌≡◌, ◌<◌, ◌≤◌, ◌++◌, true, false, length, map, IfOk, OnOk, IsTrue, slice_range};
-ghost use Rattle.std.specs.List.{filter_map};
+ghost use Rattle.std.specs.Prelude.{◌≡◌, ◌<◌, ◌+◌, ◌++◌, true, false, take, drop, map, IfOk, OnOk, IsTrue};
+ghost use Rattle.std.specs.List.{filter_map, prefix_len};
 ghost use Rattle.std.specs.Option.{option_map, option_to_list};
 ghost use Rattle.setl_value.specs.Body.{Members};
 ghost use Rattle.setl_value.specs.Datum.{depth};
 ghost use Rattle.setl_value.specs.DatumOf.{datum};
 ghost use Rattle.setl_value.specs.Pairs.{is_map, pair, pair_parts};
-ghost use Rattle.setl_map.specs.Points.{comes_before, IsBound, part_at, pair_data};
+ghost use Rattle.setl_value.specs.Places.{HasPlace, rank};
+ghost use Rattle.setl_map.specs.Points.{is_at, IsBound, part_at, pair_data};
 
-use setl_value::{Memory, SetBody, TupleBody, Value};
+use setl_value::{Cursor, MemberIter, Memory, SetBody, TupleBody, Value};
 use std::alloc::Global;
-use std::cmp::Ordering;
 
 // The two parts of a pair, and None for what is no pair.
 fn parts(v: &Value) -> Option<(&Value, &Value)>
@@ -28,63 +28,62 @@ fn parts(v: &Value) -> Option<(&Value, &Value)>
     Some((x, y))
 }
 
-// Whether the first part of a pair is below `x`, or is `x` where `past` holds.
-fn comes_before(past: bool, x: &Value, v: &Value) -> bool
-    ensures { result ≡ comes_before past (datum x.now) (datum v.now) }
+// Whether a value is a pair whose first part is `x`.
+fn is_at(v: &Value, x: &Value) -> bool
+    ensures { result ≡ is_at (datum x.now) (datum v.now) }
 {
     match parts(v) {
         None => false,
-        Some((a, _)) => match a.compare(x) {
-            Ordering::Less => true,
-            Ordering::Equal => past,
-            Ordering::Greater => false,
-        },
+        Some((a, _)) => x.compare(a).is_eq(),
     }
 }
 
-// How many pairs of a map have a first part below `x`, or at most `x` where `past` holds, found by halving. These stand
-// before the others.
-fn bound(f: &SetBody, past: bool, x: &Value) -> usize
+/// Where the pairs with the first part `x` begin, and how many they are.
+pub(crate) fn span(f: &SetBody, x: &Value) -> (Cursor, usize)
     requires { IsTrue (is_map (Members f.now)) }
-    ensures { IsBound past (datum x.now) (Members f.now) result }
+    ensures place { HasPlace f.now result.0 }
+    ensures from { IsBound false (datum x.now) (Members f.now) (rank f.now result.0) }
+    ensures to { IsBound true (datum x.now) (Members f.now) (rank f.now result.0 + result.1) }
 {
     f.learn();
-    let mut low = 0;
-    let mut high = f.len();
-    while low < high {
-        let middle = low + (high - low) / 2;
-        if comes_before(past, x, f.at(middle)) {
-            low = middle + 1;
-        } else {
-            high = middle;
+    let from = f.search_point(x);
+    (from, leading(f, from, x))
+}
+
+// How many pairs of `x` stand at a place, one after the other.
+fn leading(f: &SetBody, from: Cursor, x: &Value) -> usize
+    requires { HasPlace f.now from }
+    ensures { result ≡ prefix_len (is_at (datum x.now)) (drop (rank f.now from) (Members f.now)) }
+{
+    let size = f.len();
+    let mut rest = f.members_from(from);
+    for count in 0..size {
+        let Some(v) = rest.next() else {
+            return count;
+        };
+        if !is_at(v, x) {
+            return count;
         }
     }
-    low
+    size
 }
 
-/// Where the pairs with the first part `x` begin and end.
-pub(crate) fn span(f: &SetBody, x: &Value) -> (usize, usize)
-    requires { IsTrue (is_map (Members f.now)) }
-    ensures from { IsBound false (datum x.now) (Members f.now) result.0 }
-    ensures to { IsBound true (datum x.now) (Members f.now) result.1 }
-{
-    (bound(f, false, x), bound(f, true, x))
-}
-
-/// Copies of the first parts of the pairs from the `from`-th up to before the `to`-th, or else of the second parts.
-pub(crate) fn parts_between(
+/// Copies of the first parts of the first `count` members, or else of their second parts.
+pub(crate) fn parts_of(
     alloc: Global,
-    f: &SetBody,
+    members: MemberIter<'_>,
+    count: usize,
     first: bool,
-    from: usize,
-    to: usize,
 ) -> Result<Vec<Value>, Memory>
-    requires { (from ≤ to) × (to ≤ length (Members f.now)) }
-    ensures { IfOk result (λ vs. map datum vs.items ≡ filter_map (part_at first) (slice_range (Members f.now) from to)) }
+    ensures { IfOk result (λ vs. map datum vs.items ≡ filter_map (part_at first) (take count members.entry)) }
 {
-    let mut chosen = Vec::with_capacity(alloc, to - from)?;
-    for i in from..to {
-        push_part(first, f.at(i), &mut chosen)?;
+    let mut rest = members;
+    let mut chosen = Vec::with_capacity(alloc, count)?;
+    for _ in 0..count {
+        let Some(v) = rest.next() else {
+            return Ok(chosen);
+        };
+        push_part(first, v, &mut chosen)?;
     }
     Ok(chosen)
 }

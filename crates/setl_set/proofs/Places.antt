@@ -7,13 +7,15 @@ use Rattle.std.specs.Ordering.{is_eq}
 use Rattle.std.specs.Option.{unwrap_or}
 use Rattle.std.proofs.Common.{ap, sym, ◌∙◌, subst, arith}
 use Rattle.std.proofs.lemmas.Bool.{or_left, or_right, or_from, or_parts, not_from_false, cond-true, cond-false, not_from_true}
-use Rattle.std.proofs.lemmas.Option.{none-some}
+use Rattle.std.proofs.lemmas.Option.{none-some, slice_get_within}
+use Rattle.setl_value.specs.declared.places.Cursor.{Cursor}
+use Rattle.setl_value.specs.Body.{Body, Members}
 use Rattle.setl_value.specs.Datum.{Datum, depth, elements_depth, elements_of, element_list-elements_of}
 use Rattle.setl_value.specs.Order.{datum_cmp, IsRising}
 use Rattle.setl_value.specs.OrderLaws.{datum_cmp_total, same_if_eq}
 use Rattle.setl_value.specs.WellFormed.{IsSetList}
 use Rattle.setl_set.specs.Sets.{has_datum, insert_datum, insert_by, remove_datum}
-use Rattle.setl_set.specs.Place.{IsPlace}
+use Rattle.setl_value.specs.Places.{rank, IsPlace}
 use Rattle.setl_set.proofs.Members.{IsBelow, turned, turned_back, below_cons, none_above, rising_unique, eq_decides}
 use Rattle.setl_set.proofs.Results.{has_insert, rising_insert, all_insert}
 
@@ -24,48 +26,10 @@ some_same x y p = ap (λ o. unwrap_or o x) p
 pub rising_from_set : (ds : List Datum) → IsSetList ds → IsRising ds
 rising_from_set ds h = subst IsRising (element_list-elements_of ds) h.0.1
 
--- ---- search by halving
-
--- the place of d is from low to high
-pub record IsBetween (d : Datum) (ds : List Datum) (low high : ℕ) : Type 0 where
-  pub ordered : low ≤ high
-  pub within : high ≤ length ds
-  pub before : AllByRecursion (λ e. datum_cmp e d ≡ Less) (take low ds)
-  pub after : AllByRecursion (λ e. datum_cmp d e ≡ Less) (drop high ds)
-
 pub all_at : (P : Datum → Type 0) (ds : List Datum) (i : ℕ) (d : Datum) → AllByRecursion P ds → slice_get ds i ≡ Some d → P d
 all_at P [] i d a e = absurd (none-some d e)
 all_at P (c ∷ ds) zero d a e = subst P (some_same c d e) a.0
 all_at P (c ∷ ds) (suc i) d a e = all_at P ds i d a.1 e
-
-pub before_more : (ds : List Datum) (m : ℕ) (e d : Datum) → IsRising ds → slice_get ds m ≡ Some e → datum_cmp e d ≡ Less → AllByRecursion (λ x. datum_cmp x d ≡ Less) (take (suc m) ds)
-unfolding IsStrictlySortedBy
-before_more [] m e d r h p = absurd (none-some e h)
-before_more (c ∷ cs) zero e d r h p = (subst (λ x. datum_cmp x d ≡ Less) (sym (some_same c e h)) p, tt)
-before_more (c ∷ cs) (suc m) e d r h p =
-    (datum_cmp_total.trans c e d (all_at (λ y. datum_cmp c y ≡ Less) cs m e r.0 h) p, before_more cs m e d r.1 h p)
-
-pub after_more : (ds : List Datum) (m : ℕ) (e d : Datum) → IsRising ds → slice_get ds m ≡ Some e → datum_cmp d e ≡ Less → AllByRecursion (λ x. datum_cmp d x ≡ Less) (drop m ds)
-unfolding IsStrictlySortedBy
-after_more [] m e d r h p = absurd (none-some e h)
-after_more (c ∷ cs) zero e d r h p = below_cons d c cs (subst (λ x. datum_cmp d x ≡ Less) (sym (some_same c e h)) p) r
-after_more (c ∷ cs) (suc m) e d r h p = after_more cs m e d r.1 h p
-
-pub narrowed_low : (d : Datum) (ds : List Datum) (low high m : ℕ) (e : Datum) → IsRising ds → IsBetween d ds low high → m < high → slice_get ds m ≡ Some e → datum_cmp e d ≡ Less → IsBetween d ds (m + 1) high
-narrowed_low d ds low high m e r b l h p = record {
-  ordered = omega arith;
-  within = b.within;
-  before = subst (λ k. AllByRecursion (λ x. datum_cmp x d ≡ Less) (take k ds)) {x = suc m} (omega arith) (before_more ds m e d r h p);
-  after = b.after;
-}
-
-pub narrowed_high : (d : Datum) (ds : List Datum) (low high m : ℕ) (e : Datum) → IsRising ds → IsBetween d ds low high → low ≤ m → m < high → slice_get ds m ≡ Some e → datum_cmp e d ≡ Greater → IsBetween d ds low m
-narrowed_high d ds low high m e r b k l h p = record {
-  ordered = k;
-  within = omega (arith, b.within);
-  before = b.before;
-  after = after_more ds m e d r h (turned e d p);
-}
 
 -- ---- what is there, and what isn't
 
@@ -139,8 +103,12 @@ depths_out n (d ∷ ds) a = omega (arith, a.0, depths_out n ds a.1)
 pub depth_insert : (d : Datum) (ds : List Datum) (n : ℕ) → depth d ≤ n → elements_depth (elements_of ds) ≤ n → elements_depth (elements_of (insert_datum d ds)) ≤ n
 depth_insert d ds n p q = depths_out n (insert_datum d ds) (all_insert (λ e. depth e ≤ n) d ds p (depths_in n ds q))
 
--- ---- what `place` answers
+-- ---- what a search answers
 
-pub found_or_absent : (d : Datum) (ds : List Datum) (r : Result ℕ ℕ) → IfOk r (λ i. slice_get ds i ≡ Some d) → IfErr r (IsPlace d ds) → is_ok r ≡ has_datum d ds
-found_or_absent d ds (Ok i) f a = sym (there ds i d f)
-found_or_absent d ds (Err i) f a = sym (absent d ds i a)
+pub found_or_absent : (d : Datum) (b : Body) (r : Result Cursor Cursor) → IfOk r (λ c. slice_get (Members b) (rank b c) ≡ Some d) → IfErr r (λ c. IsPlace d (Members b) (rank b c)) → is_ok r ≡ has_datum d (Members b)
+found_or_absent d b (Ok c) f a = sym (there (Members b) (rank b c) d f)
+found_or_absent d b (Err c) f a = sym (absent d (Members b) (rank b c) a)
+
+-- a place with a member is before the end
+pub found_within : (ds : List Datum) (i : ℕ) (d : Datum) → slice_get ds i ≡ Some d → i < length ds
+found_within ds i d h = slice_get_within ds i d h

@@ -135,7 +135,7 @@ fn keep_rest(
 }
 
 // Puts copies of all members that are left at the end.
-fn copy_all(rest: MemberIter<'_>, kept: &mut Vec<Value>) -> Result<(), Memory>
+pub(crate) fn copy_all(rest: MemberIter<'_>, kept: &mut Vec<Value>) -> Result<(), Memory>
     ensures { OnOk result (map datum kept.new.items ≡ map datum kept.old.items ++ rest.entry) }
 {
     for v in rest {

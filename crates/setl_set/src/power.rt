@@ -9,6 +9,7 @@ ghost use Rattle.setl_set.specs.Choice.{members_at, ArePlaces, IsFull};
 ghost use Rattle.setl_set.specs.Merge.{kept_if};
 ghost use Rattle.setl_set.specs.Subsets.{pow_of, npow_of, set_of_sets, subsets_between};
 
+use crate::merge::copy_all;
 use crate::{Memory, SetFault};
 use setl_value::{SetBody, Value};
 use std::alloc::Global;
@@ -65,10 +66,13 @@ fn subsets(alloc: Global, s: &SetBody, least: usize, most: usize) -> Result<SetB
 {
     s.learn();
     let size = s.len();
+    let mut members = Vec::with_capacity(alloc, size)?;
+    copy_all(s.members(), &mut members)?;
+    let members = members.as_slice();
     let mut sets = Vec::new(alloc);
     let mut chosen = Vec::new(alloc);
     let mut next = 0;
-    add_chosen(alloc, s, least, &chosen, &mut sets)?;
+    add_chosen(alloc, s, members, least, &chosen, &mut sets)?;
     loop {
         if is_full(least, most, size, chosen.len(), next) {
             match chosen.pop() {
@@ -78,7 +82,7 @@ fn subsets(alloc: Global, s: &SetBody, least: usize, most: usize) -> Result<SetB
         } else {
             chosen.push(next)?;
             next += 1;
-            add_chosen(alloc, s, least, &chosen, &mut sets)?;
+            add_chosen(alloc, s, members, least, &chosen, &mut sets)?;
         }
     }
 }
@@ -96,30 +100,33 @@ fn is_full(least: usize, most: usize, size: usize, count: usize, next: usize) ->
 fn add_chosen(
     alloc: Global,
     s: &SetBody,
+    members: &[Value],
     least: usize,
     places: &[usize],
     sets: &mut Vec<Value>,
 ) -> Result<(), Memory>
-    requires { ArePlaces 0 places.now (length (Members s.now)) }
+    requires members { map datum members.now ≡ Members s.now }
+    requires places { ArePlaces 0 places.now (length (Members s.now)) }
     ensures { OnOk result (map datum sets.new.items ≡ map datum sets.old.items ++ kept_if (nat_le least (length places.now)) (set_of (members_at (Members s.now) places.now) ∷ [])) }
 {
     if least <= places.len() {
-        let members = copies_at(alloc, s, places)?;
+        let subset = copies_at(alloc, members, places)?;
         s.learn();
-        let set = SetBody::from_rising(alloc, members)?;
+        let set = SetBody::from_rising(alloc, subset)?;
         sets.push(Value::Set(set))?;
     }
     Ok(())
 }
 
 // Copies of the members at these places.
-fn copies_at(alloc: Global, s: &SetBody, places: &[usize]) -> Result<Vec<Value>, Memory>
-    requires { All (λ i. i < length (Members s.now)) places.now }
-    ensures { IfOk result (λ members. map datum members.items ≡ members_at (Members s.now) places.now) }
+fn copies_at(alloc: Global, members: &[Value], places: &[usize]) -> Result<Vec<Value>, Memory>
+    requires { All (λ i. i < length members.now) places.now }
+    ensures { IfOk result (λ subset. map datum subset.items ≡ members_at (map datum members.now) places.now) }
 {
-    let mut members = Vec::with_capacity(alloc, places.len())?;
+    let mut subset = Vec::with_capacity(alloc, places.len())?;
     for i in places {
-        members.push(s.at(*i).copy()?)?;
+        let member = &members[*i];
+        subset.push(member.copy()?)?;
     }
-    Ok(members)
+    Ok(subset)
 }

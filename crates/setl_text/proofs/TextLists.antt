@@ -1,8 +1,9 @@
 -- Texts with one blank between two, one more at a time, and doubled apostrophes.
 use Rattle.std.proofs.Common.{◌≡◌, ◌∙◌, ℕ, zero, suc, ◌+◌, ◌<◌, List, [], ◌∷◌, ◌++◌, length, take, map, get_or, slice_get, Some, None, Option, refl, sym, ap, append_assoc, arith, add-one, eqb, Bool, true, false, cond}
-use Rattle.std.proofs.lemmas.List.{map-append}
+use Rattle.std.specs.List.{AllByRecursion}
+use Rattle.std.proofs.lemmas.List.{map-append, append-nil}
 use Rattle.std.proofs.lemmas.Option.{slice_get-get_or}
-use Rattle.setl_value.specs.Datum.{Datum, depth, elements_of, parts_of, set_of, tuple_of}
+use Rattle.setl_value.specs.Datum.{Datum, depth, elements_depth, elements_of, parts_of, set_of, tuple_of}
 use Rattle.setl_text.specs.Texts.{spaced, doubled, inner_text, element_texts, part_texts, enclosed}
 use Rattle.setl_text.specs.TextParts.{blank_before, component_text}
 
@@ -56,12 +57,26 @@ components_text ps = ap spaced (by ps)
     by (None ∷ ps) = ap (λ ts. (42 ∷ []) ∷ ts) (by ps)
     by (Some d ∷ ps) = ap (λ ts. inner_text d ∷ ts) (by ps)
 
+-- the texts of some members, each behind a blank
+abbrev pub behind : List Datum → List ℕ
+behind [] = []
+behind (d ∷ ds) = 32 ∷ (inner_text d ++ behind ds)
+
+pub spaced_first : (d : Datum) (ds : List Datum) → spaced (map inner_text (d ∷ ds)) ≡ inner_text d ++ behind ds
+spaced_first d [] = sym (append-nil (inner_text d))
+spaced_first d (e ∷ es) = ap (λ t. inner_text d ++ 32 ∷ t) (spaced_first e es)
+
+-- all these are less deep than n
+abbrev pub AllLess : ℕ → List Datum → Type 0
+AllLess n ds = AllByRecursion (λ d. depth d < n) ds
+
+less_deep : (n : ℕ) (ds : List Datum) → elements_depth (elements_of ds) < n → AllLess n ds
+less_deep n [] h = tt
+less_deep n (d ∷ ds) h = (omega arith, less_deep n ds (omega arith))
+
 -- members and components are less deep than what holds them
-pub member_falls : (ds : List Datum) (i : ℕ) (d : Datum) → slice_get ds i ≡ Some d → depth d < depth (set_of ds)
-member_falls [] zero d h = absurd (cc)
-member_falls [] (suc i) d h = absurd (cc)
-member_falls (e ∷ ds) zero d h = let same : e ≡ d = cc in omega (arith, ap depth same)
-member_falls (e ∷ ds) (suc i) d h = omega (arith, member_falls ds i d h)
+pub members_fall : (ds : List Datum) → AllLess (depth (set_of ds)) ds
+members_fall ds = less_deep (depth (set_of ds)) ds (omega arith)
 
 pub component_falls : (ps : List (Option Datum)) (i : ℕ) (d : Datum) → slice_get ps i ≡ Some (Some d) → depth d < depth (tuple_of ps)
 component_falls [] zero d h = absurd (cc)

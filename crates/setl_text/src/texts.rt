@@ -101,9 +101,14 @@ fn push_set(into: &mut Vec<u8>, s: &SetBody) -> Result<(), Memory>
 fn push_members(into: &mut Vec<u8>, s: &SetBody) -> Result<(), Memory>
     ensures { OnOk result (into.new.items ≡ into.old.items ++ spaced (map inner_text (Members s.now))) }
 {
-    'members: for i in 0..s.len() {
-        push_blank(into, i)?;
-        push_inner(into, s.at(i))?;
+    let mut members = s.members();
+    let Some(first) = members.next() else {
+        return Ok(());
+    };
+    push_inner(into, first)?;
+    'members: for v in members {
+        into.push(b' ')?;
+        push_inner(into, v)?;
     }
     Ok(())
 }

@@ -1,5 +1,6 @@
 -- What a `Value` stands for.
-use Rattle.std.specs.Prelude.{Option}
+use Rattle.std.specs.Prelude.{Option, Some, None}
+use Rattle.std.specs.Borrow.{Bor}
 use Rattle.std.specs.Option.{option_map}
 use Rattle.setl_value.specs.declared.Value.{Value}
 use Rattle.setl_value.specs.declared.Value.TheVariants.{Bool, Int, Text, Atom, Tuple, Set}
@@ -18,3 +19,8 @@ datum (Set b) = set_of (Members b)
 -- a component, which is `None` for `om`
 abbrev pub part : Option Value → Option Datum
 part o = option_map datum o
+
+-- a component that is lent
+abbrev pub lent : Option (Bor Value) → Option Datum
+lent None = None
+lent (Some v) = Some (datum v.now)

@@ -17,6 +17,7 @@ ghost use Rattle.setl_value.specs.DatumOf.{datum};
 mod hashing;
 pub mod laws;
 mod order;
+mod places;
 mod sets;
 mod shared;
 mod string;
@@ -24,6 +25,7 @@ mod string;
 mod tests;
 mod tuples;
 
+pub use places::Cursor;
 pub use sets::MemberIter;
 pub use std::alloc::AllocError as Memory;
 use std::marker::Model;

@@ -6,11 +6,13 @@ ghost use Rattle.std.specs.Prelude.{◌≡◌, refl};
 ghost use Rattle.std.specs.Cmp.{partial_equiv_from_equiv, on_equiv, on_total, eq_by_cmp_equiv, partial_order_from_agreeing_total};
 ghost use Rattle.std.specs.Cmp.Lexicographic.{slice_cmp};
 ghost use Rattle.std.specs.Option.{option_cmp};
-ghost use Rattle.std.specs.Ordering.{on, eq_by_cmp, as_partial_cmp};
+ghost use Rattle.std.specs.Ordering.{on, eq_by_cmp, as_partial_cmp, is_lt};
 ghost use Rattle.setl_value.specs.Body.{Members};
+ghost use Rattle.setl_value.specs.Datum.{tuple_of};
 ghost use Rattle.setl_value.specs.DatumOf.{datum, part};
 ghost use Rattle.setl_value.specs.Order.{datum_cmp, kind_of};
 ghost use Rattle.setl_value.specs.OrderLaws.{datum_cmp_total};
+ghost use Rattle.setl_value.specs.Places.{point};
 
 use crate::{SetBody, TupleBody, Value};
 use std::cmp::Ordering;
@@ -29,6 +31,16 @@ impl Value {
             (Value::Tuple(a), Value::Tuple(b)) => a.compare(b),
             (Value::Set(a), Value::Set(b)) => a.compare(b),
             _ => self.kind().cmp(&other.kind()),
+        }
+    }
+
+    // Whether the value is below the tuple of `x` alone, as all pairs are whose first part is below `x`.
+    pub(crate) fn is_below_point(&self, x: &Value) -> bool
+        ensures { result ≡ is_lt (datum_cmp (datum self.now) (point (datum x.now))) }
+    {
+        match self {
+            Value::Tuple(t) => starts_below(t, x),
+            _ => self.kind() < 4,
         }
     }
 
@@ -93,6 +105,16 @@ fn compare_parts(a: &Option<Value>, b: &Option<Value>) -> Ordering
         (None, Some(_)) => Ordering::Less,
         (Some(_), None) => Ordering::Greater,
         (Some(x), Some(y)) => x.compare(y),
+    }
+}
+
+// Whether a tuple is below that of `x` alone.
+fn starts_below(t: &TupleBody, x: &Value) -> bool
+    ensures { result ≡ is_lt (datum_cmp (tuple_of t.now) (point (datum x.now))) }
+{
+    match t.at(0) {
+        Some(v) => v.compare(x).is_lt(),
+        None => true,
     }
 }
 

@@ -159,7 +159,7 @@ impl SetBody {
 /// The members of a set that are left to visit, in rising order. Contracts see it as that list.
 #[derive(Drop)]
 pub struct MemberIter<'a> {
-    rest: &'a [Value],
+    pub(crate) rest: &'a [Value],
 }
 
 impl<'a> Model for MemberIter<'a> {

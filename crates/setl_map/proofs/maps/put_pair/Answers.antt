@@ -1,8 +1,9 @@
-use Rattle.std.proofs.Common.{arith, ◌≡◌, ◌∙◌, ap, sym, subst, take, drop, map, ◌++◌, OnOk, Some}
+use Rattle.std.proofs.Common.{arith, ◌+◌, ◌≡◌, ◌∙◌, ap, sym, subst, take, drop, map, ◌++◌, OnOk, Some}
 use Rattle.setl_value.specs.Body.{Members}
 use Rattle.setl_value.specs.Datum.{depth, set_of}
 use Rattle.setl_value.specs.DatumOf.{datum}
 use Rattle.setl_value.specs.Order.{IsRising}
+use Rattle.setl_value.specs.Places.{rank}
 use Rattle.setl_map.proofs.Bounds.{rising_from_set}
 use Rattle.setl_map.proofs.PairFacts.{all_pairs}
 use Rattle.setl_map.proofs.Spans.{split_by_bounds}
@@ -10,34 +11,34 @@ use Rattle.setl_map.specs.Maps.{put_image}
 use Rattle.setl_map.proofs.MapResults.{put_between, rising_put, depth_put, depth_without}
 use Rattle.setl_map.proofs.maps.put_pair.Goals as goal
 
-pub replace-requires-clause-inside : goal.replace-requires-clause-inside
-replace-requires-clause-inside c =
+pub replace_in-requires-clause-there : goal.replace_in-requires-clause-there
+replace_in-requires-clause-there c =
     let ds = Members c.args.f.now in
-    let s = split_by_bounds (datum c.args.x) ds c.span-from.result.0 c.span-from.result.1 (all_pairs ds c.requires.map) c.span-from.ensures.from c.span-from.ensures.to in
-    (s.ordered, c.span-from.ensures.to.within)
+    let s = split_by_bounds (datum c.args.x) ds (rank c.args.f.now c.span-count.result.0) ((rank c.args.f.now c.span-count.result.0) + c.span-count.result.1) (all_pairs ds c.requires.map) c.span-count.ensures.from c.span-count.ensures.to in
+    c.span-count.ensures.to.within
 
-pub replace-requires-clause-rising : goal.replace-requires-clause-rising
-replace-requires-clause-rising c =
+pub replace_in-requires-clause-rising : goal.replace_in-requires-clause-rising
+replace_in-requires-clause-rising c =
     let ds = Members c.args.f.now in
     let x = datum c.args.x in
     let y = datum c.args.y in
-    let i = c.span-from.result.0 in
-    let j = c.span-from.result.1 in
+    let i = (rank c.args.f.now c.span-count.result.0) in
+    let j = ((rank c.args.f.now c.span-count.result.0) + c.span-count.result.1) in
     let p = all_pairs ds c.requires.map in
-    let s = split_by_bounds x ds i j p c.span-from.ensures.from c.span-from.ensures.to in
-    let e : take i ds ++ map datum c.in_ok-pairs.pairs.items ++ drop j ds ≡ put_image x (Some y) ds = ap (λ l. take i ds ++ l ++ drop j ds) c.in_ok-pairs.ensures ∙ put_between x y ds i j p c.span-from.ensures.from c.span-from.ensures.to s in
+    let s = split_by_bounds x ds i j p c.span-count.ensures.from c.span-count.ensures.to in
+    let e : take i ds ++ map datum c.in_ok-pairs.pairs.items ++ drop j ds ≡ put_image x (Some y) ds = ap (λ l. take i ds ++ l ++ drop j ds) c.in_ok-pairs.ensures ∙ put_between x y ds i j p c.span-count.ensures.from c.span-count.ensures.to s in
     subst IsRising (sym e) (rising_put c.operations_have_their_members.ensures.insert x y ds (rising_from_set ds c.learn.ensures))
 
-pub replace-requires-clause-shallow : goal.replace-requires-clause-shallow
-replace-requires-clause-shallow c =
+pub replace_in-requires-clause-shallow : goal.replace_in-requires-clause-shallow
+replace_in-requires-clause-shallow c =
     let ds = Members c.args.f.now in
     let x = datum c.args.x in
     let y = datum c.args.y in
-    let i = c.span-from.result.0 in
-    let j = c.span-from.result.1 in
+    let i = (rank c.args.f.now c.span-count.result.0) in
+    let j = ((rank c.args.f.now c.span-count.result.0) + c.span-count.result.1) in
     let p = all_pairs ds c.requires.map in
-    let s = split_by_bounds x ds i j p c.span-from.ensures.from c.span-from.ensures.to in
-    let e : take i ds ++ map datum c.in_ok-pairs.pairs.items ++ drop j ds ≡ put_image x (Some y) ds = ap (λ l. take i ds ++ l ++ drop j ds) c.in_ok-pairs.ensures ∙ put_between x y ds i j p c.span-from.ensures.from c.span-from.ensures.to s in
+    let s = split_by_bounds x ds i j p c.span-count.ensures.from c.span-count.ensures.to in
+    let e : take i ds ++ map datum c.in_ok-pairs.pairs.items ++ drop j ds ≡ put_image x (Some y) ds = ap (λ l. take i ds ++ l ++ drop j ds) c.in_ok-pairs.ensures ∙ put_between x y ds i j p c.span-count.ensures.from c.span-count.ensures.to s in
     omega (arith, ap (λ l. depth (set_of l)) e, depth_put x y ds, depth_without x ds, c.learn.ensures.1, c.requires.shallow)
 
 pub returns-clause-put : goal.returns-clause-put
@@ -45,9 +46,9 @@ returns-clause-put c =
     let ds = Members c.args.f.now in
     let x = datum c.args.x in
     let y = datum c.args.y in
-    let i = c.span-from.result.0 in
-    let j = c.span-from.result.1 in
+    let i = (rank c.args.f.now c.span-count.result.0) in
+    let j = ((rank c.args.f.now c.span-count.result.0) + c.span-count.result.1) in
     let p = all_pairs ds c.requires.map in
-    let s = split_by_bounds x ds i j p c.span-from.ensures.from c.span-from.ensures.to in
-    let e : take i ds ++ map datum c.in_ok-pairs.pairs.items ++ drop j ds ≡ put_image x (Some y) ds = ap (λ l. take i ds ++ l ++ drop j ds) c.in_ok-pairs.ensures ∙ put_between x y ds i j p c.span-from.ensures.from c.span-from.ensures.to s in
-    subst (λ l. OnOk c.replace.result (Members c.replace.new.self ≡ l)) e c.replace.ensures.replaced
+    let s = split_by_bounds x ds i j p c.span-count.ensures.from c.span-count.ensures.to in
+    let e : take i ds ++ map datum c.in_ok-pairs.pairs.items ++ drop j ds ≡ put_image x (Some y) ds = ap (λ l. take i ds ++ l ++ drop j ds) c.in_ok-pairs.ensures ∙ put_between x y ds i j p c.span-count.ensures.from c.span-count.ensures.to s in
+    subst (λ l. OnOk c.replace_in.result (Members c.replace_in.new.self ≡ l)) e c.replace_in.ensures.replaced

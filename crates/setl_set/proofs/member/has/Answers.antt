@@ -1,8 +1,7 @@
 use Rattle.std.proofs.Common.{◌∙◌}
-use Rattle.setl_value.specs.Body.{Members}
 use Rattle.setl_value.specs.DatumOf.{datum}
 use Rattle.setl_set.proofs.Places.{found_or_absent}
 use Rattle.setl_set.proofs.member.has.Goals as goal
 
 pub returns : goal.returns
-returns c = c.is_ok.ensures.value ∙ found_or_absent (datum c.args.v.now) (Members c.args.s.now) c.place.result c.place.ensures.found c.place.ensures.absent
+returns c = c.is_ok.ensures.value ∙ found_or_absent (datum c.args.v.now) c.args.s.now c.search.result c.search.ensures.found c.search.ensures.absent

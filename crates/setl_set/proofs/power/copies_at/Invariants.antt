@@ -1,8 +1,7 @@
 use Rattle.std.proofs.Common.{◌≡◌, map, take}
-use Rattle.setl_value.specs.Body.{Members}
 use Rattle.setl_value.specs.DatumOf.{datum}
 use Rattle.setl_set.specs.Choice.{members_at}
 use Rattle.setl_set.proofs.power.copies_at.Given as goal
 
 abbrev pub invariant-loop-i : goal.invariant-loop-i
-invariant-loop-i l = map datum l.members.items ≡ members_at (Members l.s) (take l.i-index l.places)
+invariant-loop-i l = map datum l.subset.items ≡ members_at (map datum l.members) (take l.i-index l.places)

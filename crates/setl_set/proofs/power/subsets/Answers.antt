@@ -72,8 +72,8 @@ returns-in-None c =
     search_ends l m ds made c.loop-chosen.next (subst (λ is. IsSearch l m ds made is c.loop-chosen.next) none c.loop-chosen.invariant) full ∙ choices_are l m ds (rising_from_set ds c.learn.ensures) in
     IfOk-weaker c.from_rising.result (λ p. Members p ≡ made) (λ p. Members p ≡ set_of_sets (subsets_between l m ds)) (λ p e. e ∙ whole) c.from_rising.ensures.made
 
-pub add_chosen-requires-else-is_full : goal.add_chosen-requires-else-is_full
-add_chosen-requires-else-is_full c =
+pub add_chosen-requires-else-is_full-clause-places : goal.add_chosen-requires-else-is_full-clause-places
+add_chosen-requires-else-is_full-clause-places c =
     let n = length (Members c.args.s.now) in
     subst (λ l. ArePlaces 0 l n) (sym (c.deref-else-is_full.ensures.value ∙ c.in_ok-push.ensures.items))
     (places_wider 0 (c.loop-chosen.next + 1) n (c.loop-chosen.chosen.items ++ c.loop-chosen.next ∷ []) (omega (arith, c.if-is_full.ensures.open.1, c.len-size.ensures))

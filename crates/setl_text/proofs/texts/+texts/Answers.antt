@@ -1,20 +1,12 @@
-use Rattle.std.proofs.Common.{◌≡◌, arith, Some, None, slice_get, get_or}
+use Rattle.std.proofs.Common.{◌≡◌, ◌∷◌, ◌++◌, ◌∙◌, ap, sym, subst, append_assoc, map, arith, Some, None, slice_get, get_or}
 use Rattle.std.proofs.lemmas.Option.{slice_get-get_or}
 use Rattle.setl_value.specs.Body.{Members}
 use Rattle.setl_value.specs.DatumOf.{datum}
-use Rattle.setl_text.specs.Texts.{inner_text}
+use Rattle.setl_value.specs.Datum.{depth, set_of}
+use Rattle.setl_text.specs.Texts.{inner_text, spaced}
 use Rattle.setl_text.specs.TextParts.{component_text}
-use Rattle.setl_text.proofs.TextLists.{spaced_more, enclosed_is, members_text, components_text, member_falls, component_falls}
+use Rattle.setl_text.proofs.TextLists.{spaced_more, enclosed_is, members_text, components_text, members_fall, component_falls, behind, spaced_first, AllLess}
 use Rattle.setl_text.proofs.texts.+texts.Goals as goal
-
-pub push_members-push_inner-requires : goal.push_members-push_inner-requires
-push_members-push_inner-requires t c =
-    let falls = member_falls (Members c.args.s.now) c.members.i (datum c.at.result.now) c.at.ensures.member in
-    (omega (arith, falls, c.decreases), tt)
-
-pub push_members-members-preserved : goal.push_members-members-preserved
-push_members-members-preserved t c =
-    spaced_more inner_text (Members c.args.s.now) c.args.into.now.items c.members.into.items c.push_blank.new.into.items c.push_inner.new.into.items c.members.i (datum c.at.result.now) c.at.ensures.member c.members.invariant c.in_ok-push_blank.ensures c.in_ok-push_inner.ensures
 
 pub push_part-push_inner-requires : goal.push_part-push_inner-requires
 push_part-push_inner-requires t c =
@@ -34,3 +26,14 @@ push_set-returns t c = enclosed_is c.args.into.now.items c.push.new.self.items _
 
 pub push_tuple-returns : goal.push_tuple-returns
 push_tuple-returns t c = enclosed_is c.args.into.now.items c.push.new.self.items _ _ _ _ 91 93 c.in_ok-push.ensures.items c.in_ok-push_parts.ensures c.in_ok-push-2.ensures.items (components_text c.args.t.now)
+
+pub push_members-members-init : goal.push_members-members-init
+push_members-members-init t c =
+    let ds = Members c.args.s.now in
+    let d = datum c.in-Some.first.now in
+    let rest = c.into_iter-v-iterator.result in
+    let whole : ds ≡ d ∷ rest = cc (c.in-Some.ensures.steps, c.into_iter-v-iterator.ensures.into_iter_gives) in (
+      ap (λ l. l ++ behind rest) c.in_ok-push_inner.ensures ∙ append_assoc c.args.into.now.items (inner_text d) (behind rest)
+          ∙ ap (λ l. c.args.into.now.items ++ l) (sym (spaced_first d rest) ∙ ap (λ l. spaced (map inner_text l)) (sym whole)),
+      (subst (AllLess (depth (set_of ds))) whole (members_fall ds)).1,
+    )

@@ -4,6 +4,7 @@ use Rattle.setl_value.specs.Datum.{depth, set_of, tuple_of}
 use Rattle.setl_value.specs.DatumOf.{datum}
 use Rattle.setl_text.specs.Texts.{inner_text, spaced}
 use Rattle.setl_text.specs.TextParts.{component_text}
+use Rattle.setl_text.proofs.TextLists.{behind, AllLess}
 use Rattle.setl_text.proofs.texts.+texts.Given as goal
 
 abbrev pub decreases-push_inner : goal.decreases-push_inner
@@ -25,7 +26,8 @@ abbrev pub decreases-push_part : goal.decreases-push_part
 decreases-push_part l = 4 * depth (tuple_of l.t.now)
 
 abbrev pub invariant-push_members-members : goal.invariant-push_members-members
-invariant-push_members-members l = l.into.items ≡ l.fn.into.items ++ spaced (map inner_text (take l.i (Members l.s)))
+invariant-push_members-members l =
+    (l.into.items ++ behind l.v-iterator ≡ l.fn.into.items ++ spaced (map inner_text (Members l.s))) × AllLess (depth (set_of (Members l.s))) l.v-iterator
 
 abbrev pub invariant-push_parts-parts : goal.invariant-push_parts-parts
 invariant-push_parts-parts l = l.into.items ≡ l.fn.into.items ++ spaced (map component_text (take l.i l.t))

@@ -1,0 +1,22 @@
+use Rattle.std.proofs.Common.{◌≡◌, ◌+◌, ap, sym, subst, true, drop}
+use Rattle.std.specs.List.{prefix_len}
+use Rattle.setl_value.specs.Body.{Members}
+use Rattle.setl_value.specs.DatumOf.{datum}
+use Rattle.setl_value.specs.Places.{rank}
+use Rattle.setl_map.specs.Points.{is_at, IsBound}
+use Rattle.setl_map.proofs.Bounds.{rising_from_set, from_point, past_leading}
+use Rattle.setl_map.proofs.PairFacts.{all_pairs}
+use Rattle.setl_map.proofs.pairs.span.Goals as goal
+
+pub returns-clause-from : goal.returns-clause-from
+returns-clause-from c =
+    let ds = Members c.args.f.now in
+    from_point (datum c.args.x.now) ds (rank c.args.f.now c.search_point-from.result) (all_pairs ds c.requires) c.search_point-from.ensures.bound
+
+pub returns-clause-to : goal.returns-clause-to
+returns-clause-to c =
+    let ds = Members c.args.f.now in
+    let x = datum c.args.x.now in
+    let i = rank c.args.f.now c.search_point-from.result in
+    let p = all_pairs ds c.requires in
+    subst (λ n. IsBound true x ds (i + n)) (sym c.leading.ensures) (past_leading x ds i (rising_from_set ds c.learn.ensures) p (from_point x ds i p c.search_point-from.ensures.bound))

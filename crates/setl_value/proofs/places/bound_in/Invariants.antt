@@ -1,0 +1,11 @@
+use Rattle.std.proofs.Common.{◌-◌, map}
+use Rattle.setl_value.specs.DatumOf.{datum}
+use Rattle.setl_value.specs.Sought.{sought}
+use Rattle.setl_value.proofs.Halving.{IsBetween}
+use Rattle.setl_value.proofs.places.bound_in.Given as goal
+
+abbrev pub invariant-loop-low : goal.invariant-loop-low
+invariant-loop-low l = IsBetween (sought l.what) (map datum l.members) l.low l.high
+
+abbrev pub decreases-loop-low : goal.decreases-loop-low
+decreases-loop-low l = l.high - l.low

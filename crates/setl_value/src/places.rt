@@ -1,0 +1,153 @@
+//! Places among the members of a set: searching them, and changes there.
+#![tactic(auto, unfolding(crate::specs::Places::HasPlace, crate::specs::Places::rank))]
+
+ghost use Rattle.std.specs.Prelude.{◌≡◌, ◌<◌, ◌≤◌, ◌+◌, ◌++◌, length, slice_get, take, drop, map, IfOk, IfErr, MatchResult, OnErr, OnOk, Some};
+ghost use Rattle.std.specs.List.{insert, remove};
+ghost use Rattle.std.specs.Option.{option_map};
+ghost use Rattle.std.specs.Ordering.{is_lt};
+ghost use Rattle.setl_value.specs.Body.{Members};
+ghost use Rattle.setl_value.specs.Datum.{depth, set_of};
+ghost use Rattle.setl_value.specs.DatumOf.{datum};
+ghost use Rattle.setl_value.specs.Order.{datum_cmp, IsRising};
+ghost use Rattle.setl_value.specs.Places.{HasPlace, rank, IsPlace, IsBound, point};
+ghost use Rattle.setl_value.specs.Sought.{sought};
+
+use crate::{MemberIter, Memory, SetBody, Value};
+use std::alloc::Global;
+
+/// A place among the members of a set: at one of them, or after the last. It is good for the set that gave it, until
+/// that set changes. Contracts read how many members stand before it as its `rank`.
+#[derive(Clone, Copy)]
+pub struct Cursor {
+    index: usize,
+}
+
+// What is sought among the members: a value, or where the pairs of a point begin.
+#[derive(Clone, Copy)]
+enum Sought<'a> {
+    Member(&'a Value),
+    Point(&'a Value),
+}
+
+impl SetBody {
+    /// Where `v` is among the members, or else where it would stand. It takes no memory, and its cost grows as the
+    /// number of halvings.
+    pub fn search(&self, v: &Value) -> Result<Cursor, Cursor>
+        ensures place { MatchResult result (λ c. HasPlace self.now c) (λ c. HasPlace self.now c) }
+        ensures found { IfOk result (λ c. slice_get (Members self.now) (rank self.now c) ≡ Some (datum v.now)) }
+        ensures absent { IfErr result (λ c. IsPlace (datum v.now) (Members self.now) (rank self.now c)) }
+    {
+        self.learn();
+        let place = self.bound(Sought::Member(v));
+        let Some(w) = self.member(place) else {
+            return Err(place);
+        };
+        if w.compare(v).is_eq() {
+            Ok(place)
+        } else {
+            Err(place)
+        }
+    }
+
+    /// Where the pairs whose first part is `x` begin, or else would stand: before the first member that is above the
+    /// tuple of `x` alone. It takes no memory.
+    pub fn search_point(&self, x: &Value) -> Cursor
+        ensures place { HasPlace self.now result }
+        ensures bound { IsBound (point (datum x.now)) (Members self.now) (rank self.now result) }
+    {
+        self.bound(Sought::Point(x))
+    }
+
+    /// The member at a place, and None after the last.
+    pub fn member(&self, c: Cursor) -> Option<&Value>
+        requires { HasPlace self.now c }
+        ensures { option_map (λ v. datum v.now) result ≡ slice_get (Members self.now) (rank self.now c) }
+    {
+        self.items.get(c.index)
+    }
+
+    /// The members from a place on, in rising order.
+    pub fn members_from(&self, c: Cursor) -> MemberIter<'_>
+        requires { HasPlace self.now c }
+        ensures { result ≡ drop (rank self.now c) (Members self.now) }
+    {
+        MemberIter {
+            rest: &self.items[c.index..],
+        }
+    }
+
+    /// Puts `v` before the member at a place. The list stays rising and the depth at most 500. Where memory is refused,
+    /// the set is as before.
+    pub fn put_in(&mut self, alloc: Global, c: Cursor, v: Value) -> Result<(), Memory>
+        requires place { HasPlace self.old c }
+        requires rising { IsRising (insert (Members self.old) (rank self.old c) (datum v)) }
+        requires shallow { depth (set_of (insert (Members self.old) (rank self.old c) (datum v))) ≤ 500 }
+        ensures put { OnOk result (Members self.new ≡ insert (Members self.old) (rank self.old c) (datum v)) }
+        ensures refused { OnErr result (self.new ≡ self.old) }
+    {
+        self.put_at(alloc, c.index, v)
+    }
+
+    /// Takes the member at a place out. Where memory is refused, the set is as before.
+    pub fn cut_in(&mut self, c: Cursor) -> Result<Value, Memory>
+        requires place { HasPlace self.old c }
+        requires there { rank self.old c < length (Members self.old) }
+        ensures cut { IfOk result (λ v. (slice_get (Members self.old) (rank self.old c) ≡ Some (datum v)) × (Members self.new ≡ remove (Members self.old) (rank self.old c))) }
+        ensures refused { OnErr result (self.new ≡ self.old) }
+    {
+        self.cut_at(c.index)
+    }
+
+    /// Puts members in the place of the `count` ones from a place on. The list stays rising and the depth at most 500.
+    /// Where memory is refused, the set is as before. It looks at no other members, unless a deepest one goes.
+    pub fn replace_in(&mut self, c: Cursor, count: usize, by: Vec<Value>) -> Result<(), Memory>
+        requires place { HasPlace self.old c }
+        requires there { rank self.old c + count ≤ length (Members self.old) }
+        requires rising { IsRising (take (rank self.old c) (Members self.old) ++ map datum by.items ++ drop (rank self.old c + count) (Members self.old)) }
+        requires shallow { depth (set_of (take (rank self.old c) (Members self.old) ++ map datum by.items ++ drop (rank self.old c + count) (Members self.old))) ≤ 500 }
+        ensures replaced { OnOk result (Members self.new ≡ take (rank self.old c) (Members self.old) ++ map datum by.items ++ drop (rank self.old c + count) (Members self.old)) }
+        ensures refused { OnErr result (self.new ≡ self.old) }
+    {
+        let _ = &self.items;
+        self.replace(c.index, c.index + count, by)
+    }
+
+    // The first place whose member isn't below what is sought.
+    fn bound(&self, what: Sought<'_>) -> Cursor
+        ensures place { HasPlace self.now result }
+        ensures bound { IsBound (sought what.entry) (Members self.now) (rank self.now result) }
+    {
+        self.learn();
+        Cursor {
+            index: bound_in(self.items.as_slice(), what),
+        }
+    }
+}
+
+// How many of some rising members are below what is sought, found by halving.
+fn bound_in(members: &[Value], what: Sought<'_>) -> usize
+    requires { IsRising (map datum members.now) }
+    ensures { IsBound (sought what.entry) (map datum members.now) result }
+{
+    let mut low = 0;
+    let mut high = members.len();
+    while low < high {
+        let middle = low + (high - low) / 2;
+        if is_below(&members[middle], what) {
+            low = middle + 1;
+        } else {
+            high = middle;
+        }
+    }
+    low
+}
+
+// Whether a member is below what is sought.
+fn is_below(v: &Value, what: Sought<'_>) -> bool
+    ensures { result ≡ is_lt (datum_cmp (datum v.now) (sought what.entry)) }
+{
+    match what {
+        Sought::Member(w) => v.compare(w).is_lt(),
+        Sought::Point(x) => v.is_below_point(x),
+    }
+}
