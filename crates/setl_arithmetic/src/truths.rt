@@ -4,7 +4,7 @@ ghost use Rattle.std.specs.Prelude.{◌≡◌, ◌∷◌, [], None, slice_get, M
 ghost use Rattle.std.specs.List.{list_any};
 ghost use Rattle.std.specs.Option.{option_cmp, unwrap_or};
 ghost use Rattle.std.specs.Ordering.{is_eq};
-ghost use Rattle.setl_value.specs.DatumOf.{datum, part};
+ghost use Rattle.setl_value.specs.DatumOf.{datum, lent};
 ghost use Rattle.setl_value.specs.Order.{datum_cmp};
 ghost use Rattle.setl_value.specs.Pairs.{is_datum};
 ghost use Rattle.setl_map.specs.Outcome.{Fails, KindFault, truth};
@@ -127,22 +127,22 @@ pub fn subset(a: &Value, b: &Value) -> Result<Answer, OpFault>
 }
 
 /// `a = b` of any two operands, where None is `om`.
-pub fn equal(a: &Option<Value>, b: &Option<Value>) -> Result<Answer, OpFault>
-    ensures { Tells result (equality (part a.now ∷ part b.now ∷ [])) }
+pub fn equal(a: Option<&Value>, b: Option<&Value>) -> Result<Answer, OpFault>
+    ensures { Tells result (equality (lent a.entry ∷ lent b.entry ∷ [])) }
 {
     truth(are_same(a, b))
 }
 
 /// `a /= b` of any two operands, where None is `om`.
-pub fn not_equal(a: &Option<Value>, b: &Option<Value>) -> Result<Answer, OpFault>
-    ensures { Tells result (opposite (equality (part a.now ∷ part b.now ∷ []))) }
+pub fn not_equal(a: Option<&Value>, b: Option<&Value>) -> Result<Answer, OpFault>
+    ensures { Tells result (opposite (equality (lent a.entry ∷ lent b.entry ∷ []))) }
 {
     truth(!are_same(a, b))
 }
 
 /// Whether two operands are equal, where None is `om`.
-fn are_same(a: &Option<Value>, b: &Option<Value>) -> bool
-    ensures { result ≡ is_eq (option_cmp datum_cmp (part a.now) (part b.now)) }
+fn are_same(a: Option<&Value>, b: Option<&Value>) -> bool
+    ensures { result ≡ is_eq (option_cmp datum_cmp (lent a.entry) (lent b.entry)) }
 {
     match (a, b) {
         (None, None) => true,
@@ -152,51 +152,51 @@ fn are_same(a: &Option<Value>, b: &Option<Value>) -> bool
 }
 
 /// `is_integer v`, which is false of `om`.
-pub fn is_integer(v: &Option<Value>) -> Result<Answer, OpFault>
-    ensures { Tells result (kind_test is_integer_datum (part v.now ∷ [])) }
+pub fn is_integer(v: Option<&Value>) -> Result<Answer, OpFault>
+    ensures { Tells result (kind_test is_integer_datum (lent v.entry ∷ [])) }
 {
     truth(matches!(v, Some(Value::Int(_))))
 }
 
 /// `is_string v`, which is false of `om`.
-pub fn is_string(v: &Option<Value>) -> Result<Answer, OpFault>
-    ensures { Tells result (kind_test is_string_datum (part v.now ∷ [])) }
+pub fn is_string(v: Option<&Value>) -> Result<Answer, OpFault>
+    ensures { Tells result (kind_test is_string_datum (lent v.entry ∷ [])) }
 {
     truth(matches!(v, Some(Value::Text(_))))
 }
 
 /// `is_boolean v`, which is false of `om`.
-pub fn is_boolean(v: &Option<Value>) -> Result<Answer, OpFault>
-    ensures { Tells result (kind_test is_boolean_datum (part v.now ∷ [])) }
+pub fn is_boolean(v: Option<&Value>) -> Result<Answer, OpFault>
+    ensures { Tells result (kind_test is_boolean_datum (lent v.entry ∷ [])) }
 {
     truth(matches!(v, Some(Value::Bool(_))))
 }
 
 /// `is_atom v`, which is false of `om`.
-pub fn is_atom(v: &Option<Value>) -> Result<Answer, OpFault>
-    ensures { Tells result (kind_test is_atom_datum (part v.now ∷ [])) }
+pub fn is_atom(v: Option<&Value>) -> Result<Answer, OpFault>
+    ensures { Tells result (kind_test is_atom_datum (lent v.entry ∷ [])) }
 {
     truth(matches!(v, Some(Value::Atom(_))))
 }
 
 /// `is_tuple v`, which is false of `om`.
-pub fn is_tuple(v: &Option<Value>) -> Result<Answer, OpFault>
-    ensures { Tells result (kind_test is_tuple_datum (part v.now ∷ [])) }
+pub fn is_tuple(v: Option<&Value>) -> Result<Answer, OpFault>
+    ensures { Tells result (kind_test is_tuple_datum (lent v.entry ∷ [])) }
 {
     truth(matches!(v, Some(Value::Tuple(_))))
 }
 
 /// `is_set v`, which is false of `om`.
-pub fn is_set(v: &Option<Value>) -> Result<Answer, OpFault>
-    ensures { Tells result (kind_test is_set_datum (part v.now ∷ [])) }
+pub fn is_set(v: Option<&Value>) -> Result<Answer, OpFault>
+    ensures { Tells result (kind_test is_set_datum (lent v.entry ∷ [])) }
 {
     truth(matches!(v, Some(Value::Set(_))))
 }
 
 /// `is_map v`, which is false of `om`.
 #[tactic(auto, using(crate::proofs::Views::members_back))]
-pub fn is_map(v: &Option<Value>) -> Result<Answer, OpFault>
-    ensures { Tells result (kind_test is_map_datum (part v.now ∷ [])) }
+pub fn is_map(v: Option<&Value>) -> Result<Answer, OpFault>
+    ensures { Tells result (kind_test is_map_datum (lent v.entry ∷ [])) }
 {
     match v {
         Some(Value::Set(s)) => truth(s.is_map()),

@@ -1,3 +1,4 @@
 pub mod Rows
 pub mod Depths
 pub mod Letters
+pub mod Takings

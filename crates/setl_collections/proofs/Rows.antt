@@ -58,7 +58,10 @@ place_row left i p ps h =
 pub too_deep : (d : Datum) → 500 < depth d → within_depth d ≡ Fails DeepFault
 too_deep d h = ap (λ b. if b then value d else Fails DeepFault) (lt-leb (depth d) 500 h)
 
-paid : (n left : ℕ) (o : Outcome) → n ≤ left → charging n left o ≡ adding n o
+pub shallow : (d : Datum) → depth d ≤ 500 → within_depth d ≡ value d
+shallow d h = ap (λ b. if b then value d else Fails DeepFault) (le-leb (depth d) 500 h)
+
+pub paid : (n left : ℕ) (o : Outcome) → n ≤ left → charging n left o ≡ adding n o
 paid n left o h = ap (λ b. if b then adding n o else Overspends) (le-leb n left h)
 
 pub paid_deep : (n left : ℕ) (d : Datum) → n ≤ left → 500 < depth d → charging n left (within_depth d) ≡ Fails DeepFault

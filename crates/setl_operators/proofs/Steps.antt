@@ -59,3 +59,11 @@ module _ (f : ℕ → Datum → Datum → Outcome) (cs : List (Option Datum)) (i
   stops m turns e whole at so_far h =
       subst (Tells (Err e)) (sym (ap (λ l. adding m (fold_on f v l (turns - m))) (drop_at cs i w at)) ∙ so_far)
       (fails_whole (λ u later. fold_on f u (drop (i + 1) cs) later) (combined f v w (turns - m)) m (turns - m) e h)
+
+module _ (f : ℕ → Datum → Datum → Outcome) (v w : Option Datum) (rest : List (Option Datum)) where
+  -- from one member to those behind it
+  pub goes_on : (m n turns : ℕ) (new : Option Datum) → adding m (combined f v w (turns - m)) ≡ Gives new n → adding n (fold_on f new rest (turns - n)) ≡ adding m (fold_on f v (w ∷ rest) (turns - m))
+  goes_on m n turns new h = sym (gives_on (λ u later. fold_on f u rest later) (combined f v w (turns - m)) m n turns new h)
+
+  pub ends : (m turns : ℕ) (e : OpFault) (whole : Outcome) → adding m (fold_on f v (w ∷ rest) (turns - m)) ≡ whole → Tells (Err e) (adding m (combined f v w (turns - m))) → Tells (Err e) whole
+  ends m turns e whole so_far h = subst (Tells (Err e)) so_far (fails_whole (λ u later. fold_on f u rest later) (combined f v w (turns - m)) m (turns - m) e h)

@@ -1,20 +1,23 @@
--- Which operators have more than one operand, and which of these only read two values.
-use Rattle.std.specs.Prelude.{ℕ, ◌==◌, Bool, true, false, nat_lt, Option, Some, None}
+-- Which operators only read their operands.
+use Rattle.std.specs.Prelude.{ℕ, ◌==◌, ◌||◌, Bool, false, Option, Some, None}
 use Rattle.setl_map.specs.declared.Operator.{Operator}
 use Rattle.setl_map.specs.declared.Operator.TheVariants.{With, Less, Lessf, Equal, NotEqual}
 use Rattle.setl_map.specs.Operators.{operand_count}
 
--- more than one, or any number
-abbrev is_more : Option ℕ → Bool
-is_more None = true
-is_more (Some n) = nat_lt 1 n
+abbrev pub is_few : Option ℕ → Bool
+is_few None = false
+is_few (Some n) = (n == 1) || (n == 2)
 
 abbrev is_two : Option ℕ → Bool
 is_two None = false
 is_two (Some n) = n == 2
 
-abbrev pub takes_more : Operator → Bool
-takes_more what = is_more (operand_count what)
+-- on one or two operands, none of which is changed in place
+abbrev pub reads : Operator → Bool
+reads With = false
+reads Less = false
+reads Lessf = false
+reads what = is_few (operand_count what)
 
 -- on two values, neither of which may be `om` or is changed in place
 abbrev pub reads_two : Operator → Bool

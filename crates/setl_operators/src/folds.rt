@@ -1,15 +1,16 @@
 //! The folds `op/ v`: the members or components combined from the left.
 
-ghost use Rattle.std.specs.Prelude.{◌≡◌, ◌<◌, ◌≤◌, ◌-◌, Some, IfOk, length, slice_get};
-ghost use Rattle.setl_value.specs.DatumOf.{datum, part};
+ghost use Rattle.std.specs.Prelude.{◌≡◌, ◌≤◌, ◌-◌, map, IfOk, None, Some};
+ghost use Rattle.setl_value.specs.Body.{Members};
+ghost use Rattle.setl_value.specs.DatumOf.{datum, lent, part};
 ghost use Rattle.setl_map.specs.Answers.{Tells};
 ghost use Rattle.setl_map.specs.Folds.{combined, fold_list, fold_datum};
 ghost use Rattle.setl_map.specs.Outcome.{adding};
-ghost use Rattle.setl_operators.specs.Combinations.{combination, components, lent};
+ghost use Rattle.setl_operators.specs.Combinations.{combination};
 
 use setl_arithmetic::{both, either, greater, lesser, plus, times};
 use setl_map::{Answer, OpFault};
-use setl_value::{Memory, Value};
+use setl_value::{Memory, SetBody, TupleBody, Value};
 use std::alloc::Global;
 
 /// How a fold combines two values.
@@ -34,37 +35,60 @@ pub(crate) fn fold(
     ensures { Tells result (fold_datum (combination by) turns (datum whole.now)) }
 {
     match whole {
-        Value::Set(s) => fold_components(alloc, by, whole, s.len(), turns),
-        Value::Tuple(t) => fold_components(alloc, by, whole, t.len(), turns),
+        Value::Set(s) => fold_members(alloc, by, s, turns),
+        Value::Tuple(t) => fold_components(alloc, by, t, turns),
         _ => Err(OpFault::Kind),
     }
 }
 
-// The components combined from the left, of which there are `count`.
+// The members combined from the left.
+fn fold_members(alloc: Global, by: Combination, s: &SetBody, turns: u64) -> Result<Answer, OpFault>
+    ensures { Tells result (fold_list (combination by) (map Some (Members s.now)) turns) }
+{
+    let mut members = s.members();
+    let Some(first) = members.next() else {
+        return Ok(om());
+    };
+    let mut answer = Answer {
+        value: Some(first.copy()?),
+        charged: 0,
+    };
+    for v in members {
+        answer = combined(alloc, by, answer, Some(v), turns)?;
+    }
+    Ok(answer)
+}
+
+// The components combined from the left.
 fn fold_components(
     alloc: Global,
     by: Combination,
-    whole: &Value,
-    count: usize,
+    t: &TupleBody,
     turns: u64,
 ) -> Result<Answer, OpFault>
-    requires { count ≡ length (components (datum whole.now)) }
-    ensures { Tells result (fold_list (combination by) (components (datum whole.now)) turns) }
+    ensures { Tells result (fold_list (combination by) t.now turns) }
 {
-    if count == 0 {
-        return Ok(Answer {
-            value: None,
-            charged: 0,
-        });
+    if t.len() == 0 {
+        return Ok(om());
     }
     let mut answer = Answer {
-        value: copied(component(whole, 0))?,
+        value: copied(t.at(0))?,
         charged: 0,
     };
-    for i in 1..count {
-        answer = combined(alloc, by, answer, component(whole, i), turns)?;
+    for i in 1..t.len() {
+        answer = combined(alloc, by, answer, t.at(i), turns)?;
     }
     Ok(answer)
+}
+
+// No value, and no charge.
+fn om() -> Answer
+    ensures { result ≡ record { value = None; charged = 0 } }
+{
+    Answer {
+        value: None,
+        charged: 0,
+    }
 }
 
 // What the earlier components gave, combined with the next one, with the turns that they left.
@@ -110,18 +134,6 @@ fn combine(
         Combination::Least => lesser(a, b),
         Combination::All => both(a, b),
         Combination::Any => either(a, b),
-    }
-}
-
-// The member or component with this index.
-fn component(whole: &Value, i: usize) -> Option<&Value>
-    requires { i < length (components (datum whole.now)) }
-    ensures { slice_get (components (datum whole.now)) i ≡ Some (lent result) }
-{
-    match whole {
-        Value::Set(s) => Some(s.at(i)),
-        Value::Tuple(t) => t.at(i),
-        _ => unreachable!(),
     }
 }
 

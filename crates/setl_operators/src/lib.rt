@@ -1,4 +1,5 @@
-//! The operators' calls: `op` applies any operator to its operands, as the table `op_of` says.
+//! The operators' calls: `op` applies any operator to its operands, as the table `op_of` says; `op_one` and `op_two` are
+//! lent them.
 #![tactic(auto)]
 
 mod folds;
@@ -6,7 +7,9 @@ mod operands;
 mod table;
 
 pub use setl_map::{Answer, OpFault, Operator};
-pub use table::op;
+pub use table::{op, op_one, op_two};
 
+#[cfg(test)]
+mod lent_tests;
 #[cfg(test)]
 mod tests;

@@ -1,7 +1,7 @@
 //! The operands of a call, taken apart.
 
 ghost use Rattle.std.specs.Prelude.{◌≡◌, ◌∷◌, [], ◌++◌, ◌<◌, Some, None, MatchResult, length, map};
-ghost use Rattle.setl_value.specs.DatumOf.{datum, part};
+ghost use Rattle.setl_value.specs.DatumOf.{datum, lent, part};
 ghost use Rattle.setl_map.specs.Outcome.{all_values};
 
 use setl_map::OpFault;
@@ -48,12 +48,21 @@ fn last(args: &mut Vec<Option<Value>>) -> Option<Value>
     }
 }
 
-/// The only operand, a value. Om where it is `om`.
-pub(crate) fn one(args: Vec<Option<Value>>) -> Result<Value, OpFault>
-    requires { length args.items ≡ 1 }
-    ensures { MatchResult result (λ v. map part args.items ≡ Some (datum v) ∷ []) (λ e. (e ≡ OpFault.Om) × (all_values (map part args.items) ≡ None)) }
+/// The same operand, lent.
+pub(crate) fn lend(a: &Option<Value>) -> Option<&Value>
+    ensures { lent result ≡ part a.now }
 {
-    any_one(args).ok_or(OpFault::Om)
+    match a {
+        None => None,
+        Some(v) => Some(v),
+    }
+}
+
+/// The operand, a value. Om where it is `om`.
+pub(crate) fn one(a: Option<&Value>) -> Result<&Value, OpFault>
+    ensures { MatchResult result (λ v. lent a.entry ≡ Some (datum v.now)) (λ e. (e ≡ OpFault.Om) × (lent a.entry ≡ None)) }
+{
+    a.ok_or(OpFault::Om)
 }
 
 /// Both operands, which are values. Om where one is `om`.

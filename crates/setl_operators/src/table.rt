@@ -2,16 +2,16 @@
 
 ghost use Rattle.std.specs.Prelude.{◌≡◌, ◌∷◌, [], Some, IsTrue, length, map};
 ghost use Rattle.setl_value.specs.Datum.{text};
-ghost use Rattle.setl_value.specs.DatumOf.{datum, part};
+ghost use Rattle.setl_value.specs.DatumOf.{datum, lent, part};
 ghost use Rattle.setl_map.specs.Answers.{Tells};
-ghost use Rattle.setl_map.specs.Operators.{op_of, TakesOperands};
+ghost use Rattle.setl_map.specs.Operators.{op_of, operand_count, TakesOperands};
 ghost use Rattle.setl_map.specs.Outcome.{value};
 ghost use Rattle.setl_map.specs.Puts.{put};
 ghost use Rattle.setl_text.specs.Texts.{whole_text};
-ghost use Rattle.setl_operators.specs.Readers.{reads_two, takes_more};
+ghost use Rattle.setl_operators.specs.Readers.{reads, reads_two};
 
 use crate::folds::{Combination, fold};
-use crate::operands::{any_one, any_three, any_two, one, three, two};
+use crate::operands::{any_one, any_three, any_two, lend, one, three, two};
 use setl_arithmetic::{
     absolute, at_most, below, divide, equal, even, greater, is_atom, is_boolean, is_in, is_integer,
     is_map, is_set, is_string, is_tuple, lesser, minus, modulo, negate, negation, not_equal,
@@ -43,46 +43,6 @@ pub fn op(
     ensures { Tells result (op_of what (map part args.items) turns) }
 {
     match what {
-        Operator::Negate => negate(&one(args)?),
-        Operator::Abs => absolute(&one(args)?),
-        Operator::Even => even(&one(args)?),
-        Operator::Odd => odd(&one(args)?),
-        Operator::Size => size(&one(args)?),
-        Operator::Not => negation(&one(args)?),
-        Operator::Pow => pow(alloc, &one(args)?, turns),
-        Operator::Domain => domain(alloc, &one(args)?),
-        Operator::Range => range(alloc, &one(args)?),
-        Operator::Arb => arb(&one(args)?),
-        Operator::Str => shown(alloc, &one(args)?),
-        Operator::IsInteger => is_integer(&any_one(args)),
-        Operator::IsString => is_string(&any_one(args)),
-        Operator::IsBoolean => is_boolean(&any_one(args)),
-        Operator::IsAtom => is_atom(&any_one(args)),
-        Operator::IsTuple => is_tuple(&any_one(args)),
-        Operator::IsSet => is_set(&any_one(args)),
-        Operator::IsMap => is_map(&any_one(args)),
-        Operator::FoldAdd => fold(alloc, Combination::Sum, &one(args)?, turns),
-        Operator::FoldMultiply => fold(alloc, Combination::Product, &one(args)?, turns),
-        Operator::FoldMax => fold(alloc, Combination::Greatest, &one(args)?, turns),
-        Operator::FoldMin => fold(alloc, Combination::Least, &one(args)?, turns),
-        Operator::FoldAnd => fold(alloc, Combination::All, &one(args)?, turns),
-        Operator::FoldOr => fold(alloc, Combination::Any, &one(args)?, turns),
-        _ => with_more(alloc, what, args, turns),
-    }
-}
-
-// What an operator with more than one operand, or any number of them, makes of them.
-fn with_more(
-    alloc: Global,
-    what: Operator,
-    args: Vec<Option<Value>>,
-    turns: u64,
-) -> Result<Answer, OpFault>
-    requires more { IsTrue (takes_more what) }
-    requires count { TakesOperands what (length args.items) }
-    ensures { Tells result (op_of what (map part args.items) turns) }
-{
-    match what {
         Operator::With => {
             let (a, b) = two(args)?;
             with(alloc, a, b)
@@ -94,14 +54,6 @@ fn with_more(
         Operator::Lessf => {
             let (a, b) = two(args)?;
             lessf(alloc, a, &b)
-        }
-        Operator::Equal => {
-            let (a, b) = any_two(args);
-            equal(&a, &b)
-        }
-        Operator::NotEqual => {
-            let (a, b) = any_two(args);
-            not_equal(&a, &b)
         }
         Operator::Slice => {
             let (a, b, c) = three(args)?;
@@ -122,7 +74,89 @@ fn with_more(
             let (a, b, c) = three(args)?;
             put_images(alloc, a, b, &c)
         }
-        _ => read_two(alloc, what, args, turns),
+        _ => read(alloc, what, args, turns),
+    }
+}
+
+// What an operator that only reads its one or two operands makes of them.
+fn read(
+    alloc: Global,
+    what: Operator,
+    args: Vec<Option<Value>>,
+    turns: u64,
+) -> Result<Answer, OpFault>
+    requires reads { IsTrue (reads what) }
+    requires count { TakesOperands what (length args.items) }
+    ensures { Tells result (op_of what (map part args.items) turns) }
+{
+    if args.len() == 1 {
+        let a = any_one(args);
+        op_one(alloc, what, lend(&a), turns)
+    } else {
+        let (a, b) = any_two(args);
+        op_two(alloc, what, lend(&a), lend(&b), turns)
+    }
+}
+
+/// What an operator with one operand makes of it, with these turns left. The operand is lent, and None is `om`. It
+/// answers as `op` does.
+pub fn op_one(
+    alloc: Global,
+    what: Operator,
+    a: Option<&Value>,
+    turns: u64,
+) -> Result<Answer, OpFault>
+    requires { operand_count what ≡ Some 1 }
+    ensures { Tells result (op_of what (lent a.entry ∷ []) turns) }
+{
+    match what {
+        Operator::Negate => negate(one(a)?),
+        Operator::Abs => absolute(one(a)?),
+        Operator::Even => even(one(a)?),
+        Operator::Odd => odd(one(a)?),
+        Operator::Size => size(one(a)?),
+        Operator::Not => negation(one(a)?),
+        Operator::Pow => pow(alloc, one(a)?, turns),
+        Operator::Domain => domain(alloc, one(a)?),
+        Operator::Range => range(alloc, one(a)?),
+        Operator::Arb => arb(one(a)?),
+        Operator::Str => shown(alloc, one(a)?),
+        Operator::IsInteger => is_integer(a),
+        Operator::IsString => is_string(a),
+        Operator::IsBoolean => is_boolean(a),
+        Operator::IsAtom => is_atom(a),
+        Operator::IsTuple => is_tuple(a),
+        Operator::IsSet => is_set(a),
+        Operator::IsMap => is_map(a),
+        Operator::FoldAdd => fold(alloc, Combination::Sum, one(a)?, turns),
+        Operator::FoldMultiply => fold(alloc, Combination::Product, one(a)?, turns),
+        Operator::FoldMax => fold(alloc, Combination::Greatest, one(a)?, turns),
+        Operator::FoldMin => fold(alloc, Combination::Least, one(a)?, turns),
+        Operator::FoldAnd => fold(alloc, Combination::All, one(a)?, turns),
+        Operator::FoldOr => fold(alloc, Combination::Any, one(a)?, turns),
+        _ => unreachable!(),
+    }
+}
+
+/// What an operator with two operands makes of them, with these turns left. The operands are lent, and None is `om`. It
+/// answers as `op` does.
+pub fn op_two(
+    alloc: Global,
+    what: Operator,
+    a: Option<&Value>,
+    b: Option<&Value>,
+    turns: u64,
+) -> Result<Answer, OpFault>
+    requires { operand_count what ≡ Some 2 }
+    ensures { Tells result (op_of what (lent a.entry ∷ lent b.entry ∷ []) turns) }
+{
+    match what {
+        Operator::With => with(alloc, one(a)?.copy()?, one(b)?.copy()?),
+        Operator::Less => less(one(a)?.copy()?, one(b)?),
+        Operator::Lessf => lessf(alloc, one(a)?.copy()?, one(b)?),
+        Operator::Equal => equal(a, b),
+        Operator::NotEqual => not_equal(a, b),
+        _ => read_two(alloc, what, a, b, turns),
     }
 }
 
@@ -131,15 +165,16 @@ fn with_more(
 fn read_two(
     alloc: Global,
     what: Operator,
-    args: Vec<Option<Value>>,
+    a: Option<&Value>,
+    b: Option<&Value>,
     turns: u64,
 ) -> Result<Answer, OpFault>
-    requires reads { IsTrue (reads_two what) }
-    requires count { length args.items ≡ 2 }
-    ensures { Tells result (op_of what (map part args.items) turns) }
+    requires { IsTrue (reads_two what) }
+    ensures { Tells result (op_of what (lent a.entry ∷ lent b.entry ∷ []) turns) }
 {
-    let (a, b) = two(args)?;
-    of_two(alloc, what, &a, &b, turns)
+    let a = one(a)?;
+    let b = one(b)?;
+    of_two(alloc, what, a, b, turns)
 }
 
 // What it makes of these two values.

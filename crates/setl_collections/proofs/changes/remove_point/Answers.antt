@@ -1,17 +1,16 @@
-use Rattle.std.proofs.Common.{ap, ◌∙◌, subst}
+use Rattle.std.proofs.Common.{ap, sym, ◌∙◌}
 use Rattle.setl_value.specs.Body.{Members}
 use Rattle.setl_value.specs.DatumOf.{datum}
 use Rattle.setl_map.specs.Maps.{without_point}
 use Rattle.setl_map.specs.Outcome.{set_value}
-use Rattle.setl_map.specs.Answers.{Tells}
 use Rattle.setl_collections.proofs.Rows.{map_row, no_map_row}
-use Rattle.setl_collections.proofs.wholes.without_point.Goals as goal
+use Rattle.setl_collections.proofs.changes.remove_point.Goals as goal
 
-pub returns-in-Ok : goal.returns-in-Ok
-returns-in-Ok c =
+pub returns-in-Ok-clause-changes : goal.returns-in-Ok-clause-changes
+returns-in-Ok-clause-changes c =
     let kind = c.in-Ok.ensures.kind.1 in
-    let row = map_row (λ f. set_value (without_point (datum c.args.x.now) f)) (Members c.args.f) (λ h. let k = kind h in cc) in
-    subst (Tells c.set.result) (ap set_value c.in-Ok.ensures.removed ∙ row) c.set.ensures
+    let row = map_row (λ f. set_value (without_point (datum c.args.x.now) f)) (Members c.args.f.now) (λ h. let k = kind h in cc) in
+    sym (ap set_value c.in-Ok.ensures.removed ∙ row)
 
-pub returns-in-Err-Kind : goal.returns-in-Err-Kind
-returns-in-Err-Kind c = no_map_row (λ f. set_value (without_point (datum c.args.x.now) f)) (Members c.args.f) (c.in-Err-Kind.ensures.kind.0 cc)
+pub returns-in-Err-Kind-clause-changes : goal.returns-in-Err-Kind-clause-changes
+returns-in-Err-Kind-clause-changes c = no_map_row (λ f. set_value (without_point (datum c.args.x.now) f)) (Members c.args.f.now) (c.in-Err-Kind.ensures.kind.0 cc)

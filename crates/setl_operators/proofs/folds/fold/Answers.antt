@@ -1,12 +1,14 @@
-use Rattle.std.proofs.Common.{◌∙◌, ap, sym, length}
+use Rattle.std.proofs.Common.{◌∙◌, ap, sym, subst}
 use Rattle.setl_value.specs.Body.{Members}
 use Rattle.setl_value.specs.DatumOf.{datum}
-use Rattle.setl_operators.specs.Combinations.{components}
-use Rattle.setl_operators.proofs.Components.{count_of_set, count_of_tuple}
+use Rattle.setl_map.specs.Answers.{Tells}
+use Rattle.setl_map.specs.Folds.{fold_datum}
+use Rattle.setl_operators.specs.Combinations.{combination}
+use Rattle.setl_operators.proofs.Components.{over_members, over_components}
 use Rattle.setl_operators.proofs.folds.fold.Goals as goal
 
-pub fold_components-requires : goal.fold_components-requires
-fold_components-requires c = c.len.ensures ∙ sym (ap (λ v. length (components (datum v))) c.in-Set.is ∙ count_of_set (Members c.in-Set.s))
+pub returns-in-Set : goal.returns-in-Set
+returns-in-Set c = subst (Tells c.fold_members.result) (over_members (combination c.args.by) c.args.turns (Members c.in-Set.s) ∙ ap (λ v. fold_datum (combination c.args.by) c.args.turns (datum v)) (sym c.in-Set.is)) c.fold_members.ensures
 
-pub fold_components-requires-in-Tuple : goal.fold_components-requires-in-Tuple
-fold_components-requires-in-Tuple c = c.len-in-Tuple.ensures ∙ sym (ap (λ v. length (components (datum v))) c.in-Tuple.is ∙ count_of_tuple c.in-Tuple.t)
+pub returns-in-Tuple : goal.returns-in-Tuple
+returns-in-Tuple c = subst (Tells c.fold_components.result) (over_components (combination c.args.by) c.args.turns c.in-Tuple.t ∙ ap (λ v. fold_datum (combination c.args.by) c.args.turns (datum v)) (sym c.in-Tuple.is)) c.fold_components.ensures
