@@ -8,6 +8,3 @@ mod wholes;
 pub use puts::{put, put_images};
 pub use selections::{get, images, slice, tail};
 pub use wholes::{arb, domain, less, lessf, range, size, with};
-
-#[cfg(test)]
-mod tests;

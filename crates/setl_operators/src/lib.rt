@@ -7,6 +7,3 @@ mod table;
 
 pub use setl_map::{Answer, OpFault, Operator};
 pub use table::op;
-
-#[cfg(test)]
-mod tests;

@@ -20,8 +20,6 @@ mod order;
 mod sets;
 mod shared;
 mod string;
-#[cfg(test)]
-mod tests;
 mod tuples;
 
 pub use sets::MemberIter;

@@ -1,10 +1,12 @@
 //! Worked texts and denotations, inputs that are cut into pieces of each size, and an input that fails in mid-stream.
 
-use crate::{Got, ReadFault, Reader, line, text};
+ghost use Rattle.std.specs.Prelude.{◌<◌};
+
+use crate::written::values;
 use setl_io::{MemSource, Source, SureSource};
-use setl_value::{Memory, Text, Value};
+use setl_text::{Got, ReadFault, Reader, line, text};
+use setl_value::{Memory, Value};
 use std::alloc::Global;
-use std::process::Abort;
 use std::test::Fail;
 
 // The letter of a fault.
@@ -56,6 +58,19 @@ fn answers<I: Source>(alloc: Global, input: &mut I) -> Result<Vec<u8>, Memory> {
     Ok(all)
 }
 
+// The answers of an input that gives so many bytes a call, and whose calls of these numbers fail.
+fn read_in_pieces(
+    alloc: Global,
+    input: &str,
+    piece: usize,
+    fails: Vec<u64>,
+) -> Result<Vec<u8>, Memory>
+    requires { 0 < piece }
+{
+    let bytes = input.as_bytes().to_vec(alloc)?;
+    answers(alloc, &mut MemSource::new(bytes, piece, fails))
+}
+
 const INPUTS: [(&str, &str); 16] = [
     ("{1 [2 'a']} 7", "{1 [2 'a']} 7 .."),
     ("{3,1,2,1} [1,*,2] 'it''s'", "{1 2 3} [1 * 2] 'it''s' .."),
@@ -89,17 +104,8 @@ fn denotations_are_read_in_pieces_of_each_size(rt: HostRuntime) -> Result<(), Fa
     let alloc = rt.alloc();
     for (input, expected) in INPUTS {
         for piece in 1..30 {
-            let mut source = MemSource::new(
-                input.as_bytes().to_vec(alloc)?,
-                piece,
-                Vec::new(alloc),
-            );
-            let all = answers(alloc, &mut source)?;
-            assert_eq!(rt;
-                all.as_slice(),
-                expected.as_bytes(),
-                "pieces of {piece} of {input}"
-            );
+            let all = read_in_pieces(alloc, input, piece, Vec::new(alloc))?;
+            assert_eq!(rt; all.as_slice(), expected.as_bytes(), "{piece} of {input}");
         }
     }
     Ok(())
@@ -116,23 +122,21 @@ fn an_input_fails_at_each_read(rt: HostRuntime) -> Result<(), Fail> {
         (5, "12 {3} .S"),
         (6, "12 {3} .."),
     ] {
-        let mut source = MemSource::new(b"12 {3}".to_vec(alloc)?, 2, vec![in alloc; failing]?);
-        let all = answers(alloc, &mut source)?;
+        let all = read_in_pieces(alloc, "12 {3}", 2, vec![in alloc; failing]?)?;
         assert_eq!(rt; all.as_slice(), expected.as_bytes(), "failing at {failing}");
     }
     Ok(())
 }
 
-// As many opening brackets, and as many closing ones.
-fn nested(alloc: Global, depth: usize) -> Result<SureSource, Memory> {
+// The first letter of the answers to so many opening brackets, and as many closing ones.
+fn first_letter(alloc: Global, depth: usize) -> Result<Option<u8>, Memory> {
     let mut bytes = vec![in alloc; b'['; depth]?;
     bytes.extend_from_slice(vec![in alloc; b']'; depth]?.as_slice())?;
-    Ok(SureSource::new(bytes))
-}
-
-fn first_letter(alloc: Global, depth: usize) -> Result<Option<u8>, Memory> {
-    let mut source = nested(alloc, depth)?;
-    Ok(answers(alloc, &mut source)?.first().copied())
+    Ok(
+        answers(alloc, &mut SureSource::new(bytes))?
+            .first()
+            .copied(),
+    )
 }
 
 #[test]
@@ -143,46 +147,20 @@ fn a_value_is_at_most_500_deep(rt: HostRuntime) -> Result<(), Fail> {
     Ok(())
 }
 
-// The values and `om` that these bytes denote.
-fn values(alloc: Global, bytes: &str) -> Result<Vec<Option<Value>>, Memory> {
-    let mut source = SureSource::new(bytes.as_bytes().to_vec(alloc)?);
-    let mut reader = Reader::new(alloc)?;
-    let mut all = Vec::new(alloc);
-    for _ in 0..20 {
-        match reader.next(&mut source) {
-            Ok(Got::Value(v)) => all.push(Some(v))?,
-            Ok(Got::Om) => all.push(None)?,
-            _ => break,
-        }
-    }
-    Ok(all)
-}
-
-fn expect_line(rt: &impl Abort, alloc: Global, input: &str, expected: &str) -> Result<(), Memory> {
-    let printed = line(alloc, values(alloc, input)?.as_slice())?;
-    assert_eq!(rt; printed.as_slice(), expected.as_bytes());
-    Ok(())
+fn printed(alloc: Global, arguments: &str) -> Result<Vec<u8>, Memory> {
+    line(alloc, values(alloc, arguments)?.as_slice())
 }
 
 #[test]
 fn a_line_has_the_texts_of_its_arguments(rt: HostRuntime) -> Result<(), Fail> {
     let alloc = rt.alloc();
-    expect_line(
-        &rt,
-        alloc,
-        "{3 1 2 1} [1 * 2] 'it''s'",
-        "{1 2 3} [1 * 2] it's\n",
-    )?;
-    expect_line(&rt, alloc, "* true", "* true\n")?;
-    expect_line(&rt, alloc, "", "\n")?;
+    for (arguments, expected) in [
+        ("{3 1 2 1} [1 * 2] 'it''s'", "{1 2 3} [1 * 2] it's\n"),
+        ("* true", "* true\n"),
+        ("", "\n"),
+    ] {
+        assert_eq!(rt; printed(alloc, arguments)?.as_slice(), expected.as_bytes());
+    }
     assert_eq!(rt; text(alloc, &Value::Atom(7))?.as_slice(), b"#7".as_slice());
-    Ok(())
-}
-
-#[test]
-fn a_text_can_be_a_string(rt: HostRuntime) -> Result<(), Fail> {
-    let alloc = rt.alloc();
-    let printed = Text::from_bytes(alloc, text(alloc, &Value::Int(-5))?)?;
-    assert_eq!(rt; printed.bytes(), b"-5".as_slice());
     Ok(())
 }
