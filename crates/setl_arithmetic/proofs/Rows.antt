@@ -4,8 +4,9 @@ use Rattle.std.specs.Bool.{if◌then◌else◌}
 use Rattle.std.proofs.Common.{ap, sym, ◌∙◌, arith}
 use Rattle.std.proofs.lemmas.Bool.Decides.{nat_tests}
 use Rattle.setl_value.specs.Datum.{Datum, bool, int, text, atom, tuple, set, set_of, tuple_of}
-use Rattle.setl_scalar.specs.Texts.{copies as copies_of_text, repeat_of as repeat_of_text}
-use Rattle.setl_tuple.specs.Tuples.{copies as copies_of_tuple, repeat_of as repeat_of_tuple}
+use Rattle.setl_value.specs.Copies.{copies}
+use Rattle.setl_scalar.specs.Texts.{repeat_of as repeat_of_text}
+use Rattle.setl_tuple.specs.Tuples.{repeat_of as repeat_of_tuple}
 use Rattle.setl_map.specs.Outcome.{Gives, Fails, Overspends, KindFault, charging, value, tuple_value}
 use Rattle.setl_map.specs.Numbers.{times, replicated}
 use Rattle.setl_arithmetic.proofs.Views.{parts_back}
@@ -22,15 +23,15 @@ same_if_ok x y r p q = cc
 pub tuple_copied : (left : ℕ) (n : ℤ) (ps qs : List (Option Datum)) (k : ℕ) → repeat_of_tuple ps n ≡ Ok qs → n ≡ pos k → k ≤ left → replicated left n (tuple_of ps) ≡ Gives (Some (tuple_of qs)) k
 tuple_copied left n ps qs k r e h =
     ap (λ z. replicated left z (tuple_of ps)) e
-    ∙ ap (λ l. charging k left (tuple_value (copies_of_tuple k l))) (parts_back ps)
-    ∙ paid left k (tuple_of (copies_of_tuple k ps)) h
-    ∙ ap (λ l. Gives (Some (tuple_of l)) k) (same_if_ok (copies_of_tuple k ps) qs (repeat_of_tuple ps (pos k)) refl (ap (repeat_of_tuple ps) (sym e) ∙ r))
+    ∙ ap (λ l. charging k left (tuple_value (copies k l))) (parts_back ps)
+    ∙ paid left k (tuple_of (copies k ps)) h
+    ∙ ap (λ l. Gives (Some (tuple_of l)) k) (same_if_ok (copies k ps) qs (repeat_of_tuple ps (pos k)) refl (ap (repeat_of_tuple ps) (sym e) ∙ r))
 
 pub text_copied : (left : ℕ) (n : ℤ) (t u : List ℕ) (k : ℕ) → repeat_of_text t n ≡ Ok u → n ≡ pos k → k ≤ left → replicated left n (text t) ≡ Gives (Some (text u)) k
 text_copied left n t u k r e h =
     ap (λ z. replicated left z (text t)) e
-    ∙ paid left k (text (copies_of_text k t)) h
-    ∙ ap (λ l. Gives (Some (text l)) k) (same_if_ok (copies_of_text k t) u (repeat_of_text t (pos k)) refl (ap (repeat_of_text t) (sym e) ∙ r))
+    ∙ paid left k (text (copies k t)) h
+    ∙ ap (λ l. Gives (Some (text l)) k) (same_if_ok (copies k t) u (repeat_of_text t (pos k)) refl (ap (repeat_of_text t) (sym e) ∙ r))
 
 -- ---- what has no copies
 

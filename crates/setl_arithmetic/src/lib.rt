@@ -12,6 +12,3 @@ pub use truths::{
     at_most, below, both, either, equal, is_atom, is_boolean, is_in, is_integer, is_map, is_set,
     is_string, is_tuple, negation, not_equal, not_in, subset,
 };
-
-#[cfg(test)]
-mod tests;

@@ -7,7 +7,7 @@ use Rattle.std.proofs.lemmas.Int.{ints}
 use Rattle.std.proofs.lemmas.Option.{slice_get_past}
 use Rattle.setl_value.specs.Datum.{int, text}
 use Rattle.setl_scalar.specs.declared.ScalarFault.TheVariants.{Range}
-use Rattle.setl_scalar.specs.Texts.{are_places}
+use Rattle.setl_value.specs.Copies.{are_places}
 use Rattle.setl_map.specs.Outcome.{Gives, Fails, RangeFault, value}
 use Rattle.setl_map.specs.Selections.{get, slice, letter, part_of_text}
 

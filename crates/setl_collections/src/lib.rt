@@ -12,8 +12,3 @@ pub use puts::{put, put_images, put_images_in_place, put_in_place};
 pub use selections::{get, images, slice, tail};
 pub use takes::{take_first, take_last, take_least};
 pub use wholes::{arb, domain, range, size};
-
-#[cfg(test)]
-mod in_place_tests;
-#[cfg(test)]
-mod tests;

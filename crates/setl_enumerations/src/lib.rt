@@ -10,6 +10,3 @@ mod subsets;
 pub use enumerations::{enumerate_set, enumerate_tuple};
 pub use ranges::{set_range, set_step, tuple_range, tuple_step};
 pub use subsets::{npow, pow};
-
-#[cfg(test)]
-mod tests;

@@ -1,11 +1,10 @@
 -- The arithmetic operators, some of which serve sets, tuples and strings too.
 use Rattle.std.specs.Prelude.{ℕ, ◌%◌, ◌==◌, ◌++◌, ℤ, pos, negsuc, int_le, unsigned_abs, Result, Ok, Err, if◌then◌else◌}
+use Rattle.setl_value.specs.Copies.{copies}
 use Rattle.setl_value.specs.Datum.{Datum, int, text, tuple, set, part_list, element_list}
 use Rattle.setl_scalar.specs.declared.ScalarFault.{ScalarFault}
 use Rattle.setl_scalar.specs.declared.ScalarFault.TheVariants.{Wide, Zero, Range, NoMemory}
 use Rattle.setl_scalar.specs.Integers.{add_of, sub_of, mul_of, neg_of, abs_of, power_of, div_of, mod_of}
-use Rattle.setl_scalar.specs.Texts.{copies as copies_of_text}
-use Rattle.setl_tuple.specs.Tuples.{copies as copies_of_tuple}
 use Rattle.setl_set.specs.Sets.{union_of, minus_of, meet_of, symm_of}
 use Rattle.setl_map.specs.Outcome.{Outcome, Fails, KindFault, ZeroFault, RangeFault, WideFault, value, truth, set_value, tuple_value, charging}
 
@@ -65,8 +64,8 @@ minus a b = Fails KindFault
 
 -- n copies of a tuple or a string, which charge n
 abbrev pub replicated : ℕ → ℤ → Datum → Outcome
-replicated left (pos n) (tuple ps) = charging n left (tuple_value (copies_of_tuple n (part_list ps)))
-replicated left (pos n) (text t) = charging n left (value (text (copies_of_text n t)))
+replicated left (pos n) (tuple ps) = charging n left (tuple_value (copies n (part_list ps)))
+replicated left (pos n) (text t) = charging n left (value (text (copies n t)))
 replicated left (negsuc n) (tuple ps) = Fails RangeFault
 replicated left (negsuc n) (text t) = Fails RangeFault
 replicated left n d = Fails KindFault

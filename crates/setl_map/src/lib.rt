@@ -211,6 +211,3 @@ pub enum Operator {
     /// The whole after `f{x} := s`, of the whole, the selector and the part.
     PutImages,
 }
-
-#[cfg(test)]
-mod tests;

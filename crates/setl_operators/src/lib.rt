@@ -8,8 +8,3 @@ mod table;
 
 pub use setl_map::{Answer, OpFault, Operator};
 pub use table::{op, op_one, op_two};
-
-#[cfg(test)]
-mod lent_tests;
-#[cfg(test)]
-mod tests;

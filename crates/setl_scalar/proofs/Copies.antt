@@ -8,9 +8,9 @@ use Rattle.std.proofs.lemmas.List.Elements.{All-nil, All-append, All-weaker, All
 use Rattle.std.proofs.lemmas.Bool.{true≢false}
 use Rattle.std.proofs.lemmas.Bool.Decides.{nat_tests}
 use Rattle.setl_value.specs.WellFormed.{IsTextByte}
-use Rattle.setl_scalar.specs.Texts.{copies}
+use Rattle.setl_value.specs.Copies.{copies}
 
-pub copies-nil : (n : ℕ) → copies n [] ≡ []
+pub copies-nil : (n : ℕ) → copies {A = ℕ} n [] ≡ []
 copies-nil zero = refl
 copies-nil (suc n) = copies-nil n
 

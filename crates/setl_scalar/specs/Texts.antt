@@ -1,20 +1,13 @@
 -- What the operators on strings give, over lists of bytes.
-use Rattle.std.specs.Prelude.{◌≡◌, ℕ, ℤ, pos, negsuc, ◌+ℤ◌, ◌-◌, Bool, ◌&&◌, if◌then◌else◌, List, [], ◌∷◌, Result, Ok, Err, unsigned_abs, int_le, length, replicate, slice_range, refl}
-use Rattle.std.specs.List.{flat_map}
+use Rattle.std.specs.Prelude.{◌≡◌, ℕ, ℤ, pos, negsuc, ◌-◌, if◌then◌else◌, List, [], ◌∷◌, Result, Ok, Err, unsigned_abs, length, slice_range, refl}
+use Rattle.setl_value.specs.Copies.{copies, are_places}
 use Rattle.setl_scalar.specs.declared.ScalarFault.{ScalarFault}
 use Rattle.setl_scalar.specs.declared.ScalarFault.TheVariants.{Range}
 
 -- n copies of t, one after another
-abbrev pub copies : ℕ → List ℕ → List ℕ
-copies n t = flat_map (λ copy. copy) (replicate n t)
-
 abbrev pub repeat_of : List ℕ → ℤ → Result (List ℕ) ScalarFault
 repeat_of t (pos n) = Ok (copies n t)
 repeat_of t (negsuc n) = Err Range
-
--- 1 <= i <= j + 1 and j <= n: the places i to j, counted from 1, lie in a list of length n. Where i is j + 1 there are none
-abbrev pub are_places : ℤ → ℤ → ℕ → Bool
-are_places i j n = int_le (pos 1) i && int_le i (j +ℤ pos 1) && int_le j (pos n)
 
 -- the bytes at places i to j
 abbrev pub slice_of : List ℕ → ℤ → ℤ → Result (List ℕ) ScalarFault

@@ -31,6 +31,3 @@ impl From<Memory> for ScalarFault {
         ScalarFault::NoMemory
     }
 }
-
-#[cfg(test)]
-mod tests;

@@ -1,6 +1,7 @@
 //! The operators on strings.
 ghost use Rattle.std.specs.Prelude.{◌≡◌, ◌++◌, ◌↔◌, ◌⊎◌, IfOk, IfErr, Ok, Err};
-ghost use Rattle.setl_scalar.specs.Texts.{copies, repeat_of, slice_of};
+ghost use Rattle.setl_value.specs.Copies.{copies};
+ghost use Rattle.setl_scalar.specs.Texts.{repeat_of, slice_of};
 
 use crate::ScalarFault;
 use setl_value::{Memory, Text};

@@ -37,6 +37,3 @@ impl From<Memory> for SetFault {
         SetFault::NoMemory
     }
 }
-
-#[cfg(test)]
-mod tests;

@@ -5,11 +5,11 @@ use Rattle.std.specs.List.{AllByRecursion}
 use Rattle.std.proofs.lemmas.Bool.{ne_eqb, eqb-true, true≢false, cases_Bool}
 use Rattle.setl_value.specs.Datum.{Datum}
 use Rattle.setl_value.specs.WellFormed.{IsWide}
-use Rattle.setl_text.specs.Bytes.{is_digit, is_letter, is_start, lower, front, number_from, signed, Bracket, Brace, Square, opening, closing}
+use Rattle.setl_text.specs.Bytes.{IsLow, is_digit, is_letter, is_start, lower, front, number_from, signed, Bracket, Brace, Square, opening, closing}
 use Rattle.setl_text.specs.Denoted.{spelling, Fault, Form, SingleFails, wide_natural, wide_negative, minus_at_end, minus_alone, other_word, open_string, ItemFails, no_single, too_deep, inside, ItemsFail, after_gap, after_member, in_member, om_in_set, not_closed, no_start, ReadFails, after_blank, in_item, no_item}
 use Rattle.setl_text.specs.Reading.{NotForm, TooWide, failing, Between, AfterMinus, InNumber, Open, opened, Step, Goes, Fails, gap_at, begin, first_letter, close_bracket, after_minus, within, proceed, resume, read_denotation}
 use Rattle.setl_text.proofs.Classes.{begin_digit, begin_letter}
-use Rattle.setl_text.proofs.Tokens.{after, wide_runs, not_within, digit_within, spelled, word_fails, string_fails, IsLow}
+use Rattle.setl_text.proofs.Tokens.{after, wide_runs, not_within, digit_within, spelled, word_fails, string_fails}
 use Rattle.setl_text.proofs.Runs.{by_step, begin_minus, begin_quote, begin_bracket, begin_deep, item_runs, put_is}
 
 or_none : (x y : Bool) → (x || y) ≡ false → (x ≡ false) × (y ≡ false)

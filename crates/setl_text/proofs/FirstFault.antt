@@ -3,17 +3,17 @@ use Rattle.std.proofs.Common.{◌≡◌, ℕ, ◌+◌, ◌-◌, ◌*◌, Bool, t
 use Rattle.std.specs.List.{AllByRecursion}
 use Rattle.std.proofs.lemmas.Bool.{lt-leb, le-leb, eq-eqb}
 use Rattle.setl_value.specs.Datum.{Datum, bool, int, text}
-use Rattle.setl_text.specs.Bytes.{Bracket, Brace, Square, closing, is_digit, is_letter, lower, signed}
+use Rattle.setl_text.specs.Bytes.{Bracket, Brace, Square, IsLow, closing, is_digit, is_letter, lower, signed}
 use Rattle.setl_text.specs.Denoted.{Form, Wide, Deep, collected}
 use Rattle.setl_text.specs.Reading.{Denotes, NotForm, Token, Between, AfterMinus, InNumber, InWord, InString, AfterQuote, Open, opened, Step, Goes, Ends, EndsBefore, Fails, Placed, Whole, Inside, Unfit, put_value, taken, gap_at, open_bracket, close_bracket, begin, before, within, step, finish, proceed, resume}
 use Rattle.setl_text.specs.Laws.{StopsThere, FormStandsFirst}
-use Rattle.setl_text.proofs.Tokens.{IsLow, after, after_before, after_end}
+use Rattle.setl_text.proofs.Tokens.{after, after_before, after_end}
 use Rattle.setl_text.proofs.Runs.{denoted_runs, close_runs}
 use Rattle.setl_text.proofs.Fails.{read_fails, low_rue, low_alse}
 use Rattle.setl_text.proofs.Exact.{reads_exactly}
 
 -- a word still wants letters in lower case
-abbrev WordFits : Token → Type 0
+abbrev pub WordFits : Token → Type 0
 WordFits (InWord v wanted) = AllByRecursion IsLow wanted
 WordFits t = Unit {0}
 
@@ -63,7 +63,7 @@ step_fits (AfterQuote t) os b h = fit_either (eqb b 39) _ _ tt (before_fits (put
 
 -- ---- each state can be continued
 
-abbrev Continues : Token → List Open → Type 0
+abbrev pub Continues : Token → List Open → Type 0
 Continues t os = (more : List ℕ) × (v : Option Datum) × (rest : List ℕ) × (resume more t os ≡ Denotes v rest)
 
 -- closing what is open
@@ -120,7 +120,7 @@ closes_open k got os =
     let outer = closes (collected k got) os in
     (closing k ∷ outer.0, outer.1, outer.2, close_runs k got outer.0 os ∙ outer.3)
 
-continues : (t : Token) (os : List Open) → WordFits t → Continues t os
+pub continues : (t : Token) (os : List Open) → WordFits t → Continues t os
 continues Between [] h = (42 ∷ [], None, [], refl)
 continues Between (opened k got ∷ os) h = closes_open k got os
 continues AfterMinus os h = one_more 48 AfterMinus (InNumber true 0) os (λ bs. refl) (ends (InNumber true 0) (int (signed true 0)) os (number_ends true 0))

@@ -9,4 +9,5 @@ pub mod Shallow
 pub mod Rising
 pub mod Going
 pub mod FirstFault
+pub mod Decided
 pub mod PlainTexts

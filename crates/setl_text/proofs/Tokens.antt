@@ -5,7 +5,7 @@ use Rattle.std.proofs.lemmas.Bool.{and_parts, leb-true, ltb-true, ne_eqb, eq-eqb
 use Rattle.std.proofs.lemmas.Bool.Decides.{nat_tests}
 use Rattle.setl_value.specs.Datum.{Datum, bool, int, text}
 use Rattle.setl_value.specs.WellFormed.{IsWide}
-use Rattle.setl_text.specs.Bytes.{is_digit, is_letter, lower, front, behind, number_from, signed}
+use Rattle.setl_text.specs.Bytes.{IsLow, is_digit, is_letter, lower, front, behind, number_from, signed}
 use Rattle.setl_text.specs.Texts.{doubled}
 use Rattle.setl_text.specs.Denoted.{NoQuote, NotNewline, EndsLine}
 use Rattle.setl_text.specs.Reading.{Reading, Denotes, NotForm, TooWide, Between, InNumber, InWord, InString, AfterQuote, Open, opened, before, within, taken, put_value, Placed, Whole, Inside, Unfit, placed_at_end, proceed, resume}
@@ -111,10 +111,6 @@ pub word_runs : (v : Bool) (wanted bs : List ℕ) (os : List Open) → map lower
 word_runs v [] [] os is = after_end (bool v) os
 word_runs v (w ∷ ws) [] os is = absurd (cc)
 word_runs v wanted (b ∷ bs) os is = word_by (is_letter b) v wanted b bs os refl is (λ ws h. word_runs v ws bs os h)
-
--- a letter in lower case
-abbrev pub IsLow : ℕ → Type 0
-IsLow b = (96 < b) × (b < 123)
 
 pub no_low : (b w : ℕ) → is_letter b ≡ false → IsLow w → eqb (lower b) w ≡ false
 no_low b w e low = ne_eqb (lower b) w (λ is. grind (arith, nat_tests))

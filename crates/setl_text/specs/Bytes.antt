@@ -1,5 +1,5 @@
 -- The bytes of denotations.
-use Rattle.std.specs.Prelude.{ℕ, ◌+◌, ◌-◌, ◌*◌, ◌==◌, ◌&&◌, ◌||◌, Bool, true, false, List, [], ◌∷◌, nat_le, cond, ℤ, pos, neg_ℤ, if◌then◌else◌}
+use Rattle.std.specs.Prelude.{ℕ, ◌<◌, ◌+◌, ◌-◌, ◌*◌, ◌==◌, ◌&&◌, ◌||◌, Bool, true, false, List, [], ◌∷◌, nat_le, cond, ℤ, pos, neg_ℤ, if◌then◌else◌}
 
 abbrev pub is_blank : ℕ → Bool
 is_blank b = b == 9 || b == 10 || b == 13 || b == 32
@@ -13,6 +13,10 @@ is_digit b = nat_le 48 b && nat_le b 57
 
 abbrev pub is_letter : ℕ → Bool
 is_letter b = nat_le 65 b && nat_le b 90 || nat_le 97 b && nat_le b 122
+
+-- a letter in lower case
+abbrev pub IsLow : ℕ → Type 0
+IsLow b = (96 < b) × (b < 123)
 
 -- the letter in lower case
 abbrev pub lower : ℕ → ℕ

@@ -1,6 +1,6 @@
 -- What `read` takes from the input: denotations of values and of `om`. The notation is this project's profile of the
 -- 1986 book's `read`.
-use Rattle.std.specs.Prelude.{◌≡◌, ℕ, suc, ◌++◌, Bool, true, false, List, [], ◌∷◌, map, codes, Option, Some, None, if◌then◌else◌}
+use Rattle.std.specs.Prelude.{◌≡◌, ◌⊎◌, ℕ, suc, ◌++◌, Bool, true, false, List, [], ◌∷◌, map, codes, Option, Some, None, if◌then◌else◌}
 use Rattle.std.specs.List.{AllByRecursion}
 use Rattle.setl_value.specs.Datum.{Datum, bool, int, text, set_of, tuple_of}
 use Rattle.setl_value.specs.WellFormed.{IsWide, trim}
@@ -107,3 +107,9 @@ pub data ReadFails : List ℕ → Fault → Type 0 where
 -- Only blanks are left.
 abbrev pub OnlyBlanks : List ℕ → Type 0
 OnlyBlanks bs = AllByRecursion (λ b. is_blank b ≡ true) bs
+
+-- Whatever follows these bytes, they denote the same value or `om`, or they come to the same fault.
+abbrev pub IsDecided : List ℕ → Type 0
+IsDecided bs =
+    ((v : Option Datum) × (rest : List ℕ) × ((more : List ℕ) → Denoted (bs ++ more) v (rest ++ more)))
+    ⊎ ((f : Fault) × ((more : List ℕ) → ReadFails (bs ++ more) f))

@@ -1,9 +1,9 @@
 -- What the state of the reader stands for, and what each of its steps does.
 use Rattle.std.specs.Prelude.{◌≡◌, ℕ, ◌+◌, ◌≤◌, true, List, [], ◌∷◌, ◌++◌, length, map, reverse, drop, Result, Ok, Err, Option, Some, None, ⊤, ◌==◌, if◌then◌else◌}
-use Rattle.std.specs.List.{All}
+use Rattle.std.specs.List.{All, AllByRecursion}
 use Rattle.setl_value.specs.Datum.{Datum, parts_depth, parts_of}
 use Rattle.setl_value.specs.DatumOf.{datum, part}
-use Rattle.setl_text.specs.Bytes.{Brace, Square}
+use Rattle.setl_text.specs.Bytes.{IsLow, Brace, Square}
 use Rattle.setl_text.specs.Denoted.{Form, Wide, Deep}
 use Rattle.setl_text.specs.Reading.{Reading, Denotes, AtEnd, NotForm, TooWide, TooDeep, Token, Between, AfterMinus, InNumber, InWord, InString, AfterQuote, Open, opened, Step, Goes, Ends, EndsBefore, Fails, Placed, Whole, Inside, Unfit, within, put_value, taken, open_bracket, close_bracket, resume}
 use Rattle.setl_text.specs.declared.scan.Piece.{Piece}
@@ -41,12 +41,12 @@ opens cs = reverse (map open_of cs)
 
 -- ---- what holds of every state
 
--- sizes are within 128 bits, and strings have no byte 10
+-- sizes are within 128 bits, the letters wanted are in lower case, and strings have no byte 10
 abbrev pub TokenFits : Token → Type 0
 TokenFits Between = ⊤
 TokenFits AfterMinus = ⊤
 TokenFits (InNumber negative n) = within negative n ≡ true
-TokenFits (InWord v wanted) = ⊤
+TokenFits (InWord v wanted) = AllByRecursion IsLow wanted
 TokenFits (InString t) = All (λ b. (b ≡ 10) → ⊥) t
 TokenFits (AfterQuote t) = All (λ b. (b ≡ 10) → ⊥) t
 

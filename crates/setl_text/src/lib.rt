@@ -9,8 +9,6 @@ pub mod laws;
 mod place;
 mod read;
 mod scan;
-#[cfg(test)]
-mod tests;
 mod texts;
 
 pub use read::Reader;

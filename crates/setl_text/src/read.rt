@@ -2,6 +2,7 @@
 
 ghost use Rattle.std.specs.Prelude.{◌≡◌, ◌≤◌, [], Err, None, IfOk, MatchOption};
 ghost use Rattle.setl_value.specs.DatumOf.{part};
+ghost use Rattle.setl_text.specs.Denoted.{IsDecided};
 ghost use Rattle.setl_text.specs.Reading.{Denotes};
 ghost use Rattle.setl_text.specs.Scans.{token_of, opens, reading_of, TokenFits, IsShallow, Scans};
 ghost use Rattle.setl_text.specs.Reads.{Answers, AnswersTold, KeepsFault, SourceCounts, ScansKept, Fills};
@@ -63,13 +64,15 @@ impl Reader {
     /// after that are those behind the denotation. `Form` comes where the bytes begin no denotation or end inside one,
     /// `Wide` at an integer outside of 128 bits, `Deep` where the 501st depth is opened, each where it stands first.
     /// `Source` comes where the input failed and counted it, `NoMemory` for want of memory. After a fault every call
-    /// answers the same fault and leaves the input alone.
+    /// answers the same fault and leaves the input alone. Where the bytes kept decide the answer, whatever follows them,
+    /// the input isn't asked.
     pub fn next<I: Source>(&mut self, input: &mut I) -> Result<Got, ReadFault>
         ensures answer { self.old.fault ≡ None → Answers self.old.kept (I.left input.old) self.new.kept (I.left input.new) result }
         ensures told { self.old.fault ≡ None → AnswersTold self.old.kept (I.left input.old) self.new.kept (I.left input.new) result }
         ensures fault { MatchOption self.old.fault (KeepsFault result self.new.fault) (λ f. (result ≡ Err f) × (self.new ≡ self.old) × (input.new ≡ input.old)) }
         ensures source { self.old.fault ≡ None → SourceCounts (I.faults input.old) (I.faults input.new) result }
         ensures later { I.faults input.old ≤ I.faults input.new }
+        ensures decided { IsDecided self.old.kept → input.new ≡ input.old }
     {
         if let Some(fault) = self.stopped {
             return Err(fault);
@@ -88,6 +91,7 @@ impl Reader {
         ensures fault { self.new.fault ≡ self.old.fault }
         ensures source { SourceCounts (I.faults input.old) (I.faults input.new) result }
         ensures later { I.faults input.old ≤ I.faults input.new }
+        ensures decided { IsDecided self.old.kept → input.new ≡ input.old }
     {
         let mut piece = Piece::Idle;
         let mut opened = Vec::new(self.alloc);

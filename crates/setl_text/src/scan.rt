@@ -1,10 +1,10 @@
 //! The steps of the reader of denotations, byte by byte.
 
 ghost use Rattle.std.specs.Prelude.{◌≡◌, ◌<◌, ◌+◌, ◌*◌, ◌++◌, ◌∷◌, [], true, List, Some};
-ghost use Rattle.std.specs.List.{All};
+ghost use Rattle.std.specs.List.{All, AllByRecursion};
 ghost use Rattle.setl_value.specs.Datum.{depth};
 ghost use Rattle.setl_value.specs.DatumOf.{datum};
-ghost use Rattle.setl_text.specs.Bytes.{is_digit, is_letter, lower, signed};
+ghost use Rattle.setl_text.specs.Bytes.{IsLow, is_digit, is_letter, lower, signed};
 ghost use Rattle.setl_text.specs.Reading as spec;
 ghost use Rattle.setl_text.specs.Reading.{Open};
 ghost use Rattle.setl_text.specs.Scans.{token_of, opens, TokenFits, IsShallow, Feeds, Finishes, begin_mark};
@@ -146,6 +146,7 @@ fn begin_sign(alloc: Global, opened: &mut Vec<Collection>, b: u8) -> Result<Fed,
 }
 
 // Takes the first letter of a word.
+#[tactic(auto, using(crate::proofs::Fails::low_rue, crate::proofs::Fails::low_alse))]
 fn begin_word(b: u8) -> Result<Fed, ReadFault>
     ensures { (os : List Open) → IsShallow os → Feeds (spec.first_letter b os) os result }
 {
@@ -243,6 +244,7 @@ fn in_word(
     wanted: &'static [u8],
     b: u8,
 ) -> Result<Fed, ReadFault>
+    requires low { AllByRecursion IsLow wanted.now }
     requires shallow { IsShallow (opens opened.old.items) }
     ensures { Feeds (spec.in_word value wanted.now (opens opened.old.items) b) (opens opened.new.items) result }
 {

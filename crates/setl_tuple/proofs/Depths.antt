@@ -3,7 +3,7 @@ use Rattle.std.specs.Prelude.{◌≡◌, ℕ, zero, suc, ◌-◌, ◌≤◌, Lis
 use Rattle.std.proofs.Common.{arith, ap}
 use Rattle.setl_value.specs.Datum.{Datum, part_depth, parts_depth, parts_of}
 use Rattle.setl_value.specs.WellFormed.{put}
-use Rattle.setl_tuple.specs.Tuples.{copies}
+use Rattle.setl_value.specs.Copies.{copies}
 
 -- the greatest depth in a list of components
 abbrev pub greatest : List (Option Datum) → ℕ

@@ -12,7 +12,8 @@ use Rattle.setl_value.specs.Datum.{Datum}
 use Rattle.setl_value.specs.DatumOf.{part}
 use Rattle.setl_value.specs.declared.Value.{Value}
 use Rattle.setl_value.specs.WellFormed.{put, trim, IsTrimmed}
-use Rattle.setl_tuple.specs.Tuples.{copies, put_of, with_of, repeat_of}
+use Rattle.setl_value.specs.Copies.{copies}
+use Rattle.setl_tuple.specs.Tuples.{put_of, with_of, repeat_of}
 use Rattle.setl_tuple.proofs.Trimmed.{trim-trimmed, trimmed-append, trim-append_om}
 
 -- one component more of a part
@@ -20,7 +21,7 @@ pub part_more : {A : Type 0} (xs : List A) (from i : ℕ) (x : A) → from ≤ i
 part_more xs from i x le h =
     between_more xs from i x le (slice_get_within xs i x h) ∙ ap (λ y. slice_range xs from i ++ y ∷ []) (get_or_from_slice_get xs i x x h)
 
-pub copies-nil : (n : ℕ) → copies n [] ≡ []
+pub copies-nil : (n : ℕ) → copies {A = Option Datum} n [] ≡ []
 copies-nil zero = refl
 copies-nil (suc n) = copies-nil n
 

@@ -4,7 +4,7 @@ use Rattle.std.proofs.Common.{ap, sym, ◌∙◌, subst}
 use Rattle.std.proofs.lemmas.List.{append-nil}
 use Rattle.setl_value.specs.Datum.{Datum, part_list-parts_of}
 use Rattle.setl_value.specs.WellFormed.{EndsIn, IsTrimmed, IsTupleList, trim, trim_onto}
-use Rattle.setl_tuple.specs.Tuples.{copies}
+use Rattle.setl_value.specs.Copies.{copies}
 
 -- a tuple's list
 pub trimmed_tuple : (t : List (Option Datum)) → IsTupleList t → IsTrimmed t

@@ -1,7 +1,7 @@
 -- What the operators on tuples give, over lists of components. A component is a value, or `None` for `om`.
-use Rattle.std.specs.Prelude.{◌≡◌, ℕ, ℤ, pos, negsuc, ◌+◌, ◌-◌, ◌+ℤ◌, Bool, ◌&&◌, if◌then◌else◌, List, [], ◌∷◌, ◌++◌, Option, Some, None, Result, Ok, Err, unsigned_abs, int_le, length, take, drop, replicate, slice_get, slice_range, refl}
-use Rattle.std.specs.List.{flat_map}
+use Rattle.std.specs.Prelude.{◌≡◌, ℕ, ℤ, pos, negsuc, ◌+◌, ◌-◌, if◌then◌else◌, List, [], ◌∷◌, ◌++◌, Option, Some, None, Result, Ok, Err, unsigned_abs, int_le, length, take, drop, replicate, slice_get, slice_range, refl}
 use Rattle.std.specs.Option.{option_flatten}
+use Rattle.setl_value.specs.Copies.{copies, are_places}
 use Rattle.setl_value.specs.Datum.{Datum, int}
 use Rattle.setl_value.specs.WellFormed.{trim}
 use Rattle.setl_tuple.specs.declared.TupleFault.{TupleFault}
@@ -24,16 +24,9 @@ abbrev pub with_of : List (Option Datum) → Datum → List (Option Datum)
 with_of t d = t ++ Some d ∷ []
 
 -- n copies of t, one after another
-abbrev pub copies : ℕ → List (Option Datum) → List (Option Datum)
-copies n t = flat_map (λ copy. copy) (replicate n t)
-
 abbrev pub repeat_of : List (Option Datum) → ℤ → Result (List (Option Datum)) TupleFault
 repeat_of t (pos n) = Ok (copies n t)
 repeat_of t (negsuc n) = Err Range
-
--- 1 <= i <= j + 1 and j <= n: the places i to j, counted from 1, lie in a list of length n. Where i is j + 1 there are none
-abbrev pub are_places : ℤ → ℤ → ℕ → Bool
-are_places i j n = int_le (pos 1) i && int_le i (j +ℤ pos 1) && int_le j (pos n)
 
 -- the components at places i to j
 abbrev pub slice_of : List (Option Datum) → ℤ → ℤ → Result (List (Option Datum)) TupleFault

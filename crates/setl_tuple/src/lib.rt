@@ -29,6 +29,3 @@ impl From<Memory> for TupleFault {
         TupleFault::NoMemory
     }
 }
-
-#[cfg(test)]
-mod tests;

@@ -1,7 +1,8 @@
 //! Whole tuples: joined, repeated and cut.
 ghost use Rattle.std.specs.Prelude.{◌≡◌, ◌≤◌, ◌<◌, ◌++◌, ◌↔◌, length, map, Some, None, slice_get, replicate, slice_range, IfOk, OnOk, Ok, Err};
 ghost use Rattle.setl_value.specs.DatumOf.{part};
-ghost use Rattle.setl_tuple.specs.Tuples.{copies, repeat_of, slice_of};
+ghost use Rattle.setl_value.specs.Copies.{copies};
+ghost use Rattle.setl_tuple.specs.Tuples.{repeat_of, slice_of};
 
 use crate::TupleFault;
 use setl_value::{Memory, TupleBody, Value};

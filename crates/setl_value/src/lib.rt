@@ -21,8 +21,6 @@ mod places;
 mod sets;
 mod shared;
 mod string;
-#[cfg(test)]
-mod tests;
 mod tuples;
 
 pub use places::Cursor;

@@ -1,5 +1,5 @@
 use Rattle.std.proofs.Common.{◌≡◌}
-use Rattle.setl_scalar.specs.Texts.{copies}
+use Rattle.setl_value.specs.Copies.{copies}
 use Rattle.setl_scalar.proofs.texts.copied.Given as goal
 
 abbrev pub invariant-loop : goal.invariant-loop

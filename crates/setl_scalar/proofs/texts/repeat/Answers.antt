@@ -1,6 +1,6 @@
 use Rattle.std.proofs.Common.{◌≡◌, ◌∙◌, ap, sym, subst}
 use Rattle.std.specs.List.{All}
-use Rattle.setl_scalar.specs.Texts.{copies}
+use Rattle.setl_value.specs.Copies.{copies}
 use Rattle.setl_scalar.proofs.Copies.{plain_copies}
 use Rattle.setl_scalar.proofs.texts.repeat.Goals as goal
 

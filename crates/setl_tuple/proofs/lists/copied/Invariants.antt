@@ -1,6 +1,6 @@
 use Rattle.std.proofs.Common.{◌≡◌, map}
 use Rattle.setl_value.specs.DatumOf.{part}
-use Rattle.setl_tuple.specs.Tuples.{copies}
+use Rattle.setl_value.specs.Copies.{copies}
 use Rattle.setl_tuple.proofs.lists.copied.Given as goal
 
 abbrev pub invariant-loop : goal.invariant-loop

@@ -2,7 +2,7 @@ use Rattle.std.proofs.Common.{◌∙◌, ap, arith, FitsSigned}
 use Rattle.std.specs.Int.{w128}
 use Rattle.std.proofs.lemmas.Int.{to_z-of_z}
 use Rattle.setl_value.specs.WellFormed.{trim}
-use Rattle.setl_tuple.specs.Tuples.{copies}
+use Rattle.setl_value.specs.Copies.{copies}
 use Rattle.setl_tuple.proofs.Depths.{greatest, greatest-copies}
 use Rattle.setl_tuple.proofs.Puts.{repeat_is}
 use Rattle.setl_tuple.proofs.Trimmed.{trimmed_tuple, trimmed-copies, trim-trimmed}

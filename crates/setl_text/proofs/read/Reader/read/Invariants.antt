@@ -1,4 +1,5 @@
 use Rattle.std.proofs.Common.{◌≡◌}
+use Rattle.setl_text.specs.Denoted.{IsDecided}
 use Rattle.setl_text.specs.Scans.{token_of, opens, TokenFits, IsShallow}
 use Rattle.setl_text.proofs.Going.{Went}
 use Rattle.setl_text.proofs.read.Reader.read.Given as goal
@@ -10,4 +11,5 @@ invariant-reads g l = record {
   fault : l.self.fault ≡ l.fn.self.fault;
   faults : g.I.Source.faults l.input ≡ g.I.Source.faults l.fn.input;
   went : Went l.fn.self.kept (g.I.Source.left l.fn.input) l.self.kept (g.I.Source.left l.input) (token_of l.piece) (opens l.opened.items);
+  asked : IsDecided l.fn.self.kept → l.input ≡ l.fn.input;
 }

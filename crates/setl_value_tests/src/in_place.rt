@@ -1,0 +1,91 @@
+//! Changes in place: what stands after each call, on {1 2}, [1 om 2] and {[1 2]}.
+
+use setl_collections::{
+    less_in_place, lessf_in_place, put_images_in_place, put_in_place, take_first, take_last,
+    take_least, with_in_place,
+};
+use setl_map::Taken;
+use setl_value::{SetBody, TupleBody, Value};
+use std::alloc::Global;
+use std::process::Abort;
+use std::test::Fail;
+
+// The tuple of these integers and `om`.
+fn tuple(alloc: Global, parts: &[Option<i128>]) -> Result<Value, Fail> {
+    let mut t = TupleBody::of(alloc, Vec::new(alloc))?;
+    for (i, part) in parts.iter().enumerate() {
+        setl_tuple::put(alloc, &mut t, i as i128 + 1, part.map(Value::Int))?;
+    }
+    Ok(Value::Tuple(t))
+}
+
+// The set of these integers.
+fn set(alloc: Global, items: &[i128]) -> Result<Value, Fail> {
+    let mut s = SetBody::new(alloc)?;
+    for i in items {
+        setl_set::with(alloc, &mut s, Value::Int(*i))?;
+    }
+    Ok(Value::Set(s))
+}
+
+// The map of one pair.
+fn map(alloc: Global, x: i128, y: i128) -> Result<Value, Fail> {
+    let mut s = SetBody::new(alloc)?;
+    let pair = tuple(alloc, &[Some(x), Some(y)])?;
+    setl_set::with(alloc, &mut s, pair)?;
+    Ok(Value::Set(s))
+}
+
+// The part that was taken is this integer, or `om`.
+fn took(rt: &impl Abort, taken: Taken, part: Option<i128>) {
+    assert!(rt; taken.stored);
+    assert!(rt; taken.value == part.map(Value::Int));
+}
+
+#[test]
+fn members_come_and_go(rt: HostRuntime) -> Result<(), Fail> {
+    let alloc = rt.alloc();
+    let mut s = set(alloc, &[2])?;
+    assert_eq!(rt; with_in_place(alloc, &mut s, Value::Int(1))?, 0);
+    assert!(rt; s == set(alloc, &[1, 2])?);
+    assert_eq!(rt; less_in_place(&mut s, &Value::Int(2))?, 0);
+    assert!(rt; s == set(alloc, &[1])?);
+    took(&rt, take_least(&mut s)?, Some(1));
+    let none = take_least(&mut s)?;
+    assert!(rt; !none.stored && none.value.is_none());
+    assert!(rt; s == set(alloc, &[])?);
+    Ok(())
+}
+
+#[test]
+fn components_come_and_go(rt: HostRuntime) -> Result<(), Fail> {
+    let alloc = rt.alloc();
+    let mut t = tuple(alloc, &[Some(1)])?;
+    assert_eq!(rt;
+        put_in_place(alloc, &mut t, Value::Int(3), Some(Value::Int(2)), 1)?,
+        1
+    );
+    assert!(rt; t == tuple(alloc, &[Some(1), None, Some(2)])?);
+    took(&rt, take_first(&mut t)?, Some(1));
+    assert!(rt; t == tuple(alloc, &[None, Some(2)])?);
+    took(&rt, take_last(&mut t)?, Some(2));
+    assert!(rt; t == tuple(alloc, &[])?);
+    Ok(())
+}
+
+#[test]
+fn images_come_and_go(rt: HostRuntime) -> Result<(), Fail> {
+    let alloc = rt.alloc();
+    let mut f = map(alloc, 1, 2)?;
+    let two = set(alloc, &[3])?;
+    assert_eq!(rt;
+        put_in_place(alloc, &mut f, Value::Int(1), Some(Value::Int(5)), 0)?,
+        0
+    );
+    assert!(rt; f == map(alloc, 1, 5)?);
+    assert_eq!(rt; put_images_in_place(alloc, &mut f, Value::Int(1), &two)?, 0);
+    assert!(rt; f == map(alloc, 1, 3)?);
+    assert_eq!(rt; lessf_in_place(alloc, &mut f, &Value::Int(1))?, 0);
+    assert!(rt; f == set(alloc, &[])?);
+    Ok(())
+}
