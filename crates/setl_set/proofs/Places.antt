@@ -1,8 +1,8 @@
 -- Where a datum stands in a rising list, and what a change there leaves.
-use Rattle.std.specs.Prelude.{◌≡◌, Result, Ok, Err, IfOk, IfErr, is_ok, ℕ, zero, suc, ◌+◌, ◌<◌, ◌≤◌, Bool, true, false, not, ◌||◌, List, [], ◌∷◌, Some, refl, take, drop, length, slice_get}
+use Rattle.std.specs.Prelude.{◌≡◌, Result, Ok, Err, IfOk, IfErr, is_ok, ℕ, zero, suc, ◌<◌, ◌≤◌, Bool, true, false, not, ◌||◌, List, [], ◌∷◌, Some, refl, take, drop, length, slice_get}
 use Rattle.std.specs.List.{AllByRecursion, insert, remove}
 use Rattle.std.specs.List.Sorted.{IsStrictlySortedBy}
-use Rattle.std.specs.declared.cmp.Ordering.TheVariants.{Less, Greater}
+use Rattle.std.specs.declared.cmp.Ordering.TheVariants.{Less}
 use Rattle.std.specs.Ordering.{is_eq}
 use Rattle.std.specs.Option.{unwrap_or}
 use Rattle.std.proofs.Common.{ap, sym, ◌∙◌, subst, arith}
@@ -12,11 +12,11 @@ use Rattle.setl_value.specs.declared.places.Cursor.{Cursor}
 use Rattle.setl_value.specs.Body.{Body, Members}
 use Rattle.setl_value.specs.Datum.{Datum, depth, elements_depth, elements_of, element_list-elements_of}
 use Rattle.setl_value.specs.Order.{datum_cmp, IsRising}
-use Rattle.setl_value.specs.OrderLaws.{datum_cmp_total, same_if_eq}
+use Rattle.setl_value.specs.OrderLaws.{same_if_eq}
 use Rattle.setl_value.specs.WellFormed.{IsSetList}
 use Rattle.setl_set.specs.Sets.{has_datum, insert_datum, insert_by, remove_datum}
 use Rattle.setl_value.specs.Places.{rank, IsPlace}
-use Rattle.setl_set.proofs.Members.{IsBelow, turned, turned_back, below_cons, none_above, rising_unique, eq_decides}
+use Rattle.setl_set.proofs.Members.{IsBelow, turned_back, none_above, rising_unique, eq_decides}
 use Rattle.setl_set.proofs.Results.{has_insert, rising_insert, all_insert}
 
 pub some_same : {X : Type 0} (x y : X) → Some x ≡ Some y → x ≡ y
