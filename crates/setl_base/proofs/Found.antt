@@ -1,5 +1,5 @@
 -- Where `find` finds a member.
-use Rattle.std.proofs.Common.{◌≡◌, ℕ, zero, suc, eqb, eqb-true, eq-eqb, ◌+◌, ◌<◌, Bool, true, false, cond, not, nat_lt, List, [], ◌∷◌, ◌++◌, length, map, position, slice_get, Option, Some, None, option_and_then, is_some, IsSome, refl, ap, sym, ◌∙◌, subst, arith, add-zero, true≢false}
+use Rattle.std.proofs.Common.{◌≡◌, ℕ, zero, suc, eqb, eqb-true, eq-eqb, ◌+◌, Bool, true, false, cond, not, nat_lt, List, [], ◌∷◌, ◌++◌, length, position, slice_get, Option, Some, None, option_and_then, IsSome, refl, ap, sym, ◌∙◌, subst, arith, add-zero, true≢false}
 use Rattle.std.proofs.lemmas.Cmp.{eq_by_cmp_equiv}
 use Rattle.std.proofs.lemmas.Map.Keys.{IsDistinct-head, IsDistinct-tail}
 use Rattle.std.proofs.lemmas.Option.{slice_get-map}
@@ -155,6 +155,11 @@ lives b e d p = lives_at b e.block e.generation d p
 pub living_value : {A : Type 0} (o : Option A) → IsSome o → (x : A) × (o ≡ Some x)
 living_value None p = cc
 living_value (Some x) p = (x, refl)
+
+-- the value of a block by its place
+pub value_by_place : (b : BaseState) (e : Elt) (i : ℕ) (m : Member) → e.block ≡ suc i → slice_get b.members i ≡ Some m → m.generation ≡ e.generation → value_of b e ≡ Some m.value
+value_by_place b e i m number stands generation =
+    ap (λ k. option_and_then (value_in e.generation) (member_at b k)) number ∙ ap (option_and_then (value_in e.generation)) stands ∙ ap (λ t. cond t (Some m.value) None) (eq-eqb m.generation e.generation generation)
 
 pub value_at : (b : BaseState) (i : ℕ) (m : Member) → slice_get b.members i ≡ Some m → value_of b (handle (suc i) m) ≡ Some m.value
 value_at b i m p = ap (option_and_then (value_in m.generation)) p ∙ ap (λ t. cond t (Some m.value) None) (eq-eqb m.generation m.generation refl)

@@ -1,7 +1,7 @@
 -- The next member in the canonical order, by what the ranks hold in a range.
-use Rattle.std.proofs.Common.{◌≡◌, ℕ, Bool, true, false, true≢false, Option, Some, None, is_some, IsSome, IsTrue, refl, ap, sym, ◌∙◌, subst}
+use Rattle.std.proofs.Common.{◌≡◌, ℕ, Bool, true, false, true≢false, Option, Some, None, is_some, IsSome, refl, ap, sym, ◌∙◌}
 use Rattle.std.specs.BTreeMap.{BTreeMap, get}
-use Rattle.std.specs.BTreeMap.Range.{IsFromStart, IsEntryInRange, IsLeBy}
+use Rattle.std.specs.BTreeMap.Range.{IsFromStart}
 use Rattle.std.specs.Option.{option_map_or}
 use Rattle.std.specs.Ordering.{on, is_lt, is_gt}
 use Rattle.std.specs.declared.cmp.Ordering.{Ordering}
@@ -14,7 +14,7 @@ use Rattle.setl_value.specs.Datum.{Datum}
 use Rattle.setl_value.specs.DatumOf.{datum}
 use Rattle.setl_value.specs.Order.{datum_cmp}
 use Rattle.setl_base.specs.declared.Elt.{Elt}
-use Rattle.setl_base.specs.Base.{Member, BaseState, IsNext, IsLast, find, value_of, is_above}
+use Rattle.setl_base.specs.Base.{Member, BaseState, IsNext, IsLast, value_of, is_above}
 use Rattle.setl_base.specs.Tables.{members_of, base_of, AreRanks, StartsAbove}
 use Rattle.setl_base.proofs.Found.{lives, member_entry, found_lives, some_found}
 
@@ -73,6 +73,6 @@ module _ {S : Type 0} (table : IndexMap Value ℕ S) (ranks : BTreeMap Value Elt
     living = found_lives (base_of table cuts) (datum k) e (sym (ranked k) ∙ there);
     above = h.above k from;
     least = λ f d p above.
-      let q = has_key f d p in
-      ap (λ x. is_gt (datum_cmp (datum k) x)) (sym q.is) ∙ least q.key (h.in_range q.key (ap (is_above (base_of table cuts) after) q.is ∙ above)) q.there;
+        let q = has_key f d p in
+        ap (λ x. is_gt (datum_cmp (datum k) x)) (sym q.is) ∙ least q.key (h.in_range q.key (ap (is_above (base_of table cuts) after) q.is ∙ above)) q.there;
   }

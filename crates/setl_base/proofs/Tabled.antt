@@ -1,5 +1,5 @@
 -- What the tables of a base say of it.
-use Rattle.std.proofs.Common.{◌≡◌, ℕ, suc, ◌+◌, ◌<◌, ◌≤◌, ◌^◌, List, [], ◌∷◌, ◌++◌, length, slice_get, Option, Some, None, IsSome, cond, refl, ap, sym, ◌∙◌, subst, arith, length-append, take, ⊎_elim}
+use Rattle.std.proofs.Common.{◌≡◌, ℕ, ◌+◌, ◌<◌, ◌^◌, List, [], ◌∷◌, ◌++◌, length, slice_get, Some, None, cond, ap, sym, ◌∙◌, subst, arith, length-append, take, ⊎_elim}
 use Rattle.std.proofs.lemmas.List.{length-map, take-map, map-append}
 use Rattle.std.specs.BTreeMap.{BTreeMap}
 use Rattle.std.specs.List.{IsDistinct}
@@ -7,35 +7,34 @@ use Rattle.std.specs.Map.{keys_of}
 use Rattle.std.specs.Option.{option_or}
 use Rattle.indexmap.specs.IndexMap.{IndexMap}
 use Rattle.setl_value.specs.declared.Value.{Value}
-use Rattle.setl_value.specs.Datum.{Datum}
 use Rattle.setl_value.specs.DatumOf.{datum}
 use Rattle.setl_value.specs.WellFormed.{IsValue}
 use Rattle.setl_base.specs.declared.Elt.{Elt}
-use Rattle.setl_base.specs.Base.{Member, BaseState, IsBase, IsLiving, handle, find, find_from, value_of, cut_back, undone}
+use Rattle.setl_base.specs.Base.{Member, IsBase, handle, find, find_from, value_of, undone}
 use Rattle.setl_base.specs.Tables.{member_of, members_of, base_of, AreTables, AreRanks}
-use Rattle.setl_base.proofs.Found.{same_key, Lives, lives, HasEntry, member_entry, found_own, living_value, find_put, same_itself}
-use Rattle.setl_base.proofs.Places.{get_put, get_taken}
+use Rattle.setl_base.proofs.Found.{same_key, lives, member_entry, found_own, living_value, find_put, same_itself}
+use Rattle.setl_base.proofs.Places.{get_put}
 
 module _ {S : Type 0} (table : IndexMap Value ℕ S) (ranks : BTreeMap Value Elt) (cuts : ℕ) (h : AreTables table ranks cuts) where
   pub is_base : IsDistinct same_key (keys_of table.entries) → IsBase (base_of table cuts)
   is_base distinct = record {
     found = λ e d p.
-      let at = lives (base_of table cuts) e d p in
-      let x = member_entry table.entries at.place at.member at.stands in
-      let value : datum x.entry.0 ≡ d = ap (λ (m : Member). m.value) x.is ∙ at.value in
-      let generation : x.entry.1 ≡ e.generation = ap (λ (m : Member). m.generation) x.is ∙ at.generation in
-      let number : 1 + at.place ≡ e.block = omega (arith, at.number) in
-      ap (find (base_of table cuts)) (sym value) ∙ found_own 1 table.entries at.place x.entry distinct x.stands ∙ (λ i. Some (record { block = number i; generation = generation i }));
+        let at = lives (base_of table cuts) e d p in
+        let x = member_entry table.entries at.place at.member at.stands in
+        let value : datum x.entry.0 ≡ d = ap (λ (m : Member). m.value) x.is ∙ at.value in
+        let generation : x.entry.1 ≡ e.generation = ap (λ (m : Member). m.generation) x.is ∙ at.generation in
+        let number : 1 + at.place ≡ e.block = omega (arith, at.number) in
+        ap (find (base_of table cuts)) (sym value) ∙ found_own 1 table.entries at.place x.entry distinct x.stands ∙ (λ i. Some (record { block = number i; generation = generation i }));
     values = λ e d p.
-      let at = lives (base_of table cuts) e d p in
-      let x = member_entry table.entries at.place at.member at.stands in
-      subst IsValue (ap (λ (m : Member). m.value) x.is ∙ at.value) (h.values at.place x.entry x.stands);
+        let at = lives (base_of table cuts) e d p in
+        let x = member_entry table.entries at.place at.member at.stands in
+        subst IsValue (ap (λ (m : Member). m.value) x.is ∙ at.value) (h.values at.place x.entry x.stands);
     generations = λ e p.
-      let v = living_value (value_of (base_of table cuts) e) p in
-      let at = lives (base_of table cuts) e v.0 v.1 in
-      let x = member_entry table.entries at.place at.member at.stands in
-      let generation : x.entry.1 ≡ e.generation = ap (λ (m : Member). m.generation) x.is ∙ at.generation in
-      omega (arith, h.generations at.place x.entry x.stands, generation);
+        let v = living_value (value_of (base_of table cuts) e) p in
+        let at = lives (base_of table cuts) e v.0 v.1 in
+        let x = member_entry table.entries at.place at.member at.stands in
+        let generation : x.entry.1 ≡ e.generation = ap (λ (m : Member). m.generation) x.is ∙ at.generation in
+        omega (arith, h.generations at.place x.entry x.stands, generation);
     few = omega (arith, h.few, length-map table.entries member_of);
   }
 
@@ -64,6 +63,3 @@ members_taken es fs n h = ap members_of h ∙ sym (take-map member_of n es)
 -- the base of the table's first entries
 pub base_taken : {S : Type 0} (old new : IndexMap Value ℕ S) (n cuts : ℕ) → new.entries ≡ take n old.entries → base_of new cuts ≡ undone (base_of old cuts) n
 base_taken old new n cuts h = λ i. record { members = members_taken old.entries new.entries n h i; cuts = cuts }
-
-pub base_cut : {S : Type 0} (old new : IndexMap Value ℕ S) (n cuts : ℕ) → new.entries ≡ take n old.entries → base_of new (cuts + 1) ≡ cut_back (base_of old cuts) n
-base_cut old new n cuts h = λ i. record { members = members_taken old.entries new.entries n h i; cuts = cuts + 1 }

@@ -75,7 +75,7 @@ with_member b d = b.members ++ record { value = d; generation = b.cuts } ∷ []
 
 -- the base after d was entered, which changes nothing where d is a member
 abbrev pub entered : BaseState → Datum → BaseState
-entered b d = if is_some (find b d) then b else record b { members = with_member b d }
+entered b d = record b { members = if is_some (find b d) then b.members else with_member b d }
 
 -- the base cut to its first n members, by a cut that counts
 abbrev pub cut_back : BaseState → ℕ → BaseState

@@ -1,5 +1,5 @@
 -- Worked rows: 10 and 30 are entered, 10 again, the base is cut back to one member, and 40 is entered.
-use Rattle.std.specs.Prelude.{◌≡◌, ℕ, pos, Option, Some, None, true, false, refl}
+use Rattle.std.specs.Prelude.{◌≡◌, ℕ, pos, Some, None, true, false, refl}
 use Rattle.setl_value.specs.Datum.{Datum, int}
 use Rattle.setl_base.specs.declared.Elt.{Elt}
 use Rattle.setl_base.specs.Base.{BaseState, empty, entered, cut_back, undone, find, elt_at, value_of, is_above}

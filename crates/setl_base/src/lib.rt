@@ -102,7 +102,7 @@ impl Base {
         Ok(e)
     }
 
-    /// The handle of a member: None exactly where the value is none. It takes no memory.
+    /// The handle of a value: None exactly where it is no member. It takes no memory.
     pub fn find(&self, v: &Value) -> Option<Elt>
         ensures handle { result ≡ find self.now (datum v.now) }
         ensures living { IfSome result (λ e. value_of self.now e ≡ Some (datum v.now)) }
@@ -157,7 +157,7 @@ impl Base {
         requires few_cuts { self.old.cuts < 2 ^ 63 }
         ensures { self.new ≡ cut_back self.old m.now.count }
     {
-        cut(&mut self.table, &mut self.ranks, m.count as usize);
+        self.undo(m);
         self.cuts += 1;
     }
 

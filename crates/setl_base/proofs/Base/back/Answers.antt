@@ -1,5 +1,0 @@
-use Rattle.setl_base.proofs.Tabled.{base_cut}
-use Rattle.setl_base.proofs.Base.back.Goals as goal
-
-pub returns : goal.returns
-returns c = rw (← c.self.view_is) (base_cut c.self.inside.table c.cut.new.table c.args.m.now.count c.self.inside.cuts c.cut.ensures.kept)
