@@ -1,0 +1,6 @@
+mod Places
+mod Found
+mod OverTime
+mod Ranked
+mod Tabled
+mod Ranking

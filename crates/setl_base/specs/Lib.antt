@@ -1,0 +1,4 @@
+pub mod Base
+pub mod Later
+pub mod Rows
+pub mod Tables
