@@ -1,0 +1,4 @@
+pub mod Words
+pub mod Operation
+pub mod Slots
+pub mod formers
