@@ -1,6 +1,6 @@
 -- A change of one part of an environment.
-use Rattle.std.proofs.Common.{◌≡◌, ℕ, ◌-◌, ◌≤◌, List, ◌∷◌, length, refl, ap, sym, subst, ◌∙◌, arith, take, reverse}
-use Rattle.std.proofs.lemmas.List.{length-take-le, take-take, length-reverse}
+use Rattle.std.proofs.Common.{◌≡◌, ℕ, ◌-◌, ◌≤◌, List, ◌∷◌, length, refl, ap, sym, subst, ◌∙◌, arith, take}
+use Rattle.std.proofs.lemmas.List.{length-take-le, take-take}
 use Rattle.setl_trail.specs.Trail.{Item, entry, mark_count}
 use Rattle.setl_environment.specs.declared.environment.Old.{Old}
 use Rattle.setl_environment.specs.declared.environment.Old.TheVariants.{Slot, Operand, Activation, Member}
@@ -8,7 +8,7 @@ use Rattle.setl_environment.specs.declared.stack.Place.{Place}
 use Rattle.setl_environment.specs.Stack.{StackState, LeadsBack}
 use Rattle.setl_environment.specs.Environment.{Contents, Room, EnvironmentState}
 use Rattle.setl_environment.specs.Kept.{noted, IsUndoable, kept_of}
-use Rattle.setl_environment.specs.Undo.{Parts, parts, contents_of, undone, FitsIn, IsTrailOf, kept_contents, HasMore}
+use Rattle.setl_environment.specs.Undo.{Parts, contents_of, undone, FitsIn, IsTrailOf, kept_contents, HasMore}
 use Rattle.setl_environment.proofs.Undoing.{Changed, changed, changed_freely, undoable_still, unmarked, kept_counted}
 
 module _ {S O A M : Type 0} where

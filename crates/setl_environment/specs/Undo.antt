@@ -1,6 +1,6 @@
 -- What the entries of an environment's trail put back. No public clause cites this module.
 use Rattle.std.specs.Prelude.{ℕ, zero, suc, ◌-◌, ◌≤◌, ◌^◌, length, List}
-use Rattle.setl_trail.specs.Trail.{Item, mark_count}
+use Rattle.setl_trail.specs.Trail.{Item}
 use Rattle.setl_environment.specs.declared.environment.Old.{Old}
 use Rattle.setl_environment.specs.declared.environment.Old.TheVariants.{Slot, Operand, Activation, Member}
 use Rattle.setl_environment.specs.Stack.{placed, Fits, StackState}

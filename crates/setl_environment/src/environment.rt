@@ -119,6 +119,7 @@ impl<S: Drop, O: Drop, A: Drop, M: Drop, K: Drop> Environment<S, O, A, M, K> {
         ensures place { OnOk result (n ≤ self.new.room.slots) }
         ensures more { self.old.room.slots ≤ self.new.room.slots }
         ensures room { self.new.room ≡ record self.old.room { slots = self.new.room.slots } }
+        ensures there { n ≤ self.old.room.slots → IsOk result }
         ensures refused { OnErr result (self.new ≡ self.old) }
     {
         self.slots.reserve(n)
@@ -254,6 +255,7 @@ impl<S: Drop, O: Drop, A: Drop, M: Drop, K: Drop> Environment<S, O, A, M, K> {
         ensures place { OnOk result (n ≤ self.new.room.operands) }
         ensures more { self.old.room.operands ≤ self.new.room.operands }
         ensures room { self.new.room ≡ record self.old.room { operands = self.new.room.operands } }
+        ensures there { n ≤ self.old.room.operands → IsOk result }
         ensures refused { OnErr result (self.new ≡ self.old) }
     {
         self.operands.reserve(n)
@@ -462,6 +464,7 @@ impl<S: Drop, O: Drop, A: Drop, M: Drop, K: Drop> Environment<S, O, A, M, K> {
         ensures place { OnOk result (n ≤ self.new.room.activations) }
         ensures more { self.old.room.activations ≤ self.new.room.activations }
         ensures room { self.new.room ≡ record self.old.room { activations = self.new.room.activations } }
+        ensures there { n ≤ self.old.room.activations → IsOk result }
         ensures refused { OnErr result (self.new ≡ self.old) }
     {
         self.activations.reserve(n)
@@ -510,6 +513,7 @@ impl<S: Drop, O: Drop, A: Drop, M: Drop, K: Drop> Environment<S, O, A, M, K> {
         ensures place { OnOk result (n ≤ self.new.room.members) }
         ensures more { self.old.room.members ≤ self.new.room.members }
         ensures room { self.new.room ≡ record self.old.room { members = self.new.room.members } }
+        ensures there { n ≤ self.old.room.members → IsOk result }
         ensures refused { OnErr result (self.new ≡ self.old) }
     {
         self.members.reserve(n)

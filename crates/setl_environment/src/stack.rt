@@ -1,7 +1,7 @@
 //! A list that grows and shrinks at its end and gives no memory back, so that each change can be led back without
 //! memory.
 
-ghost use Rattle.std.specs.Prelude.{◌≡◌, suc, ◌+◌, ◌-◌, ◌<◌, ◌≤◌, [], ◌∷◌, ◌++◌, length, take, drop, Some, IfOk, OnOk, OnErr, slice_get, slice_set, vec_len, vec_capacity};
+ghost use Rattle.std.specs.Prelude.{◌≡◌, suc, ◌+◌, ◌-◌, ◌<◌, ◌≤◌, [], ◌∷◌, ◌++◌, length, take, drop, Some, IfOk, IsOk, OnOk, OnErr, slice_get, slice_set, vec_len, vec_capacity};
 ghost use Rattle.setl_environment.specs.Stack.{placed, Fits, LeadsBack};
 
 use crate::{Copied, Memory};
@@ -67,6 +67,7 @@ impl<T> Stack<T> {
         ensures same { self.new.items ≡ self.old.items }
         ensures room { OnOk result (length self.new.items + n ≤ self.new.room) }
         ensures more { self.old.room ≤ self.new.room }
+        ensures there { n ≤ self.old.room - length self.old.items → IsOk result }
         ensures refused { OnErr result (self.new ≡ self.old) }
     {
         self.items.reserve(n)

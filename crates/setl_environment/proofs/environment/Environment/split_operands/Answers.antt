@@ -1,7 +1,7 @@
-use Rattle.std.proofs.Common.{◌∙◌, ap, reverse, sym, length, arith}
-use Rattle.std.proofs.lemmas.List.{length-reverse, length-take-le}
-use Rattle.setl_environment.specs.Undo.{parts, room_of}
-use Rattle.setl_environment.proofs.Parts.{IsNoted, freely_changed, room_of_operands}
+use Rattle.std.proofs.Common.{◌∙◌, ap, reverse, sym, length}
+use Rattle.std.proofs.lemmas.List.{length-reverse}
+use Rattle.setl_environment.specs.Undo.{parts}
+use Rattle.setl_environment.proofs.Parts.{IsNoted, freely_changed}
 use Rattle.setl_environment.proofs.environment.Environment.split_operands.Goals as goal
 use Rattle.setl_environment.proofs.environment.Environment.split_operands.Goals.{After-split_off}
 
