@@ -1,5 +1,5 @@
 -- Formers, step by step.
-use Rattle.std.proofs.Common.{◌≡◌, ◌<◌, ◌+◌, ◌∙◌, ℕ, suc, true, List, [], ◌∷◌, ◌++◌, map, drop, take, length, get_or, Option, Some, None, refl, sym, ap, append_assoc, add-one, drop-cons}
+use Rattle.std.proofs.Common.{◌≡◌, ◌<◌, ◌+◌, ◌∙◌, ℕ, suc, true, List, ◌∷◌, ◌++◌, map, drop, take, length, get_or, Option, Some, None, sym, ap, append_assoc, add-one, drop-cons}
 use Rattle.std.specs.Option.{option_map}
 use Rattle.setl_tree.specs.declared.expr.Bound.{Bound}
 use Rattle.setl_tree.specs.declared.expr.Expr.{Expr}

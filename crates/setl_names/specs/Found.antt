@@ -1,5 +1,5 @@
 -- What resolving finds, body by body.
-use Rattle.std.specs.Prelude.{Bool, List, [], ◌∷◌, ◌++◌, map, fold}
+use Rattle.std.specs.Prelude.{Bool, List, [], ◌∷◌, ◌++◌, fold}
 use Rattle.setl_tree.specs.declared.stmt.Stmt.{Stmt}
 use Rattle.setl_tree.specs.declared.tree.Param.{Param}
 use Rattle.setl_tree.specs.declared.tree.Proc.{Proc}

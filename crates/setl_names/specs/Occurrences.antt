@@ -1,5 +1,5 @@
 -- What stands in an expression, in the order of the source's tokens.
-use Rattle.std.specs.Prelude.{ℕ, Bool, true, false, ◌||◌, List, [], ◌∷◌, ◌++◌, Option, Some, None}
+use Rattle.std.specs.Prelude.{Bool, true, false, ◌||◌, List, [], ◌∷◌, ◌++◌, Option, Some, None}
 use Rattle.setl_tree.specs.declared.expr.BinaryOp.{BinaryOp}
 use Rattle.setl_tree.specs.declared.expr.Slot.{Slot}
 use Rattle.setl_tree.specs.declared.expr.Slot.TheVariants as sl
@@ -129,6 +129,8 @@ all_behind [] p = []
 all_behind (x ∷ xs) p = x.standing p ++ all_behind xs p
 
 -- ---- selections
+
+-- a part and the first selector behind it, by the part's name and by the selector's list in round brackets, if there are
 abbrev pub by : Option Name → Option (List Part) → Standing → Standing → Standing
 by None list s t p = s p ++ t p
 by (Some f) None s t p = s p ++ t p

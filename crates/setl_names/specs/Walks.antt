@@ -2,7 +2,6 @@
 use Rattle.std.specs.Prelude.{ℕ, true, List, [], ◌++◌}
 use Rattle.std.specs.Global.{Global}
 use Rattle.setl_names.specs.declared.occurrence.Occurrence.{Occurrence}
-use Rattle.setl_names.specs.declared.scope.Scope.{Scope}
 use Rattle.setl_names.specs.declared.walk.Walk.{Walk}
 use Rattle.setl_names.specs.Names.{Name, with_names}
 use Rattle.setl_names.specs.Places.{Place}

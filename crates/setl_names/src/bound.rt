@@ -135,11 +135,7 @@ fn enter_and_note<'t>(
 }
 
 /// Notes the names that one list of iterators binds. An error is want of memory, and nothing is changed then.
-pub fn bind_turns<'t>(
-    turns: &'t [Iter],
-    line: u32,
-    walk: &mut Walk<'t>,
-) -> Result<(), AllocError>
+pub fn bind_turns<'t>(turns: &'t [Iter], line: u32, walk: &mut Walk<'t>) -> Result<(), AllocError>
     ensures ok { OnOk result (walk.new ≡ after (spec.bound (spec.names_of_turns (map turn turns.now)) (here line walk.old)) walk.old) }
     ensures err { OnErr result (walk.new ≡ walk.old) }
 {
@@ -221,11 +217,7 @@ pub fn bound<'t>(
 }
 
 /// Notes names that a quantifier binds.
-fn all_quantified<'t>(
-    names: &[Name<'t>],
-    line: u32,
-    walk: &mut Walk<'t>,
-) -> Result<(), AllocError>
+fn all_quantified<'t>(names: &[Name<'t>], line: u32, walk: &mut Walk<'t>) -> Result<(), AllocError>
     ensures { OnOk result (walk.new ≡ after (spec.all_quantified names.now (here line walk.old)) walk.old) }
 {
     for name in names {

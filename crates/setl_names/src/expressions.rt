@@ -239,11 +239,7 @@ pub fn ordinary_turns<'t>(
 
 /// What stands in iterators that bind variables.
 #[cycle(standing)]
-fn variable_turns<'t>(
-    turns: &'t [Iter],
-    line: u32,
-    walk: &mut Walk<'t>,
-) -> Result<(), AllocError>
+fn variable_turns<'t>(turns: &'t [Iter], line: u32, walk: &mut Walk<'t>) -> Result<(), AllocError>
     ensures { OnOk result (walk.new ≡ after (spec.variable_turns (map turn turns.now) (here line walk.old)) walk.old) }
 {
     for x in turns {
@@ -254,12 +250,7 @@ fn variable_turns<'t>(
 
 /// What stands in an iterator.
 #[cycle(standing)]
-fn iterator<'t>(
-    x: &'t Iter,
-    own: bool,
-    line: u32,
-    walk: &mut Walk<'t>,
-) -> Result<(), AllocError>
+fn iterator<'t>(x: &'t Iter, own: bool, line: u32, walk: &mut Walk<'t>) -> Result<(), AllocError>
     ensures { OnOk result (walk.new ≡ after ((turn x.now).standing own (here line walk.old)) walk.old) }
 {
     match x {
@@ -323,11 +314,7 @@ fn inner<'t>(x: &'t Inner, line: u32, walk: &mut Walk<'t>) -> Result<(), AllocEr
 
 /// What stands in selectors.
 #[cycle(standing)]
-pub fn selectors<'t>(
-    ss: &'t [Selector],
-    line: u32,
-    walk: &mut Walk<'t>,
-) -> Result<(), AllocError>
+pub fn selectors<'t>(ss: &'t [Selector], line: u32, walk: &mut Walk<'t>) -> Result<(), AllocError>
     ensures { OnOk result (walk.new ≡ after (spec.all_behind (map behind ss.now) (here line walk.old)) walk.old) }
 {
     for x in ss {

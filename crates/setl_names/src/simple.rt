@@ -50,11 +50,7 @@ pub fn assign<'t>(
 }
 
 /// What stands in a tuple target.
-pub fn tuple_target<'t>(
-    slots: &'t [Slot],
-    line: u32,
-    walk: &mut Walk<'t>,
-) -> Result<(), AllocError>
+pub fn tuple_target<'t>(slots: &'t [Slot], line: u32, walk: &mut Walk<'t>) -> Result<(), AllocError>
     ensures { OnOk result (walk.new ≡ after (told.tuple_target slots.now (here line walk.old)) walk.old) }
 {
     let mut names = Items::new(walk.alloc);

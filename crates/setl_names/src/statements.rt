@@ -62,7 +62,14 @@ fn kind<'t>(
             }
         }
         StmtKind::For(turns, condition, body) => {
-            for_loop(body.as_slice(), turns.as_slice(), condition, line, around, walk)
+            for_loop(
+                body.as_slice(),
+                turns.as_slice(),
+                condition,
+                line,
+                around,
+                walk,
+            )
         }
         StmtKind::While(condition, body) => {
             while_loop(body.as_slice(), condition, line, around, walk)
