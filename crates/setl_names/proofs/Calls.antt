@@ -1,15 +1,14 @@
 -- The breaks of calls.
-use Rattle.std.proofs.Common.{◌≡◌, ◌<◌, ◌≤◌, ℕ, suc, zero, Bool, true, false, cond, List, [], ◌∷◌, ◌++◌, ◌+◌, ◌||◌, length, drop, fold, get_or, Option, Some, None, refl, ap, sym, ◌∙◌, append_assoc, add-one, arith, drop-cons}
+use Rattle.std.proofs.Common.{◌≡◌, ◌<◌, ◌≤◌, ℕ, Bool, true, false, cond, List, [], ◌∷◌, ◌++◌, ◌+◌, ◌||◌, length, drop, get_or, Option, Some, None, refl, ap, sym, ◌∙◌, append_assoc, add-one, drop-cons}
 use Rattle.std.proofs.lemmas.List.{append-nil, drop_all}
 use Rattle.std.specs.List.{list_any}
 use Rattle.setl_tree.specs.declared.tree.Param.{Param}
 use Rattle.setl_tree.specs.declared.tree.Proc.{Proc}
-use Rattle.setl_names.specs.declared.broken.Break.{Break}
 use Rattle.setl_names.specs.declared.occurrence.Argument.{Argument}
 use Rattle.setl_names.specs.declared.occurrence.Argument.TheVariants as arg
 use Rattle.setl_names.specs.declared.occurrence.What.TheVariants as what
 use Rattle.setl_names.specs.declared.rules.Stores.{Stores}
-use Rattle.setl_names.specs.Breaks.{earlier, broken, occurrence_breaks}
+use Rattle.setl_names.specs.Breaks.{broken, occurrence_breaks}
 use Rattle.setl_names.specs.Names.{Name}
 use Rattle.setl_names.specs.Procedures.{params_of}
 use Rattle.setl_names.specs.Rules.{is_stored, stored, is_no_variable, is_bound_around, argument_names, is_empty, has_other_count, stores_no_variable, is_empty_selection, stores_bound_around, stores_twice}

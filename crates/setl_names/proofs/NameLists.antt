@@ -5,7 +5,7 @@ use Rattle.std.proofs.Math.Seq.{take-append_seam}
 use Rattle.std.specs.Global.{Vec}
 use Rattle.std.specs.List.{list_any}
 use Rattle.indexmap.specs.IndexSet.{insert_key}
-use Rattle.setl_names.specs.Names.{Name, has, with_name, with_names}
+use Rattle.setl_names.specs.Names.{Name, BeginsWith, has, with_name, with_names}
 
 abbrev pub items_of : Vec ℕ → List ℕ
 items_of v = v.items
@@ -49,3 +49,15 @@ grown xs (y ∷ ys) = longer (has xs y) xs y (with_names (with_name xs y) ys) (g
 -- the names that were there stay in front
 pub taken_back : (xs ys : List Name) → take (length xs) (with_names xs ys) ≡ xs
 taken_back xs ys = ap (take (length xs)) (grown xs ys).1 ∙ take-append_seam xs (grown xs ys).0
+
+one_more : (b : Bool) (all xs : List Name) (y : Name) → BeginsWith all xs → BeginsWith (cond b all (all ++ y ∷ [])) xs
+one_more true all xs y f = f
+one_more false all xs y f = (f.0 ++ y ∷ [], ap (λ (zs : List Name). zs ++ y ∷ []) f.1 ∙ append_assoc xs f.0 (y ∷ []))
+
+-- names that begin with these still do with one more name
+pub begins_more : (all xs : List Name) (y : Name) → BeginsWith all xs → BeginsWith (with_name all y) xs
+begins_more all xs y f = one_more (has all y) all xs y f
+
+-- the names in front, taken back
+pub front : (all xs : List Name) → BeginsWith all xs → take (length xs) all ≡ xs
+front all xs f = ap (take (length xs)) f.1 ∙ take-append_seam xs f.0

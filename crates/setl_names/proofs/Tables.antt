@@ -1,5 +1,5 @@
 -- The table of procedures.
-use Rattle.std.proofs.Common.{◌≡◌, ◌<◌, ◌+◌, ◌∙◌, ℕ, suc, Bool, true, false, cond, List, [], ◌∷◌, drop, length, get_or, Option, Some, None, refl, sym, ap, subst, true≢false, bytes_eq, add-one, drop-cons}
+use Rattle.std.proofs.Common.{◌≡◌, ◌<◌, ◌+◌, ◌∙◌, ℕ, suc, Bool, true, false, cond, List, [], ◌∷◌, drop, length, get_or, Option, Some, refl, sym, ap, true≢false, bytes_eq, add-one, drop-cons}
 use Rattle.std.specs.Global.{Vec}
 use Rattle.std.specs.Map.{lookup}
 use Rattle.std.specs.Option.{option_map}
@@ -7,7 +7,6 @@ use Rattle.std.specs.Cmp.Lexicographic.{bytes_decides}
 use Rattle.indexmap.specs.IndexMap.{IndexMap, insert_entry}
 use Rattle.setl_tree.specs.declared.tree.Param.{Param}
 use Rattle.setl_tree.specs.declared.tree.Proc.{Proc}
-use Rattle.setl_names.specs.Names.{Name}
 use Rattle.setl_names.specs.Procedures.{params_of}
 use Rattle.setl_names.specs.Tables.{value_at, Finds}
 
@@ -54,15 +53,17 @@ pub finds_none : {T S : Type 0} (m : IndexMap (Vec ℕ) T S) (f : T → List Par
 finds_none m f procs at em ep x = ap (λ es. option_map f (at_name x es)) em ∙ sym (ap (λ (ps : List Proc). params_of ps x) ep)
 
 -- one more procedure in front
-pub finds_next : {T S : Type 0} (m n : IndexMap (Vec ℕ) T S) (f : T → List Param) (procs : List Proc) (at next : ℕ) (proc : Proc) (key : Vec ℕ) (v : T) → next + 1 ≡ at → next < length procs → proc ≡ get_or procs next proc → key.items ≡ proc.name → f v ≡ proc.params →
-    n.entries ≡ insert_entry same_key m.entries key v → Finds m f (drop at procs) → Finds n f (drop next procs)
-finds_next m n f procs at next proc key v ea h ep ek ef en inv x =
-    let split : drop next procs ≡ proc ∷ drop at procs =
-    drop-cons procs next proc h ∙ ap (λ (z : Proc). z ∷ drop (suc next) procs) (sym ep) ∙ ap (λ k. proc ∷ drop k procs) (sym (add-one next) ∙ ea) in
+pub finds_more : {T S : Type 0} (m n : IndexMap (Vec ℕ) T S) (f : T → List Param) (procs : List Proc) (proc : Proc) (key : Vec ℕ) (v : T) → key.items ≡ proc.name → f v ≡ proc.params →
+    n.entries ≡ insert_entry same_key m.entries key v → Finds m f procs → Finds n f (proc ∷ procs)
+finds_more m n f procs proc key v ek ef en inv x =
     ap (λ es. option_map f (at_name x es)) en
     ∙ ap (option_map f) (at_name-insert m.entries key v x)
     ∙ map_cond f (bytes_eq x key.items) (Some v) (value_at m x)
     ∙ ap (λ (k : List ℕ). cond (bytes_eq x k) (Some (f v)) (option_map f (value_at m x))) ek
     ∙ ap (λ (ps : List Param). cond (bytes_eq x proc.name) (Some ps) (option_map f (value_at m x))) ef
     ∙ ap (λ (r : Option (List Param)). cond (bytes_eq x proc.name) (Some proc.params) r) (inv x)
-    ∙ sym (ap (λ (ps : List Proc). params_of ps x) split)
+
+-- the procedures from the one before on
+pub one_before : (procs : List Proc) (at next : ℕ) (proc : Proc) → next + 1 ≡ at → next < length procs → proc ≡ get_or procs next proc → drop next procs ≡ proc ∷ drop at procs
+one_before procs at next proc ea h ep =
+    drop-cons procs next proc h ∙ ap (λ (z : Proc). z ∷ drop (suc next) procs) (sym ep) ∙ ap (λ k. proc ∷ drop k procs) (sym (add-one next) ∙ ea)

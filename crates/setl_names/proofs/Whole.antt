@@ -1,11 +1,10 @@
 -- What resolving finds in a whole program.
-use Rattle.std.proofs.Common.{◌≡◌, ◌∙◌, ℕ, List, [], ◌∷◌, ◌++◌, map, fold, Option, Some, None, refl, sym, ap, append_assoc}
+use Rattle.std.proofs.Common.{◌≡◌, ◌∙◌, ℕ, List, [], ◌∷◌, ◌++◌, map, fold, Some, None, refl, sym, ap, append_assoc}
 use Rattle.std.proofs.lemmas.List.{append-nil}
 use Rattle.std.proofs.lemmas.List.Sums.{fold-append}
 use Rattle.setl_tree.specs.declared.tree.Proc.{Proc}
 use Rattle.setl_tree.specs.declared.tree.Tree.{Tree}
 use Rattle.setl_names.specs.declared.bodies.BodyNames.{BodyNames}
-use Rattle.setl_names.specs.declared.broken.Break.{Break}
 use Rattle.setl_names.specs.declared.program.Found.{Found}
 use Rattle.setl_names.specs.Names.{Name, in_order}
 use Rattle.setl_names.specs.Bodies.{Body, bodies, occurrences}
@@ -13,7 +12,7 @@ use Rattle.setl_names.specs.Breaks.{earlier, body_breaks, all_body_breaks, head_
 use Rattle.setl_names.specs.Found.{with_body, with_bodies, whole_program}
 use Rattle.setl_names.specs.Procedures.{param_names}
 use Rattle.setl_names.specs.Resolves.{all_names}
-use Rattle.setl_names.specs.Variables.{slots_among, variables, body_names, var_names}
+use Rattle.setl_names.specs.Variables.{variables, body_names, var_names}
 use Rattle.setl_names.proofs.Own.{own_in_order}
 
 first_of_bodies : (procs : List Proc) (vars : List Name) (bs : List Body) (f : Found) → (with_bodies procs vars bs f).first ≡ fold earlier f.first (all_body_breaks procs bs)

@@ -2,6 +2,7 @@ pub mod Names
 pub mod Places
 pub mod Scopes
 pub mod Occurrences
+pub mod Walks
 pub mod Statements
 pub mod Bodies
 pub mod Procedures

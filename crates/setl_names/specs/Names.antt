@@ -1,5 +1,5 @@
 -- Names and lists of names.
-use Rattle.std.specs.Prelude.{ℕ, Bool, false, ◌||◌, List, [], ◌∷◌, ◌++◌, if◌then◌else◌, bytes_eq}
+use Rattle.std.specs.Prelude.{◌≡◌, ℕ, Bool, false, ◌||◌, List, [], ◌∷◌, ◌++◌, if◌then◌else◌, bytes_eq}
 use Rattle.std.specs.List.{list_any}
 
 abbrev pub Name : Type 0
@@ -17,6 +17,10 @@ with_name xs x = if has xs x then xs else xs ++ x ∷ []
 abbrev pub with_names : List Name → List Name → List Name
 with_names xs [] = xs
 with_names xs (y ∷ ys) = with_names (with_name xs y) ys
+
+-- names that begin with these
+abbrev pub BeginsWith : List Name → List Name → Type 0
+BeginsWith all xs = (ys : List Name) × (all ≡ xs ++ ys)
 
 -- the names that stand in a list, in the order of their first appearance
 abbrev pub in_order : List Name → List Name

@@ -1,5 +1,5 @@
 -- What stands in an expression, in the order of the source's tokens.
-use Rattle.std.specs.Prelude.{ℕ, Bool, true, false, ◌||◌, List, [], ◌∷◌, ◌++◌, Option, Some, None}
+use Rattle.std.specs.Prelude.{Bool, true, false, ◌||◌, List, [], ◌∷◌, ◌++◌, Option, Some, None}
 use Rattle.setl_tree.specs.declared.expr.BinaryOp.{BinaryOp}
 use Rattle.setl_tree.specs.declared.expr.Slot.{Slot}
 use Rattle.setl_tree.specs.declared.expr.Slot.TheVariants as sl
@@ -128,6 +128,9 @@ abbrev pub all_behind : List Behind → Standing
 all_behind [] p = []
 all_behind (x ∷ xs) p = x.standing p ++ all_behind xs p
 
+-- ---- selections
+
+-- a part and the first selector behind it, by the part's name and by the selector's list in round brackets, if there are
 abbrev pub by : Option Name → Option (List Part) → Standing → Standing → Standing
 by None list s t p = s p ++ t p
 by (Some f) None s t p = s p ++ t p
@@ -142,7 +145,7 @@ abbrev pub selected : Part → List Behind → Standing
 selected x [] p = x.standing p
 selected x (s ∷ ss) p = before x s p ++ all_behind ss p
 
--- the same of a name
+-- a selection of a name
 abbrev pub name_selected : Name → List Behind → Standing
 name_selected f [] p = named f p
 name_selected f (s ∷ ss) p = by (Some f) s.list (named f) s.standing p ++ all_behind ss p
@@ -170,6 +173,10 @@ own_turns (i ∷ is) p = i.standing true p ++ own_turns is (with_own i.names p)
 -- the iterators of a loop or a quantifier
 abbrev pub ordinary_turns : List Turn → Standing
 ordinary_turns is p = variable_turns is p ++ bound (names_of_turns is) p
+
+-- the iterators of a quantified expression
+abbrev pub quantified_turns : List Turn → Standing
+quantified_turns is p = all_quantified (names_of_turns is) p ++ ordinary_turns is p
 
 -- a former: the value and the condition see all names that it binds
 abbrev pub former : Part → List Turn → Option Part → Standing
@@ -202,7 +209,7 @@ expr_step (Expr-F.Chain first others) = unnamed (λ p. first.standing p ++ opera
 expr_step (Expr-F.Compare a o b) = unnamed (λ p. a.standing p ++ b.standing p)
 expr_step (Expr-F.Prefixed ps x) = unnamed x.standing
 expr_step (Expr-F.Selected x ss) = unnamed (selected x ss)
-expr_step (Expr-F.Quantified q is x) = unnamed (λ p. all_quantified (names_of_turns is) p ++ (variable_turns is p ++ (bound (names_of_turns is) p ++ x.standing p)))
+expr_step (Expr-F.Quantified q is x) = unnamed (λ p. quantified_turns is p ++ x.standing p)
 
 abbrev pub inner_step : Inner-F Part Standing Turn Behind → Standing
 inner_step (Inner-F.List xs) = all_parts xs

@@ -1,7 +1,5 @@
 -- Worked rows: for each rule what breaks it and a sound neighbour, and the slots of some bodies.
-use Rattle.std.specs.Prelude.{◌≡◌, ℕ, Bool, true, false, List, [], ◌∷◌, map, Option, Some, None}
-use Rattle.setl_tree.specs.declared.tree.Declared.{Declared}
-use Rattle.setl_tree.specs.declared.tree.Param.{Param}
+use Rattle.std.specs.Prelude.{◌≡◌, ℕ, true, false, List, [], ◌∷◌, map, Option, Some, None}
 use Rattle.setl_tree.specs.declared.tree.Passing.{Passing}
 use Rattle.setl_tree.specs.declared.tree.Passing.TheVariants as pa
 use Rattle.setl_tree.specs.declared.tree.Proc.{Proc}

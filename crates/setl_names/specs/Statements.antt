@@ -1,5 +1,5 @@
 -- What stands in the statements of a body, in the order of the source's tokens.
-use Rattle.std.specs.Prelude.{ℕ, List, [], ◌∷◌, ◌++◌, map, Option, Some, None}
+use Rattle.std.specs.Prelude.{List, [], ◌∷◌, ◌++◌, map, Option, Some, None}
 use Rattle.std.specs.Option.{option_map}
 use Rattle.setl_tree.specs.declared.expr.Expr.{Expr}
 use Rattle.setl_tree.specs.declared.expr.Slot.{Slot}
@@ -13,7 +13,7 @@ use Rattle.setl_names.specs.declared.occurrence.What.TheVariants as what
 use Rattle.setl_names.specs.declared.occurrence.Occurrence.{Occurrence}
 use Rattle.setl_names.specs.Places.{Place, in_a_loop, in_statement}
 use Rattle.setl_names.specs.declared.around.Around.{Around}
-use Rattle.setl_names.specs.Occurrences.{Standing, at, named, all_named, names_of_slots, all_parts, optional_part, all_behind, applied, ordinary_turns, part, turn, behind, standing_in}
+use Rattle.setl_names.specs.Occurrences.{Standing, Turn, at, named, all_named, names_of_slots, all_parts, optional_part, all_behind, applied, ordinary_turns, part, turn, behind, standing_in}
 
 -- What stands in a statement, by where it stands.
 abbrev pub Told : Type 0
@@ -56,6 +56,16 @@ abbrev pub all_branches : List Placed → Placed
 all_branches [] p a = []
 all_branches (x ∷ xs) p a = x p a ++ all_branches xs p a
 
+-- `return`
+abbrev pub return_ : Around → Option Expr → Standing
+return_ a x p = at p (what.Return a.in_procedure) ∷ optional_expression x p
+
+abbrev pub for_loop : List Turn → Option Expr → List Told → Placed
+for_loop is c body p a = ordinary_turns is p ++ (optional_expression c p ++ all_told body (in_a_loop a))
+
+abbrev pub while_loop : Expr → List Told → Placed
+while_loop c body p a = standing_in c p ++ all_told body (in_a_loop a)
+
 abbrev pub kind_step : StmtKind-F Placed Placed Told → Placed
 kind_step (StmtKind-F.Assign x e) p a = target x p ++ standing_in e p
 kind_step (StmtKind-F.Update x o e) p a = target x p ++ standing_in e p
@@ -63,14 +73,14 @@ kind_step (StmtKind-F.TupleAssign slots e) p a = tuple_target slots p ++ standin
 kind_step (StmtKind-F.Take x w y) p a = named x p ++ target y p
 kind_step (StmtKind-F.Call f xs) p a = call f xs p
 kind_step (StmtKind-F.If first others last) p a = first p a ++ (all_branches others p a ++ optional_told last a)
-kind_step (StmtKind-F.For is c body) p a = ordinary_turns (map turn is) p ++ (optional_expression c p ++ all_told body (in_a_loop a))
-kind_step (StmtKind-F.While c body) p a = standing_in c p ++ all_told body (in_a_loop a)
+kind_step (StmtKind-F.For is c body) p a = for_loop (map turn is) c body p a
+kind_step (StmtKind-F.While c body) p a = while_loop c body p a
 kind_step StmtKind-F.Quit p a = quit a p
 kind_step StmtKind-F.Continue p a = quit a p
 kind_step StmtKind-F.Fail p a = []
 kind_step StmtKind-F.Stop p a = []
 kind_step StmtKind-F.Pass p a = []
-kind_step (StmtKind-F.Return x) p a = at p (what.Return a.in_procedure) ∷ optional_expression x p
+kind_step (StmtKind-F.Return x) p a = return_ a x p
 kind_step (StmtKind-F.Print xs) p a = expressions xs p
 kind_step (StmtKind-F.Read xs) p a = all_named xs p
 

@@ -1,6 +1,7 @@
 -- Name resolution: which variable a name means.
 use Rattle.std.specs.Prelude.{Bool, true, false, List, [], ◌∷◌, map, Option, Some, None, if◌then◌else◌}
 use Rattle.setl_tree.specs.declared.tree.Declared.{Declared}
+use Rattle.setl_tree.specs.declared.tree.Param.{Param}
 use Rattle.setl_tree.specs.declared.tree.Proc.{Proc}
 use Rattle.setl_names.specs.declared.bodies.BodyNames.{BodyNames}
 use Rattle.setl_names.specs.declared.occurrence.What.{What}
@@ -55,5 +56,8 @@ slots_among procs params vars us = in_order (of_body params vars (variables proc
 abbrev pub slots : List Proc → (vars : List Name) → Body → List Name
 slots procs vars b = slots_among procs (param_names b.params) vars (occurrences b)
 
+abbrev pub names_with : Name → List Param → (slots : List Name) → BodyNames
+names_with name params slots = record { name = name; params = params; slots = slots }
+
 abbrev pub body_names : List Proc → (vars : List Name) → Body → BodyNames
-body_names procs vars b = record { name = b.name; params = b.params; slots = slots procs vars b }
+body_names procs vars b = names_with b.name b.params (slots procs vars b)

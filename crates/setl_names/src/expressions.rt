@@ -1,17 +1,19 @@
 //! What stands in expressions.
 
-ghost use Rattle.std.specs.Prelude.{◌≡◌, ◌++◌, map, option_map, OnOk, IfOk, IfSome};
-ghost use Rattle.setl_names.specs.Names.{with_names};
+ghost use Rattle.std.specs.Prelude.{◌≡◌, ◌++◌, map, option_map, OnOk, OnErr, IfOk, IfSome};
 ghost use Rattle.setl_names.specs.Occurrences as spec;
-ghost use Rattle.setl_names.specs.Occurrences.{part, turn, behind, standing_in, inner_standing};
+ghost use Rattle.setl_names.specs.Occurrences.{part, turn, behind, standing_in, inner_standing, names_of_turns};
 ghost use Rattle.setl_names.specs.Scopes.{place};
+ghost use Rattle.setl_names.specs.Walks.{here, after, with_own};
 
 use crate::bound::{
-    add_turn, all_quantified, bind, bound, bound_list, bound_name, bound_names, named, turn_names,
+    bind_bound, bind_turns, bound, bound_name, enter_filter, enter_former, named, put_bound,
+    put_turn, quantify_turns,
 };
 use crate::name::Name;
-use crate::occurrence::{Argument, Occurrence, What};
+use crate::occurrence::{Argument, What};
 use crate::scope::Scope;
+use crate::walk::Walk;
 use setl_tree::{BinaryOp, Boxed, Expr, Inner, Items, Iter, Selector, Text};
 use std::alloc::{AllocError, Global};
 
@@ -73,35 +75,23 @@ fn arguments<'t>(
 
 /// Notes a name before a list in round brackets.
 pub fn apply<'t>(
-    alloc: Global,
     name: &'t Text,
     xs: &'t [Expr],
     line: u32,
-    scope: &Scope,
-    found: &mut Items<Occurrence<'t>>,
+    walk: &mut Walk<'t>,
 ) -> Result<(), AllocError>
-    ensures { OnOk result (found.new ≡ found.old ++ spec.application name.now (map part xs.now) (place line scope.now)) }
+    ensures ok { OnOk result (walk.new ≡ after (spec.application name.now (map part xs.now) (here line walk.old)) walk.old) }
+    ensures err { OnErr result (walk.new ≡ walk.old) }
 {
-    let own = scope.own.has(name.bytes());
-    let arguments = arguments(alloc, xs, line, scope)?;
-    found.push(Occurrence {
-        line,
-        what: What::Applied(Name::new(name), own, arguments),
-    })
+    let own = walk.scope.own.has(name.bytes());
+    let arguments = arguments(walk.alloc, xs, line, &walk.scope)?;
+    walk.note(line, What::Applied(Name::new(name), own, arguments))
 }
 
 /// What stands in an expression.
 #[cycle(standing)]
-#[tactic(auto, using(crate::proofs::Standing::chain_found, crate::proofs::Standing::compare_found, crate::proofs::Standing::plain_found, crate::proofs::Standing::name_found, crate::proofs::Standing::quantified_found))]
-pub fn expr<'t>(
-    x: &'t Expr,
-    line: u32,
-    alloc: Global,
-    scope: &mut Scope,
-    found: &mut Items<Occurrence<'t>>,
-) -> Result<(), AllocError>
-    ensures found { OnOk result (found.new ≡ found.old ++ standing_in x.now (place line scope.old)) }
-    ensures scope { OnOk result (scope.new ≡ scope.old) }
+pub fn expr<'t>(x: &'t Expr, line: u32, walk: &mut Walk<'t>) -> Result<(), AllocError>
+    ensures { OnOk result (walk.new ≡ after (standing_in x.now (here line walk.old)) walk.old) }
 {
     match x {
         Expr::Number(_) => Ok(()),
@@ -112,58 +102,44 @@ pub fn expr<'t>(
         Expr::Newat => Ok(()),
         Expr::Eof => Ok(()),
         Expr::Ok => Ok(()),
-        Expr::Name(name) => named(name, line, scope, found),
+        Expr::Name(name) => named(name, line, walk),
         Expr::If(a, b, c) => {
-            expr(a.get(), line, alloc, scope, found)?;
-            expr(b.get(), line, alloc, scope, found)?;
-            expr(c.get(), line, alloc, scope, found)
+            expr(a.get(), line, walk)?;
+            expr(b.get(), line, walk)?;
+            expr(c.get(), line, walk)
         }
-        Expr::Set(x) => inner(x, line, alloc, scope, found),
-        Expr::Tuple(x) => inner(x, line, alloc, scope, found),
+        Expr::Set(x) => inner(x, line, walk),
+        Expr::Tuple(x) => inner(x, line, walk),
         Expr::Chain(first, others) => {
-            expr(first.get(), line, alloc, scope, found)?;
-            operands(others.as_slice(), line, alloc, scope, found)?;
-            Ok(())
+            expr(first.get(), line, walk)?;
+            operands(others.as_slice(), line, walk)
         }
         Expr::Compare(a, _, b) => {
-            expr(a.get(), line, alloc, scope, found)?;
-            expr(b.get(), line, alloc, scope, found)?;
-            Ok(())
+            expr(a.get(), line, walk)?;
+            expr(b.get(), line, walk)
         }
-        Expr::Prefixed(_, x) => expr(x.get(), line, alloc, scope, found),
+        Expr::Prefixed(_, x) => expr(x.get(), line, walk),
         Expr::Selected(x, ss) => match name_of(x.get()) {
             None => {
-                expr(x.get(), line, alloc, scope, found)?;
-                selectors(ss.as_slice(), line, alloc, scope, found)?;
-                Ok(())
+                expr(x.get(), line, walk)?;
+                selectors(ss.as_slice(), line, walk)
             }
-            Some(name) => name_selected(ss.as_slice(), name.text(), line, alloc, scope, found),
+            Some(name) => name_selected(ss.as_slice(), name.text(), line, walk),
         },
         Expr::Quantified(_, turns, x) => {
-            let names = turn_names(alloc, turns.as_slice())?;
-            all_quantified(names.as_slice(), line, scope, found)?;
-            variable_turns(turns.as_slice(), line, alloc, scope, found)?;
-            bind(names, line, found)?;
-            expr(x.get(), line, alloc, scope, found)?;
-            Ok(())
+            quantified_turns(turns.as_slice(), line, walk)?;
+            expr(x.get(), line, walk)
         }
     }
 }
 
 /// What stands in expressions.
 #[cycle(standing)]
-pub fn exprs<'t>(
-    xs: &'t [Expr],
-    line: u32,
-    alloc: Global,
-    scope: &mut Scope,
-    found: &mut Items<Occurrence<'t>>,
-) -> Result<(), AllocError>
-    ensures found { OnOk result (found.new ≡ found.old ++ spec.all_parts (map part xs.now) (place line scope.old)) }
-    ensures scope { OnOk result (scope.new ≡ scope.old) }
+pub fn exprs<'t>(xs: &'t [Expr], line: u32, walk: &mut Walk<'t>) -> Result<(), AllocError>
+    ensures { OnOk result (walk.new ≡ after (spec.all_parts (map part xs.now) (here line walk.old)) walk.old) }
 {
     for x in xs {
-        expr(x, line, alloc, scope, found)?;
+        expr(x, line, walk)?;
     }
     Ok(())
 }
@@ -173,15 +149,12 @@ pub fn exprs<'t>(
 fn operands<'t>(
     others: &'t [(BinaryOp, Expr)],
     line: u32,
-    alloc: Global,
-    scope: &mut Scope,
-    found: &mut Items<Occurrence<'t>>,
+    walk: &mut Walk<'t>,
 ) -> Result<(), AllocError>
-    ensures found { OnOk result (found.new ≡ found.old ++ spec.operands (map (λ x. (x.0, part x.1)) others.now) (place line scope.old)) }
-    ensures scope { OnOk result (scope.new ≡ scope.old) }
+    ensures { OnOk result (walk.new ≡ after (spec.operands (map (λ x. (x.0, part x.1)) others.now) (here line walk.old)) walk.old) }
 {
     for (_, x) in others {
-        expr(x, line, alloc, scope, found)?;
+        expr(x, line, walk)?;
     }
     Ok(())
 }
@@ -191,210 +164,187 @@ fn operands<'t>(
 fn optional<'t>(
     x: &'t Option<Boxed<Expr>>,
     line: u32,
-    alloc: Global,
-    scope: &mut Scope,
-    found: &mut Items<Occurrence<'t>>,
+    walk: &mut Walk<'t>,
 ) -> Result<(), AllocError>
-    ensures found { OnOk result (found.new ≡ found.old ++ spec.optional_part (option_map part x.now) (place line scope.old)) }
-    ensures scope { OnOk result (scope.new ≡ scope.old) }
+    ensures { OnOk result (walk.new ≡ after (spec.optional_part (option_map part x.now) (here line walk.old)) walk.old) }
 {
     match x {
         None => Ok(()),
-        Some(x) => expr(x.get(), line, alloc, scope, found),
+        Some(x) => expr(x.get(), line, walk),
     }
-}
-
-/// What stands inside braces or brackets.
-#[cycle(standing)]
-#[tactic(auto, using(crate::proofs::NameLists::taken_back))]
-fn inner<'t>(
-    x: &'t Inner,
-    line: u32,
-    alloc: Global,
-    scope: &mut Scope,
-    found: &mut Items<Occurrence<'t>>,
-) -> Result<(), AllocError>
-    ensures found { OnOk result (found.new ≡ found.old ++ inner_standing x.now (place line scope.old)) }
-    ensures scope { OnOk result (scope.new ≡ scope.old) }
-{
-    match x {
-        Inner::List(xs) => exprs(xs.as_slice(), line, alloc, scope, found),
-        Inner::Range(a, b, c) => {
-            expr(a.get(), line, alloc, scope, found)?;
-            optional(b, line, alloc, scope, found)?;
-            expr(c.get(), line, alloc, scope, found)
-        }
-        Inner::Former(value, turns, condition) => {
-            let names = turn_names(alloc, turns.as_slice())?;
-            let mark = scope.enter(names.as_slice())?;
-            scope.own.put_all(names.as_slice())?;
-            expr(value.get(), line, alloc, scope, found)?;
-            scope.own.truncate(mark.own);
-            own_turns(turns.as_slice(), line, alloc, scope, found)?;
-            optional(condition, line, alloc, scope, found)?;
-            scope.leave(mark);
-            bind(names, line, found)?;
-            Ok(())
-        }
-        Inner::Filter(bound, source, condition) => {
-            let names = bound_list(alloc, bound)?;
-            let mark = scope.enter(names.as_slice())?;
-            bound_names(names.as_slice(), true, line, scope, found)?;
-            expr(source.get(), line, alloc, scope, found)?;
-            scope.own.put_all(names.as_slice())?;
-            expr(condition.get(), line, alloc, scope, found)?;
-            scope.leave(mark);
-            bind(names, line, found)?;
-            Ok(())
-        }
-    }
-}
-
-/// What stands in an iterator.
-#[cycle(standing)]
-fn iterator<'t>(
-    x: &'t Iter,
-    own: bool,
-    line: u32,
-    alloc: Global,
-    scope: &mut Scope,
-    found: &mut Items<Occurrence<'t>>,
-) -> Result<(), AllocError>
-    ensures found { OnOk result (found.new ≡ found.old ++ (turn x.now).standing own (place line scope.old)) }
-    ensures scope { OnOk result (scope.new ≡ scope.old) }
-{
-    match x {
-        Iter::Over(b, source) => {
-            bound(b, own, line, alloc, scope, found)?;
-            expr(source, line, alloc, scope, found)
-        }
-        Iter::Image(value, map, argument) => {
-            bound_name(value, own, line, scope, found)?;
-            named(map, line, scope, found)?;
-            bound_name(argument, own, line, scope, found)
-        }
-    }
-}
-
-/// What stands in iterators that bind variables.
-#[cycle(standing)]
-pub fn variable_turns<'t>(
-    turns: &'t [Iter],
-    line: u32,
-    alloc: Global,
-    scope: &mut Scope,
-    found: &mut Items<Occurrence<'t>>,
-) -> Result<(), AllocError>
-    ensures found { OnOk result (found.new ≡ found.old ++ spec.variable_turns (map turn turns.now) (place line scope.old)) }
-    ensures scope { OnOk result (scope.new ≡ scope.old) }
-{
-    for x in turns {
-        iterator(x, false, line, alloc, scope, found)?;
-    }
-    Ok(())
-}
-
-/// What stands in iterators that bind a former's own names. These are then put into the scope.
-#[cycle(standing)]
-fn own_turns<'t>(
-    turns: &'t [Iter],
-    line: u32,
-    alloc: Global,
-    scope: &mut Scope,
-    found: &mut Items<Occurrence<'t>>,
-) -> Result<(), AllocError>
-    ensures found { OnOk result (found.new ≡ found.old ++ spec.own_turns (map turn turns.now) (place line scope.old)) }
-    ensures own { OnOk result (scope.new.own ≡ with_names scope.old.own (spec.names_of_turns (map turn turns.now))) }
-    ensures inside { OnOk result (scope.new.inside ≡ scope.old.inside) }
-{
-    for x in turns {
-        iterator(x, true, line, alloc, scope, found)?;
-        let mut names = Items::new(alloc);
-        add_turn(&mut names, x)?;
-        scope.own.put_all(names.as_slice())?;
-    }
-    Ok(())
 }
 
 /// What stands in a name with selectors.
 #[cycle(standing)]
-#[tactic(auto, using(crate::proofs::Standing::round_found, crate::proofs::Standing::slice_found, crate::proofs::Standing::braces_found))]
 fn name_selected<'t>(
     ss: &'t [Selector],
     name: &'t Text,
     line: u32,
-    alloc: Global,
-    scope: &mut Scope,
-    found: &mut Items<Occurrence<'t>>,
+    walk: &mut Walk<'t>,
 ) -> Result<(), AllocError>
-    ensures found { OnOk result (found.new ≡ found.old ++ spec.name_selected name.now (map behind ss.now) (place line scope.old)) }
-    ensures scope { OnOk result (scope.new ≡ scope.old) }
+    ensures { OnOk result (walk.new ≡ after (spec.name_selected name.now (map behind ss.now) (here line walk.old)) walk.old) }
 {
     match ss {
-        [] => named(name, line, scope, found),
+        [] => named(name, line, walk),
         [Selector::Round(xs), others @ ..] => {
-            apply(alloc, name, xs.as_slice(), line, scope, found)?;
-            exprs(xs.as_slice(), line, alloc, scope, found)?;
-            selectors(others, line, alloc, scope, found)?;
-            Ok(())
+            applied(name, xs.as_slice(), line, walk)?;
+            selectors(others, line, walk)
         }
         [Selector::Slice(_, _), ..] => {
-            named(name, line, scope, found)?;
-            selectors(ss, line, alloc, scope, found)?;
-            Ok(())
+            named(name, line, walk)?;
+            selectors(ss, line, walk)
         }
         [Selector::Braces(_), ..] => {
-            named(name, line, scope, found)?;
-            selectors(ss, line, alloc, scope, found)?;
-            Ok(())
+            named(name, line, walk)?;
+            selectors(ss, line, walk)
         }
     }
 }
 
-/// What stands in a selector that isn't the list of a call.
+/// What stands in a name before a list in round brackets, and in the list.
 #[cycle(standing)]
-fn selector<'t>(
-    x: &'t Selector,
+pub fn applied<'t>(
+    name: &'t Text,
+    xs: &'t [Expr],
     line: u32,
-    alloc: Global,
-    scope: &mut Scope,
-    found: &mut Items<Occurrence<'t>>,
+    walk: &mut Walk<'t>,
 ) -> Result<(), AllocError>
-    ensures found { OnOk result (found.new ≡ found.old ++ (behind x.now).standing (place line scope.old)) }
-    ensures scope { OnOk result (scope.new ≡ scope.old) }
+    ensures { OnOk result (walk.new ≡ after (spec.applied name.now (map part xs.now) (here line walk.old)) walk.old) }
+{
+    apply(name, xs, line, walk)?;
+    exprs(xs, line, walk)
+}
+
+/// What stands in the iterators of a quantified expression.
+#[cycle(standing)]
+fn quantified_turns<'t>(turns: &'t [Iter], line: u32, walk: &mut Walk<'t>) -> Result<(), AllocError>
+    ensures { OnOk result (walk.new ≡ after (spec.quantified_turns (map turn turns.now) (here line walk.old)) walk.old) }
+{
+    quantify_turns(turns, line, walk)?;
+    ordinary_turns(turns, line, walk)
+}
+
+/// What stands in the iterators of a loop or a quantified expression, as they bind variables.
+#[cycle(standing)]
+pub fn ordinary_turns<'t>(
+    turns: &'t [Iter],
+    line: u32,
+    walk: &mut Walk<'t>,
+) -> Result<(), AllocError>
+    ensures { OnOk result (walk.new ≡ after (spec.ordinary_turns (map turn turns.now) (here line walk.old)) walk.old) }
+{
+    variable_turns(turns, line, walk)?;
+    bind_turns(turns, line, walk)
+}
+
+/// What stands in iterators that bind variables.
+#[cycle(standing)]
+fn variable_turns<'t>(turns: &'t [Iter], line: u32, walk: &mut Walk<'t>) -> Result<(), AllocError>
+    ensures { OnOk result (walk.new ≡ after (spec.variable_turns (map turn turns.now) (here line walk.old)) walk.old) }
+{
+    for x in turns {
+        iterator(x, false, line, walk)?;
+    }
+    Ok(())
+}
+
+/// What stands in an iterator.
+#[cycle(standing)]
+fn iterator<'t>(x: &'t Iter, own: bool, line: u32, walk: &mut Walk<'t>) -> Result<(), AllocError>
+    ensures { OnOk result (walk.new ≡ after ((turn x.now).standing own (here line walk.old)) walk.old) }
 {
     match x {
-        Selector::Round(xs) => {
-            if xs.is_empty() {
-                return found.push(Occurrence {
-                    line,
-                    what: What::EmptyList,
-                });
-            }
-            exprs(xs.as_slice(), line, alloc, scope, found)
+        Iter::Over(b, source) => {
+            bound(b, own, line, walk)?;
+            expr(source, line, walk)
         }
-        Selector::Slice(a, b) => {
-            expr(a.get(), line, alloc, scope, found)?;
-            optional(b, line, alloc, scope, found)
+        Iter::Image(value, map, argument) => {
+            bound_name(value, own, line, walk)?;
+            named(map, line, walk)?;
+            bound_name(argument, own, line, walk)
         }
-        Selector::Braces(xs) => exprs(xs.as_slice(), line, alloc, scope, found),
+    }
+}
+
+/// What stands in iterators that bind a former's own names. These are then put into the scope.
+#[cycle(standing)]
+fn own_turns<'t>(turns: &'t [Iter], line: u32, walk: &mut Walk<'t>) -> Result<(), AllocError>
+    ensures { OnOk result (walk.new ≡ after (spec.own_turns (map turn turns.now) (here line walk.old)) (with_own (names_of_turns (map turn turns.now)) walk.old)) }
+{
+    for x in turns {
+        iterator(x, true, line, walk)?;
+        put_turn(x, walk)?;
+    }
+    Ok(())
+}
+
+/// What stands inside braces or brackets.
+#[cycle(standing)]
+fn inner<'t>(x: &'t Inner, line: u32, walk: &mut Walk<'t>) -> Result<(), AllocError>
+    ensures { OnOk result (walk.new ≡ after (inner_standing x.now (here line walk.old)) walk.old) }
+{
+    match x {
+        Inner::List(xs) => exprs(xs.as_slice(), line, walk),
+        Inner::Range(a, b, c) => {
+            expr(a.get(), line, walk)?;
+            optional(b, line, walk)?;
+            expr(c.get(), line, walk)
+        }
+        Inner::Former(value, turns, condition) => {
+            let mark = enter_former(turns.as_slice(), walk)?;
+            expr(value.get(), line, walk)?;
+            walk.scope.own.truncate(mark.own);
+            own_turns(turns.as_slice(), line, walk)?;
+            optional(condition, line, walk)?;
+            walk.scope.leave(mark);
+            bind_turns(turns.as_slice(), line, walk)?;
+            Ok(())
+        }
+        Inner::Filter(names, source, condition) => {
+            let mark = enter_filter(names, line, walk)?;
+            expr(source.get(), line, walk)?;
+            put_bound(names, walk)?;
+            expr(condition.get(), line, walk)?;
+            walk.scope.leave(mark);
+            bind_bound(names, line, walk)?;
+            Ok(())
+        }
     }
 }
 
 /// What stands in selectors.
 #[cycle(standing)]
-pub fn selectors<'t>(
-    ss: &'t [Selector],
-    line: u32,
-    alloc: Global,
-    scope: &mut Scope,
-    found: &mut Items<Occurrence<'t>>,
-) -> Result<(), AllocError>
-    ensures found { OnOk result (found.new ≡ found.old ++ spec.all_behind (map behind ss.now) (place line scope.old)) }
-    ensures scope { OnOk result (scope.new ≡ scope.old) }
+pub fn selectors<'t>(ss: &'t [Selector], line: u32, walk: &mut Walk<'t>) -> Result<(), AllocError>
+    ensures { OnOk result (walk.new ≡ after (spec.all_behind (map behind ss.now) (here line walk.old)) walk.old) }
 {
     for x in ss {
-        selector(x, line, alloc, scope, found)?;
+        selector(x, line, walk)?;
     }
     Ok(())
+}
+
+/// What stands in a selector that isn't the list of a call.
+#[cycle(standing)]
+fn selector<'t>(x: &'t Selector, line: u32, walk: &mut Walk<'t>) -> Result<(), AllocError>
+    ensures { OnOk result (walk.new ≡ after ((behind x.now).standing (here line walk.old)) walk.old) }
+{
+    match x {
+        Selector::Round(xs) => loose_list(xs.as_slice(), line, walk),
+        Selector::Slice(a, b) => {
+            expr(a.get(), line, walk)?;
+            optional(b, line, walk)
+        }
+        Selector::Braces(xs) => exprs(xs.as_slice(), line, walk),
+    }
+}
+
+/// What stands in a list in round brackets that doesn't stand behind a name.
+#[cycle(standing)]
+fn loose_list<'t>(xs: &'t [Expr], line: u32, walk: &mut Walk<'t>) -> Result<(), AllocError>
+    ensures { OnOk result (walk.new ≡ after (spec.loose_list (map part xs.now) (here line walk.old)) walk.old) }
+{
+    if xs.is_empty() {
+        return walk.note(line, What::EmptyList);
+    }
+    exprs(xs, line, walk)
 }

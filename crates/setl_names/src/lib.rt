@@ -21,6 +21,7 @@ mod simple;
 mod statements;
 #[cfg(test)]
 mod tests;
+mod walk;
 
 pub use bodies::BodyNames;
 pub use broken::RuleFault;

@@ -1,7 +1,7 @@
 //! Lists of names in which a name is found without a walk.
 
-ghost use Rattle.std.specs.Prelude.{◌≡◌, ◌≤◌, [], not, take, length, OnOk, OnErr, IfOk};
-ghost use Rattle.setl_names.specs.Names.{has, with_name, with_names, has_repeat};
+ghost use Rattle.std.specs.Prelude.{◌≡◌, [], not, take, length, OnOk, OnErr, IfOk};
+ghost use Rattle.setl_names.specs.Names.{BeginsWith, has, with_name, with_names, repeats_after, has_repeat};
 
 use crate::name::Name;
 use indexmap::IndexSet;
@@ -50,19 +50,36 @@ impl Names {
         self.names.contains(name)
     }
 
-    /// Puts a name at the end, unless it is there. It gives whether it is new. An error is want of memory.
+    /// Puts a name at the end, unless it is there. It gives whether it is new. An error is want of memory, and the names
+    /// are then as before.
     #[tactic(auto, using(crate::proofs::NameLists::has_key, crate::proofs::NameLists::with_key))]
     pub fn put(&mut self, name: &[u8]) -> Result<bool, AllocError>
         ensures new { IfOk result (λ new. new ≡ not (has self.old name.now)) }
         ensures names { OnOk result (self.new ≡ with_name self.old name.now) }
+        ensures err { OnErr result (self.new ≡ self.old) }
     {
         let key = Vec::from_slice(self.alloc, name)?;
         Ok(self.names.insert(key)?)
     }
 
-    /// Puts names at the end in their order, but for those that are there.
+    /// Puts names at the end in their order, but for those that are there. An error is want of memory, and the names are
+    /// then as before.
     pub fn put_all(&mut self, names: &[Name<'_>]) -> Result<(), AllocError>
-        ensures { OnOk result (self.new ≡ with_names self.old names.now) }
+        ensures ok { OnOk result (self.new ≡ with_names self.old names.now) }
+        ensures err { OnErr result (self.new ≡ self.old) }
+    {
+        let len = self.len();
+        let done = self.put_some(names);
+        if done.is_err() {
+            self.truncate(len);
+        }
+        done
+    }
+
+    /// Puts names at the end in their order, but for those that are there. After an error some of them are put.
+    fn put_some(&mut self, names: &[Name<'_>]) -> Result<(), AllocError>
+        ensures ok { OnOk result (self.new ≡ with_names self.old names.now) }
+        ensures err { OnErr result (BeginsWith self.new self.old) }
     {
         for name in names {
             self.put(name.text().bytes())?;
@@ -84,6 +101,13 @@ pub fn has_repeat(alloc: Global, names: &[Name<'_>]) -> Result<bool, AllocError>
     ensures { IfOk result (λ found. found ≡ has_repeat names.now) }
 {
     let mut seen = Names::new(alloc);
+    repeats_after(&mut seen, names)
+}
+
+/// Whether a name of a list is among those that were seen or stands earlier in the list.
+fn repeats_after(seen: &mut Names, names: &[Name<'_>]) -> Result<bool, AllocError>
+    ensures { IfOk result (λ found. found ≡ repeats_after seen.old names.now) }
+{
     for name in names {
         if !seen.put(name.text().bytes())? {
             return Ok(true);

@@ -1,6 +1,8 @@
 //! The procedures of a program, found by their names.
 
-ghost use Rattle.std.specs.Prelude.{◌≡◌, IfOk, option_map};
+ghost use Rattle.std.specs.Prelude.{◌≡◌, List, ◌∷◌, IfOk, OnOk, OnErr, option_map};
+ghost use Rattle.setl_tree.specs.declared.tree.Proc.{Proc as TreeProc};
+ghost use Rattle.setl_names.specs.Tables.{Finds};
 ghost use Rattle.setl_names.specs.Procedures as spec;
 
 use indexmap::IndexMap;
@@ -31,6 +33,21 @@ impl<'t> Model for Procs<'t> {
     ghost invariant = { λ p. Finds p.params (λ r. r.now) p.procs.now };
 }
 
+/// Puts the parameters of a procedure into a table, at its name, in place of what is there. An error is want of memory,
+/// and the table is then as before.
+fn put_params<'t>(
+    alloc: Global,
+    table: &mut IndexMap<Vec<u8>, &'t Items<Param>>,
+    proc: &'t Proc,
+) -> Result<(), AllocError>
+    ensures ok { OnOk result ((procs : List TreeProc) → Finds table.old (λ r. r.now) procs → Finds table.new (λ r. r.now) (proc.now ∷ procs)) }
+    ensures err { OnErr result (table.new.entries ≡ table.old.entries) }
+{
+    let name = Vec::from_slice(alloc, proc.name.bytes())?;
+    table.insert(name, &proc.params)?;
+    Ok(())
+}
+
 impl<'t> Procs<'t> {
     /// The table of some procedures. Of two of one name the first counts.
     #[tactic(auto, using(crate::proofs::Tables::finds_none))]
@@ -41,9 +58,7 @@ impl<'t> Procs<'t> {
         let mut at = procs.len();
         while at > 0 {
             at -= 1;
-            let proc = &procs[at];
-            let name = Vec::from_slice(alloc, proc.name.bytes())?;
-            params.insert(name, &proc.params)?;
+            put_params(alloc, &mut params, &procs[at])?;
         }
         Ok(Procs { procs, params })
     }

@@ -1,18 +1,20 @@
 //! Name resolution of a program.
 
-ghost use Rattle.std.specs.Prelude.{◌≡◌, map, IfOk, OnOk};
-ghost use Rattle.setl_names.specs.Bodies.{proc_body};
+ghost use Rattle.std.specs.Prelude.{◌≡◌, ◌∷◌, map, IfOk, OnOk, OnErr};
+ghost use Rattle.setl_names.specs.Bodies.{main_body, proc_body, bodies, occurrences};
 ghost use Rattle.setl_names.specs.Resolves.{Resolves};
-ghost use Rattle.setl_names.specs.Found.{body_of, with_body, with_bodies, whole_program};
+ghost use Rattle.setl_names.specs.Found.{body_of, with_occurrences, with_body, with_bodies, heads_found, whole_program};
 
 use crate::around::Around;
-use crate::bodies::{BodyNames, copied, copied_params, names_of_params, names_of_vars, slots};
+use crate::bodies::{BodyNames, body_names, names_of_vars};
 use crate::broken::{Break, RuleFault};
 use crate::head::head_break;
 use crate::names::Names;
+use crate::occurrence::Occurrence;
 use crate::procs::Procs;
 use crate::rules::body_break;
 use crate::statements::stmts;
+use crate::walk::Walk;
 use setl_tree::{Items, Param, Proc, Stmt, Text, Tree};
 use std::alloc::{AllocError, Global};
 
@@ -32,7 +34,43 @@ struct BodyParts<'t> {
     in_procedure: bool,
 }
 
-/// Resolves a body.
+/// What stands in the statements of a body. An error is want of memory.
+fn occurrences_of<'t>(
+    alloc: Global,
+    body: BodyParts<'t>,
+) -> Result<Items<Occurrence<'t>>, AllocError>
+    ensures { IfOk result (λ us. us ≡ occurrences (body_of body.entry.name.now body.entry.params.now body.entry.statements.now body.entry.in_procedure)) }
+{
+    let around = Around {
+        in_loop: false,
+        in_procedure: body.in_procedure,
+    };
+    let mut walk = Walk::new(alloc);
+    stmts(body.statements, around, &mut walk)?;
+    Ok(walk.found)
+}
+
+/// Adds the first break and the names of a body, in whose statements this stands. An error is want of memory, and
+/// nothing is changed then.
+fn note_body(
+    alloc: Global,
+    procs: &Procs<'_>,
+    vars: &Names,
+    body: BodyParts<'_>,
+    occurrences: &[Occurrence<'_>],
+    found: &mut Found,
+) -> Result<(), AllocError>
+    ensures ok { OnOk result (found.new ≡ with_occurrences procs.now vars.now body.entry.name.now body.entry.params.now occurrences.now found.old) }
+    ensures err { OnErr result (found.new ≡ found.old) }
+{
+    let first = body_break(alloc, found.first, procs, occurrences)?;
+    let names = body_names(alloc, procs, vars, body.name, body.params, occurrences)?;
+    found.names.push(names)?;
+    found.first = first;
+    Ok(())
+}
+
+/// Resolves a body. An error is want of memory, and nothing is changed then.
 fn resolve_body(
     alloc: Global,
     procs: &Procs<'_>,
@@ -40,26 +78,11 @@ fn resolve_body(
     body: BodyParts<'_>,
     found: &mut Found,
 ) -> Result<(), AllocError>
-    ensures { OnOk result (found.new ≡ with_body procs.now vars.now (body_of body.entry.name.now body.entry.params.now body.entry.statements.now body.entry.in_procedure) found.old) }
+    ensures ok { OnOk result (found.new ≡ with_body procs.now vars.now (body_of body.entry.name.now body.entry.params.now body.entry.statements.now body.entry.in_procedure) found.old) }
+    ensures err { OnErr result (found.new ≡ found.old) }
 {
-    let around = Around {
-        in_loop: false,
-        in_procedure: body.in_procedure,
-    };
-    let mut occurrences = Items::new(alloc);
-    stmts(body.statements, around, alloc, &mut occurrences)?;
-    let first = body_break(alloc, found.first, procs, occurrences.as_slice())?;
-    let params = names_of_params(alloc, body.params)?;
-    let slots = slots(alloc, procs, vars, &params, occurrences.as_slice())?;
-    let name = copied(alloc, body.name)?;
-    let params = copied_params(alloc, body.params)?;
-    found.names.push(BodyNames {
-        name,
-        params,
-        slots,
-    })?;
-    found.first = first;
-    Ok(())
+    let occurrences = occurrences_of(alloc, body)?;
+    note_body(alloc, procs, vars, body, occurrences.as_slice(), found)
 }
 
 /// Resolves the procedures.
@@ -84,25 +107,60 @@ fn resolve_procs(
     Ok(())
 }
 
-/// What resolving finds in a program.
-fn resolve_all(alloc: Global, tree: &Tree) -> Result<Found, AllocError>
-    ensures { IfOk result (λ found. found ≡ whole_program tree.now) }
+/// Resolves the main program and the procedures.
+fn resolve_bodies(
+    alloc: Global,
+    tree: &Tree,
+    table: &Procs<'_>,
+    vars: &Names,
+    found: &mut Found,
+) -> Result<(), AllocError>
+    ensures { OnOk result (found.new ≡ with_bodies table.now vars.now (main_body tree.now ∷ map proc_body tree.now.procs) found.old) }
 {
-    let table = Procs::new(alloc, tree.procs.as_slice())?;
-    let vars = names_of_vars(alloc, tree.vars.as_slice())?;
-    let mut found = Found {
-        first: head_break(alloc, tree, &table)?,
-        names: Items::new(alloc),
-    };
     let body = BodyParts {
         name: &tree.name,
         params: &[],
         statements: tree.body.as_slice(),
         in_procedure: false,
     };
-    resolve_body(alloc, &table, &vars, body, &mut found)?;
-    resolve_procs(alloc, &table, &vars, tree.procs.as_slice(), &mut found)?;
+    resolve_body(alloc, table, vars, body, found)?;
+    resolve_procs(alloc, table, vars, tree.procs.as_slice(), found)
+}
+
+/// What resolving finds in a program with these procedures and these names in `var`.
+fn resolve_within(
+    alloc: Global,
+    tree: &Tree,
+    table: &Procs<'_>,
+    vars: &Names,
+) -> Result<Found, AllocError>
+    requires { table.now ≡ tree.now.procs }
+    ensures { IfOk result (λ found. found ≡ with_bodies table.now vars.now (bodies tree.now) (heads_found tree.now)) }
+{
+    let first = head_break(alloc, tree, table)?;
+    let mut found = Found {
+        first,
+        names: Items::new(alloc),
+    };
+    resolve_bodies(alloc, tree, table, vars, &mut found)?;
     Ok(found)
+}
+
+/// What resolving finds in a program with these procedures.
+fn resolve_with(alloc: Global, tree: &Tree, table: &Procs<'_>) -> Result<Found, AllocError>
+    requires { table.now ≡ tree.now.procs }
+    ensures { IfOk result (λ found. found ≡ whole_program tree.now) }
+{
+    let vars = names_of_vars(alloc, tree.vars.as_slice())?;
+    resolve_within(alloc, tree, table, &vars)
+}
+
+/// What resolving finds in a program.
+fn resolve_all(alloc: Global, tree: &Tree) -> Result<Found, AllocError>
+    ensures { IfOk result (λ found. found ≡ whole_program tree.now) }
+{
+    let table = Procs::new(alloc, tree.procs.as_slice())?;
+    resolve_with(alloc, tree, &table)
 }
 
 /// Resolves the names of a program.

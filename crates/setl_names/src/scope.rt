@@ -1,6 +1,6 @@
 //! What the formers around a place bind.
 
-ghost use Rattle.std.specs.Prelude.{◌≡◌, length, take, OnOk, IfOk};
+ghost use Rattle.std.specs.Prelude.{◌≡◌, length, take, OnOk, OnErr, IfOk};
 ghost use Rattle.setl_names.specs.Names.{with_names};
 ghost use Rattle.setl_names.specs.Scopes.{no_scope, mark_of, back_to};
 
@@ -33,11 +33,13 @@ impl Scope {
         }
     }
 
-    /// Enters a former that binds these names. It gives how many names there were before.
+    /// Enters a former that binds these names. It gives how many names there were before. An error is want of memory,
+    /// and nothing is changed then.
     pub fn enter(&mut self, names: &[Name<'_>]) -> Result<Mark, AllocError>
         ensures mark { IfOk result (λ mark. mark ≡ mark_of self.old) }
         ensures own { OnOk result (self.new.own ≡ self.old.own) }
         ensures inside { OnOk result (self.new.inside ≡ with_names self.old.inside names.now) }
+        ensures err { OnErr result (self.new ≡ self.old) }
     {
         let mark = Mark {
             own: self.own.len(),

@@ -2,90 +2,74 @@
 
 ghost use Rattle.std.specs.Prelude.{◌≡◌, ◌++◌, map, OnOk};
 ghost use Rattle.setl_names.specs.Occurrences as spec;
-ghost use Rattle.setl_names.specs.Occurrences.{part, turn, standing_in};
+ghost use Rattle.setl_names.specs.Occurrences.{turn, standing_in};
 ghost use Rattle.setl_names.specs.Statements as told;
-ghost use Rattle.setl_names.specs.Places.{in_statement};
+ghost use Rattle.setl_names.specs.Walks.{here, after};
 
-use crate::bound::{add_slots, bind, bound_name, bound_names, named, turn_names};
-use crate::expressions::{apply, expr, exprs, selectors, variable_turns};
+use crate::bound::{add_slots, bound_name, bound_names, named};
+use crate::expressions::{applied, expr, ordinary_turns, selectors};
 use crate::name::Name;
-use crate::occurrence::{Occurrence, What};
-use crate::scope::Scope;
+use crate::occurrence::What;
+use crate::walk::Walk;
 use setl_tree::{Expr, Items, Iter, Place, Slot, Text};
-use std::alloc::{AllocError, Global};
-
-/// What stands in an expression of a statement.
-pub fn expression<'t>(
-    x: &'t Expr,
-    line: u32,
-    alloc: Global,
-    found: &mut Items<Occurrence<'t>>,
-) -> Result<(), AllocError>
-    ensures { OnOk result (found.new ≡ found.old ++ standing_in x.now (in_statement line)) }
-{
-    let mut scope = Scope::new(alloc);
-    expr(x, line, alloc, &mut scope, found)
-}
+use std::alloc::AllocError;
 
 /// What stands in an expression of a statement, if there is one.
 pub fn optional_expression<'t>(
     x: &'t Option<Expr>,
     line: u32,
-    alloc: Global,
-    found: &mut Items<Occurrence<'t>>,
+    walk: &mut Walk<'t>,
 ) -> Result<(), AllocError>
-    ensures { OnOk result (found.new ≡ found.old ++ told.optional_expression x.now (in_statement line)) }
+    ensures { OnOk result (walk.new ≡ after (told.optional_expression x.now (here line walk.old)) walk.old) }
 {
     match x {
         None => Ok(()),
-        Some(x) => expression(x, line, alloc, found),
+        Some(x) => expr(x, line, walk),
     }
 }
 
-/// What stands in expressions of a statement.
-pub fn expressions<'t>(
-    xs: &'t [Expr],
-    line: u32,
-    alloc: Global,
-    found: &mut Items<Occurrence<'t>>,
-) -> Result<(), AllocError>
-    ensures { OnOk result (found.new ≡ found.old ++ told.expressions xs.now (in_statement line)) }
+/// What stands in a place that is stored to.
+pub fn target<'t>(x: &'t Place, line: u32, walk: &mut Walk<'t>) -> Result<(), AllocError>
+    ensures { OnOk result (walk.new ≡ after (told.target x.now (here line walk.old)) walk.old) }
 {
-    let mut scope = Scope::new(alloc);
-    exprs(xs, line, alloc, &mut scope, found)
+    named(&x.name, line, walk)?;
+    selectors(x.selectors.as_slice(), line, walk)
 }
 
-/// What stands in a place that is stored to.
-pub fn target<'t>(
+/// What stands in an assignment, with an operator or without one.
+pub fn assign<'t>(
     x: &'t Place,
+    value: &'t Expr,
     line: u32,
-    alloc: Global,
-    found: &mut Items<Occurrence<'t>>,
+    walk: &mut Walk<'t>,
 ) -> Result<(), AllocError>
-    ensures { OnOk result (found.new ≡ found.old ++ told.target x.now (in_statement line)) }
+    ensures { OnOk result (walk.new ≡ after (told.target x.now (here line walk.old) ++ standing_in value.now (here line walk.old)) walk.old) }
 {
-    let mut scope = Scope::new(alloc);
-    named(&x.name, line, &scope, found)?;
-    selectors(x.selectors.as_slice(), line, alloc, &mut scope, found)
+    target(x, line, walk)?;
+    expr(value, line, walk)
 }
 
 /// What stands in a tuple target.
-pub fn tuple_target<'t>(
-    slots: &'t [Slot],
-    line: u32,
-    alloc: Global,
-    found: &mut Items<Occurrence<'t>>,
-) -> Result<(), AllocError>
-    ensures { OnOk result (found.new ≡ found.old ++ told.tuple_target slots.now (in_statement line)) }
+pub fn tuple_target<'t>(slots: &'t [Slot], line: u32, walk: &mut Walk<'t>) -> Result<(), AllocError>
+    ensures { OnOk result (walk.new ≡ after (told.tuple_target slots.now (here line walk.old)) walk.old) }
 {
-    let mut names = Items::new(alloc);
+    let mut names = Items::new(walk.alloc);
     add_slots(&mut names, slots)?;
-    let scope = Scope::new(alloc);
-    bound_names(names.as_slice(), false, line, &scope, found)?;
-    found.push(Occurrence {
-        line,
-        what: What::Target(names),
-    })
+    bound_names(names.as_slice(), false, line, walk)?;
+    walk.note(line, What::Target(names))
+}
+
+/// What stands in an assignment to a tuple target.
+pub fn tuple_assign<'t>(
+    slots: &'t [Slot],
+    value: &'t Expr,
+    line: u32,
+    walk: &mut Walk<'t>,
+) -> Result<(), AllocError>
+    ensures { OnOk result (walk.new ≡ after (told.tuple_target slots.now (here line walk.old) ++ standing_in value.now (here line walk.old)) walk.old) }
+{
+    tuple_target(slots, line, walk)?;
+    expr(value, line, walk)
 }
 
 /// What stands in `name from place` and the like.
@@ -93,14 +77,12 @@ pub fn take<'t>(
     name: &'t Text,
     x: &'t Place,
     line: u32,
-    alloc: Global,
-    found: &mut Items<Occurrence<'t>>,
+    walk: &mut Walk<'t>,
 ) -> Result<(), AllocError>
-    ensures { OnOk result (found.new ≡ found.old ++ (spec.named name.now (in_statement line) ++ told.target x.now (in_statement line))) }
+    ensures { OnOk result (walk.new ≡ after (spec.named name.now (here line walk.old) ++ told.target x.now (here line walk.old)) walk.old) }
 {
-    let scope = Scope::new(alloc);
-    named(name, line, &scope, found)?;
-    target(x, line, alloc, found)
+    named(name, line, walk)?;
+    target(x, line, walk)
 }
 
 /// What stands in a call statement.
@@ -108,46 +90,33 @@ pub fn call<'t>(
     name: &'t Text,
     xs: &'t [Expr],
     line: u32,
-    alloc: Global,
-    found: &mut Items<Occurrence<'t>>,
+    walk: &mut Walk<'t>,
 ) -> Result<(), AllocError>
-    ensures { OnOk result (found.new ≡ found.old ++ told.call name.now xs.now (in_statement line)) }
+    ensures { OnOk result (walk.new ≡ after (told.call name.now xs.now (here line walk.old)) walk.old) }
 {
-    let mut scope = Scope::new(alloc);
-    found.push(Occurrence {
-        line,
-        what: What::CallStatement(Name::new(name)),
-    })?;
-    apply(alloc, name, xs, line, &scope, found)?;
-    exprs(xs, line, alloc, &mut scope, found)
+    walk.note(line, What::CallStatement(Name::new(name)))?;
+    applied(name, xs, line, walk)
 }
 
-/// What stands in the iterators of a loop.
-pub fn ordinary_turns<'t>(
+/// What stands in the iterators of a loop, and in its condition.
+pub fn loop_head<'t>(
     turns: &'t [Iter],
+    condition: &'t Option<Expr>,
     line: u32,
-    alloc: Global,
-    found: &mut Items<Occurrence<'t>>,
+    walk: &mut Walk<'t>,
 ) -> Result<(), AllocError>
-    ensures { OnOk result (found.new ≡ found.old ++ spec.ordinary_turns (map turn turns.now) (in_statement line)) }
+    ensures { OnOk result (walk.new ≡ after (spec.ordinary_turns (map turn turns.now) (here line walk.old) ++ told.optional_expression condition.now (here line walk.old)) walk.old) }
 {
-    let mut scope = Scope::new(alloc);
-    variable_turns(turns, line, alloc, &mut scope, found)?;
-    bind(turn_names(alloc, turns)?, line, found)
+    ordinary_turns(turns, line, walk)?;
+    optional_expression(condition, line, walk)
 }
 
 /// Notes the names of a `read`.
-pub fn texts<'t>(
-    names: &'t [Text],
-    line: u32,
-    alloc: Global,
-    found: &mut Items<Occurrence<'t>>,
-) -> Result<(), AllocError>
-    ensures { OnOk result (found.new ≡ found.old ++ spec.all_named names.now (in_statement line)) }
+pub fn texts<'t>(names: &'t [Text], line: u32, walk: &mut Walk<'t>) -> Result<(), AllocError>
+    ensures { OnOk result (walk.new ≡ after (spec.all_named names.now (here line walk.old)) walk.old) }
 {
-    let scope = Scope::new(alloc);
     for name in names {
-        bound_name(name, false, line, &scope, found)?;
+        bound_name(name, false, line, walk)?;
     }
     Ok(())
 }

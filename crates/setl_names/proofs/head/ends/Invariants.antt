@@ -1,5 +1,4 @@
-use Rattle.std.proofs.Common.{◌≡◌, [], drop, fold}
-use Rattle.setl_names.specs.Breaks as spec
+use Rattle.std.proofs.Common.{◌≡◌, drop, fold}
 use Rattle.setl_names.specs.Breaks.{earlier, tagged}
 use Rattle.setl_names.specs.Heads as heads
 use Rattle.setl_names.proofs.head.ends.Given as goal

@@ -1,7 +1,6 @@
-use Rattle.std.proofs.Common.{◌≡◌, [], drop, fold}
+use Rattle.std.proofs.Common.{◌≡◌, drop, fold}
 use Rattle.setl_names.specs.Breaks as spec
 use Rattle.setl_names.specs.Breaks.{earlier, tagged}
-use Rattle.setl_names.specs.Heads as heads
 use Rattle.setl_names.proofs.rules.body_break.Given as goal
 
 abbrev pub invariant-loop-occurrence : goal.invariant-loop-occurrence

@@ -1,4 +1,4 @@
-use Rattle.std.proofs.Common.{ℕ, List, map, take, ◌∙◌, ap}
+use Rattle.std.proofs.Common.{map, take, ◌∙◌, ap}
 use Rattle.setl_names.proofs.NameLists.{items_of, taken}
 use Rattle.setl_names.proofs.names.Names.truncate.Goals as goal
 

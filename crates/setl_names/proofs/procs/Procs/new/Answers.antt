@@ -1,5 +1,7 @@
-use Rattle.std.proofs.Common.{◌≡◌, ◌<◌, ◌+◌, ◌-◌, ◌∙◌, refl, arith, length}
-use Rattle.setl_names.proofs.Tables.{finds_next}
+use Rattle.std.proofs.Common.{◌≡◌, ◌<◌, ◌+◌, ◌-◌, sym, subst, arith, length, drop, List}
+use Rattle.setl_tree.specs.declared.tree.Proc.{Proc}
+use Rattle.setl_names.specs.Tables.{Finds}
+use Rattle.setl_names.proofs.Tables.{one_before}
 use Rattle.setl_names.proofs.procs.Procs.new.Goals as goal
 
 pub loop-at-preserved : goal.loop-at-preserved
@@ -10,6 +12,6 @@ loop-at-preserved c =
     let below : c.loop-at.at - 1 < length c.args.procs.now = omega arith in
     record {
       within = omega arith;
-      finds = finds_next c.loop-at.params c.insert.new.self (λ r. r.now) c.args.procs.now c.loop-at.at (c.loop-at.at - 1) c.index-procs-at.result c.in_ok-name.name _ up below c.index-procs-at.is
-          (c.in_ok-name.ensures.items ∙ c.bytes.ensures.value) refl c.in_ok-insert.ensures.entries c.loop-at.invariant.finds;
+      finds = subst (λ (ps : List Proc). Finds c.put_params.new.table (λ r. r.now) ps) (sym (one_before c.args.procs.now c.loop-at.at (c.loop-at.at - 1) c.index-procs-at.result up below c.index-procs-at.is))
+          (c.in_ok-put_params.ensures.ok (drop c.loop-at.at c.args.procs.now) c.loop-at.invariant.finds);
     }

@@ -1,4 +1,4 @@
-use Rattle.std.proofs.Common.{◌≡◌, ◌≤◌, ℕ, List, drop, length}
+use Rattle.std.proofs.Common.{◌≤◌, drop, length}
 use Rattle.setl_names.specs.Tables.{Finds}
 use Rattle.setl_names.proofs.procs.Procs.new.Given as goal
 
