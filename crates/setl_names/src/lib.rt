@@ -19,8 +19,6 @@ mod rules;
 mod scope;
 mod simple;
 mod statements;
-#[cfg(test)]
-mod tests;
 
 pub use bodies::BodyNames;
 pub use broken::RuleFault;

@@ -6,8 +6,6 @@ mod modes;
 mod nested;
 mod programs;
 mod statements;
-#[cfg(test)]
-mod tests;
 
 ghost use Rattle.std.specs.Prelude.{◌≡◌, ◌≢◌, IfOk, IfErr, MatchResult, Err};
 ghost use Rattle.setl_tree.specs.Programs as grammar;

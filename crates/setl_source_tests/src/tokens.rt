@@ -1,6 +1,6 @@
-//! What no clause says: that calls succeed, what faults read as, and sources with their tokens known from outside.
+//! Sources and their tokens, and what the lexer's faults read as.
 
-use super::{LexFault, tokens};
+use setl_token::{LexFault, tokens};
 use std::alloc::Global;
 use std::fmt::Write;
 use std::test::Fail;

@@ -1,6 +1,6 @@
 //! Texts and lists, called once each.
 
-use crate::{Boxed, Items, Text};
+use setl_tree::{Boxed, Items, Text};
 use std::test::Fail;
 
 #[test]
