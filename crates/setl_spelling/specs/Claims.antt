@@ -4,9 +4,9 @@ use Rattle.setl_tree.specs.declared.tree.Tree.{Tree}
 use Rattle.setl_tree.specs.Tokens.{Tokens}
 use Rattle.setl_tree.specs.Programs.{Derives}
 use Rattle.setl_tree.specs.Canonical.{canonical}
-use Rattle.setl_grammar.specs.Claims.{IsTooDeep}
-use Rattle.setl_grammar.specs.Reading.{Outcome}
-use Rattle.setl_grammar.specs.ReadPrograms as reading
+use Rattle.setl_reading.specs.Claims.{IsTooDeep}
+use Rattle.setl_reading.specs.Reading.{Outcome}
+use Rattle.setl_reading.specs.ReadPrograms as reading
 use Rattle.setl_token.specs.Lex.{Spelled}
 use Rattle.setl_token.specs.Text.{Lexed}
 use Rattle.setl_show.specs.Text.{text_of}
