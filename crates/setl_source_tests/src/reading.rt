@@ -2,6 +2,7 @@
 
 use setl_parse::{ParseFault, parse};
 use setl_show::show;
+use setl_spelling::parse_shown;
 use setl_token::tokens;
 use setl_tree::Tree;
 use std::alloc::{AllocError, Global};
@@ -41,5 +42,19 @@ pub fn shown(alloc: Global, source: &[u8]) -> Result<Vec<u8>, AllocError> {
     match read(alloc, source) {
         Some(Ok(tree)) => show(alloc, &tree),
         _ => Ok(Vec::new(alloc)),
+    }
+}
+
+/// The canonical text of the program of a short canonical text; empty where it is none.
+pub fn shown_again(alloc: Global, text: &[u8]) -> Result<Vec<u8>, AllocError> {
+    if text.len() > 10000 {
+        return Ok(Vec::new(alloc));
+    }
+    let Ok(list) = tokens(alloc, text) else {
+        return Ok(Vec::new(alloc));
+    };
+    match parse_shown(alloc, &list) {
+        Ok(tree) => show(alloc, &tree),
+        Err(_) => Ok(Vec::new(alloc)),
     }
 }
