@@ -1,8 +1,8 @@
 -- Where no nesting may open.
 use Rattle.std.proofs.Common.{◌≡◌, length, Err, refl}
 use Rattle.setl_tree.specs.Tokens.{Tokens}
-use Rattle.setl_grammar.specs.declared.fault.Fault.TheVariants.{Syntax}
-use Rattle.setl_grammar.specs.ReadExpressions.{nested}
+use Rattle.setl_reading.specs.declared.fault.Fault.TheVariants.{Syntax}
+use Rattle.setl_reading.specs.ReadExpressions.{nested}
 use Rattle.setl_expressions.specs.declared.grammar.Part.{Part}
 use Rattle.setl_expressions.specs.declared.grammar.Part.TheVariants as part
 use Rattle.setl_expressions.specs.Nests.{reader_of}

@@ -5,3 +5,4 @@ pub mod Clean
 pub mod Slots
 pub mod Turns
 pub mod Deeper
+pub mod Onto

@@ -3,9 +3,9 @@ use Rattle.std.specs.Prelude.{ℕ, Result}
 use Rattle.std.specs.Borrow.{MutBor}
 use Rattle.setl_tree.specs.declared.expr.Expr.{Expr}
 use Rattle.setl_tree.specs.Tokens.{Tokens}
-use Rattle.setl_grammar.specs.declared.fault.Fault.{Fault}
-use Rattle.setl_grammar.specs.Reading.{Reader, Reads}
-use Rattle.setl_grammar.specs.ReadExpressions.{Inside, nested}
+use Rattle.setl_reading.specs.declared.fault.Fault.{Fault}
+use Rattle.setl_reading.specs.Reading.{Reader, Reads}
+use Rattle.setl_reading.specs.ReadExpressions.{Inside, nested}
 use Rattle.setl_expressions.specs.declared.grammar.Part.{Part}
 use Rattle.setl_expressions.specs.declared.grammar.Part.TheVariants as part
 

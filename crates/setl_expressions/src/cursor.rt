@@ -2,13 +2,13 @@
 
 ghost use Rattle.std.specs.Prelude.{◌≡◌, ◌<◌, IfOk, IfErr, Ok, Err, drop, length};
 ghost use Rattle.setl_tree.specs.Lang.{line_of};
-ghost use Rattle.setl_grammar.specs.Reading as spec;
-ghost use Rattle.setl_grammar.specs.Reading.{Reads};
+ghost use Rattle.setl_reading.specs.Reading as spec;
+ghost use Rattle.setl_reading.specs.Reading.{Reads};
 ghost use Rattle.setl_expressions.specs.Plain.{plain_tokens, next_token};
 
 use crate::content::content;
 use crate::spelling::spelled_kind;
-use setl_grammar::Fault;
+use setl_reading::Fault;
 use setl_token::{TokenKind, TokenList};
 use setl_tree::{Kind, Text};
 use std::alloc::{AllocError, Global};
@@ -26,7 +26,7 @@ pub struct Cursor<'a> {
 impl<'a> Model for Cursor<'a> {
     ghost use Rattle.std.specs.Prelude.{◌≡◌, ◌≤◌, drop, length};
     ghost use Rattle.setl_tree.specs.Tokens.{Tokens};
-    ghost use Rattle.setl_grammar.specs.Reading.{next_kind};
+    ghost use Rattle.setl_reading.specs.Reading.{next_kind};
     ghost use Rattle.setl_expressions.specs.Plain.{plain_tokens};
 
     ghost Value = { Tokens };
@@ -191,7 +191,7 @@ impl<'a> Cursor<'a> {
     }
 
     /// Reads a name, in lower case.
-    #[tactic(auto, unfolding(setl_grammar::specs::Reading::name))]
+    #[tactic(auto, unfolding(setl_reading::specs::Reading::name))]
     pub fn name(&mut self) -> Result<Text, Fault>
         ensures { Reads (spec.name self.old) result self.new }
     {

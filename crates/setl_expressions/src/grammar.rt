@@ -2,14 +2,14 @@
 
 ghost use Rattle.std.specs.Prelude.{◌≡◌};
 ghost use Rattle.setl_tree.specs.declared.kind.Kind.TheVariants as k;
-ghost use Rattle.setl_grammar.specs.Reading.{Reads};
-ghost use Rattle.setl_grammar.specs.ReadExpressions.{nested};
+ghost use Rattle.setl_reading.specs.Reading.{Reads};
+ghost use Rattle.setl_reading.specs.ReadExpressions.{nested};
 ghost use Rattle.setl_expressions.specs.Behind as behind;
 ghost use Rattle.setl_expressions.specs.Nests.{Nests};
 
 use crate::cursor::Cursor;
 use crate::rule::followed;
-use setl_grammar::Fault;
+use setl_reading::Fault;
 use setl_tree::{Boxed, Expr, Kind};
 
 /// What is read one nesting deeper.

@@ -1,23 +1,21 @@
 //! What stands inside braces and brackets.
 
-ghost use Rattle.std.specs.Prelude.{◌≡◌, ◌-◌, ◌∷◌, [], IfOk};
-ghost use Rattle.setl_grammar.specs.Reading.{Reads};
-ghost use Rattle.setl_grammar.specs.ReadExpressions as spec;
-ghost use Rattle.setl_grammar.specs.ReadExpressions.{nested};
+ghost use Rattle.std.specs.Prelude.{◌≡◌, ◌-◌, IfOk, IfErr};
+ghost use Rattle.setl_reading.specs.Reading.{Reads};
+ghost use Rattle.setl_reading.specs.ReadExpressions as spec;
+ghost use Rattle.setl_reading.specs.ReadExpressions.{nested};
 ghost use Rattle.setl_expressions.specs.Behind as behind;
 ghost use Rattle.setl_expressions.specs.Nests.{Nests};
-ghost use Rattle.setl_grammar.specs.Scan.{bound_expr};
+ghost use Rattle.setl_reading.specs.Scan.{bound_expr};
 
 use crate::ahead::{ahead, bound_as_expr};
 use crate::cursor::{Cursor, same_kind};
 use crate::grammar::{Grammar, Part};
 use crate::iterators::bound;
-use crate::rule::{
-    Repeated, Rule, boxed_second, followed, optional, with_first, with_more, with_two,
-};
-use setl_grammar::{Ahead, Fault};
+use crate::rule::{Repeated, Rule, boxed_second, followed, more_onto, one, two, with_optional};
+use setl_reading::{Ahead, Fault};
 use setl_tree::{Bound, Boxed, Expr, Inner, Items, Iter, Kind, Relation};
-use std::alloc::{AllocError, Global};
+use std::alloc::Global;
 
 /// An expression one nesting deeper.
 #[derive(Drop)]
@@ -29,7 +27,7 @@ impl<'g, F: Fn(&mut Cursor<'_>, usize, Part) -> Result<Expr, Fault>> Rule for Ex
     type Out = Expr;
 
     ghost use Rattle.std.specs.Prelude.{◌-◌};
-    ghost use Rattle.setl_grammar.specs.ReadExpressions.{nested};
+    ghost use Rattle.setl_reading.specs.ReadExpressions.{nested};
     ghost use Rattle.setl_expressions.specs.Nests.{Nests};
 
     ghost can_read = { λ s. Nests s.grammar.now.room (F.pre s.grammar.now.inside) (F.post s.grammar.now.inside) };
@@ -51,14 +49,14 @@ impl<'g, F: Fn(&mut Cursor<'_>, usize, Part) -> Result<Expr, Fault>> Rule for Co
     type Out = Boxed<Expr>;
 
     ghost use Rattle.std.specs.Prelude.{◌-◌};
-    ghost use Rattle.setl_grammar.specs.ReadExpressions.{nested, condition};
+    ghost use Rattle.setl_reading.specs.ReadExpressions.{nested, condition};
     ghost use Rattle.setl_expressions.specs.Nests.{Nests};
 
     ghost can_read = { λ s. Nests s.grammar.now.room (F.pre s.grammar.now.inside) (F.post s.grammar.now.inside) };
 
     ghost reader = { λ s. condition (s.grammar.now.room - 1) (nested s.grammar.now.room) };
 
-    #[tactic(auto, unfolding(setl_grammar::specs::ReadExpressions::condition))]
+    #[tactic(auto, unfolding(setl_reading::specs::ReadExpressions::condition))]
     fn read(&self, tokens: &mut Cursor<'_>) -> Result<Boxed<Expr>, Fault> {
         tokens.expect(Kind::Bar)?;
         self.grammar.boxed(tokens)
@@ -68,7 +66,7 @@ impl<'g, F: Fn(&mut Cursor<'_>, usize, Part) -> Result<Expr, Fault>> Rule for Co
 impl<'g, F: Fn(&mut Cursor<'_>, usize, Part) -> Result<Expr, Fault>> Repeated
     for ConditionRule<'g, F> {
     ghost use Rattle.setl_tree.specs.declared.kind.Kind.TheVariants as k;
-    ghost use Rattle.setl_grammar.specs.Reading.{is};
+    ghost use Rattle.setl_reading.specs.Reading.{is};
 
     ghost begins_with = { λ s. is k.Bar };
 
@@ -78,29 +76,24 @@ impl<'g, F: Fn(&mut Cursor<'_>, usize, Part) -> Result<Expr, Fault>> Repeated
 }
 
 /// `first .. last`
-fn range(alloc: Global, first: Expr, last: Boxed<Expr>) -> Result<Inner, AllocError>
-    ensures { IfOk result (λ i. i ≡ Inner.Range first None last) }
+fn range(alloc: Global, first: Expr, last: Boxed<Expr>) -> Result<Inner, Fault>
+    ensures ok { IfOk result (λ i. i ≡ Inner.Range first None last) }
+    ensures err { IfErr result (λ e. e ≡ Fault.Memory) }
 {
     Ok(Inner::Range(Boxed::new(alloc, first)?, None, last))
 }
 
 /// `first, second .. last`
-fn stepped(alloc: Global, between: (Expr, Expr), last: Boxed<Expr>) -> Result<Inner, AllocError>
-    ensures { IfOk result (λ i. i ≡ Inner.Range between.0 (Some between.1) last) }
+fn stepped(alloc: Global, between: (Expr, Expr), last: Boxed<Expr>) -> Result<Inner, Fault>
+    ensures ok { IfOk result (λ i. i ≡ Inner.Range between.0 (Some between.1) last) }
+    ensures err { IfErr result (λ e. e ≡ Fault.Memory) }
 {
     let (first, second) = boxed_second(alloc, between.0, between.1)?;
     Ok(Inner::Range(Boxed::new(alloc, first)?, Some(second), last))
 }
 
-/// One expression alone.
-fn single(alloc: Global, first: Expr) -> Result<Items<Expr>, AllocError>
-    ensures { IfOk result (λ all. all ≡ first ∷ []) }
-{
-    with_first(alloc, first, Items::new(alloc))
-}
-
 /// The closing signs that an empty list may stand before.
-#[tactic(auto, unfolding(setl_grammar::specs::ReadExpressions::closes))]
+#[tactic(auto, unfolding(setl_reading::specs::ReadExpressions::closes))]
 fn closes(kind: Kind) -> bool
     ensures { result ≡ spec.closes kind }
 {
@@ -108,8 +101,9 @@ fn closes(kind: Kind) -> bool
 }
 
 /// What a filter binds, as the expression that has the same tokens, compared by `in`.
-fn membership(alloc: Global, bound: Bound, source: Boxed<Expr>) -> Result<Expr, AllocError>
-    ensures { IfOk result (λ e. e ≡ Expr.Compare (bound_expr bound) Relation.In source) }
+fn membership(alloc: Global, bound: Bound, source: Boxed<Expr>) -> Result<Expr, Fault>
+    ensures ok { IfOk result (λ e. e ≡ Expr.Compare (bound_expr bound) Relation.In source) }
+    ensures err { IfErr result (λ e. e ≡ Fault.Memory) }
 {
     let left = bound_as_expr(alloc, bound)?;
     Ok(Expr::Compare(Boxed::new(alloc, left)?, Relation::In, source))
@@ -122,12 +116,11 @@ impl<F: Fn(&mut Cursor<'_>, usize, Part) -> Result<Expr, Fault>> Grammar<F> {
         ensures { Reads (behind.clauses (self.now.room - 1) (nested self.now.room) tokens.old) result tokens.new }
     {
         let over = self.iters(tokens)?;
-        let condition = optional(&ConditionRule { grammar: self }, tokens)?;
-        Ok((over, condition))
+        with_optional(over, &ConditionRule { grammar: self }, tokens)
     }
 
     /// A former behind `value :`.
-    #[tactic(auto, unfolding(setl_grammar::specs::ReadExpressions::former))]
+    #[tactic(auto, unfolding(setl_reading::specs::ReadExpressions::former))]
     fn former(&self, value: Expr, tokens: &mut Cursor<'_>) -> Result<Inner, Fault>
         requires { Nests self.now.room (F.pre self.now.inside) (F.post self.now.inside) }
         ensures { Reads (spec.former (self.now.room - 1) (nested self.now.room) value tokens.old) result tokens.new }
@@ -137,22 +130,30 @@ impl<F: Fn(&mut Cursor<'_>, usize, Part) -> Result<Expr, Fault>> Grammar<F> {
         Ok(Inner::Former(value, over, condition))
     }
 
+    /// What stands behind `a, b`, where no `..` does.
+    fn two_and_more(&self, a: Expr, b: Expr, tokens: &mut Cursor<'_>) -> Result<Items<Expr>, Fault>
+        requires { Nests self.now.room (F.pre self.now.inside) (F.post self.now.inside) }
+        ensures { Reads (behind.two_and_more a b (nested self.now.room).expr tokens.old) result tokens.new }
+    {
+        let front = two(tokens.alloc(), a, b)?;
+        more_onto(front, &ExprRule { grammar: self }, tokens)
+    }
+
     /// What stands behind `a, b`.
-    #[tactic(auto, unfolding(setl_grammar::specs::ReadExpressions::third))]
+    #[tactic(auto, unfolding(setl_reading::specs::ReadExpressions::third))]
     fn third(&self, a: Expr, b: Expr, tokens: &mut Cursor<'_>) -> Result<Inner, Fault>
         requires { Nests self.now.room (F.pre self.now.inside) (F.post self.now.inside) }
         ensures { Reads (spec.third (self.now.room - 1) (nested self.now.room) a b tokens.old) result tokens.new }
     {
         if same_kind(tokens.kind(), Kind::Dots) {
             let (between, last) = self.boxed_behind((a, b), Kind::Dots, tokens)?;
-            return Ok(stepped(tokens.alloc(), between, last)?);
+            return stepped(tokens.alloc(), between, last);
         }
-        let (front, others) = with_more((a, b), &ExprRule { grammar: self }, tokens)?;
-        Ok(Inner::List(with_two(tokens.alloc(), front.0, front.1, others)?))
+        Ok(Inner::List(self.two_and_more(a, b, tokens)?))
     }
 
     /// What stands behind `a`, where no `:` or `..` does.
-    #[tactic(auto, unfolding(setl_grammar::specs::ReadExpressions::second))]
+    #[tactic(auto, unfolding(setl_reading::specs::ReadExpressions::second))]
     fn second(&self, a: Expr, tokens: &mut Cursor<'_>) -> Result<Inner, Fault>
         requires { Nests self.now.room (F.pre self.now.inside) (F.post self.now.inside) }
         ensures { Reads (spec.second (self.now.room - 1) (nested self.now.room) a tokens.old) result tokens.new }
@@ -161,11 +162,11 @@ impl<F: Fn(&mut Cursor<'_>, usize, Part) -> Result<Expr, Fault>> Grammar<F> {
             let (a, b) = self.expr_behind(a, Kind::Comma, tokens)?;
             return self.third(a, b, tokens);
         }
-        Ok(Inner::List(single(tokens.alloc(), a)?))
+        Ok(Inner::List(one(tokens.alloc(), a)?))
     }
 
     /// What stands behind the first expression, where no `..` does.
-    #[tactic(auto, unfolding(setl_grammar::specs::ReadExpressions::unranged))]
+    #[tactic(auto, unfolding(setl_reading::specs::ReadExpressions::unranged))]
     fn unranged(&self, a: Expr, tokens: &mut Cursor<'_>) -> Result<Inner, Fault>
         requires { Nests self.now.room (F.pre self.now.inside) (F.post self.now.inside) }
         ensures { Reads (spec.unranged (self.now.room - 1) (nested self.now.room) a tokens.old) result tokens.new }
@@ -178,20 +179,20 @@ impl<F: Fn(&mut Cursor<'_>, usize, Part) -> Result<Expr, Fault>> Grammar<F> {
     }
 
     /// What stands behind the first expression.
-    #[tactic(auto, unfolding(setl_grammar::specs::ReadExpressions::rest_of_inner))]
+    #[tactic(auto, unfolding(setl_reading::specs::ReadExpressions::rest_of_inner))]
     fn rest_of_inner(&self, a: Expr, tokens: &mut Cursor<'_>) -> Result<Inner, Fault>
         requires { Nests self.now.room (F.pre self.now.inside) (F.post self.now.inside) }
         ensures { Reads (spec.rest_of_inner (self.now.room - 1) (nested self.now.room) a tokens.old) result tokens.new }
     {
         if same_kind(tokens.kind(), Kind::Dots) {
             let (a, last) = self.boxed_behind(a, Kind::Dots, tokens)?;
-            return Ok(range(tokens.alloc(), a, last)?);
+            return range(tokens.alloc(), a, last);
         }
         self.unranged(a, tokens)
     }
 
     /// An expression in front, or nothing.
-    #[tactic(auto, unfolding(setl_grammar::specs::ReadExpressions::plain))]
+    #[tactic(auto, unfolding(setl_reading::specs::ReadExpressions::plain))]
     fn plain(&self, tokens: &mut Cursor<'_>) -> Result<Inner, Fault>
         requires { Nests self.now.room (F.pre self.now.inside) (F.post self.now.inside) }
         ensures { Reads (spec.plain (self.now.room - 1) (nested self.now.room) tokens.old) result tokens.new }
@@ -204,7 +205,7 @@ impl<F: Fn(&mut Cursor<'_>, usize, Part) -> Result<Expr, Fault>> Grammar<F> {
     }
 
     /// A filter behind `bound in source`.
-    #[tactic(auto, unfolding(setl_grammar::specs::ReadExpressions::filter, setl_grammar::specs::ReadExpressions::condition))]
+    #[tactic(auto, unfolding(setl_reading::specs::ReadExpressions::filter, setl_reading::specs::ReadExpressions::condition))]
     fn filter(
         &self,
         bound: Bound,
@@ -219,7 +220,7 @@ impl<F: Fn(&mut Cursor<'_>, usize, Part) -> Result<Expr, Fault>> Grammar<F> {
     }
 
     /// What stands behind `bound in source`, which may be the left side of an expression.
-    #[tactic(auto, unfolding(setl_grammar::specs::ReadExpressions::filter_or_plain))]
+    #[tactic(auto, unfolding(setl_reading::specs::ReadExpressions::filter_or_plain))]
     fn filter_or_plain(
         &self,
         bound: Bound,
@@ -244,11 +245,11 @@ impl<F: Fn(&mut Cursor<'_>, usize, Part) -> Result<Expr, Fault>> Grammar<F> {
     {
         let bound = bound(self.room.saturating_sub(1), tokens)?;
         let (bound, source) = self.over(bound, tokens)?;
-        Ok(boxed_second(tokens.alloc(), bound, source)?)
+        boxed_second(tokens.alloc(), bound, source)
     }
 
     /// `bound in source`, and what goes on from them, where the bound may be an expression.
-    #[tactic(auto, unfolding(setl_grammar::specs::ReadExpressions::bound_first))]
+    #[tactic(auto, unfolding(setl_reading::specs::ReadExpressions::bound_first))]
     fn either(&self, tokens: &mut Cursor<'_>) -> Result<Inner, Fault>
         requires { Nests self.now.room (F.pre self.now.inside) (F.post self.now.inside) }
         ensures { Reads (spec.bound_first (self.now.room - 1) (nested self.now.room) (spec.filter_or_plain (self.now.room - 1) (nested self.now.room)) tokens.old) result tokens.new }
@@ -258,7 +259,7 @@ impl<F: Fn(&mut Cursor<'_>, usize, Part) -> Result<Expr, Fault>> Grammar<F> {
     }
 
     /// A filter whose bound is no expression.
-    #[tactic(auto, unfolding(setl_grammar::specs::ReadExpressions::bound_first))]
+    #[tactic(auto, unfolding(setl_reading::specs::ReadExpressions::bound_first))]
     fn pattern_filter(&self, tokens: &mut Cursor<'_>) -> Result<Inner, Fault>
         requires { Nests self.now.room (F.pre self.now.inside) (F.post self.now.inside) }
         ensures { Reads (spec.bound_first (self.now.room - 1) (nested self.now.room) (spec.filter (self.now.room - 1) (nested self.now.room)) tokens.old) result tokens.new }
@@ -268,7 +269,7 @@ impl<F: Fn(&mut Cursor<'_>, usize, Part) -> Result<Expr, Fault>> Grammar<F> {
     }
 
     /// What stands inside braces or brackets.
-    #[tactic(auto, unfolding(setl_grammar::specs::ReadExpressions::inner))]
+    #[tactic(auto, unfolding(setl_reading::specs::ReadExpressions::inner))]
     pub fn inner(&self, tokens: &mut Cursor<'_>) -> Result<Inner, Fault>
         requires { Nests self.now.room (F.pre self.now.inside) (F.post self.now.inside) }
         ensures { Reads (spec.inner (self.now.room - 1) (nested self.now.room) tokens.old) result tokens.new }

@@ -1,31 +1,32 @@
 //! What iterators bind, and iterators.
 
 ghost use Rattle.std.specs.Prelude.{◌≡◌, ◌-◌};
-ghost use Rattle.setl_grammar.specs.Reading.{Reads};
-ghost use Rattle.setl_grammar.specs.ReadExpressions as spec;
-ghost use Rattle.setl_grammar.specs.ReadExpressions.{nested};
+ghost use Rattle.setl_reading.specs.Reading.{Reads};
+ghost use Rattle.setl_reading.specs.ReadExpressions as spec;
+ghost use Rattle.setl_reading.specs.ReadExpressions.{nested};
 ghost use Rattle.setl_expressions.specs.Behind as behind;
 ghost use Rattle.setl_expressions.specs.Nests.{Nests};
 
 use crate::cursor::{Cursor, same_kind};
 use crate::grammar::{Grammar, Part};
-use crate::rule::{Rule, followed, separated};
-use setl_grammar::Fault;
+use crate::rule::{Rule, SeparatedRule, enclosed, followed, separated};
+use setl_reading::Fault;
 use setl_tree::{Bound, Expr, Items, Iter, Kind, Slot, Text};
 
 /// A component of a tuple pattern.
+#[derive(Drop)]
 struct SlotRule;
 
 impl Rule for SlotRule {
     type Out = Slot;
 
-    ghost use Rattle.setl_grammar.specs.ReadExpressions.{slot};
+    ghost use Rattle.setl_reading.specs.ReadExpressions.{slot};
 
     ghost can_read = { λ s. Unit {0} };
 
     ghost reader = { λ s. slot };
 
-    #[tactic(auto, unfolding(setl_grammar::specs::ReadExpressions::slot))]
+    #[tactic(auto, unfolding(setl_reading::specs::ReadExpressions::slot))]
     fn read(&self, tokens: &mut Cursor<'_>) -> Result<Slot, Fault> {
         if same_kind(tokens.kind(), Kind::Name) {
             return Ok(Slot::Name(tokens.name()?));
@@ -36,17 +37,16 @@ impl Rule for SlotRule {
 }
 
 /// Reads a tuple pattern: one or more names and `-` in brackets, where so many nestings may still open.
-#[tactic(auto, unfolding(setl_grammar::specs::ReadExpressions::pattern))]
+#[tactic(auto, unfolding(setl_reading::specs::ReadExpressions::pattern))]
 pub fn pattern(room: usize, tokens: &mut Cursor<'_>) -> Result<Items<Slot>, Fault>
     ensures { Reads (spec.pattern room tokens.old) result tokens.new }
 {
-    tokens.open(room, Kind::LeftBracket)?;
-    let slots = separated(&SlotRule, tokens)?;
-    followed(slots, Kind::RightBracket, tokens)
+    let slots = SeparatedRule { item: SlotRule };
+    enclosed(room, Kind::LeftBracket, &slots, Kind::RightBracket, tokens)
 }
 
 /// What an iterator binds.
-#[tactic(auto, unfolding(setl_grammar::specs::ReadExpressions::bound))]
+#[tactic(auto, unfolding(setl_reading::specs::ReadExpressions::bound))]
 pub fn bound(room: usize, tokens: &mut Cursor<'_>) -> Result<Bound, Fault>
     ensures { Reads (spec.bound room tokens.old) result tokens.new }
 {
@@ -66,7 +66,7 @@ fn argument(room: usize, tokens: &mut Cursor<'_>) -> Result<Text, Fault>
 }
 
 /// The map and its argument behind `value =`.
-#[tactic(auto, unfolding(setl_grammar::specs::ReadExpressions::image))]
+#[tactic(auto, unfolding(setl_reading::specs::ReadExpressions::image))]
 fn image(room: usize, value: Text, tokens: &mut Cursor<'_>) -> Result<Iter, Fault>
     ensures { Reads (spec.image room value tokens.old) result tokens.new }
 {
@@ -85,14 +85,14 @@ impl<'g, F: Fn(&mut Cursor<'_>, usize, Part) -> Result<Expr, Fault>> Rule for It
     type Out = Iter;
 
     ghost use Rattle.std.specs.Prelude.{◌-◌};
-    ghost use Rattle.setl_grammar.specs.ReadExpressions.{nested, iter};
+    ghost use Rattle.setl_reading.specs.ReadExpressions.{nested, iter};
     ghost use Rattle.setl_expressions.specs.Nests.{Nests};
 
     ghost can_read = { λ s. Nests s.grammar.now.room (F.pre s.grammar.now.inside) (F.post s.grammar.now.inside) };
 
     ghost reader = { λ s. iter (s.grammar.now.room - 1) (nested s.grammar.now.room).source };
 
-    #[tactic(auto, unfolding(setl_grammar::specs::ReadExpressions::iter))]
+    #[tactic(auto, unfolding(setl_reading::specs::ReadExpressions::iter))]
     fn read(&self, tokens: &mut Cursor<'_>) -> Result<Iter, Fault> {
         if same_kind(tokens.kind(), Kind::Name) {
             let name = tokens.name()?;
@@ -104,7 +104,7 @@ impl<'g, F: Fn(&mut Cursor<'_>, usize, Part) -> Result<Expr, Fault>> Rule for It
 
 impl<F: Fn(&mut Cursor<'_>, usize, Part) -> Result<Expr, Fault>> Grammar<F> {
     /// An iterator behind its name.
-    #[tactic(auto, unfolding(setl_grammar::specs::ReadExpressions::named_iter))]
+    #[tactic(auto, unfolding(setl_reading::specs::ReadExpressions::named_iter))]
     fn named_iter(&self, name: Text, tokens: &mut Cursor<'_>) -> Result<Iter, Fault>
         requires { Nests self.now.room (F.pre self.now.inside) (F.post self.now.inside) }
         ensures { Reads (spec.named_iter (self.now.room - 1) (nested self.now.room).source name tokens.old) result tokens.new }
@@ -118,7 +118,7 @@ impl<F: Fn(&mut Cursor<'_>, usize, Part) -> Result<Expr, Fault>> Grammar<F> {
     }
 
     /// An iterator that binds the components of a pattern.
-    #[tactic(auto, unfolding(setl_grammar::specs::ReadExpressions::pattern_iter))]
+    #[tactic(auto, unfolding(setl_reading::specs::ReadExpressions::pattern_iter))]
     fn pattern_iter(&self, tokens: &mut Cursor<'_>) -> Result<Iter, Fault>
         requires { Nests self.now.room (F.pre self.now.inside) (F.post self.now.inside) }
         ensures { Reads (spec.pattern_iter (self.now.room - 1) (nested self.now.room).source tokens.old) result tokens.new }
@@ -129,7 +129,7 @@ impl<F: Fn(&mut Cursor<'_>, usize, Part) -> Result<Expr, Fault>> Grammar<F> {
     }
 
     /// Iterators one nesting deeper, with commas between.
-    #[tactic(auto, unfolding(setl_grammar::specs::ReadExpressions::iters))]
+    #[tactic(auto, unfolding(setl_reading::specs::ReadExpressions::iters))]
     pub fn iters(&self, tokens: &mut Cursor<'_>) -> Result<Items<Iter>, Fault>
         requires { Nests self.now.room (F.pre self.now.inside) (F.post self.now.inside) }
         ensures { Reads (spec.iters (self.now.room - 1) (nested self.now.room).source tokens.old) result tokens.new }

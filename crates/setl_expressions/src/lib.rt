@@ -1,6 +1,6 @@
 //! Reading expressions from the tokens of a source.
 //!
-//! Each call gives exactly what its reader in `setl_grammar` gives on the tokens that are left: what was read, with the
+//! Each call gives exactly what its reader in `setl_reading` gives on the tokens that are left: what was read, with the
 //! cursor behind it, or a fault. `Fault::Syntax` comes at the first token that doesn't go on, `Fault::Nesting` at one
 //! that goes on and opens a nesting where `room`, the number of nestings that may still open, is 0; each has the number
 //! of tokens left there. `Fault::Memory` comes for want of memory alone. Where the cursor stands after a fault isn't said.
@@ -25,4 +25,7 @@ pub use iterators::pattern;
 pub use laws::string_holds_its_body;
 pub use parse::{Condition, NestedExpr, braces, expr, iters, nested_expr};
 pub use primary::begins_selector;
-pub use rule::{Repeated, Rule, followed, listed, many, more, optional, separated, with_first};
+pub use rule::{
+    ListedRule, Repeated, Rule, SeparatedRule, beside, enclosed, followed, listed, many, many_onto,
+    one, optional, separated, with_many, with_optional,
+};

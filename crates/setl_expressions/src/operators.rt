@@ -1,10 +1,11 @@
 //! Which token stands for which operator, and expressions made of operators and operands.
 
-ghost use Rattle.std.specs.Prelude.{◌≡◌, IfOk};
+ghost use Rattle.std.specs.Prelude.{◌≡◌, IfOk, IfErr};
 ghost use Rattle.setl_tree.specs.Operators as table;
 
+use setl_reading::Fault;
 use setl_tree::{BinaryOp, Boxed, Expr, Fold, Items, Kind, Prefix, Quantifier, Relation, Selector};
-use std::alloc::{AllocError, Global};
+use std::alloc::Global;
 
 /// How tightly a token binds that stands behind an operand; 0 where none does.
 #[tactic(auto, unfolding(setl_tree::specs::Operators::level_of))]
@@ -167,13 +168,10 @@ pub fn constant(kind: Kind) -> Option<Expr>
     }
 }
 
-/// A chain of operators of one level, or its one operand alone.
-pub fn chain_of(
-    alloc: Global,
-    first: Expr,
-    others: Items<(BinaryOp, Expr)>,
-) -> Result<Expr, AllocError>
-    ensures { IfOk result (λ e. e ≡ table.chain_of first others) }
+/// A chain of operators of one level, or its one operand alone. An error is want of memory.
+pub fn chain_of(alloc: Global, first: Expr, others: Items<(BinaryOp, Expr)>) -> Result<Expr, Fault>
+    ensures ok { IfOk result (λ e. e ≡ table.chain_of first others) }
+    ensures err { IfErr result (λ e. e ≡ Fault.Memory) }
 {
     if others.is_empty() {
         return Ok(first);
@@ -181,9 +179,10 @@ pub fn chain_of(
     Ok(Expr::Chain(Boxed::new(alloc, first)?, others))
 }
 
-/// An operand with its prefixes.
-pub fn prefixed(alloc: Global, prefixes: Items<Prefix>, operand: Expr) -> Result<Expr, AllocError>
-    ensures { IfOk result (λ e. e ≡ table.prefixed prefixes operand) }
+/// An operand with its prefixes. An error is want of memory.
+pub fn prefixed(alloc: Global, prefixes: Items<Prefix>, operand: Expr) -> Result<Expr, Fault>
+    ensures ok { IfOk result (λ e. e ≡ table.prefixed prefixes operand) }
+    ensures err { IfErr result (λ e. e ≡ Fault.Memory) }
 {
     if prefixes.is_empty() {
         return Ok(operand);
@@ -191,13 +190,10 @@ pub fn prefixed(alloc: Global, prefixes: Items<Prefix>, operand: Expr) -> Result
     Ok(Expr::Prefixed(prefixes, Boxed::new(alloc, operand)?))
 }
 
-/// A primary expression with its selectors.
-pub fn selected(
-    alloc: Global,
-    primary: Expr,
-    selectors: Items<Selector>,
-) -> Result<Expr, AllocError>
-    ensures { IfOk result (λ e. e ≡ table.selected primary selectors) }
+/// A primary expression with its selectors. An error is want of memory.
+pub fn selected(alloc: Global, primary: Expr, selectors: Items<Selector>) -> Result<Expr, Fault>
+    ensures ok { IfOk result (λ e. e ≡ table.selected primary selectors) }
+    ensures err { IfErr result (λ e. e ≡ Fault.Memory) }
 {
     if selectors.is_empty() {
         return Ok(primary);

@@ -1,13 +1,13 @@
 //! Selectors, primary expressions and whole expressions.
 
-ghost use Rattle.std.specs.Prelude.{◌≡◌, ◌-◌};
+ghost use Rattle.std.specs.Prelude.{◌≡◌, ◌-◌, suc};
 ghost use Rattle.setl_tree.specs.declared.kind.Kind.TheVariants as k;
 ghost use Rattle.setl_tree.specs.Operators.{quantifier};
-ghost use Rattle.setl_grammar.specs.Reading.{Reads, opening_one_of};
-ghost use Rattle.setl_grammar.specs.ReadExpressions as spec;
-ghost use Rattle.setl_grammar.specs.ReadExpressions.{nested};
+ghost use Rattle.setl_reading.specs.Reading.{Reads, opening_one_of};
+ghost use Rattle.setl_reading.specs.ReadExpressions as spec;
+ghost use Rattle.setl_reading.specs.ReadExpressions.{nested};
 ghost use Rattle.setl_expressions.specs.Behind as behind;
-ghost use Rattle.setl_expressions.specs.Nests.{Nests};
+ghost use Rattle.setl_expressions.specs.Nests.{Nests, reader_of};
 
 use crate::chain::{Chain, NotRule, PrefixRule, chain_from};
 use crate::cursor::{Cursor, same_kind};
@@ -15,13 +15,14 @@ use crate::grammar::{Grammar, Part};
 use crate::inner::ExprRule;
 use crate::operators::{constant, prefixed, quantifier, relation_op, selected};
 use crate::rule::{
-    Repeated, Rule, boxed_second, followed, many, separated, with_first, with_many, with_more,
+    Repeated, Rule, SeparatedRule, boxed_second, enclosed, followed, many, more_onto, one,
+    with_many,
 };
-use setl_grammar::Fault;
+use setl_reading::Fault;
 use setl_tree::{Boxed, Expr, Items, Kind, Quantifier, Selector};
 
 /// Whether a token of this kind opens a selector: `(` or `{`.
-#[tactic(auto, unfolding(setl_grammar::specs::ReadExpressions::begins_selector))]
+#[tactic(auto, unfolding(setl_reading::specs::ReadExpressions::begins_selector))]
 pub fn begins_selector(kind: Kind) -> bool
     ensures { result ≡ spec.begins_selector kind }
 {
@@ -29,7 +30,7 @@ pub fn begins_selector(kind: Kind) -> bool
 }
 
 /// The word of a quantifier, where so many nestings may still open and it opens one.
-#[tactic(auto, unfolding(setl_grammar::specs::Reading::opening_one_of))]
+#[tactic(auto, unfolding(setl_reading::specs::Reading::opening_one_of))]
 fn open_quantifier(room: usize, tokens: &mut Cursor<'_>) -> Result<Quantifier, Fault>
     ensures { Reads (opening_one_of room quantifier tokens.old) result tokens.new }
 {
@@ -53,7 +54,7 @@ impl<'g, F: Fn(&mut Cursor<'_>, usize, Part) -> Result<Expr, Fault>> Rule for Se
     type Out = Selector;
 
     ghost use Rattle.std.specs.Prelude.{◌-◌};
-    ghost use Rattle.setl_grammar.specs.ReadExpressions.{nested, selector};
+    ghost use Rattle.setl_reading.specs.ReadExpressions.{nested, selector};
     ghost use Rattle.setl_expressions.specs.Nests.{Nests};
 
     ghost can_read = { λ s. Nests s.grammar.now.room (F.pre s.grammar.now.inside) (F.post s.grammar.now.inside) };
@@ -67,7 +68,7 @@ impl<'g, F: Fn(&mut Cursor<'_>, usize, Part) -> Result<Expr, Fault>> Rule for Se
 
 impl<'g, F: Fn(&mut Cursor<'_>, usize, Part) -> Result<Expr, Fault>> Repeated
     for SelectorRule<'g, F> {
-    ghost use Rattle.setl_grammar.specs.ReadExpressions.{begins_selector};
+    ghost use Rattle.setl_reading.specs.ReadExpressions.{begins_selector};
 
     ghost begins_with = { λ s. begins_selector };
 
@@ -86,7 +87,7 @@ impl<'g, F: Fn(&mut Cursor<'_>, usize, Part) -> Result<Expr, Fault>> Rule for Pr
     type Out = Expr;
 
     ghost use Rattle.std.specs.Prelude.{◌-◌};
-    ghost use Rattle.setl_grammar.specs.ReadExpressions.{nested, e11};
+    ghost use Rattle.setl_reading.specs.ReadExpressions.{nested, e11};
     ghost use Rattle.setl_expressions.specs.Nests.{Nests};
 
     ghost can_read = { λ s. Nests s.grammar.now.room (F.pre s.grammar.now.inside) (F.post s.grammar.now.inside) };
@@ -108,7 +109,7 @@ impl<'g, F: Fn(&mut Cursor<'_>, usize, Part) -> Result<Expr, Fault>> Rule for Co
     type Out = Expr;
 
     ghost use Rattle.std.specs.Prelude.{◌-◌};
-    ghost use Rattle.setl_grammar.specs.ReadExpressions.{nested, e5};
+    ghost use Rattle.setl_reading.specs.ReadExpressions.{nested, e5};
     ghost use Rattle.setl_expressions.specs.Nests.{Nests};
 
     ghost can_read = { λ s. Nests s.grammar.now.room (F.pre s.grammar.now.inside) (F.post s.grammar.now.inside) };
@@ -122,7 +123,7 @@ impl<'g, F: Fn(&mut Cursor<'_>, usize, Part) -> Result<Expr, Fault>> Rule for Co
 
 impl<F: Fn(&mut Cursor<'_>, usize, Part) -> Result<Expr, Fault>> Grammar<F> {
     /// A slice behind `( expr ..`.
-    #[tactic(auto, unfolding(setl_grammar::specs::ReadExpressions::slice))]
+    #[tactic(auto, unfolding(setl_reading::specs::ReadExpressions::slice))]
     fn slice(&self, from: Expr, tokens: &mut Cursor<'_>) -> Result<Selector, Fault>
         requires { Nests self.now.room (F.pre self.now.inside) (F.post self.now.inside) }
         ensures { Reads (spec.slice self.now.room (nested self.now.room) from tokens.old) result tokens.new }
@@ -137,7 +138,7 @@ impl<F: Fn(&mut Cursor<'_>, usize, Part) -> Result<Expr, Fault>> Grammar<F> {
     }
 
     /// What stands behind `( expr`.
-    #[tactic(auto, unfolding(setl_grammar::specs::ReadExpressions::arguments))]
+    #[tactic(auto, unfolding(setl_reading::specs::ReadExpressions::arguments))]
     fn arguments(&self, first: Expr, tokens: &mut Cursor<'_>) -> Result<Selector, Fault>
         requires { Nests self.now.room (F.pre self.now.inside) (F.post self.now.inside) }
         ensures { Reads (spec.arguments self.now.room (nested self.now.room) first tokens.old) result tokens.new }
@@ -146,13 +147,13 @@ impl<F: Fn(&mut Cursor<'_>, usize, Part) -> Result<Expr, Fault>> Grammar<F> {
             let first = followed(first, Kind::Dots, tokens)?;
             return self.slice(first, tokens);
         }
-        let all = with_more(first, &ExprRule { grammar: self }, tokens)?;
-        let (first, others) = followed(all, Kind::RightParen, tokens)?;
-        Ok(Selector::Round(with_first(tokens.alloc(), first, others)?))
+        let first = one(tokens.alloc(), first)?;
+        let all = more_onto(first, &ExprRule { grammar: self }, tokens)?;
+        Ok(Selector::Round(followed(all, Kind::RightParen, tokens)?))
     }
 
     /// What stands behind `(`.
-    #[tactic(auto, unfolding(setl_grammar::specs::ReadExpressions::round))]
+    #[tactic(auto, unfolding(setl_reading::specs::ReadExpressions::round))]
     fn round(&self, tokens: &mut Cursor<'_>) -> Result<Selector, Fault>
         requires { Nests self.now.room (F.pre self.now.inside) (F.post self.now.inside) }
         ensures { Reads (spec.round self.now.room (nested self.now.room) tokens.old) result tokens.new }
@@ -166,19 +167,20 @@ impl<F: Fn(&mut Cursor<'_>, usize, Part) -> Result<Expr, Fault>> Grammar<F> {
     }
 
     /// `{x, ..}` behind a primary expression.
-    #[tactic(auto, unfolding(setl_grammar::specs::ReadExpressions::braces))]
+    #[tactic(auto, unfolding(setl_reading::specs::ReadExpressions::braces))]
     pub fn braces(&self, tokens: &mut Cursor<'_>) -> Result<Selector, Fault>
         requires { Nests self.now.room (F.pre self.now.inside) (F.post self.now.inside) }
         ensures { Reads (spec.braces self.now.room (nested self.now.room) tokens.old) result tokens.new }
     {
-        tokens.open(self.room, Kind::LeftBrace)?;
-        let all = separated(&ExprRule { grammar: self }, tokens)?;
-        let all = followed(all, Kind::RightBrace, tokens)?;
+        let all = SeparatedRule {
+            item: ExprRule { grammar: self },
+        };
+        let all = enclosed(self.room, Kind::LeftBrace, &all, Kind::RightBrace, tokens)?;
         Ok(Selector::Braces(all))
     }
 
     /// A selector.
-    #[tactic(auto, unfolding(setl_grammar::specs::ReadExpressions::selector))]
+    #[tactic(auto, unfolding(setl_reading::specs::ReadExpressions::selector))]
     fn selector(&self, tokens: &mut Cursor<'_>) -> Result<Selector, Fault>
         requires { Nests self.now.room (F.pre self.now.inside) (F.post self.now.inside) }
         ensures { Reads (spec.selector self.now.room (nested self.now.room) tokens.old) result tokens.new }
@@ -191,14 +193,19 @@ impl<F: Fn(&mut Cursor<'_>, usize, Part) -> Result<Expr, Fault>> Grammar<F> {
     }
 
     /// An expression in round brackets.
-    #[tactic(auto, unfolding(setl_grammar::specs::ReadExpressions::parenthesized))]
+    #[tactic(auto, unfolding(setl_reading::specs::ReadExpressions::parenthesized))]
     fn parenthesized(&self, tokens: &mut Cursor<'_>) -> Result<Expr, Fault>
         requires { Nests self.now.room (F.pre self.now.inside) (F.post self.now.inside) }
         ensures { Reads (spec.parenthesized self.now.room (nested self.now.room) tokens.old) result tokens.new }
     {
-        tokens.open(self.room, Kind::LeftParen)?;
-        let x = self.expr(tokens)?;
-        followed(x, Kind::RightParen, tokens)
+        let inside = ExprRule { grammar: self };
+        enclosed(
+            self.room,
+            Kind::LeftParen,
+            &inside,
+            Kind::RightParen,
+            tokens,
+        )
     }
 
     /// The two values of a conditional expression, behind `then`.
@@ -212,7 +219,7 @@ impl<F: Fn(&mut Cursor<'_>, usize, Part) -> Result<Expr, Fault>> Grammar<F> {
     }
 
     /// `if condition then value else other end`
-    #[tactic(auto, unfolding(setl_grammar::specs::ReadExpressions::if_expr))]
+    #[tactic(auto, unfolding(setl_reading::specs::ReadExpressions::if_expr))]
     fn if_expr(&self, tokens: &mut Cursor<'_>) -> Result<Expr, Fault>
         requires { Nests self.now.room (F.pre self.now.inside) (F.post self.now.inside) }
         ensures { Reads (spec.if_expr self.now.room (nested self.now.room) tokens.old) result tokens.new }
@@ -224,7 +231,7 @@ impl<F: Fn(&mut Cursor<'_>, usize, Part) -> Result<Expr, Fault>> Grammar<F> {
     }
 
     /// A set in its brackets.
-    #[tactic(auto, unfolding(setl_grammar::specs::ReadExpressions::set))]
+    #[tactic(auto, unfolding(setl_reading::specs::ReadExpressions::set))]
     fn set(&self, tokens: &mut Cursor<'_>) -> Result<Expr, Fault>
         requires { Nests self.now.room (F.pre self.now.inside) (F.post self.now.inside) }
         ensures { Reads (spec.set self.now.room (nested self.now.room) tokens.old) result tokens.new }
@@ -236,7 +243,7 @@ impl<F: Fn(&mut Cursor<'_>, usize, Part) -> Result<Expr, Fault>> Grammar<F> {
     }
 
     /// A tuple in its brackets.
-    #[tactic(auto, unfolding(setl_grammar::specs::ReadExpressions::tuple))]
+    #[tactic(auto, unfolding(setl_reading::specs::ReadExpressions::tuple))]
     fn tuple(&self, tokens: &mut Cursor<'_>) -> Result<Expr, Fault>
         requires { Nests self.now.room (F.pre self.now.inside) (F.post self.now.inside) }
         ensures { Reads (spec.tuple self.now.room (nested self.now.room) tokens.old) result tokens.new }
@@ -276,7 +283,7 @@ impl<F: Fn(&mut Cursor<'_>, usize, Part) -> Result<Expr, Fault>> Grammar<F> {
     }
 
     /// A primary expression.
-    #[tactic(auto, unfolding(setl_grammar::specs::ReadExpressions::primary, setl_grammar::specs::Reading::one_of))]
+    #[tactic(auto, unfolding(setl_reading::specs::ReadExpressions::primary, setl_reading::specs::Reading::one_of))]
     fn primary(&self, tokens: &mut Cursor<'_>) -> Result<Expr, Fault>
         requires { Nests self.now.room (F.pre self.now.inside) (F.post self.now.inside) }
         ensures { Reads (spec.primary self.now.room (nested self.now.room) tokens.old) result tokens.new }
@@ -300,29 +307,29 @@ impl<F: Fn(&mut Cursor<'_>, usize, Part) -> Result<Expr, Fault>> Grammar<F> {
     }
 
     /// A primary expression with its selectors.
-    #[tactic(auto, unfolding(setl_grammar::specs::ReadExpressions::e12, setl_grammar::specs::ReadExpressions::selectors))]
+    #[tactic(auto, unfolding(setl_reading::specs::ReadExpressions::e12, setl_reading::specs::ReadExpressions::selectors))]
     fn e12(&self, tokens: &mut Cursor<'_>) -> Result<Expr, Fault>
         requires { Nests self.now.room (F.pre self.now.inside) (F.post self.now.inside) }
         ensures { Reads (spec.e12 self.now.room (nested self.now.room) tokens.old) result tokens.new }
     {
         let primary = self.primary(tokens)?;
         let (primary, selectors) = with_many(primary, &SelectorRule { grammar: self }, tokens)?;
-        Ok(selected(tokens.alloc(), primary, selectors)?)
+        selected(tokens.alloc(), primary, selectors)
     }
 
     /// An operand with its prefixes.
-    #[tactic(auto, unfolding(setl_grammar::specs::ReadExpressions::e11, setl_grammar::specs::ReadExpressions::prefixes))]
+    #[tactic(auto, unfolding(setl_reading::specs::ReadExpressions::e11, setl_reading::specs::ReadExpressions::prefixes))]
     fn e11(&self, tokens: &mut Cursor<'_>) -> Result<Expr, Fault>
         requires { Nests self.now.room (F.pre self.now.inside) (F.post self.now.inside) }
         ensures { Reads (spec.e11 self.now.room (nested self.now.room) tokens.old) result tokens.new }
     {
         let prefixes = many(&PrefixRule, tokens)?;
         let operand = self.e12(tokens)?;
-        Ok(prefixed(tokens.alloc(), prefixes, operand)?)
+        prefixed(tokens.alloc(), prefixes, operand)
     }
 
     /// What comparisons compare.
-    #[tactic(auto, unfolding(setl_grammar::specs::ReadExpressions::e7))]
+    #[tactic(auto, unfolding(setl_reading::specs::ReadExpressions::e7))]
     pub fn e7(&self, tokens: &mut Cursor<'_>) -> Result<Expr, Fault>
         requires { Nests self.now.room (F.pre self.now.inside) (F.post self.now.inside) }
         ensures { Reads (spec.e7 self.now.room (nested self.now.room) tokens.old) result tokens.new }
@@ -356,11 +363,11 @@ impl<F: Fn(&mut Cursor<'_>, usize, Part) -> Result<Expr, Fault>> Grammar<F> {
         ensures { Reads (behind.beside left (spec.e7 self.now.room (nested self.now.room)) tokens.old) result tokens.new }
     {
         let right = self.e7(tokens)?;
-        Ok(boxed_second(tokens.alloc(), left, right)?)
+        boxed_second(tokens.alloc(), left, right)
     }
 
     /// What goes on from the left side of a comparison.
-    #[tactic(auto, unfolding(setl_grammar::specs::ReadExpressions::compared, setl_grammar::specs::Reading::one_of))]
+    #[tactic(auto, unfolding(setl_reading::specs::ReadExpressions::compared, setl_reading::specs::Reading::one_of))]
     fn compared(&self, a: Expr, tokens: &mut Cursor<'_>) -> Result<Expr, Fault>
         requires { Nests self.now.room (F.pre self.now.inside) (F.post self.now.inside) }
         ensures { Reads (spec.compared self.now.room (nested self.now.room) a tokens.old) result tokens.new }
@@ -374,7 +381,7 @@ impl<F: Fn(&mut Cursor<'_>, usize, Part) -> Result<Expr, Fault>> Grammar<F> {
     }
 
     /// A comparison, or what comparisons compare.
-    #[tactic(auto, unfolding(setl_grammar::specs::ReadExpressions::e6))]
+    #[tactic(auto, unfolding(setl_reading::specs::ReadExpressions::e6))]
     fn e6(&self, tokens: &mut Cursor<'_>) -> Result<Expr, Fault>
         requires { Nests self.now.room (F.pre self.now.inside) (F.post self.now.inside) }
         ensures { Reads (spec.e6 self.now.room (nested self.now.room) tokens.old) result tokens.new }
@@ -384,18 +391,18 @@ impl<F: Fn(&mut Cursor<'_>, usize, Part) -> Result<Expr, Fault>> Grammar<F> {
     }
 
     /// A comparison with its prefixes `not`.
-    #[tactic(auto, unfolding(setl_grammar::specs::ReadExpressions::e5, setl_grammar::specs::ReadExpressions::nots))]
+    #[tactic(auto, unfolding(setl_reading::specs::ReadExpressions::e5, setl_reading::specs::ReadExpressions::nots))]
     fn e5(&self, tokens: &mut Cursor<'_>) -> Result<Expr, Fault>
         requires { Nests self.now.room (F.pre self.now.inside) (F.post self.now.inside) }
         ensures { Reads (spec.e5 self.now.room (nested self.now.room) tokens.old) result tokens.new }
     {
         let nots = many(&NotRule, tokens)?;
         let operand = self.e6(tokens)?;
-        Ok(prefixed(tokens.alloc(), nots, operand)?)
+        prefixed(tokens.alloc(), nots, operand)
     }
 
     /// An expression that is no quantifier.
-    #[tactic(auto, unfolding(setl_grammar::specs::ReadExpressions::e2))]
+    #[tactic(auto, unfolding(setl_reading::specs::ReadExpressions::e2))]
     fn e2(&self, tokens: &mut Cursor<'_>) -> Result<Expr, Fault>
         requires { Nests self.now.room (F.pre self.now.inside) (F.post self.now.inside) }
         ensures { Reads (spec.e2 self.now.room (nested self.now.room) tokens.old) result tokens.new }
@@ -416,7 +423,7 @@ impl<F: Fn(&mut Cursor<'_>, usize, Part) -> Result<Expr, Fault>> Grammar<F> {
     }
 
     /// What goes on from an operand of `and`.
-    #[tactic(auto, unfolding(setl_grammar::specs::ReadExpressions::after))]
+    #[tactic(auto, unfolding(setl_reading::specs::ReadExpressions::after))]
     pub fn after_comparison(&self, a: Expr, tokens: &mut Cursor<'_>) -> Result<Expr, Fault>
         requires { Nests self.now.room (F.pre self.now.inside) (F.post self.now.inside) }
         ensures { Reads (spec.after self.now.room (nested self.now.room) a tokens.old) result tokens.new }
@@ -447,7 +454,7 @@ impl<F: Fn(&mut Cursor<'_>, usize, Part) -> Result<Expr, Fault>> Grammar<F> {
     }
 
     /// `exists iterators | condition` and the like.
-    #[tactic(auto, unfolding(setl_grammar::specs::ReadExpressions::quantified, setl_grammar::specs::Reading::opening_one_of))]
+    #[tactic(auto, unfolding(setl_reading::specs::ReadExpressions::quantified, setl_reading::specs::Reading::opening_one_of))]
     fn quantified(&self, tokens: &mut Cursor<'_>) -> Result<Expr, Fault>
         requires { Nests self.now.room (F.pre self.now.inside) (F.post self.now.inside) }
         ensures { Reads (spec.quantified self.now.room (nested self.now.room) tokens.old) result tokens.new }
@@ -459,7 +466,7 @@ impl<F: Fn(&mut Cursor<'_>, usize, Part) -> Result<Expr, Fault>> Grammar<F> {
     }
 
     /// An expression.
-    #[tactic(auto, unfolding(setl_grammar::specs::ReadExpressions::whole))]
+    #[tactic(auto, unfolding(setl_reading::specs::ReadExpressions::whole))]
     pub fn whole(&self, tokens: &mut Cursor<'_>) -> Result<Expr, Fault>
         requires { Nests self.now.room (F.pre self.now.inside) (F.post self.now.inside) }
         ensures { Reads (spec.whole self.now.room (nested self.now.room) tokens.old) result tokens.new }
@@ -468,5 +475,18 @@ impl<F: Fn(&mut Cursor<'_>, usize, Part) -> Result<Expr, Fault>> Grammar<F> {
             return self.quantified(tokens);
         }
         self.e2(tokens)
+    }
+
+    /// A part of expressions.
+    #[tactic(auto, unfolding(setl_reading::specs::ReadExpressions::nested))]
+    pub fn part(&self, part: Part, tokens: &mut Cursor<'_>) -> Result<Expr, Fault>
+        requires { Nests self.now.room (F.pre self.now.inside) (F.post self.now.inside) }
+        ensures { Reads (reader_of (nested (suc self.now.room)) part tokens.old) result tokens.new }
+    {
+        match part {
+            Part::Whole => self.whole(tokens),
+            Part::Source => self.e7(tokens),
+            Part::After(a) => self.after_comparison(a, tokens),
+        }
     }
 }

@@ -1,21 +1,21 @@
 //! Rules of the grammar, and lists of them.
 
-ghost use Rattle.std.specs.Prelude.{◌≡◌, IfOk, [], ◌∷◌, ◌++◌};
-ghost use Rattle.setl_grammar.specs.Reading as spec;
-ghost use Rattle.setl_grammar.specs.Reading.{Reads};
+ghost use Rattle.std.specs.Prelude.{◌≡◌, IfOk, IfErr, [], ◌∷◌, ◌++◌};
+ghost use Rattle.setl_reading.specs.Reading as spec;
+ghost use Rattle.setl_reading.specs.Reading.{Reads};
 ghost use Rattle.setl_expressions.specs.Behind as behind;
 
 use crate::cursor::{Cursor, same_kind};
-use setl_grammar::Fault;
+use setl_reading::Fault;
 use setl_tree::{Boxed, Items, Kind};
-use std::alloc::{AllocError, Global};
+use std::alloc::Global;
 
 /// A part of the grammar that is read from tokens.
 pub trait Rule {
     /// What is read.
     type Out: Drop;
 
-    ghost use Rattle.setl_grammar.specs.Reading.{Reader, Reads};
+    ghost use Rattle.setl_reading.specs.Reading.{Reader, Reads};
 
     /// What reading needs.
     ghost can_read: { Self → Type 0 };
@@ -40,12 +40,37 @@ pub trait Repeated: Rule {
         ensures { result ≡ begins_with self.now kind };
 }
 
-/// Parts in their order, while the next token begins one. A fault is the first part's that has one.
-pub fn many<R: Repeated>(rule: &R, tokens: &mut Cursor<'_>) -> Result<Items<R::Out>, Fault>
-    requires { R.can_read rule.now }
-    ensures { Reads (spec.many (R.begins_with rule.now) (R.reader rule.now) tokens.old) result tokens.new }
+/// A list of one item, with room for it alone. An error is want of memory.
+pub fn one<T: Drop>(alloc: Global, item: T) -> Result<Items<T>, Fault>
+    ensures ok { IfOk result (λ all. all ≡ item ∷ []) }
+    ensures err { IfErr result (λ e. e ≡ Fault.Memory) }
 {
-    let mut found = Items::new(tokens.alloc());
+    let mut items = Items::from_vec(Vec::with_capacity(alloc, 1)?);
+    items.push(item)?;
+    Ok(items)
+}
+
+/// A list of two items. An error is want of memory.
+pub fn two<T: Drop>(alloc: Global, first: T, second: T) -> Result<Items<T>, Fault>
+    ensures ok { IfOk result (λ all. all ≡ first ∷ second ∷ []) }
+    ensures err { IfErr result (λ e. e ≡ Fault.Memory) }
+{
+    let mut items = one(alloc, first)?;
+    items.push(second)?;
+    Ok(items)
+}
+
+/// Items, and behind them parts in their order, while the next token begins one. A fault is the first part's that has
+/// one.
+pub fn many_onto<R: Repeated>(
+    items: Items<R::Out>,
+    rule: &R,
+    tokens: &mut Cursor<'_>,
+) -> Result<Items<R::Out>, Fault>
+    requires { R.can_read rule.now }
+    ensures { Reads (behind.many_onto items (R.begins_with rule.now) (R.reader rule.now) tokens.old) result tokens.new }
+{
+    let mut found = items;
     for _turn in 0..tokens.left() {
         if !rule.begins(tokens.kind()) {
             return Ok(found);
@@ -53,6 +78,14 @@ pub fn many<R: Repeated>(rule: &R, tokens: &mut Cursor<'_>) -> Result<Items<R::O
         found.push(rule.read(tokens)?)?;
     }
     Ok(found)
+}
+
+/// Parts in their order, while the next token begins one. A fault is the first part's that has one.
+pub fn many<R: Repeated>(rule: &R, tokens: &mut Cursor<'_>) -> Result<Items<R::Out>, Fault>
+    requires { R.can_read rule.now }
+    ensures { Reads (spec.many (R.begins_with rule.now) (R.reader rule.now) tokens.old) result tokens.new }
+{
+    many_onto(Items::new(tokens.alloc()), rule, tokens)
 }
 
 /// A part, if the next token begins one, otherwise `None`. A fault is the part's.
@@ -74,6 +107,48 @@ pub fn followed<T: Drop>(head: T, kind: Kind, tokens: &mut Cursor<'_>) -> Result
     Ok(head)
 }
 
+/// What was read, and beside it a part.
+pub fn beside<T: Drop, R: Rule>(
+    head: T,
+    rule: &R,
+    tokens: &mut Cursor<'_>,
+) -> Result<(T, R::Out), Fault>
+    requires { R.can_read rule.now }
+    ensures { Reads (behind.beside head (R.reader rule.now) tokens.old) result tokens.new }
+{
+    let part = rule.read(tokens)?;
+    Ok((head, part))
+}
+
+/// What was read, and beside it the part of `optional`.
+pub fn with_optional<T: Drop, R: Repeated>(
+    head: T,
+    rule: &R,
+    tokens: &mut Cursor<'_>,
+) -> Result<(T, Option<R::Out>), Fault>
+    requires { R.can_read rule.now }
+    ensures { Reads (behind.beside head (spec.optional (R.begins_with rule.now) (R.reader rule.now)) tokens.old) result tokens.new }
+{
+    let part = optional(rule, tokens)?;
+    Ok((head, part))
+}
+
+/// A part between a token that opens a nesting, where so many may still open, and one that closes it.
+pub fn enclosed<R: Rule>(
+    room: usize,
+    opener: Kind,
+    rule: &R,
+    closer: Kind,
+    tokens: &mut Cursor<'_>,
+) -> Result<R::Out, Fault>
+    requires { R.can_read rule.now }
+    ensures { Reads (behind.enclosed room opener (R.reader rule.now) closer tokens.old) result tokens.new }
+{
+    tokens.open(room, opener)?;
+    let part = rule.read(tokens)?;
+    followed(part, closer, tokens)
+}
+
 /// What was read, and beside it the parts of `many`.
 pub fn with_many<T: Drop, R: Repeated>(
     head: T,
@@ -87,54 +162,27 @@ pub fn with_many<T: Drop, R: Repeated>(
     Ok((head, parts))
 }
 
-/// The items with one in front. An error is want of memory.
-pub fn with_first<T: Drop>(
-    alloc: Global,
-    first: T,
-    others: Items<T>,
-) -> Result<Items<T>, AllocError>
-    ensures { IfOk result (λ all. all ≡ first ∷ others) }
-{
-    let mut all = Items::new(alloc);
-    all.push(first)?;
-    all.append(others)?;
-    Ok(all)
-}
-
-/// The items with two in front. An error is want of memory.
-pub fn with_two<T: Drop>(
-    alloc: Global,
-    first: T,
-    second: T,
-    others: Items<T>,
-) -> Result<Items<T>, AllocError>
-    ensures { IfOk result (λ all. all ≡ first ∷ second ∷ others) }
-{
-    let behind = with_first(alloc, second, others)?;
-    with_first(alloc, first, behind)
-}
-
 /// Two values, the second in a box. An error is want of memory.
 pub fn boxed_second<A: Drop, B: Drop>(
     alloc: Global,
     first: A,
     second: B,
-) -> Result<(A, Boxed<B>), AllocError>
-    ensures { IfOk result (λ both. both ≡ (first, second)) }
+) -> Result<(A, Boxed<B>), Fault>
+    ensures ok { IfOk result (λ both. both ≡ (first, second)) }
+    ensures err { IfErr result (λ e. e ≡ Fault.Memory) }
 {
     let second = Boxed::new(alloc, second)?;
     Ok((first, second))
 }
 
 /// One or more parts in their order, with commas between. No comma stands behind the last.
-#[tactic(auto, unfolding(setl_grammar::specs::Reading::separated))]
+#[tactic(auto, unfolding(setl_reading::specs::Reading::separated))]
 pub fn separated<R: Rule>(rule: &R, tokens: &mut Cursor<'_>) -> Result<Items<R::Out>, Fault>
     requires { R.can_read rule.now }
     ensures { Reads (spec.separated (R.reader rule.now) tokens.old) result tokens.new }
 {
-    let first = rule.read(tokens)?;
-    let others = more(rule, tokens)?;
-    Ok(with_first(tokens.alloc(), first, others)?)
+    let first = one(tokens.alloc(), rule.read(tokens)?)?;
+    more_onto(first, rule, tokens)
 }
 
 /// A comma and a part behind it.
@@ -147,7 +195,7 @@ impl<'r, R: Rule> Rule for BehindComma<'r, R> {
     type Out = R::Out;
 
     ghost use Rattle.setl_tree.specs.declared.kind.Kind.TheVariants as k;
-    ghost use Rattle.setl_grammar.specs.Reading.{expect, ◌>>◌};
+    ghost use Rattle.setl_reading.specs.Reading.{expect, ◌>>◌};
 
     ghost can_read = { λ s. R.can_read s.part.now };
 
@@ -161,7 +209,7 @@ impl<'r, R: Rule> Rule for BehindComma<'r, R> {
 
 impl<'r, R: Rule> Repeated for BehindComma<'r, R> {
     ghost use Rattle.setl_tree.specs.declared.kind.Kind.TheVariants as k;
-    ghost use Rattle.setl_grammar.specs.Reading.{is};
+    ghost use Rattle.setl_reading.specs.Reading.{is};
 
     ghost begins_with = { λ s. is k.Comma };
 
@@ -170,31 +218,22 @@ impl<'r, R: Rule> Repeated for BehindComma<'r, R> {
     }
 }
 
-/// Any number of parts in their order, each behind a comma.
-#[tactic(auto, unfolding(setl_grammar::specs::Reading::more))]
-pub fn more<R: Rule>(rule: &R, tokens: &mut Cursor<'_>) -> Result<Items<R::Out>, Fault>
-    requires { R.can_read rule.now }
-    ensures { Reads (spec.more (R.reader rule.now) tokens.old) result tokens.new }
-{
-    many(&BehindComma { part: rule }, tokens)
-}
-
-/// What was read, and beside it the parts of `more`.
-pub fn with_more<T: Drop, R: Rule>(
-    head: T,
+/// Items, and behind them any number of parts in their order, each behind a comma.
+#[tactic(auto, unfolding(setl_reading::specs::Reading::more))]
+pub fn more_onto<R: Rule>(
+    items: Items<R::Out>,
     rule: &R,
     tokens: &mut Cursor<'_>,
-) -> Result<(T, Items<R::Out>), Fault>
+) -> Result<Items<R::Out>, Fault>
     requires { R.can_read rule.now }
-    ensures { Reads (behind.beside head (spec.more (R.reader rule.now)) tokens.old) result tokens.new }
+    ensures { Reads (behind.more_onto items (R.reader rule.now) tokens.old) result tokens.new }
 {
-    let parts = more(rule, tokens)?;
-    Ok((head, parts))
+    many_onto(items, &BehindComma { part: rule }, tokens)
 }
 
 /// Parts in their order with commas between, or none where the next token is the one that closes them. That token is
 /// left.
-#[tactic(auto, unfolding(setl_grammar::specs::Reading::listed))]
+#[tactic(auto, unfolding(setl_reading::specs::Reading::listed))]
 pub fn listed<R: Rule>(
     close: Kind,
     rule: &R,
@@ -207,4 +246,45 @@ pub fn listed<R: Rule>(
         return Ok(Items::new(tokens.alloc()));
     }
     separated(rule, tokens)
+}
+
+/// The parts of `separated`, as a rule.
+#[derive(Drop)]
+pub struct SeparatedRule<R> {
+    pub item: R,
+}
+
+impl<R: Rule> Rule for SeparatedRule<R> {
+    type Out = Items<R::Out>;
+
+    ghost use Rattle.setl_reading.specs.Reading.{separated};
+
+    ghost can_read = { λ s. R.can_read s.item };
+
+    ghost reader = { λ s. separated (R.reader s.item) };
+
+    fn read(&self, tokens: &mut Cursor<'_>) -> Result<Items<R::Out>, Fault> {
+        separated(&self.item, tokens)
+    }
+}
+
+/// The parts of `listed`, as a rule.
+#[derive(Drop)]
+pub struct ListedRule<R> {
+    pub close: Kind,
+    pub item: R,
+}
+
+impl<R: Rule> Rule for ListedRule<R> {
+    type Out = Items<R::Out>;
+
+    ghost use Rattle.setl_reading.specs.Reading.{listed};
+
+    ghost can_read = { λ s. R.can_read s.item };
+
+    ghost reader = { λ s. listed s.close (R.reader s.item) };
+
+    fn read(&self, tokens: &mut Cursor<'_>) -> Result<Items<R::Out>, Fault> {
+        listed(self.close, &self.item, tokens)
+    }
 }

@@ -19,8 +19,6 @@ mod rules;
 mod scope;
 mod simple;
 mod statements;
-#[cfg(test)]
-mod tests;
 mod walk;
 
 pub use bodies::BodyNames;

@@ -4,10 +4,10 @@ use Rattle.std.specs.Borrow.{MutBor}
 use Rattle.setl_tree.specs.declared.stmt.Stmt.{Stmt}
 use Rattle.setl_tree.specs.declared.mode.WrittenMode.{WrittenMode}
 use Rattle.setl_tree.specs.Tokens.{Tokens}
-use Rattle.setl_grammar.specs.declared.fault.Fault.{Fault}
-use Rattle.setl_grammar.specs.Reading.{Reads}
-use Rattle.setl_grammar.specs.ReadStatements.{nested_stmts}
-use Rattle.setl_grammar.specs.ReadModes.{nested_mode}
+use Rattle.setl_reading.specs.declared.fault.Fault.{Fault}
+use Rattle.setl_reading.specs.Reading.{Reads}
+use Rattle.setl_reading.specs.ReadStatements.{nested_stmts}
+use Rattle.setl_reading.specs.ReadModes.{nested_mode}
 
 -- A function may be called where so many nestings may still open, and reads statements as the grammar says.
 pub record NestsStmts (room : ℕ) (pre : MutBor Tokens → ℕ → Type 0) (post : MutBor Tokens → ℕ → Result (List Stmt) Fault → MutBor Tokens → Type 0) : Type 0 where

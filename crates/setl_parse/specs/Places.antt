@@ -3,9 +3,9 @@ use Rattle.std.specs.Prelude.{ℕ, ◌-◌, [], ◌∷◌, length, slice_get, Op
 use Rattle.setl_tree.specs.declared.tree.Tree.{Tree}
 use Rattle.setl_token.specs.declared.Token.{Token as Lexeme}
 use Rattle.setl_token.specs.Text.{Lexed}
-use Rattle.setl_grammar.specs.declared.fault.Fault.{Fault}
-use Rattle.setl_grammar.specs.declared.fault.Fault.TheVariants as left
-use Rattle.setl_grammar.specs.Reading.{Outcome}
+use Rattle.setl_reading.specs.declared.fault.Fault.{Fault}
+use Rattle.setl_reading.specs.declared.fault.Fault.TheVariants as left
+use Rattle.setl_reading.specs.Reading.{Outcome}
 use Rattle.setl_parse.specs.declared.fault.ParseFault.{ParseFault}
 use Rattle.setl_parse.specs.declared.fault.ParseFault.TheVariants as at
 

@@ -6,13 +6,11 @@ mod modes;
 mod nested;
 mod programs;
 mod statements;
-#[cfg(test)]
-mod tests;
 
 ghost use Rattle.std.specs.Prelude.{◌≡◌, ◌≢◌, IfOk, IfErr, MatchResult, Err};
 ghost use Rattle.setl_tree.specs.Programs as grammar;
 ghost use Rattle.setl_tree.specs.Programs.{Derives};
-ghost use Rattle.setl_grammar.specs.ReadPrograms as reading;
+ghost use Rattle.setl_reading.specs.ReadPrograms as reading;
 ghost use Rattle.setl_expressions.specs.Plain.{plain_tokens};
 ghost use Rattle.setl_parse.specs.Places.{outcome_of};
 
@@ -20,7 +18,7 @@ use crate::programs::program;
 pub use fault::ParseFault;
 use fault::fault_at;
 use setl_expressions::Cursor;
-use setl_grammar::{reading_meets_grammar, tree_is_unique};
+use setl_reading::{reading_meets_grammar, tree_is_unique};
 use setl_token::TokenList;
 use setl_tree::Tree;
 use std::alloc::Global;

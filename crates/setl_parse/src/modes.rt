@@ -3,14 +3,17 @@
 ghost use Rattle.std.specs.Prelude.{◌≡◌};
 ghost use Rattle.setl_tree.specs.declared.kind.Kind.TheVariants as k;
 ghost use Rattle.setl_tree.specs.Modes as grammar;
-ghost use Rattle.setl_grammar.specs.Reading.{Reads};
-ghost use Rattle.setl_grammar.specs.ReadModes as spec;
-ghost use Rattle.setl_grammar.specs.ReadModes.{nested_mode};
+ghost use Rattle.setl_reading.specs.Reading.{Reads};
+ghost use Rattle.setl_reading.specs.ReadModes as spec;
+ghost use Rattle.setl_reading.specs.ReadModes.{nested_mode};
 ghost use Rattle.setl_parse.specs.Nests.{NestsModes};
 
-use crate::statements::ending;
-use setl_expressions::{Cursor, Repeated, Rule, many, optional, same_kind, separated};
-use setl_grammar::Fault;
+use crate::statements::ended;
+use setl_expressions::{
+    Cursor, Repeated, Rule, beside, enclosed, followed, many, optional, same_kind, separated,
+    with_optional,
+};
+use setl_reading::Fault;
 use setl_tree::{Attribute, Boxed, Core, Declared, Items, Kind, ReprLine, WrittenMode};
 
 /// The word before a `set`, `smap` or `mmap`.
@@ -43,7 +46,7 @@ fn simple_core(kind: Kind) -> Option<Core>
 }
 
 /// The tokens that begin a line.
-#[tactic(auto, unfolding(setl_grammar::specs::ReadModes::begins_line))]
+#[tactic(auto, unfolding(setl_reading::specs::ReadModes::begins_line))]
 fn begins_line(kind: Kind) -> bool
     ensures { result ≡ spec.begins_line kind }
 {
@@ -60,13 +63,13 @@ pub struct DeclaredRule;
 impl Rule for DeclaredRule {
     type Out = Declared;
 
-    ghost use Rattle.setl_grammar.specs.ReadModes.{declared};
+    ghost use Rattle.setl_reading.specs.ReadModes.{declared};
 
     ghost can_read = { λ s. Unit {0} };
 
     ghost reader = { λ s. declared };
 
-    #[tactic(auto, unfolding(setl_grammar::specs::ReadModes::declared))]
+    #[tactic(auto, unfolding(setl_reading::specs::ReadModes::declared))]
     fn read(&self, tokens: &mut Cursor<'_>) -> Result<Declared, Fault> {
         let line = tokens.line();
         let name = tokens.text()?;
@@ -82,13 +85,13 @@ impl Rule for AttributeRule {
     type Out = Attribute;
 
     ghost use Rattle.setl_tree.specs.Modes.{attribute};
-    ghost use Rattle.setl_grammar.specs.Reading.{one_of};
+    ghost use Rattle.setl_reading.specs.Reading.{one_of};
 
     ghost can_read = { λ s. Unit {0} };
 
     ghost reader = { λ s. one_of attribute };
 
-    #[tactic(auto, unfolding(setl_grammar::specs::Reading::one_of))]
+    #[tactic(auto, unfolding(setl_reading::specs::Reading::one_of))]
     fn read(&self, tokens: &mut Cursor<'_>) -> Result<Attribute, Fault> {
         let Some(word) = attribute(tokens.kind()) else {
             return Err(tokens.refuse());
@@ -100,7 +103,7 @@ impl Rule for AttributeRule {
 
 impl Repeated for AttributeRule {
     ghost use Rattle.setl_tree.specs.Modes.{attribute};
-    ghost use Rattle.setl_grammar.specs.Reading.{begins_as};
+    ghost use Rattle.setl_reading.specs.Reading.{begins_as};
 
     ghost begins_with = { λ s. begins_as attribute };
 
@@ -110,7 +113,7 @@ impl Repeated for AttributeRule {
 }
 
 /// `elmt base`
-#[tactic(auto, unfolding(setl_grammar::specs::ReadModes::element, setl_grammar::specs::Reading::name))]
+#[tactic(auto, unfolding(setl_reading::specs::ReadModes::element, setl_reading::specs::Reading::name))]
 fn element(tokens: &mut Cursor<'_>) -> Result<Core, Fault>
     ensures { Reads (spec.element tokens.old) result tokens.new }
 {
@@ -128,6 +131,27 @@ struct Modes<H> {
     deep: H,
 }
 
+/// A mode one nesting deeper, in a box.
+#[derive(Drop)]
+struct DeepMode<'m, H> {
+    modes: &'m Modes<H>,
+}
+
+impl<'m, H: Fn(&mut Cursor<'_>, usize) -> Result<WrittenMode, Fault>> Rule for DeepMode<'m, H> {
+    type Out = Boxed<WrittenMode>;
+
+    ghost use Rattle.setl_reading.specs.ReadModes.{nested_mode};
+    ghost use Rattle.setl_parse.specs.Nests.{NestsModes};
+
+    ghost can_read = { λ s. NestsModes s.modes.now.room (H.pre s.modes.now.deep) (H.post s.modes.now.deep) };
+
+    ghost reader = { λ s. nested_mode s.modes.now.room };
+
+    fn read(&self, tokens: &mut Cursor<'_>) -> Result<Boxed<WrittenMode>, Fault> {
+        self.modes.deeper(tokens)
+    }
+}
+
 impl<H: Fn(&mut Cursor<'_>, usize) -> Result<WrittenMode, Fault>> Modes<H> {
     /// A mode one nesting deeper.
     fn deeper(&self, tokens: &mut Cursor<'_>) -> Result<Boxed<WrittenMode>, Fault>
@@ -139,27 +163,23 @@ impl<H: Fn(&mut Cursor<'_>, usize) -> Result<WrittenMode, Fault>> Modes<H> {
     }
 
     /// A mode in brackets.
-    #[tactic(auto, unfolding(setl_grammar::specs::ReadModes::round_mode))]
+    #[tactic(auto, unfolding(setl_reading::specs::ReadModes::round_mode))]
     fn round_mode(&self, tokens: &mut Cursor<'_>) -> Result<Boxed<WrittenMode>, Fault>
         requires { NestsModes self.now.room (H.pre self.now.deep) (H.post self.now.deep) }
         ensures { Reads (spec.round_mode self.now.room (nested_mode self.now.room) tokens.old) result tokens.new }
     {
-        tokens.open(self.room, Kind::LeftParen)?;
-        let mode = self.deeper(tokens)?;
-        tokens.expect(Kind::RightParen)?;
-        Ok(mode)
+        let mode = DeepMode { modes: self };
+        enclosed(self.room, Kind::LeftParen, &mode, Kind::RightParen, tokens)
     }
 
     /// A mode in brackets.
-    #[tactic(auto, unfolding(setl_grammar::specs::ReadModes::braced_mode))]
+    #[tactic(auto, unfolding(setl_reading::specs::ReadModes::braced_mode))]
     fn braced_mode(&self, tokens: &mut Cursor<'_>) -> Result<Boxed<WrittenMode>, Fault>
         requires { NestsModes self.now.room (H.pre self.now.deep) (H.post self.now.deep) }
         ensures { Reads (spec.braced_mode self.now.room (nested_mode self.now.room) tokens.old) result tokens.new }
     {
-        tokens.open(self.room, Kind::LeftBrace)?;
-        let mode = self.deeper(tokens)?;
-        tokens.expect(Kind::RightBrace)?;
-        Ok(mode)
+        let mode = DeepMode { modes: self };
+        enclosed(self.room, Kind::LeftBrace, &mode, Kind::RightBrace, tokens)
     }
 
     /// A single-valued map.
@@ -169,7 +189,7 @@ impl<H: Fn(&mut Cursor<'_>, usize) -> Result<WrittenMode, Fault>> Modes<H> {
     {
         tokens.expect(Kind::Smap)?;
         let domain = self.round_mode(tokens)?;
-        let range = self.deeper(tokens)?;
+        let (domain, range) = beside(domain, &DeepMode { modes: self }, tokens)?;
         Ok(Core::Smap(domain, range))
     }
 
@@ -180,7 +200,7 @@ impl<H: Fn(&mut Cursor<'_>, usize) -> Result<WrittenMode, Fault>> Modes<H> {
     {
         tokens.expect(Kind::Mmap)?;
         let domain = self.braced_mode(tokens)?;
-        let range = self.deeper(tokens)?;
+        let (domain, range) = beside(domain, &DeepMode { modes: self }, tokens)?;
         Ok(Core::Mmap(domain, range))
     }
 
@@ -203,7 +223,7 @@ impl<H: Fn(&mut Cursor<'_>, usize) -> Result<WrittenMode, Fault>> Modes<H> {
     }
 
     /// A mode without its attribute.
-    #[tactic(auto, unfolding(setl_grammar::specs::ReadModes::core, setl_grammar::specs::Reading::one_of))]
+    #[tactic(auto, unfolding(setl_reading::specs::ReadModes::core, setl_reading::specs::Reading::one_of))]
     fn core(&self, tokens: &mut Cursor<'_>) -> Result<Core, Fault>
         requires { NestsModes self.now.room (H.pre self.now.deep) (H.post self.now.deep) }
         ensures { Reads (spec.core self.now.room (nested_mode self.now.room) tokens.old) result tokens.new }
@@ -225,7 +245,7 @@ impl<H: Fn(&mut Cursor<'_>, usize) -> Result<WrittenMode, Fault>> Modes<H> {
     }
 
     /// A mode.
-    #[tactic(auto, unfolding(setl_grammar::specs::ReadModes::mode_in, setl_grammar::specs::ReadModes::with_attribute))]
+    #[tactic(auto, unfolding(setl_reading::specs::ReadModes::mode_in, setl_reading::specs::ReadModes::with_attribute))]
     fn mode(&self, tokens: &mut Cursor<'_>) -> Result<WrittenMode, Fault>
         requires { NestsModes self.now.room (H.pre self.now.deep) (H.post self.now.deep) }
         ensures { Reads (spec.mode_in self.now.room (nested_mode self.now.room) tokens.old) result tokens.new }
@@ -256,7 +276,7 @@ fn nested(tokens: &mut Cursor<'_>, room: usize) -> Result<WrittenMode, Fault>
 }
 
 /// A mode with at most so many nestings inside one another.
-#[tactic(auto, unfolding(setl_grammar::specs::ReadModes::mode))]
+#[tactic(auto, unfolding(setl_reading::specs::ReadModes::mode))]
 fn mode(room: usize, tokens: &mut Cursor<'_>) -> Result<WrittenMode, Fault>
     ensures { Reads (spec.mode room tokens.old) result tokens.new }
 {
@@ -272,13 +292,13 @@ struct ColonMode {
 impl Rule for ColonMode {
     type Out = WrittenMode;
 
-    ghost use Rattle.setl_grammar.specs.ReadModes.{colon_mode};
+    ghost use Rattle.setl_reading.specs.ReadModes.{colon_mode};
 
     ghost can_read = { λ s. Unit {0} };
 
     ghost reader = { λ s. colon_mode s.room };
 
-    #[tactic(auto, unfolding(setl_grammar::specs::ReadModes::colon_mode))]
+    #[tactic(auto, unfolding(setl_reading::specs::ReadModes::colon_mode))]
     fn read(&self, tokens: &mut Cursor<'_>) -> Result<WrittenMode, Fault> {
         tokens.expect(Kind::Colon)?;
         mode(self.room, tokens)
@@ -287,7 +307,7 @@ impl Rule for ColonMode {
 
 impl Repeated for ColonMode {
     ghost use Rattle.setl_tree.specs.declared.kind.Kind.TheVariants as k;
-    ghost use Rattle.setl_grammar.specs.Reading.{is};
+    ghost use Rattle.setl_reading.specs.Reading.{is};
 
     ghost begins_with = { λ s. is k.Colon };
 
@@ -297,27 +317,27 @@ impl Repeated for ColonMode {
 }
 
 /// `base name, .. : mode;`
-#[tactic(auto, unfolding(setl_grammar::specs::ReadModes::base_line))]
+#[tactic(auto, unfolding(setl_reading::specs::ReadModes::base_line))]
 fn base_line(room: usize, tokens: &mut Cursor<'_>) -> Result<ReprLine, Fault>
     ensures { Reads (spec.base_line room tokens.old) result tokens.new }
 {
     let line = tokens.line();
     tokens.expect(Kind::Base)?;
     let names = separated(&DeclaredRule, tokens)?;
-    let mode = optional(&ColonMode { room }, tokens)?;
-    tokens.expect(Kind::Semicolon)?;
+    let both = with_optional(names, &ColonMode { room }, tokens)?;
+    let (names, mode) = followed(both, Kind::Semicolon, tokens)?;
     Ok(ReprLine::Base(line, names, mode))
 }
 
 /// `name, .. : mode;`
-#[tactic(auto, unfolding(setl_grammar::specs::ReadModes::variables_line))]
+#[tactic(auto, unfolding(setl_reading::specs::ReadModes::variables_line))]
 fn variables_line(room: usize, tokens: &mut Cursor<'_>) -> Result<ReprLine, Fault>
     ensures { Reads (spec.variables_line room tokens.old) result tokens.new }
 {
     let line = tokens.line();
     let names = separated(&DeclaredRule, tokens)?;
-    let mode = ColonMode { room }.read(tokens)?;
-    tokens.expect(Kind::Semicolon)?;
+    let both = beside(names, &ColonMode { room }, tokens)?;
+    let (names, mode) = followed(both, Kind::Semicolon, tokens)?;
     Ok(ReprLine::Variables(line, names, mode))
 }
 
@@ -330,13 +350,13 @@ struct LineRule {
 impl Rule for LineRule {
     type Out = ReprLine;
 
-    ghost use Rattle.setl_grammar.specs.ReadModes.{repr_line};
+    ghost use Rattle.setl_reading.specs.ReadModes.{repr_line};
 
     ghost can_read = { λ s. Unit {0} };
 
     ghost reader = { λ s. repr_line s.room };
 
-    #[tactic(auto, unfolding(setl_grammar::specs::ReadModes::repr_line))]
+    #[tactic(auto, unfolding(setl_reading::specs::ReadModes::repr_line))]
     fn read(&self, tokens: &mut Cursor<'_>) -> Result<ReprLine, Fault> {
         if same_kind(tokens.kind(), Kind::Base) {
             return base_line(self.room, tokens);
@@ -346,7 +366,7 @@ impl Rule for LineRule {
 }
 
 impl Repeated for LineRule {
-    ghost use Rattle.setl_grammar.specs.ReadModes.{begins_line};
+    ghost use Rattle.setl_reading.specs.ReadModes.{begins_line};
 
     ghost begins_with = { λ s. begins_line };
 
@@ -364,24 +384,23 @@ pub struct ReprRule {
 impl Rule for ReprRule {
     type Out = Items<ReprLine>;
 
-    ghost use Rattle.setl_grammar.specs.ReadModes.{repr};
+    ghost use Rattle.setl_reading.specs.ReadModes.{repr};
 
     ghost can_read = { λ s. Unit {0} };
 
     ghost reader = { λ s. repr s.room };
 
-    #[tactic(auto, unfolding(setl_grammar::specs::ReadModes::repr))]
+    #[tactic(auto, unfolding(setl_reading::specs::ReadModes::repr))]
     fn read(&self, tokens: &mut Cursor<'_>) -> Result<Items<ReprLine>, Fault> {
         tokens.expect(Kind::Repr)?;
         let lines = many(&LineRule { room: self.room }, tokens)?;
-        ending(Kind::Repr, tokens)?;
-        Ok(lines)
+        ended(lines, Kind::Repr, tokens)
     }
 }
 
 impl Repeated for ReprRule {
     ghost use Rattle.setl_tree.specs.declared.kind.Kind.TheVariants as k;
-    ghost use Rattle.setl_grammar.specs.Reading.{is};
+    ghost use Rattle.setl_reading.specs.Reading.{is};
 
     ghost begins_with = { λ s. is k.Repr };
 

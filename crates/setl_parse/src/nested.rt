@@ -1,20 +1,21 @@
 //! Statements that hold statements.
 
 ghost use Rattle.std.specs.Prelude.{◌≡◌};
-ghost use Rattle.setl_grammar.specs.Reading.{Reads};
-ghost use Rattle.setl_grammar.specs.ReadStatements as spec;
-ghost use Rattle.setl_grammar.specs.ReadStatements.{nested_stmts};
+ghost use Rattle.setl_reading.specs.Reading.{Reads};
+ghost use Rattle.setl_reading.specs.ReadStatements as spec;
+ghost use Rattle.setl_reading.specs.ReadStatements.{nested_stmts};
 ghost use Rattle.setl_parse.specs.Nests.{NestsStmts};
 ghost use Rattle.setl_parse.specs.Parts as parts;
 
 use crate::statements::{
-    behind_name, ending, print_stmt, read_stmt, return_stmt, simple_stmt, tuple_assign,
+    behind_name, ended, print_stmt, read_stmt, return_stmt, simple_stmt, tuple_assign,
 };
 use setl_expressions::{
-    Condition, Cursor, Repeated, Rule, followed, iters, many, nested_expr, optional, same_kind,
+    Condition, Cursor, Repeated, Rule, followed, iters, many, nested_expr, same_kind, with_many,
+    with_optional,
 };
-use setl_grammar::Fault;
-use setl_tree::{Branch, Items, Kind, Stmt, StmtKind};
+use setl_reading::Fault;
+use setl_tree::{Branch, Expr, Items, Iter, Kind, Stmt, StmtKind};
 
 /// The rules of statements where so many nestings may still open. Each takes the statements that stand one nesting
 /// deeper from `deep`, and is so proved by itself.
@@ -24,7 +25,7 @@ pub struct Statements<G> {
     pub deep: G,
 }
 
-#[tactic(auto, unfolding(setl_grammar::specs::ReadStatements::begins_stmt))]
+#[tactic(auto, unfolding(setl_reading::specs::ReadStatements::begins_stmt))]
 fn begins_stmt(kind: Kind) -> bool
     ensures { result ≡ spec.begins_stmt kind }
 {
@@ -55,8 +56,8 @@ impl<'s, G: Fn(&mut Cursor<'_>, usize) -> Result<Items<Stmt>, Fault>> Rule for E
     type Out = Branch;
 
     ghost use Rattle.setl_tree.specs.declared.kind.Kind.TheVariants as k;
-    ghost use Rattle.setl_grammar.specs.Reading.{expect, ◌>>◌};
-    ghost use Rattle.setl_grammar.specs.ReadStatements.{nested_stmts, branch};
+    ghost use Rattle.setl_reading.specs.Reading.{expect, ◌>>◌};
+    ghost use Rattle.setl_reading.specs.ReadStatements.{nested_stmts, branch};
     ghost use Rattle.setl_parse.specs.Nests.{NestsStmts};
 
     ghost can_read = { λ s. NestsStmts s.statements.now.room (G.pre s.statements.now.deep) (G.post s.statements.now.deep) };
@@ -72,7 +73,7 @@ impl<'s, G: Fn(&mut Cursor<'_>, usize) -> Result<Items<Stmt>, Fault>> Rule for E
 impl<'s, G: Fn(&mut Cursor<'_>, usize) -> Result<Items<Stmt>, Fault>> Repeated
     for ElseifRule<'s, G> {
     ghost use Rattle.setl_tree.specs.declared.kind.Kind.TheVariants as k;
-    ghost use Rattle.setl_grammar.specs.Reading.{is};
+    ghost use Rattle.setl_reading.specs.Reading.{is};
 
     ghost begins_with = { λ s. is k.Elseif };
 
@@ -91,8 +92,8 @@ impl<'s, G: Fn(&mut Cursor<'_>, usize) -> Result<Items<Stmt>, Fault>> Rule for E
     type Out = Items<Stmt>;
 
     ghost use Rattle.setl_tree.specs.declared.kind.Kind.TheVariants as k;
-    ghost use Rattle.setl_grammar.specs.Reading.{expect, ◌>>◌};
-    ghost use Rattle.setl_grammar.specs.ReadStatements.{nested_stmts};
+    ghost use Rattle.setl_reading.specs.Reading.{expect, ◌>>◌};
+    ghost use Rattle.setl_reading.specs.ReadStatements.{nested_stmts};
     ghost use Rattle.setl_parse.specs.Nests.{NestsStmts};
 
     ghost can_read = { λ s. NestsStmts s.statements.now.room (G.pre s.statements.now.deep) (G.post s.statements.now.deep) };
@@ -107,7 +108,7 @@ impl<'s, G: Fn(&mut Cursor<'_>, usize) -> Result<Items<Stmt>, Fault>> Rule for E
 
 impl<'s, G: Fn(&mut Cursor<'_>, usize) -> Result<Items<Stmt>, Fault>> Repeated for ElseRule<'s, G> {
     ghost use Rattle.setl_tree.specs.declared.kind.Kind.TheVariants as k;
-    ghost use Rattle.setl_grammar.specs.Reading.{is};
+    ghost use Rattle.setl_reading.specs.Reading.{is};
 
     ghost begins_with = { λ s. is k.Else };
 
@@ -126,8 +127,8 @@ impl<'s, G: Fn(&mut Cursor<'_>, usize) -> Result<Items<Stmt>, Fault>> Rule for S
     type Out = Stmt;
 
     ghost use Rattle.setl_tree.specs.declared.kind.Kind.TheVariants as k;
-    ghost use Rattle.setl_grammar.specs.Reading.{is};
-    ghost use Rattle.setl_grammar.specs.ReadStatements.{nested_stmts, stmt};
+    ghost use Rattle.setl_reading.specs.Reading.{is};
+    ghost use Rattle.setl_reading.specs.ReadStatements.{nested_stmts, stmt};
     ghost use Rattle.setl_parse.specs.Nests.{NestsStmts};
 
     ghost can_read = { λ s. NestsStmts s.statements.now.room (G.pre s.statements.now.deep) (G.post s.statements.now.deep) };
@@ -140,13 +141,23 @@ impl<'s, G: Fn(&mut Cursor<'_>, usize) -> Result<Items<Stmt>, Fault>> Rule for S
 }
 
 impl<'s, G: Fn(&mut Cursor<'_>, usize) -> Result<Items<Stmt>, Fault>> Repeated for StmtRule<'s, G> {
-    ghost use Rattle.setl_grammar.specs.ReadStatements.{begins_stmt};
+    ghost use Rattle.setl_reading.specs.ReadStatements.{begins_stmt};
 
     ghost begins_with = { λ s. begins_stmt };
 
     fn begins(&self, kind: Kind) -> bool {
         begins_stmt(kind)
     }
+}
+
+/// The iterators of a loop, and its condition, behind `(`.
+fn for_head(room: usize, tokens: &mut Cursor<'_>) -> Result<(Items<Iter>, Option<Expr>), Fault>
+    ensures { Reads (parts.for_head room tokens.old) result tokens.new }
+{
+    tokens.expect(Kind::For)?;
+    let over = iters(room, tokens)?;
+    let head = with_optional(over, &Condition { room }, tokens)?;
+    followed(head, Kind::RightParen, tokens)
 }
 
 impl<G: Fn(&mut Cursor<'_>, usize) -> Result<Items<Stmt>, Fault>> Statements<G> {
@@ -177,13 +188,12 @@ impl<G: Fn(&mut Cursor<'_>, usize) -> Result<Items<Stmt>, Fault>> Statements<G> 
         requires { NestsStmts self.now.room (G.pre self.now.deep) (G.post self.now.deep) }
         ensures { Reads (parts.looping head word (nested_stmts self.now.room) tokens.old) result tokens.new }
     {
-        let body = self.deeper(tokens)?;
-        ending(word, tokens)?;
-        Ok((head, body))
+        let both = self.guarding(head, tokens)?;
+        ended(both, word, tokens)
     }
 
     /// A condition with the statements that it guards.
-    #[tactic(auto, unfolding(setl_grammar::specs::ReadStatements::branch))]
+    #[tactic(auto, unfolding(setl_reading::specs::ReadStatements::branch))]
     fn branch(&self, tokens: &mut Cursor<'_>) -> Result<Branch, Fault>
         requires { NestsStmts self.now.room (G.pre self.now.deep) (G.post self.now.deep) }
         ensures { Reads (spec.branch self.now.room (nested_stmts self.now.room) tokens.old) result tokens.new }
@@ -194,7 +204,7 @@ impl<G: Fn(&mut Cursor<'_>, usize) -> Result<Items<Stmt>, Fault>> Statements<G> 
     }
 
     /// The first branch of a conditional statement, and what stands behind it.
-    #[tactic(auto, unfolding(setl_grammar::specs::ReadStatements::elseifs, setl_grammar::specs::ReadStatements::else_part))]
+    #[tactic(auto, unfolding(setl_reading::specs::ReadStatements::elseifs, setl_reading::specs::ReadStatements::else_part))]
     fn branching<T: Drop>(
         &self,
         first: T,
@@ -203,14 +213,14 @@ impl<G: Fn(&mut Cursor<'_>, usize) -> Result<Items<Stmt>, Fault>> Statements<G> 
         requires { NestsStmts self.now.room (G.pre self.now.deep) (G.post self.now.deep) }
         ensures { Reads (parts.branching first self.now.room (nested_stmts self.now.room) tokens.old) result tokens.new }
     {
-        let others = many(&ElseifRule { statements: self }, tokens)?;
-        let last = optional(&ElseRule { statements: self }, tokens)?;
-        ending(Kind::If, tokens)?;
+        let front = with_many(first, &ElseifRule { statements: self }, tokens)?;
+        let all = with_optional(front, &ElseRule { statements: self }, tokens)?;
+        let ((first, others), last) = ended(all, Kind::If, tokens)?;
         Ok((first, others, last))
     }
 
     /// A conditional statement.
-    #[tactic(auto, unfolding(setl_grammar::specs::ReadStatements::if_stmt))]
+    #[tactic(auto, unfolding(setl_reading::specs::ReadStatements::if_stmt))]
     fn if_stmt(&self, tokens: &mut Cursor<'_>) -> Result<StmtKind, Fault>
         requires { NestsStmts self.now.room (G.pre self.now.deep) (G.post self.now.deep) }
         ensures { Reads (spec.if_stmt self.now.room (nested_stmts self.now.room) tokens.old) result tokens.new }
@@ -222,21 +232,18 @@ impl<G: Fn(&mut Cursor<'_>, usize) -> Result<Items<Stmt>, Fault>> Statements<G> 
     }
 
     /// A loop over iterators behind `(`.
-    #[tactic(auto, unfolding(setl_grammar::specs::ReadStatements::for_loop))]
+    #[tactic(auto, unfolding(setl_reading::specs::ReadStatements::for_loop))]
     fn for_loop(&self, tokens: &mut Cursor<'_>) -> Result<StmtKind, Fault>
         requires { NestsStmts self.now.room (G.pre self.now.deep) (G.post self.now.deep) }
         ensures { Reads (spec.for_loop self.now.room (nested_stmts self.now.room) tokens.old) result tokens.new }
     {
-        tokens.expect(Kind::For)?;
-        let over = iters(self.room, tokens)?;
-        let condition = optional(&Condition { room: self.room }, tokens)?;
-        let condition = followed(condition, Kind::RightParen, tokens)?;
-        let (head, body) = self.looping((over, condition), Kind::For, tokens)?;
+        let head = for_head(self.room, tokens)?;
+        let (head, body) = self.looping(head, Kind::For, tokens)?;
         Ok(StmtKind::For(head.0, head.1, body))
     }
 
     /// A loop under a condition behind `(`.
-    #[tactic(auto, unfolding(setl_grammar::specs::ReadStatements::while_loop))]
+    #[tactic(auto, unfolding(setl_reading::specs::ReadStatements::while_loop))]
     fn while_loop(&self, tokens: &mut Cursor<'_>) -> Result<StmtKind, Fault>
         requires { NestsStmts self.now.room (G.pre self.now.deep) (G.post self.now.deep) }
         ensures { Reads (spec.while_loop self.now.room (nested_stmts self.now.room) tokens.old) result tokens.new }
@@ -248,7 +255,7 @@ impl<G: Fn(&mut Cursor<'_>, usize) -> Result<Items<Stmt>, Fault>> Statements<G> 
     }
 
     /// A loop.
-    #[tactic(auto, unfolding(setl_grammar::specs::ReadStatements::for_or_while))]
+    #[tactic(auto, unfolding(setl_reading::specs::ReadStatements::for_or_while))]
     fn loop_stmt(&self, tokens: &mut Cursor<'_>) -> Result<StmtKind, Fault>
         requires { NestsStmts self.now.room (G.pre self.now.deep) (G.post self.now.deep) }
         ensures { Reads (spec.loop self.now.room (nested_stmts self.now.room) tokens.old) result tokens.new }
@@ -261,7 +268,7 @@ impl<G: Fn(&mut Cursor<'_>, usize) -> Result<Items<Stmt>, Fault>> Statements<G> 
     }
 
     /// A statement without its line.
-    #[tactic(auto, unfolding(setl_grammar::specs::ReadStatements::stmt_kind))]
+    #[tactic(auto, unfolding(setl_reading::specs::ReadStatements::stmt_kind))]
     fn stmt_kind(&self, tokens: &mut Cursor<'_>) -> Result<StmtKind, Fault>
         requires { NestsStmts self.now.room (G.pre self.now.deep) (G.post self.now.deep) }
         ensures { Reads (spec.stmt_kind self.now.room (nested_stmts self.now.room) tokens.old) result tokens.new }
@@ -282,7 +289,7 @@ impl<G: Fn(&mut Cursor<'_>, usize) -> Result<Items<Stmt>, Fault>> Statements<G> 
     }
 
     /// A statement.
-    #[tactic(auto, unfolding(setl_grammar::specs::ReadStatements::stmt))]
+    #[tactic(auto, unfolding(setl_reading::specs::ReadStatements::stmt))]
     fn stmt(&self, tokens: &mut Cursor<'_>) -> Result<Stmt, Fault>
         requires { NestsStmts self.now.room (G.pre self.now.deep) (G.post self.now.deep) }
         ensures { Reads (spec.stmt self.now.room (nested_stmts self.now.room) tokens.old) result tokens.new }
@@ -293,7 +300,7 @@ impl<G: Fn(&mut Cursor<'_>, usize) -> Result<Items<Stmt>, Fault>> Statements<G> 
     }
 
     /// Statements.
-    #[tactic(auto, unfolding(setl_grammar::specs::ReadStatements::stmts))]
+    #[tactic(auto, unfolding(setl_reading::specs::ReadStatements::stmts))]
     pub fn all(&self, tokens: &mut Cursor<'_>) -> Result<Items<Stmt>, Fault>
         requires { NestsStmts self.now.room (G.pre self.now.deep) (G.post self.now.deep) }
         ensures { Reads (spec.stmts self.now.room tokens.old) result tokens.new }

@@ -2,17 +2,23 @@
 
 ghost use Rattle.std.specs.Prelude.{◌≡◌, IfOk, IfErr, Ok, Err};
 ghost use Rattle.setl_tree.specs.Programs as grammar;
-ghost use Rattle.setl_grammar.specs.Reading.{Reads};
-ghost use Rattle.setl_grammar.specs.ReadPrograms as spec;
+ghost use Rattle.setl_tree.specs.declared.kind.Kind.TheVariants as k;
+ghost use Rattle.setl_reading.specs.Reading.{Reads, is, expect};
+ghost use Rattle.setl_reading.specs.ReadPrograms as spec;
 ghost use Rattle.setl_expressions.specs.Plain.{next_token};
+ghost use Rattle.setl_expressions.specs.Behind.{beside};
+ghost use Rattle.setl_parse.specs.Parts as parts;
 ghost use Rattle.setl_parse.specs.Parts.{proc_from, program_from};
 
 use crate::modes::{DeclaredRule, ReprRule};
 use crate::nested::stmts;
 use crate::statements::NameRule;
-use setl_expressions::{Cursor, Repeated, Rule, listed, many, optional, same_kind, separated};
-use setl_grammar::Fault;
-use setl_tree::{Declared, Items, Kind, Param, Passing, Proc, ReprLine, Text, Tree};
+use setl_expressions::{
+    Cursor, ListedRule, Repeated, Rule, beside, enclosed, followed, many, optional, same_kind,
+    separated, with_many, with_optional,
+};
+use setl_reading::Fault;
+use setl_tree::{Declared, Items, Kind, Param, Passing, Proc, ReprLine, Stmt, Text, Tree};
 use std::alloc::{AllocError, Global};
 
 /// How a parameter is passed, by its word.
@@ -29,7 +35,7 @@ fn passing(kind: Kind) -> Option<Passing>
 }
 
 /// The words that begin a procedure.
-#[tactic(auto, unfolding(setl_grammar::specs::ReadPrograms::begins_proc))]
+#[tactic(auto, unfolding(setl_reading::specs::ReadPrograms::begins_proc))]
 fn begins_proc(kind: Kind) -> bool
     ensures { result ≡ spec.begins_proc kind }
 {
@@ -47,13 +53,13 @@ impl Rule for PassingRule {
     type Out = Passing;
 
     ghost use Rattle.setl_tree.specs.Programs.{passing};
-    ghost use Rattle.setl_grammar.specs.Reading.{one_of};
+    ghost use Rattle.setl_reading.specs.Reading.{one_of};
 
     ghost can_read = { λ s. Unit {0} };
 
     ghost reader = { λ s. one_of passing };
 
-    #[tactic(auto, unfolding(setl_grammar::specs::Reading::one_of))]
+    #[tactic(auto, unfolding(setl_reading::specs::Reading::one_of))]
     fn read(&self, tokens: &mut Cursor<'_>) -> Result<Passing, Fault> {
         let Some(word) = passing(tokens.kind()) else {
             return Err(tokens.refuse());
@@ -65,7 +71,7 @@ impl Rule for PassingRule {
 
 impl Repeated for PassingRule {
     ghost use Rattle.setl_tree.specs.Programs.{passing};
-    ghost use Rattle.setl_grammar.specs.Reading.{begins_as};
+    ghost use Rattle.setl_reading.specs.Reading.{begins_as};
 
     ghost begins_with = { λ s. begins_as passing };
 
@@ -75,18 +81,19 @@ impl Repeated for PassingRule {
 }
 
 /// A parameter.
+#[derive(Drop)]
 struct ParamRule;
 
 impl Rule for ParamRule {
     type Out = Param;
 
-    ghost use Rattle.setl_grammar.specs.ReadPrograms.{param};
+    ghost use Rattle.setl_reading.specs.ReadPrograms.{param};
 
     ghost can_read = { λ s. Unit {0} };
 
     ghost reader = { λ s. param };
 
-    #[tactic(auto, unfolding(setl_grammar::specs::ReadPrograms::param, setl_grammar::specs::ReadPrograms::passed))]
+    #[tactic(auto, unfolding(setl_reading::specs::ReadPrograms::param, setl_reading::specs::ReadPrograms::passed))]
     fn read(&self, tokens: &mut Cursor<'_>) -> Result<Param, Fault> {
         let line = tokens.line();
         let passing = optional(&PassingRule, tokens)?.unwrap_or(Passing::Rd);
@@ -108,24 +115,25 @@ struct ParamsRule {
 impl Rule for ParamsRule {
     type Out = Items<Param>;
 
-    ghost use Rattle.setl_grammar.specs.ReadPrograms.{params};
+    ghost use Rattle.setl_reading.specs.ReadPrograms.{params};
 
     ghost can_read = { λ s. Unit {0} };
 
     ghost reader = { λ s. params s.room };
 
-    #[tactic(auto, unfolding(setl_grammar::specs::ReadPrograms::params))]
+    #[tactic(auto, unfolding(setl_reading::specs::ReadPrograms::params))]
     fn read(&self, tokens: &mut Cursor<'_>) -> Result<Items<Param>, Fault> {
-        tokens.open(self.room, Kind::LeftParen)?;
-        let all = listed(Kind::RightParen, &ParamRule, tokens)?;
-        tokens.expect(Kind::RightParen)?;
-        Ok(all)
+        let all = ListedRule {
+            close: Kind::RightParen,
+            item: ParamRule,
+        };
+        enclosed(self.room, Kind::LeftParen, &all, Kind::RightParen, tokens)
     }
 }
 
 impl Repeated for ParamsRule {
     ghost use Rattle.setl_tree.specs.declared.kind.Kind.TheVariants as k;
-    ghost use Rattle.setl_grammar.specs.Reading.{is};
+    ghost use Rattle.setl_reading.specs.Reading.{is};
 
     ghost begins_with = { λ s. is k.LeftParen };
 
@@ -140,24 +148,23 @@ struct VarRule;
 impl Rule for VarRule {
     type Out = Items<Declared>;
 
-    ghost use Rattle.setl_grammar.specs.ReadPrograms.{var};
+    ghost use Rattle.setl_reading.specs.ReadPrograms.{var};
 
     ghost can_read = { λ s. Unit {0} };
 
     ghost reader = { λ s. var };
 
-    #[tactic(auto, unfolding(setl_grammar::specs::ReadPrograms::var))]
+    #[tactic(auto, unfolding(setl_reading::specs::ReadPrograms::var))]
     fn read(&self, tokens: &mut Cursor<'_>) -> Result<Items<Declared>, Fault> {
         tokens.expect(Kind::Var)?;
         let names = separated(&DeclaredRule, tokens)?;
-        tokens.expect(Kind::Semicolon)?;
-        Ok(names)
+        followed(names, Kind::Semicolon, tokens)
     }
 }
 
 impl Repeated for VarRule {
     ghost use Rattle.setl_tree.specs.declared.kind.Kind.TheVariants as k;
-    ghost use Rattle.setl_grammar.specs.Reading.{is};
+    ghost use Rattle.setl_reading.specs.Reading.{is};
 
     ghost begins_with = { λ s. is k.Var };
 
@@ -179,7 +186,7 @@ fn joined(alloc: Global, lists: Items<Items<Declared>>) -> Result<Items<Declared
 }
 
 /// The word that begins a procedure.
-#[tactic(auto, unfolding(setl_grammar::specs::ReadPrograms::proc_word))]
+#[tactic(auto, unfolding(setl_reading::specs::ReadPrograms::proc_word))]
 fn proc_word(tokens: &mut Cursor<'_>) -> Result<(), Fault>
     ensures ok { IfOk result (λ _. spec.proc_word tokens.old ≡ Ok (next_token tokens.old, tokens.new)) }
     ensures err { IfErr result (λ e. spec.proc_word tokens.old ≡ Err e) }
@@ -190,38 +197,86 @@ fn proc_word(tokens: &mut Cursor<'_>) -> Result<(), Fault>
     tokens.expect(Kind::Procedure)
 }
 
+/// The word behind the `end` of a procedure, with its name; both may be left out.
+#[tactic(auto, unfolding(setl_reading::specs::ReadPrograms::optional_name))]
+fn proc_name(tokens: &mut Cursor<'_>) -> Result<Option<Text>, Fault>
+    ensures { Reads (parts.name_behind_end spec.begins_proc spec.proc_word tokens.old) result tokens.new }
+{
+    if !begins_proc(tokens.kind()) {
+        return Ok(None);
+    }
+    proc_word(tokens)?;
+    optional(&NameRule, tokens)
+}
+
 /// The end of a procedure.
-#[tactic(auto, unfolding(setl_grammar::specs::ReadPrograms::named_ending, setl_grammar::specs::ReadPrograms::optional_name))]
+#[tactic(auto, unfolding(setl_reading::specs::ReadPrograms::named_ending))]
 fn proc_end(tokens: &mut Cursor<'_>) -> Result<(u32, Option<Text>), Fault>
     ensures { Reads (spec.named_ending spec.begins_proc spec.proc_word tokens.old) result tokens.new }
 {
     let line = tokens.line();
     tokens.expect(Kind::End)?;
-    if !begins_proc(tokens.kind()) {
-        tokens.expect(Kind::Semicolon)?;
-        return Ok((line, None));
+    let name = proc_name(tokens)?;
+    followed((line, name), Kind::Semicolon, tokens)
+}
+
+/// The word behind the `end` of a program, with its name; both may be left out.
+#[tactic(auto, unfolding(setl_reading::specs::ReadPrograms::optional_name))]
+fn program_name(tokens: &mut Cursor<'_>) -> Result<Option<Text>, Fault>
+    ensures { Reads (parts.name_behind_end (is k.Program) (expect k.Program) tokens.old) result tokens.new }
+{
+    if !same_kind(tokens.kind(), Kind::Program) {
+        return Ok(None);
     }
-    proc_word(tokens)?;
-    let name = optional(&NameRule, tokens)?;
-    tokens.expect(Kind::Semicolon)?;
-    Ok((line, name))
+    tokens.expect(Kind::Program)?;
+    optional(&NameRule, tokens)
 }
 
 /// The end of a program.
-#[tactic(auto, unfolding(setl_grammar::specs::ReadPrograms::program_end, setl_grammar::specs::ReadPrograms::named_ending, setl_grammar::specs::ReadPrograms::optional_name))]
+#[tactic(auto, unfolding(setl_reading::specs::ReadPrograms::program_end, setl_reading::specs::ReadPrograms::named_ending))]
 fn program_end(tokens: &mut Cursor<'_>) -> Result<(u32, Option<Text>), Fault>
     ensures { Reads (spec.program_end tokens.old) result tokens.new }
 {
     let line = tokens.line();
     tokens.expect(Kind::End)?;
-    if !same_kind(tokens.kind(), Kind::Program) {
-        tokens.expect(Kind::Semicolon)?;
-        return Ok((line, None));
-    }
-    tokens.expect(Kind::Program)?;
-    let name = optional(&NameRule, tokens)?;
-    tokens.expect(Kind::Semicolon)?;
-    Ok((line, name))
+    let name = program_name(tokens)?;
+    followed((line, name), Kind::Semicolon, tokens)
+}
+
+/// What was read of a procedure, and beside it its end.
+fn with_proc_end<T: Drop>(
+    head: T,
+    tokens: &mut Cursor<'_>,
+) -> Result<(T, (u32, Option<Text>)), Fault>
+    ensures { Reads (beside head (spec.named_ending spec.begins_proc spec.proc_word) tokens.old) result tokens.new }
+{
+    let end = proc_end(tokens)?;
+    Ok((head, end))
+}
+
+/// What was read of a program, and beside it its end.
+fn with_program_end<T: Drop>(
+    head: T,
+    tokens: &mut Cursor<'_>,
+) -> Result<(T, (u32, Option<Text>)), Fault>
+    ensures { Reads (beside head spec.program_end tokens.old) result tokens.new }
+{
+    let end = program_end(tokens)?;
+    Ok((head, end))
+}
+
+/// What was read of a procedure, and behind it `;`, its statements and its end.
+fn proc_parts<T: Drop>(
+    head: T,
+    room: usize,
+    tokens: &mut Cursor<'_>,
+) -> Result<(T, Items<Stmt>, (u32, Option<Text>)), Fault>
+    ensures { Reads (parts.proc_parts head room tokens.old) result tokens.new }
+{
+    let head = followed(head, Kind::Semicolon, tokens)?;
+    let body = stmts(room, tokens)?;
+    let (both, end) = with_proc_end((head, body), tokens)?;
+    Ok((both.0, both.1, end))
 }
 
 /// A procedure behind its parameters.
@@ -234,16 +289,14 @@ fn proc_body(
 ) -> Result<Proc, Fault>
     ensures { Reads (proc_from room line name params tokens.old) result tokens.new }
 {
-    tokens.expect(Kind::Semicolon)?;
-    let body = stmts(room, tokens)?;
-    let (end_line, end_name) = proc_end(tokens)?;
+    let (head, body, end) = proc_parts((name, params), room, tokens)?;
     Ok(Proc {
         line,
-        name,
-        params,
+        name: head.0,
+        params: head.1,
         body,
-        end_name,
-        end_line,
+        end_name: end.1,
+        end_line: end.0,
     })
 }
 
@@ -256,13 +309,13 @@ struct ProcRule {
 impl Rule for ProcRule {
     type Out = Proc;
 
-    ghost use Rattle.setl_grammar.specs.ReadPrograms.{proc};
+    ghost use Rattle.setl_reading.specs.ReadPrograms.{proc};
 
     ghost can_read = { λ s. Unit {0} };
 
     ghost reader = { λ s. proc s.room };
 
-    #[tactic(auto, unfolding(setl_grammar::specs::ReadPrograms::proc))]
+    #[tactic(auto, unfolding(setl_reading::specs::ReadPrograms::proc))]
     fn read(&self, tokens: &mut Cursor<'_>) -> Result<Proc, Fault> {
         let line = tokens.line();
         proc_word(tokens)?;
@@ -275,7 +328,7 @@ impl Rule for ProcRule {
 }
 
 impl Repeated for ProcRule {
-    ghost use Rattle.setl_grammar.specs.ReadPrograms.{begins_proc};
+    ghost use Rattle.setl_reading.specs.ReadPrograms.{begins_proc};
 
     ghost begins_with = { λ s. begins_proc };
 
@@ -284,8 +337,22 @@ impl Repeated for ProcRule {
     }
 }
 
+/// What was read of a program, and behind it its statements, its procedures and its end.
+#[tactic(auto, unfolding(setl_reading::specs::ReadPrograms::procs))]
+fn program_parts<T: Drop>(
+    head: T,
+    room: usize,
+    tokens: &mut Cursor<'_>,
+) -> Result<(T, Items<Stmt>, Items<Proc>, (u32, Option<Text>)), Fault>
+    ensures { Reads (parts.program_parts head room tokens.old) result tokens.new }
+{
+    let body = stmts(room, tokens)?;
+    let both = with_many((head, body), &ProcRule { room }, tokens)?;
+    let (((head, body), procs), end) = with_program_end(both, tokens)?;
+    Ok((head, body, procs, end))
+}
+
 /// A program behind its declarations.
-#[tactic(auto, unfolding(setl_grammar::specs::ReadPrograms::procs))]
 fn program_body(
     room: usize,
     name: Text,
@@ -295,30 +362,54 @@ fn program_body(
 ) -> Result<Tree, Fault>
     ensures { Reads (program_from room name vars modes tokens.old) result tokens.new }
 {
-    let body = stmts(room, tokens)?;
-    let procs = many(&ProcRule { room }, tokens)?;
-    let (end_line, end_name) = program_end(tokens)?;
+    let (head, body, procs, end) = program_parts((name, vars, modes), room, tokens)?;
     Ok(Tree {
-        name,
-        vars,
-        modes,
+        name: head.0,
+        vars: head.1,
+        modes: head.2,
         body,
         procs,
-        end_name,
-        end_line,
+        end_name: end.1,
+        end_line: end.0,
     })
 }
 
-/// A program.
-#[tactic(auto, unfolding(setl_grammar::specs::ReadPrograms::program, setl_grammar::specs::ReadPrograms::vars))]
-pub fn program(room: usize, tokens: &mut Cursor<'_>) -> Result<Tree, Fault>
-    ensures { Reads (spec.program room tokens.old) result tokens.new }
+/// `program name;`
+fn program_head(tokens: &mut Cursor<'_>) -> Result<Text, Fault>
+    ensures { Reads (parts.program_head tokens.old) result tokens.new }
 {
     tokens.expect(Kind::Program)?;
     let name = tokens.name()?;
-    tokens.expect(Kind::Semicolon)?;
-    let vars = many(&VarRule, tokens)?;
-    let vars = joined(tokens.alloc(), vars)?;
-    let modes = optional(&ReprRule { room }, tokens)?.unwrap_or(Items::new(tokens.alloc()));
+    followed(name, Kind::Semicolon, tokens)
+}
+
+/// The names of the `var` lines.
+struct VarsRule;
+
+impl Rule for VarsRule {
+    type Out = Items<Declared>;
+
+    ghost use Rattle.setl_parse.specs.Parts.{joined_vars};
+
+    ghost can_read = { λ s. Unit {0} };
+
+    ghost reader = { λ s. joined_vars };
+
+    #[tactic(auto, unfolding(setl_reading::specs::ReadPrograms::vars))]
+    fn read(&self, tokens: &mut Cursor<'_>) -> Result<Items<Declared>, Fault> {
+        let lists = many(&VarRule, tokens)?;
+        Ok(joined(tokens.alloc(), lists)?)
+    }
+}
+
+/// A program.
+#[tactic(auto, unfolding(setl_reading::specs::ReadPrograms::program, setl_reading::specs::ReadPrograms::vars))]
+pub fn program(room: usize, tokens: &mut Cursor<'_>) -> Result<Tree, Fault>
+    ensures { Reads (spec.program room tokens.old) result tokens.new }
+{
+    let name = program_head(tokens)?;
+    let both = beside(name, &VarsRule, tokens)?;
+    let ((name, vars), modes) = with_optional(both, &ReprRule { room }, tokens)?;
+    let modes = modes.unwrap_or(Items::new(tokens.alloc()));
     program_body(room, name, vars, modes, tokens)
 }

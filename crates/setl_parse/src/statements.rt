@@ -4,14 +4,15 @@ ghost use Rattle.std.specs.Prelude.{◌≡◌, IfOk, IfErr, Ok, Err, [], ◌∷�
 ghost use Rattle.setl_tree.specs.Operators as table;
 ghost use Rattle.setl_tree.specs.Statements as grammar;
 ghost use Rattle.setl_tree.specs.Tokens.{Token};
-ghost use Rattle.setl_grammar.specs.Reading.{Reads, begins_as};
-ghost use Rattle.setl_grammar.specs.ReadStatements as spec;
+ghost use Rattle.setl_reading.specs.Reading.{Reads, begins_as};
+ghost use Rattle.setl_reading.specs.ReadStatements as spec;
+ghost use Rattle.setl_parse.specs.Parts as parts;
 
 use setl_expressions::{
-    Cursor, NestedExpr, Repeated, Rule, begins_selector, braces, expr, followed, listed, many,
-    pattern, same_kind, separated, with_first,
+    Cursor, ListedRule, NestedExpr, Repeated, Rule, SeparatedRule, begins_selector, beside, braces,
+    enclosed, expr, followed, many_onto, one, pattern, same_kind, with_many,
 };
-use setl_grammar::Fault;
+use setl_reading::Fault;
 use setl_tree::{BinaryOp, Expr, FromEnd, Items, Kind, Place, Selector, StmtKind, Text};
 
 /// The operator that may stand before `:=`.
@@ -76,7 +77,7 @@ fn is_simple(kind: Kind) -> bool
 }
 
 /// Reads `end`, maybe this word, and `;`.
-#[tactic(auto, unfolding(setl_grammar::specs::ReadStatements::ending))]
+#[tactic(auto, unfolding(setl_reading::specs::ReadStatements::ending))]
 pub fn ending(word: Kind, tokens: &mut Cursor<'_>) -> Result<(), Fault>
     ensures ok { IfOk result (λ _. (t : Token) × (spec.ending word tokens.old ≡ Ok (t, tokens.new))) }
     ensures err { IfErr result (λ e. spec.ending word tokens.old ≡ Err e) }
@@ -89,14 +90,47 @@ pub fn ending(word: Kind, tokens: &mut Cursor<'_>) -> Result<(), Fault>
     Ok(())
 }
 
+/// What was read, behind which `end`, maybe this word, and `;` stand.
+pub fn ended<T: Drop>(head: T, word: Kind, tokens: &mut Cursor<'_>) -> Result<T, Fault>
+    ensures { Reads (parts.ended head word tokens.old) result tokens.new }
+{
+    ending(word, tokens)?;
+    Ok(head)
+}
+
+/// What was read, and behind `:=` a value up to `;`.
+fn valued<T: Drop>(head: T, room: usize, tokens: &mut Cursor<'_>) -> Result<(T, Expr), Fault>
+    ensures { Reads (parts.valued head room tokens.old) result tokens.new }
+{
+    let head = followed(head, Kind::Assign, tokens)?;
+    let value = expr(room, tokens)?;
+    followed((head, value), Kind::Semicolon, tokens)
+}
+
+/// A word, and in round brackets up to `;` what it is of.
+fn command<R: Rule>(
+    word: Kind,
+    room: usize,
+    rule: &R,
+    tokens: &mut Cursor<'_>,
+) -> Result<R::Out, Fault>
+    requires { R.can_read rule.now }
+    ensures { Reads (parts.command word room (R.reader rule.now) tokens.old) result tokens.new }
+{
+    tokens.expect(word)?;
+    let part = enclosed(room, Kind::LeftParen, rule, Kind::RightParen, tokens)?;
+    followed(part, Kind::Semicolon, tokens)
+}
+
 /// Expressions in the round brackets of a place.
-#[tactic(auto, unfolding(setl_grammar::specs::ReadStatements::place_round))]
+#[tactic(auto, unfolding(setl_reading::specs::ReadStatements::place_round))]
 fn place_round(room: usize, tokens: &mut Cursor<'_>) -> Result<Selector, Fault>
     ensures { Reads (spec.place_round room tokens.old) result tokens.new }
 {
-    tokens.open(room, Kind::LeftParen)?;
-    let all = separated(&NestedExpr { room }, tokens)?;
-    tokens.expect(Kind::RightParen)?;
+    let all = SeparatedRule {
+        item: NestedExpr { room },
+    };
+    let all = enclosed(room, Kind::LeftParen, &all, Kind::RightParen, tokens)?;
     Ok(Selector::Round(all))
 }
 
@@ -109,13 +143,13 @@ struct PlaceSelector {
 impl Rule for PlaceSelector {
     type Out = Selector;
 
-    ghost use Rattle.setl_grammar.specs.ReadStatements.{place_selector};
+    ghost use Rattle.setl_reading.specs.ReadStatements.{place_selector};
 
     ghost can_read = { λ s. Unit {0} };
 
     ghost reader = { λ s. place_selector s.room };
 
-    #[tactic(auto, unfolding(setl_grammar::specs::ReadStatements::place_selector))]
+    #[tactic(auto, unfolding(setl_reading::specs::ReadStatements::place_selector))]
     fn read(&self, tokens: &mut Cursor<'_>) -> Result<Selector, Fault> {
         if same_kind(tokens.kind(), Kind::LeftParen) {
             return place_round(self.room, tokens);
@@ -125,7 +159,7 @@ impl Rule for PlaceSelector {
 }
 
 impl Repeated for PlaceSelector {
-    ghost use Rattle.setl_grammar.specs.ReadExpressions.{begins_selector};
+    ghost use Rattle.setl_reading.specs.ReadExpressions.{begins_selector};
 
     ghost begins_with = { λ s. begins_selector };
 
@@ -135,27 +169,39 @@ impl Repeated for PlaceSelector {
 }
 
 /// A place.
-#[tactic(auto, unfolding(setl_grammar::specs::ReadStatements::place, setl_grammar::specs::ReadStatements::place_selectors))]
-fn place(room: usize, tokens: &mut Cursor<'_>) -> Result<Place, Fault>
-    ensures { Reads (spec.place room tokens.old) result tokens.new }
-{
-    let name = tokens.name()?;
-    let selectors = many(&PlaceSelector { room }, tokens)?;
-    Ok(Place { name, selectors })
+#[derive(Drop)]
+struct PlaceRule {
+    room: usize,
+}
+
+impl Rule for PlaceRule {
+    type Out = Place;
+
+    ghost use Rattle.setl_reading.specs.ReadStatements.{place};
+
+    ghost can_read = { λ s. Unit {0} };
+
+    ghost reader = { λ s. place s.room };
+
+    #[tactic(auto, unfolding(setl_reading::specs::ReadStatements::place, setl_reading::specs::ReadStatements::place_selectors))]
+    fn read(&self, tokens: &mut Cursor<'_>) -> Result<Place, Fault> {
+        let name = tokens.name()?;
+        let (name, selectors) = with_many(name, &PlaceSelector { room: self.room }, tokens)?;
+        Ok(Place { name, selectors })
+    }
 }
 
 /// `:= value;` behind a place.
-#[tactic(auto, unfolding(setl_grammar::specs::ReadStatements::assigned))]
+#[tactic(auto, unfolding(setl_reading::specs::ReadStatements::assigned))]
 fn assigned(room: usize, place: Place, tokens: &mut Cursor<'_>) -> Result<StmtKind, Fault>
     ensures { Reads (spec.assigned room place tokens.old) result tokens.new }
 {
-    tokens.expect(Kind::Assign)?;
-    let value = followed(expr(room, tokens)?, Kind::Semicolon, tokens)?;
+    let (place, value) = valued(place, room, tokens)?;
     Ok(StmtKind::Assign(place, value))
 }
 
 /// `op := value;` behind a place.
-#[tactic(auto, unfolding(setl_grammar::specs::ReadStatements::updated, setl_grammar::specs::Reading::one_of))]
+#[tactic(auto, unfolding(setl_reading::specs::ReadStatements::updated, setl_reading::specs::Reading::one_of))]
 fn updated(room: usize, place: Place, tokens: &mut Cursor<'_>) -> Result<StmtKind, Fault>
     ensures { Reads (spec.updated room place tokens.old) result tokens.new }
 {
@@ -163,13 +209,12 @@ fn updated(room: usize, place: Place, tokens: &mut Cursor<'_>) -> Result<StmtKin
         return Err(tokens.refuse());
     };
     tokens.pass();
-    tokens.expect(Kind::Assign)?;
-    let value = followed(expr(room, tokens)?, Kind::Semicolon, tokens)?;
+    let (place, value) = valued(place, room, tokens)?;
     Ok(StmtKind::Update(place, op, value))
 }
 
 /// What stands behind a place.
-#[tactic(auto, unfolding(setl_grammar::specs::ReadStatements::stored))]
+#[tactic(auto, unfolding(setl_reading::specs::ReadStatements::stored))]
 fn stored(room: usize, place: Place, tokens: &mut Cursor<'_>) -> Result<StmtKind, Fault>
     ensures { Reads (spec.stored room place tokens.old) result tokens.new }
 {
@@ -179,8 +224,22 @@ fn stored(room: usize, place: Place, tokens: &mut Cursor<'_>) -> Result<StmtKind
     updated(room, place, tokens)
 }
 
+/// What was read, and beside it the selectors of a place, of which these were read.
+#[tactic(auto, unfolding(setl_reading::specs::ReadStatements::place_selectors))]
+fn with_selectors<T: Drop>(
+    head: T,
+    room: usize,
+    first: Items<Selector>,
+    tokens: &mut Cursor<'_>,
+) -> Result<(T, Items<Selector>), Fault>
+    ensures { Reads (parts.with_selectors head room first tokens.old) result tokens.new }
+{
+    let selectors = many_onto(first, &PlaceSelector { room }, tokens)?;
+    Ok((head, selectors))
+}
+
 /// What stands behind the first selector of a place.
-#[tactic(auto, unfolding(setl_grammar::specs::ReadStatements::selected_place, setl_grammar::specs::ReadStatements::place_selectors))]
+#[tactic(auto, unfolding(setl_reading::specs::ReadStatements::selected_place, setl_reading::specs::ReadStatements::place_selectors))]
 fn selected_place(
     room: usize,
     name: Text,
@@ -189,13 +248,13 @@ fn selected_place(
 ) -> Result<StmtKind, Fault>
     ensures { Reads (spec.selected_place room name first tokens.old) result tokens.new }
 {
-    let others = many(&PlaceSelector { room }, tokens)?;
-    let selectors = with_first(tokens.alloc(), first, others)?;
+    let first = one(tokens.alloc(), first)?;
+    let (name, selectors) = with_selectors(name, room, first, tokens)?;
     stored(room, Place { name, selectors }, tokens)
 }
 
 /// What stands behind `name(x, ..)`.
-#[tactic(auto, unfolding(setl_grammar::specs::ReadStatements::after_arguments))]
+#[tactic(auto, unfolding(setl_reading::specs::ReadStatements::after_arguments))]
 fn after_arguments(
     room: usize,
     name: Text,
@@ -205,37 +264,40 @@ fn after_arguments(
     ensures { Reads (spec.after_arguments room name all tokens.old) result tokens.new }
 {
     if same_kind(tokens.kind(), Kind::Semicolon) {
-        tokens.expect(Kind::Semicolon)?;
+        let (name, all) = followed((name, all), Kind::Semicolon, tokens)?;
         return Ok(StmtKind::Call(name, all));
     }
     selected_place(room, name, Selector::Round(all), tokens)
 }
 
 /// What stands behind `name(` where `)` does.
-#[tactic(auto, unfolding(setl_grammar::specs::ReadStatements::no_arguments))]
+#[tactic(auto, unfolding(setl_reading::specs::ReadStatements::no_arguments))]
 fn no_arguments(room: usize, name: Text, tokens: &mut Cursor<'_>) -> Result<StmtKind, Fault>
     ensures { Reads (spec.no_arguments room name tokens.old) result tokens.new }
 {
-    tokens.expect(Kind::RightParen)?;
-    tokens.expect(Kind::Semicolon)?;
+    let name = followed(name, Kind::RightParen, tokens)?;
+    let name = followed(name, Kind::Semicolon, tokens)?;
     Ok(StmtKind::Call(name, Items::new(tokens.alloc())))
 }
 
 /// What stands behind `name(`.
-#[tactic(auto, unfolding(setl_grammar::specs::ReadStatements::called))]
+#[tactic(auto, unfolding(setl_reading::specs::ReadStatements::called))]
 fn called(room: usize, name: Text, tokens: &mut Cursor<'_>) -> Result<StmtKind, Fault>
     ensures { Reads (spec.called room name tokens.old) result tokens.new }
 {
     if same_kind(tokens.kind(), Kind::RightParen) {
         return no_arguments(room, name, tokens);
     }
-    let all = separated(&NestedExpr { room }, tokens)?;
-    tokens.expect(Kind::RightParen)?;
+    let all = SeparatedRule {
+        item: NestedExpr { room },
+    };
+    let both = beside(name, &all, tokens)?;
+    let (name, all) = followed(both, Kind::RightParen, tokens)?;
     after_arguments(room, name, all, tokens)
 }
 
 /// What stands behind a name with no round bracket.
-#[tactic(auto, unfolding(setl_grammar::specs::ReadStatements::braced_or_alone))]
+#[tactic(auto, unfolding(setl_reading::specs::ReadStatements::braced_or_alone))]
 fn braced_or_alone(room: usize, name: Text, tokens: &mut Cursor<'_>) -> Result<StmtKind, Fault>
     ensures { Reads (spec.braced_or_alone room name tokens.old) result tokens.new }
 {
@@ -248,7 +310,7 @@ fn braced_or_alone(room: usize, name: Text, tokens: &mut Cursor<'_>) -> Result<S
 }
 
 /// A call or a place behind its name.
-#[tactic(auto, unfolding(setl_grammar::specs::ReadStatements::called_or_stored))]
+#[tactic(auto, unfolding(setl_reading::specs::ReadStatements::called_or_stored))]
 fn called_or_stored(room: usize, name: Text, tokens: &mut Cursor<'_>) -> Result<StmtKind, Fault>
     ensures { Reads (spec.called_or_stored room name tokens.old) result tokens.new }
 {
@@ -260,7 +322,7 @@ fn called_or_stored(room: usize, name: Text, tokens: &mut Cursor<'_>) -> Result<
 }
 
 /// `from place;` behind a name.
-#[tactic(auto, unfolding(setl_grammar::specs::ReadStatements::taken, setl_grammar::specs::Reading::one_of))]
+#[tactic(auto, unfolding(setl_reading::specs::ReadStatements::taken, setl_reading::specs::Reading::one_of))]
 fn taken(room: usize, name: Text, tokens: &mut Cursor<'_>) -> Result<StmtKind, Fault>
     ensures { Reads (spec.taken room name tokens.old) result tokens.new }
 {
@@ -268,13 +330,13 @@ fn taken(room: usize, name: Text, tokens: &mut Cursor<'_>) -> Result<StmtKind, F
         return Err(tokens.refuse());
     };
     tokens.pass();
-    let from = place(room, tokens)?;
-    tokens.expect(Kind::Semicolon)?;
+    let both = beside(name, &PlaceRule { room }, tokens)?;
+    let (name, from) = followed(both, Kind::Semicolon, tokens)?;
     Ok(StmtKind::Take(name, word, from))
 }
 
 /// What stands behind a name.
-#[tactic(auto, unfolding(setl_grammar::specs::ReadStatements::behind_name))]
+#[tactic(auto, unfolding(setl_reading::specs::ReadStatements::behind_name))]
 pub fn behind_name(room: usize, name: Text, tokens: &mut Cursor<'_>) -> Result<StmtKind, Fault>
     ensures { Reads (spec.behind_name room name tokens.old) result tokens.new }
 {
@@ -285,18 +347,17 @@ pub fn behind_name(room: usize, name: Text, tokens: &mut Cursor<'_>) -> Result<S
 }
 
 /// `[slot, ..] := value;`
-#[tactic(auto, unfolding(setl_grammar::specs::ReadStatements::tuple_assign))]
+#[tactic(auto, unfolding(setl_reading::specs::ReadStatements::tuple_assign))]
 pub fn tuple_assign(room: usize, tokens: &mut Cursor<'_>) -> Result<StmtKind, Fault>
     ensures { Reads (spec.tuple_assign room tokens.old) result tokens.new }
 {
     let slots = pattern(room, tokens)?;
-    tokens.expect(Kind::Assign)?;
-    let value = followed(expr(room, tokens)?, Kind::Semicolon, tokens)?;
+    let (slots, value) = valued(slots, room, tokens)?;
     Ok(StmtKind::TupleAssign(slots, value))
 }
 
 /// `return value;`, where the value may be left out.
-#[tactic(auto, unfolding(setl_grammar::specs::ReadStatements::return_stmt))]
+#[tactic(auto, unfolding(setl_reading::specs::ReadStatements::return_stmt))]
 pub fn return_stmt(room: usize, tokens: &mut Cursor<'_>) -> Result<StmtKind, Fault>
     ensures { Reads (spec.return_stmt room tokens.old) result tokens.new }
 {
@@ -310,25 +371,25 @@ pub fn return_stmt(room: usize, tokens: &mut Cursor<'_>) -> Result<StmtKind, Fau
 }
 
 /// `print(x, ..);`
-#[tactic(auto, unfolding(setl_grammar::specs::ReadStatements::print_stmt))]
+#[tactic(auto, unfolding(setl_reading::specs::ReadStatements::print_stmt))]
 pub fn print_stmt(room: usize, tokens: &mut Cursor<'_>) -> Result<StmtKind, Fault>
     ensures { Reads (spec.print_stmt room tokens.old) result tokens.new }
 {
-    tokens.expect(Kind::Print)?;
-    tokens.open(room, Kind::LeftParen)?;
-    let all = listed(Kind::RightParen, &NestedExpr { room }, tokens)?;
-    tokens.expect(Kind::RightParen)?;
-    tokens.expect(Kind::Semicolon)?;
-    Ok(StmtKind::Print(all))
+    let all = ListedRule {
+        close: Kind::RightParen,
+        item: NestedExpr { room },
+    };
+    Ok(StmtKind::Print(command(Kind::Print, room, &all, tokens)?))
 }
 
 /// A name.
+#[derive(Drop)]
 pub struct NameRule;
 
 impl Rule for NameRule {
     type Out = Text;
 
-    ghost use Rattle.setl_grammar.specs.Reading.{name};
+    ghost use Rattle.setl_reading.specs.Reading.{name};
 
     ghost can_read = { λ s. Unit {0} };
 
@@ -341,7 +402,7 @@ impl Rule for NameRule {
 
 impl Repeated for NameRule {
     ghost use Rattle.setl_tree.specs.declared.kind.Kind.TheVariants as k;
-    ghost use Rattle.setl_grammar.specs.Reading.{is};
+    ghost use Rattle.setl_reading.specs.Reading.{is};
 
     ghost begins_with = { λ s. is k.Name };
 
@@ -351,20 +412,16 @@ impl Repeated for NameRule {
 }
 
 /// `read(name, ..);`
-#[tactic(auto, unfolding(setl_grammar::specs::ReadStatements::read_stmt))]
+#[tactic(auto, unfolding(setl_reading::specs::ReadStatements::read_stmt))]
 pub fn read_stmt(room: usize, tokens: &mut Cursor<'_>) -> Result<StmtKind, Fault>
     ensures { Reads (spec.read_stmt room tokens.old) result tokens.new }
 {
-    tokens.expect(Kind::Read)?;
-    tokens.open(room, Kind::LeftParen)?;
-    let names = separated(&NameRule, tokens)?;
-    tokens.expect(Kind::RightParen)?;
-    tokens.expect(Kind::Semicolon)?;
-    Ok(StmtKind::Read(names))
+    let names = SeparatedRule { item: NameRule };
+    Ok(StmtKind::Read(command(Kind::Read, room, &names, tokens)?))
 }
 
 /// A statement of one word.
-#[tactic(auto, unfolding(setl_grammar::specs::ReadStatements::simple_stmt, setl_grammar::specs::Reading::one_of))]
+#[tactic(auto, unfolding(setl_reading::specs::ReadStatements::simple_stmt, setl_reading::specs::Reading::one_of))]
 pub fn simple_stmt(room: usize, tokens: &mut Cursor<'_>) -> Result<StmtKind, Fault>
     ensures { Reads (spec.simple_stmt room tokens.old) result tokens.new }
 {

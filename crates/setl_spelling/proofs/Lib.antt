@@ -14,3 +14,4 @@ pub mod Readings
 pub mod Lexemes
 pub mod Alike
 pub mod AlikePrograms
+pub mod Parsed

@@ -1,16 +1,18 @@
 -- What is claimed of canonical texts.
-use Rattle.std.specs.Prelude.{◌≡◌, ◌⊎◌, ℕ, List, [], Ok}
+use Rattle.std.specs.Prelude.{◌≡◌, ◌⊎◌, ℕ, List, [], Result, Ok, Err}
 use Rattle.setl_tree.specs.declared.tree.Tree.{Tree}
 use Rattle.setl_tree.specs.Tokens.{Tokens}
 use Rattle.setl_tree.specs.Programs.{Derives}
 use Rattle.setl_tree.specs.Canonical.{canonical}
-use Rattle.setl_grammar.specs.Claims.{IsTooDeep}
-use Rattle.setl_grammar.specs.Reading.{Outcome}
-use Rattle.setl_grammar.specs.ReadPrograms as reading
+use Rattle.setl_reading.specs.Claims.{IsTooDeep}
+use Rattle.setl_reading.specs.Reading.{Outcome}
+use Rattle.setl_reading.specs.ReadPrograms as reading
 use Rattle.setl_token.specs.Lex.{Spelled}
 use Rattle.setl_token.specs.Text.{Lexed}
 use Rattle.setl_show.specs.Text.{text_of}
 use Rattle.setl_expressions.specs.Plain.{plain_tokens}
+use Rattle.setl_parse.specs.declared.fault.ParseFault.{ParseFault}
+use Rattle.setl_parse.specs.declared.fault.ParseFault.TheVariants as fault
 use Rattle.setl_spelling.specs.Lines.{SameTree, SameTokens}
 use Rattle.setl_spelling.specs.Reading.{IsSpelledAs, AreLegal}
 
@@ -82,3 +84,10 @@ SameTreesAreShownAlike = (tree other : Tree) → SameTree tree other → text_of
 -- each tree that the tokens of the canonical text derive is shown as this text again
 abbrev pub ShownTextStays : Type 0
 ShownTextStays = (l shown : Lexed) (tree other : Tree) → HasTree l tree → IsTextOf shown tree → Derives (plain_tokens shown) other → text_of (canonical other) ≡ shown.source
+
+-- a parser gives the tree, up to lines, or stops at a nesting or for want of memory, and never for its syntax
+abbrev pub IsParsedAs : Result Tree ParseFault → Tree → Type 0
+IsParsedAs (Ok it) tree = SameTree tree it
+IsParsedAs (Err (fault.Syntax at)) tree = ⊥
+IsParsedAs (Err (fault.Nesting at)) tree = Unit {0}
+IsParsedAs (Err fault.NoMemory) tree = Unit {0}

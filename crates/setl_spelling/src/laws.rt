@@ -3,7 +3,7 @@
 ghost use Rattle.setl_spelling.specs.Claims.{TextIsSpelled, SpellingIsDetermined, CanonicalTextIsSpelled, LinesDoNotMatter, CanonicalTextDerives, SourceIsSpelled, ShownTextHasTokens, ShownTextDerives, ShownTextDerivesNoOther, ShownTextIsRead, SameTreesAreShownAlike, ShownTextStays};
 
 use setl_expressions::string_holds_its_body;
-use setl_grammar::{
+use setl_reading::{
     canonical_tokens_derive, nestings_may_be_fewer, reading_meets_grammar, tree_is_unique,
 };
 use setl_token::{blank_ends_token, lexing_is_determined, piece_at_is_longest};

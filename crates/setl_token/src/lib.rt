@@ -12,8 +12,6 @@ ghost use Rattle.setl_token.specs.Lex.{Spelled, LexFails, Tells, fault_of};
 mod laws;
 mod pieces;
 mod reserved;
-#[cfg(test)]
-mod tests;
 
 pub use laws::{blank_ends_token, lexing_is_determined, piece_at_is_longest};
 use pieces::{PieceKind, cut};

@@ -11,7 +11,7 @@ pub fn refused_exactly()
     ensures { RefusesExactly }
 {
     setl_token::lexing_is_determined();
-    setl_grammar::tree_is_unique();
+    setl_reading::tree_is_unique();
 }
 
 /// Where the texts are told, a check that came to its end is done exactly where the source is a program without `repr`
@@ -20,7 +20,7 @@ pub fn checks_exactly()
     ensures { ChecksExactly }
 {
     setl_token::lexing_is_determined();
-    setl_grammar::tree_is_unique();
+    setl_reading::tree_is_unique();
 }
 
 /// Where the texts and the input are told and the program ends so, a call that came to its end has that end's status,
@@ -29,7 +29,7 @@ pub fn ends_exactly()
     ensures { EndsExactly }
 {
     setl_token::lexing_is_determined();
-    setl_grammar::tree_is_unique();
+    setl_reading::tree_is_unique();
     setl_model::one_meaning();
 }
 

@@ -86,9 +86,10 @@ impl<T: Drop> Items<T> {
         Ok(())
     }
 
-    /// Moves the items of `more` to the end. An error is want of memory.
+    /// Moves the items of `more` to the end. An error is want of memory, and the items are then as before.
     pub fn append(&mut self, more: Items<T>) -> Result<(), AllocError>
-        ensures { OnOk result (self.new ≡ self.old ++ more) }
+        ensures ok { OnOk result (self.new ≡ self.old ++ more) }
+        ensures err { OnErr result (self.new ≡ self.old) }
     {
         let Items { mut items } = more;
         self.items.append(&mut items)

@@ -9,8 +9,6 @@ mod items;
 mod kind;
 mod mode;
 mod stmt;
-#[cfg(test)]
-mod tests;
 mod text;
 mod tree;
 

@@ -1,7 +1,7 @@
 use Rattle.std.proofs.Common.{◌≡◌, ℕ, ◌+◌, [], Ok, refl, sym, ap, subst, ◌∙◌, arith, inl, inr}
 use Rattle.setl_tree.specs.Canonical.{canonical}
 use Rattle.setl_tree.specs.Tokens.{Tokens}
-use Rattle.setl_grammar.specs.ReadPrograms as reading
+use Rattle.setl_reading.specs.ReadPrograms as reading
 use Rattle.setl_show.specs.Text.{text_of}
 use Rattle.setl_expressions.specs.Plain.{plain_tokens}
 use Rattle.setl_spelling.specs.Lines.{bare_tree}

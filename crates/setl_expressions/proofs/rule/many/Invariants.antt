@@ -1,8 +1,0 @@
-use Rattle.std.proofs.Common.{◌≡◌, ◌-◌}
-use Rattle.setl_grammar.specs.Reading as r
-use Rattle.setl_expressions.proofs.rule.many.Given as goal
-
-abbrev pub invariant-loop-turn : goal.invariant-loop-turn
-invariant-loop-turn g l =
-    r.many (g.R.Repeated.begins_with l.rule) (g.R.Rule.reader l.rule) l.fn.tokens
-    ≡ r.many_from (g.R.Repeated.begins_with l.rule) (g.R.Rule.reader l.rule) (l._turn-end - l._turn) l.found l.tokens

@@ -1,0 +1,26 @@
+//! The laws between reading and the grammar.
+
+ghost use Rattle.setl_reading.specs.Claims.{ReadingIsSound, ReadingIsComplete, NestingsMayBeMore, NestingsMayBeFewer, TreeIsUnique, CanonicalTokensDerive};
+
+/// Reading finds a program's tree exactly where the tokens derive it with as many nestings as may open.
+pub fn reading_meets_grammar()
+    ensures sound { ReadingIsSound }
+    ensures complete { ReadingIsComplete }
+{}
+
+/// Where fewer nestings may open, a program is read with the same outcome, or reading ends at a token that opens one
+/// nesting too many. So tokens that derive a tree are refused for their nestings alone.
+pub fn nestings_may_be_fewer()
+    ensures { NestingsMayBeFewer }
+{}
+
+/// Tokens derive at most one tree, and derive it also where more nestings may open.
+pub fn tree_is_unique()
+    ensures more { NestingsMayBeMore }
+    ensures unique { TreeIsUnique }
+{}
+
+/// The canonical tokens of a tree that some tokens derive, derive that tree, with the lines that it has.
+pub fn canonical_tokens_derive()
+    ensures { CanonicalTokensDerive }
+{}

@@ -1,0 +1,20 @@
+//! Tests of the front end: sources, and what the lexer, the parser, the canonical text and name resolution give for
+//! them. Nothing stands on this crate.
+#![tactic(auto)]
+
+#[cfg(test)]
+mod faults;
+#[cfg(test)]
+mod names;
+#[cfg(test)]
+mod nestings;
+#[cfg(test)]
+mod programs;
+#[cfg(test)]
+mod reading;
+#[cfg(test)]
+mod texts;
+#[cfg(test)]
+mod tokens;
+#[cfg(test)]
+mod trees;
