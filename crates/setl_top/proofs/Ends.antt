@@ -1,5 +1,5 @@
 -- How the parts of a call make its headline.
-use Rattle.std.proofs.Common.{◌≡◌, ◌∙◌, ◌⊎◌, inl, inr, ◌≤◌, ◌^◌, ◌-◌, ℕ, true, List, [], ◌∷◌, ◌++◌, take, Option, None, Some, refl, sym, ap, subst, arith, codes}
+use Rattle.std.proofs.Common.{◌≡◌, ◌⊎◌, inl, inr, ◌≤◌, ◌^◌, ◌-◌, ℕ, true, List, [], ◌∷◌, ◌++◌, take, Option, None, Some, refl, sym, ap, subst, arith, codes}
 use Rattle.std.specs.Io.KnownBytes.{Appends}
 use Rattle.setl_io.specs.Faults.{Rose}
 use Rattle.setl_model.specs.Answers.{IsDone}
@@ -12,7 +12,7 @@ use Rattle.setl_top.specs.Runs.{RunsTo, RunsInto, RunsUpTo}
 use Rattle.setl_top.specs.Tells.{Tells, whole, failed, no_memory}
 use Rattle.setl_top.specs.Tree.{Tree}
 use Rattle.setl_top.specs.Words.{IsFaulty, Spells, HasFile, Command, Run, Check}
-use Rattle.setl_top.specs.Headline.{Moment, Job, IsInput, IsLeft, IsToRun, Answers, faulty_words, refused, checked, run_ended, status_for, no_program, at_state, in_print, at_print, load_failed, TellsFault, IsQuiet, LeavesRest, Ended, WriteFailed, MemoryFailed, out_failed, err_failed, Headline}
+use Rattle.setl_top.specs.Headline.{Moment, Job, IsInput, IsLeft, IsToRun, Answers, faulty_words, refused, checked, run_ended, no_program, at_state, in_print, at_print, load_failed, TellsFault, IsQuiet, LeavesRest, Ended, WriteFailed, MemoryFailed, out_failed, err_failed, Headline}
 use Rattle.setl_top.specs.declared.status.Status.{Status}
 use Rattle.setl_top.specs.declared.status.Status.TheVariants.{Done, Refused, Words}
 use Rattle.setl_top.proofs.Fronts.{appends_none, front_none}

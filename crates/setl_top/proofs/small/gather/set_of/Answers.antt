@@ -1,7 +1,6 @@
-use Rattle.std.proofs.Common.{◌≡◌, ◌+◌, ◌≤◌, ap, arith, map, subst, IfOk}
+use Rattle.std.proofs.Common.{◌≡◌, ap, arith, subst, IfOk}
 use Rattle.setl_value.specs.Body.{Members}
-use Rattle.setl_value.specs.Datum.{Datum, int, depth, set_of}
-use Rattle.setl_value.specs.DatumOf.{datum}
+use Rattle.setl_value.specs.Datum.{depth, set_of}
 use Rattle.setl_set.specs.Sets.{set_from}
 use Rattle.setl_top.proofs.Integers.{shallow}
 use Rattle.setl_top.proofs.small.gather.set_of.Goals as goal
