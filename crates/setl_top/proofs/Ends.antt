@@ -1,8 +1,8 @@
 -- How the parts of a call make its headline.
-use Rattle.std.proofs.Common.{◌≡◌, ◌⊎◌, inl, inr, ◌≤◌, ◌^◌, ◌-◌, ℕ, true, List, [], ◌∷◌, ◌++◌, take, Option, None, Some, refl, sym, subst, arith, codes}
+use Rattle.std.proofs.Common.{◌≡◌, ◌⊎◌, inl, inr, ◌≤◌, ◌^◌, ◌-◌, ℕ, true, List, [], ◌∷◌, ◌++◌, take, Option, None, Some, refl, sym, ap, subst, arith, codes}
 use Rattle.std.specs.Io.KnownBytes.{Appends}
 use Rattle.setl_io.specs.Faults.{Rose}
-use Rattle.setl_model.specs.Answers.{IsDone, IsStopped, IsSpent, RunStatus}
+use Rattle.setl_model.specs.Answers.{IsDone}
 use Rattle.setl_modes.specs.Events.{Done as DoneEnd}
 use Rattle.setl_top.specs.Accepted.{program_of}
 use Rattle.setl_top.specs.Lines.{AppendsFront, AppendsFronts}
@@ -12,7 +12,7 @@ use Rattle.setl_top.specs.Runs.{RunsTo, RunsInto, RunsUpTo}
 use Rattle.setl_top.specs.Tells.{Tells, whole, failed, no_memory}
 use Rattle.setl_top.specs.Tree.{Tree}
 use Rattle.setl_top.specs.Words.{IsFaulty, Spells, HasFile, Command, Run, Check}
-use Rattle.setl_top.specs.Headline.{Moment, Job, IsInput, IsToRun, Answers, faulty_words, refused, checked, run_ended, status_for, no_program, at_state, in_print, at_print, load_failed, TellsFault, IsQuiet, LeavesRest, Ended, WriteFailed, MemoryFailed, out_failed, err_failed, Headline}
+use Rattle.setl_top.specs.Headline.{Moment, Job, IsInput, IsLeft, IsToRun, Answers, faulty_words, refused, checked, run_ended, no_program, at_state, in_print, at_print, load_failed, TellsFault, IsQuiet, LeavesRest, Ended, WriteFailed, MemoryFailed, out_failed, err_failed, Headline}
 use Rattle.setl_top.specs.declared.status.Status.{Status}
 use Rattle.setl_top.specs.declared.status.Status.TheVariants.{Done, Refused, Words}
 use Rattle.setl_top.proofs.Fronts.{appends_none, front_none}
@@ -25,21 +25,8 @@ faulty_ends words m h = record {
   answer = faulty_words h;
   out_gained = appends_none m.out;
   err_gained = appends_none m.err;
-  input_left = refl;
   quiet = record { files = omega arith; input = omega arith; out = omega arith; err = omega arith };
 }
-
-run_headline : (words : List (List ℕ)) (before after : Moment) (ending : RunStatus) → Ended words before after (status_for ending) → Headline words before after (status_for ending)
-run_headline words before after IsDone e = e
-run_headline words before after IsStopped e = e
-run_headline words before after IsSpent e = e
-
--- the status of an answer is one of an end
-pub ended_headline : (words : List (List ℕ)) (before after : Moment) (status : Status) (out err : List ℕ) → Answers words before status out err → Ended words before after status → Headline words before after status
-ended_headline words before after _ _ _ (faulty_words h) e = e
-ended_headline words before after _ _ _ (refused command name source line a f b c) e = e
-ended_headline words before after _ _ _ (checked name source tree a f b c) e = e
-ended_headline words before after _ _ _ (run_ended job out end ending a m s) e = run_headline words before after ending e
 
 -- a fault's own line, and nothing before it
 pub fault_alone : (words : List (List ℕ)) (before : Moment) (line : List ℕ) (old new : Option (List ℕ)) → AppendsFront old new (line ++ 10 ∷ []) → TellsFault words before line old new
@@ -47,6 +34,7 @@ fault_alone words before line old new h = record {
   status = Done;
   out = [];
   otherwise = [];
+  left = before.input;
   told = [];
   fault = h.0;
   answer = inl refl;
@@ -56,11 +44,12 @@ fault_alone words before line old new h = record {
 }
 
 -- a front of an answer's line, and then a front of a fault's own line
-pub fault_after : (words : List (List ℕ)) (before : Moment) (line : List ℕ) (old new : Option (List ℕ)) (status : Status) (out err : List ℕ) → Answers words before status out err → AppendsFronts old new err (line ++ 10 ∷ []) → TellsFault words before line old new
-fault_after words before line old new status out err a h = record {
+pub fault_after : (words : List (List ℕ)) (before : Moment) (line : List ℕ) (old new : Option (List ℕ)) (status : Status) (out err : List ℕ) (left : Option (List ℕ)) → Answers words before status out err left → AppendsFronts old new err (line ++ 10 ∷ []) → TellsFault words before line old new
+fault_after words before line old new status out err left a h = record {
   status = status;
   out = out;
   otherwise = err;
+  left = left;
   told = h.0;
   fault = h.1;
   answer = inr a;
@@ -70,37 +59,37 @@ fault_after words before line old new status out err a h = record {
 }
 
 -- a refusal whose last line was told, or not
-pub told : (words : List (List ℕ)) (before after : Moment) (err : List ℕ) → Answers words before Refused [] err → Appends before.out after.out [] → after.input ≡ before.input → after.files_faults ≤ before.files_faults → after.input_faults ≤ before.input_faults → after.out_faults ≤ before.out_faults → (r : Status) → Tells Refused err before.err after.err before.err_faults after.err_faults r → Headline words before after r
-told words before after err a o l f i u _ (whole h k) = record {
+pub told : (words : List (List ℕ)) (before after : Moment) (err : List ℕ) → Answers words before Refused [] err after.input → Appends before.out after.out [] → after.files_faults ≤ before.files_faults → after.input_faults ≤ before.input_faults → after.out_faults ≤ before.out_faults → (r : Status) → Tells Refused err before.err after.err before.err_faults after.err_faults r → Headline words before after r
+told words before after err a o f i u _ (whole h k) = record {
   out = [];
   err = err;
   answer = a;
   out_gained = o;
   err_gained = h;
-  input_left = l;
   quiet = record { files = f; input = i; out = u; err = omega arith };
 }
-told words before after err a o l f i u _ (failed rose h) = record {
+told words before after err a o f i u _ (failed rose h) = record {
   out = [];
   cause = err_failed Refused err rose a;
   out_gained = o;
-  err_gained = fault_after words before (codes "write fault") before.err after.err Refused [] err a h;
+  err_gained = fault_after words before (codes "write fault") before.err after.err Refused [] err after.input a h;
 }
-told words before after err a o l f i u _ (no_memory h) = record {
+told words before after err a o f i u _ (no_memory h) = record {
   out = [];
   so_far = no_program;
   out_gained = o;
-  err_gained = fault_after words before (codes "no memory") before.err after.err Refused [] err a h;
+  err_gained = fault_after words before (codes "no memory") before.err after.err Refused [] err after.input a h;
 }
 
 -- a source wasn't loaded
 pub not_loaded : (words : List (List ℕ)) (before after : Moment) (command : Command) (name : List ℕ) → Spells words command → HasFile command name → Appends before.out after.out [] → after.input ≡ before.input → after.input_faults ≤ before.input_faults → after.out_faults ≤ before.out_faults → (r : Status) → NotLoaded command before.texts name (sides before.files_faults after.files_faults before.err after.err before.err_faults after.err_faults) r → Headline words before after r
 not_loaded words before after command name s f o l i u _ (not_accepted source reason r t why e h) =
-    let line = reason_line reason in
-    told words before after (line ++ 10 ∷ []) (refused command name source line s f t (record { reason = reason; refused = why; tells = refl })) o l (omega arith) i u r h
+    let line : List ℕ = reason_line reason in
+    let answer : Answers words before Refused [] (line ++ 10 ∷ []) before.input = refused command name source line s f t (record { reason = reason; refused = why; tells = refl }) in
+    told words before after (line ++ 10 ∷ []) (subst (Answers words before Refused [] (line ++ 10 ∷ [])) (sym l) answer) o (omega arith) i u r h
 not_loaded words before after command name s f o l i u _ (not_read rose h) = record {
   out = [];
-  cause = load_failed rose;
+  cause = load_failed command name s f rose h;
   out_gained = o;
   err_gained = fault_alone words before (codes "read fault") before.err after.err h;
 }
@@ -120,6 +109,11 @@ is_input : (a : Option (List ℕ)) → IsInput a (input_of a)
 is_input None = tt
 is_input (Some left) = refl
 
+-- no byte was taken
+is_left : (a : Option (List ℕ)) (bytes : List ℕ) → bytes ≡ input_of a → IsLeft a a bytes
+is_left None bytes e = tt
+is_left (Some left) bytes e = ([], ap Some (sym e))
+
 abbrev pub job_of : Moment → Tree → Job
 job_of before tree = record { program = program_of tree; input = input_of before.input; turns = 2 ^ 63 - 1; based = true }
 
@@ -137,16 +131,18 @@ to_run words before name tree s l = record {
 }
 
 -- a run came to its end
-pub run_done : (words : List (List ℕ)) (before after : Moment) (tree : Tree) → IsToRun words before (job_of before tree) → RunsTo (program_of tree) before.out after.out → Appends before.err after.err [] → IsQuiet before after → Ended words before after Done
-run_done words before after tree a r e q =
+pub run_done : (words : List (List ℕ)) (before after : Moment) (tree : Tree) → IsToRun words before (job_of before tree) → RunsTo (program_of tree) before.out after.out → Appends before.err after.err [] → after.input ≡ before.input → IsQuiet before after → Ended words before after Done
+run_done words before after tree a r e l q =
     let job = job_of before tree in
+    let ends = r.ends job.input job.turns job.based in
+    let left = is_left before.input ends.means.last.core.shared.input ends.unread in
+    let answer : Answers words before Done r.out [] before.input = run_ended job r.out DoneEnd IsDone before.input a ends.means refl left in
     record {
       out = r.out;
       err = [];
-      answer = run_ended job r.out DoneEnd IsDone a (r.means job.input job.turns job.based) refl;
+      answer = subst (Answers words before Done r.out []) (sym l) answer;
       out_gained = r.gained;
       err_gained = e;
-      input_left = tt;
       quiet = q;
     }
 
@@ -189,10 +185,9 @@ pub check_ends : (words : List (List ℕ)) (before after : Moment) (name : List 
 check_ends words before after name s rest _ (checked_so tree l built still) = record {
   out = [];
   err = [];
-  answer = checked name l.source tree s l.text l.is_program built;
+  answer = subst (Answers words before Done [] []) (sym rest.input) (checked name l.source tree s l.text l.is_program built);
   out_gained = appends_same before.out after.out rest.out;
   err_gained = appends_same before.err after.err still.held;
-  input_left = tt;
   quiet = record { files = omega (arith, still.files); input = omega (arith, rest.input_faults); out = omega (arith, rest.out_faults); err = omega (arith, still.err) };
 }
 check_ends words before after name s rest r (not_checked _ h) =

@@ -1,7 +1,7 @@
 -- The meaning evaluates the expressions of the small language to their values.
 use Rattle.std.proofs.Common.{◌≡◌, ◌∙◌, ℕ, ℤ, Bool, List, [], ◌∷◌, ◌++◌, map, reverse, Option, Some, refl, sym, ap, subst, append_assoc}
 use Rattle.std.proofs.lemmas.List.{reverse-append, append-nil, map-append}
-use Rattle.setl_value.specs.Datum.{Datum, int}
+use Rattle.setl_value.specs.Datum.{Datum, int, set_of}
 use Rattle.setl_model.specs.Core.{Hand, Evaluate, Result, Frame, InExpr, Operands, Core}
 use Rattle.setl_modes.specs.Events.{Event}
 use Rattle.setl_model.specs.Expressions.{operands}
@@ -16,7 +16,7 @@ use Rattle.setl_model.specs.Step.{language}
 use Rattle.setl_modes.specs.Variable.{Environment, Own, value_in}
 use Rattle.setl_top.specs.Accepted.{plain_value, literals}
 use Rattle.setl_top.specs.Tree.{Expr, Variable, Integer, SetOf}
-use Rattle.setl_top.specs.Values.{Values, value_of, set_of}
+use Rattle.setl_top.specs.Values.{Values, value_of}
 use Rattle.setl_top.proofs.Integers.{from_integers, integers_within}
 use Rattle.setl_top.proofs.Leading.{Comes, state, comes_then, comes_on, charge_none}
 

@@ -20,7 +20,7 @@ write_rose words before after out (out_failed r u) = inr (inl r)
 write_rose words before after out (err_failed s e r a) = inr (inr r)
 
 read_rose : (words : List (List ℕ)) (before after : Moment) (out : List ℕ) → ReadCause words before after out → AnyRose before after
-read_rose words before after _ (load_failed r) = inl (inl r)
+read_rose words before after _ (load_failed c n s f r e) = inl (inl r)
 read_rose words before after _ (read_failed job out r a h) = inl (inr r)
 
 pub complete : IsComplete
@@ -108,28 +108,28 @@ one_line laws c d source other line told e f r q =
     r.tells ∙ ap reason_line same ∙ sym q.tells
 
 pub refused_only : FrontLaws → RefusesExactly
-refused_only laws words before texts c name source line _ _ _ t s f h r (faulty_words n) = absurd (n c s)
-refused_only laws words before texts c name source line _ _ _ t s f h r (refused d n x l s' f' t' r') =
+refused_only laws words before texts c name source line _ _ _ _ t s f h r (faulty_words n) = absurd (n c s)
+refused_only laws words before texts c name source line _ _ _ _ t s f h r (refused d n x l s' f' t' r') =
     let sources = one_source words before texts t d c n name x source s' f' t' s f (told_text before texts t name source h) in
-    (refl, refl, ap (λ y. y ++ 10 ∷ []) (one_line laws d c x source l line (one_command words d c s' s) sources r' r))
-refused_only laws words before texts c name source line _ _ _ t s f h r (checked n x tree s' t' p b) =
+    (refl, refl, ap (λ y. y ++ 10 ∷ []) (one_line laws d c x source l line (one_command words d c s' s) sources r' r), refl)
+refused_only laws words before texts c name source line _ _ _ _ t s f h r (checked n x tree s' t' p b) =
     let sources = one_source words before texts t (Check n) c n name x source s' refl t' s f (told_text before texts t name source h) in
     absurd (not_refused laws c source r.reason r.refused tree (subst (λ y. IsProgram y tree) sources p) (subst (λ y. IsBuilt y tree) (one_command words (Check n) c s' s) b))
-refused_only laws words before texts c name source line _ _ _ t s f h r (run_ended job out end ending a m e) =
+refused_only laws words before texts c name source line _ _ _ _ t s f h r (run_ended job out end ending left a m e k) =
     absurd (refused_not_run laws words before texts t job a c name source line s f (told_text before texts t name source h) r)
 
 -- ---- checks
 
 pub checks_only : FrontLaws → ChecksExactly
-checks_only laws words before texts name source _ _ _ t s h (faulty_words n) = absurd (n (Check name) s)
-checks_only laws words before texts name source _ _ _ t s h (refused d n x l s' f' t' r) =
+checks_only laws words before texts name source _ _ _ _ t s h (faulty_words n) = absurd (n (Check name) s)
+checks_only laws words before texts name source _ _ _ _ t s h (refused d n x l s' f' t' r) =
     let sources = one_source words before texts t d (Check name) n name x source s' f' t' s refl (told_text before texts t name source h) in
     let moved = subst (λ y. IsRefusedFor y source r.reason) (one_command words d (Check name) s' s) (subst (λ y. IsRefusedFor d y r.reason) sources r.refused) in
-    (((λ (e : Refused ≡ Done). absurd (cc)), λ p. absurd (not_refused laws (Check name) source r.reason moved p.0 p.1 p.2)), refl, (λ (e : Refused ≡ Done). absurd (cc)))
-checks_only laws words before texts name source _ _ _ t s h (checked n x tree s' t' p b) =
+    (((λ (e : Refused ≡ Done). absurd (cc)), λ p. absurd (not_refused laws (Check name) source r.reason moved p.0 p.1 p.2)), refl, (λ (e : Refused ≡ Done). absurd (cc)), refl)
+checks_only laws words before texts name source _ _ _ _ t s h (checked n x tree s' t' p b) =
     let sources = one_source words before texts t (Check n) (Check name) n name x source s' refl t' s refl (told_text before texts t name source h) in
-    (((λ _. (tree, subst (λ y. IsProgram y tree) sources p, b)), (λ _. refl)), refl, (λ _. refl))
-checks_only laws words before texts name source _ _ _ t s h (run_ended job out end ending a m e) = absurd (check_runs_not words before job name a s)
+    (((λ _. (tree, subst (λ y. IsProgram y tree) sources p, b)), (λ _. refl)), refl, (λ _. refl), refl)
+checks_only laws words before texts name source _ _ _ _ t s h (run_ended job out end ending left a m e k) = absurd (check_runs_not words before job name a s)
 
 -- ---- runs
 
@@ -169,10 +169,10 @@ one_ending : (e d : End) (a b : RunStatus) → e ≡ d → status_of e ≡ Some 
 one_ending e d a b h p q = let r = ap status_of h in cc
 
 pub ends_only : FrontLaws → OneMeaning → EndsExactly
-ends_only laws meaning words before texts input job said end ending _ _ _ t i a m s (faulty_words n) = absurd (n a.command a.spelled)
-ends_only laws meaning words before texts input job said end ending _ _ _ t i a m s (refused c name source line s' f h r) = absurd (refused_not_run laws words before texts t job a c name source line s' f h r)
-ends_only laws meaning words before texts input job said end ending _ _ _ t i a m s (checked n x tree s' t' p b) = absurd (check_runs_not words before job n a s')
-ends_only laws meaning words before texts input job said end ending _ _ _ t i a m s (run_ended other out last how b n u) =
+ends_only laws meaning words before texts input job said end ending _ _ _ _ t i a m s (faulty_words n) = absurd (n a.command a.spelled)
+ends_only laws meaning words before texts input job said end ending _ _ _ _ t i a m s (refused c name source line s' f h r) = absurd (refused_not_run laws words before texts t job a c name source line s' f h r)
+ends_only laws meaning words before texts input job said end ending _ _ _ _ t i a m s (checked n x tree s' t' p b) = absurd (check_runs_not words before job n a s')
+ends_only laws meaning words before texts input job said end ending _ _ _ _ t i a m s (run_ended other out last how left b n u k) =
     let same = one_job laws words before texts input t i other job b a in
     let moved = subst (λ (j : Job). Means j.program j.input j.turns j.based out last) same n in
     let both = meaning job.program job.input job.turns job.based out said last end moved m in

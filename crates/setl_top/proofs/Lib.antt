@@ -10,7 +10,6 @@ pub mod Performing
 pub mod Fitting
 pub mod Running
 pub mod Members
-pub mod Gathering
 pub mod Spaced
 pub mod Tables
 pub mod Each

@@ -1,10 +1,10 @@
 -- Sets of integers, their members and their texts.
 use Rattle.std.proofs.Common.{◌≡◌, ◌∙◌, ℕ, zero, suc, ℤ, List, [], ◌∷◌, ◌++◌, map, slice_get, get_or, length, ◌<◌, Some, refl, sym, ap, subst, append_assoc, arith}
 use Rattle.std.specs.List.{AllByRecursion}
-use Rattle.setl_value.specs.Datum.{Datum, int, elements_of, element_list, element_list-elements_of}
+use Rattle.setl_value.specs.Datum.{Datum, int, elements_of, element_list, element_list-elements_of, set_of}
 use Rattle.setl_set.specs.Sets.{insert_datum}
 use Rattle.setl_text.specs.Texts.{inner_text, whole_text, element_texts, spaced}
-use Rattle.setl_top.specs.Values.{IsInteger, IsIntegers, IsPlain, integer, integers, set_of, with_member}
+use Rattle.setl_top.specs.Values.{IsInteger, IsIntegers, IsPlain, integer, integers, with_member}
 
 pub set_of_same : (xs ys : List Datum) → set_of xs ≡ set_of ys → xs ≡ ys
 set_of_same xs ys h =

@@ -2,7 +2,7 @@
 use Rattle.std.proofs.Common.{◌≡◌, ◌∙◌, ℕ, ℤ, Bool, true, false, cond, List, [], ◌∷◌, ◌++◌, map, reverse, Option, Some, refl, sym, ap, subst, append_assoc, bytes_eq}
 use Rattle.std.proofs.lemmas.List.{append-nil}
 use Rattle.std.proofs.lemmas.Slice.Eq.{bytes_eq-Decides}
-use Rattle.setl_value.specs.Datum.{Datum, int, elements_of, element_list, element_list-elements_of}
+use Rattle.setl_value.specs.Datum.{Datum, int, elements_of, element_list, element_list-elements_of, set_of}
 use Rattle.setl_model.specs.Core.{Hand, Execute, Evaluate, Result, Frame, InStmt, Then, AssignRight, UpdateRight, PrintParts, Core, write_variable}
 use Rattle.setl_modes.specs.Events.{Event, Printed}
 use Rattle.setl_model.specs.Moves.{with_outcome, go_storing}
@@ -19,7 +19,7 @@ use Rattle.setl_modes.specs.Variable.{Environment, Own, Variable, value_in, with
 use Rattle.setl_modes.specs.VariableLaws.{value_stored, value_elsewhere}
 use Rattle.setl_top.specs.Accepted.{plain_value, plain_values, plain_action, place_of, program_of}
 use Rattle.setl_top.specs.Tree.{Expr, Action, Assign, With, Print, Tree}
-use Rattle.setl_top.specs.Values.{Values, value_of, bound, with_member, values_after, said_by, set_of, CanPerform, IsIntegers}
+use Rattle.setl_top.specs.Values.{Values, value_of, bound, with_member, values_after, said_by, CanPerform, IsIntegers}
 use Rattle.setl_top.proofs.Evaluating.{IsEnvironment, at, reversed, evaluate_leads}
 use Rattle.setl_top.proofs.Integers.{with_integer, integers_within}
 use Rattle.setl_top.proofs.Leading.{Comes, state, comes_none, comes_then, comes_on, comes_saying, comes_storing, charge_none}
@@ -64,6 +64,7 @@ pub record Printing (p : Program) (based : Bool) (c : Core) (out : List ℕ) (wo
 pub record Performed (p : Program) (based : Bool) (start : Core) (out : List ℕ) (values : Values) (rest : Block) (said : List ℕ) : Type 0 where
   pub core : Core
   pub agrees : IsEnvironment core.shared.own values
+  pub unread : core.shared.input ≡ start.shared.input
   pub comes : (events : List Event) → Comes p based (state start out events) (at core (Execute rest) []) (out ++ said)
 
 module _ (p : Program) (based : Bool) (c : Core) (out : List ℕ) (values : Values) (agrees : IsEnvironment c.shared.own values) where
@@ -107,6 +108,7 @@ module _ (p : Program) (based : Bool) (c : Core) (out : List ℕ) (values : Valu
       record {
         core = c;
         agrees = agrees;
+        unread = refl;
         comes = λ events. comes_then p based (state (begins line (Print es) rest) out events) printing.core (at c (Execute rest) []) out (out ++ said) (printing.comes events)
             (λ events'. comes_then p based (state printing.core out events') after (at c (Execute rest) []) (out ++ said) (out ++ said)
             (comes_saying p based printing.core after out said events' printing.writes)
@@ -114,13 +116,14 @@ module _ (p : Program) (based : Bool) (c : Core) (out : List ℕ) (values : Valu
       }
 
   -- a store, and then the statements behind
-  stores_lead : (takes : (x : Variable) (v : Option Datum) → test_of p based x v ≡ true) (line : ℕ) (name : List ℕ) (v : Option Datum) (rest : Block) (start : Core) → ((events : List Event) → (before : Core) × Comes p based (state start out events) before out × ((language p).move before ≡ Moves [] [] (at c (Execute no_stmt) (Then rest ∷ [])) line ((Own 0 name, v) ∷ []))) → Performed p based start out (bound name v values) rest []
-  stores_lead takes line name v rest start leads =
+  stores_lead : (takes : (x : Variable) (v : Option Datum) → test_of p based x v ≡ true) (line : ℕ) (name : List ℕ) (v : Option Datum) (rest : Block) (start : Core) → c.shared.input ≡ start.shared.input → ((events : List Event) → (before : Core) × Comes p based (state start out events) before out × ((language p).move before ≡ Moves [] [] (at c (Execute no_stmt) (Then rest ∷ [])) line ((Own 0 name, v) ∷ []))) → Performed p based start out (bound name v values) rest []
+  stores_lead takes line name v rest start unread leads =
       let d : Core = record c { shared = write_variable (Own 0 name) v c.shared } in
       let stored : Core = at d (Execute no_stmt) (Then rest ∷ []) in
       record {
         core = d;
         agrees = environment-bound c.shared.own values name v agrees;
+        unread = unread;
         comes = λ events. (let l = leads events in
             subst (λ o. Comes p based (state start out events) (at d (Execute rest) []) o) (sym (append-nil out))
             (comes_then p based (state start out events) l.0 (at d (Execute rest) []) out out l.1
@@ -136,7 +139,7 @@ module _ (p : Program) (based : Bool) (c : Core) (out : List ℕ) (values : Valu
         let work : List Frame = frame ∷ Then rest ∷ [] in
         let asking : Core = at c (Evaluate (plain_value e)) work in
         let given : Core = at c (Result (value_of values e)) work in
-        stores_lead takes line name (value_of values e) rest (begins line (Assign name e) rest)
+        stores_lead takes line name (value_of values e) rest (begins line (Assign name e) rest) refl
         (λ events. (
           given,
           comes_then p based (state (begins line (Assign name e) rest) out events) asking given out out
@@ -152,7 +155,7 @@ module _ (p : Program) (based : Bool) (c : Core) (out : List ℕ) (values : Valu
         let asking : Core = at c (Evaluate (Literal (int z))) work in
         let given : Core = at c (Result (Some (int z))) work in
         let made = with_made values name z (value_in c.shared.own (Own 0 name)) c.shared.left (agrees name) can in
-        stores_lead takes line name (with_member (values name) z) rest (begins line (With name z) rest)
+        stores_lead takes line name (with_member (values name) z) rest (begins line (With name z) rest) refl
         (λ events. (
           given,
           comes_then p based (state (begins line (With name z) rest) out events) asking given out out

@@ -1,5 +1,5 @@
 -- A run of a small program in its course.
-use Rattle.std.proofs.Common.{◌≡◌, ◌⊎◌, inl, inr, ℕ, Bool, true, List, [], ◌∷◌, ◌++◌, take, Option, None, refl, subst}
+use Rattle.std.proofs.Common.{◌≡◌, ◌∙◌, ◌⊎◌, inl, inr, ℕ, Bool, true, List, [], ◌∷◌, ◌++◌, take, Option, None, refl, subst}
 use Rattle.std.proofs.lemmas.List.{append-nil}
 use Rattle.std.specs.Io.KnownBytes.{Appends}
 use Rattle.setl_io.specs.Sink.{AppendsPart}
@@ -13,7 +13,7 @@ use Rattle.setl_top.specs.Accepted.{program_of, plain_block}
 use Rattle.setl_top.specs.Conditions.{Kinds, no_kinds, meets}
 use Rattle.setl_top.specs.Moments.{AtState, AtPrint}
 use Rattle.setl_top.specs.Breaks.{Breaks}
-use Rattle.setl_top.specs.Runs.{RunsTo, RunsInto, RunsUpTo}
+use Rattle.setl_top.specs.Runs.{EndsUnread, RunsTo, RunsInto, RunsUpTo}
 use Rattle.setl_top.specs.Tree.{Action, Assign, With, Print, Stmt, Tree, Expr}
 use Rattle.setl_top.specs.declared.small.run.Broken.TheVariants as broken
 use Rattle.setl_top.specs.Values.{Values, values_after, said_by, CanPerform}
@@ -27,6 +27,7 @@ use Rattle.setl_top.proofs.Performing.{performs, takes_all, print_leads}
 pub record Reached (tree rest : Tree) (values : Values) (said : List ℕ) (input : List ℕ) (turns : ℕ) (based : Bool) : Type 0 where
   pub core : Core
   pub agrees : IsEnvironment core.shared.own values
+  pub unread : core.shared.input ≡ input
   pub comes : Comes (program_of tree) based (first (program_of tree) input turns) (at core (Execute (plain_block rest)) []) said
 
 abbrev pub Running : Tree → Tree → Values → List ℕ → Type 0
@@ -35,7 +36,7 @@ Running tree rest values said = (input : List ℕ) (turns : ℕ) (based : Bool) 
 pub running_none : (tree : Tree) → Running tree tree (λ _. None) []
 running_none tree input turns based =
     let start = first (program_of tree) input turns in
-    record { core = start.core; agrees = λ name. refl; comes = comes_none (program_of tree) based start.core [] [] }
+    record { core = start.core; agrees = λ name. refl; unread = refl; comes = comes_none (program_of tree) based start.core [] [] }
 
 pub running_more : (tree rest : Tree) (s : Stmt) (values : Values) (said : List ℕ) → Running tree (s ∷ rest) values said → CanPerform values s.action → Running tree rest (values_after values s.action) (said ++ said_by values s.action)
 running_more tree rest s values said run_ can input turns based =
@@ -44,6 +45,7 @@ running_more tree rest s values said run_ can input turns based =
     record {
       core = d.core;
       agrees = d.agrees;
+      unread = d.unread ∙ r.unread;
       comes = comes_then (program_of tree) based (first (program_of tree) input turns) (at r.core (Execute (plain_block (s ∷ rest))) []) (at d.core (Execute (plain_block rest)) []) said (said ++ said_by values s.action) r.comes d.comes;
     }
 
@@ -54,13 +56,13 @@ running_at tree rest values said run_ input turns based =
     record { state = state (at r.core (Execute (plain_block rest)) []) said r.comes.events; reached = (r.comes.steps, r.comes.led); printed = refl }
 
 -- nothing is left to do
-pub running_done : (tree : Tree) (values : Values) (said : List ℕ) → Running tree [] values said → (input : List ℕ) (turns : ℕ) (based : Bool) → Means (program_of tree) input turns based said Done
+pub running_done : (tree : Tree) (values : Values) (said : List ℕ) → Running tree [] values said → (input : List ℕ) (turns : ℕ) (based : Bool) → EndsUnread (program_of tree) said input turns based
 running_done tree values said run_ input turns based =
     let p = program_of tree in
     let r = run_ input turns based in
     let last = state (at r.core (Execute (plain_block [])) []) said r.comes.events in
     let all = runs_join (language p) (test_of p based) r.comes.steps 1 (first p input turns) last (Ends Done last) r.comes.led refl in
-    record { steps = all.0; last = last; ends = all.1; written = refl }
+    record { means = record { steps = all.0; last = last; ends = all.1; written = refl }; unread = r.unread }
 
 -- a print is next
 pub running_print : (tree rest : Tree) (line : ℕ) (es : List Expr) (values : Values) (said : List ℕ) → Running tree (record { line = line; action = Print es } ∷ rest) values said → (input : List ℕ) (turns : ℕ) (based : Bool) → AtPrint (program_of tree) input turns based said (said_by values (Print es))
@@ -73,7 +75,7 @@ running_print tree rest line es values said run_ input turns based =
 
 -- what is left of a run to be done
 pub finishes : (tree rest : Tree) (kinds : Kinds) (values : Values) (said : List ℕ) → Fits kinds values → meets kinds rest ≡ true → Running tree rest values said → (out : List ℕ) × ((input : List ℕ) (turns : ℕ) (based : Bool) → Means (program_of tree) input turns based out Done)
-finishes tree [] kinds values said fits h run_ = (said, running_done tree values said run_)
+finishes tree [] kinds values said fits h run_ = (said, λ input turns based. (running_done tree values said run_ input turns based).means)
 finishes tree (s ∷ rest) kinds values said fits h run_ =
     let next = next_meets kinds s rest h in
     let more = admitted kinds values fits s.action next.0 next.1 in
@@ -114,7 +116,7 @@ in_run_more tree rest s values old mid now r h =
     }
 
 pub in_run_done : (tree : Tree) (values : Values) (old now : Option (List ℕ)) → InRun tree [] values old now → RunsTo (program_of tree) old now
-in_run_done tree values old now r = record { out = r.said; means = running_done tree values r.said r.running; gained = r.gained }
+in_run_done tree values old now r = record { out = r.said; ends = running_done tree values r.said r.running; gained = r.gained }
 
 into_print : (tree rest : Tree) (line : ℕ) (es : List Expr) (values : Values) (old mid now : Option (List ℕ)) → InRun tree (record { line = line; action = Print es } ∷ rest) values old mid → AppendsPart mid now (said_by values (Print es)) → RunsInto (program_of tree) old now
 into_print tree rest line es values old mid now r h = record {

@@ -1,6 +1,6 @@
 -- What a call of the program answers, and what it does to the outside.
 use Rattle.std.specs.Prelude.{◌≡◌, ◌⊎◌, ◌<◌, ◌≤◌, ℕ, Bool, List, [], ◌∷◌, ◌++◌, length, take, Option, None, Some, ⊤, codes}
-use Rattle.std.specs.Io.KnownBytes.{Appends}
+use Rattle.std.specs.Io.KnownBytes.{Appends, Consumes, prepend_known}
 use Rattle.setl_io.specs.Faults.{Rose}
 use Rattle.setl_io.specs.Files.{Texts, IsText}
 use Rattle.setl_model.specs.Answers.{RunStatus, IsDone, IsStopped, IsSpent, status_of, error_line}
@@ -10,6 +10,7 @@ use Rattle.setl_model.specs.Program.{Program}
 use Rattle.setl_tree.specs.declared.tree.Tree.{Tree}
 use Rattle.setl_top.specs.Accepted.{IsProgram, IsBuilt, Accepted, Refusal}
 use Rattle.setl_top.specs.Fronts.{IsFront}
+use Rattle.setl_top.specs.Lines.{AppendsFront}
 use Rattle.setl_top.specs.Moments.{AtState, AtPrint, AtRead}
 use Rattle.setl_top.specs.Words.{Command, Check, Spells, HasFile, RunsFile, IsFaulty}
 use Rattle.setl_top.specs.declared.status.Status.{Status}
@@ -68,12 +69,18 @@ status_for IsDone = Done
 status_for IsStopped = Stopped
 status_for IsSpent = Spent
 
--- Where nothing fails: the status, and what is added to the output and to the error output.
-pub data Answers (words : List (List ℕ)) (before : Moment) : Status → List ℕ → List ℕ → Type 0 where
-  faulty_words : IsFaulty words → Answers words before Words [] []
-  refused : (command : Command) (name source line : List ℕ) → Spells words command → HasFile command name → IsText before.texts name source → Refusal command source line → Answers words before Refused [] (line ++ 10 ∷ [])
-  checked : (name source : List ℕ) (tree : Tree) → Spells words (Check name) → IsText before.texts name source → IsProgram source tree → IsBuilt (Check name) tree → Answers words before Done [] []
-  run_ended : (job : Job) (out : List ℕ) (end : End) (ending : RunStatus) → IsToRun words before job → Means job.program job.input job.turns job.based out end → status_of end ≡ Some ending → Answers words before (status_for ending) out (error_line end)
+-- Where an input is told, what is left of it, behind some bytes that were taken ahead, is this.
+abbrev pub IsLeft : Option (List ℕ) → Option (List ℕ) → List ℕ → Type 0
+IsLeft None left bytes = ⊤
+IsLeft (Some input) left bytes = (kept : List ℕ) × (prepend_known kept left ≡ Some bytes)
+
+-- Where nothing fails: the status, what is added to the output and to the error output, and what is left of the input.
+-- A run leaves what its last state has of the input, but for bytes that were taken ahead.
+pub data Answers (words : List (List ℕ)) (before : Moment) : Status → List ℕ → List ℕ → Option (List ℕ) → Type 0 where
+  faulty_words : IsFaulty words → Answers words before Words [] [] before.input
+  refused : (command : Command) (name source line : List ℕ) → Spells words command → HasFile command name → IsText before.texts name source → Refusal command source line → Answers words before Refused [] (line ++ 10 ∷ []) before.input
+  checked : (name source : List ℕ) (tree : Tree) → Spells words (Check name) → IsText before.texts name source → IsProgram source tree → IsBuilt (Check name) tree → Answers words before Done [] [] before.input
+  run_ended : (job : Job) (out : List ℕ) (end : End) (ending : RunStatus) (left : Option (List ℕ)) → IsToRun words before job → (means : Means job.program job.input job.turns job.based out end) → status_of end ≡ Some ending → IsLeft before.input left means.last.core.shared.input → Answers words before (status_for ending) out (error_line end) left
 
 -- at a print: the output up to it, and some of its line, and not all of it
 pub data UpToPrint (words : List (List ℕ)) (before : Moment) : List ℕ → Type 0 where
@@ -91,9 +98,10 @@ pub record TellsFault (words : List (List ℕ)) (before : Moment) (line : List �
   pub status : Status
   pub out : List ℕ
   pub otherwise : List ℕ
+  pub left : Option (List ℕ)
   pub told : List ℕ
   pub fault : List ℕ
-  pub answer : (otherwise ≡ []) ⊎ Answers words before status out otherwise
+  pub answer : (otherwise ≡ []) ⊎ Answers words before status out otherwise left
   pub told_front : IsFront told otherwise
   pub fault_front : IsFront fault (line ++ 10 ∷ [])
   pub gained : Appends old new (told ++ fault)
@@ -105,25 +113,19 @@ pub record IsQuiet (before after : Moment) : Type 0 where
   pub out : after.out_faults ≤ before.out_faults
   pub err : after.err_faults ≤ before.err_faults
 
--- a call that runs no program leaves the input as it was
-abbrev pub LeavesInput : Status → Moment → Moment → Type 0
-LeavesInput Refused before after = after.input ≡ before.input
-LeavesInput Words before after = after.input ≡ before.input
-LeavesInput status before after = ⊤
-
 -- the call came to its end
 pub record Ended (words : List (List ℕ)) (before after : Moment) (status : Status) : Type 0 where
   pub out : List ℕ
   pub err : List ℕ
-  pub answer : Answers words before status out err
+  pub answer : Answers words before status out err after.input
   pub out_gained : Appends before.out after.out out
   pub err_gained : Appends before.err after.err err
-  pub input_left : LeavesInput status before after
   pub quiet : IsQuiet before after
 
--- the load failed and nothing was added, or a read failed after the output up to it
+-- The load of the file that the words name failed, and nothing was added but a front of the error line; or a read failed
+-- after the output up to it.
 pub data ReadCause (words : List (List ℕ)) (before after : Moment) : List ℕ → Type 0 where
-  load_failed : Rose before.files_faults after.files_faults → ReadCause words before after []
+  load_failed : (command : Command) (name : List ℕ) → Spells words command → HasFile command name → Rose before.files_faults after.files_faults → AppendsFront before.err after.err (codes "read fault" ++ 10 ∷ []) → ReadCause words before after []
   read_failed : (job : Job) (out : List ℕ) → Rose before.input_faults after.input_faults → IsToRun words before job → AtRead job.program job.input job.turns job.based out → ReadCause words before after out
 
 pub record ReadFailed (words : List (List ℕ)) (before after : Moment) : Type 0 where
@@ -135,7 +137,7 @@ pub record ReadFailed (words : List (List ℕ)) (before after : Moment) : Type 0
 -- the output failed in a print, or the error output failed after the whole output
 pub data WriteCause (words : List (List ℕ)) (before after : Moment) (out : List ℕ) : Type 0 where
   out_failed : Rose before.out_faults after.out_faults → UpToPrint words before out → WriteCause words before after out
-  err_failed : (status : Status) (err : List ℕ) → Rose before.err_faults after.err_faults → Answers words before status out err → WriteCause words before after out
+  err_failed : (status : Status) (err : List ℕ) → Rose before.err_faults after.err_faults → Answers words before status out err after.input → WriteCause words before after out
 
 pub record WriteFailed (words : List (List ℕ)) (before after : Moment) : Type 0 where
   pub out : List ℕ
@@ -160,6 +162,12 @@ Headline words before after Spent = Ended words before after Spent
 Headline words before after ReadFault = ReadFailed words before after
 Headline words before after WriteFault = WriteFailed words before after
 Headline words before after NoMemory = MemoryFailed words before after
+
+-- What became of the input: it is as it was, or a run took bytes off its front, which has a `read` in hand at one of its
+-- states.
+pub data InputLeft (words : List (List ℕ)) (before after : Moment) : Type 0 where
+  untouched : after.input ≡ before.input → InputLeft words before after
+  read_from : (job : Job) (out taken : List ℕ) → IsToRun words before job → AtRead job.program job.input job.turns job.based out → Consumes before.input after.input taken → InputLeft words before after
 
 -- a check writes nothing to the output and leaves the input as it was, however it ends
 pub record LeavesRest (before after : Moment) : Type 0 where

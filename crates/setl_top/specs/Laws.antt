@@ -22,19 +22,19 @@ abbrev pub TellsTexts : Moment → (List ℕ → Option (List ℕ)) → Type 0
 TellsTexts before texts = before.texts ≡ Some texts
 
 abbrev pub RefusesExactly : Type 0
-RefusesExactly = (words : List (List ℕ)) (before : Moment) (texts : List ℕ → Option (List ℕ)) (command : Command) (name source line : List ℕ) (status : Status) (out err : List ℕ) →
-    TellsTexts before texts → Spells words command → HasFile command name → texts name ≡ Some source → Refusal command source line → Answers words before status out err →
-    (status ≡ Refused) × (out ≡ []) × (err ≡ line ++ 10 ∷ [])
+RefusesExactly = (words : List (List ℕ)) (before : Moment) (texts : List ℕ → Option (List ℕ)) (command : Command) (name source line : List ℕ) (status : Status) (out err : List ℕ) (left : Option (List ℕ)) →
+    TellsTexts before texts → Spells words command → HasFile command name → texts name ≡ Some source → Refusal command source line → Answers words before status out err left →
+    (status ≡ Refused) × (out ≡ []) × (err ≡ line ++ 10 ∷ []) × (left ≡ before.input)
 
 -- a check is done exactly where the source is a program that can be checked so far, and then nothing is told
 abbrev pub ChecksExactly : Type 0
-ChecksExactly = (words : List (List ℕ)) (before : Moment) (texts : List ℕ → Option (List ℕ)) (name source : List ℕ) (status : Status) (out err : List ℕ) →
-    TellsTexts before texts → Spells words (Check name) → texts name ≡ Some source → Answers words before status out err →
-    ((status ≡ ended.Done) ↔ ((tree : Tree) × IsProgram source tree × IsBuilt (Check name) tree)) × (out ≡ []) × (status ≡ ended.Done → err ≡ [])
+ChecksExactly = (words : List (List ℕ)) (before : Moment) (texts : List ℕ → Option (List ℕ)) (name source : List ℕ) (status : Status) (out err : List ℕ) (left : Option (List ℕ)) →
+    TellsTexts before texts → Spells words (Check name) → texts name ≡ Some source → Answers words before status out err left →
+    ((status ≡ ended.Done) ↔ ((tree : Tree) × IsProgram source tree × IsBuilt (Check name) tree)) × (out ≡ []) × (status ≡ ended.Done → err ≡ []) × (left ≡ before.input)
 
 abbrev pub EndsExactly : Type 0
-EndsExactly = (words : List (List ℕ)) (before : Moment) (texts : List ℕ → Option (List ℕ)) (input : List ℕ) (job : Job) (said : List ℕ) (end : End) (ending : RunStatus) (status : Status) (out err : List ℕ) →
-    TellsTexts before texts → before.input ≡ Some input → IsToRun words before job → Means job.program job.input job.turns job.based said end → status_of end ≡ Some ending → Answers words before status out err →
+EndsExactly = (words : List (List ℕ)) (before : Moment) (texts : List ℕ → Option (List ℕ)) (input : List ℕ) (job : Job) (said : List ℕ) (end : End) (ending : RunStatus) (status : Status) (out err : List ℕ) (left : Option (List ℕ)) →
+    TellsTexts before texts → before.input ≡ Some input → IsToRun words before job → Means job.program job.input job.turns job.based said end → status_of end ≡ Some ending → Answers words before status out err left →
     (status ≡ status_for ending) × (out ≡ said) × (err ≡ error_line end)
 
 abbrev pub SmallProgramsEnd : Type 0

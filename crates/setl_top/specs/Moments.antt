@@ -1,7 +1,7 @@
 -- What a run has written at some of its states.
 use Rattle.std.specs.Prelude.{◌≡◌, ℕ, Bool, List}
 use Rattle.setl_model.specs.Core.{Core}
-use Rattle.setl_model.specs.Means.{Reaches, HasPrint}
+use Rattle.setl_model.specs.Means.{Reaches, HasPrint, HasRead}
 use Rattle.setl_model.specs.Program.{Program}
 use Rattle.setl_modes.specs.Run.{State}
 
@@ -18,12 +18,9 @@ pub record AtPrint (program : Program) (input : List ℕ) (turns : ℕ) (based :
   pub printed : out ≡ state.out
   pub in_hand : HasPrint program state line
 
--- a `read` is in hand; no statement of the language reads so far
-pub data HasRead (program : Program) (state : State Core) : Type 0 where
-
 -- the run has written this when a `read` is in hand
 pub record AtRead (program : Program) (input : List ℕ) (turns : ℕ) (based : Bool) (out : List ℕ) : Type 0 where
   pub state : State Core
   pub reached : Reaches program input turns based state
   pub printed : out ≡ state.out
-  pub in_hand : HasRead program state
+  pub in_hand : HasRead state

@@ -10,10 +10,15 @@ use Rattle.setl_top.specs.Moments.{AtState, AtPrint}
 use Rattle.setl_top.specs.declared.small.run.Ran.{Ran}
 use Rattle.setl_top.specs.declared.small.run.Ran.TheVariants as ran
 
+-- the meaning ends as done, after it wrote this, and read nothing
+pub record EndsUnread (program : Program) (out input : List ℕ) (turns : ℕ) (based : Bool) : Type 0 where
+  pub means : Means program input turns based out Done
+  pub unread : means.last.core.shared.input ≡ input
+
 -- the whole output of the meaning is added, and the meaning ends as done
 pub record RunsTo (program : Program) (old new : Option (List ℕ)) : Type 0 where
   pub out : List ℕ
-  pub means : (input : List ℕ) (turns : ℕ) (based : Bool) → Means program input turns based out Done
+  pub ends : (input : List ℕ) (turns : ℕ) (based : Bool) → EndsUnread program out input turns based
   pub gained : Appends old new out
 
 -- the run was broken off in a print: the output up to it is added, and some of its line

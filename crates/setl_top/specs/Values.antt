@@ -1,7 +1,7 @@
 -- What a statement of the small language does to the values of names, and what it writes.
 use Rattle.std.specs.Prelude.{◌≡◌, ℕ, ℤ, List, [], Option, Some, None, if◌then◌else◌, map, bytes_eq}
 use Rattle.std.specs.List.{AllByRecursion}
-use Rattle.setl_value.specs.Datum.{Datum, int, set, elements_of, element_list}
+use Rattle.setl_value.specs.Datum.{Datum, int, set, set_of, element_list}
 use Rattle.setl_set.specs.Sets.{set_from, insert_datum}
 use Rattle.setl_text.specs.Texts.{print_line}
 use Rattle.setl_top.specs.Tree.{Expr, Variable, Integer, SetOf, Action, Assign, With, Print}
@@ -9,9 +9,6 @@ use Rattle.setl_top.specs.Tree.{Expr, Variable, Integer, SetOf, Action, Assign, 
 -- the value of each name that was assigned
 abbrev pub Values : Type 0
 Values = List ℕ → Option Datum
-
-abbrev pub set_of : List Datum → Datum
-set_of ds = set (elements_of ds)
 
 abbrev pub value_of : Values → Expr → Option Datum
 value_of values (Variable name) = values name

@@ -13,7 +13,7 @@ use setl_tree::Tree;
 use std::alloc::Global;
 
 /// Why no program was read.
-#[derive(Clone, Copy, Debug, PartialEq, Eq)]
+#[derive(Clone, Copy)]
 pub enum Unread {
     /// The source is refused.
     Refused(Reason),

@@ -12,8 +12,6 @@ mod load;
 mod reason;
 mod small;
 mod status;
-#[cfg(test)]
-mod tests;
 mod top;
 mod words;
 

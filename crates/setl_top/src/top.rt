@@ -1,6 +1,6 @@
 //! The program as one call.
 ghost use Rattle.std.specs.Prelude.{ℕ, List, map, string_bytes};
-ghost use Rattle.setl_top.specs.Headline.{Headline, CheckLeavesRest, moment};
+ghost use Rattle.setl_top.specs.Headline.{Headline, InputLeft, CheckLeavesRest, moment};
 ghost use Rattle.setl_top.specs.Words.{Run, Spells};
 
 use crate::Status;
@@ -15,10 +15,12 @@ use std::alloc::Global;
 ///
 /// `words` are those after the program's own name: `run FILE` or `check FILE`. `files` has the sources by name, and
 /// `input` is what a program reads. `out` gains what the program prints, each line at its `print`; `err` gains the last
-/// line of a call that wasn't done, if it has one. A check leaves `input` and `out` as they were, however it ends.
+/// line of a call that wasn't done, if it has one. Bytes are taken off the front of `input` only by a run that comes to a
+/// `read`. A check leaves `input` and `out` as they were, however it ends.
 ///
-/// `ReadFault` comes only where the count of faults of `files` or `input` rose in the call, `WriteFault` only where that
-/// of `out` or `err` rose, and `NoMemory` only where memory was refused. After these the error line is tried once.
+/// `ReadFault` comes only where the words name a file and the count of faults of `files` rose in the call, or that of
+/// `input` at a `read`, `WriteFault` only where the count of `out` or `err` rose, and `NoMemory` only where memory was
+/// refused. After these the error line is tried once.
 pub fn setl<F: Files, I: Source, O: Sink, E: Sink>(
     alloc: Global,
     words: &[String],
@@ -29,6 +31,8 @@ pub fn setl<F: Files, I: Source, O: Sink, E: Sink>(
 ) -> Status
     ensures headline { let seen = moment F.texts F.faults I.left I.faults O.held O.faults E.held E.faults in
         Headline (map string_bytes words.now) (seen files.old input.old out.old err.old) (seen files.new input.new out.new err.new) result }
+    ensures input { let seen = moment F.texts F.faults I.left I.faults O.held O.faults E.held E.faults in
+        InputLeft (map string_bytes words.now) (seen files.old input.old out.old err.old) (seen files.new input.new out.new err.new) }
     ensures rest { let seen = moment F.texts F.faults I.left I.faults O.held O.faults E.held E.faults in
         CheckLeavesRest (map string_bytes words.now) (seen files.old input.old out.old err.old) (seen files.new input.new out.new err.new) }
 {
@@ -50,6 +54,8 @@ fn run_file<F: Files, I: Source, O: Sink, E: Sink>(
 ) -> Status
     ensures headline { let seen = moment F.texts F.faults I.left I.faults O.held O.faults E.held E.faults in
         (words : List (List ℕ)) → Spells words (Run name.now) → Headline words (seen files.old _input.old out.old err.old) (seen files.new _input.new out.new err.new) result }
+    ensures input { let seen = moment F.texts F.faults I.left I.faults O.held O.faults E.held E.faults in
+        (words : List (List ℕ)) → Spells words (Run name.now) → InputLeft words (seen files.old _input.old out.old err.old) (seen files.new _input.new out.new err.new) }
 {
     let program = match load_small(alloc, name, files, err) {
         Ok(program) => program,

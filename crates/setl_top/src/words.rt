@@ -4,7 +4,7 @@ ghost use Rattle.setl_top.specs.Commands.{command_of};
 ghost use Rattle.setl_top.specs.Words.{Spells, IsFaulty, IsFile};
 
 /// What the words ask for, with the name of the file.
-#[derive(Clone, Copy, Debug, PartialEq, Eq)]
+#[derive(Clone, Copy)]
 pub enum Command<'a> {
     /// The program of the file is to be run.
     Run(&'a str),

@@ -5,7 +5,7 @@ ghost use Rattle.setl_value.specs.Datum.{int};
 ghost use Rattle.setl_value.specs.DatumOf.{datum};
 ghost use Rattle.setl_set.specs.Sets.{set_from};
 
-use setl_set::laws::{operations_have_their_members, rising_lists_agree, tests_are_exact};
+use setl_map::gathered;
 use setl_value::{SetBody, Value};
 use std::alloc::{AllocError, Global};
 
@@ -24,11 +24,6 @@ fn values_of(alloc: Global, members: &[i128]) -> Result<Vec<Value>, AllocError>
 pub fn set_of(alloc: Global, members: &[i128]) -> Result<SetBody, AllocError>
     ensures { IfOk result (λ set. Members set ≡ set_from (map int members.now)) }
 {
-    rising_lists_agree();
-    tests_are_exact();
-    operations_have_their_members();
-    let mut values = values_of(alloc, members)?;
-    values.sort_unstable();
-    values.dedup();
-    SetBody::from_rising(alloc, values)
+    let values = values_of(alloc, members)?;
+    gathered(alloc, values)
 }

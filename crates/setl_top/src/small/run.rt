@@ -29,7 +29,7 @@ use setl_value::{SetBody, Value};
 use std::alloc::{AllocError, Global};
 
 /// Why a statement wasn't done.
-#[derive(Clone, Copy, Debug, PartialEq, Eq)]
+#[derive(Clone, Copy)]
 pub enum Broken {
     /// The output failed and counted it.
     Failed,
@@ -201,7 +201,7 @@ fn perform<O: Sink>(
 }
 
 /// How a run ended.
-#[derive(Clone, Copy, Debug, PartialEq, Eq)]
+#[derive(Clone, Copy)]
 pub enum Ran {
     /// All statements were done.
     Done,

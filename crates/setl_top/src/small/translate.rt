@@ -10,7 +10,7 @@ use setl_tree::{BinaryOp, Expr, Inner, Place, Stmt, StmtKind, Text, Tree};
 use std::alloc::{AllocError, AllocFailed, Global};
 
 /// Why a tree wasn't translated.
-#[derive(Clone, Copy, Debug, PartialEq, Eq)]
+#[derive(Clone, Copy)]
 pub enum Untold {
     /// It is no program of the small language.
     NotSmall,

@@ -1,4 +1,5 @@
 use Rattle.std.proofs.Common.{refl}
+use Rattle.setl_top.specs.Headline.{untouched}
 use Rattle.setl_top.proofs.Ends.{faulty_ends, check_ends, rest_same}
 use Rattle.setl_top.proofs.top.setl.Goals as goal
 
@@ -11,3 +12,12 @@ returns-in-Some-Run-clause-headline g c = c.run_file.ensures.headline _ (rw c.in
 pub returns-in-Some-Check-clause-headline : goal.returns-in-Some-Check-clause-headline
 returns-in-Some-Check-clause-headline g c =
     check_ends _ _ _ _ (rw c.in-Some-Check.field-0-is at c.in-Some-Check.ensures.plain) (rest_same _ _ refl refl refl refl) _ c.check_file.ensures
+
+pub returns-in-None-clause-input : goal.returns-in-None-clause-input
+returns-in-None-clause-input g c = untouched refl
+
+pub returns-in-Some-Run-clause-input : goal.returns-in-Some-Run-clause-input
+returns-in-Some-Run-clause-input g c = c.run_file.ensures.input _ (rw c.in-Some-Run.field-0-is at c.in-Some-Run.ensures.plain)
+
+pub returns-in-Some-Check-clause-input : goal.returns-in-Some-Check-clause-input
+returns-in-Some-Check-clause-input g c = untouched refl

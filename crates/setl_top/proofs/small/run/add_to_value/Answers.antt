@@ -3,7 +3,8 @@ use Rattle.std.specs.Int.{w128}
 use Rattle.std.proofs.lemmas.Int.{to_z-of_z}
 use Rattle.setl_value.specs.Body.{Members}
 use Rattle.setl_value.specs.DatumOf.{datum}
-use Rattle.setl_top.specs.Values.{set_of, with_member}
+use Rattle.setl_value.specs.Datum.{set_of}
+use Rattle.setl_top.specs.Values.{with_member}
 use Rattle.setl_top.proofs.Members.{with_member-set_of}
 use Rattle.setl_top.proofs.small.run.add_to_value.Goals as goal
 

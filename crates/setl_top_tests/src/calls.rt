@@ -1,0 +1,69 @@
+//! Calls of the program over an outside in memory.
+
+use setl_io::{MemFiles, MemSink, Memory, SureSource};
+use setl_top::{Status, setl};
+use std::alloc::Global;
+
+/// Which calls of the outside fail, 0 for none, and how many bytes the output takes a call.
+#[derive(Clone, Copy)]
+pub struct Faults {
+    pub load: u64,
+    pub write: u64,
+    pub most: usize,
+    pub tell: u64,
+}
+
+/// An outside that doesn't fail.
+pub const NO_FAULTS: Faults = Faults {
+    load: 0,
+    write: 0,
+    most: 99,
+    tell: 0,
+};
+
+/// What a call answered, and what its outputs gained.
+#[derive(Drop)]
+pub struct Left {
+    status: Status,
+    out: Vec<u8>,
+    err: Vec<u8>,
+}
+
+impl Left {
+    /// Whether the call answered so, and its outputs gained these texts.
+    pub fn is(&self, status: Status, out: &str, err: &str) -> bool {
+        self.status == status
+            && self.out.as_slice() == out.as_bytes()
+            && self.err.as_slice() == err.as_bytes()
+    }
+}
+
+/// The words of a line.
+pub fn words_of(alloc: Global, line: &str) -> Result<Vec<String>, Memory> {
+    let mut words = Vec::new(alloc);
+    for word in line.split_whitespace() {
+        words.push(String::from_str(alloc, word)?)?;
+    }
+    Ok(words)
+}
+
+/// A call with these words and with this source in the file `a`.
+pub fn call(alloc: Global, line: &str, source: Vec<u8>, faults: Faults) -> Result<Left, Memory> {
+    let words = words_of(alloc, line)?;
+    let mut files = MemFiles::new(alloc, vec![in alloc; faults.load]?)?;
+    files.add(String::from_str(alloc, "a")?, source)?;
+    let mut input = SureSource::new(Vec::new(alloc));
+    let mut out = MemSink::new(alloc, faults.most, vec![in alloc; faults.write]?)?;
+    let mut err = MemSink::new(alloc, 99, vec![in alloc; faults.tell]?)?;
+    let status = setl(alloc, &words, &mut files, &mut input, &mut out, &mut err);
+    Ok(Left {
+        status,
+        out: out.held().to_vec(alloc)?,
+        err: err.held().to_vec(alloc)?,
+    })
+}
+
+/// A call over an outside that doesn't fail.
+pub fn answer(alloc: Global, line: &str, source: &str) -> Result<Left, Memory> {
+    call(alloc, line, source.as_bytes().to_vec(alloc)?, NO_FAULTS)
+}

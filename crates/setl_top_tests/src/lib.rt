@@ -1,0 +1,16 @@
+//! Tests of the program as one call: sources, words and faults of the outside, and what a call answers and writes then.
+//!
+//! Nothing stands on this crate. Each call is made over an outside in memory, and its answer is compared with worked
+//! rows.
+#![tactic(auto)]
+
+#[cfg(test)]
+mod calls;
+#[cfg(test)]
+mod faults;
+#[cfg(test)]
+mod pieces;
+#[cfg(test)]
+mod programs;
+#[cfg(test)]
+mod refusals;

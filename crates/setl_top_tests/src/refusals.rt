@@ -1,0 +1,255 @@
+//! Sources and words that are refused, and the lines that tell why.
+
+use crate::calls::{NO_FAULTS, answer, call};
+use setl_io::Memory;
+use setl_top::Status;
+use std::alloc::Global;
+use std::test::Fail;
+
+/// Words, sources that are refused, and the first reason that is told.
+const REFUSED: [(&str, &str, &str); 20] = [
+    ("run a", "program p; print(x); end program;", "not built\n"),
+    (
+        "run a",
+        "program p; x := 1; x with:= 2; end program;",
+        "not built\n",
+    ),
+    (
+        "run a",
+        "program p; x with:= 2; end program;",
+        "not built\n",
+    ),
+    (
+        "run a",
+        "program p; print(x); x := 1; end program;",
+        "not built\n",
+    ),
+    ("run a", "program p; x := -1; end program;", "not built\n"),
+    (
+        "run a",
+        "program p; print('a'); end program;",
+        "not built\n",
+    ),
+    ("run a", "program p; end program p;", "not built\n"),
+    (
+        "run a",
+        "program p; var x; x := 1; end program;",
+        "not built\n",
+    ),
+    ("run a", "program p; end program", "at 22: syntax\n"),
+    ("run a", "program p; end program; x", "at 24: syntax\n"),
+    ("run a", "program print; end program;", "at 8: syntax\n"),
+    ("check a", "", "at 0: syntax\n"),
+    ("check a", "program p; ? end program;", "at 11: byte\n"),
+    (
+        "check a",
+        "program p; x := {1,}; end program; 'it",
+        "at 35: open string\n",
+    ),
+    (
+        "check a",
+        "170141183460469231731687303715884105728 ?",
+        "at 0: wide number\n",
+    ),
+    (
+        "check a",
+        "program p; print({3,1,2,1}, [1,om,2], 'it''s');",
+        "at 47: syntax\n",
+    ),
+    (
+        "check a",
+        "program p; print('it''s); end program;",
+        "at 17: open string\n",
+    ),
+    (
+        "check a",
+        "program p; quit; x := ; end program;",
+        "at 22: syntax\n",
+    ),
+    (
+        "check a",
+        "program p;\nquit;\nend program;",
+        "line 2: rule 13\n",
+    ),
+    (
+        "check a",
+        "program p;\nrepr base n: int; s: sparse set(elmt n); end repr;\ns := {1}; print(s);\ns with:= 'a'; print(s);\nend program;",
+        "not built\n",
+    ),
+];
+
+#[test]
+fn sources_are_refused_for_their_first_reason(rt: HostRuntime) -> Result<(), Fail> {
+    for (words, source, line) in REFUSED {
+        let left = answer(rt.alloc(), words, source)?;
+        assert!(rt; left.is(Status::Refused, "", line), "at {source}");
+    }
+    Ok(())
+}
+
+/// Each rule of names, a source that breaks it on line 2, and one that keeps it.
+const RULES: [(u8, &str, &str); 18] = [
+    (
+        1,
+        "program p;\nend program q;",
+        "program p;\nend program p;",
+    ),
+    (
+        2,
+        "program p; proc f();\nend proc g; end program;",
+        "program p; proc f();\nend proc f; end program;",
+    ),
+    (
+        3,
+        "program p; proc f(); end proc;\nproc f(); end proc; end program;",
+        "program p; proc f(); end proc;\nproc g(); end proc; end program;",
+    ),
+    (
+        4,
+        "program p;\nproc p(); end proc; end program;",
+        "program p;\nproc q(); end proc; end program;",
+    ),
+    (
+        5,
+        "program p;\nvar a, a; end program;",
+        "program p;\nvar a, b; end program;",
+    ),
+    (
+        6,
+        "program p;\nvar f; proc f(); end proc; end program;",
+        "program p;\nvar g; proc f(); end proc; end program;",
+    ),
+    (
+        7,
+        "program p;\nproc f(a, a); end proc; end program;",
+        "program p;\nproc f(a, b); end proc; end program;",
+    ),
+    (
+        8,
+        "program p;\nproc g(f); end proc; proc f(); end proc; end program;",
+        "program p;\nproc g(h); end proc; proc f(); end proc; end program;",
+    ),
+    (
+        9,
+        "program p;\nx := f; proc f(); end proc; end program;",
+        "program p;\nx := f(); proc f(); end proc; end program;",
+    ),
+    (
+        10,
+        "program p;\nf(1); proc f(); end proc; end program;",
+        "program p;\nf(1); proc f(a); end proc; end program;",
+    ),
+    (
+        11,
+        "program p;\nf(1); proc f(wr a); end proc; end program;",
+        "program p;\nf(x); proc f(wr a); end proc; end program;",
+    ),
+    (
+        12,
+        "program p;\nf(1); end program;",
+        "program p;\nf(1); proc f(a); end proc; end program;",
+    ),
+    (
+        13,
+        "program p;\nquit; end program;",
+        "program p;\n(while true) quit; end while; end program;",
+    ),
+    (
+        14,
+        "program p;\nreturn; end program;",
+        "program p;\nproc f(); return; end proc; end program;",
+    ),
+    (
+        15,
+        "program p;\nx := {a : a in s, a in t}; end program;",
+        "program p;\nx := {a : a in s, b in t}; end program;",
+    ),
+    (
+        16,
+        "program p;\nx := {exists a in s | a = 1 : a in s}; end program;",
+        "program p;\nx := {exists b in s | a = b : a in s}; end program;",
+    ),
+    (
+        17,
+        "program p;\n[a, -, a] := t; end program;",
+        "program p;\n[a, -, b] := t; end program;",
+    ),
+    (
+        18,
+        "program p;\nf(a, a); proc f(wr x, rw y); end proc; end program;",
+        "program p;\nf(a, b); proc f(wr x, rw y); end proc; end program;",
+    ),
+];
+
+/// Whether a check of the first source breaks this rule on line 2, and a check of the second is done.
+fn tells_rule(alloc: Global, rule: u8, broken: &str, kept: &str) -> Result<bool, Memory> {
+    let line = format!(in alloc; "line 2: rule {rule}\n")?;
+    let broken = answer(alloc, "check a", broken)?;
+    let kept = answer(alloc, "check a", kept)?;
+    Ok(broken.is(Status::Refused, "", line.as_str()) && kept.is(Status::Done, "", ""))
+}
+
+#[test]
+fn each_rule_is_told_and_a_neighbour_keeps_it(rt: HostRuntime) -> Result<(), Fail> {
+    for (rule, broken, kept) in RULES {
+        assert!(rt; tells_rule(rt.alloc(), rule, broken, kept)?, "at {rule}");
+    }
+    Ok(())
+}
+
+/// Words of no plain form.
+const OTHER_WORDS: [&str; 9] = [
+    "",
+    "run",
+    "check",
+    "run x y",
+    "check x y",
+    "run -x",
+    "check -x",
+    "checks a",
+    "--help",
+];
+
+#[test]
+fn other_words_are_told_by_the_status_alone(rt: HostRuntime) -> Result<(), Fail> {
+    for line in OTHER_WORDS {
+        let left = answer(rt.alloc(), line, "program p; end program;")?;
+        assert!(rt; left.is(Status::Words, "", ""), "at {line}");
+    }
+    assert_eq!(rt; Status::Words.number(), 2);
+    Ok(())
+}
+
+/// A program that prints 1 inside so many parentheses.
+fn parentheses(alloc: Global, count: usize) -> Result<Vec<u8>, Memory> {
+    let mut source = b"program p; print(".to_vec(alloc)?;
+    source.extend_from_slice(&vec![in alloc; b'('; count]?)?;
+    source.push(b'1')?;
+    source.extend_from_slice(&vec![in alloc; b')'; count]?)?;
+    source.extend_from_slice(b"); end program;")?;
+    Ok(source)
+}
+
+#[test]
+fn sources_are_refused_past_their_limits(rt: HostRuntime) -> Result<(), Fail> {
+    let alloc = rt.alloc();
+    for (source, status, out, line) in [
+        (
+            vec![in alloc; b' '; (1 << 24) + 1]?,
+            Status::Refused,
+            "",
+            "source too long\n",
+        ),
+        (
+            parentheses(alloc, 200)?,
+            Status::Refused,
+            "",
+            "at 216: nesting\n",
+        ),
+        (parentheses(alloc, 199)?, Status::Done, "1\n", ""),
+    ] {
+        let left = call(alloc, "run a", source, NO_FAULTS)?;
+        assert!(rt; left.is(status, out, line), "at {line}");
+    }
+    Ok(())
+}
