@@ -4,10 +4,7 @@ use Rattle.setl_value.specs.Datum.{Datum, set_of, tuple_of}
 use Rattle.setl_set.specs.Sets.{set_from}
 use Rattle.setl_map.specs.Outcome.{all_values}
 use Rattle.setl_value.specs.WellFormed.{trim}
-
--- Whether values are collected in a set or in a tuple.
-pub data Collection : Type 0 where
-  OfSet OfTuple : Collection
+use Rattle.setl_program.specs.Program.{Collection, OfSet, OfTuple}
 
 -- a set has no `om`
 abbrev pub collected : Collection → List (Option Datum) → Option (List Datum) → Datum

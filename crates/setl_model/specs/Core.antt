@@ -1,11 +1,10 @@
 -- The part of a state on which the next step rests.
 use Rattle.std.specs.Prelude.{ℕ, Bool, List, [], ◌∷◌, Option}
 use Rattle.setl_value.specs.Datum.{Datum}
-use Rattle.setl_modes.specs.Variable.{Variable, Global, Own, Bound, Environment, value_in, with_value}
+use Rattle.setl_run.specs.Variable.{Variable, Global, Own, Bound, Environment, value_in, with_value}
 use Rattle.setl_map.specs.declared.Operator.{Operator}
-use Rattle.setl_model.specs.Collections.{Collection}
-use Rattle.setl_model.specs.Program.{Connective, Quantifier, Slots, Binding, Begin, Expr, Exprs, Iterators, Condition, Arguments, Selectors, Place, Taking, Block}
-use Rattle.setl_modes.specs.Run.{Store}
+use Rattle.setl_program.specs.Program.{Collection, Connective, Quantifier, Slots, Binding, Begin, Expr, Exprs, Iterators, Condition, Arguments, Selectors, Place, Taking, Block}
+use Rattle.setl_run.specs.Run.{Store}
 
 -- What the run and the run of its code have alike: the values of the variables of the whole program and of the body in
 -- hand, the bytes of the input that are left, whether a read met its end, the next atom and the turns left.

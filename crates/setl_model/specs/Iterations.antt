@@ -6,10 +6,10 @@ use Rattle.setl_value.specs.Pairs.{is_map}
 use Rattle.setl_map.specs.Ranges.{range_from, step_from}
 use Rattle.setl_map.specs.Maps.{image, domain_of}
 use Rattle.setl_map.specs.Outcome.{Fault, OmFault, KindFault, ZeroFault, DeepFault, all_values}
-use Rattle.setl_model.specs.Collections.{Collection, OfSet, OfTuple, collection}
-use Rattle.setl_model.specs.Program.{Quantifier, Exists, Forall, NotExists, Slots, Binding, Member, Components, Point, Begin, Values, Between, SetSteps, TupleSteps, Points, Exprs, no_expr, more_exprs, Iterators, no_iterator, more_iterators, Condition, no_condition, only_if, no_stmt}
-use Rattle.setl_modes.specs.Events.{Stuck}
-use Rattle.setl_modes.specs.Run.{Store, Move, Halts}
+use Rattle.setl_model.specs.Collections.{collection}
+use Rattle.setl_program.specs.Program.{Collection, OfSet, OfTuple, Quantifier, Exists, Forall, NotExists, Slots, Binding, Member, Components, Point, Begin, Values, Between, SetSteps, TupleSteps, Points, Exprs, no_expr, more_exprs, Iterators, no_iterator, more_iterators, Condition, no_condition, only_if, no_stmt}
+use Rattle.setl_run.specs.Events.{Stuck}
+use Rattle.setl_run.specs.Run.{Store, Move, Halts}
 use Rattle.setl_model.specs.Core.{Execute, Evaluate, Result, Iterate, Goal, Collect, Select, Decide, Repeat, Item, One, Two, Level, Iteration, IterationFrame, Sources, ToBind, IsBound, Testing, Body, Paused, Frame, InIteration, Storing, Core, line_of}
 use Rattle.setl_model.specs.Moves.{go, stop, turn, branch}
 use Rattle.setl_model.specs.Slots.{Parting, Parted, NotParted, parting, om_stores}

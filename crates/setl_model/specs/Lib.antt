@@ -1,5 +1,4 @@
 pub mod Collections
-pub mod Program
 pub mod Core
 pub mod Moves
 pub mod Slots
@@ -16,9 +15,7 @@ pub mod Entered
 pub mod Dump
 pub mod Laws
 pub mod Ending
-pub mod Source
 pub mod Samples
 pub mod LanguageSamples
 pub mod Table
 pub mod worked
-pub mod trees

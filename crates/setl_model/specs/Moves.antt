@@ -1,11 +1,11 @@
 -- The moves of which every step is one.
 use Rattle.std.specs.Prelude.{ℕ, ◌-◌, true, false, List, [], ◌∷◌, Option, Some, None}
 use Rattle.setl_value.specs.Datum.{Datum, bool}
-use Rattle.setl_modes.specs.Variable.{Variable, Bound}
+use Rattle.setl_run.specs.Variable.{Variable, Bound}
 use Rattle.setl_map.specs.Outcome.{Fault, OmFault, KindFault, ZeroFault, RangeFault, WideFault, DeepFault, Outcome, Gives, Fails, Overspends}
-use Rattle.setl_modes.specs.Events.{StopKind, Om, Kind, Zero, Range, Wide, Deep, Stopped, Spent}
-use Rattle.setl_modes.specs.Turns.{left_after}
-use Rattle.setl_modes.specs.Run.{Store, Move, Moves, Halts}
+use Rattle.setl_run.specs.Events.{StopKind, Om, Kind, Zero, Range, Wide, Deep, Stopped, Spent}
+use Rattle.setl_run.specs.Turns.{left_after}
+use Rattle.setl_run.specs.Run.{Store, Move, Moves, Halts}
 use Rattle.setl_model.specs.Core.{Hand, Result, Frame, Core, line_of, write_variable}
 
 -- goes on with this in hand over these frames

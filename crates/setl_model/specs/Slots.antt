@@ -2,8 +2,8 @@
 use Rattle.std.specs.Prelude.{List, [], ◌∷◌, Option, Some, None}
 use Rattle.setl_value.specs.Datum.{Datum, tuple, part_list}
 use Rattle.setl_map.specs.Outcome.{Fault, OmFault, KindFault}
-use Rattle.setl_model.specs.Program.{Slots}
-use Rattle.setl_modes.specs.Run.{Store}
+use Rattle.setl_program.specs.Program.{Slots}
+use Rattle.setl_run.specs.Run.{Store}
 
 -- The stores by which variables take their parts, or why there are none.
 pub data Parting : Type 0 where

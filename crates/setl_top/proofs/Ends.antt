@@ -3,7 +3,7 @@ use Rattle.std.proofs.Common.{◌≡◌, ◌⊎◌, inl, inr, ◌≤◌, ◌^◌
 use Rattle.std.specs.Io.KnownBytes.{Appends}
 use Rattle.setl_io.specs.Faults.{Rose}
 use Rattle.setl_model.specs.Answers.{IsDone, IsStopped, IsSpent, RunStatus}
-use Rattle.setl_modes.specs.Events.{Done as DoneEnd}
+use Rattle.setl_run.specs.Events.{Done as DoneEnd}
 use Rattle.setl_top.specs.Accepted.{program_of}
 use Rattle.setl_top.specs.Lines.{AppendsFront, AppendsFronts}
 use Rattle.setl_top.specs.Loads.{LoadedSmall, NotLoaded, not_accepted, not_read, no_room, sides, Checks, checked_so, not_checked}

@@ -3,13 +3,13 @@ use Rattle.std.proofs.Common.{◌≡◌, ◌∙◌, ℕ, ◌-◌, Bool, true, Li
 use Rattle.std.proofs.lemmas.List.{append-nil}
 use Rattle.setl_value.specs.Datum.{Datum}
 use Rattle.setl_model.specs.Core.{Core}
-use Rattle.setl_modes.specs.Events.{Event, Printed, Stored, Stopped, Unfit}
+use Rattle.setl_run.specs.Events.{Event, Printed, Stored, Stopped, Unfit}
 use Rattle.setl_model.specs.Moves.{charge}
-use Rattle.setl_model.specs.Program.{Program}
-use Rattle.setl_modes.specs.Run.{Moves, State, Goes, and_then, step, settle, run, if_fits}
-use Rattle.setl_modes.specs.RunLaws.{runs_join}
+use Rattle.setl_program.specs.Program.{Program}
+use Rattle.setl_run.specs.Run.{Moves, State, Goes, and_then, step, settle, run, if_fits}
+use Rattle.setl_run.specs.RunLaws.{runs_join}
 use Rattle.setl_model.specs.Step.{language, test_of}
-use Rattle.setl_modes.specs.Variable.{Variable}
+use Rattle.setl_run.specs.Variable.{Variable}
 
 -- a core with some output, whatever was told
 pub record Comes (p : Program) (based : Bool) (s : State Core) (core : Core) (out : List ℕ) : Type 0 where

@@ -4,19 +4,19 @@ use Rattle.std.proofs.lemmas.List.{append-nil}
 use Rattle.std.proofs.lemmas.Slice.Eq.{bytes_eq-Decides}
 use Rattle.setl_value.specs.Datum.{Datum, int, elements_of, element_list, element_list-elements_of}
 use Rattle.setl_model.specs.Core.{Hand, Execute, Evaluate, Result, Frame, InStmt, Then, AssignRight, UpdateRight, PrintParts, Core, write_variable}
-use Rattle.setl_modes.specs.Events.{Event, Printed}
+use Rattle.setl_run.specs.Events.{Event, Printed}
 use Rattle.setl_model.specs.Moves.{with_outcome, go_storing}
 use Rattle.setl_map.specs.declared.Operator.TheVariants.{With as WithOperator}
 use Rattle.setl_map.specs.Outcome.{Gives, within_depth}
 use Rattle.setl_map.specs.Operators.{op_of}
-use Rattle.setl_model.specs.Program.{Program, Literal, Block, no_stmt, more_stmts}
-use Rattle.setl_modes.specs.Run.{Moves}
+use Rattle.setl_program.specs.Program.{Program, Literal, Block, no_stmt, more_stmts}
+use Rattle.setl_run.specs.Run.{Moves}
 use Rattle.setl_set.specs.Sets.{insert_datum}
 use Rattle.setl_model.specs.Statements.{print_parts}
 use Rattle.setl_model.specs.Step.{language, test_of}
 use Rattle.setl_text.specs.Texts.{print_line}
-use Rattle.setl_modes.specs.Variable.{Environment, Own, Variable, value_in, with_value}
-use Rattle.setl_modes.specs.VariableLaws.{value_stored, value_elsewhere}
+use Rattle.setl_run.specs.Variable.{Environment, Own, Variable, value_in, with_value}
+use Rattle.setl_run.specs.VariableLaws.{value_stored, value_elsewhere}
 use Rattle.setl_top.specs.Accepted.{plain_value, plain_values, plain_action, place_of, program_of}
 use Rattle.setl_top.specs.Tree.{Expr, Action, Assign, With, Print, Tree}
 use Rattle.setl_top.specs.Values.{Values, value_of, bound, with_member, values_after, said_by, set_of, CanPerform, IsIntegers}

@@ -4,10 +4,10 @@ use Rattle.std.proofs.lemmas.List.{append-nil}
 use Rattle.std.specs.Io.KnownBytes.{Appends}
 use Rattle.setl_io.specs.Sink.{AppendsPart}
 use Rattle.setl_model.specs.Core.{Core, Execute}
-use Rattle.setl_modes.specs.Events.{Done}
+use Rattle.setl_run.specs.Events.{Done}
 use Rattle.setl_model.specs.Means.{Means, first}
-use Rattle.setl_modes.specs.Run.{Ends}
-use Rattle.setl_modes.specs.RunLaws.{runs_join}
+use Rattle.setl_run.specs.Run.{Ends}
+use Rattle.setl_run.specs.RunLaws.{runs_join}
 use Rattle.setl_model.specs.Step.{language, test_of}
 use Rattle.setl_top.specs.Accepted.{program_of, plain_block}
 use Rattle.setl_top.specs.Conditions.{Kinds, no_kinds, meets}

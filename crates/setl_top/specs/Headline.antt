@@ -4,9 +4,9 @@ use Rattle.std.specs.Io.KnownBytes.{Appends}
 use Rattle.setl_io.specs.Faults.{Rose}
 use Rattle.setl_io.specs.Files.{Texts, IsText}
 use Rattle.setl_model.specs.Answers.{RunStatus, IsDone, IsStopped, IsSpent, status_of, error_line}
-use Rattle.setl_modes.specs.Events.{End}
+use Rattle.setl_run.specs.Events.{End}
 use Rattle.setl_model.specs.Means.{Means}
-use Rattle.setl_model.specs.Program.{Program}
+use Rattle.setl_program.specs.Program.{Program}
 use Rattle.setl_tree.specs.declared.tree.Tree.{Tree}
 use Rattle.setl_top.specs.Accepted.{IsProgram, IsBuilt, Accepted, Refusal}
 use Rattle.setl_top.specs.Fronts.{IsFront}

@@ -1,9 +1,8 @@
--- Programs as plain trees, in which each name stands for its variable.
+-- Programs as plain data, in which each name stands for its variable.
 use Rattle.std.specs.Prelude.{ℕ, List, Option}
 use Rattle.setl_value.specs.Datum.{Datum}
-use Rattle.setl_modes.specs.Variable.{Variable}
+use Rattle.setl_run.specs.Variable.{Variable}
 use Rattle.setl_map.specs.declared.Operator.{Operator}
-use Rattle.setl_model.specs.Collections.{Collection}
 use Rattle.setl_modes.specs.Modes.{Mode}
 
 -- The operators that evaluate their right part only where the left one doesn't decide.
@@ -17,25 +16,37 @@ pub data Quantifier : Type 0 where
 abbrev pub Slots : Type 0
 Slots = List (Option Variable)
 
--- What an iterator binds at each step.
+-- Whether values are collected in a set or in a tuple.
+pub data Collection : Type 0 where
+  OfSet OfTuple : Collection
+
+-- How the members of an iterator come from its source.
+pub data Source : Type 0 where
+  -- those of a set, a tuple or a string
+  Values : Source
+  -- the integers of `[a..b]` or `{a..b}`, written directly as the source
+  Between : Source
+  -- those of `{a, b..c}` in rising order, and of `[a, b..c]`
+  SetSteps TupleSteps : Source
+
+-- What an iterator runs over, and what it binds at each step.
 pub data Binding : Type 0 where
   -- x, in `x in s`
-  Member : (variable : Variable) → Binding
+  Member : Source → (variable : Variable) → Binding
   -- [x, -, y], in `[x, -, y] in s`
-  Components : Slots → Binding
-  -- y and x, in `y = f(x)`
+  Components : Source → Slots → Binding
+  -- y and x, in `y = f(x)`, which runs over the arguments of f with their images
   Point : (image argument : Variable) → Binding
 
--- How the members of an iterator come from its sources.
+-- How an iterator begins: over the members of a source, or over the arguments of a map with their images.
 pub data Begin : Type 0 where
-  -- those of a set, a tuple or a string
-  Values : Begin
-  -- the integers of `[a..b]` or `{a..b}`, written directly as the source
-  Between : Begin
-  -- those of `{a, b..c}` in rising order, and of `[a, b..c]`
-  SetSteps TupleSteps : Begin
-  -- the arguments of f with their images
+  Members : Source → Begin
   Points : Begin
+
+abbrev pub begin_of : Binding → Begin
+begin_of (Member k x) = Members k
+begin_of (Components k xs) = Members k
+begin_of (Point y x) = Points
 
 mutual
   pub data Expr : Type 0 where
@@ -50,8 +61,8 @@ mutual
     Choose : Expr → Expr → Expr → Expr
     -- {e : iterators | c} or [e : iterators | c]
     Former : Collection → Expr → Iterators → Condition → Expr
-    -- {bound in s | c} or [bound in s | c], which collects the members
-    Selection : Collection → Iterators → Condition → Expr
+    -- {bound in s | c} or [bound in s | c], which collects the members of one iterator
+    Selection : Collection → Binding → (sources : Exprs) → Expr → Expr
     Quantified : Quantifier → Iterators → Expr → Expr
     -- a procedure by its place among the program's procedures
     Call : (procedure : ℕ) → Arguments → Expr
@@ -61,10 +72,10 @@ mutual
     no_expr : Exprs
     more_exprs : Expr → Exprs → Exprs
 
-  -- Iterators in their order: what each binds, and its sources.
+  -- Iterators in their order, each with the expressions of its source.
   pub data Iterators : Type 0 where
     no_iterator : Iterators
-    more_iterators : Binding → Begin → Exprs → Iterators → Iterators
+    more_iterators : Binding → (sources : Exprs) → Iterators → Iterators
 
   pub data Condition : Type 0 where
     no_condition : Condition
@@ -121,17 +132,25 @@ mutual
 pub data Passing : Type 0 where
   Rd Wr Rw : Passing
 
+-- A parameter, with the line of its first token.
 pub record Parameter : Type 0 where
   pub passing : Passing
   pub name : List ℕ
+  pub line : ℕ
 
+-- A procedure, with the line of its `end`.
 pub record Procedure : Type 0 where
   pub name : List ℕ
   pub parameters : List Parameter
   pub body : Block
+  pub end_line : ℕ
 
--- A program: the statements of its main body, its procedures in their order, and the modes of its declared variables.
+-- A program: its name, the names in `var`, the statements of its main body, the line of its `end`, its procedures in
+-- their order, and the modes of its declared variables.
 pub record Program : Type 0 where
+  pub name : List ℕ
+  pub vars : List (List ℕ)
   pub main : Block
+  pub end_line : ℕ
   pub procedures : List Procedure
   pub modes : List (Variable × Mode)

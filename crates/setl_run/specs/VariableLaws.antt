@@ -4,7 +4,7 @@ use Rattle.std.proofs.Common.{sym, ap, subst}
 use Rattle.std.proofs.lemmas.Bool.{eqb-true, eq-eqb}
 use Rattle.std.proofs.lemmas.Slice.Eq.{bytes_eq-Decides}
 use Rattle.setl_value.specs.Datum.{Datum}
-use Rattle.setl_modes.specs.Variable.{Variable, Global, Own, Bound, is_variable, Environment, value_in, with_value}
+use Rattle.setl_run.specs.Variable.{Variable, Global, Own, Bound, is_variable, Environment, value_in, with_value}
 
 both_true : (a b : Bool) → a && b ≡ true → (a ≡ true) × (b ≡ true)
 both_true true true h = (refl, refl)

@@ -1,4 +1,4 @@
--- Expressions of trees as plain ones, in which each name stands for its variable.
+-- What the expressions of a tree become in a program.
 use Rattle.std.specs.Prelude.{ℕ, true, false, List, [], ◌∷◌, ◌++◌, map, Option, Some, None}
 use Rattle.setl_value.specs.Datum.{bool, int, text}
 use Rattle.setl_tree.specs.declared.expr.BinaryOp.{BinaryOp}
@@ -16,35 +16,35 @@ use Rattle.setl_tree.specs.declared.tree.Passing.{Passing}
 use Rattle.setl_tree.specs.declared.tree.Passing.TheVariants as pa
 use Rattle.setl_map.specs.declared.Operator.{Operator}
 use Rattle.setl_map.specs.declared.Operator.TheVariants.{Get, Images, Slice, Tail, SetOf, TupleOf, SetRange, TupleRange, SetStep, TupleStep}
-use Rattle.setl_modes.specs.Variable.{Variable, Bound as OfFormer}
-use Rattle.setl_model.specs.Collections.{Collection, OfSet, OfTuple}
-use Rattle.setl_model.specs.Program.{Binding, Member, Components, Point, Begin, Values, Between, SetSteps, TupleSteps, Points, Expr, Literal, Undefined, Name as Named, Apply, Choose, Former, Selection, Quantified, Call, Newat, Eof, Ok, Exprs, no_expr, more_exprs, Iterators, no_iterator, more_iterators, Condition, no_condition, only_if, Arguments, no_argument, rd_argument, wr_argument, rw_argument, Selectors, round_selector, brace_selector}
-use Rattle.setl_model.specs.trees.Numbered.{Numbered, pure, ◌>>=◌, opened}
-use Rattle.setl_model.specs.trees.Scope.{Name, Scope, in_former, variable_of, procedure_of}
-use Rattle.setl_model.specs.trees.Words.{one, two, binary, relation, prefix, quantifier}
+use Rattle.setl_run.specs.Variable.{Variable, Bound as OfFormer}
+use Rattle.setl_program.specs.Program.{Collection, OfSet, OfTuple, Binding, Member, Components, Point, Source, Values, Between, SetSteps, TupleSteps, Expr, Literal, Undefined, Name as Named, Apply, Choose, Former, Selection, Quantified, Call, Newat, Eof, Ok, Exprs, no_expr, more_exprs, Iterators, no_iterator, more_iterators, Condition, no_condition, only_if, Arguments, no_argument, rd_argument, wr_argument, rw_argument, Selectors, round_selector, brace_selector}
+use Rattle.setl_program.specs.Numbered.{Numbered, pure, ◌>>=◌, opened}
+use Rattle.setl_names.specs.Names.{Name}
+use Rattle.setl_names.specs.Occurrences.{names_of_bound}
+use Rattle.setl_program.specs.Scope.{Scope, in_former, variable_of, procedure_of}
+use Rattle.setl_program.specs.Operators.{one, two, binary, relation, prefix, quantifier}
 
 -- ---- parts
 
--- The source of an iterator: how its members come, and the expressions that are evaluated.
-abbrev pub Source : Type 0
-Source = Begin × Exprs
+-- What an iterator runs over: how the members come, and the expressions that are evaluated.
+abbrev pub Range : Type 0
+Range = Source × Exprs
 
 -- An expression: what it becomes, what it becomes as the source of an iterator, and its name if it is a name alone.
 pub record Part : Type 0 where
   pub term : Scope → Numbered Expr
-  pub source : Scope → Numbered Source
+  pub source : Scope → Numbered Range
   pub name : Option Name
 
 -- The inside of braces or brackets, by whether it makes a set or a tuple.
 pub record Inside : Type 0 where
   pub term : Collection → Scope → Numbered Expr
-  pub source : Collection → Scope → Numbered Source
+  pub source : Collection → Scope → Numbered Range
 
--- An iterator: the names that it binds, its source, and what it binds by the variables of its names.
+-- An iterator: the names that it binds, and what it becomes in its scope, by the variables of these names.
 pub record Turn : Type 0 where
   pub names : List Name
-  pub source : Scope → Numbered Source
-  pub binding : (Name → Variable) → Binding
+  pub iterator : Scope → (Name → Variable) → Numbered (Binding × Exprs)
 
 -- A selector: what it makes of an expression, what it is in a place, and its expressions if it is a list in round brackets.
 pub record Behind : Type 0 where
@@ -52,7 +52,7 @@ pub record Behind : Type 0 where
   pub selector : Scope → Numbered (Selectors → Selectors)
   pub list : Option (List Part)
 
-abbrev pub values : Expr → Source
+abbrev pub values : Expr → Range
 values e = (Values, more_exprs e no_expr)
 
 -- an expression that isn't a name alone, nor a range
@@ -128,15 +128,15 @@ selection x (b ∷ bs) s = selection_by x.name b.list x b bs s
 -- those that bind variables
 abbrev pub iterators : List Turn → Scope → Numbered Iterators
 iterators [] s = pure no_iterator
-iterators (t ∷ ts) s = do from ← t.source s; rest ← iterators ts s; pure (more_iterators (t.binding (variable_of s)) from.0 from.1 rest)
+iterators (t ∷ ts) s = do first ← t.iterator s (variable_of s); rest ← iterators ts s; pure (more_iterators first.0 first.1 rest)
 
 -- those of a former, each of which sees the names of the ones before it
 abbrev pub own_iterators : ℕ → List Name → List Turn → Scope → Numbered Iterators
 own_iterators m seen [] s = pure no_iterator
 own_iterators m seen (t ∷ ts) s = do
-  from ← t.source (in_former m seen s)
+  first ← t.iterator (in_former m seen s) (OfFormer m)
   rest ← own_iterators m (seen ++ t.names) ts s
-  pure (more_iterators (t.binding (OfFormer m)) from.0 from.1 rest)
+  pure (more_iterators first.0 first.1 rest)
 
 abbrev pub names_of_turns : List Turn → List Name
 names_of_turns [] = []
@@ -146,18 +146,9 @@ abbrev pub slot_variable : (Name → Variable) → Slot → Option Variable
 slot_variable v (sl.Name x) = Some (v x)
 slot_variable v sl.Skip = None
 
-abbrev pub slot_names : List Slot → List Name
-slot_names [] = []
-slot_names (sl.Name x ∷ slots) = x ∷ slot_names slots
-slot_names (sl.Skip ∷ slots) = slot_names slots
-
-abbrev pub names_of_bound : Bound → List Name
-names_of_bound (bd.Name x) = x ∷ []
-names_of_bound (bd.Pattern slots) = slot_names slots
-
-abbrev pub binding_of : Bound → (Name → Variable) → Binding
-binding_of (bd.Name x) v = Member (v x)
-binding_of (bd.Pattern slots) v = Components (map (slot_variable v) slots)
+abbrev pub binding_of : Bound → Source → (Name → Variable) → Binding
+binding_of (bd.Name x) k v = Member k (v x)
+binding_of (bd.Pattern slots) k v = Components k (map (slot_variable v) slots)
 
 -- ---- braces and brackets
 
@@ -173,7 +164,7 @@ abbrev pub step_operator : Collection → Operator
 step_operator OfSet = SetStep
 step_operator OfTuple = TupleStep
 
-abbrev pub steps : Collection → Begin
+abbrev pub steps : Collection → Source
 steps OfSet = SetSteps
 steps OfTuple = TupleSteps
 
@@ -183,7 +174,7 @@ range_of k a None c = two (range_operator k) a c
 range_of k a (Some b) c = Apply (step_operator k) (more_exprs a (more_exprs b (more_exprs c no_expr)))
 
 -- the same written directly as the source of an iterator
-abbrev pub range_source : Collection → Expr → Option Expr → Expr → Source
+abbrev pub range_source : Collection → Expr → Option Expr → Expr → Range
 range_source k a None c = (Between, more_exprs a (more_exprs c no_expr))
 range_source k a (Some b) c = (steps k, more_exprs a (more_exprs b (more_exprs c no_expr)))
 
@@ -205,7 +196,7 @@ filter b x c k s = do
   m ← opened
   from ← x.source s
   t ← c.term (in_former m (names_of_bound b) s)
-  pure (Selection k (more_iterators (binding_of b (OfFormer m)) from.0 from.1 no_iterator) (only_if t))
+  pure (Selection k (binding_of b from.0 (OfFormer m)) from.1 t)
 
 abbrev pub range_inside : Part → Option Part → Part → Inside
 range_inside a b c = record {
@@ -244,11 +235,13 @@ inner_step (Inner-F.Former x ts c) = inside_by (former x ts c)
 inner_step (Inner-F.Filter b x c) = inside_by (filter b x c)
 
 abbrev pub iter_step : Iter-F Part Inside Turn Behind → Turn
-iter_step (Iter-F.Over b x) = record { names = names_of_bound b; source = x.source; binding = binding_of b }
+iter_step (Iter-F.Over b x) = record {
+  names = names_of_bound b;
+  iterator = λ s v. (do from ← x.source s; pure (binding_of b from.0 v, from.1));
+}
 iter_step (Iter-F.Image y f x) = record {
   names = y ∷ x ∷ [];
-  source = λ s. pure (Points, more_exprs (Named (variable_of s f)) no_expr);
-  binding = λ v. Point (v y) (v x);
+  iterator = λ s v. pure (Point (v y) (v x), more_exprs (Named (variable_of s f)) no_expr);
 }
 
 abbrev pub with_bound : Expr → Expr → Option Expr → Expr

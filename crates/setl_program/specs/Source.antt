@@ -1,10 +1,11 @@
 -- Short forms, by which programs are written down.
 use Rattle.std.specs.Prelude.{ℕ, zero, suc, ◌+◌, true, false, List, [], ◌∷◌, codes, pos}
 use Rattle.setl_value.specs.Datum.{Datum, bool, int, text, set, no_element, element_then}
-use Rattle.setl_modes.specs.Variable.{Variable, Own}
+use Rattle.setl_run.specs.Variable.{Variable, Own}
 use Rattle.setl_map.specs.declared.Operator.{Operator}
 use Rattle.setl_map.specs.declared.Operator.TheVariants.{Negate, With, Get, Images, Slice, Tail, SetOf, TupleOf}
-use Rattle.setl_model.specs.Program.{Member, Values, Between, Expr, Literal, Apply, Exprs, no_expr, more_exprs, Iterators, no_iterator, more_iterators, no_selector, round_selector, brace_selector, Stmt, Assign, Update, Print, Block, no_stmt, more_stmts, Procedure, Program}
+use Rattle.setl_modes.specs.Modes.{Mode}
+use Rattle.setl_program.specs.Program.{Collection, Member, Values, Between, Expr, Literal, Apply, Selection, Exprs, no_expr, more_exprs, Iterators, no_iterator, more_iterators, no_selector, round_selector, brace_selector, Stmt, Assign, Update, Print, Block, no_stmt, more_stmts, Rd, Wr, Rw, Parameter, Procedure, Program}
 
 -- ---- variables
 
@@ -121,11 +122,19 @@ from_on e a = two Tail e a
 
 -- v in e
 abbrev pub over : Variable → Expr → Iterators
-over v e = more_iterators (Member v) Values (exprs (e ∷ [])) no_iterator
+over v e = more_iterators (Member Values v) (exprs (e ∷ [])) no_iterator
 
 -- v in [a..b]
 abbrev pub between : Variable → Expr → Expr → Iterators
-between v a b = more_iterators (Member v) Between (exprs (a ∷ b ∷ [])) no_iterator
+between v a b = more_iterators (Member Between v) (exprs (a ∷ b ∷ [])) no_iterator
+
+-- {v in e | c} or [v in e | c]
+abbrev pub select_over : Collection → Variable → Expr → Expr → Expr
+select_over k v e c = Selection k (Member Values v) (exprs (e ∷ [])) c
+
+-- {v in [a..b] | c} or [v in [a..b] | c]
+abbrev pub select_between : Collection → Variable → Expr → Expr → Expr → Expr
+select_between k v a b c = Selection k (Member Between v) (exprs (a ∷ b ∷ [])) c
 
 -- ---- statements
 
@@ -182,19 +191,35 @@ lines_from m (st ∷ sts) = more_stmts m st (lines_from (m + 1) sts)
 
 -- ---- programs
 
-abbrev pub program : List Stmt → Program
-program sts = record { main = block sts; procedures = []; modes = [] }
+-- a program of no name, whose last line has no number
+abbrev pub with_modes : Block → List Procedure → List (Variable × Mode) → Program
+with_modes b ps ms = record { name = []; vars = []; main = b; end_line = 0; procedures = ps; modes = ms }
 
--- a program whose statements stand on lines 2, 3 and on
-abbrev pub lines : List Stmt → Program
-lines sts = record { main = lines_from 2 sts; procedures = []; modes = [] }
+abbrev pub with_procedures : Block → List Procedure → Program
+with_procedures b ps = with_modes b ps []
 
 -- a program without procedures and declarations
 abbrev pub just : Block → Program
-just b = record { main = b; procedures = []; modes = [] }
+just b = with_procedures b []
 
-abbrev pub with_procedures : Block → List Procedure → Program
-with_procedures b ps = record { main = b; procedures = ps; modes = [] }
+abbrev pub program : List Stmt → Program
+program sts = just (block sts)
+
+-- a program whose statements stand on lines 2, 3 and on
+abbrev pub lines : List Stmt → Program
+lines sts = just (lines_from 2 sts)
+
+abbrev pub rd : List ℕ → Parameter
+rd name = record { passing = Rd; name = name; line = 0 }
+
+abbrev pub wr : List ℕ → Parameter
+wr name = record { passing = Wr; name = name; line = 0 }
+
+abbrev pub rw : List ℕ → Parameter
+rw name = record { passing = Rw; name = name; line = 0 }
+
+abbrev pub procedure : List ℕ → List Parameter → Block → Procedure
+procedure name parameters body = record { name = name; parameters = parameters; body = body; end_line = 0 }
 
 -- ---- values that no literal spells
 

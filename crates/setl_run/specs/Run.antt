@@ -1,8 +1,8 @@
 -- Runs over any kind of core: what a step writes, tells, changes and stores.
 use Rattle.std.specs.Prelude.{ℕ, zero, suc, Bool, true, false, List, [], ◌∷◌, ◌++◌, Option}
 use Rattle.setl_value.specs.Datum.{Datum}
-use Rattle.setl_modes.specs.Variable.{Variable}
-use Rattle.setl_modes.specs.Events.{Event, Stored, Unfit, End, Stopped}
+use Rattle.setl_run.specs.Variable.{Variable}
+use Rattle.setl_run.specs.Events.{Event, Stored, Unfit, End, Stopped}
 
 -- a value, or `om`, for a variable
 abbrev pub Store : Type 0

@@ -1,7 +1,7 @@
 //! Trees as plain programs.
 
 ghost use Rattle.std.specs.Prelude.{◌≡◌, map};
-ghost use Rattle.setl_model.specs.trees.Samples.{term_in_main, operators_parts, operators_terms, selections_parts, selections_terms, ranges_parts, ranges_terms, formers_parts, formers_terms, quantifiers_parts, quantifiers_terms, calls_parts, calls_terms};
+ghost use Rattle.setl_program.specs.Samples.{term_in_main, operators_parts, operators_terms, selections_parts, selections_terms, ranges_parts, ranges_terms, formers_parts, formers_terms, quantifiers_parts, quantifiers_terms, calls_parts, calls_terms};
 
 /// Worked expressions, each with its plain form: operators, selections, ranges, formers, quantifiers and calls.
 pub fn worked_trees()

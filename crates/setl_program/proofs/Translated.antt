@@ -1,6 +1,6 @@
 -- The worked rows of expressions, by computation.
 use Rattle.std.proofs.Common.{◌≡◌, map, refl}
-use Rattle.setl_model.specs.trees.Samples.{term_in_main, operators_parts, operators_terms, selections_parts, selections_terms, ranges_parts, ranges_terms, formers_parts, formers_terms, quantifiers_parts, quantifiers_terms, calls_parts, calls_terms}
+use Rattle.setl_program.specs.Samples.{term_in_main, operators_parts, operators_terms, selections_parts, selections_terms, ranges_parts, ranges_terms, formers_parts, formers_terms, quantifiers_parts, quantifiers_terms, calls_parts, calls_terms}
 
 pub operators : map term_in_main operators_parts ≡ operators_terms
 operators = refl

@@ -9,13 +9,12 @@ use Rattle.setl_tree.specs.declared.expr.Slot.TheVariants as sl
 use Rattle.setl_tree.specs.declared.expr.Bound.TheVariants as bd
 use Rattle.setl_tree.specs.declared.expr.Expr.TheOpen.{Expr-F, Inner-F, Iter-F, Selector-F}
 use Rattle.setl_tree.specs.declared.tree.Passing.TheVariants as pa
-use Rattle.setl_modes.specs.Variable.{Bound}
+use Rattle.setl_run.specs.Variable.{Bound}
 use Rattle.setl_map.specs.declared.Operator.TheVariants.{With, Less, Add, Subtract, Max, Multiply, Power, Equal, NotEqual, Above, In, Negate, Size, Abs, Not, FoldAdd, TupleRange, SetStep}
-use Rattle.setl_model.specs.Collections.{OfSet, OfTuple}
-use Rattle.setl_model.specs.Program.{And, Or, Implies, Exists, Forall, NotExists, Member, Components, Point, Values, Between, SetSteps, TupleSteps, Points, Expr, Undefined, Name, Connect, Choose, Former, Selection, Quantified, Call, Newat, Eof, Ok, no_iterator, more_iterators, no_condition, only_if, no_argument, rd_argument, wr_argument, rw_argument}
-use Rattle.setl_model.specs.Source.{f, g, s, t, x, y, z, yes, no, number, quoted, exprs, one, two, three, set_of, tuple_of, at_round, at_brace, from_to, from_on, over, between}
-use Rattle.setl_model.specs.trees.Scope.{Scope}
-use Rattle.setl_model.specs.trees.Expressions.{Part, expr_step, inner_step, iter_step, selector_step}
+use Rattle.setl_program.specs.Program.{OfSet, OfTuple, And, Or, Implies, Exists, Forall, NotExists, Member, Components, Point, Values, Between, SetSteps, TupleSteps, Points, Expr, Undefined, Name, Connect, Choose, Former, Selection, Quantified, Call, Newat, Eof, Ok, no_iterator, more_iterators, no_condition, only_if, no_argument, rd_argument, wr_argument, rw_argument}
+use Rattle.setl_program.specs.Source.{f, g, s, t, x, y, z, yes, no, number, quoted, exprs, one, two, three, set_of, tuple_of, at_round, at_brace, from_to, from_on, over, between, select_between, select_over}
+use Rattle.setl_program.specs.Scope.{Scope}
+use Rattle.setl_program.specs.Expressions.{Part, expr_step, inner_step, iter_step, selector_step}
 
 -- the main program beside `proc p(a, wr b, rw c);`
 abbrev main_scope : Scope
@@ -142,9 +141,9 @@ ranges_terms =
     ∷ three SetStep (number 1) (number 3) (number 9)
     ∷ Choose (two Equal (Name x) (number 1)) (set_of []) (tuple_of [])
     ∷ tuple_of (Newat ∷ Eof ∷ Ok ∷ Undefined ∷ quoted (codes "a") ∷ [])
-    ∷ Selection OfSet (between (Bound 1 (codes "y")) (number 1) (number 2)) (only_if yes)
-    ∷ Former OfTuple (Name (Bound 1 (codes "y"))) (more_iterators (Member (Bound 1 (codes "y"))) SetSteps (exprs
-    (number 1 ∷ number 3 ∷ number 9 ∷ [])) (more_iterators (Member (Bound 1 (codes "z"))) TupleSteps (exprs
+    ∷ select_between OfSet (Bound 1 (codes "y")) (number 1) (number 2) yes
+    ∷ Former OfTuple (Name (Bound 1 (codes "y"))) (more_iterators (Member SetSteps (Bound 1 (codes "y"))) (exprs
+    (number 1 ∷ number 3 ∷ number 9 ∷ [])) (more_iterators (Member TupleSteps (Bound 1 (codes "z"))) (exprs
     (number 5 ∷ number 4 ∷ number 1 ∷ [])) no_iterator)) no_condition
     ∷ []
 
@@ -178,16 +177,15 @@ formers_parts =
 
 abbrev pub formers_terms : List Expr
 formers_terms =
-    Former OfSet (two Add (Name (Bound 1 (codes "x"))) (number 1)) (more_iterators (Member (Bound 1
-    (codes "x"))) Values (exprs (Name x ∷ [])) (more_iterators (Member (Bound 1 (codes "y"))) Between (exprs (Name
+    Former OfSet (two Add (Name (Bound 1 (codes "x"))) (number 1)) (more_iterators (Member Values (Bound 1
+    (codes "x"))) (exprs (Name x ∷ [])) (more_iterators (Member Between (Bound 1 (codes "y"))) (exprs (Name
     (Bound 1 (codes "x")) ∷ number 2 ∷ [])) no_iterator)) (only_if (two Above (Name (Bound 1 (codes "y"))) (Name
     (Bound 1 (codes "x")))))
-    ∷ Selection OfTuple (more_iterators (Components (Some (Bound 1 (codes "x")) ∷ Some (Bound 1 (codes "z"))
-    ∷ [])) Values (exprs (Name s ∷ [])) no_iterator) (only_if (two Equal (Name (Bound 1 (codes "x"))) (at_round
-    (Selection OfSet (over (Bound 2 (codes "z")) (Name s)) (only_if (two Equal (Name (Bound 2 (codes "z"))) (Name
-    (Bound 1 (codes "x")))))) (number 1))))
-    ∷ two Add (Former OfSet (tuple_of (Name (Bound 1 (codes "y")) ∷ Name (Bound 1 (codes "x")) ∷ [])) (more_iterators
-    (Point (Bound 1 (codes "y")) (Bound 1 (codes "x"))) Points (exprs (Name f ∷ [])) no_iterator) no_condition)
+    ∷ Selection OfTuple (Components Values (Some (Bound 1 (codes "x")) ∷ Some (Bound 1 (codes "z"))
+    ∷ [])) (exprs (Name s ∷ [])) (two Equal (Name (Bound 1 (codes "x"))) (at_round
+    (select_over OfSet (Bound 2 (codes "z")) (Name s) (two Equal (Name (Bound 2 (codes "z"))) (Name
+    (Bound 1 (codes "x"))))) (number 1)))
+    ∷ two Add (Former OfSet (tuple_of (Name (Bound 1 (codes "y")) ∷ Name (Bound 1 (codes "x")) ∷ [])) (more_iterators (Point (Bound 1 (codes "y")) (Bound 1 (codes "x"))) (exprs (Name f ∷ [])) no_iterator) no_condition)
     (Former OfSet (one Size (Former OfSet (Name (Bound 3 (codes "x"))) (over (Bound 3 (codes "x")) (Name (Bound 2
     (codes "y")))) no_condition)) (over (Bound 2 (codes "y")) (Former OfSet (Name (Bound 4 (codes "x"))) (over
     (Bound 4 (codes "x")) (Name y)) no_condition)) no_condition)
@@ -207,10 +205,10 @@ quantifiers_parts =
 
 abbrev pub quantifiers_terms : List Expr
 quantifiers_terms =
-    Quantified Exists (more_iterators (Member x) Values (exprs (Name s ∷ [])) (more_iterators (Components (Some y
-    ∷ None ∷ [])) Values (exprs (Name x ∷ [])) no_iterator)) (Quantified Forall (over z (Name y)) (two Equal
+    Quantified Exists (more_iterators (Member Values x) (exprs (Name s ∷ [])) (more_iterators (Components Values (Some y
+    ∷ None ∷ [])) (exprs (Name x ∷ [])) no_iterator)) (Quantified Forall (over z (Name y)) (two Equal
     (Name z) (Name x)))
-    ∷ Quantified NotExists (more_iterators (Point y x) Points (exprs (Name f ∷ [])) no_iterator) (Name y)
+    ∷ Quantified NotExists (more_iterators (Point y x) (exprs (Name f ∷ [])) no_iterator) (Name y)
     ∷ []
 
 -- p(1, g, x) + y; p({x : x in g}, x, g)(1)

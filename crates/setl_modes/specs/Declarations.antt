@@ -10,7 +10,9 @@ use Rattle.setl_tree.specs.declared.tree.Declared.{Declared}
 use Rattle.setl_modes.specs.declared.mode.Form.{Form}
 use Rattle.setl_modes.specs.declared.mode.Form.TheVariants as form
 use Rattle.setl_modes.specs.Modes.{Mode, General, Integers, Strings, Booleans, Atoms, Elements, Sets, Tuples, SingleMaps, MultiMaps}
-use Rattle.setl_model.specs.trees.Scope.{Name}
+
+abbrev pub Name : Type 0
+Name = List ℕ
 
 -- The bases so far, with their names and modes, in the order of their declarations.
 abbrev pub Bases : Type 0

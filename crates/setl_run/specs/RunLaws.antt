@@ -1,7 +1,7 @@
 -- Runs one after the other are a run.
 use Rattle.std.specs.Prelude.{◌≡◌, ℕ, zero, suc}
 use Rattle.std.proofs.Common.{ap, ◌∙◌}
-use Rattle.setl_modes.specs.Run.{State, Next, Goes, Ends, Machine, Test, step, and_then, run}
+use Rattle.setl_run.specs.Run.{State, Next, Goes, Ends, Machine, Test, step, and_then, run}
 
 pub runs_join : {C : Type 0} (m : Machine C) (test : Test) (n k : ℕ) (a b : State C) (x : Next C) → run m test n a ≡ Goes b → run m test k b ≡ x → (j : ℕ) × (run m test j a ≡ x)
 runs_join m test zero k a b x h g = let same : a ≡ b = cc in (k, ap (run m test k) same ∙ g)

@@ -1,5 +1,5 @@
-use Rattle.setl_model.proofs.Translated as rows
-use Rattle.setl_model.proofs.trees.worked_trees.Goals as goal
+use Rattle.setl_program.proofs.Translated as rows
+use Rattle.setl_program.proofs.worked.worked_trees.Goals as goal
 
 pub returns-clause-operators : goal.returns-clause-operators
 returns-clause-operators c = rows.operators

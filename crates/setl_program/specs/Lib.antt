@@ -1,8 +1,9 @@
+pub mod Program
+pub mod Source
 pub mod Numbered
 pub mod Scope
-pub mod Words
+pub mod Operators
 pub mod Expressions
 pub mod Statements
-pub mod Modes
-pub mod Programs
+pub mod ProgramOf
 pub mod Samples

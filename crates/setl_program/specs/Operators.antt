@@ -1,4 +1,4 @@
--- The operators of trees as those of plain programs.
+-- What the operators of a tree become in a program.
 use Rattle.setl_tree.specs.declared.expr.BinaryOp.{BinaryOp}
 use Rattle.setl_tree.specs.declared.expr.BinaryOp.TheVariants as op
 use Rattle.setl_tree.specs.declared.expr.Relation.{Relation}
@@ -15,7 +15,7 @@ use Rattle.setl_tree.specs.declared.tree.Passing.{Passing as PassingWord}
 use Rattle.setl_tree.specs.declared.tree.Passing.TheVariants as pa
 use Rattle.setl_map.specs.declared.Operator.{Operator}
 use Rattle.setl_map.specs.declared.Operator.TheVariants as o
-use Rattle.setl_model.specs.Program.{And, Or, Implies, Quantifier, Exists, Forall, NotExists, Expr, Apply, Connect, no_expr, more_exprs, Taking, TakeLeast, TakeFirst, TakeLast, Passing, Rd, Wr, Rw}
+use Rattle.setl_program.specs.Program.{And, Or, Implies, Quantifier, Exists, Forall, NotExists, Expr, Apply, Connect, no_expr, more_exprs, Taking, TakeLeast, TakeFirst, TakeLast, Passing, Rd, Wr, Rw}
 
 abbrev pub one : Operator → Expr → Expr
 one f a = Apply f (more_exprs a no_expr)

@@ -1,4 +1,4 @@
--- Statements of trees as plain ones.
+-- What the statements of a tree become in a program.
 use Rattle.std.specs.Prelude.{ℕ, List, [], ◌∷◌, map, Option, Some, None}
 use Rattle.setl_tree.specs.declared.expr.Expr.{Expr as ExprTree}
 use Rattle.setl_tree.specs.declared.expr.Selector.{Selector as SelectorTree}
@@ -6,11 +6,11 @@ use Rattle.setl_tree.specs.declared.stmt.Place.{Place as PlaceTree}
 use Rattle.setl_tree.specs.declared.stmt.Stmt.{Stmt as StmtTree, fold-Stmt}
 use Rattle.setl_tree.specs.declared.stmt.StmtKind.TheOpen.{StmtKind-F, Branch-F, Stmt-F}
 use Rattle.setl_tree.specs.declared.tree.Param.{Param}
-use Rattle.setl_model.specs.Program.{Expr, Undefined, Call, Selectors, no_selector, Place, Stmt, Assign, Update, AssignParts, TakeFrom, Perform, If, For, While, Quit, Continue, Fail, Stop, Pass, Return, Print, Read, Block, no_stmt, more_stmts}
-use Rattle.setl_model.specs.trees.Numbered.{Numbered, pure, ◌>>=◌}
-use Rattle.setl_model.specs.trees.Scope.{Scope, variable_of, procedure_of}
-use Rattle.setl_model.specs.trees.Words.{updating, taking}
-use Rattle.setl_model.specs.trees.Expressions.{Part, terms, optional, condition, arguments, iterators, slot_variable, part_of, turn_of, behind_of}
+use Rattle.setl_program.specs.Program.{Expr, Undefined, Call, Selectors, no_selector, Place, Stmt, Assign, Update, AssignParts, TakeFrom, Perform, If, For, While, Quit, Continue, Fail, Stop, Pass, Return, Print, Read, Block, no_stmt, more_stmts}
+use Rattle.setl_program.specs.Numbered.{Numbered, pure, ◌>>=◌}
+use Rattle.setl_program.specs.Scope.{Scope, variable_of, procedure_of}
+use Rattle.setl_program.specs.Operators.{updating, taking}
+use Rattle.setl_program.specs.Expressions.{Part, terms, optional, condition, arguments, iterators, slot_variable, part_of, turn_of, behind_of}
 
 abbrev pub term_of : ExprTree → Scope → Numbered Expr
 term_of e s = (part_of e).term s

@@ -1,7 +1,7 @@
 -- What happens in a run, and how a run ends.
 use Rattle.std.specs.Prelude.{ℕ, List, Option}
 use Rattle.setl_value.specs.Datum.{Datum}
-use Rattle.setl_modes.specs.Variable.{Variable}
+use Rattle.setl_run.specs.Variable.{Variable}
 
 -- What happened, in the order of the steps. The bytes of a line end with byte 10.
 pub data Event : Type 0 where
