@@ -6,7 +6,7 @@ use Rattle.setl_map.specs.declared.Operator.TheVariants.{Negate, Add, Subtract, 
 use Rattle.setl_modes.specs.declared.mode.Form.TheVariants.{Sparse}
 use Rattle.setl_modes.specs.Modes.{Integers, Elements, Sets, SingleMaps}
 use Rattle.setl_program.specs.Program.{OfSet, Or, Exists, Point, Points, Expr, Literal, Undefined, Name, Connect, Selection, Quantified, Call, Eof, Ok, more_iterators, no_condition, only_if, no_argument, rw_argument, no_selector, round_selector, brace_selector, TakeFirst, TakeLast, Assign, AssignParts, TakeFrom, Perform, If, For, Fail, Return, Read, no_stmt, Rw, Program}
-use Rattle.setl_program.specs.Source.{f, i, j, k, n, q, s, t, x, y, z, number, exprs, one, two, enumeration, set_of, tuple_of, pair_of, over, between, assign, put, combine, print, at, alone, lines_from, lines}
+use Rattle.setl_program.specs.Source.{f, i, j, k, n, q, s, t, x, y, z, number, exprs, one, two, enumeration, set_of, tuple_of, pair_of, over, between, assign, put, combine, print, at, alone, lines_from, lines, select_over, with_modes, procedure, rw_parameter}
 
 -- f := {[1,2],[1,3],[2,5]};
 -- print(f(1), f{1}, f(2), f{9});
@@ -46,7 +46,7 @@ emptied_set =
 
 -- n := 1; inc(n); print(n); proc inc(rw x); x +:= 1; end proc;
 abbrev pub passed_in_and_out : Program
-passed_in_and_out = (with_modes (lines_from 2 (assign n (number 1) ∷ Perform (Call 0 (rw_argument n no_argument)) ∷ print (Name n ∷ []) ∷ [])) ((procedure (codes "inc") ((rw (codes "x")) ∷ []) (alone 5 (combine Add (Own 1 (codes "x")) (number 1)))) ∷ []) [])
+passed_in_and_out = (with_modes (lines_from 2 (assign n (number 1) ∷ Perform (Call 0 (rw_argument n no_argument)) ∷ print (Name n ∷ []) ∷ [])) ((procedure (codes "inc") ((rw_parameter (codes "x")) ∷ []) (alone 5 (combine Add (Own 1 (codes "x")) (number 1)))) ∷ []) [])
 
 -- x := p(); print(x); if x = 1 then fail; end if; proc p(); if ok then return 1; else return 2; end if; end proc;
 abbrev pub taken_back : Program

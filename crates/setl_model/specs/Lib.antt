@@ -1,4 +1,5 @@
 pub mod Collections
+pub mod World
 pub mod Core
 pub mod Moves
 pub mod Slots

@@ -48,10 +48,10 @@ declared_mode [] x = None
 declared_mode (m ∷ ms) x = cond (is_variable m.0 x) (Some m.1) (declared_mode ms x)
 
 -- which values the variables take: every value where the declarations don't count
-abbrev pub test_of : Program → Bool → Test
-test_of p false = λ x v. true
-test_of p true = λ x v. is_taken (declared_mode p.modes x) v
+abbrev pub test_of : List (Variable × Mode) → Bool → Test
+test_of modes false = λ x v. true
+test_of modes true = λ x v. is_taken (declared_mode modes x) v
 
 -- the second state comes next after the first; `based` says whether the declarations count
 abbrev pub Step : Program → Bool → State Core → State Core → Type 0
-Step p based a b = step (language p) (test_of p based) a ≡ Goes b
+Step p based a b = step (language p) (test_of p.modes based) a ≡ Goes b

@@ -82,7 +82,7 @@ pub record Tells (r : EventRow) : Type 0 where
   pub steps : ℕ
   pub last : State Core
   pub end : End
-  pub ends : run (language r.program) (test_of r.program true) steps (first r.program [] r.turns) ≡ Ends end last
+  pub ends : run (language r.program) (test_of r.program.modes true) steps (first r.program [] r.turns) ≡ Ends end last
   pub told : last.events ≡ r.events
 
 abbrev pub AllTell : List EventRow → Type 0
@@ -106,7 +106,7 @@ pub record Dumps (r : DumpRow) : Type 0 where
   pub steps : ℕ
   pub last : State Core
   pub end : End
-  pub ends : run (language r.program) (test_of r.program true) steps (first r.program [] r.turns) ≡ Ends end last
+  pub ends : run (language r.program) (test_of r.program.modes true) steps (first r.program [] r.turns) ≡ Ends end last
   pub dump : layout r.names r.program.modes last ≡ r.text
 
 abbrev pub AllDump : List DumpRow → Type 0

@@ -209,14 +209,14 @@ program sts = just (block sts)
 abbrev pub lines : List Stmt → Program
 lines sts = just (lines_from 2 sts)
 
-abbrev pub rd : List ℕ → Parameter
-rd name = record { passing = Rd; name = name; line = 0 }
+abbrev pub rd_parameter : List ℕ → Parameter
+rd_parameter name = record { passing = Rd; name = name; line = 0 }
 
-abbrev pub wr : List ℕ → Parameter
-wr name = record { passing = Wr; name = name; line = 0 }
+abbrev pub wr_parameter : List ℕ → Parameter
+wr_parameter name = record { passing = Wr; name = name; line = 0 }
 
-abbrev pub rw : List ℕ → Parameter
-rw name = record { passing = Rw; name = name; line = 0 }
+abbrev pub rw_parameter : List ℕ → Parameter
+rw_parameter name = record { passing = Rw; name = name; line = 0 }
 
 abbrev pub procedure : List ℕ → List Parameter → Block → Procedure
 procedure name parameters body = record { name = name; parameters = parameters; body = body; end_line = 0 }

@@ -114,7 +114,7 @@ module _ (p : Program) (based : Bool) (c : Core) (out : List ℕ) (values : Valu
       }
 
   -- a store, and then the statements behind
-  stores_lead : (takes : (x : Variable) (v : Option Datum) → test_of p based x v ≡ true) (line : ℕ) (name : List ℕ) (v : Option Datum) (rest : Block) (start : Core) → ((events : List Event) → (before : Core) × Comes p based (state start out events) before out × ((language p).move before ≡ Moves [] [] (at c (Execute no_stmt) (Then rest ∷ [])) line ((Own 0 name, v) ∷ []))) → Performed p based start out (bound name v values) rest []
+  stores_lead : (takes : (x : Variable) (v : Option Datum) → test_of p.modes based x v ≡ true) (line : ℕ) (name : List ℕ) (v : Option Datum) (rest : Block) (start : Core) → ((events : List Event) → (before : Core) × Comes p based (state start out events) before out × ((language p).move before ≡ Moves [] [] (at c (Execute no_stmt) (Then rest ∷ [])) line ((Own 0 name, v) ∷ []))) → Performed p based start out (bound name v values) rest []
   stores_lead takes line name v rest start leads =
       let d : Core = record c { shared = write_variable (Own 0 name) v c.shared } in
       let stored : Core = at d (Execute no_stmt) (Then rest ∷ []) in
@@ -129,7 +129,7 @@ module _ (p : Program) (based : Bool) (c : Core) (out : List ℕ) (values : Valu
             (λ events''. comes_on p based stored (at d (Execute rest) []) out events'' 0 refl))));
       }
 
-  module _ (takes : (x : Variable) (v : Option Datum) → test_of p based x v ≡ true) where
+  module _ (takes : (x : Variable) (v : Option Datum) → test_of p.modes based x v ≡ true) where
     assign_performs : (line : ℕ) (name : List ℕ) (e : Expr) (rest : Block) → Performed p based (begins line (Assign name e) rest) out (bound name (value_of values e) values) rest []
     assign_performs line name e rest =
         let frame : Frame = InStmt line (AssignRight (place_of name)) in
@@ -151,7 +151,7 @@ module _ (p : Program) (based : Bool) (c : Core) (out : List ℕ) (values : Valu
         let work : List Frame = frame ∷ Then rest ∷ [] in
         let asking : Core = at c (Evaluate (Literal (int z))) work in
         let given : Core = at c (Result (Some (int z))) work in
-        let made = with_made values name z (value_in c.shared.own (Own 0 name)) c.shared.left (agrees name) can in
+        let made = with_made values name z (value_in c.shared.own (Own 0 name)) c.shared.world.left (agrees name) can in
         stores_lead takes line name (with_member (values name) z) rest (begins line (With name z) rest)
         (λ events. (
           given,

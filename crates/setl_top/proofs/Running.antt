@@ -59,7 +59,7 @@ running_done tree values said run_ input turns based =
     let p = program_of tree in
     let r = run_ input turns based in
     let last = state (at r.core (Execute (plain_block [])) []) said r.comes.events in
-    let all = runs_join (language p) (test_of p based) r.comes.steps 1 (first p input turns) last (Ends Done last) r.comes.led refl in
+    let all = runs_join (language p) (test_of p.modes based) r.comes.steps 1 (first p input turns) last (Ends Done last) r.comes.led refl in
     record { steps = all.0; last = last; ends = all.1; written = refl }
 
 -- a print is next

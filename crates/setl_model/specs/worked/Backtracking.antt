@@ -4,7 +4,7 @@ use Rattle.setl_run.specs.Variable.{Global, Bound}
 use Rattle.setl_map.specs.declared.Operator.TheVariants.{With, Add, Subtract, Equal, NotEqual, Size, Abs}
 use Rattle.setl_program.specs.Program.{OfSet, Or, Exists, Name, Connect, Selection, Quantified, Call, Newat, Eof, Ok, no_condition, only_if, no_argument, rd_argument, rw_argument, Perform, If, For, Quit, Fail, Stop, Return, Read, no_stmt, Rd, Rw}
 use Rattle.setl_run.specs.Events.{Nothing, Done, Stopped, Spent}
-use Rattle.setl_program.specs.Source.{its, i, j, k, n, q, s, x, y, number, one, two, tuple_of, enumeration, row_of, at_round, over, between, assign, combine, print, on_line, at, alone, lines_from, just, with_procedures}
+use Rattle.setl_program.specs.Source.{its, i, j, k, n, q, s, x, y, number, one, two, tuple_of, enumeration, row_of, at_round, over, between, assign, combine, print, on_line, at, alone, lines_from, just, with_procedures, procedure, select_over, rd_parameter, rw_parameter}
 use Rattle.setl_model.specs.Table.{Row, does, ends, reads}
 
 -- `fail` brings the latest kept environment back and forgets it
@@ -64,14 +64,14 @@ back_rows =
     -- proc p(rw a); x := 2; if ok then x := 3; a := 4; fail; else print(x, a); end if; end proc;
     ∷ does 3 (with_procedures (on_line 2 (assign (Global (codes "x")) (number 1) ∷ assign y (number 1) ∷ Perform (Call 0
     (rw_argument y no_argument)) ∷ print (Name (Global (codes "x")) ∷ Name y ∷ []) ∷ []))
-    ((procedure (codes "p") ((rw (codes "a")) ∷ []) (on_line 3
+    ((procedure (codes "p") ((rw_parameter (codes "a")) ∷ []) (on_line 3
           (assign (Global (codes "x")) (number 2) ∷ If Ok (on_line 3 (assign (Global (codes "x")) (number 3) ∷ assign
           (its (codes "a")) (number 4) ∷ Fail ∷ [])) (alone 3 (print (Name (Global (codes "x")) ∷ Name (its (codes "a"))
           ∷ []))) ∷ []))) ∷ [])) (codes "2 1\n2 1\n")
     -- print(p(1)); fail;
     -- proc p(n); if ok then return n; else return n + 1; end if; end proc;
     ∷ ends (Stopped Nothing 2) 4 (with_procedures (on_line 2 (print (Call 0 (rd_argument (number 1) no_argument) ∷ [])
-    ∷ Fail ∷ [])) ((procedure (codes "p") ((rd (codes "n"))
+    ∷ Fail ∷ [])) ((procedure (codes "p") ((rd_parameter (codes "n"))
           ∷ []) (alone 3 (If Ok (alone 3 (Return (Name (its (codes "n"))))) (alone 3 (Return (two Add (Name (its
           (codes "n"))) (number 1))))))) ∷ [])) (codes "1\n2\n")
     -- (for x in [1, 2, 3]) if ok then quit; end if; end for; print(x); if x = 1 then stop; end if;

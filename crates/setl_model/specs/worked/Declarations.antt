@@ -6,7 +6,7 @@ use Rattle.setl_modes.specs.Modes.{General, Integers, Strings, Booleans, Atoms, 
 use Rattle.setl_modes.specs.declared.mode.Form.TheVariants.{Plain, Local, Remote, Sparse}
 use Rattle.setl_program.specs.Program.{OfSet, Exists, Undefined, Name, Former, Quantified, Call, Newat, no_condition, no_argument, rd_argument, rw_argument, no_selector, TakeLeast, AssignParts, TakeFrom, Perform, For, Read, no_stmt, Rd, Rw}
 use Rattle.setl_run.specs.Events.{Unfit, Done, Stopped}
-use Rattle.setl_program.specs.Source.{its, f, s, t, x, y, yes, no, number, quoted, minus, set_of, tuple_of, enumeration, row_of, over, assign, put, put_brace, combine, print, on_line, at, alone, lines_from}
+use Rattle.setl_program.specs.Source.{its, f, s, t, x, y, yes, no, number, quoted, minus, set_of, tuple_of, enumeration, row_of, over, assign, put, put_brace, combine, print, on_line, at, alone, lines_from, with_modes, procedure, rd_parameter, rw_parameter}
 use Rattle.setl_model.specs.Table.{Row, does, ends, all_end, reads, unbased}
 
 -- what fits each mode; `om` fits all
@@ -301,7 +301,7 @@ every_store_rows =
     -- a := 'a'; end proc;
     ∷ ends (Stopped (Unfit x) 4) 9 ((with_modes (lines_from 3 (assign x (number 1) ∷ Perform (Call 0
           (rw_argument x no_argument))
-          ∷ [])) ((procedure (codes "p") ((rw (codes "a"))
+          ∷ [])) ((procedure (codes "p") ((rw_parameter (codes "a"))
             ∷ []) (alone 6 (assign (its (codes "a")) (quoted (codes "a"))))) ∷ []) ((x, Integers) ∷ []))) []
     -- var x; repr x: int; end repr;
     -- p();
@@ -316,7 +316,7 @@ every_store_rows =
     -- proc p(x); print(x); y := x; end proc;
     ∷ does 9 ((with_modes (on_line 3 (Perform (Call 0 (rd_argument (quoted (codes "a")) no_argument)) ∷ assign x
           (number 1)
-          ∷ [])) ((procedure (codes "p") ((rd (codes "x"))
+          ∷ [])) ((procedure (codes "p") ((rd_parameter (codes "x"))
             ∷ []) (on_line 4 (print (Name (its (codes "x")) ∷ []) ∷ assign (its (codes "y")) (Name (its
             (codes "x"))) ∷ []))) ∷ []) ((x, Integers) ∷ []))) (codes "a\n")
     -- repr base n: int; s: sparse set(elmt n); end repr;

@@ -6,7 +6,7 @@ use Rattle.setl_map.specs.declared.Operator.TheVariants.{Add, Equal, Below}
 use Rattle.setl_modes.specs.Modes.{Integers}
 use Rattle.setl_program.specs.Program.{OfSet, Exists, Forall, Member, Point, Values, Points, Undefined, Name, Former, Quantified, Call, Ok, no_iterator, more_iterators, no_condition, no_argument, rd_argument, wr_argument, rw_argument, no_selector, TakeLeast, TakeFirst, AssignParts, TakeFrom, Perform, If, For, Fail, Return, no_stmt, Rd, Wr, Rw}
 use Rattle.setl_run.specs.Events.{Called, Returned, Stored, Printed, Kept, Back}
-use Rattle.setl_program.specs.Source.{its, f, s, t, x, y, z, number, quoted, exprs, two, set_of, tuple_of, enumeration, row_of, over, assign, put, combine, print, on_line, at, alone, lines_from, just, with_procedures}
+use Rattle.setl_program.specs.Source.{its, f, s, t, x, y, z, number, quoted, exprs, two, set_of, tuple_of, enumeration, row_of, over, assign, put, combine, print, on_line, at, alone, lines_from, just, with_procedures, procedure, wr_parameter, rd_parameter, with_modes, rw_parameter}
 use Rattle.setl_model.specs.Table.{EventRow, tells}
 
 -- what each store, call, return, line, `ok` and `fail` tells, in their order
@@ -48,8 +48,8 @@ event_rows =
     -- tells: call 2 p; store 2 1:a *; store 2 1:n 2; store 5 1:a 2; return p; store 2 x 2; store 2 y [2]; print [2]
     ∷ tells 9 (with_procedures (lines_from 2 (assign y (Call 0 (wr_argument x (rd_argument (two Add (number 1)
     (number 1)) no_argument))) ∷ print (Name y ∷ []) ∷ []))
-    ((procedure (codes "p") ((wr (codes "a"))
-          ∷ (rd (codes "n")) ∷ []) (on_line 5 (assign (its (codes "a")) (Name (its
+    ((procedure (codes "p") ((wr_parameter (codes "a"))
+          ∷ (rd_parameter (codes "n")) ∷ []) (on_line 5 (assign (its (codes "a")) (Name (its
           (codes "n"))) ∷ Return (tuple_of (Name (its (codes "n")) ∷ [])) ∷ []))) ∷ [])) (
     Called 2 (codes "p")
     ∷ Stored 2 (its (codes "a")) None
@@ -108,7 +108,7 @@ event_rows =
     -- proc p(rw x); x +:= 1; end proc;
     -- tells: call 2 p; store 2 1:x *
     ∷ tells 9 (with_procedures (alone 2 (Perform (Call 0 (rw_argument (Global (codes "x")) no_argument))))
-    ((procedure (codes "p") ((rw (codes "x")) ∷ []) (alone 3
+    ((procedure (codes "p") ((rw_parameter (codes "x")) ∷ []) (alone 3
           (combine Add (its (codes "x")) (number 1)))) ∷ [])) (
     Called 2 (codes "p")
     ∷ Stored 2 (its (codes "x")) None
@@ -118,7 +118,7 @@ event_rows =
     -- proc p(wr a); end proc;
     -- tells: store 2 x 1; call 2 p; store 2 1:a *; return p; store 2 x *
     ∷ tells 9 (with_procedures (on_line 2 (assign x (number 1) ∷ Perform (Call 0 (wr_argument x no_argument)) ∷ []))
-    ((procedure (codes "p") ((wr (codes "a")) ∷ []) no_stmt)
+    ((procedure (codes "p") ((wr_parameter (codes "a")) ∷ []) no_stmt)
     ∷ [])) (
     Stored 2 x (Some (int (pos 1)))
     ∷ Called 2 (codes "p")

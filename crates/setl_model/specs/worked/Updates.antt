@@ -4,7 +4,7 @@ use Rattle.setl_run.specs.Variable.{Global}
 use Rattle.setl_map.specs.declared.Operator.TheVariants.{With, Less, Lessf, Npow, Add, Subtract, Max, Min, Multiply, Divide, Modulo, Power}
 use Rattle.setl_program.specs.Program.{Undefined, Name, Call, no_argument, rd_argument, no_selector, round_selector, brace_selector, TakeLeast, TakeFirst, TakeLast, Assign, Update, AssignParts, TakeFrom, Return, no_stmt, Rd}
 use Rattle.setl_run.specs.Events.{Om, Kind, Stopped, Spent, Range as OutOfRange}
-use Rattle.setl_program.specs.Source.{its, f, n, s, t, x, y, yes, number, quoted, minus, set_of, tuple_of, enumeration, row_of, assign, put, combine, combine_round, combine_brace, print, on_line, at, alone, lines_from, just, with_procedures}
+use Rattle.setl_program.specs.Source.{its, f, n, s, t, x, y, yes, number, quoted, minus, set_of, tuple_of, enumeration, row_of, assign, put, combine, combine_round, combine_brace, print, on_line, at, alone, lines_from, just, with_procedures, procedure, rd_parameter}
 use Rattle.setl_model.specs.Table.{Row, does, ends, all_end}
 
 -- the right side comes first, then the selectors from left to right, then the present value of the variable
@@ -39,7 +39,7 @@ update_rows =
     -- proc p(a); print(a); return a; end proc;
     ∷ does 2 (with_procedures (on_line 2 (assign t (row_of (0 ∷ 0 ∷ [])) ∷ put t (Call 0 (rd_argument
     (number 1) no_argument)) (Call 0 (rd_argument (number 2) no_argument)) ∷ print (Name t ∷ []) ∷ []))
-    ((procedure (codes "p") ((rd (codes "a")) ∷ []) (on_line 3
+    ((procedure (codes "p") ((rd_parameter (codes "a")) ∷ []) (on_line 3
           (print (Name (its (codes "a")) ∷ []) ∷ Return (Name (its (codes "a"))) ∷ []))) ∷ [])) (codes "2\n1\n[2 0]\n")
     -- t := [[0]]; t(p(1))(p(2)) +:= p(3);
     -- proc p(a); print(a); return a; end proc;
@@ -50,7 +50,7 @@ update_rows =
           (round_selector (Call 0 (rd_argument (number 2) no_argument)) no_selector));
     }) (Call 0 (rd_argument
     (number 3) no_argument)) ∷ []))
-    ((procedure (codes "p") ((rd (codes "a")) ∷ []) (on_line 3
+    ((procedure (codes "p") ((rd_parameter (codes "a")) ∷ []) (on_line 3
           (print (Name (its (codes "a")) ∷ []) ∷ Return (Name (its (codes "a"))) ∷ []))) ∷ [])) (codes "3\n1\n2\n")
     ∷ []
 
