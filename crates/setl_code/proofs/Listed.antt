@@ -5,7 +5,13 @@ use Rattle.std.specs.Fmt.{digits}
 use Rattle.setl_value.specs.Datum.{bool, int, text}
 use Rattle.setl_run.specs.Variable.{Global, Own, Bound}
 use Rattle.setl_map.specs.declared.Operator.TheVariants.{Abs, Size, Pow, FoldAdd, FoldMax, Add, Subtract, With, Less, Npow, Equal, NotEqual, Below, Above, In, Get, Images, Slice, Tail, SetOf, TupleOf, TupleRange}
-use Rattle.setl_program.specs.Program.{OfSet, OfTuple, And, Or, Implies, Exists, Forall, NotExists, Member, Components, Point, Values, Between, SetSteps, Points, Literal, Undefined, Name, Apply, Connect, Choose, Former, Selection, Quantified, Call, Newat, Eof, Ok, no_expr, more_exprs, no_iterator, more_iterators, no_condition, only_if, no_argument, rd_argument, wr_argument, rw_argument, no_selector, round_selector, brace_selector, TakeLeast, TakeFirst, TakeLast, Assign, Update, AssignParts, TakeFrom, Perform, If, For, While, Quit, Continue, Fail, Stop, Pass, Return, Print, Read, no_stmt, more_stmts, Rd, Wr, Rw, Program}
+use Rattle.setl_program.specs.declared.kinds.Collection.TheVariants.{OfSet, OfTuple}
+use Rattle.setl_program.specs.declared.kinds.Connective.TheVariants.{And, Or, Implies}
+use Rattle.setl_program.specs.declared.kinds.Quantifier.TheVariants.{Exists, Forall, NotExists}
+use Rattle.setl_program.specs.declared.kinds.Source.TheVariants.{Values, Between, SetSteps}
+use Rattle.setl_program.specs.declared.kinds.Taking.TheVariants.{TakeLeast, TakeFirst, TakeLast}
+use Rattle.setl_tree.specs.declared.tree.Passing.TheVariants.{Rd, Wr, Rw}
+use Rattle.setl_program.specs.Program.{Member, Components, Point, Literal, Undefined, Name, Apply, Connect, Choose, Former, Selection, Quantified, Call, Newat, Eof, Ok, no_expr, more_exprs, no_iterator, more_iterators, no_condition, only_if, no_argument, rd_argument, wr_argument, rw_argument, no_selector, round_selector, brace_selector, Assign, Update, AssignParts, TakeFrom, Perform, If, For, While, Quit, Continue, Fail, Stop, Pass, Return, Print, Read, no_stmt, more_stmts, Program}
 use Rattle.setl_run.specs.Events.{Om, Nothing, Wide, Done, Stopped}
 use Rattle.setl_code.specs.CodeOf.{code_of}
 use Rattle.setl_code.specs.Listing.{listing}

@@ -2,7 +2,9 @@
 use Rattle.std.proofs.Common.{◌≡◌, true, false, List, [], ◌∷◌, Some, None, refl}
 use Rattle.std.specs.Prelude.{codes}
 use Rattle.setl_value.specs.Datum.{bool}
-use Rattle.setl_program.specs.Program.{OfSet, Members, Values}
+use Rattle.setl_program.specs.declared.kinds.Collection.TheVariants.{OfSet}
+use Rattle.setl_program.specs.declared.kinds.Source.TheVariants.{Values}
+use Rattle.setl_program.specs.Program.{Members}
 use Rattle.setl_code.specs.Code.{Push, DropTop, Unless, Jump, BeginOver, NextOr, BeginOf, AddBelow, PayRound, PrintTop, StopRun, Instr, Step, Code}
 use Rattle.setl_code.proofs.ByRounds.{holds_by_rounds}
 

@@ -3,7 +3,10 @@ use Rattle.std.specs.Prelude.{ℕ, List, Option}
 use Rattle.setl_value.specs.Datum.{Datum}
 use Rattle.setl_run.specs.Variable.{Variable}
 use Rattle.setl_map.specs.declared.Operator.{Operator}
-use Rattle.setl_program.specs.Program.{Collection, Connective, Begin, Taking, Parameter}
+use Rattle.setl_program.specs.declared.kinds.Collection.{Collection}
+use Rattle.setl_program.specs.declared.kinds.Connective.{Connective}
+use Rattle.setl_program.specs.declared.kinds.Taking.{Taking}
+use Rattle.setl_program.specs.Program.{Begin, Parameter}
 
 -- How a selector of an update is written: `(e)` or `{e}`.
 pub data Bracket : Type 0 where

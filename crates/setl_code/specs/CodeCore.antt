@@ -1,5 +1,5 @@
 -- The state of the stack machine.
-use Rattle.setl_program.specs.Program.{Collection}
+use Rattle.setl_program.specs.declared.kinds.Collection.{Collection}
 use Rattle.std.specs.Prelude.{ℕ, zero, suc, List, [], ◌∷◌, ◌++◌, map, cond, Option, Some, None}
 use Rattle.setl_value.specs.Datum.{Datum}
 use Rattle.setl_run.specs.Variable.{Variable, Global, Own, Bound, is_variable}

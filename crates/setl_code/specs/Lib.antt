@@ -9,3 +9,4 @@ pub mod Machine
 pub mod CodeMeans
 pub mod Shapes
 pub mod Sound
+pub mod Plain

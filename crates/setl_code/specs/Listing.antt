@@ -6,7 +6,12 @@ use Rattle.setl_text.specs.Texts.{inner_text}
 use Rattle.setl_run.specs.Variable.{Variable, Global, Own, Bound}
 use Rattle.setl_map.specs.declared.Operator.{Operator}
 use Rattle.setl_map.specs.declared.Operator.TheVariants.{Negate, Abs, Even, Odd, Size, Not, Pow, Domain, Range, Arb, Str, IsInteger, IsString, IsBoolean, IsAtom, IsTuple, IsSet, IsMap, FoldAdd, FoldMultiply, FoldMax, FoldMin, FoldAnd, FoldOr, Add, Subtract, Multiply, Power, Divide, Modulo, Max, Min, With, Less, Lessf, Npow, Equal, NotEqual, Below, AtMost, Above, AtLeast, In, NotIn, Subset, Includes, Get, Images, Slice, Tail, SetOf, TupleOf, SetRange, TupleRange, SetStep, TupleStep, Put, PutImages}
-use Rattle.setl_program.specs.Program.{OfSet, OfTuple, Connective, And, Or, Implies, Begin, Members, Values, Between, SetSteps, TupleSteps, Points, TakeLeast, TakeFirst, TakeLast}
+use Rattle.setl_program.specs.declared.kinds.Collection.TheVariants.{OfSet, OfTuple}
+use Rattle.setl_program.specs.declared.kinds.Connective.{Connective}
+use Rattle.setl_program.specs.declared.kinds.Connective.TheVariants.{And, Or, Implies}
+use Rattle.setl_program.specs.declared.kinds.Source.TheVariants.{Values, Between, SetSteps, TupleSteps}
+use Rattle.setl_program.specs.declared.kinds.Taking.TheVariants.{TakeLeast, TakeFirst, TakeLast}
+use Rattle.setl_program.specs.Program.{Begin, Members, Points}
 use Rattle.setl_code.specs.Code.{Bracket, InRound, InBrace, Alteration, Putting, Combining, TakingOut, Instr, Push, PushAtom, PushEof, Load, Take, StoreIn, Operate, Alter, Decides, TestBool, Unless, Jump, DropTop, DupTop, PartsOf, BeginOver, NextOr, BeginOf, AddBelow, LeaveAll, PayRound, CallBody, ReturnTop, KeepAll, GoBack, PrintTop, ReadOne, StopRun, Step, Body, Code}
 
 -- ---- words

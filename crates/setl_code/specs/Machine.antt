@@ -1,15 +1,18 @@
 -- What each instruction does.
-use Rattle.std.specs.Prelude.{ℕ, zero, suc, ◌+◌, ◌-◌, true, false, List, [], ◌∷◌, length, slice_get, nat_le, if◌then◌else◌, Option, Some, None}
-use Rattle.setl_value.specs.Datum.{Datum, bool, atom, tuple, part_list, depth}
-use Rattle.setl_map.specs.Outcome.{Fault, OmFault, KindFault, DeepFault, Outcome, Gives, Fails, Overspends}
+use Rattle.std.specs.Prelude.{ℕ, zero, suc, ◌+◌, true, false, List, [], ◌∷◌, length, slice_get, Option, Some, None}
+use Rattle.setl_value.specs.Datum.{Datum, bool, atom, tuple, part_list}
+use Rattle.setl_map.specs.Outcome.{Fault, OmFault, KindFault, Outcome}
 use Rattle.setl_map.specs.Operators.{op_of}
 use Rattle.setl_text.specs.Texts.{print_line}
 use Rattle.setl_text.specs.Reading.{Reading, Denotes, AtEnd, NotForm, TooWide, TooDeep, read_denotation}
 use Rattle.setl_run.specs.Variable.{Variable, Bound}
-use Rattle.setl_run.specs.Events.{Called, Returned, Printed, Kept, Back, Form, Wide, Deep, Nothing, Done, Stopped, Spent, Stuck}
-use Rattle.setl_run.specs.Turns.{left_after}
+use Rattle.setl_run.specs.Events.{Called, Returned, Printed, Kept, Back, Form, Wide, Deep, Nothing, Done, Stopped, Stuck}
 use Rattle.setl_run.specs.Run.{Move, Moves, Halts, Machine}
-use Rattle.setl_program.specs.Program.{Collection, OfSet, OfTuple, Connective, And, Or, Implies, Begin, Members, Points, Passing, Rd, Wr, Rw, Parameter}
+use Rattle.setl_program.specs.declared.kinds.Connective.{Connective}
+use Rattle.setl_program.specs.declared.kinds.Connective.TheVariants.{And, Or, Implies}
+use Rattle.setl_tree.specs.declared.tree.Passing.{Passing}
+use Rattle.setl_tree.specs.declared.tree.Passing.TheVariants.{Rd, Wr, Rw}
+use Rattle.setl_program.specs.Program.{Begin, Members, Points, Parameter}
 use Rattle.setl_model.specs.Core.{Item, One, Two, Selected, Round, Brace}
 use Rattle.setl_model.specs.World.{stop, branch}
 use Rattle.setl_model.specs.World as world

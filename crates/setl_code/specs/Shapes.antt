@@ -1,6 +1,8 @@
 -- Shapes of operands, and what each instruction makes of them.
 use Rattle.std.specs.Prelude.{ℕ, zero, suc, Bool, true, false, ◌&&◌, List, [], ◌∷◌, length, slice_get, Option, Some, None}
-use Rattle.setl_program.specs.Program.{Begin, Members, Points, Passing, Rd, Wr, Rw, Parameter}
+use Rattle.setl_tree.specs.declared.tree.Passing.{Passing}
+use Rattle.setl_tree.specs.declared.tree.Passing.TheVariants.{Rd, Wr, Rw}
+use Rattle.setl_program.specs.Program.{Begin, Members, Points, Parameter}
 use Rattle.setl_code.specs.Code.{Alteration, Putting, Combining, TakingOut, Instr, Push, PushAtom, PushEof, Load, Take, StoreIn, Operate, Alter, Decides, TestBool, Unless, Jump, DropTop, DupTop, PartsOf, BeginOver, NextOr, BeginOf, AddBelow, LeaveAll, PayRound, CallBody, ReturnTop, KeepAll, GoBack, PrintTop, ReadOne, StopRun, Body}
 
 pub data Kind : Type 0 where

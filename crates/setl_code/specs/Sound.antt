@@ -4,7 +4,9 @@ use Rattle.std.specs.List.{Contains}
 use Rattle.setl_run.specs.Variable.{Variable, Global, is_variable}
 use Rattle.setl_map.specs.declared.Operator.{Operator}
 use Rattle.setl_map.specs.declared.Operator.TheVariants.{Add, Subtract, Multiply, Power, Divide, Modulo, Max, Min, With, Less, Lessf, Npow}
-use Rattle.setl_program.specs.Program.{Passing, Rd, Wr, Rw, Parameter}
+use Rattle.setl_tree.specs.declared.tree.Passing.{Passing}
+use Rattle.setl_tree.specs.declared.tree.Passing.TheVariants.{Rd, Wr, Rw}
+use Rattle.setl_program.specs.Program.{Parameter}
 use Rattle.setl_model.specs.Calls.{parameter}
 use Rattle.setl_code.specs.Code.{Alteration, Putting, Combining, TakingOut, Instr, Load, Take, StoreIn, Alter, Decides, Unless, Jump, NextOr, CallBody, ReturnTop, GoBack, StopRun, Step, Body, Code}
 use Rattle.setl_code.specs.Piece.{Is}

@@ -4,7 +4,8 @@ use Rattle.setl_value.specs.Datum.{Datum, set_of, tuple_of, depth}
 use Rattle.setl_set.specs.Sets.{set_from}
 use Rattle.setl_map.specs.Outcome.{Fault, OmFault, DeepFault, all_values}
 use Rattle.setl_value.specs.WellFormed.{trim}
-use Rattle.setl_program.specs.Program.{Collection, OfSet, OfTuple}
+use Rattle.setl_program.specs.declared.kinds.Collection.{Collection}
+use Rattle.setl_program.specs.declared.kinds.Collection.TheVariants.{OfSet, OfTuple}
 
 -- Why a value isn't collected, if it isn't: a set has no `om`, and no member or component has depth 500.
 abbrev pub refusal : Collection → Option Datum → Option Fault

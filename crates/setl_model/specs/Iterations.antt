@@ -1,13 +1,16 @@
 -- Steps of iterators, formers, quantifiers and loops over members.
-use Rattle.std.specs.Prelude.{ℕ, ◌==◌, suc, pos, ◌-ℤ◌, Bool, true, false, List, [], ◌∷◌, ◌++◌, map, reverse, nat_le, unsigned_abs, if◌then◌else◌, Option, Some, None}
-use Rattle.setl_value.specs.Datum.{Datum, bool, int, text, tuple, set, element_list, part_list, depth}
+use Rattle.std.specs.Prelude.{ℕ, ◌==◌, suc, pos, ◌-ℤ◌, Bool, true, false, List, [], ◌∷◌, ◌++◌, map, reverse, unsigned_abs, if◌then◌else◌, Option, Some, None}
+use Rattle.setl_value.specs.Datum.{Datum, bool, int, text, tuple, set, element_list, part_list}
 use Rattle.setl_set.specs.Sets.{set_from}
 use Rattle.setl_value.specs.Pairs.{is_map}
 use Rattle.setl_map.specs.Ranges.{range_from, step_from}
 use Rattle.setl_map.specs.Maps.{image, domain_of}
-use Rattle.setl_map.specs.Outcome.{Fault, OmFault, KindFault, ZeroFault, DeepFault, all_values}
+use Rattle.setl_map.specs.Outcome.{Fault, OmFault, KindFault, ZeroFault, all_values}
 use Rattle.setl_model.specs.Collections.{refusal, collection}
-use Rattle.setl_program.specs.Program.{Collection, OfSet, OfTuple, Quantifier, Exists, Forall, NotExists, Slots, Binding, Member, Components, Point, Begin, Members, Points, begin_of, Values, Between, SetSteps, TupleSteps, Exprs, no_expr, more_exprs, Iterators, no_iterator, more_iterators, Condition, no_condition, only_if, no_stmt}
+use Rattle.setl_program.specs.declared.kinds.Quantifier.{Quantifier}
+use Rattle.setl_program.specs.declared.kinds.Quantifier.TheVariants.{Exists, Forall, NotExists}
+use Rattle.setl_program.specs.declared.kinds.Source.TheVariants.{Values, Between, SetSteps, TupleSteps}
+use Rattle.setl_program.specs.Program.{Slots, Binding, Member, Components, Point, Begin, Members, Points, begin_of, Exprs, no_expr, more_exprs, Iterators, no_iterator, more_iterators, Condition, no_condition, only_if, no_stmt}
 use Rattle.setl_run.specs.Events.{Stuck}
 use Rattle.setl_run.specs.Run.{Store, Move, Halts}
 use Rattle.setl_model.specs.Core.{Execute, Evaluate, Result, Iterate, Goal, Collect, Select, Decide, Repeat, Item, One, Two, Level, Iteration, IterationFrame, Sources, ToBind, IsBound, Testing, Body, Paused, Frame, InIteration, Storing, Core, line_of}

@@ -5,7 +5,11 @@ use Rattle.setl_run.specs.Variable.{Own, Bound}
 use Rattle.setl_map.specs.declared.Operator.TheVariants.{Negate, Add, Subtract, Divide, Modulo, Power, Abs, Size, Equal, NotEqual, With, Less, In, SetRange, TupleRange, Pow, Npow, Get, Images, FoldAdd, FoldMax}
 use Rattle.setl_modes.specs.declared.mode.Form.TheVariants.{Sparse}
 use Rattle.setl_modes.specs.Modes.{Integers, Elements, Sets, SingleMaps}
-use Rattle.setl_program.specs.Program.{OfSet, Or, Exists, Point, Points, Expr, Literal, Undefined, Name, Connect, Selection, Quantified, Call, Eof, Ok, more_iterators, no_condition, only_if, no_argument, rw_argument, no_selector, round_selector, brace_selector, TakeFirst, TakeLast, Assign, AssignParts, TakeFrom, Perform, If, For, Fail, Return, Read, no_stmt, Rw, Program}
+use Rattle.setl_program.specs.declared.kinds.Collection.TheVariants.{OfSet}
+use Rattle.setl_program.specs.declared.kinds.Connective.TheVariants.{Or}
+use Rattle.setl_program.specs.declared.kinds.Quantifier.TheVariants.{Exists}
+use Rattle.setl_program.specs.declared.kinds.Taking.TheVariants.{TakeFirst, TakeLast}
+use Rattle.setl_program.specs.Program.{Point, Expr, Literal, Undefined, Name, Connect, Quantified, Call, Eof, Ok, more_iterators, no_condition, only_if, no_argument, rw_argument, no_selector, round_selector, brace_selector, Assign, AssignParts, TakeFrom, Perform, If, For, Fail, Return, Read, no_stmt, Program}
 use Rattle.setl_program.specs.Source.{f, i, j, k, n, q, s, t, x, y, z, number, exprs, one, two, enumeration, set_of, tuple_of, pair_of, over, between, assign, put, combine, print, at, alone, lines_from, lines, select_over, with_modes, procedure, rw_parameter}
 
 -- f := {[1,2],[1,3],[2,5]};

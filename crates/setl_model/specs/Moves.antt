@@ -3,7 +3,7 @@ use Rattle.std.specs.Prelude.{ℕ, List, [], ◌∷◌, Option}
 use Rattle.setl_value.specs.Datum.{Datum}
 use Rattle.setl_run.specs.Variable.{Variable, Bound}
 use Rattle.setl_map.specs.Outcome.{Outcome}
-use Rattle.setl_run.specs.Run.{Store, Move, Moves}
+use Rattle.setl_run.specs.Run.{Move, Moves}
 use Rattle.setl_model.specs.Core.{Hand, Result, Frame, Core, line_of, write_variable}
 use Rattle.setl_model.specs.World.{Holding}
 use Rattle.setl_model.specs.World as world

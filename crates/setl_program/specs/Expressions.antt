@@ -17,9 +17,13 @@ use Rattle.setl_tree.specs.declared.tree.Passing.TheVariants as pa
 use Rattle.setl_map.specs.declared.Operator.{Operator}
 use Rattle.setl_map.specs.declared.Operator.TheVariants.{Get, Images, Slice, Tail, SetOf, TupleOf, SetRange, TupleRange, SetStep, TupleStep}
 use Rattle.setl_run.specs.Variable.{Variable, Bound as OfFormer}
-use Rattle.setl_program.specs.Program.{Collection, OfSet, OfTuple, Binding, Member, Components, Point, Source, Values, Between, SetSteps, TupleSteps, Expr, Literal, Undefined, Name as Named, Apply, Choose, Former, Selection, Quantified, Call, Newat, Eof, Ok, Exprs, no_expr, more_exprs, Iterators, no_iterator, more_iterators, Condition, no_condition, only_if, Arguments, no_argument, rd_argument, wr_argument, rw_argument, Selectors, round_selector, brace_selector}
+use Rattle.setl_program.specs.declared.kinds.Collection.{Collection}
+use Rattle.setl_program.specs.declared.kinds.Collection.TheVariants.{OfSet, OfTuple}
+use Rattle.setl_program.specs.declared.kinds.Source.{Source}
+use Rattle.setl_program.specs.declared.kinds.Source.TheVariants.{Values, Between, SetSteps, TupleSteps}
+use Rattle.setl_program.specs.Program.{Binding, Member, Components, Point, Expr, Literal, Undefined, Name as Named, Apply, Choose, Former, Selection, Quantified, Call, Newat, Eof, Ok, Exprs, no_expr, more_exprs, Iterators, no_iterator, more_iterators, Condition, no_condition, only_if, Arguments, no_argument, rd_argument, wr_argument, rw_argument, Selectors, round_selector, brace_selector}
 use Rattle.setl_program.specs.Numbered.{Numbered, pure, ◌>>=◌, opened}
-use Rattle.setl_names.specs.Names.{Name}
+use Rattle.setl_names.specs.Names.{Name, with_names, in_order}
 use Rattle.setl_names.specs.Occurrences.{names_of_bound}
 use Rattle.setl_program.specs.Scope.{Scope, in_former, variable_of, procedure_of}
 use Rattle.setl_program.specs.Operators.{one, two, binary, relation, prefix, quantifier}
@@ -135,7 +139,7 @@ abbrev pub own_iterators : ℕ → List Name → List Turn → Scope → Numbere
 own_iterators m seen [] s = pure no_iterator
 own_iterators m seen (t ∷ ts) s = do
   first ← t.iterator (in_former m seen s) (OfFormer m)
-  rest ← own_iterators m (seen ++ t.names) ts s
+  rest ← own_iterators m (with_names seen t.names) ts s
   pure (more_iterators first.0 first.1 rest)
 
 abbrev pub names_of_turns : List Turn → List Name
@@ -185,9 +189,9 @@ inside_by term = record { term = term; source = λ k s. (do e ← term k s; pure
 abbrev pub former : Part → List Turn → Option Part → Collection → Scope → Numbered Expr
 former x ts c k s = do
   m ← opened
-  e ← x.term (in_former m (names_of_turns ts) s)
+  e ← x.term (in_former m (in_order (names_of_turns ts)) s)
   is ← own_iterators m [] ts s
-  t ← optional c (in_former m (names_of_turns ts) s)
+  t ← optional c (in_former m (in_order (names_of_turns ts)) s)
   pure (Former k e is (condition t))
 
 -- a former that collects its members
@@ -195,7 +199,7 @@ abbrev pub filter : Bound → Part → Part → Collection → Scope → Numbere
 filter b x c k s = do
   m ← opened
   from ← x.source s
-  t ← c.term (in_former m (names_of_bound b) s)
+  t ← c.term (in_former m (in_order (names_of_bound b)) s)
   pure (Selection k (binding_of b from.0 (OfFormer m)) from.1 t)
 
 abbrev pub range_inside : Part → Option Part → Part → Inside

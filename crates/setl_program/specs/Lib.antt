@@ -6,4 +6,5 @@ pub mod Operators
 pub mod Expressions
 pub mod Statements
 pub mod ProgramOf
+pub mod Plain
 pub mod Samples

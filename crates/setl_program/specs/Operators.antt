@@ -11,11 +11,14 @@ use Rattle.setl_tree.specs.declared.expr.Quantifier.{Quantifier as QuantifierWor
 use Rattle.setl_tree.specs.declared.expr.Quantifier.TheVariants as qu
 use Rattle.setl_tree.specs.declared.stmt.FromEnd.{FromEnd}
 use Rattle.setl_tree.specs.declared.stmt.FromEnd.TheVariants as fr
-use Rattle.setl_tree.specs.declared.tree.Passing.{Passing as PassingWord}
-use Rattle.setl_tree.specs.declared.tree.Passing.TheVariants as pa
 use Rattle.setl_map.specs.declared.Operator.{Operator}
 use Rattle.setl_map.specs.declared.Operator.TheVariants as o
-use Rattle.setl_program.specs.Program.{And, Or, Implies, Quantifier, Exists, Forall, NotExists, Expr, Apply, Connect, no_expr, more_exprs, Taking, TakeLeast, TakeFirst, TakeLast, Passing, Rd, Wr, Rw}
+use Rattle.setl_program.specs.declared.kinds.Connective.TheVariants.{And, Or, Implies}
+use Rattle.setl_program.specs.declared.kinds.Quantifier.{Quantifier}
+use Rattle.setl_program.specs.declared.kinds.Quantifier.TheVariants.{Exists, Forall, NotExists}
+use Rattle.setl_program.specs.declared.kinds.Taking.{Taking}
+use Rattle.setl_program.specs.declared.kinds.Taking.TheVariants.{TakeLeast, TakeFirst, TakeLast}
+use Rattle.setl_program.specs.Program.{Expr, Apply, Connect, no_expr, more_exprs}
 
 abbrev pub one : Operator → Expr → Expr
 one f a = Apply f (more_exprs a no_expr)
@@ -107,8 +110,3 @@ abbrev pub taking : FromEnd → Taking
 taking fr.From = TakeLeast
 taking fr.Fromb = TakeFirst
 taking fr.Frome = TakeLast
-
-abbrev pub passing : PassingWord → Passing
-passing pa.Rd = Rd
-passing pa.Wr = Wr
-passing pa.Rw = Rw

@@ -3,31 +3,17 @@ use Rattle.std.specs.Prelude.{ℕ, List, Option}
 use Rattle.setl_value.specs.Datum.{Datum}
 use Rattle.setl_run.specs.Variable.{Variable}
 use Rattle.setl_map.specs.declared.Operator.{Operator}
+use Rattle.setl_program.specs.declared.kinds.Connective.{Connective}
+use Rattle.setl_program.specs.declared.kinds.Quantifier.{Quantifier}
+use Rattle.setl_program.specs.declared.kinds.Collection.{Collection}
+use Rattle.setl_program.specs.declared.kinds.Source.{Source}
+use Rattle.setl_program.specs.declared.kinds.Taking.{Taking}
+use Rattle.setl_tree.specs.declared.tree.Passing.{Passing}
 use Rattle.setl_modes.specs.Modes.{Mode}
-
--- The operators that evaluate their right part only where the left one doesn't decide.
-pub data Connective : Type 0 where
-  And Or Implies : Connective
-
-pub data Quantifier : Type 0 where
-  Exists Forall NotExists : Quantifier
 
 -- The names that a tuple is taken apart into, in their order; `None` is `-`, which skips a component.
 abbrev pub Slots : Type 0
 Slots = List (Option Variable)
-
--- Whether values are collected in a set or in a tuple.
-pub data Collection : Type 0 where
-  OfSet OfTuple : Collection
-
--- How the members of an iterator come from its source.
-pub data Source : Type 0 where
-  -- those of a set, a tuple or a string
-  Values : Source
-  -- the integers of `[a..b]` or `{a..b}`, written directly as the source
-  Between : Source
-  -- those of `{a, b..c}` in rising order, and of `[a, b..c]`
-  SetSteps TupleSteps : Source
 
 -- What an iterator runs over, and what it binds at each step.
 pub data Binding : Type 0 where
@@ -97,10 +83,6 @@ pub record Place : Type 0 where
   pub variable : Variable
   pub selectors : Selectors
 
--- Which part `from`, `fromb` and `frome` take out.
-pub data Taking : Type 0 where
-  TakeLeast TakeFirst TakeLast : Taking
-
 mutual
   pub data Stmt : Type 0 where
     -- p := e
@@ -127,10 +109,6 @@ mutual
   pub data Block : Type 0 where
     no_stmt : Block
     more_stmts : (line : ℕ) → Stmt → Block → Block
-
--- How a procedure takes an argument: its value, a variable that is only set, or a variable that is passed in and out.
-pub data Passing : Type 0 where
-  Rd Wr Rw : Passing
 
 -- A parameter, with the line of its first token.
 pub record Parameter : Type 0 where

@@ -11,7 +11,6 @@ use Rattle.setl_modes.specs.Modes.{Mode}
 use Rattle.setl_modes.specs.Declarations.{bases_of, variables_of}
 use Rattle.setl_program.specs.Program.{Parameter, Procedure, Program}
 use Rattle.setl_program.specs.Scope.{Scope, variable_of}
-use Rattle.setl_program.specs.Operators.{passing}
 use Rattle.setl_program.specs.Statements.{body_of}
 
 -- the scope of a body with these parameters
@@ -19,7 +18,7 @@ abbrev pub scope_of : Tree → ℕ → List Param → Scope
 scope_of t body ps = record { body = body; parameters = param_names ps; vars = var_names t.vars; formers = []; procedures = t.procs }
 
 abbrev pub parameter_of : Param → Parameter
-parameter_of p = record { passing = passing p.passing; name = p.name; line = p.line }
+parameter_of p = record { passing = p.passing; name = p.name; line = p.line }
 
 abbrev pub procedure_of_tree : Tree → ℕ → Proc → Procedure
 procedure_of_tree t body p = record {

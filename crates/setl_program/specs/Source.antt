@@ -5,7 +5,10 @@ use Rattle.setl_run.specs.Variable.{Variable, Own}
 use Rattle.setl_map.specs.declared.Operator.{Operator}
 use Rattle.setl_map.specs.declared.Operator.TheVariants.{Negate, With, Get, Images, Slice, Tail, SetOf, TupleOf}
 use Rattle.setl_modes.specs.Modes.{Mode}
-use Rattle.setl_program.specs.Program.{Collection, Member, Values, Between, Expr, Literal, Apply, Selection, Exprs, no_expr, more_exprs, Iterators, no_iterator, more_iterators, no_selector, round_selector, brace_selector, Stmt, Assign, Update, Print, Block, no_stmt, more_stmts, Rd, Wr, Rw, Parameter, Procedure, Program}
+use Rattle.setl_program.specs.declared.kinds.Collection.{Collection}
+use Rattle.setl_program.specs.declared.kinds.Source.TheVariants.{Values, Between}
+use Rattle.setl_tree.specs.declared.tree.Passing.TheVariants.{Rd, Wr, Rw}
+use Rattle.setl_program.specs.Program.{Member, Expr, Literal, Apply, Selection, Exprs, no_expr, more_exprs, Iterators, no_iterator, more_iterators, no_selector, round_selector, brace_selector, Stmt, Assign, Update, Print, Block, no_stmt, more_stmts, Parameter, Procedure, Program}
 
 -- ---- variables
 

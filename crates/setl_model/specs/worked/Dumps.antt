@@ -4,7 +4,9 @@ use Rattle.setl_run.specs.Variable.{Global, Bound}
 use Rattle.setl_map.specs.declared.Operator.TheVariants.{With, Less, Divide, NotEqual, NotIn}
 use Rattle.setl_modes.specs.Modes.{General, Integers, Strings, Elements, Sets, Tuples, SingleMaps, MultiMaps}
 use Rattle.setl_modes.specs.declared.mode.Form.TheVariants.{Plain, Local, Remote, Sparse}
-use Rattle.setl_program.specs.Program.{OfTuple, Undefined, Name, Former, Call, Ok, no_condition, no_argument, no_selector, TakeFirst, TakeFrom, Perform, If, For, While, Fail, no_stmt}
+use Rattle.setl_program.specs.declared.kinds.Collection.TheVariants.{OfTuple}
+use Rattle.setl_program.specs.declared.kinds.Taking.TheVariants.{TakeFirst}
+use Rattle.setl_program.specs.Program.{Undefined, Name, Former, Call, Ok, no_condition, no_argument, no_selector, TakeFrom, Perform, If, For, While, Fail, no_stmt}
 use Rattle.setl_program.specs.Source.{own, its, f, g, s, t, x, y, z, number, quoted, two, set_of, tuple_of, enumeration, row_of, at_brace, over, assign, put, combine, print, on_line, at, alone, lines_from, just, with_modes, procedure}
 use Rattle.setl_model.specs.Table.{DumpRow, dumps}
 
