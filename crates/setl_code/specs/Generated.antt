@@ -22,9 +22,9 @@ abbrev pub parts : ℕ → Slots → Laid
 parts line xs = one line (PartsOf (length xs)) ⨾ store_slots line xs
 
 abbrev pub bind : ℕ → Binding → Laid
-bind line (Member k x) = one line (StoreIn x)
+bind line (Member k x) = store_slots line (Some x ∷ [])
 bind line (Components k xs) = parts line xs
-bind line (Point y x) = one line (StoreIn x) ⨾ one line (StoreIn y)
+bind line (Point y x) = store_slots line (Some x ∷ Some y ∷ [])
 
 -- `om` in each variable that is bound
 abbrev pub clear_slots : ℕ → Slots → Laid
@@ -36,12 +36,12 @@ abbrev pub clear : ℕ → Iterators → Laid
 clear line no_iterator = nothing
 clear line (more_iterators b es rest) = clear_slots line (bound_by b) ⨾ clear line rest
 
--- what a call hands back, from left to right
-abbrev pub store_back : ℕ → Arguments → Laid
-store_back line no_argument = nothing
-store_back line (rd_argument e rest) = store_back line rest
-store_back line (wr_argument x rest) = one line (StoreIn x) ⨾ store_back line rest
-store_back line (rw_argument x rest) = one line (StoreIn x) ⨾ store_back line rest
+-- what a call sets, from left to right
+abbrev pub set_by : Arguments → Slots
+set_by no_argument = []
+set_by (rd_argument e rest) = set_by rest
+set_by (wr_argument x rest) = Some x ∷ set_by rest
+set_by (rw_argument x rest) = Some x ∷ set_by rest
 
 -- ---- expressions
 
@@ -89,7 +89,7 @@ abbrev mutual
       leaving
       (with_end (iterators line is (λ a. expr line c ⨾ negated line q ⨾ one line (Unless a) ⨾ one line (LeaveAll (levels is)) ⨾ one line (Push (Some (bool (decided q)))) ⨾ jumps_out line)))
       (clear line is ⨾ one line (Push (Some (bool (undecided q)))))
-  expr line (Call f all) = arguments line all ⨾ one line (CallBody (suc f)) ⨾ store_back line all
+  expr line (Call f all) = arguments line all ⨾ one line (CallBody (suc f)) ⨾ store_slots line (set_by all)
   expr line Newat = one line PushAtom
   expr line Eof = one line PushEof
   expr line Ok = one line KeepAll
@@ -138,7 +138,7 @@ put line x ss = alter line Putting x ss
 -- each variable is read and stored
 abbrev pub read_all : ℕ → List Variable → Laid
 read_all line [] = nothing
-read_all line (x ∷ xs) = one line ReadOne ⨾ one line (StoreIn x) ⨾ read_all line xs
+read_all line (x ∷ xs) = one line ReadOne ⨾ store_slots line (Some x ∷ []) ⨾ read_all line xs
 
 -- `quit` leaves the iterators of the innermost loop; a `while` has none
 abbrev pub quit : ℕ → ℕ → Laid
@@ -151,7 +151,7 @@ abbrev mutual
   stmt leaves line (Assign p e) = expr line e ⨾ put line p.variable p.selectors
   stmt leaves line (Update o p e) = expr line e ⨾ alter line (Combining o) p.variable p.selectors
   stmt leaves line (AssignParts xs e) = expr line e ⨾ parts line xs
-  stmt leaves line (TakeFrom k x p) = alter line (TakingOut k) p.variable p.selectors ⨾ one line (StoreIn x)
+  stmt leaves line (TakeFrom k x p) = alter line (TakingOut k) p.variable p.selectors ⨾ store_slots line (Some x ∷ [])
   stmt leaves line (Perform e) = expr line e ⨾ one line DropTop
   stmt leaves line (If e a b) = expr line e ⨾ either line (block leaves a) (block leaves b)
   stmt leaves line (For is t b) =

@@ -64,6 +64,13 @@ turn k f = world.turn holding k f
 abbrev pub with_outcome : Outcome → ℕ → CodeCore → (Option Datum → CodeCore → Move CodeCore) → Move CodeCore
 with_outcome o line k f = world.with_outcome holding o line k f
 
+-- ---- stores
+
+-- a former's own name is bound without a test and an event
+abbrev pub store_in : Variable → ℕ → Option Datum → List Operand → CodeCore → Move CodeCore
+store_in (Bound former name) line v xs k = next xs (write (Bound former name) (There v) k)
+store_in x line v xs k = Moves [] [] (at_step (suc k.now.at) xs k) line ((x, v) ∷ [])
+
 -- ---- updates
 
 -- selectors with their operands
@@ -76,7 +83,7 @@ selected_by (InBrace ∷ bs) (v ∷ vs) = Brace v ∷ selected_by bs vs
 -- the new whole is stored, and these operands are left
 abbrev pub store_whole : Outcome → ℕ → Variable → List Operand → CodeCore → Move CodeCore
 store_whole o line x xs k =
-    with_outcome o line k (λ new d. Moves [] [] (at_step (suc d.now.at) xs d) line ((x, new) ∷ []))
+    with_outcome o line k (λ new d. store_in x line new xs d)
 
 -- what was taken out is pushed; of an empty source `om` is pushed and nothing is stored
 abbrev pub take_from : Taken → ℕ → Variable → Option Datum → List Selected → List Operand → CodeCore → Move CodeCore
@@ -223,11 +230,6 @@ abbrev pub print_values : List (Option Datum) → List Operand → CodeCore → 
 print_values vs xs k = let said = print_line vs in Moves said (Printed said ∷ []) (at_step (suc k.now.at) xs k) 0 []
 
 -- ---- steps
-
--- a former's own name is bound without a test and an event
-abbrev pub store_in : Variable → ℕ → Option Datum → List Operand → CodeCore → Move CodeCore
-store_in (Bound former name) line v xs k = next xs (write (Bound former name) (There v) k)
-store_in x line v xs k = Moves [] [] (at_step (suc k.now.at) xs k) line ((x, v) ∷ [])
 
 -- the boolean on top decides: its answer is left, and the code goes on behind
 abbrev pub decides : Connective → ℕ → Option Datum → ℕ → List Operand → CodeCore → Move CodeCore

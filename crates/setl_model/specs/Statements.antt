@@ -8,7 +8,7 @@ use Rattle.setl_run.specs.Events.{Printed, Back, Done, Stuck, Stopped, Form, Wid
 use Rattle.setl_run.specs.Run.{Move, Moves, Halts}
 use Rattle.setl_model.specs.Core.{Execute, Evaluate, Result, Iterate, Goal, Repeat, Iteration, Body, Paused, Activation, Puts, Combines, Takes, StmtFrame, AssignRight, UpdateRight, PartsRight, RoundSelector, BraceSelector, IfTest, WhileTest, WhileBody, PrintParts, Returning, Dropping, Round, Brace, Frame, InIteration, InCall, InStmt, Storing, Then, Snapshot, Core}
 use Rattle.setl_model.specs.World.{World, stop, branch}
-use Rattle.setl_model.specs.Moves.{holding, go, store_or_bind, turn}
+use Rattle.setl_model.specs.Moves.{holding, go, turn}
 use Rattle.setl_model.specs.Slots.{Parting, Parted, NotParted, parting}
 use Rattle.setl_model.specs.Iterations.{begin}
 use Rattle.setl_model.specs.Places.{select, change_place}
@@ -25,12 +25,13 @@ print_parts line got (more_exprs e rest) work c = go (Evaluate e) (InStmt line (
 abbrev pub with_world : World → Core → Core
 with_world w c = holding.put w c
 
--- one value that was read is stored, and the others are read
+-- one value that was read is to be stored, and then the others are read
+abbrev pub store_read : ℕ → Variable → Option Datum → List Variable → List Frame → Core → Move Core
+store_read line x v xs work c = go (Result None) (Storing ((x, v) ∷ []) ∷ InStmt line Dropping ∷ Then (more_stmts line (Read xs) no_stmt) ∷ work) c
+
 abbrev pub take_reading : Reading → ℕ → Variable → List Variable → List Frame → Core → Move Core
-take_reading (Denotes v rest) line x xs work c =
-    store_or_bind line x v (Execute (more_stmts line (Read xs) no_stmt)) work (with_world (record c.shared.world { input = rest }) c)
-take_reading AtEnd line x xs work c =
-    store_or_bind line x None (Execute (more_stmts line (Read xs) no_stmt)) work (with_world (record c.shared.world { input = []; eof = true }) c)
+take_reading (Denotes v rest) line x xs work c = store_read line x v xs work (with_world (record c.shared.world { input = rest }) c)
+take_reading AtEnd line x xs work c = store_read line x None xs work (with_world (record c.shared.world { input = []; eof = true }) c)
 take_reading NotForm line x xs work c = Halts (Stopped Form line)
 take_reading TooWide line x xs work c = Halts (Stopped Wide line)
 take_reading TooDeep line x xs work c = Halts (Stopped Deep line)

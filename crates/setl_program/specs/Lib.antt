@@ -1,5 +1,6 @@
 pub mod Program
 pub mod Source
+pub mod Formed
 pub mod Numbered
 pub mod Scope
 pub mod Operators

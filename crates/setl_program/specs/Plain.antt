@@ -2,7 +2,6 @@
 use Rattle.std.specs.Prelude.{ℕ, List, [], ◌∷◌, map, Option, Some, None}
 use Rattle.std.specs.Option.{option_map}
 use Rattle.setl_value.specs.Datum.{bool, int, text}
-use Rattle.setl_tree.specs.declared.tree.Param.{Param}
 use Rattle.setl_run.specs.Variable as run
 use Rattle.setl_modes.specs.Modes.{mode_of}
 use Rattle.setl_program.specs.declared.expr.Variable.{Variable}
@@ -19,7 +18,6 @@ use Rattle.setl_program.specs.declared.stmt.Place.{Place}
 use Rattle.setl_program.specs.declared.stmt.Stmt.{Stmt, fold-Stmt}
 use Rattle.setl_program.specs.declared.stmt.StmtKind.TheOpen.{StmtKind-F, Stmt-F}
 use Rattle.setl_program.specs.declared.program.Procedure.{Procedure}
-use Rattle.setl_program.specs.declared.program.Declared.{Declared}
 use Rattle.setl_program.specs.declared.program.Program.{Program}
 use Rattle.setl_program.specs.Program as plain
 use Rattle.setl_program.specs.ProgramOf.{parameter_of}

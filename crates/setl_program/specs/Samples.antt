@@ -15,8 +15,8 @@ use Rattle.setl_program.specs.declared.kinds.Collection.TheVariants.{OfSet, OfTu
 use Rattle.setl_program.specs.declared.kinds.Connective.TheVariants.{And, Or, Implies}
 use Rattle.setl_program.specs.declared.kinds.Quantifier.TheVariants.{Exists, Forall, NotExists}
 use Rattle.setl_program.specs.declared.kinds.Source.TheVariants.{Values, Between, SetSteps, TupleSteps}
-use Rattle.setl_program.specs.Program.{Member, Components, Point, Points, Expr, Undefined, Name, Connect, Choose, Former, Selection, Quantified, Call, Newat, Eof, Ok, no_iterator, more_iterators, no_condition, only_if, no_argument, rd_argument, wr_argument, rw_argument}
-use Rattle.setl_program.specs.Source.{f, g, s, t, x, y, z, yes, no, number, quoted, exprs, one, two, three, set_of, tuple_of, at_round, at_brace, from_to, from_on, over, between, select_between, select_over}
+use Rattle.setl_program.specs.Program.{Member, Components, Point, Expr, Undefined, Name, Connect, Choose, Former, Selection, Quantified, Call, Newat, Eof, Ok, no_iterator, more_iterators, no_condition, only_if, no_argument, rd_argument, wr_argument, rw_argument}
+use Rattle.setl_program.specs.Source.{f, g, s, t, x, y, z, yes, no, number, quoted, exprs, one, two, three, set_of, tuple_of, at_round, at_brace, from_to, from_on, over, select_between, select_over}
 use Rattle.setl_program.specs.Scope.{Scope}
 use Rattle.setl_program.specs.Expressions.{Part, expr_step, inner_step, iter_step, selector_step}
 
