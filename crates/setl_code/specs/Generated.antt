@@ -6,7 +6,7 @@ use Rattle.setl_map.specs.declared.Operator.TheVariants.{Not}
 use Rattle.setl_program.specs.declared.kinds.Quantifier.{Quantifier}
 use Rattle.setl_program.specs.declared.kinds.Quantifier.TheVariants.{Exists, Forall, NotExists}
 use Rattle.setl_program.specs.Program.{Slots, Binding, Member, Components, Point, begin_of, Expr, Literal, Undefined, Name, Apply, Connect, Choose, Former, Selection, Quantified, Call, Newat, Eof, Ok, Exprs, no_expr, more_exprs, Iterators, no_iterator, more_iterators, Condition, no_condition, only_if, Arguments, no_argument, rd_argument, wr_argument, rw_argument, Selectors, no_selector, round_selector, brace_selector, Stmt, Assign, Update, AssignParts, TakeFrom, Perform, If, For, While, Quit, Continue, Fail, Stop, Pass, Return, Print, Read, Block, no_stmt, more_stmts}
-use Rattle.setl_model.specs.Iterations.{decided, undecided, bound_by}
+use Rattle.setl_model.specs.Iterations.{decided, undecided, all_bound}
 use Rattle.setl_code.specs.Code.{Bracket, InRound, InBrace, Alteration, Putting, Combining, TakingOut, Push, PushAtom, PushEof, Load, StoreIn, Operate, Alter, Decides, TestBool, Unless, Jump, DropTop, DupTop, PartsOf, BeginOver, NextOr, BeginOf, AddBelow, LeaveAll, PayRound, CallBody, ReturnTop, KeepAll, GoBack, PrintTop, ReadOne, StopRun}
 use Rattle.setl_code.specs.Piece.{Laid, ◌⨾◌, nothing, one, jumps_out, jumps_on, over, either, ending, going_on, leaving, with_end, with_start}
 
@@ -26,15 +26,10 @@ bind line (Member k x) = store_slots line (Some x ∷ [])
 bind line (Components k xs) = parts line xs
 bind line (Point y x) = store_slots line (Some x ∷ Some y ∷ [])
 
--- `om` in each variable that is bound
-abbrev pub clear_slots : ℕ → Slots → Laid
-clear_slots line [] = nothing
-clear_slots line (None ∷ xs) = clear_slots line xs
-clear_slots line (Some x ∷ xs) = one line (Push None) ⨾ one line (StoreIn x) ⨾ clear_slots line xs
-
-abbrev pub clear : ℕ → Iterators → Laid
-clear line no_iterator = nothing
-clear line (more_iterators b es rest) = clear_slots line (bound_by b) ⨾ clear line rest
+-- `om` in each of these variables
+abbrev pub clear : ℕ → List Variable → Laid
+clear line [] = nothing
+clear line (x ∷ xs) = one line (Push None) ⨾ one line (StoreIn x) ⨾ clear line xs
 
 -- what a call sets, from left to right
 abbrev pub set_by : Arguments → Slots
@@ -81,14 +76,14 @@ abbrev mutual
   expr line (Connect k a b) = expr line a ⨾ over line (Decides k) (expr line b ⨾ one line TestBool)
   expr line (Choose t a b) = expr line t ⨾ either line (expr line a) (expr line b)
   expr line (Former k e is t) =
-      one line (BeginOf k) ⨾ with_end (iterators line is (λ a. condition line t a ⨾ expr line e ⨾ one line (AddBelow (levels is)) ⨾ one line (Jump a)))
+      one line (BeginOf k) ⨾ with_end (iterators line nothing is (λ a. condition line t a ⨾ expr line e ⨾ one line (AddBelow (levels is)) ⨾ one line (Jump a)))
   expr line (Selection k b es c) =
       one line (BeginOf k)
-      ⨾ with_end (λ end. exprs line es ⨾ one line (BeginOver (begin_of b) (count es)) ⨾ next_step line end (one line DupTop ⨾ bind line b) (λ a. expr line c ⨾ keep_or_drop line a))
+      ⨾ with_end (λ back. exprs line es ⨾ one line (BeginOver (begin_of b) (count es)) ⨾ next_step line back (one line DupTop ⨾ bind line b) (λ a. expr line c ⨾ keep_or_drop line a))
   expr line (Quantified q is c) =
       leaving
-      (with_end (iterators line is (λ a. expr line c ⨾ negated line q ⨾ one line (Unless a) ⨾ one line (LeaveAll (levels is)) ⨾ one line (Push (Some (bool (decided q)))) ⨾ jumps_out line)))
-      (clear line is ⨾ one line (Push (Some (bool (undecided q)))))
+      (with_end (iterators line nothing is (λ a. expr line c ⨾ negated line q ⨾ one line (Unless a) ⨾ one line (LeaveAll (levels is)) ⨾ one line (Push (Some (bool (decided q)))) ⨾ jumps_out line)))
+      (clear line (all_bound is) ⨾ one line (Push (Some (bool (undecided q)))))
   expr line (Call f all) = arguments line all ⨾ one line (CallBody (suc f)) ⨾ store_slots line (set_by all)
   expr line Newat = one line PushAtom
   expr line Eof = one line PushEof
@@ -98,11 +93,12 @@ abbrev mutual
   exprs line no_expr = nothing
   exprs line (more_exprs e rest) = expr line e ⨾ exprs line rest
 
-  -- iterators, the end of the first of which leads back; the code inside knows where the innermost goes on
-  pub iterators : ℕ → Iterators → (ℕ → Laid) → ℕ → Laid
-  iterators line no_iterator inside back = inside back
-  iterators line (more_iterators b es rest) inside back =
-      exprs line es ⨾ one line (BeginOver (begin_of b) (count es)) ⨾ next_step line back (bind line b) (iterators line rest inside)
+  -- iterators, the end of the first of which leads back, with what comes before each binding; the code inside knows
+  -- where the innermost goes on
+  pub iterators : ℕ → (before : Laid) → Iterators → (ℕ → Laid) → ℕ → Laid
+  iterators line before no_iterator inside back = inside back
+  iterators line before (more_iterators b es rest) inside back =
+      exprs line es ⨾ one line (BeginOver (begin_of b) (count es)) ⨾ next_step line back (before ⨾ bind line b) (iterators line before rest inside)
 
   -- a condition that goes back where it doesn't hold
   pub condition : ℕ → Condition → ℕ → Laid
@@ -155,7 +151,7 @@ abbrev mutual
   stmt leaves line (Perform e) = expr line e ⨾ one line DropTop
   stmt leaves line (If e a b) = expr line e ⨾ either line (block leaves a) (block leaves b)
   stmt leaves line (For is t b) =
-      ending (with_end (iterators line is (λ a. condition line t a ⨾ going_on a (block (levels is) b) ⨾ one line (Jump a))))
+      ending (with_end (iterators line nothing is (λ a. condition line t a ⨾ going_on a (block (levels is) b) ⨾ one line (Jump a))))
   stmt leaves line (While e b) =
       ending (with_start (λ w. expr line e ⨾ over line Unless (one line PayRound ⨾ going_on w (block zero b) ⨾ one line (Jump w))))
   stmt leaves line Quit = quit line leaves

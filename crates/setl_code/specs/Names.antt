@@ -1,18 +1,14 @@
 -- The variables of a body in the order of their first appearance.
-use Rattle.std.specs.Prelude.{ℕ, Bool, true, false, List, [], ◌∷◌, ◌++◌, cond, Some, None, bytes_eq}
+use Rattle.std.specs.Prelude.{ℕ, Bool, true, false, List, [], ◌∷◌, ◌++◌, cond, bytes_eq}
 use Rattle.std.specs.List.{list_any}
+use Rattle.setl_model.specs.Slots.{variables_in}
 use Rattle.setl_run.specs.Variable.{Variable, Global, Own, Bound, is_variable}
-use Rattle.setl_program.specs.Program.{Slots, Binding, Member, Components, Point, Expr, Literal, Undefined, Name, Apply, Connect, Choose, Former, Selection, Quantified, Call, Newat, Eof, Ok, Exprs, no_expr, more_exprs, Iterators, no_iterator, more_iterators, Condition, no_condition, only_if, Arguments, no_argument, rd_argument, wr_argument, rw_argument, Selectors, no_selector, round_selector, brace_selector, Place, Stmt, Assign, Update, AssignParts, TakeFrom, Perform, If, For, While, Quit, Continue, Fail, Stop, Pass, Return, Print, Read, Block, no_stmt, more_stmts, Parameter}
-
-abbrev pub in_slots : Slots → List Variable
-in_slots [] = []
-in_slots (None ∷ xs) = in_slots xs
-in_slots (Some x ∷ xs) = x ∷ in_slots xs
+use Rattle.setl_program.specs.Program.{Binding, Member, Components, Point, Expr, Literal, Undefined, Name, Apply, Connect, Choose, Former, Selection, Quantified, Call, Newat, Eof, Ok, Exprs, no_expr, more_exprs, Iterators, no_iterator, more_iterators, Condition, no_condition, only_if, Arguments, no_argument, rd_argument, wr_argument, rw_argument, Selectors, no_selector, round_selector, brace_selector, Place, Stmt, Assign, Update, AssignParts, TakeFrom, Perform, If, For, While, Quit, Continue, Fail, Stop, Pass, Return, Print, Read, Block, no_stmt, more_stmts, Parameter}
 
 -- the variables around the source of an iterator: in `y = f(x)` one stands before f and one behind it
 abbrev pub around : Binding → List Variable → List Variable
 around (Member k x) source = x ∷ source
-around (Components k xs) source = in_slots xs ++ source
+around (Components k xs) source = variables_in xs ++ source
 around (Point y x) source = y ∷ source ++ x ∷ []
 
 -- the variables as they stand in the source
@@ -62,7 +58,7 @@ abbrev mutual
   pub in_stmt : Stmt → List Variable
   in_stmt (Assign p e) = in_place p ++ in_expr e
   in_stmt (Update o p e) = in_place p ++ in_expr e
-  in_stmt (AssignParts xs e) = in_slots xs ++ in_expr e
+  in_stmt (AssignParts xs e) = variables_in xs ++ in_expr e
   in_stmt (TakeFrom k x p) = x ∷ in_place p
   in_stmt (Perform e) = in_expr e
   in_stmt (If e a b) = in_expr e ++ in_block a ++ in_block b

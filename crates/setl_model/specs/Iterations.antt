@@ -16,7 +16,8 @@ use Rattle.setl_run.specs.Run.{Store, Move, Halts}
 use Rattle.setl_model.specs.Core.{Execute, Evaluate, Result, Iterate, Goal, Collect, Select, Decide, Repeat, Item, One, Two, Level, Iteration, IterationFrame, Sources, ToBind, IsBound, Testing, Body, Paused, Frame, InIteration, Storing, Core, line_of}
 use Rattle.setl_model.specs.World.{stop, branch}
 use Rattle.setl_model.specs.Moves.{go, turn}
-use Rattle.setl_model.specs.Slots.{Parting, Parted, NotParted, parting, om_stores}
+use Rattle.setl_run.specs.Variable.{Variable}
+use Rattle.setl_model.specs.Slots.{Parting, Parted, NotParted, parting, variables_in, om_stores}
 
 -- ---- the items of an iterator
 
@@ -121,15 +122,15 @@ bound_by (Member k x) = Some x ∷ []
 bound_by (Components k xs) = xs
 bound_by (Point y x) = Some y ∷ Some x ∷ []
 
-abbrev pub om_of_all : Iterators → List Store
-om_of_all no_iterator = []
-om_of_all (more_iterators b es rest) = om_stores (bound_by b) ++ om_of_all rest
+abbrev pub all_bound : Iterators → List Variable
+all_bound no_iterator = []
+all_bound (more_iterators b es rest) = variables_in (bound_by b) ++ all_bound rest
 
 -- the end of an iteration
 abbrev pub finish : Goal → Iteration → List Frame → Core → Move Core
 finish (Collect k e got) i work c = go (Result (Some (collection k got))) work c
 finish (Select k v got) i work c = go (Result (Some (collection k got))) work c
-finish (Decide q) i work c = go (Result (Some (bool (undecided q)))) (Storing (om_of_all i.waiting) ∷ work) c
+finish (Decide q) i work c = go (Result (Some (bool (undecided q)))) (Storing (om_stores (all_bound i.waiting)) ∷ work) c
 finish (Repeat line b) i work c = go (Execute no_stmt) work c
 
 -- the goal with one more that is collected
