@@ -124,11 +124,11 @@ pub data Added : Type 0 where
   Refused : Fault → Added
   Nowhere : Added
 
-abbrev add_by : Option Fault → Operand → List Operand → Added
+abbrev pub add_by : Option Fault → Operand → List Operand → Added
 add_by None o xs = Adds (o ∷ xs)
 add_by (Some fault) o xs = Refused fault
 
-abbrev below : Operand → Added → Added
+abbrev pub below : Operand → Added → Added
 below o (Adds xs) = Adds (o ∷ xs)
 below o (Refused fault) = Refused fault
 below o Nowhere = Nowhere
@@ -172,12 +172,12 @@ call_body n (Some b) line k =
     })
     line (bindings n b.parameters vs)))
 
-abbrev push_held : Held → Option (List Operand) → Option (List Operand)
+abbrev pub push_held : Held → Option (List Operand) → Option (List Operand)
 push_held Gone xs = None
 push_held (There v) None = None
 push_held (There v) (Some xs) = Some (Result v ∷ xs)
 
-abbrev hand : Passing → Held → Option (List Operand) → Option (List Operand)
+abbrev pub hand : Passing → Held → Option (List Operand) → Option (List Operand)
 hand Rd h xs = xs
 hand Wr h xs = push_held h xs
 hand Rw h xs = push_held h xs

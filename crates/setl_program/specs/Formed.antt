@@ -44,6 +44,11 @@ abbrev pub parts_of : Begin → ℕ
 parts_of (Members k) = parts_of_source k
 parts_of Points = 1
 
+-- there is an iterator
+abbrev pub HasIterator : Iterators → Type 0
+HasIterator no_iterator = ⊥
+HasIterator (more_iterators b es rest) = Unit {0}
+
 abbrev pub number_of : Exprs → ℕ
 number_of no_expr = 0
 number_of (more_exprs e rest) = suc (number_of rest)
@@ -69,9 +74,9 @@ abbrev mutual
   FormedExpr a (Apply o es) = FormedExprs a es
   FormedExpr a (Connect k x y) = FormedExpr a x × FormedExpr a y
   FormedExpr a (Choose t x y) = FormedExpr a t × FormedExpr a x × FormedExpr a y
-  FormedExpr a (Former k e is t) = FormedExpr a e × FormedIterators a is × FormedCondition a t
+  FormedExpr a (Former k e is t) = HasIterator is × FormedExpr a e × FormedIterators a is × FormedCondition a t
   FormedExpr a (Selection k b es c) = BindsMembers b × FormedBinding a.body b × FormedExprs a es × (number_of es ≡ parts_of (begin_of b)) × FormedExpr a c
-  FormedExpr a (Quantified q is c) = FormedIterators a is × FormedExpr a c
+  FormedExpr a (Quantified q is c) = HasIterator is × FormedIterators a is × FormedExpr a c
   FormedExpr a (Call f all) = Passed (slice_get a.procedures f) all × FormedArguments a all
   FormedExpr a Newat = Unit {0}
   FormedExpr a Eof = Unit {0}
@@ -122,7 +127,7 @@ abbrev mutual
   FormedStmt a l (TakeFrom k x p) = FormedVariable a.body x × FormedVariable a.body p.variable × FormedSelectors a p.selectors
   FormedStmt a l (Perform e) = FormedExpr a e
   FormedStmt a l (If e x y) = FormedExpr a e × FormedBlock a l x × FormedBlock a l y
-  FormedStmt a l (For is t x) = FormedIterators a is × FormedCondition a t × FormedBlock a true x
+  FormedStmt a l (For is t x) = HasIterator is × FormedIterators a is × FormedCondition a t × FormedBlock a true x
   FormedStmt a l (While e x) = FormedExpr a e × FormedBlock a true x
   FormedStmt a l Quit = IsInLoop l
   FormedStmt a l Continue = IsInLoop l

@@ -4,10 +4,10 @@ use Rattle.std.specs.Prelude.{cond}
 use Rattle.setl_run.specs.Variable.{Variable, is_variable, Environment, value_in, with_value}
 use Rattle.setl_run.specs.VariableLaws.{same_variable, value_stored, value_elsewhere}
 use Rattle.setl_value.specs.Datum.{Datum}
-use Rattle.setl_code.specs.Matches.{Alike}
-use Rattle.setl_code.specs.CodeCore.{There, Held, Slots, held_in, with_held}
+use Rattle.setl_simulation.specs.Matches.{Alike}
+use Rattle.setl_code.specs.CodeCore.{There, Held, Cells, held_in, with_held}
 
-pub written : (g : Slots) (x : Variable) (h : Held) (y : Variable) → held_in (with_held g x h) y ≡ cond (is_variable x y) h (held_in g y)
+pub written : (g : Cells) (x : Variable) (h : Held) (y : Variable) → held_in (with_held g x h) y ≡ cond (is_variable x y) h (held_in g y)
 written [] x h y = refl
 written (b ∷ bs) x h y = go (is_variable b.0 x) refl (is_variable x y) refl (written bs x h y)
   where
@@ -22,7 +22,7 @@ written (b ∷ bs) x h y = go (is_variable b.0 x) refl (is_variable x y) refl (w
     go false p false q ih = ap (λ w. cond (is_variable b.0 y) b.1 w) (ih ∙ ap (λ t. cond t h (held_in bs y)) q) ∙ sym (ap (λ t. cond t h (held_in (b ∷ bs) y)) q)
 
 -- a write on both sides
-pub alike_written : (g : Slots) (e : Environment) (x : Variable) (v : Option Datum) → Alike g e → Alike (with_held g x (There v)) (with_value e x v)
+pub alike_written : (g : Cells) (e : Environment) (x : Variable) (v : Option Datum) → Alike g e → Alike (with_held g x (There v)) (with_value e x v)
 alike_written g e x v same y = go (is_variable x y) refl
   where
     go : (b : Bool) → is_variable x y ≡ b → held_in (with_held g x (There v)) y ≡ There (value_in (with_value e x v) y)

@@ -2,7 +2,7 @@
 use Rattle.std.proofs.Common.{◌≡◌, ◌<◌, ◌≤◌, ◌+◌, arith, ℕ, zero, suc, Bool, true, false, List, [], ◌∷◌, ◌++◌, refl, sym, ap, ◌∙◌, append-nil}
 use Rattle.setl_run.specs.Events.{End, Unfit, Stored, Stopped, Event}
 use Rattle.setl_run.specs.Run.{Store, Move, State, Next, Goes, Ends, Machine, Test, if_fits, stored, store_all, settle, step, and_then, run}
-use Rattle.setl_code.specs.Follow.{Related, moves, halts, Answers, by_step, after_step, by_none, Follows, Shares, Same}
+use Rattle.setl_simulation.specs.Follow.{Related, moves, halts, Answers, by_step, after_step, by_none, Follows, Shares, Same}
 
 module _ (K C : Type 0) (m : Machine K) (n : Machine C) (R : K → C → Type 0) (rank : (k : K) (c : C) → R k c → ℕ) (follows : Follows m n R rank) (test : Test) where
   stores_same : (line : ℕ) (xs : List Store) (s : State K) (t : State C) → Shares R s t → Same R (store_all m test line xs s) (store_all n test line xs t)
