@@ -6,3 +6,5 @@ pub mod Calling
 pub mod Expressions
 pub mod Storing
 pub mod Updating
+pub mod Leaving
+pub mod Statements
