@@ -1,7 +1,7 @@
 -- A table of worked programs holds where the runs of its programs, up to a bound, end as it says.
 use Rattle.std.proofs.Common.{◌≡◌, ℕ, true, List, [], ◌∷◌, Option, Some, None, map, refl, ap}
-use Rattle.setl_modes.specs.Events.{Event, End}
-use Rattle.setl_modes.specs.Run.{State, Next, Goes, Ends, run}
+use Rattle.setl_run.specs.Events.{Event, End}
+use Rattle.setl_run.specs.Run.{State, Next, Goes, Ends, run}
 use Rattle.setl_model.specs.Core.{Core}
 use Rattle.setl_model.specs.Step.{language, test_of}
 use Rattle.setl_model.specs.Means.{first}
@@ -19,7 +19,7 @@ telling (Goes s) = None
 telling (Ends e s) = Some s.events
 
 abbrev pub found : Row → Option (List ℕ × End)
-found r = ending (run (language r.program) (test_of r.program r.based) 20000 (first r.program r.input r.turns))
+found r = ending (run (language r.program) (test_of r.program.modes r.based) 20000 (first r.program r.input r.turns))
 
 abbrev pub stated : Row → Option (List ℕ × End)
 stated r = Some (r.out, r.end)
@@ -32,7 +32,7 @@ from_ending (Ends f s) o e h =
 
 row_holds : (r : Row) → found r ≡ stated r → Holds r
 row_holds r h =
-    let at_end = from_ending (run (language r.program) (test_of r.program r.based) 20000 (first r.program r.input r.turns)) r.out r.end h in
+    let at_end = from_ending (run (language r.program) (test_of r.program.modes r.based) 20000 (first r.program r.input r.turns)) r.out r.end h in
     record { steps = 20000; last = at_end.0; ends = at_end.1; written = at_end.2 }
 
 first_alike : {A : Type 0} (a b : A) (us vs : List A) → a ∷ us ≡ b ∷ vs → a ≡ b
@@ -47,7 +47,7 @@ table_holds (r ∷ rs) h =
     (row_holds r (first_alike (found r) (stated r) (map found rs) (map stated rs) h), table_holds rs (others_alike (found r) (stated r) (map found rs) (map stated rs) h))
 
 abbrev pub told : EventRow → Option (List Event)
-told r = telling (run (language r.program) (test_of r.program true) 20000 (first r.program [] r.turns))
+told r = telling (run (language r.program) (test_of r.program.modes true) 20000 (first r.program [] r.turns))
 
 abbrev pub foretold : EventRow → Option (List Event)
 foretold r = Some r.events
@@ -58,7 +58,7 @@ from_telling (Ends e s) events h = (e, s, refl, cc)
 
 row_tells : (r : EventRow) → told r ≡ foretold r → Tells r
 row_tells r h =
-    let at_end = from_telling (run (language r.program) (test_of r.program true) 20000 (first r.program [] r.turns)) r.events h in
+    let at_end = from_telling (run (language r.program) (test_of r.program.modes true) 20000 (first r.program [] r.turns)) r.events h in
     record { steps = 20000; last = at_end.1; end = at_end.0; ends = at_end.2; told = at_end.3 }
 
 pub table_tells : (rs : List EventRow) → map told rs ≡ map foretold rs → AllTell rs
@@ -72,7 +72,7 @@ dumping r (Goes s) = None
 dumping r (Ends e s) = Some (layout r.names r.program.modes s)
 
 abbrev pub dumped : DumpRow → Option (List ℕ)
-dumped r = dumping r (run (language r.program) (test_of r.program true) 20000 (first r.program [] r.turns))
+dumped r = dumping r (run (language r.program) (test_of r.program.modes true) 20000 (first r.program [] r.turns))
 
 abbrev pub expected : DumpRow → Option (List ℕ)
 expected r = Some r.text
@@ -86,7 +86,7 @@ from_dumping r (Ends e s) h = (e, s, refl, some_alike (layout r.names r.program.
 
 row_dumps : (r : DumpRow) → dumped r ≡ expected r → Dumps r
 row_dumps r h =
-    let at_end = from_dumping r (run (language r.program) (test_of r.program true) 20000 (first r.program [] r.turns)) h in
+    let at_end = from_dumping r (run (language r.program) (test_of r.program.modes true) 20000 (first r.program [] r.turns)) h in
     record { steps = 20000; last = at_end.1; end = at_end.0; ends = at_end.2; dump = at_end.3 }
 
 pub table_dumps : (rs : List DumpRow) → map dumped rs ≡ map expected rs → AllDump rs

@@ -4,4 +4,3 @@ mod Rows
 mod LanguageRows
 mod ByRunning
 mod tables
-mod Translated

@@ -1,13 +1,17 @@
 -- Sets and tuples of collected values.
-use Rattle.std.specs.Prelude.{List, [], reverse, Option, Some, None}
-use Rattle.setl_value.specs.Datum.{Datum, set_of, tuple_of}
+use Rattle.std.specs.Prelude.{List, [], reverse, nat_le, if◌then◌else◌, Option, Some, None}
+use Rattle.setl_value.specs.Datum.{Datum, set_of, tuple_of, depth}
 use Rattle.setl_set.specs.Sets.{set_from}
-use Rattle.setl_map.specs.Outcome.{all_values}
+use Rattle.setl_map.specs.Outcome.{Fault, OmFault, DeepFault, all_values}
 use Rattle.setl_value.specs.WellFormed.{trim}
+use Rattle.setl_program.specs.declared.kinds.Collection.{Collection}
+use Rattle.setl_program.specs.declared.kinds.Collection.TheVariants.{OfSet, OfTuple}
 
--- Whether values are collected in a set or in a tuple.
-pub data Collection : Type 0 where
-  OfSet OfTuple : Collection
+-- Why a value isn't collected, if it isn't: a set has no `om`, and no member or component has depth 500.
+abbrev pub refusal : Collection → Option Datum → Option Fault
+refusal OfSet None = Some OmFault
+refusal OfTuple None = None
+refusal k (Some d) = if nat_le 500 (depth d) then Some DeepFault else None
 
 -- a set has no `om`
 abbrev pub collected : Collection → List (Option Datum) → Option (List Datum) → Datum

@@ -1,21 +1,21 @@
 -- The part of a state on which the next step rests.
-use Rattle.std.specs.Prelude.{ℕ, Bool, List, [], ◌∷◌, Option}
+use Rattle.std.specs.Prelude.{ℕ, List, [], ◌∷◌, Option}
 use Rattle.setl_value.specs.Datum.{Datum}
-use Rattle.setl_modes.specs.Variable.{Variable, Global, Own, Bound, Environment, value_in, with_value}
+use Rattle.setl_run.specs.Variable.{Variable, Global, Own, Bound, Environment, value_in, with_value}
 use Rattle.setl_map.specs.declared.Operator.{Operator}
-use Rattle.setl_model.specs.Collections.{Collection}
-use Rattle.setl_model.specs.Program.{Connective, Quantifier, Slots, Binding, Begin, Expr, Exprs, Iterators, Condition, Arguments, Selectors, Place, Taking, Block}
-use Rattle.setl_modes.specs.Run.{Store}
+use Rattle.setl_program.specs.declared.kinds.Collection.{Collection}
+use Rattle.setl_program.specs.declared.kinds.Connective.{Connective}
+use Rattle.setl_program.specs.declared.kinds.Quantifier.{Quantifier}
+use Rattle.setl_program.specs.declared.kinds.Taking.{Taking}
+use Rattle.setl_program.specs.Program.{Slots, Binding, Expr, Exprs, Iterators, Condition, Arguments, Selectors, Place, Block}
+use Rattle.setl_run.specs.Run.{Store}
+use Rattle.setl_model.specs.World.{World}
 
--- What the run and the run of its code have alike: the values of the variables of the whole program and of the body in
--- hand, the bytes of the input that are left, whether a read met its end, the next atom and the turns left.
+-- The values of the variables of the whole program and of the body in hand, and the world.
 pub record Shared : Type 0 where
   pub globals : Environment
   pub own : Environment
-  pub input : List ℕ
-  pub eof : Bool
-  pub atom : ℕ
-  pub left : ℕ
+  pub world : World
 
 -- What is done next: statements, an expression to evaluate, a result that goes to the innermost frame, or an iteration
 -- to go on.
@@ -48,10 +48,9 @@ pub data Item : Type 0 where
   One : Option Datum → Item
   Two : (argument image : Option Datum) → Item
 
--- A started iterator, with what it binds, its sources and the members left.
+-- A started iterator, with what it binds, its sources and the items left.
 pub record Level : Type 0 where
   pub binding : Binding
-  pub begin : Begin
   pub sources : Exprs
   pub left : List Item
 
@@ -121,7 +120,7 @@ pub record Snapshot : Type 0 where
   pub own : Environment
   pub work : List Frame
 
--- The core: what is shared with the run of the code, what is in hand, the frames, the innermost first, and the
+-- The core: the variables and the world, what is in hand, the frames, the innermost first, and the
 -- snapshots, the latest first.
 pub record Core : Type 0 where
   pub shared : Shared

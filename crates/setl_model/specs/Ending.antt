@@ -1,7 +1,7 @@
 -- That every run ends. These are statements alone: no function's contract names them, and they are not proved yet.
 use Rattle.std.specs.Prelude.{ℕ, Bool, List}
-use Rattle.setl_modes.specs.Events.{End, Stuck}
-use Rattle.setl_model.specs.Program.{Program}
+use Rattle.setl_run.specs.Events.{End, Stuck}
+use Rattle.setl_program.specs.Program.{Program}
 use Rattle.setl_model.specs.Means.{Means}
 
 -- What a run wrote and how it ended.

@@ -3,17 +3,20 @@ use Rattle.std.specs.Prelude.{◌+◌, true, false, List, [], ◌∷◌, reverse
 use Rattle.setl_value.specs.Datum.{Datum, bool, atom}
 use Rattle.setl_map.specs.declared.Operator.{Operator}
 use Rattle.setl_map.specs.Operators.{op_of}
-use Rattle.setl_model.specs.Program.{Connective, And, Or, Implies, Expr, Literal, Undefined, Name, Apply, Connect, Choose, Former, Selection, Quantified, Call, Newat, Eof, Ok, Exprs, no_expr, more_exprs, only_if, Program}
-use Rattle.setl_modes.specs.Events.{Kept}
-use Rattle.setl_modes.specs.Run.{Move, Moves}
+use Rattle.setl_program.specs.declared.kinds.Connective.{Connective}
+use Rattle.setl_program.specs.declared.kinds.Connective.TheVariants.{And, Or, Implies}
+use Rattle.setl_program.specs.Program.{Expr, Literal, Undefined, Name, Apply, Connect, Choose, Former, Selection, Quantified, Call, Newat, Eof, Ok, Exprs, no_expr, more_exprs, only_if, Program, more_iterators, no_iterator}
+use Rattle.setl_run.specs.Events.{Kept}
+use Rattle.setl_run.specs.Run.{Move, Moves}
 use Rattle.setl_model.specs.Core.{Evaluate, Result, ExprFrame, Operands, ConnectLeft, ConnectRight, ChooseTest, Collect, Select, Decide, Frame, InExpr, Core, read_variable, line_of}
-use Rattle.setl_model.specs.Moves.{go, turn, deliver, branch}
+use Rattle.setl_model.specs.World.{branch}
+use Rattle.setl_model.specs.Moves.{go, turn, deliver}
 use Rattle.setl_model.specs.Iterations.{begin}
 use Rattle.setl_model.specs.Calls.{arguments}
 
 -- the next operand from left to right, or the operator over all of them
 abbrev pub operands : Operator → List (Option Datum) → Exprs → List Frame → Core → Move Core
-operands o got no_expr work c = deliver (op_of o (reverse got) c.shared.left) work c
+operands o got no_expr work c = deliver (op_of o (reverse got) c.shared.world.left) work c
 operands o got (more_exprs e rest) work c = go (Evaluate e) (InExpr (Operands o got rest) ∷ work) c
 
 -- `ok`: the environment and the frames are kept
@@ -29,7 +32,7 @@ keep work c =
 
 -- `newat`: one turn and the next atom
 abbrev pub draw : List Frame → Core → Move Core
-draw work c = turn c (λ d. go (Result (Some (atom d.shared.atom))) work (record d { shared = record d.shared { atom = d.shared.atom + 1 } }))
+draw work c = turn c (λ d. go (Result (Some (atom d.shared.world.atom))) work (record d { shared = record d.shared { world = record d.shared.world { atom = d.shared.world.atom + 1 } } }))
 
 -- an expression in hand
 abbrev pub evaluate : Program → Expr → List Frame → Core → Move Core
@@ -40,11 +43,11 @@ evaluate p (Apply o es) work c = operands o [] es work c
 evaluate p (Connect k a b) work c = go (Evaluate a) (InExpr (ConnectLeft k b) ∷ work) c
 evaluate p (Choose t a b) work c = go (Evaluate t) (InExpr (ChooseTest a b) ∷ work) c
 evaluate p (Former k e is t) work c = begin (Collect k e []) is t work c
-evaluate p (Selection k is t) work c = begin (Select k None []) is t work c
+evaluate p (Selection k b es e) work c = begin (Select k None []) (more_iterators b es no_iterator) (only_if e) work c
 evaluate p (Quantified q is t) work c = begin (Decide q) is (only_if t) work c
 evaluate p (Call f all) work c = arguments p f all [] all work c
 evaluate p Newat work c = draw work c
-evaluate p Eof work c = go (Result (Some (bool c.shared.eof))) work c
+evaluate p Eof work c = go (Result (Some (bool c.shared.world.eof))) work c
 evaluate p Ok work c = keep work c
 
 -- the left part of a connective decides, or the right part is evaluated

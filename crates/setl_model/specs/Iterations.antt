@@ -1,18 +1,23 @@
 -- Steps of iterators, formers, quantifiers and loops over members.
-use Rattle.std.specs.Prelude.{ℕ, ◌==◌, suc, pos, ◌-ℤ◌, Bool, true, false, List, [], ◌∷◌, ◌++◌, map, reverse, nat_le, unsigned_abs, if◌then◌else◌, Option, Some, None}
-use Rattle.setl_value.specs.Datum.{Datum, bool, int, text, tuple, set, element_list, part_list, depth}
+use Rattle.std.specs.Prelude.{ℕ, ◌==◌, suc, pos, ◌-ℤ◌, Bool, true, false, List, [], ◌∷◌, ◌++◌, map, reverse, unsigned_abs, if◌then◌else◌, Option, Some, None}
+use Rattle.setl_value.specs.Datum.{Datum, bool, int, text, tuple, set, element_list, part_list}
 use Rattle.setl_set.specs.Sets.{set_from}
 use Rattle.setl_value.specs.Pairs.{is_map}
 use Rattle.setl_map.specs.Ranges.{range_from, step_from}
 use Rattle.setl_map.specs.Maps.{image, domain_of}
-use Rattle.setl_map.specs.Outcome.{Fault, OmFault, KindFault, ZeroFault, DeepFault, all_values}
-use Rattle.setl_model.specs.Collections.{Collection, OfSet, OfTuple, collection}
-use Rattle.setl_model.specs.Program.{Quantifier, Exists, Forall, NotExists, Slots, Binding, Member, Components, Point, Begin, Values, Between, SetSteps, TupleSteps, Points, Exprs, no_expr, more_exprs, Iterators, no_iterator, more_iterators, Condition, no_condition, only_if, no_stmt}
-use Rattle.setl_modes.specs.Events.{Stuck}
-use Rattle.setl_modes.specs.Run.{Store, Move, Halts}
+use Rattle.setl_map.specs.Outcome.{Fault, OmFault, KindFault, ZeroFault, all_values}
+use Rattle.setl_model.specs.Collections.{refusal, collection}
+use Rattle.setl_program.specs.declared.kinds.Quantifier.{Quantifier}
+use Rattle.setl_program.specs.declared.kinds.Quantifier.TheVariants.{Exists, Forall, NotExists}
+use Rattle.setl_program.specs.declared.kinds.Source.TheVariants.{Values, Between, SetSteps, TupleSteps}
+use Rattle.setl_program.specs.Program.{Slots, Binding, Member, Components, Point, Begin, Members, Points, begin_of, Exprs, no_expr, more_exprs, Iterators, no_iterator, more_iterators, Condition, no_condition, only_if, no_stmt}
+use Rattle.setl_run.specs.Events.{Stuck}
+use Rattle.setl_run.specs.Run.{Store, Move, Halts}
 use Rattle.setl_model.specs.Core.{Execute, Evaluate, Result, Iterate, Goal, Collect, Select, Decide, Repeat, Item, One, Two, Level, Iteration, IterationFrame, Sources, ToBind, IsBound, Testing, Body, Paused, Frame, InIteration, Storing, Core, line_of}
-use Rattle.setl_model.specs.Moves.{go, stop, turn, branch}
-use Rattle.setl_model.specs.Slots.{Parting, Parted, NotParted, parting, om_stores}
+use Rattle.setl_model.specs.World.{stop, branch}
+use Rattle.setl_model.specs.Moves.{go, turn}
+use Rattle.setl_run.specs.Variable.{Variable}
+use Rattle.setl_model.specs.Slots.{Parting, Parted, NotParted, parting, variables_in, om_stores}
 
 -- ---- the items of an iterator
 
@@ -75,10 +80,10 @@ of_values f (Some ds) = f ds
 
 -- what an iterator runs over
 abbrev pub items_of : Begin → List (Option Datum) → Started
-items_of Values vs = of_values (one_source values_of) (all_values vs)
-items_of Between vs = of_values integers_between (all_values vs)
-items_of SetSteps vs = of_values (integers_stepped set_from) (all_values vs)
-items_of TupleSteps vs = of_values (integers_stepped (λ ds. ds)) (all_values vs)
+items_of (Members Values) vs = of_values (one_source values_of) (all_values vs)
+items_of (Members Between) vs = of_values integers_between (all_values vs)
+items_of (Members SetSteps) vs = of_values (integers_stepped set_from) (all_values vs)
+items_of (Members TupleSteps) vs = of_values (integers_stepped (λ ds. ds)) (all_values vs)
 items_of Points vs = of_values (one_source points_of) (all_values vs)
 
 -- ---- starting iterators
@@ -91,8 +96,8 @@ start (Refuses fault) i level rest work c = stop fault (line_of (InIteration Pau
 
 abbrev pub start_next : Iterators → List (Option Datum) → Iteration → List Frame → Core → Move Core
 start_next no_iterator vs i work c = Halts Stuck
-start_next (more_iterators b k es rest) vs i work c =
-    start (items_of k vs) i (record { binding = b; begin = k; sources = es; left = [] }) rest work c
+start_next (more_iterators b es rest) vs i work c =
+    start (items_of (begin_of b) vs) i (record { binding = b; sources = es; left = [] }) rest work c
 
 abbrev pub sources : List (Option Datum) → Exprs → Iteration → List Frame → Core → Move Core
 sources got no_expr i work c = start_next i.waiting (reverse got) i work c
@@ -113,19 +118,19 @@ undecided NotExists = true
 
 -- the variables that the iterators bind, from left to right
 abbrev pub bound_by : Binding → Slots
-bound_by (Member x) = Some x ∷ []
-bound_by (Components xs) = xs
+bound_by (Member k x) = Some x ∷ []
+bound_by (Components k xs) = xs
 bound_by (Point y x) = Some y ∷ Some x ∷ []
 
-abbrev pub om_of_all : Iterators → List Store
-om_of_all no_iterator = []
-om_of_all (more_iterators b k es rest) = om_stores (bound_by b) ++ om_of_all rest
+abbrev pub all_bound : Iterators → List Variable
+all_bound no_iterator = []
+all_bound (more_iterators b es rest) = variables_in (bound_by b) ++ all_bound rest
 
 -- the end of an iteration
 abbrev pub finish : Goal → Iteration → List Frame → Core → Move Core
 finish (Collect k e got) i work c = go (Result (Some (collection k got))) work c
 finish (Select k v got) i work c = go (Result (Some (collection k got))) work c
-finish (Decide q) i work c = go (Result (Some (bool (undecided q)))) (Storing (om_of_all i.waiting) ∷ work) c
+finish (Decide q) i work c = go (Result (Some (bool (undecided q)))) (Storing (om_stores (all_bound i.waiting)) ∷ work) c
 finish (Repeat line b) i work c = go (Execute no_stmt) work c
 
 -- the goal with one more that is collected
@@ -134,23 +139,20 @@ add_to_goal (Collect k e got) v = Collect k e (v ∷ got)
 add_to_goal (Select k w got) v = Select k w (v ∷ got)
 add_to_goal g v = g
 
--- a former of a set takes no `om`, and no former takes a value of depth 500
-abbrev pub gather_by : Collection → Option Datum → Iteration → List Frame → Core → Move Core
-gather_by OfSet None i work c = stop OmFault (line_of (InIteration Body i ∷ work))
-gather_by OfTuple None i work c = go Iterate (InIteration Paused (record i { goal = add_to_goal i.goal None }) ∷ work) c
-gather_by k (Some d) i work c =
-    if nat_le 500 (depth d) then stop DeepFault (line_of (InIteration Body i ∷ work))
-    else go Iterate (InIteration Paused (record i { goal = add_to_goal i.goal (Some d) }) ∷ work) c
+-- a value is collected, or the former stops
+abbrev pub gather_by : Option Fault → Option Datum → Iteration → List Frame → Core → Move Core
+gather_by None v i work c = go Iterate (InIteration Paused (record i { goal = add_to_goal i.goal v }) ∷ work) c
+gather_by (Some fault) v i work c = stop fault (line_of (InIteration Body i ∷ work))
 
 abbrev pub gather : Goal → Option Datum → Iteration → List Frame → Core → Move Core
-gather (Collect k e got) v i work c = gather_by k v i work c
-gather (Select k w got) v i work c = gather_by k v i work c
+gather (Collect k e got) v i work c = gather_by (refusal k v) v i work c
+gather (Select k w got) v i work c = gather_by (refusal k v) v i work c
 gather g v i work c = Halts Stuck
 
 -- a step of all iterators for which the condition holds
 abbrev pub visit : Goal → Iteration → List Frame → Core → Move Core
 visit (Collect k e got) i work c = go (Evaluate e) (InIteration Body i ∷ work) c
-visit (Select k v got) i work c = gather_by k v i work c
+visit (Select k v got) i work c = gather_by (refusal k v) v i work c
 visit (Decide q) i work c = go (Result (Some (bool (decided q)))) work c
 visit (Repeat line b) i work c = go (Execute b) (InIteration Body i ∷ work) c
 
@@ -170,7 +172,7 @@ test (only_if e) i work c = go (Evaluate e) (InIteration Testing i ∷ work) c
 -- the next iterator, or the condition where all have started
 abbrev pub inward_by : Iterators → Iteration → List Frame → Core → Move Core
 inward_by no_iterator i work c = test i.condition i work c
-inward_by (more_iterators b k es rest) i work c = sources [] es i work c
+inward_by (more_iterators b es rest) i work c = sources [] es i work c
 
 abbrev pub inward : Iteration → List Frame → Core → Move Core
 inward i work c = inward_by i.waiting i work c
@@ -188,8 +190,8 @@ goal_at g item = g
 
 -- the stores by which an item is bound: in `y = f(x)` first x, then y
 abbrev pub item_stores : Binding → Item → Parting
-item_stores (Member x) (One v) = Parted ((x, v) ∷ [])
-item_stores (Components xs) (One v) = parting xs v
+item_stores (Member k x) (One v) = Parted ((x, v) ∷ [])
+item_stores (Components k xs) (One v) = parting xs v
 item_stores (Point y x) (Two argument value) = Parted ((x, argument) ∷ (y, value) ∷ [])
 item_stores b item = NotParted KindFault
 
@@ -205,7 +207,7 @@ bind (l ∷ ls) item i work c = bind_by (item_stores l.binding item) (record i {
 -- a level without items is dropped, and the one before goes on; else its first item is taken off for one turn
 abbrev pub next_item : List Item → Level → List Level → Iteration → List Frame → Core → Move Core
 next_item [] l ls i work c =
-    go Iterate (InIteration Paused (record i { started = ls; waiting = more_iterators l.binding l.begin l.sources i.waiting }) ∷ work) c
+    go Iterate (InIteration Paused (record i { started = ls; waiting = more_iterators l.binding l.sources i.waiting }) ∷ work) c
 next_item (item ∷ left) l ls i work c =
     turn c (λ d. go Iterate (InIteration (ToBind item) (record i { started = record l { left = left } ∷ ls }) ∷ work) d)
 

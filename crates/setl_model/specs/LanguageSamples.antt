@@ -1,13 +1,16 @@
 -- Worked programs of the whole language.
 use Rattle.std.specs.Prelude.{[], ◌∷◌, codes, Some, None}
 use Rattle.setl_value.specs.Datum.{text}
-use Rattle.setl_modes.specs.Variable.{Own, Bound}
+use Rattle.setl_run.specs.Variable.{Own, Bound}
 use Rattle.setl_map.specs.declared.Operator.TheVariants.{Negate, Add, Subtract, Divide, Modulo, Power, Abs, Size, Equal, NotEqual, With, Less, In, SetRange, TupleRange, Pow, Npow, Get, Images, FoldAdd, FoldMax}
-use Rattle.setl_model.specs.Collections.{OfSet}
 use Rattle.setl_modes.specs.declared.mode.Form.TheVariants.{Sparse}
 use Rattle.setl_modes.specs.Modes.{Integers, Elements, Sets, SingleMaps}
-use Rattle.setl_model.specs.Program.{Or, Exists, Point, Points, Expr, Literal, Undefined, Name, Connect, Selection, Quantified, Call, Eof, Ok, more_iterators, no_condition, only_if, no_argument, rw_argument, no_selector, round_selector, brace_selector, TakeFirst, TakeLast, Assign, AssignParts, TakeFrom, Perform, If, For, Fail, Return, Read, no_stmt, Rw, Program}
-use Rattle.setl_model.specs.Source.{f, i, j, k, n, q, s, t, x, y, z, number, exprs, one, two, enumeration, set_of, tuple_of, pair_of, over, between, assign, put, combine, print, at, alone, lines_from, lines}
+use Rattle.setl_program.specs.declared.kinds.Collection.TheVariants.{OfSet}
+use Rattle.setl_program.specs.declared.kinds.Connective.TheVariants.{Or}
+use Rattle.setl_program.specs.declared.kinds.Quantifier.TheVariants.{Exists}
+use Rattle.setl_program.specs.declared.kinds.Taking.TheVariants.{TakeFirst, TakeLast}
+use Rattle.setl_program.specs.Program.{Point, Expr, Literal, Undefined, Name, Connect, Quantified, Call, Eof, Ok, more_iterators, no_condition, only_if, no_argument, rw_argument, no_selector, round_selector, brace_selector, Assign, AssignParts, TakeFrom, Perform, If, For, Fail, Return, Read, no_stmt, Program}
+use Rattle.setl_program.specs.Source.{f, i, j, k, n, q, s, t, x, y, z, number, exprs, one, two, enumeration, set_of, tuple_of, pair_of, over, between, assign, put, combine, print, at, alone, lines_from, lines, select_over, with_modes, procedure, rw_parameter}
 
 -- f := {[1,2],[1,3],[2,5]};
 -- print(f(1), f{1}, f(2), f{9});
@@ -47,26 +50,16 @@ emptied_set =
 
 -- n := 1; inc(n); print(n); proc inc(rw x); x +:= 1; end proc;
 abbrev pub passed_in_and_out : Program
-passed_in_and_out = record {
-  main = lines_from 2 (assign n (number 1) ∷ Perform (Call 0 (rw_argument n no_argument)) ∷ print (Name n ∷ []) ∷ []);
-  procedures = record { name = codes "inc"; parameters = record { passing = Rw; name = codes "x" } ∷ []; body = alone 5 (combine Add (Own 1 (codes "x")) (number 1)) } ∷ [];
-  modes = [];
-}
+passed_in_and_out = (with_modes (lines_from 2 (assign n (number 1) ∷ Perform (Call 0 (rw_argument n no_argument)) ∷ print (Name n ∷ []) ∷ [])) ((procedure (codes "inc") ((rw_parameter (codes "x")) ∷ []) (alone 5 (combine Add (Own 1 (codes "x")) (number 1)))) ∷ []) [])
 
 -- x := p(); print(x); if x = 1 then fail; end if; proc p(); if ok then return 1; else return 2; end if; end proc;
 abbrev pub taken_back : Program
-taken_back = record {
-  main =
-      lines_from 2 (
+taken_back = (with_modes (lines_from 2 (
       assign x (Call 0 no_argument)
       ∷ print (Name x ∷ [])
       ∷ If (two Equal (Name x) (number 1)) (alone 4 Fail) no_stmt
-      ∷ []);
-  procedures =
-      record { name = codes "p"; parameters = []; body = alone 5 (If Ok (alone 5 (Return (number 1))) (alone 5 (Return (number 2)))) }
-      ∷ [];
-  modes = [];
-}
+      ∷ [])) ((procedure (codes "p") [] (alone 5 (If Ok (alone 5 (Return (number 1))) (alone 5 (Return (number 2))))))
+      ∷ []) [])
 
 -- s := {1}; x := 1; print({x in s}, {y in s | y = 2});
 abbrev pub enumeration_or_former : Program
@@ -76,7 +69,7 @@ enumeration_or_former =
     ∷ assign x (number 1)
     ∷ print (
     set_of (two In (Name x) (Name s) ∷ [])
-    ∷ Selection OfSet (over (Bound 1 (codes "y")) (Name s)) (only_if (two Equal (Name (Bound 1 (codes "y"))) (number 2)))
+    ∷ select_over OfSet (Bound 1 (codes "y")) (Name s) (two Equal (Name (Bound 1 (codes "y"))) (number 2))
     ∷ [])
     ∷ [])
 
@@ -111,27 +104,18 @@ long_range = lines (assign x (two SetRange (number 1) (number 1000000)) ∷ prin
 -- s := {1}; print(s);
 -- s with:= 'a'; print(s);
 abbrev pub declared_set : Program
-declared_set = record {
-  main = at 3 (assign s (enumeration (1 ∷ []))) (at 3 (print (Name s ∷ [])) (at 4 (combine With s (Literal (text (codes "a")))) (alone 4 (print (Name s ∷ [])))));
-  procedures = [];
-  modes = (s, Sets Sparse (Elements 0 Integers)) ∷ [];
-}
+declared_set = (with_modes (at 3 (assign s (enumeration (1 ∷ []))) (at 3 (print (Name s ∷ [])) (at 4 (combine With s (Literal (text (codes "a")))) (alone 4 (print (Name s ∷ [])))))) [] ((s, Sets Sparse (Elements 0 Integers)) ∷ []))
 
 -- f: sparse smap(elmt n) int, where base n: int
 -- f := {[1,10]}; f(1) := om; print(f); f(1) := 5; print(f);
 -- f{1} := {1,2};
 abbrev pub declared_map : Program
-declared_map = record {
-  main =
-      at 3 (assign f (set_of (pair_of 1 10 ∷ [])))
+declared_map = (with_modes (at 3 (assign f (set_of (pair_of 1 10 ∷ [])))
       (at 3 (put f (number 1) Undefined)
       (at 3 (print (Name f ∷ []))
       (at 3 (put f (number 1) (number 5))
       (at 3 (print (Name f ∷ []))
-      (alone 4 (Assign (record { variable = f; selectors = brace_selector (number 1) no_selector }) (enumeration (1 ∷ 2 ∷ []))))))));
-  procedures = [];
-  modes = (f, SingleMaps Sparse (Elements 0 Integers) Integers) ∷ [];
-}
+      (alone 4 (Assign (record { variable = f; selectors = brace_selector (number 1) no_selector }) (enumeration (1 ∷ 2 ∷ []))))))))) [] ((f, SingleMaps Sparse (Elements 0 Integers) Integers) ∷ []))
 
 -- q(k) = j or abs (q(k) - j) = i - k
 abbrev is_attacked : Expr
@@ -178,7 +162,7 @@ nested_places =
     assign f (set_of (tuple_of (number 1 ∷ tuple_of (number 7 ∷ []) ∷ []) ∷ tuple_of (number 2 ∷ pair_of 8 9 ∷ []) ∷ []))
     ∷ Assign (record { variable = f; selectors = round_selector (number 2) (round_selector (number 4) no_selector) }) (number 5)
     ∷ For
-    (more_iterators (Point y x) Points (exprs (Name f ∷ [])) (over z (Name y)))
+    (more_iterators (Point y x) (exprs (Name f ∷ [])) (over z (Name y)))
     (only_if (two NotEqual (Name z) (number 8)))
     (alone 4 (print (Name x ∷ Name z ∷ [])))
     ∷ [])
@@ -186,14 +170,5 @@ nested_places =
 -- s: sparse set(elmt n), where base n: int
 -- p(); proc p(); s := 1; print(s); end proc;
 abbrev pub undeclared_own : Program
-undeclared_own = record {
-  main = alone 3 (Perform (Call 0 no_argument));
-  procedures =
-      record {
-        name = codes "p";
-        parameters = [];
-        body = at 4 (assign (Own 1 (codes "s")) (number 1)) (alone 4 (print (Name (Own 1 (codes "s")) ∷ [])));
-      }
-      ∷ [];
-  modes = (s, Sets Sparse (Elements 0 Integers)) ∷ [];
-}
+undeclared_own = (with_modes (alone 3 (Perform (Call 0 no_argument))) ((procedure (codes "p") [] (at 4 (assign (Own 1 (codes "s")) (number 1)) (alone 4 (print (Name (Own 1 (codes "s")) ∷ [])))))
+      ∷ []) ((s, Sets Sparse (Elements 0 Integers)) ∷ []))

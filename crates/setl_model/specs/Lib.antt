@@ -1,5 +1,5 @@
 pub mod Collections
-pub mod Program
+pub mod World
 pub mod Core
 pub mod Moves
 pub mod Slots
@@ -16,9 +16,7 @@ pub mod Entered
 pub mod Dump
 pub mod Laws
 pub mod Ending
-pub mod Source
 pub mod Samples
 pub mod LanguageSamples
 pub mod Table
 pub mod worked
-pub mod trees

@@ -1,9 +1,9 @@
 -- What a program means.
 use Rattle.std.specs.Prelude.{◌≡◌, ℕ, Bool, false, List, [], ◌∷◌}
-use Rattle.setl_modes.specs.Variable.{Variable}
-use Rattle.setl_model.specs.Program.{Read, Block, more_stmts, Program}
-use Rattle.setl_modes.specs.Events.{Printed, End}
-use Rattle.setl_modes.specs.Run.{Moves, State, Goes, Ends, run}
+use Rattle.setl_run.specs.Variable.{Variable}
+use Rattle.setl_program.specs.Program.{Read, Block, more_stmts, Program}
+use Rattle.setl_run.specs.Events.{Printed, End}
+use Rattle.setl_run.specs.Run.{Moves, State, Goes, Ends, run}
 use Rattle.setl_model.specs.Core.{Execute, Core}
 use Rattle.setl_model.specs.Step.{language, test_of}
 
@@ -13,7 +13,7 @@ first p input turns =
     record {
       core =
           record {
-            shared = record { globals = []; own = []; input = input; eof = false; atom = 1; left = turns };
+            shared = record { globals = []; own = []; world = record { input = input; eof = false; atom = 1; left = turns } };
             hand = Execute p.main;
             work = [];
             kept = [];
@@ -24,13 +24,13 @@ first p input turns =
 
 -- steps lead from the first state to this one
 abbrev pub Reaches : Program → List ℕ → ℕ → Bool → State Core → Type 0
-Reaches p input turns based s = (n : ℕ) × (run (language p) (test_of p based) n (first p input turns) ≡ Goes s)
+Reaches p input turns based s = (n : ℕ) × (run (language p) (test_of p.modes based) n (first p input turns) ≡ Goes s)
 
 -- the run of a program on an input with so many turns ends so, after it wrote this output
 pub record Means (p : Program) (input : List ℕ) (turns : ℕ) (based : Bool) (out : List ℕ) (end : End) : Type 0 where
   pub steps : ℕ
   pub last : State Core
-  pub ends : run (language p) (test_of p based) steps (first p input turns) ≡ Ends end last
+  pub ends : run (language p) (test_of p.modes based) steps (first p input turns) ≡ Ends end last
   pub written : last.out ≡ out
 
 -- a `print` with this line is in hand: the next step writes it and does nothing else but go on

@@ -1,15 +1,18 @@
 -- Steps of updates.
 use Rattle.std.specs.Prelude.{ℕ, List, [], ◌∷◌, reverse, Option, Some, None}
 use Rattle.setl_value.specs.Datum.{Datum, tuple, set, element_list, part_list, set_of, tuple_of}
-use Rattle.setl_modes.specs.Variable.{Variable}
+use Rattle.setl_run.specs.Variable.{Variable}
 use Rattle.setl_map.specs.declared.Operator.TheVariants.{Get, Images, Put, PutImages}
 use Rattle.setl_map.specs.Outcome.{Fault, OmFault, KindFault, Outcome, Gives, then_with}
 use Rattle.setl_map.specs.Operators.{op_of}
 use Rattle.setl_value.specs.WellFormed.{trim}
-use Rattle.setl_model.specs.Program.{Selectors, no_selector, round_selector, brace_selector, Place, Taking, TakeLeast, TakeFirst, TakeLast, no_stmt}
-use Rattle.setl_modes.specs.Run.{Move}
+use Rattle.setl_program.specs.declared.kinds.Taking.{Taking}
+use Rattle.setl_program.specs.declared.kinds.Taking.TheVariants.{TakeLeast, TakeFirst, TakeLast}
+use Rattle.setl_program.specs.Program.{Selectors, no_selector, round_selector, brace_selector, Place, no_stmt}
+use Rattle.setl_run.specs.Run.{Move}
 use Rattle.setl_model.specs.Core.{Execute, Evaluate, Result, Selected, Round, Brace, Change, Puts, Combines, Takes, RoundSelector, BraceSelector, Dropping, Frame, InStmt, Storing, Core, read_variable}
-use Rattle.setl_model.specs.Moves.{go, go_storing, stop, with_outcome}
+use Rattle.setl_model.specs.World.{stop}
+use Rattle.setl_model.specs.Moves.{go, store_or_bind, with_outcome}
 
 -- ---- parts at selectors
 
@@ -75,23 +78,23 @@ take_out k (Some d) = CannotTake KindFault
 -- stored in that variable alone
 abbrev pub take_from : Taken → ℕ → Variable → List Selected → Variable → List Frame → Core → Move Core
 take_from (TakesOut small v) line x at target work c =
-    with_outcome (with_part_at_all at (read_variable x c.shared) (Some small) c.shared.left) line c
-    (λ new d. go_storing line ((x, new) ∷ []) (Result None) (Storing ((target, v) ∷ []) ∷ InStmt line Dropping ∷ work) d)
+    with_outcome (with_part_at_all at (read_variable x c.shared) (Some small) c.shared.world.left) line c
+    (λ new d. store_or_bind line x new (Result None) (Storing ((target, v) ∷ []) ∷ InStmt line Dropping ∷ work) d)
 take_from IsEmpty line x at target work c =
     go (Result None) (Storing ((target, None) ∷ []) ∷ InStmt line Dropping ∷ work) c
 take_from (CannotTake fault) line x at target work c = stop fault line
 
 -- the new whole value of a variable is stored
 abbrev pub store_whole : Outcome → ℕ → Variable → List Frame → Core → Move Core
-store_whole o line x work c = with_outcome o line c (λ new d. go_storing line ((x, new) ∷ []) (Execute no_stmt) work d)
+store_whole o line x work c = with_outcome o line c (λ new d. store_or_bind line x new (Execute no_stmt) work d)
 
 -- once the right side and the selectors have results: reads the variable, makes its new whole value and stores it
 abbrev pub update : Change → ℕ → Variable → List Selected → List Frame → Core → Move Core
-update (Puts v) line x at work c = store_whole (with_part_at_all at (read_variable x c.shared) v c.shared.left) line x work c
+update (Puts v) line x at work c = store_whole (with_part_at_all at (read_variable x c.shared) v c.shared.world.left) line x work c
 update (Combines o v) line x at work c =
-    store_whole (combined at (read_variable x c.shared) (λ part now. op_of o (part ∷ v ∷ []) now) c.shared.left) line x work c
+    store_whole (combined at (read_variable x c.shared) (λ part now. op_of o (part ∷ v ∷ []) now) c.shared.world.left) line x work c
 update (Takes k target) line x at work c =
-    with_outcome (part_at_all at (read_variable x c.shared) c.shared.left) line c (λ part d. take_from (take_out k part) line x at target work d)
+    with_outcome (part_at_all at (read_variable x c.shared) c.shared.world.left) line c (λ part d. take_from (take_out k part) line x at target work d)
 
 -- the next selector of a place from left to right, or the update
 abbrev pub select : ℕ → Variable → Change → List Selected → Selectors → List Frame → Core → Move Core

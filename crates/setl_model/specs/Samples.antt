@@ -2,8 +2,8 @@
 use Rattle.std.specs.Prelude.{true, false, negsuc, Option, Some, None, List, [], ◌∷◌, codes, pos}
 use Rattle.setl_value.specs.Datum.{Datum, bool, int, text, atom, tuple, set, no_part, parts_of, elements_of}
 use Rattle.setl_set.specs.Sets.{set_from}
-use Rattle.setl_model.specs.Program.{Name, Program}
-use Rattle.setl_model.specs.Source.{s, t, number, enumeration, assign, add_to, print, program}
+use Rattle.setl_program.specs.Program.{Name, Program}
+use Rattle.setl_program.specs.Source.{s, t, number, enumeration, assign, add_to, print, program}
 
 -- no statement
 abbrev pub empty_program : Program

@@ -2,8 +2,9 @@
 use Rattle.std.specs.Prelude.{List, [], ◌∷◌, Option, Some, None}
 use Rattle.setl_value.specs.Datum.{Datum, tuple, part_list}
 use Rattle.setl_map.specs.Outcome.{Fault, OmFault, KindFault}
-use Rattle.setl_model.specs.Program.{Slots}
-use Rattle.setl_modes.specs.Run.{Store}
+use Rattle.setl_program.specs.Program.{Slots}
+use Rattle.setl_run.specs.Variable.{Variable}
+use Rattle.setl_run.specs.Run.{Store}
 
 -- The stores by which variables take their parts, or why there are none.
 pub data Parting : Type 0 where
@@ -24,8 +25,13 @@ parting xs (Some (tuple ps)) = Parted (slot_stores xs (part_list ps))
 parting xs None = NotParted OmFault
 parting xs (Some d) = NotParted KindFault
 
+-- the variables that are named
+abbrev pub variables_in : Slots → List Variable
+variables_in [] = []
+variables_in (None ∷ xs) = variables_in xs
+variables_in (Some x ∷ xs) = x ∷ variables_in xs
+
 -- the stores of `om` in all of these variables, from left to right
-abbrev pub om_stores : Slots → List Store
+abbrev pub om_stores : List Variable → List Store
 om_stores [] = []
-om_stores (None ∷ xs) = om_stores xs
-om_stores (Some x ∷ xs) = (x, None) ∷ om_stores xs
+om_stores (x ∷ xs) = (x, None) ∷ om_stores xs

@@ -1,13 +1,14 @@
 -- Steps of statements.
 use Rattle.std.specs.Prelude.{ℕ, true, false, List, [], ◌∷◌, reverse, Option, Some, None}
 use Rattle.setl_value.specs.Datum.{Datum, bool}
-use Rattle.setl_modes.specs.Variable.{Variable}
+use Rattle.setl_run.specs.Variable.{Variable}
 use Rattle.setl_text.specs.Reading.{Reading, Denotes, AtEnd, NotForm, TooWide, TooDeep, read_denotation}
-use Rattle.setl_model.specs.Program.{Exprs, no_expr, more_exprs, Stmt, Assign, Update, AssignParts, TakeFrom, Perform, If, For, While, Quit, Continue, Fail, Stop, Pass, Return, Print, Read, Block, no_stmt, more_stmts}
-use Rattle.setl_modes.specs.Events.{Printed, Back, Done, Stuck, Stopped, Form, Wide, Deep, Nothing}
-use Rattle.setl_modes.specs.Run.{Move, Moves, Halts}
+use Rattle.setl_program.specs.Program.{Exprs, no_expr, more_exprs, Stmt, Assign, Update, AssignParts, TakeFrom, Perform, If, For, While, Quit, Continue, Fail, Stop, Pass, Return, Print, Read, Block, no_stmt, more_stmts}
+use Rattle.setl_run.specs.Events.{Printed, Back, Done, Stuck, Stopped, Form, Wide, Deep, Nothing}
+use Rattle.setl_run.specs.Run.{Move, Moves, Halts}
 use Rattle.setl_model.specs.Core.{Execute, Evaluate, Result, Iterate, Goal, Repeat, Iteration, Body, Paused, Activation, Puts, Combines, Takes, StmtFrame, AssignRight, UpdateRight, PartsRight, RoundSelector, BraceSelector, IfTest, WhileTest, WhileBody, PrintParts, Returning, Dropping, Round, Brace, Frame, InIteration, InCall, InStmt, Storing, Then, Snapshot, Core}
-use Rattle.setl_model.specs.Moves.{go, go_storing, stop, turn, branch}
+use Rattle.setl_model.specs.World.{World, stop, branch}
+use Rattle.setl_model.specs.Moves.{holding, go, turn}
 use Rattle.setl_model.specs.Slots.{Parting, Parted, NotParted, parting}
 use Rattle.setl_model.specs.Iterations.{begin}
 use Rattle.setl_model.specs.Places.{select, change_place}
@@ -20,19 +21,24 @@ print_parts line got no_expr work c =
     Moves said (Printed said ∷ []) (record c { hand = Execute no_stmt; work = work }) 0 []
 print_parts line got (more_exprs e rest) work c = go (Evaluate e) (InStmt line (PrintParts got rest) ∷ work) c
 
--- one value that was read is stored, and the others are read
+-- the core in another world
+abbrev pub with_world : World → Core → Core
+with_world w c = holding.put w c
+
+-- one value that was read is to be stored, and then the others are read
+abbrev pub store_read : ℕ → Variable → Option Datum → List Variable → List Frame → Core → Move Core
+store_read line x v xs work c = go (Result None) (Storing ((x, v) ∷ []) ∷ InStmt line Dropping ∷ Then (more_stmts line (Read xs) no_stmt) ∷ work) c
+
 abbrev pub take_reading : Reading → ℕ → Variable → List Variable → List Frame → Core → Move Core
-take_reading (Denotes v rest) line x xs work c =
-    go_storing line ((x, v) ∷ []) (Execute (more_stmts line (Read xs) no_stmt)) work (record c { shared = record c.shared { input = rest } })
-take_reading AtEnd line x xs work c =
-    go_storing line ((x, None) ∷ []) (Execute (more_stmts line (Read xs) no_stmt)) work (record c { shared = record c.shared { input = []; eof = true } })
+take_reading (Denotes v rest) line x xs work c = store_read line x v xs work (with_world (record c.shared.world { input = rest }) c)
+take_reading AtEnd line x xs work c = store_read line x None xs work (with_world (record c.shared.world { input = []; eof = true }) c)
 take_reading NotForm line x xs work c = Halts (Stopped Form line)
 take_reading TooWide line x xs work c = Halts (Stopped Wide line)
 take_reading TooDeep line x xs work c = Halts (Stopped Deep line)
 
 abbrev pub read_values : ℕ → List Variable → List Frame → Core → Move Core
 read_values line [] work c = go (Execute no_stmt) work c
-read_values line (x ∷ xs) work c = take_reading (read_denotation c.shared.input) line x xs work c
+read_values line (x ∷ xs) work c = take_reading (read_denotation c.shared.world.input) line x xs work c
 
 -- a tuple is taken apart
 abbrev pub take_apart : Parting → ℕ → List Frame → Core → Move Core

@@ -1,12 +1,12 @@
 -- The steps of a run.
 use Rattle.std.specs.Prelude.{◌≡◌, Bool, true, false, List, [], ◌∷◌, cond, Option, Some, None}
 use Rattle.setl_value.specs.Datum.{Datum}
-use Rattle.setl_model.specs.Program.{Program}
+use Rattle.setl_program.specs.Program.{Program}
 use Rattle.setl_modes.specs.Modes.{Mode}
 use Rattle.setl_modes.specs.Fits.{is_taken}
-use Rattle.setl_modes.specs.Variable.{Variable, is_variable}
-use Rattle.setl_modes.specs.Events.{Stuck}
-use Rattle.setl_modes.specs.Run.{Store, Move, Halts, State, Goes, Machine, Test, step}
+use Rattle.setl_run.specs.Variable.{Variable, is_variable}
+use Rattle.setl_run.specs.Events.{Stuck}
+use Rattle.setl_run.specs.Run.{Store, Move, Halts, State, Goes, Machine, Test, step}
 use Rattle.setl_model.specs.Core.{Hand, Execute, Evaluate, Result, Iterate, Frame, InExpr, InIteration, InCall, InStmt, Storing, Core, write_variable, line_of}
 use Rattle.setl_model.specs.Moves.{go, store_or_bind}
 use Rattle.setl_model.specs.Expressions.{evaluate, result_in_expr}
@@ -48,10 +48,10 @@ declared_mode [] x = None
 declared_mode (m ∷ ms) x = cond (is_variable m.0 x) (Some m.1) (declared_mode ms x)
 
 -- which values the variables take: every value where the declarations don't count
-abbrev pub test_of : Program → Bool → Test
-test_of p false = λ x v. true
-test_of p true = λ x v. is_taken (declared_mode p.modes x) v
+abbrev pub test_of : List (Variable × Mode) → Bool → Test
+test_of modes false = λ x v. true
+test_of modes true = λ x v. is_taken (declared_mode modes x) v
 
 -- the second state comes next after the first; `based` says whether the declarations count
 abbrev pub Step : Program → Bool → State Core → State Core → Type 0
-Step p based a b = step (language p) (test_of p based) a ≡ Goes b
+Step p based a b = step (language p) (test_of p.modes based) a ≡ Goes b

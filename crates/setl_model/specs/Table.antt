@@ -1,13 +1,13 @@
 -- Tables of worked programs.
 use Rattle.std.specs.Prelude.{◌≡◌, ℕ, Bool, true, false, List, [], ◌∷◌, ◌++◌, map}
-use Rattle.setl_model.specs.Program.{Expr, Program}
-use Rattle.setl_modes.specs.Events.{Event, StopKind, End, Done, Stopped, Spent}
-use Rattle.setl_modes.specs.Run.{State, Ends, run}
+use Rattle.setl_program.specs.Program.{Expr, Program}
+use Rattle.setl_run.specs.Events.{Event, StopKind, End, Done, Stopped, Spent}
+use Rattle.setl_run.specs.Run.{State, Ends, run}
 use Rattle.setl_model.specs.Core.{Core}
 use Rattle.setl_model.specs.Step.{language, test_of}
 use Rattle.setl_model.specs.Means.{Means, first}
 use Rattle.setl_model.specs.Dump.{layout}
-use Rattle.setl_model.specs.Source.{print, lines}
+use Rattle.setl_program.specs.Source.{print, lines}
 
 -- A worked program: what it reads, its turns, whether its declarations count, what it writes and how it ends.
 pub record Row : Type 0 where
@@ -82,7 +82,7 @@ pub record Tells (r : EventRow) : Type 0 where
   pub steps : ℕ
   pub last : State Core
   pub end : End
-  pub ends : run (language r.program) (test_of r.program true) steps (first r.program [] r.turns) ≡ Ends end last
+  pub ends : run (language r.program) (test_of r.program.modes true) steps (first r.program [] r.turns) ≡ Ends end last
   pub told : last.events ≡ r.events
 
 abbrev pub AllTell : List EventRow → Type 0
@@ -106,7 +106,7 @@ pub record Dumps (r : DumpRow) : Type 0 where
   pub steps : ℕ
   pub last : State Core
   pub end : End
-  pub ends : run (language r.program) (test_of r.program true) steps (first r.program [] r.turns) ≡ Ends end last
+  pub ends : run (language r.program) (test_of r.program.modes true) steps (first r.program [] r.turns) ≡ Ends end last
   pub dump : layout r.names r.program.modes last ≡ r.text
 
 abbrev pub AllDump : List DumpRow → Type 0

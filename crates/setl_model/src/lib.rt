@@ -1,17 +1,16 @@
 //! The meaning of the language, as definitions, and its laws. No call of this crate does any work: each states a law.
 #![tactic(auto)]
 
-pub mod trees;
 pub mod worked;
 
 ghost use Rattle.std.specs.Prelude.{◌≡◌, true, false, [], codes};
-ghost use Rattle.setl_modes.specs.Events.{Done, Spent, Stopped, Wide, Form, Unfit, Nothing};
-ghost use Rattle.setl_modes.specs.Variable.{Global};
+ghost use Rattle.setl_run.specs.Events.{Done, Spent, Stopped, Wide, Form, Unfit, Nothing};
+ghost use Rattle.setl_run.specs.Variable.{Global};
 ghost use Rattle.setl_text.specs.Texts.{print_line};
 ghost use Rattle.setl_model.specs.Answers.{error_line};
 ghost use Rattle.setl_model.specs.Means.{Means};
 ghost use Rattle.setl_model.specs.Samples.{mixed_values, nested_values, empty_program, growing_set, copied_set, several_lines};
-ghost use Rattle.setl_model.specs.Source.{f, s};
+ghost use Rattle.setl_program.specs.Source.{f, s};
 ghost use Rattle.setl_model.specs.LanguageSamples.{images_of_a_map, too_wide, fail_alone, counting, reading, emptied_set, passed_in_and_out, taken_back, enumeration_or_former, arithmetic, folds, subsets, long_range, declared_set, declared_map, queens, taken_apart, nested_places, undeclared_own};
 ghost use Rattle.setl_model.specs.StraightRuns.{AssignLeads, CombineLeads, PrintLeads};
 ghost use Rattle.setl_model.specs.Laws.{HoldsWhatWasStored, StoresChangeOneVariable, OneStep, OneMeaning, StepsGrow, ReachedOutputIsFront, PrintInHandIsFront, DeclarationsOnlyCut, DeclarationsChangeNothing};

@@ -1,9 +1,4 @@
-pub mod Variable
-pub mod VariableLaws
 pub mod Modes
+pub mod Declarations
 pub mod Fits
 pub mod FitLaws
-pub mod Turns
-pub mod Events
-pub mod Run
-pub mod RunLaws

@@ -1,8 +1,6 @@
 //! The modes of declared variables, and which values fit them.
 //!
-//! Contracts see a mode as plain data: `mode_of m` is what the mode `m` stands for. The definitions of this crate also
-//! have what the meaning of a program and the run of its code have alike: variables, the charge of turns, events, ends,
-//! and runs over any kind of state.
+//! Contracts see a mode as plain data: `mode_of m` is what the mode `m` stands for.
 #![tactic(auto)]
 
 ghost use Rattle.setl_modes.specs.FitLaws.{FormsChangeNothing};

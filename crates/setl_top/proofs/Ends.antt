@@ -3,7 +3,7 @@ use Rattle.std.proofs.Common.{◌≡◌, ◌⊎◌, inl, inr, ◌≤◌, ◌^◌
 use Rattle.std.specs.Io.KnownBytes.{Appends}
 use Rattle.setl_io.specs.Faults.{Rose}
 use Rattle.setl_model.specs.Answers.{IsDone}
-use Rattle.setl_modes.specs.Events.{Done as DoneEnd}
+use Rattle.setl_run.specs.Events.{Done as DoneEnd}
 use Rattle.setl_top.specs.Accepted.{program_of}
 use Rattle.setl_top.specs.Lines.{AppendsFront, AppendsFronts}
 use Rattle.setl_top.specs.Loads.{LoadedSmall, NotLoaded, not_accepted, not_read, no_room, sides, Checks, checked_so, not_checked}
@@ -135,7 +135,7 @@ pub run_done : (words : List (List ℕ)) (before after : Moment) (tree : Tree) �
 run_done words before after tree a r e l q =
     let job = job_of before tree in
     let ends = r.ends job.input job.turns job.based in
-    let left = is_left before.input ends.means.last.core.shared.input ends.unread in
+    let left = is_left before.input ends.means.last.core.shared.world.input ends.unread in
     let answer : Answers words before Done r.out [] before.input = run_ended job r.out DoneEnd IsDone before.input a ends.means refl left in
     record {
       out = r.out;

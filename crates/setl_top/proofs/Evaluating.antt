@@ -3,17 +3,17 @@ use Rattle.std.proofs.Common.{◌≡◌, ◌∙◌, ℕ, ℤ, Bool, List, [], �
 use Rattle.std.proofs.lemmas.List.{reverse-append, append-nil, map-append}
 use Rattle.setl_value.specs.Datum.{Datum, int, set_of}
 use Rattle.setl_model.specs.Core.{Hand, Evaluate, Result, Frame, InExpr, Operands, Core}
-use Rattle.setl_modes.specs.Events.{Event}
+use Rattle.setl_run.specs.Events.{Event}
 use Rattle.setl_model.specs.Expressions.{operands}
 use Rattle.setl_model.specs.Moves.{deliver}
 use Rattle.setl_map.specs.declared.Operator.TheVariants.{SetOf as SetOperator}
 use Rattle.setl_map.specs.Outcome.{Gives, all_values, one_more}
 use Rattle.setl_map.specs.Collections.{enumerate_set}
-use Rattle.setl_model.specs.Program.{Program, Literal}
-use Rattle.setl_modes.specs.Run.{Moves}
+use Rattle.setl_program.specs.Program.{Program, Literal}
+use Rattle.setl_run.specs.Run.{Moves}
 use Rattle.setl_set.specs.Sets.{set_from}
 use Rattle.setl_model.specs.Step.{language}
-use Rattle.setl_modes.specs.Variable.{Environment, Own, value_in}
+use Rattle.setl_run.specs.Variable.{Environment, Own, value_in}
 use Rattle.setl_top.specs.Accepted.{plain_value, literals}
 use Rattle.setl_top.specs.Tree.{Expr, Variable, Integer, SetOf}
 use Rattle.setl_top.specs.Values.{Values, value_of}

@@ -2,10 +2,10 @@
 use Rattle.std.proofs.Common.{◌≡◌, ◌∙◌, inl, inr, ℕ, Bool, List, [], ◌∷◌, ◌++◌, Option, Some, refl, sym, ap, subst, arith}
 use Rattle.setl_io.specs.Files.{IsText}
 use Rattle.setl_model.specs.Answers.{RunStatus, status_of, error_line}
-use Rattle.setl_modes.specs.Events.{End}
+use Rattle.setl_run.specs.Events.{End}
 use Rattle.setl_model.specs.Laws.{OneMeaning}
 use Rattle.setl_model.specs.Means.{Means}
-use Rattle.setl_model.specs.Program.{Program}
+use Rattle.setl_program.specs.Program.{Program}
 use Rattle.setl_top.specs.Accepted.{IsProgram, IsBuilt, Accepted, Refusal, IsRefusedFor, program_of}
 use Rattle.setl_top.specs.Headline.{Moment, AnyRose, ReadCause, load_failed, read_failed, WriteCause, out_failed, err_failed, faulty_words, refused, checked, run_ended, Job, IsInput, IsToRun, status_for}
 use Rattle.setl_top.specs.Laws.{IsComplete, RefusesExactly, ChecksExactly, EndsExactly, TellsTexts}

@@ -4,19 +4,19 @@ use Rattle.std.proofs.lemmas.List.{append-nil}
 use Rattle.std.proofs.lemmas.Slice.Eq.{bytes_eq-Decides}
 use Rattle.setl_value.specs.Datum.{Datum, int, elements_of, element_list, element_list-elements_of, set_of}
 use Rattle.setl_model.specs.Core.{Hand, Execute, Evaluate, Result, Frame, InStmt, Then, AssignRight, UpdateRight, PrintParts, Core, write_variable}
-use Rattle.setl_modes.specs.Events.{Event, Printed}
+use Rattle.setl_run.specs.Events.{Event, Printed}
 use Rattle.setl_model.specs.Moves.{with_outcome, go_storing}
 use Rattle.setl_map.specs.declared.Operator.TheVariants.{With as WithOperator}
 use Rattle.setl_map.specs.Outcome.{Gives, within_depth}
 use Rattle.setl_map.specs.Operators.{op_of}
-use Rattle.setl_model.specs.Program.{Program, Literal, Block, no_stmt, more_stmts}
-use Rattle.setl_modes.specs.Run.{Moves}
+use Rattle.setl_program.specs.Program.{Program, Literal, Block, no_stmt, more_stmts}
+use Rattle.setl_run.specs.Run.{Moves}
 use Rattle.setl_set.specs.Sets.{insert_datum}
 use Rattle.setl_model.specs.Statements.{print_parts}
 use Rattle.setl_model.specs.Step.{language, test_of}
 use Rattle.setl_text.specs.Texts.{print_line}
-use Rattle.setl_modes.specs.Variable.{Environment, Own, Variable, value_in, with_value}
-use Rattle.setl_modes.specs.VariableLaws.{value_stored, value_elsewhere}
+use Rattle.setl_run.specs.Variable.{Environment, Own, Variable, value_in, with_value}
+use Rattle.setl_run.specs.VariableLaws.{value_stored, value_elsewhere}
 use Rattle.setl_top.specs.Accepted.{plain_value, plain_values, plain_action, place_of, program_of}
 use Rattle.setl_top.specs.Tree.{Expr, Action, Assign, With, Print, Tree}
 use Rattle.setl_top.specs.Values.{Values, value_of, bound, with_member, values_after, said_by, CanPerform, IsIntegers}
@@ -40,7 +40,7 @@ environment-bound g values x v agrees y = by (bytes_eq y x) refl
     by false e = value_elsewhere g (Own 0 x) (Own 0 y) v (other_name x y e) ∙ agrees y
 
 -- no variable is declared
-pub takes_all : (tree : Tree) (based : Bool) (x : Variable) (v : Option Datum) → test_of (program_of tree) based x v ≡ true
+pub takes_all : (tree : Tree) (based : Bool) (x : Variable) (v : Option Datum) → test_of (program_of tree).modes based x v ≡ true
 takes_all tree true x v = refl
 takes_all tree false x v = refl
 
@@ -64,7 +64,7 @@ pub record Printing (p : Program) (based : Bool) (c : Core) (out : List ℕ) (wo
 pub record Performed (p : Program) (based : Bool) (start : Core) (out : List ℕ) (values : Values) (rest : Block) (said : List ℕ) : Type 0 where
   pub core : Core
   pub agrees : IsEnvironment core.shared.own values
-  pub unread : core.shared.input ≡ start.shared.input
+  pub unread : core.shared.world.input ≡ start.shared.world.input
   pub comes : (events : List Event) → Comes p based (state start out events) (at core (Execute rest) []) (out ++ said)
 
 module _ (p : Program) (based : Bool) (c : Core) (out : List ℕ) (values : Values) (agrees : IsEnvironment c.shared.own values) where
@@ -116,7 +116,7 @@ module _ (p : Program) (based : Bool) (c : Core) (out : List ℕ) (values : Valu
       }
 
   -- a store, and then the statements behind
-  stores_lead : (takes : (x : Variable) (v : Option Datum) → test_of p based x v ≡ true) (line : ℕ) (name : List ℕ) (v : Option Datum) (rest : Block) (start : Core) → c.shared.input ≡ start.shared.input → ((events : List Event) → (before : Core) × Comes p based (state start out events) before out × ((language p).move before ≡ Moves [] [] (at c (Execute no_stmt) (Then rest ∷ [])) line ((Own 0 name, v) ∷ []))) → Performed p based start out (bound name v values) rest []
+  stores_lead : (takes : (x : Variable) (v : Option Datum) → test_of p.modes based x v ≡ true) (line : ℕ) (name : List ℕ) (v : Option Datum) (rest : Block) (start : Core) → c.shared.world.input ≡ start.shared.world.input → ((events : List Event) → (before : Core) × Comes p based (state start out events) before out × ((language p).move before ≡ Moves [] [] (at c (Execute no_stmt) (Then rest ∷ [])) line ((Own 0 name, v) ∷ []))) → Performed p based start out (bound name v values) rest []
   stores_lead takes line name v rest start unread leads =
       let d : Core = record c { shared = write_variable (Own 0 name) v c.shared } in
       let stored : Core = at d (Execute no_stmt) (Then rest ∷ []) in
@@ -132,7 +132,7 @@ module _ (p : Program) (based : Bool) (c : Core) (out : List ℕ) (values : Valu
             (λ events''. comes_on p based stored (at d (Execute rest) []) out events'' 0 refl))));
       }
 
-  module _ (takes : (x : Variable) (v : Option Datum) → test_of p based x v ≡ true) where
+  module _ (takes : (x : Variable) (v : Option Datum) → test_of p.modes based x v ≡ true) where
     assign_performs : (line : ℕ) (name : List ℕ) (e : Expr) (rest : Block) → Performed p based (begins line (Assign name e) rest) out (bound name (value_of values e) values) rest []
     assign_performs line name e rest =
         let frame : Frame = InStmt line (AssignRight (place_of name)) in
@@ -154,7 +154,7 @@ module _ (p : Program) (based : Bool) (c : Core) (out : List ℕ) (values : Valu
         let work : List Frame = frame ∷ Then rest ∷ [] in
         let asking : Core = at c (Evaluate (Literal (int z))) work in
         let given : Core = at c (Result (Some (int z))) work in
-        let made = with_made values name z (value_in c.shared.own (Own 0 name)) c.shared.left (agrees name) can in
+        let made = with_made values name z (value_in c.shared.own (Own 0 name)) c.shared.world.left (agrees name) can in
         stores_lead takes line name (with_member (values name) z) rest (begins line (With name z) rest) refl
         (λ events. (
           given,

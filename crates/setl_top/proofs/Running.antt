@@ -4,10 +4,10 @@ use Rattle.std.proofs.lemmas.List.{append-nil}
 use Rattle.std.specs.Io.KnownBytes.{Appends}
 use Rattle.setl_io.specs.Sink.{AppendsPart}
 use Rattle.setl_model.specs.Core.{Core, Execute}
-use Rattle.setl_modes.specs.Events.{Done}
+use Rattle.setl_run.specs.Events.{Done}
 use Rattle.setl_model.specs.Means.{Means, first}
-use Rattle.setl_modes.specs.Run.{Ends}
-use Rattle.setl_modes.specs.RunLaws.{runs_join}
+use Rattle.setl_run.specs.Run.{Ends}
+use Rattle.setl_run.specs.RunLaws.{runs_join}
 use Rattle.setl_model.specs.Step.{language, test_of}
 use Rattle.setl_top.specs.Accepted.{program_of, plain_block}
 use Rattle.setl_top.specs.Conditions.{Kinds, no_kinds, meets}
@@ -27,7 +27,7 @@ use Rattle.setl_top.proofs.Performing.{performs, takes_all, print_leads}
 pub record Reached (tree rest : Tree) (values : Values) (said : List ℕ) (input : List ℕ) (turns : ℕ) (based : Bool) : Type 0 where
   pub core : Core
   pub agrees : IsEnvironment core.shared.own values
-  pub unread : core.shared.input ≡ input
+  pub unread : core.shared.world.input ≡ input
   pub comes : Comes (program_of tree) based (first (program_of tree) input turns) (at core (Execute (plain_block rest)) []) said
 
 abbrev pub Running : Tree → Tree → Values → List ℕ → Type 0
@@ -61,7 +61,7 @@ running_done tree values said run_ input turns based =
     let p = program_of tree in
     let r = run_ input turns based in
     let last = state (at r.core (Execute (plain_block [])) []) said r.comes.events in
-    let all = runs_join (language p) (test_of p based) r.comes.steps 1 (first p input turns) last (Ends Done last) r.comes.led refl in
+    let all = runs_join (language p) (test_of p.modes based) r.comes.steps 1 (first p input turns) last (Ends Done last) r.comes.led refl in
     record { means = record { steps = all.0; last = last; ends = all.1; written = refl }; unread = r.unread }
 
 -- a print is next

@@ -16,9 +16,9 @@ use Rattle.setl_parse.specs.declared.fault.ParseFault.TheVariants as fault
 use Rattle.setl_names.specs.Breaks.{breaks, first_break, break_at}
 use Rattle.setl_names.specs.declared.broken.Break.{Break}
 use Rattle.setl_map.specs.declared.Operator.TheVariants as operator
-use Rattle.setl_model.specs.Program.{Program, Place, no_selector, Exprs, no_expr, more_exprs, Block, no_stmt, more_stmts}
-use Rattle.setl_model.specs.Program as plain
-use Rattle.setl_modes.specs.Variable.{Own}
+use Rattle.setl_program.specs.Program.{Program, Place, no_selector, Exprs, no_expr, more_exprs, Block, no_stmt, more_stmts}
+use Rattle.setl_program.specs.Program as plain
+use Rattle.setl_run.specs.Variable.{Own}
 use Rattle.setl_top.specs.Conditions.{meets, no_kinds}
 use Rattle.setl_top.specs.Reasons.{reason_line}
 use Rattle.setl_top.specs.Small.{small_of}

@@ -4,9 +4,9 @@ use Rattle.std.specs.Io.KnownBytes.{Appends, Consumes, prepend_known}
 use Rattle.setl_io.specs.Faults.{Rose}
 use Rattle.setl_io.specs.Files.{Texts, IsText}
 use Rattle.setl_model.specs.Answers.{RunStatus, IsDone, IsStopped, IsSpent, status_of, error_line}
-use Rattle.setl_modes.specs.Events.{End}
+use Rattle.setl_run.specs.Events.{End}
 use Rattle.setl_model.specs.Means.{Means}
-use Rattle.setl_model.specs.Program.{Program}
+use Rattle.setl_program.specs.Program.{Program}
 use Rattle.setl_tree.specs.declared.tree.Tree.{Tree}
 use Rattle.setl_top.specs.Accepted.{IsProgram, IsBuilt, Accepted, Refusal}
 use Rattle.setl_top.specs.Fronts.{IsFront}
@@ -80,7 +80,7 @@ pub data Answers (words : List (List ℕ)) (before : Moment) : Status → List �
   faulty_words : IsFaulty words → Answers words before Words [] [] before.input
   refused : (command : Command) (name source line : List ℕ) → Spells words command → HasFile command name → IsText before.texts name source → Refusal command source line → Answers words before Refused [] (line ++ 10 ∷ []) before.input
   checked : (name source : List ℕ) (tree : Tree) → Spells words (Check name) → IsText before.texts name source → IsProgram source tree → IsBuilt (Check name) tree → Answers words before Done [] [] before.input
-  run_ended : (job : Job) (out : List ℕ) (end : End) (ending : RunStatus) (left : Option (List ℕ)) → IsToRun words before job → (means : Means job.program job.input job.turns job.based out end) → status_of end ≡ Some ending → IsLeft before.input left means.last.core.shared.input → Answers words before (status_for ending) out (error_line end) left
+  run_ended : (job : Job) (out : List ℕ) (end : End) (ending : RunStatus) (left : Option (List ℕ)) → IsToRun words before job → (means : Means job.program job.input job.turns job.based out end) → status_of end ≡ Some ending → IsLeft before.input left means.last.core.shared.world.input → Answers words before (status_for ending) out (error_line end) left
 
 -- at a print: the output up to it, and some of its line, and not all of it
 pub data UpToPrint (words : List (List ℕ)) (before : Moment) : List ℕ → Type 0 where

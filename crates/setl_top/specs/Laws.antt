@@ -1,9 +1,9 @@
 -- Laws over the headline and the definitions under it.
 use Rattle.std.specs.Prelude.{◌≡◌, ◌↔◌, ◌⊎◌, ℕ, Bool, List, [], ◌∷◌, ◌++◌, Option, Some}
 use Rattle.setl_model.specs.Answers.{RunStatus, status_of, error_line}
-use Rattle.setl_modes.specs.Events.{End, Done}
+use Rattle.setl_run.specs.Events.{End, Done}
 use Rattle.setl_model.specs.Means.{Means}
-use Rattle.setl_model.specs.Program.{Program}
+use Rattle.setl_program.specs.Program.{Program}
 use Rattle.setl_tree.specs.declared.tree.Tree.{Tree}
 use Rattle.setl_top.specs.Accepted.{IsProgram, IsBuilt, Accepted, Refusal}
 use Rattle.setl_top.specs.Headline.{Moment, Headline, Ended, AnyRose, Answers, Job, IsToRun, status_for}

@@ -3,9 +3,9 @@
 use Rattle.std.specs.Prelude.{◌≡◌, ◌≤◌, ◌<◌, ◌⊎◌, ℕ, Bool, List, ◌++◌, Option, length, take}
 use Rattle.std.specs.Io.KnownBytes.{Appends}
 use Rattle.setl_io.specs.Faults.{Rose}
-use Rattle.setl_modes.specs.Events.{Done}
+use Rattle.setl_run.specs.Events.{Done}
 use Rattle.setl_model.specs.Means.{Means}
-use Rattle.setl_model.specs.Program.{Program}
+use Rattle.setl_program.specs.Program.{Program}
 use Rattle.setl_top.specs.Moments.{AtState, AtPrint}
 use Rattle.setl_top.specs.declared.small.run.Ran.{Ran}
 use Rattle.setl_top.specs.declared.small.run.Ran.TheVariants as ran
@@ -13,7 +13,7 @@ use Rattle.setl_top.specs.declared.small.run.Ran.TheVariants as ran
 -- the meaning ends as done, after it wrote this, and read nothing
 pub record EndsUnread (program : Program) (out input : List ℕ) (turns : ℕ) (based : Bool) : Type 0 where
   pub means : Means program input turns based out Done
-  pub unread : means.last.core.shared.input ≡ input
+  pub unread : means.last.core.shared.world.input ≡ input
 
 -- the whole output of the meaning is added, and the meaning ends as done
 pub record RunsTo (program : Program) (old new : Option (List ℕ)) : Type 0 where

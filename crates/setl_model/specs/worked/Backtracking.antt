@@ -1,11 +1,13 @@
 -- Worked rows of backtracking.
 use Rattle.std.specs.Prelude.{List, [], ◌∷◌, codes}
-use Rattle.setl_modes.specs.Variable.{Global, Bound}
+use Rattle.setl_run.specs.Variable.{Global, Bound}
 use Rattle.setl_map.specs.declared.Operator.TheVariants.{With, Add, Subtract, Equal, NotEqual, Size, Abs}
-use Rattle.setl_model.specs.Collections.{OfSet}
-use Rattle.setl_model.specs.Program.{Or, Exists, Name, Connect, Selection, Quantified, Call, Newat, Eof, Ok, no_condition, only_if, no_argument, rd_argument, rw_argument, Perform, If, For, Quit, Fail, Stop, Return, Read, no_stmt, Rd, Rw}
-use Rattle.setl_modes.specs.Events.{Nothing, Done, Stopped, Spent}
-use Rattle.setl_model.specs.Source.{its, i, j, k, n, q, s, x, y, number, one, two, tuple_of, enumeration, row_of, at_round, over, between, assign, combine, print, on_line, at, alone, lines_from, just, with_procedures}
+use Rattle.setl_program.specs.declared.kinds.Collection.TheVariants.{OfSet}
+use Rattle.setl_program.specs.declared.kinds.Connective.TheVariants.{Or}
+use Rattle.setl_program.specs.declared.kinds.Quantifier.TheVariants.{Exists}
+use Rattle.setl_program.specs.Program.{Name, Connect, Quantified, Call, Newat, Eof, Ok, no_condition, no_argument, rd_argument, rw_argument, Perform, If, For, Quit, Fail, Stop, Return, Read, no_stmt}
+use Rattle.setl_run.specs.Events.{Nothing, Done, Stopped, Spent}
+use Rattle.setl_program.specs.Source.{its, i, j, k, n, q, s, x, y, number, one, two, tuple_of, enumeration, row_of, at_round, over, between, assign, combine, print, on_line, at, alone, lines_from, just, with_procedures, procedure, select_over, rd_parameter, rw_parameter}
 use Rattle.setl_model.specs.Table.{Row, does, ends, reads}
 
 -- `fail` brings the latest kept environment back and forgets it
@@ -18,12 +20,8 @@ back_rows =
     -- x := p(); print(x); if x = 1 then fail; end if;
     -- proc p(); if ok then return 1; else return 2; end if; end proc;
     ∷ does 2 (with_procedures (on_line 2 (assign x (Call 0 no_argument) ∷ print (Name x ∷ []) ∷ If (two Equal (Name x)
-    (number 1)) (alone 2 Fail) no_stmt ∷ [])) (record {
-      name = codes "p";
-      parameters = [];
-      body = alone 3 (If Ok
-          (alone 3 (Return (number 1))) (alone 3 (Return (number 2))));
-    } ∷ [])) (codes "1\n2\n")
+    (number 1)) (alone 2 Fail) no_stmt ∷ [])) ((procedure (codes "p") [] (alone 3 (If Ok
+          (alone 3 (Return (number 1))) (alone 3 (Return (number 2)))))) ∷ [])) (codes "1\n2\n")
     -- if ok then print(1);
     -- fail; end if;
     -- with 0 turns
@@ -63,31 +61,22 @@ back_rows =
     ∷ Name y ∷ []) ∷ If (two NotEqual (Name y) (number 3)) (alone 2 Fail) no_stmt ∷ [])))
     (codes "true 1\ntrue 2\ntrue 3\n")
     -- s := {x in {1, 2} | ok}; print(s); if s /= {2} then fail; end if;
-    ∷ does 7 (just (on_line 2 (assign s (Selection OfSet (over (Bound 1 (codes "x")) (enumeration (1 ∷ 2 ∷ [])))
-    (only_if Ok)) ∷ print (Name s ∷ []) ∷ If (two NotEqual (Name s) (enumeration (2 ∷ []))) (alone 2 Fail) no_stmt
+    ∷ does 7 (just (on_line 2 (assign s (select_over OfSet (Bound 1 (codes "x")) (enumeration (1 ∷ 2 ∷ [])) Ok) ∷ print (Name s ∷ []) ∷ If (two NotEqual (Name s) (enumeration (2 ∷ []))) (alone 2 Fail) no_stmt
     ∷ []))) (codes "{1 2}\n{1}\n{2}\n")
     -- var x; x := 1; y := 1; p(y); print(x, y);
     -- proc p(rw a); x := 2; if ok then x := 3; a := 4; fail; else print(x, a); end if; end proc;
     ∷ does 3 (with_procedures (on_line 2 (assign (Global (codes "x")) (number 1) ∷ assign y (number 1) ∷ Perform (Call 0
     (rw_argument y no_argument)) ∷ print (Name (Global (codes "x")) ∷ Name y ∷ []) ∷ []))
-    (record {
-      name = codes "p";
-      parameters = record { passing = Rw; name = codes "a" } ∷ [];
-      body = on_line 3
+    ((procedure (codes "p") ((rw_parameter (codes "a")) ∷ []) (on_line 3
           (assign (Global (codes "x")) (number 2) ∷ If Ok (on_line 3 (assign (Global (codes "x")) (number 3) ∷ assign
           (its (codes "a")) (number 4) ∷ Fail ∷ [])) (alone 3 (print (Name (Global (codes "x")) ∷ Name (its (codes "a"))
-          ∷ []))) ∷ []);
-    } ∷ [])) (codes "2 1\n2 1\n")
+          ∷ []))) ∷ []))) ∷ [])) (codes "2 1\n2 1\n")
     -- print(p(1)); fail;
     -- proc p(n); if ok then return n; else return n + 1; end if; end proc;
     ∷ ends (Stopped Nothing 2) 4 (with_procedures (on_line 2 (print (Call 0 (rd_argument (number 1) no_argument) ∷ [])
-    ∷ Fail ∷ [])) (record {
-      name = codes "p";
-      parameters = record { passing = Rd; name = codes "n" }
-          ∷ [];
-      body = alone 3 (If Ok (alone 3 (Return (Name (its (codes "n"))))) (alone 3 (Return (two Add (Name (its
-          (codes "n"))) (number 1)))));
-    } ∷ [])) (codes "1\n2\n")
+    ∷ Fail ∷ [])) ((procedure (codes "p") ((rd_parameter (codes "n"))
+          ∷ []) (alone 3 (If Ok (alone 3 (Return (Name (its (codes "n"))))) (alone 3 (Return (two Add (Name (its
+          (codes "n"))) (number 1))))))) ∷ [])) (codes "1\n2\n")
     -- (for x in [1, 2, 3]) if ok then quit; end if; end for; print(x); if x = 1 then stop; end if;
     ∷ does 2 (just (on_line 2 (For (over x (row_of (1 ∷ 2 ∷ 3 ∷ []))) no_condition (alone 2 (If Ok
     (alone 2 Quit) no_stmt)) ∷ print (Name x ∷ []) ∷ If (two Equal (Name x) (number 1)) (alone 2 Stop) no_stmt

@@ -1,13 +1,16 @@
 -- Worked rows of events.
 use Rattle.std.specs.Prelude.{false, List, [], ◌∷◌, codes, Some, None, pos}
 use Rattle.setl_value.specs.Datum.{bool, int, set_of as set_data, tuple_of as tuple_data}
-use Rattle.setl_modes.specs.Variable.{Global, Bound}
+use Rattle.setl_run.specs.Variable.{Global, Bound}
 use Rattle.setl_map.specs.declared.Operator.TheVariants.{Add, Equal, Below}
-use Rattle.setl_model.specs.Collections.{OfSet}
 use Rattle.setl_modes.specs.Modes.{Integers}
-use Rattle.setl_model.specs.Program.{Exists, Forall, Member, Point, Values, Points, Undefined, Name, Former, Quantified, Call, Ok, no_iterator, more_iterators, no_condition, no_argument, rd_argument, wr_argument, rw_argument, no_selector, TakeLeast, TakeFirst, AssignParts, TakeFrom, Perform, If, For, Fail, Return, no_stmt, Rd, Wr, Rw}
-use Rattle.setl_modes.specs.Events.{Called, Returned, Stored, Printed, Kept, Back}
-use Rattle.setl_model.specs.Source.{its, f, s, t, x, y, z, number, quoted, exprs, two, set_of, tuple_of, enumeration, row_of, over, assign, put, combine, print, on_line, at, alone, lines_from, just, with_procedures}
+use Rattle.setl_program.specs.declared.kinds.Collection.TheVariants.{OfSet}
+use Rattle.setl_program.specs.declared.kinds.Quantifier.TheVariants.{Exists, Forall}
+use Rattle.setl_program.specs.declared.kinds.Source.TheVariants.{Values}
+use Rattle.setl_program.specs.declared.kinds.Taking.TheVariants.{TakeLeast, TakeFirst}
+use Rattle.setl_program.specs.Program.{Member, Point, Undefined, Name, Former, Quantified, Call, Ok, no_iterator, more_iterators, no_condition, no_argument, rd_argument, wr_argument, rw_argument, no_selector, AssignParts, TakeFrom, Perform, If, For, Fail, Return, no_stmt}
+use Rattle.setl_run.specs.Events.{Called, Returned, Stored, Printed, Kept, Back}
+use Rattle.setl_program.specs.Source.{its, f, s, t, x, y, z, number, quoted, exprs, two, set_of, tuple_of, enumeration, row_of, over, assign, put, combine, print, on_line, at, alone, lines_from, just, with_procedures, procedure, wr_parameter, rd_parameter, with_modes, rw_parameter}
 use Rattle.setl_model.specs.Table.{EventRow, tells}
 
 -- what each store, call, return, line, `ok` and `fail` tells, in their order
@@ -17,12 +20,8 @@ event_rows =
     -- proc p(); if ok then return 1; else return 2; end if; end proc;
     -- tells: call 2 p; keep; return p; store 2 x 1; print 1; back; return p; store 2 x 2; print 2
     tells 2 (with_procedures (on_line 2 (assign x (Call 0 no_argument) ∷ print (Name x ∷ []) ∷ If (two Equal (Name x)
-    (number 1)) (alone 2 Fail) no_stmt ∷ [])) (record {
-      name = codes "p";
-      parameters = [];
-      body = alone 3 (If Ok
-          (alone 3 (Return (number 1))) (alone 3 (Return (number 2))));
-    } ∷ [])) (
+    (number 1)) (alone 2 Fail) no_stmt ∷ [])) ((procedure (codes "p") [] (alone 3 (If Ok
+          (alone 3 (Return (number 1))) (alone 3 (Return (number 2)))))) ∷ [])) (
     Called 2 (codes "p")
     ∷ Kept
     ∷ Returned (codes "p")
@@ -53,13 +52,9 @@ event_rows =
     -- tells: call 2 p; store 2 1:a *; store 2 1:n 2; store 5 1:a 2; return p; store 2 x 2; store 2 y [2]; print [2]
     ∷ tells 9 (with_procedures (lines_from 2 (assign y (Call 0 (wr_argument x (rd_argument (two Add (number 1)
     (number 1)) no_argument))) ∷ print (Name y ∷ []) ∷ []))
-    (record {
-      name = codes "p";
-      parameters = record { passing = Wr; name = codes "a" }
-          ∷ record { passing = Rd; name = codes "n" } ∷ [];
-      body = on_line 5 (assign (its (codes "a")) (Name (its
-          (codes "n"))) ∷ Return (tuple_of (Name (its (codes "n")) ∷ [])) ∷ []);
-    } ∷ [])) (
+    ((procedure (codes "p") ((wr_parameter (codes "a"))
+          ∷ (rd_parameter (codes "n")) ∷ []) (on_line 5 (assign (its (codes "a")) (Name (its
+          (codes "n"))) ∷ Return (tuple_of (Name (its (codes "n")) ∷ [])) ∷ []))) ∷ [])) (
     Called 2 (codes "p")
     ∷ Stored 2 (its (codes "a")) None
     ∷ Stored 2 (its (codes "n")) (Some (int (pos 2)))
@@ -74,9 +69,8 @@ event_rows =
     -- y := exists y = f(x) | y = 3;
     -- tells: store 2 f {[1 2]}; store 2 x 1; store 2 y 2; store 3 x 1; store 3 y 2; store 3 y *; store 3 x *; store 3
     --   y false
-    ∷ tells 9 (just (at 2 (assign f (set_of (row_of (1 ∷ 2 ∷ []) ∷ []))) (at 2 (For (more_iterators (Point y x) Points
-    (exprs (Name f ∷ [])) no_iterator) no_condition no_stmt) (at 3 (assign y (Quantified Exists (more_iterators
-    (Point y x) Points (exprs (Name f ∷ [])) no_iterator) (two Equal (Name y) (number 3)))) no_stmt)))) (
+    ∷ tells 9 (just (at 2 (assign f (set_of (row_of (1 ∷ 2 ∷ []) ∷ []))) (at 2 (For (more_iterators (Point y x)
+    (exprs (Name f ∷ [])) no_iterator) no_condition no_stmt) (at 3 (assign y (Quantified Exists (more_iterators (Point y x) (exprs (Name f ∷ [])) no_iterator) (two Equal (Name y) (number 3)))) no_stmt)))) (
     Stored 2 f (Some (set_data (tuple_data (Some (int (pos 1)) ∷ Some (int (pos 2)) ∷ []) ∷ [])))
     ∷ Stored 2 x (Some (int (pos 1)))
     ∷ Stored 2 y (Some (int (pos 2)))
@@ -90,8 +84,8 @@ event_rows =
     -- s := {x + y : x in {1, 2}, y in [x]}; print();
     -- tells: store 2 s {2 4}; print
     ∷ tells 9 (just (on_line 2 (assign s (Former OfSet (two Add (Name (Bound 1 (codes "x"))) (Name (Bound 1
-    (codes "y")))) (more_iterators (Member (Bound 1 (codes "x"))) Values (exprs (enumeration (1 ∷ 2 ∷ []) ∷ []))
-    (more_iterators (Member (Bound 1 (codes "y"))) Values (exprs (tuple_of (Name (Bound 1 (codes "x")) ∷ [])
+    (codes "y")))) (more_iterators (Member Values (Bound 1 (codes "x"))) (exprs (enumeration (1 ∷ 2 ∷ []) ∷ []))
+    (more_iterators (Member Values (Bound 1 (codes "y"))) (exprs (tuple_of (Name (Bound 1 (codes "x")) ∷ [])
     ∷ [])) no_iterator)) no_condition) ∷ print [] ∷ []))) (
     Stored 2 s (Some (set_data (int (pos 2) ∷ int (pos 4) ∷ [])))
     ∷ Printed (codes "\n")
@@ -109,12 +103,8 @@ event_rows =
     -- repr y: int; end repr;
     -- [x, y, z] := [1, 'a', 3];
     -- tells: store 3 x 1
-    ∷ tells 9 (record {
-      main = alone 3 (AssignParts (Some x ∷ Some y ∷ Some z ∷ []) (tuple_of (number 1 ∷ quoted
-          (codes "a") ∷ number 3 ∷ [])));
-      procedures = [];
-      modes = (y, Integers) ∷ [];
-    }) (
+    ∷ tells 9 ((with_modes (alone 3 (AssignParts (Some x ∷ Some y ∷ Some z ∷ []) (tuple_of (number 1 ∷ quoted
+          (codes "a") ∷ number 3 ∷ [])))) [] ((y, Integers) ∷ []))) (
     Stored 3 x (Some (int (pos 1)))
     ∷ [])
     -- stops Om at the sum:
@@ -122,12 +112,8 @@ event_rows =
     -- proc p(rw x); x +:= 1; end proc;
     -- tells: call 2 p; store 2 1:x *
     ∷ tells 9 (with_procedures (alone 2 (Perform (Call 0 (rw_argument (Global (codes "x")) no_argument))))
-    (record {
-      name = codes "p";
-      parameters = record { passing = Rw; name = codes "x" } ∷ [];
-      body = alone 3
-          (combine Add (its (codes "x")) (number 1));
-    } ∷ [])) (
+    ((procedure (codes "p") ((rw_parameter (codes "x")) ∷ []) (alone 3
+          (combine Add (its (codes "x")) (number 1)))) ∷ [])) (
     Called 2 (codes "p")
     ∷ Stored 2 (its (codes "x")) None
     ∷ [])
@@ -136,7 +122,7 @@ event_rows =
     -- proc p(wr a); end proc;
     -- tells: store 2 x 1; call 2 p; store 2 1:a *; return p; store 2 x *
     ∷ tells 9 (with_procedures (on_line 2 (assign x (number 1) ∷ Perform (Call 0 (wr_argument x no_argument)) ∷ []))
-    (record { name = codes "p"; parameters = record { passing = Wr; name = codes "a" } ∷ []; body = no_stmt }
+    ((procedure (codes "p") ((wr_parameter (codes "a")) ∷ []) no_stmt)
     ∷ [])) (
     Stored 2 x (Some (int (pos 1)))
     ∷ Called 2 (codes "p")

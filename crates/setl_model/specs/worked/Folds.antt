@@ -1,9 +1,9 @@
 -- Worked rows of folds and texts.
 use Rattle.std.specs.Prelude.{List, [], ◌∷◌, ◌++◌, codes}
 use Rattle.setl_map.specs.declared.Operator.TheVariants.{Size, Str, FoldAdd, FoldMultiply, FoldMax, FoldMin, FoldAnd, FoldOr}
-use Rattle.setl_model.specs.Program.{Undefined, Newat}
-use Rattle.setl_modes.specs.Events.{Om, Kind, Wide, Range as OutOfRange}
-use Rattle.setl_model.specs.Source.{yes, no, number, quoted, one, minus, set_of, tuple_of, enumeration, row_of, print, on_line, just}
+use Rattle.setl_program.specs.Program.{Undefined, Newat}
+use Rattle.setl_run.specs.Events.{Om, Kind, Wide, Range as OutOfRange}
+use Rattle.setl_program.specs.Source.{yes, no, number, quoted, one, minus, set_of, tuple_of, enumeration, row_of, print, on_line, just}
 use Rattle.setl_model.specs.Table.{Row, writes, spends, all_stop, does}
 
 -- the members or components are combined from the left; one alone is itself

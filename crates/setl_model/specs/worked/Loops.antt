@@ -1,9 +1,10 @@
 -- Worked rows of loops and iterators.
 use Rattle.std.specs.Prelude.{List, [], ◌∷◌, ◌++◌, codes, Some, None}
 use Rattle.setl_map.specs.declared.Operator.TheVariants.{With, Less, Add, Divide, Equal, Below, Even, Odd, TupleRange}
-use Rattle.setl_model.specs.Program.{Member, Components, Point, Values, Between, SetSteps, TupleSteps, Points, Undefined, Name, Newat, no_iterator, more_iterators, no_condition, only_if, If, For, While, Quit, Continue, Pass, no_stmt}
-use Rattle.setl_modes.specs.Events.{Om, Kind, Zero, Stopped, Spent}
-use Rattle.setl_model.specs.Source.{f, g, n, s, t, x, y, yes, no, number, quoted, exprs, one, two, set_of, tuple_of, enumeration, row_of, over, between, assign, combine, print, on_line, at, alone, lines_from, just}
+use Rattle.setl_program.specs.declared.kinds.Source.TheVariants.{Values, Between, SetSteps, TupleSteps}
+use Rattle.setl_program.specs.Program.{Member, Components, Point, Undefined, Name, Newat, no_iterator, more_iterators, no_condition, only_if, If, For, While, Quit, Continue, Pass, no_stmt}
+use Rattle.setl_run.specs.Events.{Om, Kind, Zero, Stopped, Spent}
+use Rattle.setl_program.specs.Source.{f, g, n, s, t, x, y, yes, no, number, quoted, exprs, one, two, set_of, tuple_of, enumeration, row_of, over, between, assign, combine, print, on_line, at, alone, lines_from, just}
 use Rattle.setl_model.specs.Table.{Row, does, ends, all_end}
 
 -- what an iterator runs over
@@ -23,9 +24,8 @@ source_rows =
     -- (for x in {5, 3..1}) print(x); end for;
     -- (for x in [5, 3..1]) print(x); end for; (for x in {1..2}) print(x); end for; (for x in [2..1]) print(x); end
     --   for;
-    ∷ does 8 (just (at 2 (For (more_iterators (Member x) SetSteps (exprs (number 5 ∷ number 3 ∷ number 1
-    ∷ [])) no_iterator) no_condition (alone 2 (print (Name x ∷ [])))) (at 3 (For (more_iterators
-    (Member x) TupleSteps (exprs (number 5 ∷ number 3 ∷ number 1 ∷ [])) no_iterator) no_condition (alone 3 (print
+    ∷ does 8 (just (at 2 (For (more_iterators (Member SetSteps x) (exprs (number 5 ∷ number 3 ∷ number 1
+    ∷ [])) no_iterator) no_condition (alone 2 (print (Name x ∷ [])))) (at 3 (For (more_iterators (Member TupleSteps x) (exprs (number 5 ∷ number 3 ∷ number 1 ∷ [])) no_iterator) no_condition (alone 3 (print
     (Name x ∷ [])))) (at 3 (For (between x (number 1) (number 2)) no_condition (alone 3 (print (Name x ∷ []))))
     (at 3 (For (between x (number 2) (number 1)) no_condition (alone 3 (print (Name x ∷ [])))) no_stmt)))))
     (codes "1\n3\n5\n5\n3\n1\n1\n2\n")
@@ -51,7 +51,7 @@ source_rows =
     ∷ just (alone 2 (For (over x yes) no_condition no_stmt))
     ∷ just (alone 2 (For (over x Newat) no_condition no_stmt))
     ∷ just (alone 2 (For (between x (quoted (codes "a")) (number 2)) no_condition no_stmt))
-    ∷ just (alone 2 (For (more_iterators (Member x) TupleSteps (exprs (number 1 ∷ number 1 ∷ quoted (codes "a")
+    ∷ just (alone 2 (For (more_iterators (Member TupleSteps x) (exprs (number 1 ∷ number 1 ∷ quoted (codes "a")
     ∷ [])) no_iterator) no_condition no_stmt))
     ∷ [])
     -- om 2:
@@ -61,16 +61,16 @@ source_rows =
     ++ all_end (Stopped Om 2) (
     just (alone 2 (For (over x Undefined) no_condition no_stmt))
     ∷ just (alone 2 (For (between x Undefined (number 2)) no_condition no_stmt))
-    ∷ just (alone 2 (For (more_iterators (Member x) SetSteps (exprs (number 1 ∷ Undefined ∷ quoted (codes "a")
+    ∷ just (alone 2 (For (more_iterators (Member SetSteps x) (exprs (number 1 ∷ Undefined ∷ quoted (codes "a")
     ∷ [])) no_iterator) no_condition no_stmt))
     ∷ [])
     -- zero 2:
     -- (for x in [1, 1..3]) end for;
     -- (for x in {2, 2..1}) end for;
     ++ all_end (Stopped Zero 2) (
-    just (alone 2 (For (more_iterators (Member x) TupleSteps (exprs (number 1 ∷ number 1 ∷ number 3
+    just (alone 2 (For (more_iterators (Member TupleSteps x) (exprs (number 1 ∷ number 1 ∷ number 3
     ∷ [])) no_iterator) no_condition no_stmt))
-    ∷ just (alone 2 (For (more_iterators (Member x) SetSteps (exprs (number 2 ∷ number 2 ∷ number 1
+    ∷ just (alone 2 (For (more_iterators (Member SetSteps x) (exprs (number 2 ∷ number 2 ∷ number 1
     ∷ [])) no_iterator) no_condition no_stmt))
     ∷ [])
 
@@ -78,54 +78,52 @@ source_rows =
 abbrev pub pattern_rows : List Row
 pattern_rows =
     -- (for [x, y] in {[1, 2], [3]}) print(x, y); end for;
-    does 2 (just (alone 2 (For (more_iterators (Components (Some x ∷ Some y ∷ [])) Values (exprs (set_of (row_of (1
+    does 2 (just (alone 2 (For (more_iterators (Components Values (Some x ∷ Some y ∷ [])) (exprs (set_of (row_of (1
     ∷ 2 ∷ []) ∷ row_of (3 ∷ []) ∷ []) ∷ [])) no_iterator) no_condition (alone 2 (print (Name x ∷ Name y ∷ []))))))
     (codes "1 2\n3 *\n")
     -- (for [-, x] in [[1, 2, 3], []]) print(x); end for;
-    ∷ does 2 (just (alone 2 (For (more_iterators (Components (None ∷ Some x ∷ [])) Values (exprs (tuple_of (row_of (1
+    ∷ does 2 (just (alone 2 (For (more_iterators (Components Values (None ∷ Some x ∷ [])) (exprs (tuple_of (row_of (1
     ∷ 2 ∷ 3 ∷ []) ∷ tuple_of [] ∷ []) ∷ [])) no_iterator) no_condition (alone 2 (print (Name x ∷ []))))))
     (codes "2\n*\n")
     -- (for [x] in {5}) end for;
     -- with 0 turns
-    ∷ ends Spent 0 (just (alone 2 (For (more_iterators (Components (Some x ∷ [])) Values (exprs (enumeration (5 ∷ [])
+    ∷ ends Spent 0 (just (alone 2 (For (more_iterators (Components Values (Some x ∷ [])) (exprs (enumeration (5 ∷ [])
     ∷ [])) no_iterator) no_condition no_stmt))) []
     -- (for [x] in {5}) end for;
-    ∷ ends (Stopped Kind 2) 1 (just (alone 2 (For (more_iterators (Components (Some x ∷ [])) Values (exprs (enumeration
+    ∷ ends (Stopped Kind 2) 1 (just (alone 2 (For (more_iterators (Components Values (Some x ∷ [])) (exprs (enumeration
     (5 ∷ []) ∷ [])) no_iterator) no_condition no_stmt))) []
     -- (for [x] in [[1], om, [2]])
     -- print(x); end for;
-    ∷ ends (Stopped Om 2) 9 (just (alone 2 (For (more_iterators (Components (Some x ∷ [])) Values (exprs (tuple_of
+    ∷ ends (Stopped Om 2) 9 (just (alone 2 (For (more_iterators (Components Values (Some x ∷ [])) (exprs (tuple_of
     (row_of (1 ∷ []) ∷ Undefined ∷ row_of (2 ∷ []) ∷ []) ∷ [])) no_iterator) no_condition (alone 3 (print (Name x
     ∷ [])))))) (codes "1\n")
     -- f := {[1, 2], [1, 3], [2, 5]}; (for y = f(x)) print(x, y); end for;
     ∷ does 2 (just (on_line 2 (assign f (set_of (row_of (1 ∷ 2 ∷ []) ∷ row_of (1 ∷ 3 ∷ []) ∷ row_of (2 ∷ 5 ∷ []) ∷ []))
-    ∷ For (more_iterators (Point y x) Points (exprs (Name f ∷ [])) no_iterator) no_condition (alone 2 (print
+    ∷ For (more_iterators (Point y x) (exprs (Name f ∷ [])) no_iterator) no_condition (alone 2 (print
     (Name x ∷ Name y ∷ []))) ∷ []))) (codes "1 *\n2 5\n")
     -- f := [7, om, 9]; (for y = f(x)) print(x, y); end for;
     -- g := 'ab'; (for y = g(x)) print(x, y); end for;
-    ∷ does 5 (just (at 2 (assign f (tuple_of (number 7 ∷ Undefined ∷ number 9 ∷ []))) (at 2 (For (more_iterators
-    (Point y x) Points (exprs (Name f ∷ [])) no_iterator) no_condition (alone 2 (print (Name x ∷ Name y ∷ []))))
-    (at 3 (assign g (quoted (codes "ab"))) (at 3 (For (more_iterators (Point y x) Points (exprs (Name g
+    ∷ does 5 (just (at 2 (assign f (tuple_of (number 7 ∷ Undefined ∷ number 9 ∷ []))) (at 2 (For (more_iterators (Point y x) (exprs (Name f ∷ [])) no_iterator) no_condition (alone 2 (print (Name x ∷ Name y ∷ []))))
+    (at 3 (assign g (quoted (codes "ab"))) (at 3 (For (more_iterators (Point y x) (exprs (Name g
     ∷ [])) no_iterator) no_condition (alone 3 (print (Name x ∷ Name y ∷ [])))) no_stmt)))))
     (codes "1 7\n2 *\n3 9\n1 a\n2 b\n")
     -- the map is read once:
     -- f := {[1, 2], [2, 3]}; (for y = f(x)) f := {}; print(x, y); end for;
-    ∷ does 2 (just (on_line 2 (assign f (set_of (row_of (1 ∷ 2 ∷ []) ∷ row_of (2 ∷ 3 ∷ []) ∷ [])) ∷ For (more_iterators
-    (Point y x) Points (exprs (Name f ∷ [])) no_iterator) no_condition (on_line 2 (assign f (set_of []) ∷ print
+    ∷ does 2 (just (on_line 2 (assign f (set_of (row_of (1 ∷ 2 ∷ []) ∷ row_of (2 ∷ 3 ∷ []) ∷ [])) ∷ For (more_iterators (Point y x) (exprs (Name f ∷ [])) no_iterator) no_condition (on_line 2 (assign f (set_of []) ∷ print
     (Name x ∷ Name y ∷ []) ∷ [])) ∷ []))) (codes "1 2\n2 3\n")
     -- kind 2:
     -- f := {1}; (for y = f(x)) end for;
     -- f := 5; (for y = f(x)) end for;
     ∷ all_end (Stopped Kind 2) (
-    just (on_line 2 (assign f (enumeration (1 ∷ [])) ∷ For (more_iterators (Point y x) Points (exprs (Name f
+    just (on_line 2 (assign f (enumeration (1 ∷ [])) ∷ For (more_iterators (Point y x) (exprs (Name f
     ∷ [])) no_iterator) no_condition no_stmt ∷ []))
-    ∷ just (on_line 2 (assign f (number 5) ∷ For (more_iterators (Point y x) Points (exprs (Name f
+    ∷ just (on_line 2 (assign f (number 5) ∷ For (more_iterators (Point y x) (exprs (Name f
     ∷ [])) no_iterator) no_condition no_stmt ∷ []))
     ∷ [])
     -- om 2:
     -- f := om; (for y = f(x)) end for;
     ++ all_end (Stopped Om 2) (
-    just (on_line 2 (assign f Undefined ∷ For (more_iterators (Point y x) Points (exprs (Name f
+    just (on_line 2 (assign f Undefined ∷ For (more_iterators (Point y x) (exprs (Name f
     ∷ [])) no_iterator) no_condition no_stmt ∷ []))
     ∷ [])
 
@@ -150,13 +148,12 @@ loop_rows =
     ∷ [])))))) (codes "2\n4\n")
     -- the inner one starts anew at each step of the outer one:
     -- (for x in [1, 2], y in [1..x]) print(x, y); end for;
-    ∷ does 5 (just (alone 2 (For (more_iterators (Member x) Values (exprs (row_of (1 ∷ 2 ∷ []) ∷ [])) (more_iterators
-    (Member y) Between (exprs (number 1 ∷ Name x ∷ [])) no_iterator)) no_condition (alone 2 (print (Name x
+    ∷ does 5 (just (alone 2 (For (more_iterators (Member Values x) (exprs (row_of (1 ∷ 2 ∷ []) ∷ [])) (more_iterators (Member Between y) (exprs (number 1 ∷ Name x ∷ [])) no_iterator)) no_condition (alone 2 (print (Name x
     ∷ Name y ∷ [])))))) (codes "1 1\n2 1\n2 2\n")
     -- (for x in [1, 2], y in [1..x]) print(x, y); end for;
     -- with 4 turns
-    ∷ ends Spent 4 (just (alone 2 (For (more_iterators (Member x) Values (exprs (row_of (1 ∷ 2 ∷ []) ∷ []))
-    (more_iterators (Member y) Between (exprs (number 1 ∷ Name x ∷ [])) no_iterator)) no_condition (alone 2 (print
+    ∷ ends Spent 4 (just (alone 2 (For (more_iterators (Member Values x) (exprs (row_of (1 ∷ 2 ∷ []) ∷ []))
+    (more_iterators (Member Between y) (exprs (number 1 ∷ Name x ∷ [])) no_iterator)) no_condition (alone 2 (print
     (Name x ∷ Name y ∷ [])))))) (codes "1 1\n2 1\n")
     -- (for x in [1..5]) print(x); end for;
     -- with 3 turns
@@ -203,13 +200,11 @@ jump_rows =
     (number 2)) (alone 2 Continue) no_stmt ∷ print (Name x ∷ []) ∷ []))))) (codes "1\n3\n")
     -- `quit` leaves all iterators of the loop:
     -- (for x in [1, 2], y in [1, 2]) print(x, y); quit; end for;
-    ∷ does 2 (just (alone 2 (For (more_iterators (Member x) Values (exprs (row_of (1 ∷ 2 ∷ []) ∷ [])) (more_iterators
-    (Member y) Values (exprs (row_of (1 ∷ 2 ∷ []) ∷ [])) no_iterator)) no_condition (on_line 2 (print (Name x
+    ∷ does 2 (just (alone 2 (For (more_iterators (Member Values x) (exprs (row_of (1 ∷ 2 ∷ []) ∷ [])) (more_iterators (Member Values y) (exprs (row_of (1 ∷ 2 ∷ []) ∷ [])) no_iterator)) no_condition (on_line 2 (print (Name x
     ∷ Name y ∷ []) ∷ Quit ∷ []))))) (codes "1 1\n")
     -- `continue` goes to the next step of the last iterator:
     -- (for x in [1, 2], y in [1, 2]) if y = 1 then continue; end if; print(x, y); end for;
-    ∷ does 6 (just (alone 2 (For (more_iterators (Member x) Values (exprs (row_of (1 ∷ 2 ∷ []) ∷ [])) (more_iterators
-    (Member y) Values (exprs (row_of (1 ∷ 2 ∷ []) ∷ [])) no_iterator)) no_condition (on_line 2 (If (two Equal
+    ∷ does 6 (just (alone 2 (For (more_iterators (Member Values x) (exprs (row_of (1 ∷ 2 ∷ []) ∷ [])) (more_iterators (Member Values y) (exprs (row_of (1 ∷ 2 ∷ []) ∷ [])) no_iterator)) no_condition (on_line 2 (If (two Equal
     (Name y) (number 1)) (alone 2 Continue) no_stmt ∷ print (Name x ∷ Name y ∷ []) ∷ []))))) (codes "1 2\n2 2\n")
     -- n := 0; (while n < 4) n +:= 1; if odd n then continue; end if; print(n); end while;
     ∷ does 4 (just (on_line 2 (assign n (number 0) ∷ While (two Below (Name n) (number 4)) (on_line 2 (combine Add n

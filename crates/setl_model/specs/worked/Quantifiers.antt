@@ -1,9 +1,11 @@
 -- Worked rows of quantifiers.
 use Rattle.std.specs.Prelude.{List, [], ◌∷◌, ◌++◌, codes, Some, None}
 use Rattle.setl_map.specs.declared.Operator.TheVariants.{Add, Equal, Below, Above}
-use Rattle.setl_model.specs.Program.{Exists, Forall, NotExists, Member, Components, Point, Values, Between, Points, Undefined, Name, Quantified, no_iterator, more_iterators, If, no_stmt}
-use Rattle.setl_modes.specs.Events.{Om, Kind, Stopped, Spent}
-use Rattle.setl_model.specs.Source.{f, n, x, y, yes, number, quoted, exprs, two, set_of, tuple_of, enumeration, row_of, over, assign, print, on_line, at, alone, just}
+use Rattle.setl_program.specs.declared.kinds.Quantifier.TheVariants.{Exists, Forall, NotExists}
+use Rattle.setl_program.specs.declared.kinds.Source.TheVariants.{Values, Between}
+use Rattle.setl_program.specs.Program.{Member, Components, Point, Undefined, Name, Quantified, no_iterator, more_iterators, If, no_stmt}
+use Rattle.setl_run.specs.Events.{Om, Kind, Stopped, Spent}
+use Rattle.setl_program.specs.Source.{f, n, x, y, yes, number, quoted, exprs, two, set_of, tuple_of, enumeration, row_of, over, assign, print, on_line, at, alone, just}
 use Rattle.setl_model.specs.Table.{Row, does, ends, all_end}
 
 -- the names keep the member that decides; otherwise each becomes `om`
@@ -39,20 +41,20 @@ quantifier_rows =
     (Quantified NotExists (over x (set_of [])) Undefined)) (at 3 (print (Name y ∷ Name x ∷ [])) no_stmt))))))))))
     (codes "false *\ntrue *\ntrue *\n")
     -- n := exists x in [1, 2], y in [x..3] | x + y = 5; print(n, x, y);
-    ∷ does 7 (just (on_line 2 (assign n (Quantified Exists (more_iterators (Member x) Values (exprs (row_of (1 ∷ 2 ∷ [])
-    ∷ [])) (more_iterators (Member y) Between (exprs (Name x ∷ number 3 ∷ [])) no_iterator)) (two Equal (two Add
+    ∷ does 7 (just (on_line 2 (assign n (Quantified Exists (more_iterators (Member Values x) (exprs (row_of (1 ∷ 2 ∷ [])
+    ∷ [])) (more_iterators (Member Between y) (exprs (Name x ∷ number 3 ∷ [])) no_iterator)) (two Equal (two Add
     (Name x) (Name y)) (number 5))) ∷ print (Name n ∷ Name x ∷ Name y ∷ []) ∷ []))) (codes "true 2 3\n")
     -- n := exists x in [1, 2], y in [x..2] | x + y = 5; print(n, x, y);
-    ∷ does 5 (just (on_line 2 (assign n (Quantified Exists (more_iterators (Member x) Values (exprs (row_of (1 ∷ 2 ∷ [])
-    ∷ [])) (more_iterators (Member y) Between (exprs (Name x ∷ number 2 ∷ [])) no_iterator)) (two Equal (two Add
+    ∷ does 5 (just (on_line 2 (assign n (Quantified Exists (more_iterators (Member Values x) (exprs (row_of (1 ∷ 2 ∷ [])
+    ∷ [])) (more_iterators (Member Between y) (exprs (Name x ∷ number 2 ∷ [])) no_iterator)) (two Equal (two Add
     (Name x) (Name y)) (number 5))) ∷ print (Name n ∷ Name x ∷ Name y ∷ []) ∷ []))) (codes "false * *\n")
     -- f := {[1, 2], [2, 5]}; n := exists y = f(x) | y = 5; print(n, x, y);
     ∷ does 2 (just (on_line 2 (assign f (set_of (row_of (1 ∷ 2 ∷ []) ∷ row_of (2 ∷ 5 ∷ []) ∷ [])) ∷ assign n
-    (Quantified Exists (more_iterators (Point y x) Points (exprs (Name f ∷ [])) no_iterator) (two Equal (Name y)
+    (Quantified Exists (more_iterators (Point y x) (exprs (Name f ∷ [])) no_iterator) (two Equal (Name y)
     (number 5))) ∷ print (Name n ∷ Name x ∷ Name y ∷ []) ∷ []))) (codes "true 2 5\n")
     -- n := forall [x, -, y] in {[1, 2, 1], [2, 3, 4]} | x = y; print(n, x, y);
-    ∷ does 2 (just (on_line 2 (assign n (Quantified Forall (more_iterators (Components (Some x ∷ None ∷ Some y
-    ∷ [])) Values (exprs (set_of (row_of (1 ∷ 2 ∷ 1 ∷ []) ∷ row_of (2 ∷ 3 ∷ 4 ∷ []) ∷ []) ∷ [])) no_iterator)
+    ∷ does 2 (just (on_line 2 (assign n (Quantified Forall (more_iterators (Components Values (Some x ∷ None ∷ Some y
+    ∷ [])) (exprs (set_of (row_of (1 ∷ 2 ∷ 1 ∷ []) ∷ row_of (2 ∷ 3 ∷ 4 ∷ []) ∷ []) ∷ [])) no_iterator)
     (two Equal (Name x) (Name y))) ∷ print (Name n ∷ Name x ∷ Name y ∷ []) ∷ []))) (codes "false 2 4\n")
     -- if exists x in {1} | true then print(x); end if;
     ∷ does 1 (just (alone 2 (If (Quantified Exists (over x (enumeration (1 ∷ []))) yes) (alone 2 (print (Name x
@@ -69,7 +71,7 @@ quantifier_rows =
     ∷ just (alone 2 (assign y (Quantified Forall (over x (row_of (1 ∷ []))) (number 5))))
     ∷ just (alone 2 (assign y (Quantified NotExists (over x (tuple_of (yes ∷ []))) (quoted (codes "a")))))
     ∷ just (alone 2 (assign y (Quantified Exists (over x (number 5)) yes)))
-    ∷ just (alone 2 (assign y (Quantified Forall (more_iterators (Components (Some x ∷ [])) Values (exprs (row_of
+    ∷ just (alone 2 (assign y (Quantified Forall (more_iterators (Components Values (Some x ∷ [])) (exprs (row_of
     (1 ∷ []) ∷ [])) no_iterator) yes)))
     ∷ [])
     -- om 2:

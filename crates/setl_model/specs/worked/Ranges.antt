@@ -1,9 +1,9 @@
 -- Worked rows of ranges.
 use Rattle.std.specs.Prelude.{List, [], ◌∷◌, ◌++◌, codes}
 use Rattle.setl_map.specs.declared.Operator.TheVariants.{Subtract, SetRange, TupleRange, SetStep, TupleStep}
-use Rattle.setl_model.specs.Program.{Undefined}
-use Rattle.setl_modes.specs.Events.{Om, Kind, Zero}
-use Rattle.setl_model.specs.Source.{yes, number, quoted, two, three, minus}
+use Rattle.setl_program.specs.Program.{Undefined}
+use Rattle.setl_run.specs.Events.{Om, Kind, Zero}
+use Rattle.setl_program.specs.Source.{yes, number, quoted, two, three, minus}
 use Rattle.setl_model.specs.Table.{Row, writes, spends, all_stop}
 
 -- a range charges the number of its members

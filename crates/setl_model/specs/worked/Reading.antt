@@ -1,9 +1,9 @@
 -- Worked rows of reading.
 use Rattle.std.specs.Prelude.{List, [], ◌∷◌, ◌++◌, replicate, codes}
 use Rattle.setl_map.specs.declared.Operator.TheVariants.{Size, IsTuple}
-use Rattle.setl_model.specs.Program.{Name, Eof, Read, no_stmt}
-use Rattle.setl_modes.specs.Events.{Form, Wide, Deep, Done, Stopped}
-use Rattle.setl_model.specs.Source.{x, y, z, number, one, assign, print, on_line, at, lines_from, just}
+use Rattle.setl_program.specs.Program.{Name, Eof, Read, no_stmt}
+use Rattle.setl_run.specs.Events.{Form, Wide, Deep, Done, Stopped}
+use Rattle.setl_program.specs.Source.{x, y, z, number, one, assign, print, on_line, at, lines_from, just}
 use Rattle.setl_model.specs.Table.{Row, reads}
 
 -- one denotation for each variable

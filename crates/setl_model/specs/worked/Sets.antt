@@ -1,9 +1,9 @@
 -- Worked rows of sets.
 use Rattle.std.specs.Prelude.{List, [], ◌∷◌, ◌++◌, codes}
 use Rattle.setl_map.specs.declared.Operator.TheVariants.{With, Less, Npow, Add, Subtract, Multiply, Modulo, Equal, In, Size, Pow, Arb}
-use Rattle.setl_model.specs.Program.{Undefined, Call, no_argument, Return}
-use Rattle.setl_modes.specs.Events.{Om, Kind, Deep, Stopped, Range as OutOfRange}
-use Rattle.setl_model.specs.Source.{yes, number, quoted, one, two, minus, set_of, tuple_of, enumeration, row_of, at_round, at_brace, print, on_line, alone, with_procedures, deepest, nearly}
+use Rattle.setl_program.specs.Program.{Undefined, Call, no_argument, Return}
+use Rattle.setl_run.specs.Events.{Om, Kind, Deep, Stopped, Range as OutOfRange}
+use Rattle.setl_program.specs.Source.{yes, number, quoted, one, two, minus, set_of, tuple_of, enumeration, row_of, at_round, at_brace, print, on_line, alone, with_procedures, deepest, nearly, procedure}
 use Rattle.setl_model.specs.Table.{Row, writes, spends, all_stop, ends}
 
 -- operations on sets
@@ -79,12 +79,8 @@ enumeration_rows =
     -- print({om, p()});
     -- proc p(); print(7); return 1; end proc;
     ++ ends (Stopped Om 2) 1 (with_procedures (alone 2 (print (set_of (Undefined ∷ Call 0 no_argument ∷ []) ∷ [])))
-    (record {
-      name = codes "p";
-      parameters = [];
-      body = on_line 3 (print (number 7 ∷ []) ∷ Return (number 1)
-          ∷ []);
-    } ∷ [])) (codes "7\n")
+    ((procedure (codes "p") [] (on_line 3 (print (number 7 ∷ []) ∷ Return (number 1)
+          ∷ []))) ∷ [])) (codes "7\n")
     ∷ []
 
 -- sets of subsets, which charge their number

@@ -1,10 +1,11 @@
 -- Worked rows of updates of places.
 use Rattle.std.specs.Prelude.{List, [], ◌∷◌, ◌++◌, codes, Some, None}
-use Rattle.setl_modes.specs.Variable.{Global}
+use Rattle.setl_run.specs.Variable.{Global}
 use Rattle.setl_map.specs.declared.Operator.TheVariants.{With, Less, Lessf, Npow, Add, Subtract, Max, Min, Multiply, Divide, Modulo, Power}
-use Rattle.setl_model.specs.Program.{Undefined, Name, Call, no_argument, rd_argument, no_selector, round_selector, brace_selector, TakeLeast, TakeFirst, TakeLast, Assign, Update, AssignParts, TakeFrom, Return, no_stmt, Rd}
-use Rattle.setl_modes.specs.Events.{Om, Kind, Stopped, Spent, Range as OutOfRange}
-use Rattle.setl_model.specs.Source.{its, f, n, s, t, x, y, yes, number, quoted, minus, set_of, tuple_of, enumeration, row_of, assign, put, combine, combine_round, combine_brace, print, on_line, at, alone, lines_from, just, with_procedures}
+use Rattle.setl_program.specs.declared.kinds.Taking.TheVariants.{TakeLeast, TakeFirst, TakeLast}
+use Rattle.setl_program.specs.Program.{Undefined, Name, Call, no_argument, rd_argument, no_selector, round_selector, brace_selector, Assign, Update, AssignParts, TakeFrom, Return, no_stmt}
+use Rattle.setl_run.specs.Events.{Om, Kind, Stopped, Spent, Range as OutOfRange}
+use Rattle.setl_program.specs.Source.{its, f, n, s, t, x, y, yes, number, quoted, minus, set_of, tuple_of, enumeration, row_of, assign, put, combine, combine_round, combine_brace, print, on_line, at, alone, lines_from, just, with_procedures, procedure, rd_parameter}
 use Rattle.setl_model.specs.Table.{Row, does, ends, all_end}
 
 -- the right side comes first, then the selectors from left to right, then the present value of the variable
@@ -33,22 +34,14 @@ update_rows =
     -- proc f(); x := 10; return 5; end proc;
     ∷ does 1 (with_procedures (on_line 2 (assign (Global (codes "x")) (number 1) ∷ combine Add (Global (codes "x"))
     (Call 0 no_argument) ∷ print (Name (Global (codes "x")) ∷ []) ∷ []))
-    (record {
-      name = codes "f";
-      parameters = [];
-      body = on_line 3 (assign (Global (codes "x")) (number 10)
-          ∷ Return (number 5) ∷ []);
-    } ∷ [])) (codes "15\n")
+    ((procedure (codes "f") [] (on_line 3 (assign (Global (codes "x")) (number 10)
+          ∷ Return (number 5) ∷ []))) ∷ [])) (codes "15\n")
     -- t := [0, 0]; t(p(1)) := p(2); print(t);
     -- proc p(a); print(a); return a; end proc;
     ∷ does 2 (with_procedures (on_line 2 (assign t (row_of (0 ∷ 0 ∷ [])) ∷ put t (Call 0 (rd_argument
     (number 1) no_argument)) (Call 0 (rd_argument (number 2) no_argument)) ∷ print (Name t ∷ []) ∷ []))
-    (record {
-      name = codes "p";
-      parameters = record { passing = Rd; name = codes "a" } ∷ [];
-      body = on_line 3
-          (print (Name (its (codes "a")) ∷ []) ∷ Return (Name (its (codes "a"))) ∷ []);
-    } ∷ [])) (codes "2\n1\n[2 0]\n")
+    ((procedure (codes "p") ((rd_parameter (codes "a")) ∷ []) (on_line 3
+          (print (Name (its (codes "a")) ∷ []) ∷ Return (Name (its (codes "a"))) ∷ []))) ∷ [])) (codes "2\n1\n[2 0]\n")
     -- t := [[0]]; t(p(1))(p(2)) +:= p(3);
     -- proc p(a); print(a); return a; end proc;
     ∷ ends (Stopped Om 2) 3 (with_procedures (on_line 2 (assign t (tuple_of (row_of (0 ∷ []) ∷ [])) ∷ Update Add
@@ -58,12 +51,8 @@ update_rows =
           (round_selector (Call 0 (rd_argument (number 2) no_argument)) no_selector));
     }) (Call 0 (rd_argument
     (number 3) no_argument)) ∷ []))
-    (record {
-      name = codes "p";
-      parameters = record { passing = Rd; name = codes "a" } ∷ [];
-      body = on_line 3
-          (print (Name (its (codes "a")) ∷ []) ∷ Return (Name (its (codes "a"))) ∷ []);
-    } ∷ [])) (codes "3\n1\n2\n")
+    ((procedure (codes "p") ((rd_parameter (codes "a")) ∷ []) (on_line 3
+          (print (Name (its (codes "a")) ∷ []) ∷ Return (Name (its (codes "a"))) ∷ []))) ∷ [])) (codes "3\n1\n2\n")
     ∷ []
 
 -- parts of parts

@@ -1,13 +1,14 @@
 -- Worked rows of whole programs.
 use Rattle.std.specs.Prelude.{List, [], ◌∷◌, codes}
-use Rattle.setl_modes.specs.Variable.{Bound}
+use Rattle.setl_run.specs.Variable.{Bound}
 use Rattle.setl_map.specs.declared.Operator.TheVariants.{With, Npow, Add, NotEqual, NotIn, Size, Pow, FoldAdd, FoldMax, SetRange, TupleRange}
-use Rattle.setl_model.specs.Collections.{OfTuple}
 use Rattle.setl_modes.specs.Modes.{Integers, Elements, Sets, MultiMaps}
 use Rattle.setl_modes.specs.declared.mode.Form.TheVariants.{Local, Remote, Sparse}
-use Rattle.setl_model.specs.Program.{Undefined, Name, Former, no_condition, no_selector, TakeFirst, TakeFrom, If, For, While, Read, no_stmt}
-use Rattle.setl_modes.specs.Events.{Wide, Done, Stopped, Spent}
-use Rattle.setl_model.specs.Source.{own, g, s, t, x, y, number, quoted, one, two, set_of, tuple_of, enumeration, row_of, at_round, at_brace, over, assign, combine, combine_brace, print, on_line, at, alone, lines_from, just}
+use Rattle.setl_program.specs.declared.kinds.Collection.TheVariants.{OfTuple}
+use Rattle.setl_program.specs.declared.kinds.Taking.TheVariants.{TakeFirst}
+use Rattle.setl_program.specs.Program.{Undefined, Name, Former, no_condition, no_selector, TakeFrom, If, For, While, Read, no_stmt}
+use Rattle.setl_run.specs.Events.{Wide, Done, Stopped, Spent}
+use Rattle.setl_program.specs.Source.{own, g, s, t, x, y, number, quoted, one, two, set_of, tuple_of, enumeration, row_of, at_round, at_brace, over, assign, combine, combine_brace, print, on_line, at, alone, lines_from, just, with_modes}
 use Rattle.setl_model.specs.Table.{Row, does, ends, reads, unbased}
 
 -- programs of several parts
@@ -48,16 +49,13 @@ whole_rows =
     -- end if;
     -- end while;
     -- print(seen);
-    ∷ does 99 (record {
-      main = at 4 (assign g (set_of (row_of (1 ∷ 2 ∷ []) ∷ row_of (2 ∷ 3 ∷ []) ∷ row_of (4 ∷ 1 ∷ [])
+    ∷ does 99 ((with_modes (at 4 (assign g (set_of (row_of (1 ∷ 2 ∷ []) ∷ row_of (2 ∷ 3 ∷ []) ∷ row_of (4 ∷ 1 ∷ [])
           ∷ []))) (at 5 (assign (own (codes "seen")) (set_of [])) (at 5 (assign (own (codes "todo")) (row_of (1 ∷ [])))
           (at 6 (While (two NotEqual (Name (own (codes "todo"))) (tuple_of [])) (lines_from 7 (TakeFrom TakeFirst x
           (record { variable = (own (codes "todo")); selectors = no_selector }) ∷ If (two NotIn (Name x) (Name (own
           (codes "seen")))) (lines_from 9 (combine With (own (codes "seen")) (Name x) ∷ For (over y (at_brace (Name g)
           (Name x))) no_condition (alone 10 (combine With (own (codes "todo")) (Name y))) ∷ [])) no_stmt ∷ []))) (at 13
-          (print (Name (own (codes "seen")) ∷ [])) no_stmt))));
-      procedures = [];
-      modes = (
+          (print (Name (own (codes "seen")) ∷ [])) no_stmt))))) [] ((
         g,
         MultiMaps Local
             (Elements 0 Integers) (Sets Remote (Elements 0 Integers)),
@@ -65,8 +63,7 @@ whole_rows =
         own (codes "seen"),
         Sets Local
             (Elements 0 Integers),
-      ) ∷ [];
-    }) (codes "{1 2 3}\n")
+      ) ∷ []))) (codes "{1 2 3}\n")
     -- repr base n: int; g: local mmap{elmt n} remote set(elmt n);
     -- seen: local set(elmt n); end repr;
     -- g := {[1,2],[2,3],[4,1]};
@@ -80,32 +77,22 @@ whole_rows =
     -- end while;
     -- print(seen);
     -- without declarations
-    ∷ unbased 99 (record {
-      main = at 4 (assign g (set_of (row_of (1 ∷ 2 ∷ []) ∷ row_of (2 ∷ 3 ∷ []) ∷ row_of (4 ∷ 1
+    ∷ unbased 99 ((with_modes (at 4 (assign g (set_of (row_of (1 ∷ 2 ∷ []) ∷ row_of (2 ∷ 3 ∷ []) ∷ row_of (4 ∷ 1
           ∷ []) ∷ []))) (at 5 (assign (own (codes "seen")) (set_of [])) (at 5 (assign (own (codes "todo")) (row_of (1
           ∷ []))) (at 6 (While (two NotEqual (Name (own (codes "todo"))) (tuple_of [])) (lines_from 7
           (TakeFrom TakeFirst x (record { variable = (own (codes "todo")); selectors = no_selector }) ∷ If (two NotIn
           (Name x) (Name (own (codes "seen")))) (lines_from 9 (combine With (own (codes "seen")) (Name x) ∷ For (over y
           (at_brace (Name g) (Name x))) no_condition (alone 10 (combine With (own (codes "todo")) (Name y)))
-          ∷ [])) no_stmt ∷ []))) (at 13 (print (Name (own (codes "seen")) ∷ [])) no_stmt))));
-      procedures = [];
-      modes =
-          (g, MultiMaps Local (Elements 0 Integers) (Sets Remote (Elements 0 Integers))) ∷ (
+          ∷ [])) no_stmt ∷ []))) (at 13 (print (Name (own (codes "seen")) ∷ [])) no_stmt))))) [] ((g, MultiMaps Local (Elements 0 Integers) (Sets Remote (Elements 0 Integers))) ∷ (
             own
                 (codes "seen"),
             Sets Local (Elements 0 Integers),
-          ) ∷ [];
-    }) (codes "{1 2 3}\n") Done
+          ) ∷ []))) (codes "{1 2 3}\n") Done
     -- repr base n: int; s: remote set(elmt n); t: sparse set(elmt n); end repr;
     -- s := {30,10}; t := {20,10}; s with:= 20; print(s, t); print([x : x in s]);
-    ∷ does 9 (record {
-      main = on_line 3 (assign s (enumeration (30 ∷ 10 ∷ [])) ∷ assign t (enumeration (20 ∷ 10 ∷ []))
+    ∷ does 9 ((with_modes (on_line 3 (assign s (enumeration (30 ∷ 10 ∷ [])) ∷ assign t (enumeration (20 ∷ 10 ∷ []))
           ∷ combine With s (number 20) ∷ print (Name s ∷ Name t ∷ []) ∷ print (Former OfTuple (Name (Bound 1
-          (codes "x"))) (over (Bound 1 (codes "x")) (Name s)) no_condition ∷ []) ∷ []);
-      procedures = [];
-      modes =
-          (s, Sets Remote (Elements 0 Integers)) ∷ (t, Sets Sparse (Elements 0 Integers)) ∷ [];
-    })
+          (codes "x"))) (over (Bound 1 (codes "x")) (Name s)) no_condition ∷ []) ∷ [])) [] ((s, Sets Remote (Elements 0 Integers)) ∷ (t, Sets Sparse (Elements 0 Integers)) ∷ [])))
     (codes "{10 20 30} {10 20}\n[10 20 30]\n")
     -- repr
     -- base node: int;
@@ -123,8 +110,7 @@ whole_rows =
     -- end if;
     -- end while;
     -- print(#seen);
-    ∷ reads (codes "[1 1]\n[1 1]\n") 400 (record {
-      main = at 7 (assign g (set_of [])) (at 7 (assign (own (codes "seen"))
+    ∷ reads (codes "[1 1]\n[1 1]\n") 400 ((with_modes (at 7 (assign g (set_of [])) (at 7 (assign (own (codes "seen"))
           (set_of [])) (at 7 (assign (own (codes "todo")) (row_of (1 ∷ []))) (at 8 (Read ((own (codes "e")) ∷ [])) (at 9
           (While (two NotEqual (Name (own (codes "e"))) Undefined) (on_line 9 (combine_brace With g (at_round (Name (own
           (codes "e"))) (number 1)) (at_round (Name (own (codes "e"))) (number 2)) ∷ Read ((own (codes "e")) ∷ [])
@@ -133,14 +119,11 @@ whole_rows =
           (Name x) (Name (own (codes "seen")))) (lines_from 13 (combine With (own (codes "seen")) (Name x) ∷ For (over y
           (at_brace (Name g) (Name x))) no_condition (alone 14 (combine With (own (codes "todo")) (Name y)))
           ∷ [])) no_stmt ∷ []))) (at 17 (print (one Size (Name (own (codes "seen")))
-          ∷ [])) no_stmt))))));
-      procedures = [];
-      modes = (
+          ∷ [])) no_stmt))))))) [] ((
         g,
         MultiMaps Local (Elements 0 Integers) (Sets Sparse
             (Elements 0 Integers)),
-      ) ∷ (own (codes "seen"), Sets Remote (Elements 0 Integers)) ∷ [];
-    }) (codes "1\n") Done
+      ) ∷ (own (codes "seen"), Sets Remote (Elements 0 Integers)) ∷ []))) (codes "1\n") Done
     -- repr
     -- base node: int;
     -- g: local mmap{elmt node} sparse set(elmt node);
@@ -157,8 +140,7 @@ whole_rows =
     -- end if;
     -- end while;
     -- print(#seen);
-    ∷ reads (codes "[3 4]\n[2 2]\n[2 4]\n[1 1]\n[4 3]\n[4 4]\n[1 1]\n[2 3]\n") 400 (record {
-      main = at 7 (assign g
+    ∷ reads (codes "[3 4]\n[2 2]\n[2 4]\n[1 1]\n[4 3]\n[4 4]\n[1 1]\n[2 3]\n") 400 ((with_modes (at 7 (assign g
           (set_of [])) (at 7 (assign (own (codes "seen")) (set_of [])) (at 7 (assign (own (codes "todo")) (row_of (1
           ∷ []))) (at 8 (Read ((own (codes "e")) ∷ [])) (at 9 (While (two NotEqual (Name (own (codes "e"))) Undefined)
           (on_line 9 (combine_brace With g (at_round (Name (own (codes "e"))) (number 1)) (at_round (Name (own
@@ -170,13 +152,9 @@ whole_rows =
           }) ∷ If (two NotIn (Name x) (Name (own (codes "seen"))))
           (lines_from 13 (combine With (own (codes "seen")) (Name x) ∷ For (over y (at_brace (Name g)
           (Name x))) no_condition (alone 14 (combine With (own (codes "todo")) (Name y))) ∷ [])) no_stmt ∷ []))) (at 17
-          (print (one Size (Name (own (codes "seen"))) ∷ [])) no_stmt))))));
-      procedures = [];
-      modes =
-          (g, MultiMaps Local (Elements 0 Integers) (Sets Sparse (Elements 0 Integers))) ∷ (
+          (print (one Size (Name (own (codes "seen"))) ∷ [])) no_stmt))))))) [] ((g, MultiMaps Local (Elements 0 Integers) (Sets Sparse (Elements 0 Integers))) ∷ (
             own
                 (codes "seen"),
             Sets Remote (Elements 0 Integers),
-          ) ∷ [];
-    }) (codes "1\n") Done
+          ) ∷ []))) (codes "1\n") Done
     ∷ []

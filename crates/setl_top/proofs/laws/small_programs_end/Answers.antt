@@ -1,7 +1,7 @@
 use Rattle.std.proofs.Common.{subst, sym}
-use Rattle.setl_modes.specs.Events.{Done}
+use Rattle.setl_run.specs.Events.{Done}
 use Rattle.setl_model.specs.Means.{Means}
-use Rattle.setl_model.specs.Program.{Program}
+use Rattle.setl_program.specs.Program.{Program}
 use Rattle.setl_top.proofs.Running.{small_is_done}
 use Rattle.setl_top.proofs.laws.small_programs_end.Goals as goal
 

@@ -1,0 +1,4 @@
+mod ByRunning
+mod ByRounds
+mod Listed
+mod Unsound

@@ -1,0 +1,12 @@
+pub mod Code
+pub mod Piece
+pub mod Generated
+pub mod Names
+pub mod CodeOf
+pub mod Listing
+pub mod CodeCore
+pub mod Machine
+pub mod CodeMeans
+pub mod Shapes
+pub mod Sound
+pub mod Plain

@@ -1,0 +1,11 @@
+pub mod Program
+pub mod Source
+pub mod Formed
+pub mod Numbered
+pub mod Scope
+pub mod Operators
+pub mod Expressions
+pub mod Statements
+pub mod ProgramOf
+pub mod Plain
+pub mod Samples

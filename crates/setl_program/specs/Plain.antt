@@ -1,0 +1,161 @@
+-- The plain data that a program stands for.
+use Rattle.std.specs.Prelude.{ℕ, List, [], ◌∷◌, map, Option, Some, None}
+use Rattle.std.specs.Option.{option_map}
+use Rattle.setl_value.specs.Datum.{bool, int, text}
+use Rattle.setl_run.specs.Variable as run
+use Rattle.setl_modes.specs.Modes.{mode_of}
+use Rattle.setl_program.specs.declared.expr.Variable.{Variable}
+use Rattle.setl_program.specs.declared.expr.Variable.TheVariants as v
+use Rattle.setl_program.specs.declared.expr.Binding.{Binding}
+use Rattle.setl_program.specs.declared.expr.Binding.TheVariants as b
+use Rattle.setl_program.specs.declared.expr.Expr.{Expr, fold-Expr}
+use Rattle.setl_program.specs.declared.expr.Argument.TheOpen.{Argument-F, Expr-F, Iterator-F}
+use Rattle.setl_program.specs.declared.expr.Iterator.{Iterator, fold-Iterator}
+use Rattle.setl_program.specs.declared.expr.Argument.{Argument, fold-Argument}
+use Rattle.setl_program.specs.declared.stmt.Selector.{Selector}
+use Rattle.setl_program.specs.declared.stmt.Selector.TheVariants as s
+use Rattle.setl_program.specs.declared.stmt.Place.{Place}
+use Rattle.setl_program.specs.declared.stmt.Stmt.{Stmt, fold-Stmt}
+use Rattle.setl_program.specs.declared.stmt.StmtKind.TheOpen.{StmtKind-F, Stmt-F}
+use Rattle.setl_program.specs.declared.program.Procedure.{Procedure}
+use Rattle.setl_program.specs.declared.program.Program.{Program}
+use Rattle.setl_program.specs.Program as plain
+use Rattle.setl_program.specs.ProgramOf.{parameter_of}
+
+abbrev pub plain_variable : Variable → run.Variable
+plain_variable (v.Global name) = run.Global name
+plain_variable (v.Own body name) = run.Own body name
+plain_variable (v.Former former name) = run.Bound former name
+
+abbrev pub plain_slots : List (Option Variable) → plain.Slots
+plain_slots xs = map (λ x. option_map plain_variable x) xs
+
+abbrev pub plain_binding : Binding → plain.Binding
+plain_binding (b.Member k x) = plain.Member k (plain_variable x)
+plain_binding (b.Components k xs) = plain.Components k (plain_slots xs)
+plain_binding (b.Point y x) = plain.Point (plain_variable y) (plain_variable x)
+
+-- ---- lists
+
+abbrev pub exprs_of : List plain.Expr → plain.Exprs
+exprs_of [] = plain.no_expr
+exprs_of (e ∷ es) = plain.more_exprs e (exprs_of es)
+
+abbrev pub iterators_of : List (plain.Binding × plain.Exprs) → plain.Iterators
+iterators_of [] = plain.no_iterator
+iterators_of (i ∷ is) = plain.more_iterators i.0 i.1 (iterators_of is)
+
+abbrev pub condition_of : Option plain.Expr → plain.Condition
+condition_of None = plain.no_condition
+condition_of (Some e) = plain.only_if e
+
+-- arguments in their order, each as what it puts before the others
+abbrev pub arguments_of : List (plain.Arguments → plain.Arguments) → plain.Arguments
+arguments_of [] = plain.no_argument
+arguments_of (a ∷ as_) = a (arguments_of as_)
+
+abbrev pub block_of : List (ℕ × plain.Stmt) → plain.Block
+block_of [] = plain.no_stmt
+block_of (s ∷ ss) = plain.more_stmts s.0 s.1 (block_of ss)
+
+-- ---- expressions
+
+abbrev pub expr_step : Expr-F (plain.Arguments → plain.Arguments) plain.Expr (plain.Binding × plain.Exprs) → plain.Expr
+expr_step (Expr-F.Integer n) = plain.Literal (int n)
+expr_step (Expr-F.Text t) = plain.Literal (text t)
+expr_step (Expr-F.Truth t) = plain.Literal (bool t)
+expr_step Expr-F.Undefined = plain.Undefined
+expr_step (Expr-F.Name x) = plain.Name (plain_variable x)
+expr_step (Expr-F.Apply o es) = plain.Apply o (exprs_of es)
+expr_step (Expr-F.Connect k x y) = plain.Connect k x y
+expr_step (Expr-F.Choose t x y) = plain.Choose t x y
+expr_step (Expr-F.Former k e is t) = plain.Former k e (iterators_of is) (condition_of t)
+expr_step (Expr-F.Selection k x es c) = plain.Selection k (plain_binding x) (exprs_of es) c
+expr_step (Expr-F.Quantified q is c) = plain.Quantified q (iterators_of is) c
+expr_step (Expr-F.Call f all) = plain.Call f (arguments_of all)
+expr_step Expr-F.Newat = plain.Newat
+expr_step Expr-F.Eof = plain.Eof
+expr_step Expr-F.Ok = plain.Ok
+
+abbrev pub iterator_step : Iterator-F (plain.Arguments → plain.Arguments) plain.Expr (plain.Binding × plain.Exprs) → plain.Binding × plain.Exprs
+iterator_step i = (plain_binding i.binding, exprs_of i.sources)
+
+abbrev pub argument_step : Argument-F (plain.Arguments → plain.Arguments) plain.Expr (plain.Binding × plain.Exprs) → plain.Arguments → plain.Arguments
+argument_step (Argument-F.Rd e) = plain.rd_argument e
+argument_step (Argument-F.Wr x) = plain.wr_argument (plain_variable x)
+argument_step (Argument-F.Rw x) = plain.rw_argument (plain_variable x)
+
+abbrev pub plain_expr : Expr → plain.Expr
+plain_expr = fold-Expr (plain.Arguments → plain.Arguments) plain.Expr (plain.Binding × plain.Exprs) argument_step expr_step iterator_step
+
+abbrev pub plain_iterator : Iterator → plain.Binding × plain.Exprs
+plain_iterator = fold-Iterator (plain.Arguments → plain.Arguments) plain.Expr (plain.Binding × plain.Exprs) argument_step expr_step iterator_step
+
+abbrev pub plain_argument : Argument → plain.Arguments → plain.Arguments
+plain_argument = fold-Argument (plain.Arguments → plain.Arguments) plain.Expr (plain.Binding × plain.Exprs) argument_step expr_step iterator_step
+
+abbrev pub plain_exprs : List Expr → plain.Exprs
+plain_exprs es = exprs_of (map plain_expr es)
+
+abbrev pub plain_iterators : List Iterator → plain.Iterators
+plain_iterators is = iterators_of (map plain_iterator is)
+
+abbrev pub plain_arguments : List Argument → plain.Arguments
+plain_arguments all = arguments_of (map plain_argument all)
+
+-- ---- statements
+
+abbrev pub selectors_of : List Selector → plain.Selectors
+selectors_of [] = plain.no_selector
+selectors_of (s.Round e ∷ rest) = plain.round_selector (plain_expr e) (selectors_of rest)
+selectors_of (s.Brace e ∷ rest) = plain.brace_selector (plain_expr e) (selectors_of rest)
+
+abbrev pub plain_place : Place → plain.Place
+plain_place p = record { variable = plain_variable p.variable; selectors = selectors_of p.selectors }
+
+abbrev pub kind_step : StmtKind-F plain.Stmt (ℕ × plain.Stmt) → plain.Stmt
+kind_step (StmtKind-F.Assign p e) = plain.Assign (plain_place p) (plain_expr e)
+kind_step (StmtKind-F.Update o p e) = plain.Update o (plain_place p) (plain_expr e)
+kind_step (StmtKind-F.AssignParts xs e) = plain.AssignParts (plain_slots xs) (plain_expr e)
+kind_step (StmtKind-F.TakeFrom k x p) = plain.TakeFrom k (plain_variable x) (plain_place p)
+kind_step (StmtKind-F.Perform e) = plain.Perform (plain_expr e)
+kind_step (StmtKind-F.If e x y) = plain.If (plain_expr e) (block_of x) (block_of y)
+kind_step (StmtKind-F.For is t x) = plain.For (plain_iterators is) (condition_of (option_map plain_expr t)) (block_of x)
+kind_step (StmtKind-F.While e x) = plain.While (plain_expr e) (block_of x)
+kind_step StmtKind-F.Quit = plain.Quit
+kind_step StmtKind-F.Continue = plain.Continue
+kind_step StmtKind-F.Fail = plain.Fail
+kind_step StmtKind-F.Stop = plain.Stop
+kind_step StmtKind-F.Pass = plain.Pass
+kind_step (StmtKind-F.Return e) = plain.Return (plain_expr e)
+kind_step (StmtKind-F.Print es) = plain.Print (plain_exprs es)
+kind_step (StmtKind-F.Read xs) = plain.Read (map plain_variable xs)
+
+abbrev pub stmt_step : Stmt-F plain.Stmt (ℕ × plain.Stmt) → ℕ × plain.Stmt
+stmt_step x = (x.line, x.kind)
+
+abbrev pub plain_stmt : Stmt → ℕ × plain.Stmt
+plain_stmt = fold-Stmt plain.Stmt (ℕ × plain.Stmt) kind_step stmt_step
+
+abbrev pub plain_block : List Stmt → plain.Block
+plain_block ss = block_of (map plain_stmt ss)
+
+-- ---- programs
+
+abbrev pub plain_procedure : Procedure → plain.Procedure
+plain_procedure p = record {
+  name = p.name;
+  parameters = map parameter_of p.parameters;
+  body = plain_block p.body;
+  end_line = p.end_line;
+}
+
+abbrev pub plain_program : Program → plain.Program
+plain_program p = record {
+  name = p.name;
+  vars = p.vars;
+  main = plain_block p.main;
+  end_line = p.end_line;
+  procedures = map plain_procedure p.procedures;
+  modes = map (λ d. (plain_variable d.variable, mode_of d.mode)) p.declared;
+}

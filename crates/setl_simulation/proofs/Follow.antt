@@ -1,0 +1,105 @@
+-- A machine that follows another runs alike.
+use Rattle.std.proofs.Common.{◌≡◌, ◌<◌, ◌≤◌, ◌+◌, arith, ℕ, zero, suc, Bool, true, false, List, [], ◌∷◌, ◌++◌, refl, sym, ap, ◌∙◌, append-nil}
+use Rattle.setl_run.specs.Events.{End, Unfit, Stored, Stopped, Event}
+use Rattle.setl_run.specs.Run.{Store, Move, State, Next, Goes, Ends, Machine, Test, if_fits, stored, store_all, settle, step, and_then, run}
+use Rattle.setl_simulation.specs.Follow.{Related, moves, halts, Answers, by_step, after_step, by_none, Follows, Shares, Same}
+
+module _ (K C : Type 0) (m : Machine K) (n : Machine C) (R : K → C → Type 0) (rank : (k : K) (c : C) → R k c → ℕ) (follows : Follows m n R rank) (test : Test) where
+  stores_same : (line : ℕ) (xs : List Store) (s : State K) (t : State C) → Shares R s t → Same R (store_all m test line xs s) (store_all n test line xs t)
+  stores_same line [] s t h = h
+  stores_same line (x ∷ xs) s t h = go (test x.0 x.1) (stores_same line xs _ _ one)
+    where
+      one : Shares R (stored m line x s) (stored n line x t)
+      one = record { core = follows.writes x.0 x.1 s.core t.core h.core; out = h.out; events = ap (λ l. l ++ Stored line x.0 x.1 ∷ []) h.events }
+
+      go : (b : Bool) → Same R (store_all m test line xs (stored m line x s)) (store_all n test line xs (stored n line x t)) → Same R (if_fits b (store_all m test line xs (stored m line x s)) (Stopped (Unfit x.0) line) s) (if_fits b (store_all n test line xs (stored n line x t)) (Stopped (Unfit x.0) line) t)
+      go true later = later
+      go false later = (refl, h.out, h.events)
+
+  settle_same : (x : Move K) (y : Move C) (s : State K) (t : State C) → Related R x y → s.out ≡ t.out → s.events ≡ t.events → Same R (settle m test s x) (settle n test t y)
+  settle_same x y s t (moves {said = said} {told = told} {line = line} {xs = xs} r) o e =
+      stores_same line xs _ _ (record { core = r; out = ap (λ l. l ++ said) o; events = ap (λ l. l ++ told) e })
+  settle_same x y s t halts o e = (refl, o, e)
+
+  then_goes : (x : Next C) → and_then x Goes ≡ x
+  then_goes (Goes s) = refl
+  then_goes (Ends e s) = refl
+
+  -- One move of the first is some steps of the second, one at least; or none, where the rank falls.
+  data Reply (r : ℕ) (x : Move K) (s : State K) (t : State C) : Type 0 where
+    stepped : (k : ℕ) → Same R (settle m test s x) (run n test (suc k) t) → Reply r x s t
+    idle : (k : K) → settle m test s x ≡ Goes (record { core = k; out = s.out ++ []; events = s.events ++ [] }) → (h : R k t.core) → rank k t.core h < r → Reply r x s t
+
+  more : (r r' : ℕ) (x : Move K) (s : State K) (t u : State C) → step n test t ≡ Goes u → (s.out ≡ u.out) → (s.events ≡ u.events) → Reply r' x s u → Reply r x s t
+  more r r' x s t u e o v (stepped k same) = stepped (suc k) (rw e same)
+  more r r' x s t u e o v (idle k q h l) =
+      stepped 0 (rw (q, e) (record { core = h; out = append-nil s.out ∙ o; events = append-nil s.events ∙ v }))
+
+  answer : (r : ℕ) (x : Move K) (c : C) (s : State K) (out : List ℕ) (events : List Event) → Answers R rank n r x c → s.out ≡ out → s.events ≡ events → Reply r x s (record { core = c; out = out; events = events })
+  answer r x c s out events (by_step h) o e =
+      stepped 0 (rw (then_goes (settle n test (record { core = c; out = out; events = events }) (n.move c))) (settle_same x (n.move c) s _ h o e))
+  answer r x c s out events (after_step {r' = r'} c' q a) o e =
+      let u : State C = record { core = c'; out = out ++ []; events = events ++ [] } in
+      let t : State C = record { core = c; out = out; events = events } in
+      let one : step n test t ≡ Goes u = ap (settle n test t) q in
+      let o' : s.out ≡ out ++ [] = o ∙ sym (append-nil out) in
+      let e' : s.events ≡ events ++ [] = e ∙ sym (append-nil events) in
+      more r r' x s t u one o' e' (answer r' x c' s (out ++ []) (events ++ []) a o' e')
+  answer r x c s out events (by_none {k = k} h l) o e = idle k refl h l
+
+  abbrev EndsWith : End → State C → State K → Type 0
+  EndsWith e l s = (j : ℕ) × (s' : State K) × (run m test j s ≡ Ends e s') × (s'.out ≡ l.out) × (s'.events ≡ l.events)
+
+  one_more : (e : End) (l : State C) (s u : State K) → step m test s ≡ Goes u → EndsWith e l u → EndsWith e l s
+  one_more e l s u h (j, s', r, o, v) = (suc j, s', ap (λ y. and_then y (run m test j)) h ∙ r, o, v)
+
+  goes_then_ends : (k i : ℕ) (t u l : State C) (e : End) → run n test k t ≡ Goes u → run n test i t ≡ Ends e l → (j : ℕ) × (j + k ≡ i) × (run n test j u ≡ Ends e l)
+  goes_then_ends zero i t u l e h g = let same : t ≡ u = cc in (i, omega arith, ap (run n test i) (sym same) ∙ g)
+  goes_then_ends (suc k) zero t u l e h g = cc
+  goes_then_ends (suc k) (suc i) t u l e h g = go (step n test t) h g (λ b. goes_then_ends k i b u l e)
+    where
+      go : (x : Next C) → and_then x (run n test k) ≡ Goes u → and_then x (run n test i) ≡ Ends e l → ((b : State C) → run n test k b ≡ Goes u → run n test i b ≡ Ends e l → (j : ℕ) × (j + k ≡ i) × (run n test j u ≡ Ends e l)) → (j : ℕ) × (j + suc k ≡ suc i) × (run n test j u ≡ Ends e l)
+      go (Goes b) h g ih = let r = ih b h g in (r.0, omega (arith, r.1), r.2)
+      go (Ends f b) h g ih = cc
+
+  ends_alike : (k i : ℕ) (a l l' : State C) (e e' : End) → run n test k a ≡ Ends e l → run n test i a ≡ Ends e' l' → Ends e l ≡ Ends e' l'
+  ends_alike zero i a l l' e e' h g = cc
+  ends_alike (suc k) zero a l l' e e' h g = cc
+  ends_alike (suc k) (suc i) a l l' e e' h g = go (step n test a) h g (λ b. ends_alike k i b l l' e e')
+    where
+      go : (x : Next C) → and_then x (run n test k) ≡ Ends e l → and_then x (run n test i) ≡ Ends e' l' → ((b : State C) → run n test k b ≡ Ends e l → run n test i b ≡ Ends e' l' → Ends e l ≡ Ends e' l') → Ends e l ≡ Ends e' l'
+      go (Goes b) h g ih = ih b h g
+      go (Ends f b) h g ih = sym h ∙ g
+
+  module _ (e : End) (l : State C) where
+    within : (b : ℕ) → ((s : State K) (t : State C) (i : ℕ) → i ≤ b → Shares R s t → run n test i t ≡ Ends e l → EndsWith e l s) → (r : ℕ) (s : State K) (t : State C) (i : ℕ) → i ≤ suc b → (h : Shares R s t) → rank s.core t.core h.core < r → run n test i t ≡ Ends e l → EndsWith e l s
+    within b fewer zero s t i le h lt g = let no : ⊥ = omega arith in absurd no
+    within b fewer (suc r) s t i le h lt g =
+        go (answer (rank s.core t.core h.core) (m.move s.core) t.core s t.out t.events (follows.answers s.core t.core h.core) h.out h.events) (within b fewer r)
+      where
+        ended : (x : Next K) (k : ℕ) (y : Next C) → step m test s ≡ x → run n test (suc k) t ≡ y → Same R x y → EndsWith e l s
+        ended (Goes u) k (Goes v) hx hy same =
+            let c = goes_then_ends (suc k) i t v l e hy g in
+            one_more e l s u hx (fewer u v c.0 (let q = c.1 in omega (arith, q)) same c.2)
+        ended (Ends f u) k (Ends f' v) hx hy same =
+            let a = ends_alike (suc k) i t v l f' e hy g in
+            let e1 : f' ≡ e = cc in
+            let e2 : v ≡ l = cc in
+            (1, u, ap (λ y. and_then y (run m test 0)) hx ∙ ap (λ z. Ends z u) (same.0 ∙ e1), same.1 ∙ ap (λ z. z.out) e2, same.2 ∙ ap (λ z. z.events) e2)
+        ended (Goes u) k (Ends f' v) hx hy same = absurd same
+        ended (Ends f u) k (Goes v) hx hy same = absurd same
+
+        go : Reply (rank s.core t.core h.core) (m.move s.core) s t → ((s : State K) (t : State C) (i : ℕ) → i ≤ suc b → (h : Shares R s t) → rank s.core t.core h.core < r → run n test i t ≡ Ends e l → EndsWith e l s) → EndsWith e l s
+        go (stepped k same) ih = ended _ k _ refl refl same
+        go (idle k q h' l') ih =
+            let s' : Shares R (record { core = k; out = s.out ++ []; events = s.events ++ [] }) t = record { core = h'; out = append-nil s.out ∙ h.out; events = append-nil s.events ∙ h.events } in
+            one_more e l s _ q (ih _ t i le s' (omega (arith, l', lt)) g)
+
+    follow_end : (b : ℕ) (s : State K) (t : State C) (i : ℕ) → i ≤ b → Shares R s t → run n test i t ≡ Ends e l → EndsWith e l s
+    follow_end b s t zero le h g = cc
+    follow_end zero s t (suc i) le h g = let no : ⊥ = omega arith in absurd no
+    follow_end (suc b) s t (suc i) le h g = within b (follow_end b) (suc (rank s.core t.core h.core)) s t (suc i) le h (omega arith) g
+
+  -- where the second ends, the first ends alike
+  pub ends_too : (e : End) (l : State C) (s : State K) (t : State C) (i : ℕ) → Shares R s t → run n test i t ≡ Ends e l → EndsWith e l s
+  ends_too e l s t i h g = follow_end e l i s t i (omega arith) h g
