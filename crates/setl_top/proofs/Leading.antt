@@ -4,7 +4,8 @@ use Rattle.std.proofs.lemmas.List.{append-nil}
 use Rattle.setl_value.specs.Datum.{Datum}
 use Rattle.setl_model.specs.Core.{Core}
 use Rattle.setl_run.specs.Events.{Event, Printed, Stored, Stopped, Unfit}
-use Rattle.setl_model.specs.Moves.{charge}
+use Rattle.setl_model.specs.World.{with_left}
+use Rattle.setl_model.specs.Moves.{holding}
 use Rattle.setl_program.specs.Program.{Program}
 use Rattle.setl_run.specs.Run.{Moves, State, Goes, and_then, step, settle, run, if_fits}
 use Rattle.setl_run.specs.RunLaws.{runs_join}
@@ -55,5 +56,5 @@ module _ (p : Program) (based : Bool) where
       ∙ (λ i. Goes (state ((language p).write x v to) (append-nil out i) ((events ++ []) ++ Stored line x v ∷ []))))
 
 -- nothing is charged
-pub charge_none : (c : Core) → charge 0 c ≡ c
-charge_none c = λ i. record c { shared = record c.shared { left = (let same : c.shared.world.left - 0 ≡ c.shared.world.left = omega arith in same) i } }
+pub charge_none : (c : Core) → with_left holding (c.shared.world.left - 0) c ≡ c
+charge_none c = λ i. record c { shared = record c.shared { world = record c.shared.world { left = (let same : c.shared.world.left - 0 ≡ c.shared.world.left = omega arith in same) i } } }

@@ -5,7 +5,7 @@ use Rattle.std.proofs.lemmas.Slice.Eq.{bytes_eq-Decides}
 use Rattle.setl_value.specs.Datum.{Datum, int, elements_of, element_list, element_list-elements_of, set_of}
 use Rattle.setl_model.specs.Core.{Hand, Execute, Evaluate, Result, Frame, InStmt, Then, AssignRight, UpdateRight, PrintParts, Core, write_variable}
 use Rattle.setl_run.specs.Events.{Event, Printed}
-use Rattle.setl_model.specs.Moves.{with_outcome, go_storing}
+use Rattle.setl_model.specs.Moves.{with_outcome, store_or_bind}
 use Rattle.setl_map.specs.declared.Operator.TheVariants.{With as WithOperator}
 use Rattle.setl_map.specs.Outcome.{Gives, within_depth}
 use Rattle.setl_map.specs.Operators.{op_of}
@@ -161,7 +161,7 @@ module _ (p : Program) (based : Bool) (c : Core) (out : List ℕ) (values : Valu
           comes_then p based (state (begins line (With name z) rest) out events) asking given out out
               (comes_on p based (begins line (With name z) rest) asking out events 0 refl)
               (λ events'. comes_on p based asking given out events' 0 refl),
-          ap (λ o. with_outcome o line given (λ new d. go_storing line ((Own 0 name, new) ∷ []) (Execute no_stmt) (Then rest ∷ []) d)) made
+          ap (λ o. with_outcome o line given (λ new d. store_or_bind line (Own 0 name) new (Execute no_stmt) (Then rest ∷ []) d)) made
               ∙ (λ i. Moves [] [] (at (charge_none c i) (Execute no_stmt) (Then rest ∷ [])) line ((Own 0 name, with_member (values name) z) ∷ [])),
         ))
 

@@ -56,7 +56,7 @@ plain_block [] = no_stmt
 plain_block (s ∷ ss) = more_stmts s.line (plain_action s.action) (plain_block ss)
 
 abbrev pub program_of : small.Tree → Program
-program_of tree = record { main = plain_block tree; procedures = []; modes = [] }
+program_of tree = record { name = []; vars = []; main = plain_block tree; end_line = 0; procedures = []; modes = [] }
 
 -- ---- programs
 
