@@ -7,11 +7,11 @@ use Rattle.setl_model.specs.Laws.{OneMeaning}
 use Rattle.setl_model.specs.Means.{Means}
 use Rattle.setl_program.specs.Program.{Program}
 use Rattle.setl_top.specs.Accepted.{IsProgram, IsBuilt, Accepted, Refusal, IsRefusedFor, program_of}
-use Rattle.setl_top.specs.Headline.{Moment, AnyRose, ReadCause, load_failed, read_failed, WriteCause, out_failed, err_failed, faulty_words, refused, checked, run_ended, Job, IsInput, IsToRun, status_for}
-use Rattle.setl_top.specs.Laws.{IsComplete, RefusesExactly, ChecksExactly, EndsExactly, TellsTexts}
+use Rattle.setl_top.specs.Headline.{Moment, AnyRose, ReadCause, load_failed, read_failed, InputLeft, untouched, read_from, WriteCause, out_failed, err_failed, faulty_words, refused, checked, run_ended, Job, IsInput, IsToRun, status_for}
+use Rattle.setl_top.specs.Laws.{IsComplete, FaultyWordsReadNothing, RefusesExactly, ChecksExactly, EndsExactly, TellsTexts}
 use Rattle.setl_top.specs.Reasons.{reason_line}
 use Rattle.setl_top.specs.Small.{small_of}
-use Rattle.setl_top.specs.Words.{Command, Run, Check, Spells, HasFile, RunsFile}
+use Rattle.setl_top.specs.Words.{Command, Run, Check, Spells, HasFile, RunsFile, IsFaulty}
 use Rattle.setl_top.specs.declared.status.Status.TheVariants.{Done, Refused, Words, Stopped, Spent, ReadFault, WriteFault, NoMemory}
 use Rattle.setl_top.proofs.OneReason.{FrontLaws, one_reason, one_program_tree, not_refused}
 
@@ -34,6 +34,17 @@ complete words before after WriteFault h = inl (inl (write_rose words before aft
 complete words before after NoMemory h = inl (inr refl)
 
 -- ---- the words
+
+no_read : (words : List (List ℕ)) (before after : Moment) (out : List ℕ) → IsFaulty words → ReadCause words before after out → ⊥
+no_read words before after _ faulty (load_failed c n s f r e) = faulty c s
+no_read words before after _ faulty (read_failed job out r a h) = faulty a.command a.spelled
+
+no_input : (words : List (List ℕ)) (before after : Moment) → IsFaulty words → InputLeft words before after → after.input ≡ before.input
+no_input words before after faulty (untouched e) = e
+no_input words before after faulty (read_from job out taken a h k) = absurd (faulty a.command a.spelled)
+
+pub faulty_reads_nothing : FaultyWordsReadNothing
+faulty_reads_nothing words before after faulty = ((λ h. no_read words before after h.out faulty h.cause), no_input words before after faulty)
 
 first_byte : List (List ℕ) → ℕ
 first_byte [] = 0

@@ -6,16 +6,21 @@ use Rattle.setl_model.specs.Means.{Means}
 use Rattle.setl_program.specs.Program.{Program}
 use Rattle.setl_tree.specs.declared.tree.Tree.{Tree}
 use Rattle.setl_top.specs.Accepted.{IsProgram, IsBuilt, Accepted, Refusal}
-use Rattle.setl_top.specs.Headline.{Moment, Headline, Ended, AnyRose, Answers, Job, IsToRun, status_for}
-use Rattle.setl_top.specs.Words.{Command, Check, Spells, HasFile}
+use Rattle.setl_top.specs.Headline.{Moment, Headline, InputLeft, Ended, AnyRose, Answers, Job, IsToRun, status_for}
+use Rattle.setl_top.specs.Words.{Command, Check, Spells, HasFile, IsFaulty}
 use Rattle.setl_top.specs.declared.status.Status.{Status}
-use Rattle.setl_top.specs.declared.status.Status.TheVariants.{NoMemory, Refused}
+use Rattle.setl_top.specs.declared.status.Status.TheVariants.{NoMemory, ReadFault, Refused}
 use Rattle.setl_top.specs.declared.status.Status.TheVariants as ended
 
 -- the call failed in none of the three ways only where it came to its end
 abbrev pub IsComplete : Type 0
 IsComplete = (words : List (List ℕ)) (before after : Moment) (status : Status) →
     Headline words before after status → (AnyRose before after ⊎ (status ≡ NoMemory)) ⊎ Ended words before after status
+
+-- faulty words are never answered by a read fault, and the input is left as it was
+abbrev pub FaultyWordsReadNothing : Type 0
+FaultyWordsReadNothing = (words : List (List ℕ)) (before after : Moment) → IsFaulty words →
+    (Headline words before after ReadFault → ⊥) × (InputLeft words before after → after.input ≡ before.input)
 
 -- the texts are told
 abbrev pub TellsTexts : Moment → (List ℕ → Option (List ℕ)) → Type 0

@@ -1,9 +1,14 @@
 //! What follows from the headline and the definitions alone. The functions have no effect: each states a law.
-ghost use Rattle.setl_top.specs.Laws.{IsComplete, RefusesExactly, ChecksExactly, EndsExactly, SmallProgramsEnd};
+ghost use Rattle.setl_top.specs.Laws.{IsComplete, FaultyWordsReadNothing, RefusesExactly, ChecksExactly, EndsExactly, SmallProgramsEnd};
 
 /// Where no count of faults rose and memory was found, the call came to its end.
 pub fn completeness()
     ensures { IsComplete }
+{}
+
+/// Where the words are faulty, a call never answers that a read failed, and the input is left as it was.
+pub fn faulty_words_read_nothing()
+    ensures { FaultyWordsReadNothing }
 {}
 
 /// Where the texts are told and the source is refused, a call that came to its end is refused.

@@ -15,6 +15,9 @@ mod status;
 mod top;
 mod words;
 
-pub use laws::{checks_exactly, completeness, ends_exactly, refused_exactly, small_programs_end};
+pub use laws::{
+    checks_exactly, completeness, ends_exactly, faulty_words_read_nothing, refused_exactly,
+    small_programs_end,
+};
 pub use status::Status;
 pub use top::setl;
