@@ -1,418 +1,374 @@
--- Made by a tool: sources as plain programs, what their listing is and what they do.
-use Rattle.std.proofs.Common.{◌≡◌, true, [], ◌∷◌, Some, None, refl}
-use Rattle.std.specs.Prelude.{codes, pos}
+-- The worked programs, by computation.
+use Rattle.std.proofs.Common.{◌≡◌, ℕ, true, List, Option, Some, None, refl, ap}
 use Rattle.std.specs.Fmt.{digits}
-use Rattle.setl_value.specs.Datum.{bool, int, text}
-use Rattle.setl_run.specs.Variable.{Global, Own, Bound}
-use Rattle.setl_map.specs.declared.Operator.TheVariants.{Abs, Size, Pow, FoldAdd, FoldMax, Add, Subtract, With, Less, Npow, Equal, NotEqual, Below, Above, In, Get, Images, Slice, Tail, SetOf, TupleOf, TupleRange}
-use Rattle.setl_program.specs.declared.kinds.Collection.TheVariants.{OfSet, OfTuple}
-use Rattle.setl_program.specs.declared.kinds.Connective.TheVariants.{And, Or, Implies}
-use Rattle.setl_program.specs.declared.kinds.Quantifier.TheVariants.{Exists, Forall, NotExists}
-use Rattle.setl_program.specs.declared.kinds.Source.TheVariants.{Values, Between, SetSteps}
-use Rattle.setl_program.specs.declared.kinds.Taking.TheVariants.{TakeLeast, TakeFirst, TakeLast}
-use Rattle.setl_tree.specs.declared.tree.Passing.TheVariants.{Rd, Wr, Rw}
-use Rattle.setl_program.specs.Program.{Member, Components, Point, Literal, Undefined, Name, Apply, Connect, Choose, Former, Selection, Quantified, Call, Newat, Eof, Ok, no_expr, more_exprs, no_iterator, more_iterators, no_condition, only_if, no_argument, rd_argument, wr_argument, rw_argument, no_selector, round_selector, brace_selector, Assign, Update, AssignParts, TakeFrom, Perform, If, For, While, Quit, Continue, Fail, Stop, Pass, Return, Print, Read, no_stmt, more_stmts, Program}
-use Rattle.setl_run.specs.Events.{Om, Nothing, Wide, Done, Stopped}
+use Rattle.setl_run.specs.Events.{End}
+use Rattle.setl_run.specs.Run.{State, Next, Goes, Ends, run}
+use Rattle.setl_model.specs.Core.{Core}
+use Rattle.setl_model.specs.Means.{first}
+use Rattle.setl_model.specs.Step.{language, test_of}
 use Rattle.setl_code.specs.CodeOf.{code_of}
-use Rattle.setl_code.specs.Listing.{listing}
-use Rattle.setl_code.specs.CodeMeans.{CodeMeans}
+use Rattle.setl_code.specs.Worked.{CodeRow, IsListed, Runs, IsMeant, AllAreListed, AllRun, AllAreMeant, worked_codes, calls, counting, emptied_set, enumeration_or_former, fail_alone, folds, former, images_of_a_map, loops, nested_places, passed_in_and_out, quantifiers, queens, one_assignment, reading, two_bodies, subsets, taken_apart, taken_back, too_wide, undeclared_own, updates}
 use Rattle.setl_code.proofs.ByRunning.{found, by_running}
 use Rattle.setl_code.proofs.ByRounds.{holds_by_rounds}
 
--- program p; var g; a := 1; print(f(a, b, a + 1) impl true and g = 1); proc f(rw x, wr y, z); y := z; x := if z > 1 then y else 3 end; g := 1; return x = y; end proc; end program;
-abbrev calls : Program
-calls = record { name = codes "p"; vars = (codes "g" ∷ []); main = (more_stmts 1 (Assign (record { variable = (Own 0 (codes "a")); selectors = no_selector }) (Literal (int (pos 1)))) (more_stmts 1 (Print (more_exprs (Connect Implies (Call 0 (rw_argument (Own 0 (codes "a")) (wr_argument (Own 0 (codes "b")) (rd_argument (Apply Add (more_exprs (Name (Own 0 (codes "a"))) (more_exprs (Literal (int (pos 1))) no_expr))) no_argument)))) (Connect And (Literal (bool true)) (Apply Equal (more_exprs (Name (Global (codes "g"))) (more_exprs (Literal (int (pos 1))) no_expr))))) no_expr)) no_stmt)); end_line = 1; procedures = (record { name = codes "f"; parameters = (record { passing = Rw; name = codes "x"; line = 1 } ∷ record { passing = Wr; name = codes "y"; line = 1 } ∷ record { passing = Rd; name = codes "z"; line = 1 } ∷ []); body = (more_stmts 1 (Assign (record { variable = (Own 1 (codes "y")); selectors = no_selector }) (Name (Own 1 (codes "z")))) (more_stmts 1 (Assign (record { variable = (Own 1 (codes "x")); selectors = no_selector }) (Choose (Apply Above (more_exprs (Name (Own 1 (codes "z"))) (more_exprs (Literal (int (pos 1))) no_expr))) (Name (Own 1 (codes "y"))) (Literal (int (pos 3))))) (more_stmts 1 (Assign (record { variable = (Global (codes "g")); selectors = no_selector }) (Literal (int (pos 1)))) (more_stmts 1 (Return (Apply Equal (more_exprs (Name (Own 1 (codes "x"))) (more_exprs (Name (Own 1 (codes "y"))) no_expr)))) no_stmt)))); end_line = 1 } ∷ []); modes = [] }
+-- ---- the run of the meaning up to a bound
 
-calls_listing : listing (code_of calls) ≡ codes "main:\n0 int 1\n1 store a\n2 load a\n3 om\n4 load a\n5 int 1\n6 +\n7 call f\n8 store a\n9 store b\n10 impl 18\n11 true\n12 and 17\n13 load g\n14 int 1\n15 =\n16 bool\n17 bool\n18 print 1\n19 stop\nproc f:\n0 load z\n1 store y\n2 load z\n3 int 1\n4 >\n5 unless 8\n6 load y\n7 jump 9\n8 int 3\n9 store x\n10 int 1\n11 store g\n12 load x\n13 load y\n14 =\n15 return\n16 om\n17 return\n"
+abbrev ending : Next Core → Option (List ℕ × End)
+ending (Goes s) = None
+ending (Ends e s) = Some (s.out, e)
+
+abbrev meant : CodeRow → Option (List ℕ × End)
+meant r = ending (run (language r.program) (test_of r.program.modes true) 20000 (first r.program r.input 300))
+
+from_ending : (n : Next Core) (o : List ℕ) (e : End) → ending n ≡ Some (o, e) → (l : State Core) × (n ≡ Ends e l) × (l.out ≡ o)
+from_ending (Goes s) o e h = cc
+from_ending (Ends f s) o e h =
+    let both : ◌≡◌ {A = List ℕ × End} (s.out, f) (o, e) = cc in
+    (s, ap (λ p. Ends p.1 s) both, ap (λ p. p.0) both)
+
+by_meaning : (r : CodeRow) → meant r ≡ Some (r.out, r.end) → IsMeant r
+by_meaning r h =
+    let at_end = from_ending (run (language r.program) (test_of r.program.modes true) 20000 (first r.program r.input 300)) r.out r.end h in
+    record { steps = 20000; last = at_end.0; ends = at_end.1; written = at_end.2 }
+
+by_code : (r : CodeRow) → found (code_of r.program) r.program.modes r.input 300 true ≡ Some (r.out, r.end) → Runs r
+by_code r h = by_running (code_of r.program) r.program.modes r.input 300 true r.out r.end h
+
+calls_listed : IsListed calls
 unfolding digits
-calls_listing = refl
+calls_listed = refl
 
-calls_found : found (code_of calls) [] (codes "") 300 true ≡ Some (codes "true\n", Done)
+calls_runs : found (code_of calls.program) calls.program.modes calls.input 300 true ≡ Some (calls.out, calls.end)
 unfolding digits
-calls_found = refl
+calls_runs = refl
 
-calls_row : CodeMeans (code_of calls) [] (codes "") 300 true (codes "true\n") Done
-calls_row = by_running (code_of calls) [] (codes "") 300 true (codes "true\n") Done calls_found
+calls_meant : meant calls ≡ Some (calls.out, calls.end)
+unfolding digits
+calls_meant = refl
 
-calls_sound : holds_by_rounds (code_of calls) ≡ true
+calls_sound : holds_by_rounds (code_of calls.program) ≡ true
 calls_sound = refl
 
--- program p; (for n in [1..5]) print(n); end for; end program;
-abbrev counting : Program
-counting = record { name = codes "p"; vars = ([]); main = (more_stmts 1 (For (more_iterators (Member Between (Own 0 (codes "n"))) (more_exprs (Literal (int (pos 1))) (more_exprs (Literal (int (pos 5))) no_expr)) no_iterator) no_condition (more_stmts 1 (Print (more_exprs (Name (Own 0 (codes "n"))) no_expr)) no_stmt)) no_stmt); end_line = 1; procedures = ([]); modes = [] }
-
-counting_listing : listing (code_of counting) ≡ codes "main:\n0 int 1\n1 int 5\n2 begin range\n3 next 8\n4 store n\n5 load n\n6 print 1\n7 jump 3\n8 stop\n"
+counting_listed : IsListed counting
 unfolding digits
-counting_listing = refl
+counting_listed = refl
 
-counting_found : found (code_of counting) [] (codes "") 300 true ≡ Some (codes "1\n2\n3\n4\n5\n", Done)
+counting_runs : found (code_of counting.program) counting.program.modes counting.input 300 true ≡ Some (counting.out, counting.end)
 unfolding digits
-counting_found = refl
+counting_runs = refl
 
-counting_row : CodeMeans (code_of counting) [] (codes "") 300 true (codes "1\n2\n3\n4\n5\n") Done
-counting_row = by_running (code_of counting) [] (codes "") 300 true (codes "1\n2\n3\n4\n5\n") Done counting_found
+counting_meant : meant counting ≡ Some (counting.out, counting.end)
+unfolding digits
+counting_meant = refl
 
-counting_sound : holds_by_rounds (code_of counting) ≡ true
+counting_sound : holds_by_rounds (code_of counting.program) ≡ true
 counting_sound = refl
 
--- program p; s := {1,2,3}; n := 0; (for x in s) s less:= x; n +:= 1; end for; print(s, n); end program;
-abbrev emptied_set : Program
-emptied_set = record { name = codes "p"; vars = ([]); main = (more_stmts 1 (Assign (record { variable = (Own 0 (codes "s")); selectors = no_selector }) (Apply SetOf (more_exprs (Literal (int (pos 1))) (more_exprs (Literal (int (pos 2))) (more_exprs (Literal (int (pos 3))) no_expr))))) (more_stmts 1 (Assign (record { variable = (Own 0 (codes "n")); selectors = no_selector }) (Literal (int (pos 0)))) (more_stmts 1 (For (more_iterators (Member Values (Own 0 (codes "x"))) (more_exprs (Name (Own 0 (codes "s"))) no_expr) no_iterator) no_condition (more_stmts 1 (Update Less (record { variable = (Own 0 (codes "s")); selectors = no_selector }) (Name (Own 0 (codes "x")))) (more_stmts 1 (Update Add (record { variable = (Own 0 (codes "n")); selectors = no_selector }) (Literal (int (pos 1)))) no_stmt))) (more_stmts 1 (Print (more_exprs (Name (Own 0 (codes "s"))) (more_exprs (Name (Own 0 (codes "n"))) no_expr))) no_stmt)))); end_line = 1; procedures = ([]); modes = [] }
-
-emptied_set_listing : listing (code_of emptied_set) ≡ codes "main:\n0 int 1\n1 int 2\n2 int 3\n3 set 3\n4 store s\n5 int 0\n6 store n\n7 load s\n8 begin\n9 next 16\n10 store x\n11 load x\n12 less s\n13 int 1\n14 + n\n15 jump 9\n16 load s\n17 load n\n18 print 2\n19 stop\n"
+emptied_set_listed : IsListed emptied_set
 unfolding digits
-emptied_set_listing = refl
+emptied_set_listed = refl
 
-emptied_set_found : found (code_of emptied_set) [] (codes "") 300 true ≡ Some (codes "{} 3\n", Done)
+emptied_set_runs : found (code_of emptied_set.program) emptied_set.program.modes emptied_set.input 300 true ≡ Some (emptied_set.out, emptied_set.end)
 unfolding digits
-emptied_set_found = refl
+emptied_set_runs = refl
 
-emptied_set_row : CodeMeans (code_of emptied_set) [] (codes "") 300 true (codes "{} 3\n") Done
-emptied_set_row = by_running (code_of emptied_set) [] (codes "") 300 true (codes "{} 3\n") Done emptied_set_found
+emptied_set_meant : meant emptied_set ≡ Some (emptied_set.out, emptied_set.end)
+unfolding digits
+emptied_set_meant = refl
 
-emptied_set_sound : holds_by_rounds (code_of emptied_set) ≡ true
+emptied_set_sound : holds_by_rounds (code_of emptied_set.program) ≡ true
 emptied_set_sound = refl
 
--- program p; s := {1}; x := 1; print({x in s}, {y in s | y = 2}); end program;
-abbrev enumeration_or_former : Program
-enumeration_or_former = record { name = codes "p"; vars = ([]); main = (more_stmts 1 (Assign (record { variable = (Own 0 (codes "s")); selectors = no_selector }) (Apply SetOf (more_exprs (Literal (int (pos 1))) no_expr))) (more_stmts 1 (Assign (record { variable = (Own 0 (codes "x")); selectors = no_selector }) (Literal (int (pos 1)))) (more_stmts 1 (Print (more_exprs (Apply SetOf (more_exprs (Apply In (more_exprs (Name (Own 0 (codes "x"))) (more_exprs (Name (Own 0 (codes "s"))) no_expr))) no_expr)) (more_exprs (Selection OfSet (Member Values (Bound 1 (codes "y"))) (more_exprs (Name (Own 0 (codes "s"))) no_expr) (Apply Equal (more_exprs (Name (Bound 1 (codes "y"))) (more_exprs (Literal (int (pos 2))) no_expr)))) no_expr))) no_stmt))); end_line = 1; procedures = ([]); modes = [] }
-
-enumeration_or_former_listing : listing (code_of enumeration_or_former) ≡ codes "main:\n0 int 1\n1 set 1\n2 store s\n3 int 1\n4 store x\n5 load x\n6 load s\n7 in\n8 set 1\n9 newset\n10 load s\n11 begin\n12 next 23\n13 dup\n14 store y.1\n15 load y.1\n16 int 2\n17 =\n18 unless 21\n19 add 1\n20 jump 12\n21 drop\n22 jump 12\n23 print 2\n24 stop\n"
+enumeration_or_former_listed : IsListed enumeration_or_former
 unfolding digits
-enumeration_or_former_listing = refl
+enumeration_or_former_listed = refl
 
-enumeration_or_former_found : found (code_of enumeration_or_former) [] (codes "") 300 true ≡ Some (codes "{true} {}\n", Done)
+enumeration_or_former_runs : found (code_of enumeration_or_former.program) enumeration_or_former.program.modes enumeration_or_former.input 300 true ≡ Some (enumeration_or_former.out, enumeration_or_former.end)
 unfolding digits
-enumeration_or_former_found = refl
+enumeration_or_former_runs = refl
 
-enumeration_or_former_row : CodeMeans (code_of enumeration_or_former) [] (codes "") 300 true (codes "{true} {}\n") Done
-enumeration_or_former_row = by_running (code_of enumeration_or_former) [] (codes "") 300 true (codes "{true} {}\n") Done enumeration_or_former_found
+enumeration_or_former_meant : meant enumeration_or_former ≡ Some (enumeration_or_former.out, enumeration_or_former.end)
+unfolding digits
+enumeration_or_former_meant = refl
 
-enumeration_or_former_sound : holds_by_rounds (code_of enumeration_or_former) ≡ true
+enumeration_or_former_sound : holds_by_rounds (code_of enumeration_or_former.program) ≡ true
 enumeration_or_former_sound = refl
 
--- program p; fail; end program;
-abbrev fail_alone : Program
-fail_alone = record { name = codes "p"; vars = ([]); main = (more_stmts 1 Fail no_stmt); end_line = 1; procedures = ([]); modes = [] }
-
-fail_alone_listing : listing (code_of fail_alone) ≡ codes "main:\n0 fail\n1 stop\n"
+fail_alone_listed : IsListed fail_alone
 unfolding digits
-fail_alone_listing = refl
+fail_alone_listed = refl
 
-fail_alone_found : found (code_of fail_alone) [] (codes "") 300 true ≡ Some (codes "", (Stopped Nothing 1))
+fail_alone_runs : found (code_of fail_alone.program) fail_alone.program.modes fail_alone.input 300 true ≡ Some (fail_alone.out, fail_alone.end)
 unfolding digits
-fail_alone_found = refl
+fail_alone_runs = refl
 
-fail_alone_row : CodeMeans (code_of fail_alone) [] (codes "") 300 true (codes "") (Stopped Nothing 1)
-fail_alone_row = by_running (code_of fail_alone) [] (codes "") 300 true (codes "") (Stopped Nothing 1) fail_alone_found
+fail_alone_meant : meant fail_alone ≡ Some (fail_alone.out, fail_alone.end)
+unfolding digits
+fail_alone_meant = refl
 
-fail_alone_sound : holds_by_rounds (code_of fail_alone) ≡ true
+fail_alone_sound : holds_by_rounds (code_of fail_alone.program) ≡ true
 fail_alone_sound = refl
 
--- program p; print(+/ [1..4], +/ {}, max/ {3,9,4}); end program;
-abbrev folds : Program
-folds = record { name = codes "p"; vars = ([]); main = (more_stmts 1 (Print (more_exprs (Apply FoldAdd (more_exprs (Apply TupleRange (more_exprs (Literal (int (pos 1))) (more_exprs (Literal (int (pos 4))) no_expr))) no_expr)) (more_exprs (Apply FoldAdd (more_exprs (Apply SetOf no_expr) no_expr)) (more_exprs (Apply FoldMax (more_exprs (Apply SetOf (more_exprs (Literal (int (pos 3))) (more_exprs (Literal (int (pos 9))) (more_exprs (Literal (int (pos 4))) no_expr)))) no_expr)) no_expr)))) no_stmt); end_line = 1; procedures = ([]); modes = [] }
-
-folds_listing : listing (code_of folds) ≡ codes "main:\n0 int 1\n1 int 4\n2 range tuple\n3 fold +\n4 set 0\n5 fold +\n6 int 3\n7 int 9\n8 int 4\n9 set 3\n10 fold max\n11 print 3\n12 stop\n"
+folds_listed : IsListed folds
 unfolding digits
-folds_listing = refl
+folds_listed = refl
 
-folds_found : found (code_of folds) [] (codes "") 300 true ≡ Some (codes "10 * 9\n", Done)
+folds_runs : found (code_of folds.program) folds.program.modes folds.input 300 true ≡ Some (folds.out, folds.end)
 unfolding digits
-folds_found = refl
+folds_runs = refl
 
-folds_row : CodeMeans (code_of folds) [] (codes "") 300 true (codes "10 * 9\n") Done
-folds_row = by_running (code_of folds) [] (codes "") 300 true (codes "10 * 9\n") Done folds_found
+folds_meant : meant folds ≡ Some (folds.out, folds.end)
+unfolding digits
+folds_meant = refl
 
-folds_sound : holds_by_rounds (code_of folds) ≡ true
+folds_sound : holds_by_rounds (code_of folds.program) ≡ true
 folds_sound = refl
 
--- program p; s := {1,2}; print({[x,y] : x in s, y in [1..x] | x /= y}); end program;
-abbrev former : Program
-former = record { name = codes "p"; vars = ([]); main = (more_stmts 1 (Assign (record { variable = (Own 0 (codes "s")); selectors = no_selector }) (Apply SetOf (more_exprs (Literal (int (pos 1))) (more_exprs (Literal (int (pos 2))) no_expr)))) (more_stmts 1 (Print (more_exprs (Former OfSet (Apply TupleOf (more_exprs (Name (Bound 1 (codes "x"))) (more_exprs (Name (Bound 1 (codes "y"))) no_expr))) (more_iterators (Member Values (Bound 1 (codes "x"))) (more_exprs (Name (Own 0 (codes "s"))) no_expr) (more_iterators (Member Between (Bound 1 (codes "y"))) (more_exprs (Literal (int (pos 1))) (more_exprs (Name (Bound 1 (codes "x"))) no_expr)) no_iterator)) (only_if (Apply NotEqual (more_exprs (Name (Bound 1 (codes "x"))) (more_exprs (Name (Bound 1 (codes "y"))) no_expr))))) no_expr)) no_stmt)); end_line = 1; procedures = ([]); modes = [] }
-
-former_listing : listing (code_of former) ≡ codes "main:\n0 int 1\n1 int 2\n2 set 2\n3 store s\n4 newset\n5 load s\n6 begin\n7 next 23\n8 store x.1\n9 int 1\n10 load x.1\n11 begin range\n12 next 7\n13 store y.1\n14 load x.1\n15 load y.1\n16 /=\n17 unless 12\n18 load x.1\n19 load y.1\n20 tuple 2\n21 add 2\n22 jump 12\n23 print 1\n24 stop\n"
+former_listed : IsListed former
 unfolding digits
-former_listing = refl
+former_listed = refl
 
-former_found : found (code_of former) [] (codes "") 300 true ≡ Some (codes "{[2 1]}\n", Done)
+former_runs : found (code_of former.program) former.program.modes former.input 300 true ≡ Some (former.out, former.end)
 unfolding digits
-former_found = refl
+former_runs = refl
 
-former_row : CodeMeans (code_of former) [] (codes "") 300 true (codes "{[2 1]}\n") Done
-former_row = by_running (code_of former) [] (codes "") 300 true (codes "{[2 1]}\n") Done former_found
+former_meant : meant former ≡ Some (former.out, former.end)
+unfolding digits
+former_meant = refl
 
-former_sound : holds_by_rounds (code_of former) ≡ true
+former_sound : holds_by_rounds (code_of former.program) ≡ true
 former_sound = refl
 
--- program p; f := {[1,2],[1,3],[2,5]}; print(f(1), f{1}, f(2), f{9}); end program;
-abbrev images_of_a_map : Program
-images_of_a_map = record { name = codes "p"; vars = ([]); main = (more_stmts 1 (Assign (record { variable = (Own 0 (codes "f")); selectors = no_selector }) (Apply SetOf (more_exprs (Apply TupleOf (more_exprs (Literal (int (pos 1))) (more_exprs (Literal (int (pos 2))) no_expr))) (more_exprs (Apply TupleOf (more_exprs (Literal (int (pos 1))) (more_exprs (Literal (int (pos 3))) no_expr))) (more_exprs (Apply TupleOf (more_exprs (Literal (int (pos 2))) (more_exprs (Literal (int (pos 5))) no_expr))) no_expr))))) (more_stmts 1 (Print (more_exprs (Apply Get (more_exprs (Name (Own 0 (codes "f"))) (more_exprs (Literal (int (pos 1))) no_expr))) (more_exprs (Apply Images (more_exprs (Name (Own 0 (codes "f"))) (more_exprs (Literal (int (pos 1))) no_expr))) (more_exprs (Apply Get (more_exprs (Name (Own 0 (codes "f"))) (more_exprs (Literal (int (pos 2))) no_expr))) (more_exprs (Apply Images (more_exprs (Name (Own 0 (codes "f"))) (more_exprs (Literal (int (pos 9))) no_expr))) no_expr))))) no_stmt)); end_line = 1; procedures = ([]); modes = [] }
-
-images_of_a_map_listing : listing (code_of images_of_a_map) ≡ codes "main:\n0 int 1\n1 int 2\n2 tuple 2\n3 int 1\n4 int 3\n5 tuple 2\n6 int 2\n7 int 5\n8 tuple 2\n9 set 3\n10 store f\n11 load f\n12 int 1\n13 get\n14 load f\n15 int 1\n16 images\n17 load f\n18 int 2\n19 get\n20 load f\n21 int 9\n22 images\n23 print 4\n24 stop\n"
+images_of_a_map_listed : IsListed images_of_a_map
 unfolding digits
-images_of_a_map_listing = refl
+images_of_a_map_listed = refl
 
-images_of_a_map_found : found (code_of images_of_a_map) [] (codes "") 300 true ≡ Some (codes "* {2 3} 5 {}\n", Done)
+images_of_a_map_runs : found (code_of images_of_a_map.program) images_of_a_map.program.modes images_of_a_map.input 300 true ≡ Some (images_of_a_map.out, images_of_a_map.end)
 unfolding digits
-images_of_a_map_found = refl
+images_of_a_map_runs = refl
 
-images_of_a_map_row : CodeMeans (code_of images_of_a_map) [] (codes "") 300 true (codes "* {2 3} 5 {}\n") Done
-images_of_a_map_row = by_running (code_of images_of_a_map) [] (codes "") 300 true (codes "* {2 3} 5 {}\n") Done images_of_a_map_found
+images_of_a_map_meant : meant images_of_a_map ≡ Some (images_of_a_map.out, images_of_a_map.end)
+unfolding digits
+images_of_a_map_meant = refl
 
-images_of_a_map_sound : holds_by_rounds (code_of images_of_a_map) ≡ true
+images_of_a_map_sound : holds_by_rounds (code_of images_of_a_map.program) ≡ true
 images_of_a_map_sound = refl
 
--- program p; (while true) (for x in [1..3], y in {5, 3..1} | x /= y) if x = 2 then continue; elseif y = 3 then quit; else print(x, y); end if; end for; quit; end while; end program;
-abbrev loops : Program
-loops = record { name = codes "p"; vars = ([]); main = (more_stmts 1 (While (Literal (bool true)) (more_stmts 1 (For (more_iterators (Member Between (Own 0 (codes "x"))) (more_exprs (Literal (int (pos 1))) (more_exprs (Literal (int (pos 3))) no_expr)) (more_iterators (Member SetSteps (Own 0 (codes "y"))) (more_exprs (Literal (int (pos 5))) (more_exprs (Literal (int (pos 3))) (more_exprs (Literal (int (pos 1))) no_expr))) no_iterator)) (only_if (Apply NotEqual (more_exprs (Name (Own 0 (codes "x"))) (more_exprs (Name (Own 0 (codes "y"))) no_expr)))) (more_stmts 1 (If (Apply Equal (more_exprs (Name (Own 0 (codes "x"))) (more_exprs (Literal (int (pos 2))) no_expr))) (more_stmts 1 Continue no_stmt) (more_stmts 1 (If (Apply Equal (more_exprs (Name (Own 0 (codes "y"))) (more_exprs (Literal (int (pos 3))) no_expr))) (more_stmts 1 Quit no_stmt) (more_stmts 1 (Print (more_exprs (Name (Own 0 (codes "x"))) (more_exprs (Name (Own 0 (codes "y"))) no_expr))) no_stmt)) no_stmt)) no_stmt)) (more_stmts 1 Quit no_stmt))) no_stmt); end_line = 1; procedures = ([]); modes = [] }
-
-loops_listing : listing (code_of loops) ≡ codes "main:\n0 true\n1 unless 37\n2 round\n3 int 1\n4 int 3\n5 begin range\n6 next 35\n7 store x\n8 int 5\n9 int 3\n10 int 1\n11 begin set step\n12 next 6\n13 store y\n14 load x\n15 load y\n16 /=\n17 unless 12\n18 load x\n19 int 2\n20 =\n21 unless 24\n22 jump 12\n23 jump 34\n24 load y\n25 int 3\n26 =\n27 unless 31\n28 leave 2\n29 jump 35\n30 jump 34\n31 load x\n32 load y\n33 print 2\n34 jump 12\n35 jump 37\n36 jump 0\n37 stop\n"
+loops_listed : IsListed loops
 unfolding digits
-loops_listing = refl
+loops_listed = refl
 
-loops_found : found (code_of loops) [] (codes "") 300 true ≡ Some (codes "", Done)
+loops_runs : found (code_of loops.program) loops.program.modes loops.input 300 true ≡ Some (loops.out, loops.end)
 unfolding digits
-loops_found = refl
+loops_runs = refl
 
-loops_row : CodeMeans (code_of loops) [] (codes "") 300 true (codes "") Done
-loops_row = by_running (code_of loops) [] (codes "") 300 true (codes "") Done loops_found
+loops_meant : meant loops ≡ Some (loops.out, loops.end)
+unfolding digits
+loops_meant = refl
 
-loops_sound : holds_by_rounds (code_of loops) ≡ true
+loops_sound : holds_by_rounds (code_of loops.program) ≡ true
 loops_sound = refl
 
--- program p; f := {[1,[7]],[2,[8,9]]}; f(2)(4) := 5; (for y = f(x), z in y | z /= 8) print(x, z); end for; end program;
-abbrev nested_places : Program
-nested_places = record { name = codes "p"; vars = ([]); main = (more_stmts 1 (Assign (record { variable = (Own 0 (codes "f")); selectors = no_selector }) (Apply SetOf (more_exprs (Apply TupleOf (more_exprs (Literal (int (pos 1))) (more_exprs (Apply TupleOf (more_exprs (Literal (int (pos 7))) no_expr)) no_expr))) (more_exprs (Apply TupleOf (more_exprs (Literal (int (pos 2))) (more_exprs (Apply TupleOf (more_exprs (Literal (int (pos 8))) (more_exprs (Literal (int (pos 9))) no_expr))) no_expr))) no_expr)))) (more_stmts 1 (Assign (record { variable = (Own 0 (codes "f")); selectors = (round_selector (Literal (int (pos 2))) (round_selector (Literal (int (pos 4))) no_selector)) }) (Literal (int (pos 5)))) (more_stmts 1 (For (more_iterators (Point (Own 0 (codes "y")) (Own 0 (codes "x"))) (more_exprs (Name (Own 0 (codes "f"))) no_expr) (more_iterators (Member Values (Own 0 (codes "z"))) (more_exprs (Name (Own 0 (codes "y"))) no_expr) no_iterator)) (only_if (Apply NotEqual (more_exprs (Name (Own 0 (codes "z"))) (more_exprs (Literal (int (pos 8))) no_expr)))) (more_stmts 1 (Print (more_exprs (Name (Own 0 (codes "x"))) (more_exprs (Name (Own 0 (codes "z"))) no_expr))) no_stmt)) no_stmt))); end_line = 1; procedures = ([]); modes = [] }
-
-nested_places_listing : listing (code_of nested_places) ≡ codes "main:\n0 int 1\n1 int 7\n2 tuple 1\n3 tuple 2\n4 int 2\n5 int 8\n6 int 9\n7 tuple 2\n8 tuple 2\n9 set 2\n10 store f\n11 int 5\n12 int 2\n13 int 4\n14 put f () ()\n15 load f\n16 begin pairs\n17 next 32\n18 store x\n19 store y\n20 load y\n21 begin\n22 next 17\n23 store z\n24 load z\n25 int 8\n26 /=\n27 unless 22\n28 load x\n29 load z\n30 print 2\n31 jump 22\n32 stop\n"
+nested_places_listed : IsListed nested_places
 unfolding digits
-nested_places_listing = refl
+nested_places_listed = refl
 
-nested_places_found : found (code_of nested_places) [] (codes "") 300 true ≡ Some (codes "1 7\n2 9\n2 *\n2 5\n", Done)
+nested_places_runs : found (code_of nested_places.program) nested_places.program.modes nested_places.input 300 true ≡ Some (nested_places.out, nested_places.end)
 unfolding digits
-nested_places_found = refl
+nested_places_runs = refl
 
-nested_places_row : CodeMeans (code_of nested_places) [] (codes "") 300 true (codes "1 7\n2 9\n2 *\n2 5\n") Done
-nested_places_row = by_running (code_of nested_places) [] (codes "") 300 true (codes "1 7\n2 9\n2 *\n2 5\n") Done nested_places_found
+nested_places_meant : meant nested_places ≡ Some (nested_places.out, nested_places.end)
+unfolding digits
+nested_places_meant = refl
 
-nested_places_sound : holds_by_rounds (code_of nested_places) ≡ true
+nested_places_sound : holds_by_rounds (code_of nested_places.program) ≡ true
 nested_places_sound = refl
 
--- program p; n := 1; inc(n); print(n); proc inc(rw x); x +:= 1; end proc; end program;
-abbrev passed_in_and_out : Program
-passed_in_and_out = record { name = codes "p"; vars = ([]); main = (more_stmts 1 (Assign (record { variable = (Own 0 (codes "n")); selectors = no_selector }) (Literal (int (pos 1)))) (more_stmts 1 (Perform (Call 0 (rw_argument (Own 0 (codes "n")) no_argument))) (more_stmts 1 (Print (more_exprs (Name (Own 0 (codes "n"))) no_expr)) no_stmt))); end_line = 1; procedures = (record { name = codes "inc"; parameters = (record { passing = Rw; name = codes "x"; line = 1 } ∷ []); body = (more_stmts 1 (Update Add (record { variable = (Own 1 (codes "x")); selectors = no_selector }) (Literal (int (pos 1)))) no_stmt); end_line = 1 } ∷ []); modes = [] }
-
-passed_in_and_out_listing : listing (code_of passed_in_and_out) ≡ codes "main:\n0 int 1\n1 store n\n2 load n\n3 call inc\n4 store n\n5 drop\n6 load n\n7 print 1\n8 stop\nproc inc:\n0 int 1\n1 + x\n2 om\n3 return\n"
+passed_in_and_out_listed : IsListed passed_in_and_out
 unfolding digits
-passed_in_and_out_listing = refl
+passed_in_and_out_listed = refl
 
-passed_in_and_out_found : found (code_of passed_in_and_out) [] (codes "") 300 true ≡ Some (codes "2\n", Done)
+passed_in_and_out_runs : found (code_of passed_in_and_out.program) passed_in_and_out.program.modes passed_in_and_out.input 300 true ≡ Some (passed_in_and_out.out, passed_in_and_out.end)
 unfolding digits
-passed_in_and_out_found = refl
+passed_in_and_out_runs = refl
 
-passed_in_and_out_row : CodeMeans (code_of passed_in_and_out) [] (codes "") 300 true (codes "2\n") Done
-passed_in_and_out_row = by_running (code_of passed_in_and_out) [] (codes "") 300 true (codes "2\n") Done passed_in_and_out_found
+passed_in_and_out_meant : meant passed_in_and_out ≡ Some (passed_in_and_out.out, passed_in_and_out.end)
+unfolding digits
+passed_in_and_out_meant = refl
 
-passed_in_and_out_sound : holds_by_rounds (code_of passed_in_and_out) ≡ true
+passed_in_and_out_sound : holds_by_rounds (code_of passed_in_and_out.program) ≡ true
 passed_in_and_out_sound = refl
 
--- program p; print(forall x in {1,2} | x < 3, notexists [a,-] in {[1,2]}, y in [3..4] | a = y); end program;
-abbrev quantifiers : Program
-quantifiers = record { name = codes "p"; vars = ([]); main = (more_stmts 1 (Print (more_exprs (Quantified Forall (more_iterators (Member Values (Own 0 (codes "x"))) (more_exprs (Apply SetOf (more_exprs (Literal (int (pos 1))) (more_exprs (Literal (int (pos 2))) no_expr))) no_expr) no_iterator) (Apply Below (more_exprs (Name (Own 0 (codes "x"))) (more_exprs (Literal (int (pos 3))) no_expr)))) (more_exprs (Quantified NotExists (more_iterators (Components Values (Some (Own 0 (codes "a")) ∷ None ∷ [])) (more_exprs (Apply SetOf (more_exprs (Apply TupleOf (more_exprs (Literal (int (pos 1))) (more_exprs (Literal (int (pos 2))) no_expr))) no_expr)) no_expr) (more_iterators (Member Between (Own 0 (codes "y"))) (more_exprs (Literal (int (pos 3))) (more_exprs (Literal (int (pos 4))) no_expr)) no_iterator)) (Apply Equal (more_exprs (Name (Own 0 (codes "a"))) (more_exprs (Name (Own 0 (codes "y"))) no_expr)))) no_expr))) no_stmt); end_line = 1; procedures = ([]); modes = [] }
-
-quantifiers_listing : listing (code_of quantifiers) ≡ codes "main:\n0 int 1\n1 int 2\n2 set 2\n3 begin\n4 next 14\n5 store x\n6 load x\n7 int 3\n8 <\n9 not\n10 unless 4\n11 leave 1\n12 false\n13 jump 17\n14 om\n15 store x\n16 true\n17 int 1\n18 int 2\n19 tuple 2\n20 set 1\n21 begin\n22 next 38\n23 parts 2\n24 store a\n25 drop\n26 int 3\n27 int 4\n28 begin range\n29 next 22\n30 store y\n31 load a\n32 load y\n33 =\n34 unless 29\n35 leave 2\n36 false\n37 jump 43\n38 om\n39 store a\n40 om\n41 store y\n42 true\n43 print 2\n44 stop\n"
+quantifiers_listed : IsListed quantifiers
 unfolding digits
-quantifiers_listing = refl
+quantifiers_listed = refl
 
-quantifiers_found : found (code_of quantifiers) [] (codes "") 300 true ≡ Some (codes "true true\n", Done)
+quantifiers_runs : found (code_of quantifiers.program) quantifiers.program.modes quantifiers.input 300 true ≡ Some (quantifiers.out, quantifiers.end)
 unfolding digits
-quantifiers_found = refl
+quantifiers_runs = refl
 
-quantifiers_row : CodeMeans (code_of quantifiers) [] (codes "") 300 true (codes "true true\n") Done
-quantifiers_row = by_running (code_of quantifiers) [] (codes "") 300 true (codes "true true\n") Done quantifiers_found
+quantifiers_meant : meant quantifiers ≡ Some (quantifiers.out, quantifiers.end)
+unfolding digits
+quantifiers_meant = refl
 
-quantifiers_sound : holds_by_rounds (code_of quantifiers) ≡ true
+quantifiers_sound : holds_by_rounds (code_of quantifiers.program) ≡ true
 quantifiers_sound = refl
 
--- program p; q := []; (for i in [1..4]) if exists j in [1..4] | ok then if exists k in [1..#q] | q(k) = j or abs (q(k) - j) = i - k then fail; end if; q with:= j; else fail; end if; end for; print(q); end program;
-abbrev queens : Program
-queens = record { name = codes "p"; vars = ([]); main = (more_stmts 1 (Assign (record { variable = (Own 0 (codes "q")); selectors = no_selector }) (Apply TupleOf no_expr)) (more_stmts 1 (For (more_iterators (Member Between (Own 0 (codes "i"))) (more_exprs (Literal (int (pos 1))) (more_exprs (Literal (int (pos 4))) no_expr)) no_iterator) no_condition (more_stmts 1 (If (Quantified Exists (more_iterators (Member Between (Own 0 (codes "j"))) (more_exprs (Literal (int (pos 1))) (more_exprs (Literal (int (pos 4))) no_expr)) no_iterator) Ok) (more_stmts 1 (If (Quantified Exists (more_iterators (Member Between (Own 0 (codes "k"))) (more_exprs (Literal (int (pos 1))) (more_exprs (Apply Size (more_exprs (Name (Own 0 (codes "q"))) no_expr)) no_expr)) no_iterator) (Connect Or (Apply Equal (more_exprs (Apply Get (more_exprs (Name (Own 0 (codes "q"))) (more_exprs (Name (Own 0 (codes "k"))) no_expr))) (more_exprs (Name (Own 0 (codes "j"))) no_expr))) (Apply Equal (more_exprs (Apply Abs (more_exprs (Apply Subtract (more_exprs (Apply Get (more_exprs (Name (Own 0 (codes "q"))) (more_exprs (Name (Own 0 (codes "k"))) no_expr))) (more_exprs (Name (Own 0 (codes "j"))) no_expr))) no_expr)) (more_exprs (Apply Subtract (more_exprs (Name (Own 0 (codes "i"))) (more_exprs (Name (Own 0 (codes "k"))) no_expr))) no_expr))))) (more_stmts 1 Fail no_stmt) no_stmt) (more_stmts 1 (Update With (record { variable = (Own 0 (codes "q")); selectors = no_selector }) (Name (Own 0 (codes "j")))) no_stmt)) (more_stmts 1 Fail no_stmt)) no_stmt)) (more_stmts 1 (Print (more_exprs (Name (Own 0 (codes "q"))) no_expr)) no_stmt))); end_line = 1; procedures = ([]); modes = [] }
-
-queens_listing : listing (code_of queens) ≡ codes "main:\n0 tuple 0\n1 store q\n2 int 1\n3 int 4\n4 begin range\n5 next 59\n6 store i\n7 int 1\n8 int 4\n9 begin range\n10 next 17\n11 store j\n12 ok\n13 unless 10\n14 leave 1\n15 true\n16 jump 20\n17 om\n18 store j\n19 false\n20 unless 57\n21 int 1\n22 load q\n23 #\n24 begin range\n25 next 48\n26 store k\n27 load q\n28 load k\n29 get\n30 load j\n31 =\n32 or 44\n33 load q\n34 load k\n35 get\n36 load j\n37 -\n38 abs\n39 load i\n40 load k\n41 -\n42 =\n43 bool\n44 unless 25\n45 leave 1\n46 true\n47 jump 51\n48 om\n49 store k\n50 false\n51 unless 54\n52 fail\n53 jump 54\n54 load j\n55 with q\n56 jump 58\n57 fail\n58 jump 5\n59 load q\n60 print 1\n61 stop\n"
+queens_listed : IsListed queens
 unfolding digits
-queens_listing = refl
+queens_listed = refl
 
-queens_found : found (code_of queens) [] (codes "") 300 true ≡ Some (codes "[2 4 1 3]\n", Done)
+queens_runs : found (code_of queens.program) queens.program.modes queens.input 300 true ≡ Some (queens.out, queens.end)
 unfolding digits
-queens_found = refl
+queens_runs = refl
 
-queens_row : CodeMeans (code_of queens) [] (codes "") 300 true (codes "[2 4 1 3]\n") Done
-queens_row = by_running (code_of queens) [] (codes "") 300 true (codes "[2 4 1 3]\n") Done queens_found
+queens_meant : meant queens ≡ Some (queens.out, queens.end)
+unfolding digits
+queens_meant = refl
 
-queens_sound : holds_by_rounds (code_of queens) ≡ true
+queens_sound : holds_by_rounds (code_of queens.program) ≡ true
 queens_sound = refl
 
--- program p; x := 1; print(x); end program;
-abbrev r61 : Program
-r61 = record { name = codes "p"; vars = ([]); main = (more_stmts 1 (Assign (record { variable = (Own 0 (codes "x")); selectors = no_selector }) (Literal (int (pos 1)))) (more_stmts 1 (Print (more_exprs (Name (Own 0 (codes "x"))) no_expr)) no_stmt)); end_line = 1; procedures = ([]); modes = [] }
-
-r61_listing : listing (code_of r61) ≡ codes "main:\n0 int 1\n1 store x\n2 load x\n3 print 1\n4 stop\n"
+one_assignment_listed : IsListed one_assignment
 unfolding digits
-r61_listing = refl
+one_assignment_listed = refl
 
-r61_found : found (code_of r61) [] (codes "") 300 true ≡ Some (codes "1\n", Done)
+one_assignment_runs : found (code_of one_assignment.program) one_assignment.program.modes one_assignment.input 300 true ≡ Some (one_assignment.out, one_assignment.end)
 unfolding digits
-r61_found = refl
+one_assignment_runs = refl
 
-r61_row : CodeMeans (code_of r61) [] (codes "") 300 true (codes "1\n") Done
-r61_row = by_running (code_of r61) [] (codes "") 300 true (codes "1\n") Done r61_found
-
-r61_sound : holds_by_rounds (code_of r61) ≡ true
-r61_sound = refl
-
--- program p; read(x, y, z); print(x, y, z, eof); end program;
-abbrev reading : Program
-reading = record { name = codes "p"; vars = ([]); main = (more_stmts 1 (Read ((Own 0 (codes "x")) ∷ (Own 0 (codes "y")) ∷ (Own 0 (codes "z")) ∷ [])) (more_stmts 1 (Print (more_exprs (Name (Own 0 (codes "x"))) (more_exprs (Name (Own 0 (codes "y"))) (more_exprs (Name (Own 0 (codes "z"))) (more_exprs Eof no_expr))))) no_stmt)); end_line = 1; procedures = ([]); modes = [] }
-
-reading_listing : listing (code_of reading) ≡ codes "main:\n0 read\n1 store x\n2 read\n3 store y\n4 read\n5 store z\n6 load x\n7 load y\n8 load z\n9 eof\n10 print 4\n11 stop\n"
+one_assignment_meant : meant one_assignment ≡ Some (one_assignment.out, one_assignment.end)
 unfolding digits
-reading_listing = refl
+one_assignment_meant = refl
 
-reading_found : found (code_of reading) [] (codes "{1 [2 'a']} 7") 300 true ≡ Some (codes "{1 [2 'a']} 7 * true\n", Done)
+one_assignment_sound : holds_by_rounds (code_of one_assignment.program) ≡ true
+one_assignment_sound = refl
+
+reading_listed : IsListed reading
 unfolding digits
-reading_found = refl
+reading_listed = refl
 
-reading_row : CodeMeans (code_of reading) [] (codes "{1 [2 'a']} 7") 300 true (codes "{1 [2 'a']} 7 * true\n") Done
-reading_row = by_running (code_of reading) [] (codes "{1 [2 'a']} 7") 300 true (codes "{1 [2 'a']} 7 * true\n") Done reading_found
+reading_runs : found (code_of reading.program) reading.program.modes reading.input 300 true ≡ Some (reading.out, reading.end)
+unfolding digits
+reading_runs = refl
 
-reading_sound : holds_by_rounds (code_of reading) ≡ true
+reading_meant : meant reading ≡ Some (reading.out, reading.end)
+unfolding digits
+reading_meant = refl
+
+reading_sound : holds_by_rounds (code_of reading.program) ≡ true
 reading_sound = refl
 
--- program q;
--- proc p(a); b := a; b with:= 1; return b; end proc;
--- end program;
-abbrev row20 : Program
-row20 = record { name = codes "q"; vars = ([]); main = no_stmt; end_line = 3; procedures = (record { name = codes "p"; parameters = (record { passing = Rd; name = codes "a"; line = 1 } ∷ []); body = (more_stmts 2 (Assign (record { variable = (Own 1 (codes "b")); selectors = no_selector }) (Name (Own 1 (codes "a")))) (more_stmts 2 (Update With (record { variable = (Own 1 (codes "b")); selectors = no_selector }) (Literal (int (pos 1)))) (more_stmts 2 (Return (Name (Own 1 (codes "b")))) no_stmt))); end_line = 2 } ∷ []); modes = [] }
-
-row20_listing : listing (code_of row20) ≡ codes "main:\n0 stop\nproc p:\n0 load a\n1 store b\n2 int 1\n3 with b\n4 load b\n5 return\n6 om\n7 return\n"
+two_bodies_listed : IsListed two_bodies
 unfolding digits
-row20_listing = refl
+two_bodies_listed = refl
 
-row20_found : found (code_of row20) [] (codes "") 300 true ≡ Some (codes "", Done)
+two_bodies_runs : found (code_of two_bodies.program) two_bodies.program.modes two_bodies.input 300 true ≡ Some (two_bodies.out, two_bodies.end)
 unfolding digits
-row20_found = refl
+two_bodies_runs = refl
 
-row20_row : CodeMeans (code_of row20) [] (codes "") 300 true (codes "") Done
-row20_row = by_running (code_of row20) [] (codes "") 300 true (codes "") Done row20_found
-
-row20_sound : holds_by_rounds (code_of row20) ≡ true
-row20_sound = refl
-
--- program p; print(pow {1,2}, 2 npow {1,2,3}); end program;
-abbrev subsets : Program
-subsets = record { name = codes "p"; vars = ([]); main = (more_stmts 1 (Print (more_exprs (Apply Pow (more_exprs (Apply SetOf (more_exprs (Literal (int (pos 1))) (more_exprs (Literal (int (pos 2))) no_expr))) no_expr)) (more_exprs (Apply Npow (more_exprs (Literal (int (pos 2))) (more_exprs (Apply SetOf (more_exprs (Literal (int (pos 1))) (more_exprs (Literal (int (pos 2))) (more_exprs (Literal (int (pos 3))) no_expr)))) no_expr))) no_expr))) no_stmt); end_line = 1; procedures = ([]); modes = [] }
-
-subsets_listing : listing (code_of subsets) ≡ codes "main:\n0 int 1\n1 int 2\n2 set 2\n3 pow\n4 int 2\n5 int 1\n6 int 2\n7 int 3\n8 set 3\n9 npow\n10 print 2\n11 stop\n"
+two_bodies_meant : meant two_bodies ≡ Some (two_bodies.out, two_bodies.end)
 unfolding digits
-subsets_listing = refl
+two_bodies_meant = refl
 
-subsets_found : found (code_of subsets) [] (codes "") 300 true ≡ Some (codes "{{} {1} {1 2} {2}} {{1 2} {1 3} {2 3}}\n", Done)
+two_bodies_sound : holds_by_rounds (code_of two_bodies.program) ≡ true
+two_bodies_sound = refl
+
+subsets_listed : IsListed subsets
 unfolding digits
-subsets_found = refl
+subsets_listed = refl
 
-subsets_row : CodeMeans (code_of subsets) [] (codes "") 300 true (codes "{{} {1} {1 2} {2}} {{1 2} {1 3} {2 3}}\n") Done
-subsets_row = by_running (code_of subsets) [] (codes "") 300 true (codes "{{} {1} {1 2} {2}} {{1 2} {1 3} {2 3}}\n") Done subsets_found
+subsets_runs : found (code_of subsets.program) subsets.program.modes subsets.input 300 true ≡ Some (subsets.out, subsets.end)
+unfolding digits
+subsets_runs = refl
 
-subsets_sound : holds_by_rounds (code_of subsets) ≡ true
+subsets_meant : meant subsets ≡ Some (subsets.out, subsets.end)
+unfolding digits
+subsets_meant = refl
+
+subsets_sound : holds_by_rounds (code_of subsets.program) ≡ true
 subsets_sound = refl
 
--- program p; t := [1,om,2]; [x, -, y] := t; z fromb t; n frome t; print(x, y, z, n, t); end program;
-abbrev taken_apart : Program
-taken_apart = record { name = codes "p"; vars = ([]); main = (more_stmts 1 (Assign (record { variable = (Own 0 (codes "t")); selectors = no_selector }) (Apply TupleOf (more_exprs (Literal (int (pos 1))) (more_exprs Undefined (more_exprs (Literal (int (pos 2))) no_expr))))) (more_stmts 1 (AssignParts (Some (Own 0 (codes "x")) ∷ None ∷ Some (Own 0 (codes "y")) ∷ []) (Name (Own 0 (codes "t")))) (more_stmts 1 (TakeFrom TakeFirst (Own 0 (codes "z")) (record { variable = (Own 0 (codes "t")); selectors = no_selector })) (more_stmts 1 (TakeFrom TakeLast (Own 0 (codes "n")) (record { variable = (Own 0 (codes "t")); selectors = no_selector })) (more_stmts 1 (Print (more_exprs (Name (Own 0 (codes "x"))) (more_exprs (Name (Own 0 (codes "y"))) (more_exprs (Name (Own 0 (codes "z"))) (more_exprs (Name (Own 0 (codes "n"))) (more_exprs (Name (Own 0 (codes "t"))) no_expr)))))) no_stmt))))); end_line = 1; procedures = ([]); modes = [] }
-
-taken_apart_listing : listing (code_of taken_apart) ≡ codes "main:\n0 int 1\n1 om\n2 int 2\n3 tuple 3\n4 store t\n5 load t\n6 parts 3\n7 store x\n8 drop\n9 store y\n10 fromb t\n11 store z\n12 frome t\n13 store n\n14 load x\n15 load y\n16 load z\n17 load n\n18 load t\n19 print 5\n20 stop\n"
+taken_apart_listed : IsListed taken_apart
 unfolding digits
-taken_apart_listing = refl
+taken_apart_listed = refl
 
-taken_apart_found : found (code_of taken_apart) [] (codes "") 300 true ≡ Some (codes "1 2 1 2 []\n", Done)
+taken_apart_runs : found (code_of taken_apart.program) taken_apart.program.modes taken_apart.input 300 true ≡ Some (taken_apart.out, taken_apart.end)
 unfolding digits
-taken_apart_found = refl
+taken_apart_runs = refl
 
-taken_apart_row : CodeMeans (code_of taken_apart) [] (codes "") 300 true (codes "1 2 1 2 []\n") Done
-taken_apart_row = by_running (code_of taken_apart) [] (codes "") 300 true (codes "1 2 1 2 []\n") Done taken_apart_found
+taken_apart_meant : meant taken_apart ≡ Some (taken_apart.out, taken_apart.end)
+unfolding digits
+taken_apart_meant = refl
 
-taken_apart_sound : holds_by_rounds (code_of taken_apart) ≡ true
+taken_apart_sound : holds_by_rounds (code_of taken_apart.program) ≡ true
 taken_apart_sound = refl
 
--- program q; x := p(); print(x); if x = 1 then fail; end if; proc p(); if ok then return 1; else return 2; end if; end proc; end program;
-abbrev taken_back : Program
-taken_back = record { name = codes "q"; vars = ([]); main = (more_stmts 1 (Assign (record { variable = (Own 0 (codes "x")); selectors = no_selector }) (Call 0 no_argument)) (more_stmts 1 (Print (more_exprs (Name (Own 0 (codes "x"))) no_expr)) (more_stmts 1 (If (Apply Equal (more_exprs (Name (Own 0 (codes "x"))) (more_exprs (Literal (int (pos 1))) no_expr))) (more_stmts 1 Fail no_stmt) no_stmt) no_stmt))); end_line = 1; procedures = (record { name = codes "p"; parameters = ([]); body = (more_stmts 1 (If Ok (more_stmts 1 (Return (Literal (int (pos 1)))) no_stmt) (more_stmts 1 (Return (Literal (int (pos 2)))) no_stmt)) no_stmt); end_line = 1 } ∷ []); modes = [] }
-
-taken_back_listing : listing (code_of taken_back) ≡ codes "main:\n0 call p\n1 store x\n2 load x\n3 print 1\n4 load x\n5 int 1\n6 =\n7 unless 10\n8 fail\n9 jump 10\n10 stop\nproc p:\n0 ok\n1 unless 5\n2 int 1\n3 return\n4 jump 7\n5 int 2\n6 return\n7 om\n8 return\n"
+taken_back_listed : IsListed taken_back
 unfolding digits
-taken_back_listing = refl
+taken_back_listed = refl
 
-taken_back_found : found (code_of taken_back) [] (codes "") 300 true ≡ Some (codes "1\n2\n", Done)
+taken_back_runs : found (code_of taken_back.program) taken_back.program.modes taken_back.input 300 true ≡ Some (taken_back.out, taken_back.end)
 unfolding digits
-taken_back_found = refl
+taken_back_runs = refl
 
-taken_back_row : CodeMeans (code_of taken_back) [] (codes "") 300 true (codes "1\n2\n") Done
-taken_back_row = by_running (code_of taken_back) [] (codes "") 300 true (codes "1\n2\n") Done taken_back_found
+taken_back_meant : meant taken_back ≡ Some (taken_back.out, taken_back.end)
+unfolding digits
+taken_back_meant = refl
 
-taken_back_sound : holds_by_rounds (code_of taken_back) ≡ true
+taken_back_sound : holds_by_rounds (code_of taken_back.program) ≡ true
 taken_back_sound = refl
 
--- program p; print(170141183460469231731687303715884105727 + 1); end program;
-abbrev too_wide : Program
-too_wide = record { name = codes "p"; vars = ([]); main = (more_stmts 1 (Print (more_exprs (Apply Add (more_exprs (Literal (int (pos 170141183460469231731687303715884105727))) (more_exprs (Literal (int (pos 1))) no_expr))) no_expr)) no_stmt); end_line = 1; procedures = ([]); modes = [] }
-
-too_wide_listing : listing (code_of too_wide) ≡ codes "main:\n0 int 170141183460469231731687303715884105727\n1 int 1\n2 +\n3 print 1\n4 stop\n"
+too_wide_listed : IsListed too_wide
 unfolding digits
-too_wide_listing = refl
+too_wide_listed = refl
 
-too_wide_found : found (code_of too_wide) [] (codes "") 300 true ≡ Some (codes "", (Stopped Wide 1))
+too_wide_runs : found (code_of too_wide.program) too_wide.program.modes too_wide.input 300 true ≡ Some (too_wide.out, too_wide.end)
 unfolding digits
-too_wide_found = refl
+too_wide_runs = refl
 
-too_wide_row : CodeMeans (code_of too_wide) [] (codes "") 300 true (codes "") (Stopped Wide 1)
-too_wide_row = by_running (code_of too_wide) [] (codes "") 300 true (codes "") (Stopped Wide 1) too_wide_found
+too_wide_meant : meant too_wide ≡ Some (too_wide.out, too_wide.end)
+unfolding digits
+too_wide_meant = refl
 
-too_wide_sound : holds_by_rounds (code_of too_wide) ≡ true
+too_wide_sound : holds_by_rounds (code_of too_wide.program) ≡ true
 too_wide_sound = refl
 
--- program q; p(); proc p(); s := 1; print(s); end proc; end program;
-abbrev undeclared_own : Program
-undeclared_own = record { name = codes "q"; vars = ([]); main = (more_stmts 1 (Perform (Call 0 no_argument)) no_stmt); end_line = 1; procedures = (record { name = codes "p"; parameters = ([]); body = (more_stmts 1 (Assign (record { variable = (Own 1 (codes "s")); selectors = no_selector }) (Literal (int (pos 1)))) (more_stmts 1 (Print (more_exprs (Name (Own 1 (codes "s"))) no_expr)) no_stmt)); end_line = 1 } ∷ []); modes = [] }
-
-undeclared_own_listing : listing (code_of undeclared_own) ≡ codes "main:\n0 call p\n1 drop\n2 stop\nproc p:\n0 int 1\n1 store s\n2 load s\n3 print 1\n4 om\n5 return\n"
+undeclared_own_listed : IsListed undeclared_own
 unfolding digits
-undeclared_own_listing = refl
+undeclared_own_listed = refl
 
-undeclared_own_found : found (code_of undeclared_own) [] (codes "") 300 true ≡ Some (codes "1\n", Done)
+undeclared_own_runs : found (code_of undeclared_own.program) undeclared_own.program.modes undeclared_own.input 300 true ≡ Some (undeclared_own.out, undeclared_own.end)
 unfolding digits
-undeclared_own_found = refl
+undeclared_own_runs = refl
 
-undeclared_own_row : CodeMeans (code_of undeclared_own) [] (codes "") 300 true (codes "1\n") Done
-undeclared_own_row = by_running (code_of undeclared_own) [] (codes "") 300 true (codes "1\n") Done undeclared_own_found
+undeclared_own_meant : meant undeclared_own ≡ Some (undeclared_own.out, undeclared_own.end)
+unfolding digits
+undeclared_own_meant = refl
 
-undeclared_own_sound : holds_by_rounds (code_of undeclared_own) ≡ true
+undeclared_own_sound : holds_by_rounds (code_of undeclared_own.program) ≡ true
 undeclared_own_sound = refl
 
--- program p; f := {}; f{1} := {2}; f(2) := [1]; f(2)(3) +:= om; x from f{1}; if ok then stop; else pass; end if; y := newat; print('it''s', f(1, 2), f(2)(1..2), f(2)(1..), [z in f | z /= y]); end program;
-abbrev updates : Program
-updates = record { name = codes "p"; vars = ([]); main = (more_stmts 1 (Assign (record { variable = (Own 0 (codes "f")); selectors = no_selector }) (Apply SetOf no_expr)) (more_stmts 1 (Assign (record { variable = (Own 0 (codes "f")); selectors = (brace_selector (Literal (int (pos 1))) no_selector) }) (Apply SetOf (more_exprs (Literal (int (pos 2))) no_expr))) (more_stmts 1 (Assign (record { variable = (Own 0 (codes "f")); selectors = (round_selector (Literal (int (pos 2))) no_selector) }) (Apply TupleOf (more_exprs (Literal (int (pos 1))) no_expr))) (more_stmts 1 (Update Add (record { variable = (Own 0 (codes "f")); selectors = (round_selector (Literal (int (pos 2))) (round_selector (Literal (int (pos 3))) no_selector)) }) Undefined) (more_stmts 1 (TakeFrom TakeLeast (Own 0 (codes "x")) (record { variable = (Own 0 (codes "f")); selectors = (brace_selector (Literal (int (pos 1))) no_selector) })) (more_stmts 1 (If Ok (more_stmts 1 Stop no_stmt) (more_stmts 1 Pass no_stmt)) (more_stmts 1 (Assign (record { variable = (Own 0 (codes "y")); selectors = no_selector }) Newat) (more_stmts 1 (Print (more_exprs (Literal (text (codes "it's"))) (more_exprs (Apply Get (more_exprs (Name (Own 0 (codes "f"))) (more_exprs (Apply TupleOf (more_exprs (Literal (int (pos 1))) (more_exprs (Literal (int (pos 2))) no_expr))) no_expr))) (more_exprs (Apply Slice (more_exprs (Apply Get (more_exprs (Name (Own 0 (codes "f"))) (more_exprs (Literal (int (pos 2))) no_expr))) (more_exprs (Literal (int (pos 1))) (more_exprs (Literal (int (pos 2))) no_expr)))) (more_exprs (Apply Tail (more_exprs (Apply Get (more_exprs (Name (Own 0 (codes "f"))) (more_exprs (Literal (int (pos 2))) no_expr))) (more_exprs (Literal (int (pos 1))) no_expr))) (more_exprs (Selection OfTuple (Member Values (Bound 1 (codes "z"))) (more_exprs (Name (Own 0 (codes "f"))) no_expr) (Apply NotEqual (more_exprs (Name (Bound 1 (codes "z"))) (more_exprs (Name (Own 0 (codes "y"))) no_expr)))) no_expr)))))) no_stmt)))))))); end_line = 1; procedures = ([]); modes = [] }
-
-updates_listing : listing (code_of updates) ≡ codes "main:\n0 set 0\n1 store f\n2 int 2\n3 set 1\n4 int 1\n5 put f {}\n6 int 1\n7 tuple 1\n8 int 2\n9 put f ()\n10 om\n11 int 2\n12 int 3\n13 + f () ()\n14 int 1\n15 from f {}\n16 store x\n17 ok\n18 unless 21\n19 stop\n20 jump 21\n21 newat\n22 store y\n23 str 'it''s'\n24 load f\n25 int 1\n26 int 2\n27 tuple 2\n28 get\n29 load f\n30 int 2\n31 get\n32 int 1\n33 int 2\n34 slice\n35 load f\n36 int 2\n37 get\n38 int 1\n39 tail\n40 newtuple\n41 load f\n42 begin\n43 next 54\n44 dup\n45 store z.1\n46 load z.1\n47 load y\n48 /=\n49 unless 52\n50 add 1\n51 jump 43\n52 drop\n53 jump 43\n54 print 5\n55 stop\n"
+updates_listed : IsListed updates
 unfolding digits
-updates_listing = refl
+updates_listed = refl
 
-updates_found : found (code_of updates) [] (codes "") 300 true ≡ Some (codes "", (Stopped Om 1))
+updates_runs : found (code_of updates.program) updates.program.modes updates.input 300 true ≡ Some (updates.out, updates.end)
 unfolding digits
-updates_found = refl
+updates_runs = refl
 
-updates_row : CodeMeans (code_of updates) [] (codes "") 300 true (codes "") (Stopped Om 1)
-updates_row = by_running (code_of updates) [] (codes "") 300 true (codes "") (Stopped Om 1) updates_found
+updates_meant : meant updates ≡ Some (updates.out, updates.end)
+unfolding digits
+updates_meant = refl
 
-updates_sound : holds_by_rounds (code_of updates) ≡ true
+updates_sound : holds_by_rounds (code_of updates.program) ≡ true
 updates_sound = refl
+
+pub all_listed : AllAreListed worked_codes
+all_listed = (calls_listed, (counting_listed, (emptied_set_listed, (enumeration_or_former_listed, (fail_alone_listed, (folds_listed, (former_listed, (images_of_a_map_listed, (loops_listed, (nested_places_listed, (passed_in_and_out_listed, (quantifiers_listed, (queens_listed, (one_assignment_listed, (reading_listed, (two_bodies_listed, (subsets_listed, (taken_apart_listed, (taken_back_listed, (too_wide_listed, (undeclared_own_listed, (updates_listed, tt))))))))))))))))))))))
+
+pub all_run : AllRun worked_codes
+all_run = (by_code calls calls_runs, (by_code counting counting_runs, (by_code emptied_set emptied_set_runs, (by_code enumeration_or_former enumeration_or_former_runs, (by_code fail_alone fail_alone_runs, (by_code folds folds_runs, (by_code former former_runs, (by_code images_of_a_map images_of_a_map_runs, (by_code loops loops_runs, (by_code nested_places nested_places_runs, (by_code passed_in_and_out passed_in_and_out_runs, (by_code quantifiers quantifiers_runs, (by_code queens queens_runs, (by_code one_assignment one_assignment_runs, (by_code reading reading_runs, (by_code two_bodies two_bodies_runs, (by_code subsets subsets_runs, (by_code taken_apart taken_apart_runs, (by_code taken_back taken_back_runs, (by_code too_wide too_wide_runs, (by_code undeclared_own undeclared_own_runs, (by_code updates updates_runs, tt))))))))))))))))))))))
+
+pub all_meant : AllAreMeant worked_codes
+all_meant = (by_meaning calls calls_meant, (by_meaning counting counting_meant, (by_meaning emptied_set emptied_set_meant, (by_meaning enumeration_or_former enumeration_or_former_meant, (by_meaning fail_alone fail_alone_meant, (by_meaning folds folds_meant, (by_meaning former former_meant, (by_meaning images_of_a_map images_of_a_map_meant, (by_meaning loops loops_meant, (by_meaning nested_places nested_places_meant, (by_meaning passed_in_and_out passed_in_and_out_meant, (by_meaning quantifiers quantifiers_meant, (by_meaning queens queens_meant, (by_meaning one_assignment one_assignment_meant, (by_meaning reading reading_meant, (by_meaning two_bodies two_bodies_meant, (by_meaning subsets subsets_meant, (by_meaning taken_apart taken_apart_meant, (by_meaning taken_back taken_back_meant, (by_meaning too_wide too_wide_meant, (by_meaning undeclared_own undeclared_own_meant, (by_meaning updates updates_meant, tt))))))))))))))))))))))

@@ -10,3 +10,4 @@ pub mod CodeMeans
 pub mod Shapes
 pub mod Sound
 pub mod Plain
+pub mod Worked

@@ -55,11 +55,11 @@ passed_in_and_out = (with_modes (lines_from 2 (assign n (number 1) ∷ Perform (
 -- x := p(); print(x); if x = 1 then fail; end if; proc p(); if ok then return 1; else return 2; end if; end proc;
 abbrev pub taken_back : Program
 taken_back = (with_modes (lines_from 2 (
-      assign x (Call 0 no_argument)
-      ∷ print (Name x ∷ [])
-      ∷ If (two Equal (Name x) (number 1)) (alone 4 Fail) no_stmt
-      ∷ [])) ((procedure (codes "p") [] (alone 5 (If Ok (alone 5 (Return (number 1))) (alone 5 (Return (number 2))))))
-      ∷ []) [])
+    assign x (Call 0 no_argument)
+    ∷ print (Name x ∷ [])
+    ∷ If (two Equal (Name x) (number 1)) (alone 4 Fail) no_stmt
+    ∷ [])) ((procedure (codes "p") [] (alone 5 (If Ok (alone 5 (Return (number 1))) (alone 5 (Return (number 2))))))
+    ∷ []) [])
 
 -- s := {1}; x := 1; print({x in s}, {y in s | y = 2});
 abbrev pub enumeration_or_former : Program
@@ -111,11 +111,11 @@ declared_set = (with_modes (at 3 (assign s (enumeration (1 ∷ []))) (at 3 (prin
 -- f{1} := {1,2};
 abbrev pub declared_map : Program
 declared_map = (with_modes (at 3 (assign f (set_of (pair_of 1 10 ∷ [])))
-      (at 3 (put f (number 1) Undefined)
-      (at 3 (print (Name f ∷ []))
-      (at 3 (put f (number 1) (number 5))
-      (at 3 (print (Name f ∷ []))
-      (alone 4 (Assign (record { variable = f; selectors = brace_selector (number 1) no_selector }) (enumeration (1 ∷ 2 ∷ []))))))))) [] ((f, SingleMaps Sparse (Elements 0 Integers) Integers) ∷ []))
+    (at 3 (put f (number 1) Undefined)
+    (at 3 (print (Name f ∷ []))
+    (at 3 (put f (number 1) (number 5))
+    (at 3 (print (Name f ∷ []))
+    (alone 4 (Assign (record { variable = f; selectors = brace_selector (number 1) no_selector }) (enumeration (1 ∷ 2 ∷ []))))))))) [] ((f, SingleMaps Sparse (Elements 0 Integers) Integers) ∷ []))
 
 -- q(k) = j or abs (q(k) - j) = i - k
 abbrev is_attacked : Expr
@@ -171,4 +171,4 @@ nested_places =
 -- p(); proc p(); s := 1; print(s); end proc;
 abbrev pub undeclared_own : Program
 undeclared_own = (with_modes (alone 3 (Perform (Call 0 no_argument))) ((procedure (codes "p") [] (at 4 (assign (Own 1 (codes "s")) (number 1)) (alone 4 (print (Name (Own 1 (codes "s")) ∷ [])))))
-      ∷ []) ((s, Sets Sparse (Elements 0 Integers)) ∷ []))
+    ∷ []) ((s, Sets Sparse (Elements 0 Integers)) ∷ []))

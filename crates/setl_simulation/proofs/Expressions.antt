@@ -78,13 +78,13 @@ module _ (c : Code) (pr : Program) (coded : Coded c pr) (formed : Formed pr) whe
       let ins = inside (line_of w) n (Decide q) (only_if t) in
       let end = past at (iterators (line_of w) nothing is ins 0 at) in
       let exit = past end ((clear (line_of w) (all_bound is) ⨾ one (line_of w) (Push (Some (bool (undecided q))))) end) in
-      let out : Levels c pr.procedures p (record l { exit = exit }) n (Decide q) (only_if t) [] is end xs w = outside f.1 (tt, waiting ws) tt f.2 (deciding_all l here.1 refl after) in
+      let out : Levels c pr.procedures p (record l { exit = exit }) n (Decide q) (only_if t) [] is end xs w = outside f.1 (tt, tt, waiting ws) tt f.2 (deciding_all l here.1 refl after) in
       after_step {r' = 1} (core s (Evaluate e) (InIteration (Sources [] es) (record { goal = Decide q; condition = only_if t; started = []; waiting = is }) ∷ w) ss) refl
       (expr_answered e (record l { exit = exit }) g o s p at xs ks _ ss same f.1.1.0 here.0.0.0 (source (record l { exit = exit }) at none f.1.1.1 (here.0.0.1, here.0.1.0) refl here.0 out))
     where
       waiting : (us : Iterators) → FormedWaiting c pr.procedures (Decide q) us
       waiting no_iterator = tt
-      waiting (more_iterators b es us) = (tt, waiting us)
+      waiting (more_iterators b es us) = (tt, tt, waiting us)
   expr_answered (Quantified q (more_iterators b no_expr ws) t) l g o s p at xs ks w ss same f here after = absurd (has_source b f.1.2)
   expr_answered (Call f2 no_argument) l g o s p at xs ks w ss same f here after =
       rw here.1.0 (by_step (called c pr coded formed f2 0 xs xs [] no_argument l g o s p at ks _ w w ss same none f.0 refl here.1.1 after))

@@ -8,3 +8,5 @@ pub mod Storing
 pub mod Updating
 pub mod Leaving
 pub mod Statements
+pub mod Iterations
+pub mod Rounds

@@ -135,13 +135,13 @@ module _ (c : Code) (pr : Program) (coded : Coded c pr) (formed : Formed pr) whe
       let exit = past at (iterators line nothing is ins end at) in
       let l = record q.labels { exit = exit } in
       let next = subst (λ m. AfterBlock c pr.procedures p q m xs (Then r ∷ w)) (same_end is at line n line b2 t end) (rest fr here.1 after) in
-      let out : Levels c pr.procedures p l n (Repeat line b2) t [] is end xs (Then r ∷ w) = outside f.1 (tt, waiting ws) f.3 f.2 (repeating q (same_end is at line n line b2 t end) next) in
+      let out : Levels c pr.procedures p l n (Repeat line b2) t [] is end xs (Then r ∷ w) = outside f.1 (tt, tt, waiting ws) f.3 f.2 (repeating q (same_end is at line n line b2 t end) next) in
       after_step {r' = 1} (core s (Evaluate e) (InIteration (Sources [] es) (record { goal = Repeat line b2; condition = t; started = []; waiting = is }) ∷ Then r ∷ w) ss) refl
       (expr_answered c pr coded formed e l g o s p at xs ks _ ss same f.1.1.0 here.0.0.0 (source l at none f.1.1.1 (here.0.0.1, here.0.1.0) refl here.0 out))
     where
       waiting : (us : Iterators) → FormedWaiting c pr.procedures (Repeat line b2) us
       waiting no_iterator = tt
-      waiting (more_iterators b es us) = (tt, waiting us)
+      waiting (more_iterators b es us) = (tt, tt, waiting us)
   stmt_answered (While e b) line r q g o s p at xs ks w ss same f fr here after later =
       after_step {r' = 1} (core s (Evaluate e) (InStmt line (WhileTest e b) ∷ Then r ∷ w) ss) refl (expr_answered c pr coded formed e _ g o s p at xs ks _ ss same f.0 here.0.0 (while_test q at f.0 f.1 here.0 (rest fr here.1 after)))
   stmt_answered Quit line r q g o s p at xs ks w ss same f fr here after later = quit_answered q.leaves line q g o s p at xs ks r w ss refl same f here.0 after
@@ -164,3 +164,32 @@ module _ (c : Code) (pr : Program) (coded : Coded c pr) (formed : Formed pr) whe
       after_step {r' = 0} (core s (Execute no_stmt) (Then r ∷ w) ss) refl (after_step {r' = _} (core s (Execute r) w ss) refl later)
   stmt_answered (Read (x ∷ vs)) line r q g o s p at xs ks w ss same f fr here after later =
       rw here.0.0 (by_step (read_one (read_denotation s.world.input) line x vs q g o s p at xs ks (Execute (more_stmts line (Read (x ∷ vs)) r)) w (Then r ∷ w) ss same here.0.1 (rest fr here.1 after) f.1))
+
+  -- ---- blocks
+
+  abbrev pub rank_executing : {p : Where} {q : Loop} {at : ℕ} {xs : List Operand} {w : List Frame} → Block → AfterBlock c pr.procedures p q at xs w → ℕ
+  rank_executing no_stmt after = rank_block after
+  rank_executing (more_stmts line st r) after = 0
+
+  -- statements, where it is answered what follows them
+  block_by : (b : Block) (q : Loop) (g o : Cells) (s : Shared) (p : Where) (at : ℕ) (xs : List Operand) (ks : List Copy) (w : List Frame) (ss : List Snapshot) → Same c pr.procedures g o s ks ss → FormedBlock (around c pr.procedures p) q.is_loop b → Stands (steps_in c p) q.labels at (block q.leaves b at) → (after : AfterBlock c pr.procedures p q (past at (block q.leaves b at)) xs w) → Answered c pr (rank_block after) (slice_get (steps_in c p) (past at (block q.leaves b at))) g o s p (past at (block q.leaves b at)) xs ks (Execute no_stmt) w ss → Answered c pr (rank_executing b after) (slice_get (steps_in c p) at) g o s p at xs ks (Execute b) w ss
+  block_by no_stmt q g o s p at xs ks w ss same f here after done = done
+  block_by (more_stmts line st r) q g o s p at xs ks w ss same f here after done =
+      stmt_answered st line r q g o s p at xs ks w ss same f.0 f.1 here after
+      (block_by r q g o s p (past at (stmt q.leaves line st at)) xs ks w ss same f.1 here.1 after done)
+
+  -- the end of statements
+  pub ended : {q : Loop} {p : Where} {at : ℕ} {xs : List Operand} {w : List Frame} (g o : Cells) (s : Shared) (ks : List Copy) (ss : List Snapshot) → Same c pr.procedures g o s ks ss → (d : AfterBlock c pr.procedures p q at xs w) → Answered c pr (rank_block d) (slice_get (steps_in c p) at) g o s p at xs ks (Execute no_stmt) w ss
+  ended g o s ks ss same (last main alone is) = rw is (by_step halts)
+  ended g o s ks ss same (ends alone push ret wait) = rw push (by_step (moves (matched c pr.procedures same (got refl (returning ret wait)))))
+  ended {p = p} {at = at} {xs = xs} g o s ks ss same (rest {q = q} {b = b} {w = u} f here later) =
+      after_step {r' = rank_executing b later} (core s (Execute b) u ss) refl (block_by b q g o s p at xs ks u ss same f here later (ended g o s ks ss same later))
+  ended g o s ks ss same (loop outer start fe fb here next) =
+      rw here.1.1.1.1 (by_step (moves (matched c pr.procedures same (evaluating _ fe here.0 (while_test outer start fe fb here next)))))
+  ended g o s ks ss same (body l at is out) = rw is (by_step (moves (matched c pr.procedures same (iterating out))))
+  ended g o s ks ss same (block_jumps is next) =
+      let less : rank_block next < suc (rank_block next) = omega arith in
+      rw is (by_none (matched c pr.procedures same (executing {b = no_stmt} _ tt tt next)) less)
+
+  pub block_answered : (b : Block) (q : Loop) (g o : Cells) (s : Shared) (p : Where) (at : ℕ) (xs : List Operand) (ks : List Copy) (w : List Frame) (ss : List Snapshot) → Same c pr.procedures g o s ks ss → FormedBlock (around c pr.procedures p) q.is_loop b → Stands (steps_in c p) q.labels at (block q.leaves b at) → (after : AfterBlock c pr.procedures p q (past at (block q.leaves b at)) xs w) → Answered c pr (rank_executing b after) (slice_get (steps_in c p) at) g o s p at xs ks (Execute b) w ss
+  block_answered b q g o s p at xs ks w ss same f here after = block_by b q g o s p at xs ks w ss same f here after (ended g o s ks ss same after)

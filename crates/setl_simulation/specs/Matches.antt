@@ -163,11 +163,21 @@ module _ (c : Code) (ps : List Procedure) where
   -- the iterators of a selection bind members
   abbrev pub FormedLevel : Goal → Binding → Type 0
   FormedLevel (Select k v got) b = BindsMembers b
-  FormedLevel g b = Unit {0}
+  FormedLevel (Collect k e got) b = Unit {0}
+  FormedLevel (Decide q) b = Unit {0}
+  FormedLevel (Repeat line b2) b = Unit {0}
+
+  -- a selection has no further iterator
+  abbrev pub FormedBehind : Goal → Iterators → Type 0
+  FormedBehind (Select k v got) no_iterator = Unit {0}
+  FormedBehind (Select k v got) (more_iterators b es ws) = ⊥
+  FormedBehind (Collect k e got) ws = Unit {0}
+  FormedBehind (Decide q) ws = Unit {0}
+  FormedBehind (Repeat line b) ws = Unit {0}
 
   abbrev pub FormedWaiting : Goal → Iterators → Type 0
   FormedWaiting g no_iterator = Unit {0}
-  FormedWaiting g (more_iterators b es ws) = FormedLevel g b × FormedWaiting g ws
+  FormedWaiting g (more_iterators b es ws) = FormedLevel g b × FormedBehind g ws × FormedWaiting g ws
 
   mutual
     -- At this place, with a result on top of these operands, the code goes on as these frames.
@@ -257,7 +267,7 @@ module _ (c : Code) (ps : List Procedure) where
     selection_formed : {p : Where} {at : ℕ} {k : Collection} {b : Binding} {es : Exprs} {e : Expr} {xs : List Operand} {w : List Frame} → (l : Labels) → FormedExpr (around p) (Selection k b es e) → Stands (steps_in c p) l at (expr (line_of w) (Selection k b es e) at) → AfterResult p (past at (expr (line_of w) (Selection k b es e) at)) xs w → Placed p (suc at) (Collecting k [] ∷ xs) (Evaluate (Selection k b es e)) w
     -- an item that is still to be bound; before it a selection pushes its member once more
     doubling : {p : Where} {l : Labels} {n a at : ℕ} {v w0 : Option Datum} {k : Collection} {have : List (Option Datum)} {t : Condition} {b : Binding} {es : Exprs} {items : List Item} {ls : List Level} {ws : Iterators} {xs : List Operand} {w : List Frame} → Is (steps_in c p) at (line_of w) DupTop → BindsMembers b → Stands (steps_in c p) l (suc at) (bind (line_of w) b (suc at)) → Stands (steps_in c p) l (past (suc at) (bind (line_of w) b (suc at))) (looping (line_of w) n (Select k v have) t ws a (past (suc at) (bind (line_of w) b (suc at)))) → Levels p l n (Select k v have) t (record { binding = b; sources = es; left = items } ∷ ls) ws a xs w → Placed p at (OperandResult v ∷ xs) Iterate (InIteration (ToBind (One v)) (record { goal = Select k w0 have; condition = t; started = record { binding = b; sources = es; left = items } ∷ ls; waiting = ws }) ∷ w)
-    binding : {p : Where} {l : Labels} {n a at : ℕ} {item : Item} {g g0 : Goal} {t : Condition} {b : Binding} {es : Exprs} {items : List Item} {ls : List Level} {ws : Iterators} {xs : List Operand} {w : List Frame} → goal_at g0 item ≡ g → ItemsOf (begin_of b) (item ∷ []) → Stands (steps_in c p) l at (bind (goal_line g (line_of w)) b at) → Stands (steps_in c p) l (past at (bind (goal_line g (line_of w)) b at)) (looping (goal_line g (line_of w)) n g t ws a (past at (bind (goal_line g (line_of w)) b at))) → Levels p l n g t (record { binding = b; sources = es; left = items } ∷ ls) ws a xs w → Placed p at (item_operands item (with_member g xs)) Iterate (InIteration (ToBind item) (record { goal = g0; condition = t; started = record { binding = b; sources = es; left = items } ∷ ls; waiting = ws }) ∷ w)
+    binding : {p : Where} {l : Labels} {n a at : ℕ} {item : Item} {g : Goal} {t : Condition} {b : Binding} {es : Exprs} {items : List Item} {ls : List Level} {ws : Iterators} {xs : List Operand} {w : List Frame} → ItemsOf (begin_of b) (item ∷ []) → Stands (steps_in c p) l at (bind (goal_line (goal_at g item) (line_of w)) b at) → Stands (steps_in c p) l (past at (bind (goal_line (goal_at g item) (line_of w)) b at)) (looping (goal_line (goal_at g item) (line_of w)) n (goal_at g item) t ws a (past at (bind (goal_line (goal_at g item) (line_of w)) b at))) → Levels p l n (goal_at g item) t (record { binding = b; sources = es; left = items } ∷ ls) ws a xs w → Placed p at (item_operands item (with_member (goal_at g item) xs)) Iterate (InIteration (ToBind item) (record { goal = g; condition = t; started = record { binding = b; sources = es; left = items } ∷ ls; waiting = ws }) ∷ w)
     -- stores that are still to be made, from the operands
     storing : {p : Where} {at : ℕ} {slots : Slots} {stores : List Store} {v : Option Datum} {os xs : List Operand} {w : List Frame} → (l : Labels) → Fills slots os stores xs → Stands (steps_in c p) l at (store_slots (line_of w) slots at) → AfterStores p (past at (store_slots (line_of w) slots at)) xs v w → Placed p at os (Result v) (Storing stores ∷ w)
     -- bound names that are still to be cleared, before and behind the `om`

@@ -21,7 +21,7 @@ back_rows =
     -- proc p(); if ok then return 1; else return 2; end if; end proc;
     ∷ does 2 (with_procedures (on_line 2 (assign x (Call 0 no_argument) ∷ print (Name x ∷ []) ∷ If (two Equal (Name x)
     (number 1)) (alone 2 Fail) no_stmt ∷ [])) ((procedure (codes "p") [] (alone 3 (If Ok
-          (alone 3 (Return (number 1))) (alone 3 (Return (number 2)))))) ∷ [])) (codes "1\n2\n")
+    (alone 3 (Return (number 1))) (alone 3 (Return (number 2)))))) ∷ [])) (codes "1\n2\n")
     -- if ok then print(1);
     -- fail; end if;
     -- with 0 turns
@@ -68,15 +68,15 @@ back_rows =
     ∷ does 3 (with_procedures (on_line 2 (assign (Global (codes "x")) (number 1) ∷ assign y (number 1) ∷ Perform (Call 0
     (rw_argument y no_argument)) ∷ print (Name (Global (codes "x")) ∷ Name y ∷ []) ∷ []))
     ((procedure (codes "p") ((rw_parameter (codes "a")) ∷ []) (on_line 3
-          (assign (Global (codes "x")) (number 2) ∷ If Ok (on_line 3 (assign (Global (codes "x")) (number 3) ∷ assign
-          (its (codes "a")) (number 4) ∷ Fail ∷ [])) (alone 3 (print (Name (Global (codes "x")) ∷ Name (its (codes "a"))
-          ∷ []))) ∷ []))) ∷ [])) (codes "2 1\n2 1\n")
+    (assign (Global (codes "x")) (number 2) ∷ If Ok (on_line 3 (assign (Global (codes "x")) (number 3) ∷ assign
+    (its (codes "a")) (number 4) ∷ Fail ∷ [])) (alone 3 (print (Name (Global (codes "x")) ∷ Name (its (codes "a"))
+    ∷ []))) ∷ []))) ∷ [])) (codes "2 1\n2 1\n")
     -- print(p(1)); fail;
     -- proc p(n); if ok then return n; else return n + 1; end if; end proc;
     ∷ ends (Stopped Nothing 2) 4 (with_procedures (on_line 2 (print (Call 0 (rd_argument (number 1) no_argument) ∷ [])
     ∷ Fail ∷ [])) ((procedure (codes "p") ((rd_parameter (codes "n"))
-          ∷ []) (alone 3 (If Ok (alone 3 (Return (Name (its (codes "n"))))) (alone 3 (Return (two Add (Name (its
-          (codes "n"))) (number 1))))))) ∷ [])) (codes "1\n2\n")
+    ∷ []) (alone 3 (If Ok (alone 3 (Return (Name (its (codes "n"))))) (alone 3 (Return (two Add (Name (its
+    (codes "n"))) (number 1))))))) ∷ [])) (codes "1\n2\n")
     -- (for x in [1, 2, 3]) if ok then quit; end if; end for; print(x); if x = 1 then stop; end if;
     ∷ does 2 (just (on_line 2 (For (over x (row_of (1 ∷ 2 ∷ 3 ∷ []))) no_condition (alone 2 (If Ok
     (alone 2 Quit) no_stmt)) ∷ print (Name x ∷ []) ∷ If (two Equal (Name x) (number 1)) (alone 2 Stop) no_stmt

@@ -21,7 +21,7 @@ event_rows =
     -- tells: call 2 p; keep; return p; store 2 x 1; print 1; back; return p; store 2 x 2; print 2
     tells 2 (with_procedures (on_line 2 (assign x (Call 0 no_argument) ∷ print (Name x ∷ []) ∷ If (two Equal (Name x)
     (number 1)) (alone 2 Fail) no_stmt ∷ [])) ((procedure (codes "p") [] (alone 3 (If Ok
-          (alone 3 (Return (number 1))) (alone 3 (Return (number 2)))))) ∷ [])) (
+    (alone 3 (Return (number 1))) (alone 3 (Return (number 2)))))) ∷ [])) (
     Called 2 (codes "p")
     ∷ Kept
     ∷ Returned (codes "p")
@@ -53,8 +53,8 @@ event_rows =
     ∷ tells 9 (with_procedures (lines_from 2 (assign y (Call 0 (wr_argument x (rd_argument (two Add (number 1)
     (number 1)) no_argument))) ∷ print (Name y ∷ []) ∷ []))
     ((procedure (codes "p") ((wr_parameter (codes "a"))
-          ∷ (rd_parameter (codes "n")) ∷ []) (on_line 5 (assign (its (codes "a")) (Name (its
-          (codes "n"))) ∷ Return (tuple_of (Name (its (codes "n")) ∷ [])) ∷ []))) ∷ [])) (
+    ∷ (rd_parameter (codes "n")) ∷ []) (on_line 5 (assign (its (codes "a")) (Name (its
+    (codes "n"))) ∷ Return (tuple_of (Name (its (codes "n")) ∷ [])) ∷ []))) ∷ [])) (
     Called 2 (codes "p")
     ∷ Stored 2 (its (codes "a")) None
     ∷ Stored 2 (its (codes "n")) (Some (int (pos 2)))
@@ -104,7 +104,7 @@ event_rows =
     -- [x, y, z] := [1, 'a', 3];
     -- tells: store 3 x 1
     ∷ tells 9 ((with_modes (alone 3 (AssignParts (Some x ∷ Some y ∷ Some z ∷ []) (tuple_of (number 1 ∷ quoted
-          (codes "a") ∷ number 3 ∷ [])))) [] ((y, Integers) ∷ []))) (
+    (codes "a") ∷ number 3 ∷ [])))) [] ((y, Integers) ∷ []))) (
     Stored 3 x (Some (int (pos 1)))
     ∷ [])
     -- stops Om at the sum:
@@ -113,7 +113,7 @@ event_rows =
     -- tells: call 2 p; store 2 1:x *
     ∷ tells 9 (with_procedures (alone 2 (Perform (Call 0 (rw_argument (Global (codes "x")) no_argument))))
     ((procedure (codes "p") ((rw_parameter (codes "x")) ∷ []) (alone 3
-          (combine Add (its (codes "x")) (number 1)))) ∷ [])) (
+    (combine Add (its (codes "x")) (number 1)))) ∷ [])) (
     Called 2 (codes "p")
     ∷ Stored 2 (its (codes "x")) None
     ∷ [])

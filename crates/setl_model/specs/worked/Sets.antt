@@ -80,7 +80,7 @@ enumeration_rows =
     -- proc p(); print(7); return 1; end proc;
     ++ ends (Stopped Om 2) 1 (with_procedures (alone 2 (print (set_of (Undefined ∷ Call 0 no_argument ∷ []) ∷ [])))
     ((procedure (codes "p") [] (on_line 3 (print (number 7 ∷ []) ∷ Return (number 1)
-          ∷ []))) ∷ [])) (codes "7\n")
+    ∷ []))) ∷ [])) (codes "7\n")
     ∷ []
 
 -- sets of subsets, which charge their number

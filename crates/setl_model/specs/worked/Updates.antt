@@ -35,13 +35,13 @@ update_rows =
     ∷ does 1 (with_procedures (on_line 2 (assign (Global (codes "x")) (number 1) ∷ combine Add (Global (codes "x"))
     (Call 0 no_argument) ∷ print (Name (Global (codes "x")) ∷ []) ∷ []))
     ((procedure (codes "f") [] (on_line 3 (assign (Global (codes "x")) (number 10)
-          ∷ Return (number 5) ∷ []))) ∷ [])) (codes "15\n")
+    ∷ Return (number 5) ∷ []))) ∷ [])) (codes "15\n")
     -- t := [0, 0]; t(p(1)) := p(2); print(t);
     -- proc p(a); print(a); return a; end proc;
     ∷ does 2 (with_procedures (on_line 2 (assign t (row_of (0 ∷ 0 ∷ [])) ∷ put t (Call 0 (rd_argument
     (number 1) no_argument)) (Call 0 (rd_argument (number 2) no_argument)) ∷ print (Name t ∷ []) ∷ []))
     ((procedure (codes "p") ((rd_parameter (codes "a")) ∷ []) (on_line 3
-          (print (Name (its (codes "a")) ∷ []) ∷ Return (Name (its (codes "a"))) ∷ []))) ∷ [])) (codes "2\n1\n[2 0]\n")
+    (print (Name (its (codes "a")) ∷ []) ∷ Return (Name (its (codes "a"))) ∷ []))) ∷ [])) (codes "2\n1\n[2 0]\n")
     -- t := [[0]]; t(p(1))(p(2)) +:= p(3);
     -- proc p(a); print(a); return a; end proc;
     ∷ ends (Stopped Om 2) 3 (with_procedures (on_line 2 (assign t (tuple_of (row_of (0 ∷ []) ∷ [])) ∷ Update Add
@@ -52,7 +52,7 @@ update_rows =
     }) (Call 0 (rd_argument
     (number 3) no_argument)) ∷ []))
     ((procedure (codes "p") ((rd_parameter (codes "a")) ∷ []) (on_line 3
-          (print (Name (its (codes "a")) ∷ []) ∷ Return (Name (its (codes "a"))) ∷ []))) ∷ [])) (codes "3\n1\n2\n")
+    (print (Name (its (codes "a")) ∷ []) ∷ Return (Name (its (codes "a"))) ∷ []))) ∷ [])) (codes "3\n1\n2\n")
     ∷ []
 
 -- parts of parts

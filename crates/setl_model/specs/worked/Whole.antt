@@ -50,20 +50,20 @@ whole_rows =
     -- end while;
     -- print(seen);
     ∷ does 99 ((with_modes (at 4 (assign g (set_of (row_of (1 ∷ 2 ∷ []) ∷ row_of (2 ∷ 3 ∷ []) ∷ row_of (4 ∷ 1 ∷ [])
-          ∷ []))) (at 5 (assign (own (codes "seen")) (set_of [])) (at 5 (assign (own (codes "todo")) (row_of (1 ∷ [])))
-          (at 6 (While (two NotEqual (Name (own (codes "todo"))) (tuple_of [])) (lines_from 7 (TakeFrom TakeFirst x
-          (record { variable = (own (codes "todo")); selectors = no_selector }) ∷ If (two NotIn (Name x) (Name (own
-          (codes "seen")))) (lines_from 9 (combine With (own (codes "seen")) (Name x) ∷ For (over y (at_brace (Name g)
-          (Name x))) no_condition (alone 10 (combine With (own (codes "todo")) (Name y))) ∷ [])) no_stmt ∷ []))) (at 13
-          (print (Name (own (codes "seen")) ∷ [])) no_stmt))))) [] ((
-        g,
-        MultiMaps Local
-            (Elements 0 Integers) (Sets Remote (Elements 0 Integers)),
-      ) ∷ (
-        own (codes "seen"),
-        Sets Local
-            (Elements 0 Integers),
-      ) ∷ []))) (codes "{1 2 3}\n")
+    ∷ []))) (at 5 (assign (own (codes "seen")) (set_of [])) (at 5 (assign (own (codes "todo")) (row_of (1 ∷ [])))
+    (at 6 (While (two NotEqual (Name (own (codes "todo"))) (tuple_of [])) (lines_from 7 (TakeFrom TakeFirst x
+    (record { variable = (own (codes "todo")); selectors = no_selector }) ∷ If (two NotIn (Name x) (Name (own
+    (codes "seen")))) (lines_from 9 (combine With (own (codes "seen")) (Name x) ∷ For (over y (at_brace (Name g)
+    (Name x))) no_condition (alone 10 (combine With (own (codes "todo")) (Name y))) ∷ [])) no_stmt ∷ []))) (at 13
+    (print (Name (own (codes "seen")) ∷ [])) no_stmt))))) [] ((
+      g,
+      MultiMaps Local
+          (Elements 0 Integers) (Sets Remote (Elements 0 Integers)),
+    ) ∷ (
+      own (codes "seen"),
+      Sets Local
+          (Elements 0 Integers),
+    ) ∷ []))) (codes "{1 2 3}\n")
     -- repr base n: int; g: local mmap{elmt n} remote set(elmt n);
     -- seen: local set(elmt n); end repr;
     -- g := {[1,2],[2,3],[4,1]};
@@ -78,21 +78,21 @@ whole_rows =
     -- print(seen);
     -- without declarations
     ∷ unbased 99 ((with_modes (at 4 (assign g (set_of (row_of (1 ∷ 2 ∷ []) ∷ row_of (2 ∷ 3 ∷ []) ∷ row_of (4 ∷ 1
-          ∷ []) ∷ []))) (at 5 (assign (own (codes "seen")) (set_of [])) (at 5 (assign (own (codes "todo")) (row_of (1
-          ∷ []))) (at 6 (While (two NotEqual (Name (own (codes "todo"))) (tuple_of [])) (lines_from 7
-          (TakeFrom TakeFirst x (record { variable = (own (codes "todo")); selectors = no_selector }) ∷ If (two NotIn
-          (Name x) (Name (own (codes "seen")))) (lines_from 9 (combine With (own (codes "seen")) (Name x) ∷ For (over y
-          (at_brace (Name g) (Name x))) no_condition (alone 10 (combine With (own (codes "todo")) (Name y)))
-          ∷ [])) no_stmt ∷ []))) (at 13 (print (Name (own (codes "seen")) ∷ [])) no_stmt))))) [] ((g, MultiMaps Local (Elements 0 Integers) (Sets Remote (Elements 0 Integers))) ∷ (
-            own
-                (codes "seen"),
-            Sets Local (Elements 0 Integers),
-          ) ∷ []))) (codes "{1 2 3}\n") Done
+    ∷ []) ∷ []))) (at 5 (assign (own (codes "seen")) (set_of [])) (at 5 (assign (own (codes "todo")) (row_of (1
+    ∷ []))) (at 6 (While (two NotEqual (Name (own (codes "todo"))) (tuple_of [])) (lines_from 7
+    (TakeFrom TakeFirst x (record { variable = (own (codes "todo")); selectors = no_selector }) ∷ If (two NotIn
+    (Name x) (Name (own (codes "seen")))) (lines_from 9 (combine With (own (codes "seen")) (Name x) ∷ For (over y
+    (at_brace (Name g) (Name x))) no_condition (alone 10 (combine With (own (codes "todo")) (Name y)))
+    ∷ [])) no_stmt ∷ []))) (at 13 (print (Name (own (codes "seen")) ∷ [])) no_stmt))))) [] ((g, MultiMaps Local (Elements 0 Integers) (Sets Remote (Elements 0 Integers))) ∷ (
+      own
+          (codes "seen"),
+      Sets Local (Elements 0 Integers),
+    ) ∷ []))) (codes "{1 2 3}\n") Done
     -- repr base n: int; s: remote set(elmt n); t: sparse set(elmt n); end repr;
     -- s := {30,10}; t := {20,10}; s with:= 20; print(s, t); print([x : x in s]);
     ∷ does 9 ((with_modes (on_line 3 (assign s (enumeration (30 ∷ 10 ∷ [])) ∷ assign t (enumeration (20 ∷ 10 ∷ []))
-          ∷ combine With s (number 20) ∷ print (Name s ∷ Name t ∷ []) ∷ print (Former OfTuple (Name (Bound 1
-          (codes "x"))) (over (Bound 1 (codes "x")) (Name s)) no_condition ∷ []) ∷ [])) [] ((s, Sets Remote (Elements 0 Integers)) ∷ (t, Sets Sparse (Elements 0 Integers)) ∷ [])))
+    ∷ combine With s (number 20) ∷ print (Name s ∷ Name t ∷ []) ∷ print (Former OfTuple (Name (Bound 1
+    (codes "x"))) (over (Bound 1 (codes "x")) (Name s)) no_condition ∷ []) ∷ [])) [] ((s, Sets Remote (Elements 0 Integers)) ∷ (t, Sets Sparse (Elements 0 Integers)) ∷ [])))
     (codes "{10 20 30} {10 20}\n[10 20 30]\n")
     -- repr
     -- base node: int;
@@ -111,19 +111,19 @@ whole_rows =
     -- end while;
     -- print(#seen);
     ∷ reads (codes "[1 1]\n[1 1]\n") 400 ((with_modes (at 7 (assign g (set_of [])) (at 7 (assign (own (codes "seen"))
-          (set_of [])) (at 7 (assign (own (codes "todo")) (row_of (1 ∷ []))) (at 8 (Read ((own (codes "e")) ∷ [])) (at 9
-          (While (two NotEqual (Name (own (codes "e"))) Undefined) (on_line 9 (combine_brace With g (at_round (Name (own
-          (codes "e"))) (number 1)) (at_round (Name (own (codes "e"))) (number 2)) ∷ Read ((own (codes "e")) ∷ [])
-          ∷ []))) (at 10 (While (two NotEqual (Name (own (codes "todo"))) (tuple_of [])) (lines_from 11
-          (TakeFrom TakeFirst x (record { variable = (own (codes "todo")); selectors = no_selector }) ∷ If (two NotIn
-          (Name x) (Name (own (codes "seen")))) (lines_from 13 (combine With (own (codes "seen")) (Name x) ∷ For (over y
-          (at_brace (Name g) (Name x))) no_condition (alone 14 (combine With (own (codes "todo")) (Name y)))
-          ∷ [])) no_stmt ∷ []))) (at 17 (print (one Size (Name (own (codes "seen")))
-          ∷ [])) no_stmt))))))) [] ((
-        g,
-        MultiMaps Local (Elements 0 Integers) (Sets Sparse
-            (Elements 0 Integers)),
-      ) ∷ (own (codes "seen"), Sets Remote (Elements 0 Integers)) ∷ []))) (codes "1\n") Done
+    (set_of [])) (at 7 (assign (own (codes "todo")) (row_of (1 ∷ []))) (at 8 (Read ((own (codes "e")) ∷ [])) (at 9
+    (While (two NotEqual (Name (own (codes "e"))) Undefined) (on_line 9 (combine_brace With g (at_round (Name (own
+    (codes "e"))) (number 1)) (at_round (Name (own (codes "e"))) (number 2)) ∷ Read ((own (codes "e")) ∷ [])
+    ∷ []))) (at 10 (While (two NotEqual (Name (own (codes "todo"))) (tuple_of [])) (lines_from 11
+    (TakeFrom TakeFirst x (record { variable = (own (codes "todo")); selectors = no_selector }) ∷ If (two NotIn
+    (Name x) (Name (own (codes "seen")))) (lines_from 13 (combine With (own (codes "seen")) (Name x) ∷ For (over y
+    (at_brace (Name g) (Name x))) no_condition (alone 14 (combine With (own (codes "todo")) (Name y)))
+    ∷ [])) no_stmt ∷ []))) (at 17 (print (one Size (Name (own (codes "seen")))
+    ∷ [])) no_stmt))))))) [] ((
+      g,
+      MultiMaps Local (Elements 0 Integers) (Sets Sparse
+          (Elements 0 Integers)),
+    ) ∷ (own (codes "seen"), Sets Remote (Elements 0 Integers)) ∷ []))) (codes "1\n") Done
     -- repr
     -- base node: int;
     -- g: local mmap{elmt node} sparse set(elmt node);
@@ -141,20 +141,20 @@ whole_rows =
     -- end while;
     -- print(#seen);
     ∷ reads (codes "[3 4]\n[2 2]\n[2 4]\n[1 1]\n[4 3]\n[4 4]\n[1 1]\n[2 3]\n") 400 ((with_modes (at 7 (assign g
-          (set_of [])) (at 7 (assign (own (codes "seen")) (set_of [])) (at 7 (assign (own (codes "todo")) (row_of (1
-          ∷ []))) (at 8 (Read ((own (codes "e")) ∷ [])) (at 9 (While (two NotEqual (Name (own (codes "e"))) Undefined)
-          (on_line 9 (combine_brace With g (at_round (Name (own (codes "e"))) (number 1)) (at_round (Name (own
-          (codes "e"))) (number 2)) ∷ Read ((own (codes "e")) ∷ []) ∷ []))) (at 10 (While (two NotEqual (Name (own
-          (codes "todo"))) (tuple_of [])) (lines_from 11 (TakeFrom TakeFirst x (record {
-            variable = (own
-                (codes "todo"));
-            selectors = no_selector;
-          }) ∷ If (two NotIn (Name x) (Name (own (codes "seen"))))
-          (lines_from 13 (combine With (own (codes "seen")) (Name x) ∷ For (over y (at_brace (Name g)
-          (Name x))) no_condition (alone 14 (combine With (own (codes "todo")) (Name y))) ∷ [])) no_stmt ∷ []))) (at 17
-          (print (one Size (Name (own (codes "seen"))) ∷ [])) no_stmt))))))) [] ((g, MultiMaps Local (Elements 0 Integers) (Sets Sparse (Elements 0 Integers))) ∷ (
-            own
-                (codes "seen"),
-            Sets Remote (Elements 0 Integers),
-          ) ∷ []))) (codes "1\n") Done
+    (set_of [])) (at 7 (assign (own (codes "seen")) (set_of [])) (at 7 (assign (own (codes "todo")) (row_of (1
+    ∷ []))) (at 8 (Read ((own (codes "e")) ∷ [])) (at 9 (While (two NotEqual (Name (own (codes "e"))) Undefined)
+    (on_line 9 (combine_brace With g (at_round (Name (own (codes "e"))) (number 1)) (at_round (Name (own
+    (codes "e"))) (number 2)) ∷ Read ((own (codes "e")) ∷ []) ∷ []))) (at 10 (While (two NotEqual (Name (own
+    (codes "todo"))) (tuple_of [])) (lines_from 11 (TakeFrom TakeFirst x (record {
+      variable = (own
+          (codes "todo"));
+      selectors = no_selector;
+    }) ∷ If (two NotIn (Name x) (Name (own (codes "seen"))))
+    (lines_from 13 (combine With (own (codes "seen")) (Name x) ∷ For (over y (at_brace (Name g)
+    (Name x))) no_condition (alone 14 (combine With (own (codes "todo")) (Name y))) ∷ [])) no_stmt ∷ []))) (at 17
+    (print (one Size (Name (own (codes "seen"))) ∷ [])) no_stmt))))))) [] ((g, MultiMaps Local (Elements 0 Integers) (Sets Sparse (Elements 0 Integers))) ∷ (
+      own
+          (codes "seen"),
+      Sets Remote (Elements 0 Integers),
+    ) ∷ []))) (codes "1\n") Done
     ∷ []
