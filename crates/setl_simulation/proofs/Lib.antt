@@ -10,3 +10,4 @@ pub mod Leaving
 pub mod Statements
 pub mod Iterations
 pub mod Rounds
+pub mod Following
