@@ -11,3 +11,4 @@ pub mod Statements
 pub mod Iterations
 pub mod Rounds
 pub mod Following
+pub mod Meaning
