@@ -78,7 +78,7 @@ module _ (c : Code) (pr : Program) (coded : Coded c pr) (formed : Formed pr) whe
       let ins = inside (line_of w) n (Decide q) (only_if t) in
       let end = past at (iterators (line_of w) nothing is ins 0 at) in
       let exit = past end ((clear (line_of w) (all_bound is) ⨾ one (line_of w) (Push (Some (bool (undecided q))))) end) in
-      let out : Levels c pr.procedures p (record l { exit = exit }) n (Decide q) (only_if t) [] is end xs w = outside f.1 (tt, tt, waiting ws) tt f.2 (deciding_all l here.1 refl after) in
+      let out : Levels c pr.procedures p (record l { exit = exit }) n (Decide q) (only_if t) [] is end xs w = outside f.1 (tt, tt, waiting ws) tt tt f.2 (deciding_all l here.1 refl after) in
       after_step {r' = 1} (core s (Evaluate e) (InIteration (Sources [] es) (record { goal = Decide q; condition = only_if t; started = []; waiting = is }) ∷ w) ss) refl
       (expr_answered e (record l { exit = exit }) g o s p at xs ks _ ss same f.1.1.0 here.0.0.0 (source (record l { exit = exit }) at none f.1.1.1 (here.0.0.1, here.0.1.0) refl here.0 out))
     where

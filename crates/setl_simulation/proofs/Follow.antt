@@ -1,6 +1,7 @@
 -- A machine that follows another runs alike.
 use Rattle.std.proofs.Common.{◌≡◌, ◌<◌, ◌≤◌, ◌+◌, arith, ℕ, zero, suc, Bool, true, false, List, [], ◌∷◌, ◌++◌, refl, sym, ap, ◌∙◌, append-nil}
 use Rattle.setl_run.specs.Events.{End, Unfit, Stored, Stopped, Event}
+use Rattle.setl_run.specs.RunLaws.{runs_join}
 use Rattle.setl_run.specs.Run.{Store, Move, State, Next, Goes, Ends, Machine, Test, if_fits, stored, store_all, settle, step, and_then, run}
 use Rattle.setl_simulation.specs.Follow.{Related, moves, halts, Answers, by_step, after_step, by_none, Follows, Shares, Same}
 
@@ -103,3 +104,32 @@ module _ (K C : Type 0) (m : Machine K) (n : Machine C) (R : K → C → Type 0)
   -- where the second ends, the first ends alike
   pub ends_too : (e : End) (l : State C) (s : State K) (t : State C) (i : ℕ) → Shares R s t → run n test i t ≡ Ends e l → EndsWith e l s
   ends_too e l s t i h g = follow_end e l i s t i (omega arith) h g
+
+  abbrev EndsThere : End → State K → State C → Type 0
+  EndsThere e l t = (j : ℕ) × (t' : State C) × (run n test j t ≡ Ends e t') × (l.out ≡ t'.out) × (l.events ≡ t'.events)
+
+  -- where the first ends, the second ends alike
+  pub ends_there : (i : ℕ) (e : End) (l : State K) (s : State K) (t : State C) → Shares R s t → run m test i s ≡ Ends e l → EndsThere e l t
+  ends_there zero e l s t h g = cc
+  ends_there (suc i) e l s t h g =
+      go (answer (rank s.core t.core h.core) (m.move s.core) t.core s t.out t.events (follows.answers s.core t.core h.core) h.out h.events) (ends_there i e l)
+    where
+      joined : (k : ℕ) (v : State C) → run n test (suc k) t ≡ Goes v → EndsThere e l v → EndsThere e l t
+      joined k v hy (j, t', r, o, q) = let all = runs_join n test (suc k) j t v (Ends e t') hy r in (all.0, t', all.1, o, q)
+
+      ended : (x : Next K) (k : ℕ) (y : Next C) → step m test s ≡ x → run n test (suc k) t ≡ y → Same R x y → and_then x (run m test i) ≡ Ends e l → ((s : State K) (t : State C) → Shares R s t → run m test i s ≡ Ends e l → EndsThere e l t) → EndsThere e l t
+      ended (Goes u) k (Goes v) hx hy same later ih = joined k v hy (ih u v same later)
+      ended (Ends f u) k (Ends f' v) hx hy same later ih =
+          let e1 : f ≡ e = cc in
+          let l1 : u ≡ l = cc in
+          (suc k, v, hy ∙ ap (λ z. Ends z v) (sym same.0 ∙ e1), sym (ap (λ z. z.out) l1) ∙ same.1, sym (ap (λ z. z.events) l1) ∙ same.2)
+      ended (Goes u) k (Ends f' v) hx hy same later ih = absurd same
+      ended (Ends f u) k (Goes v) hx hy same later ih = absurd same
+
+      go : Reply (rank s.core t.core h.core) (m.move s.core) s t → ((s : State K) (t : State C) → Shares R s t → run m test i s ≡ Ends e l → EndsThere e l t) → EndsThere e l t
+      go (stepped k same) ih = ended _ k _ refl refl same g ih
+      go (idle k q h' l') ih =
+          let s' : State K = record { core = k; out = s.out ++ []; events = s.events ++ [] } in
+          let shares : Shares R s' t = record { core = h'; out = append-nil s.out ∙ h.out; events = append-nil s.events ∙ h.events } in
+          let later : run m test i s' ≡ Ends e l = sym (ap (λ x. and_then x (run m test i)) q) ∙ g in
+          ih s' t shares later

@@ -110,8 +110,8 @@ added_past Points items n v xs = refl
 
 module _ (c : Code) (pr : Program) where
   refused_there : {p : Where} {l : Labels} {n a : ℕ} {g : Goal} {k : Collection} {have : List (Option Datum)} {t : Condition} {ls : List Level} {ws : Iterators} {xs : List Operand} {w : List Frame} (v : Option Datum) (f : Fault) → Collects g k have → refusal k v ≡ Some f → Levels c pr.procedures p l n g t ls ws a xs w → added (started ls) v xs ≡ Refused f
-  refused_there v f by_former h (outside fi fw fg ft (collecting next)) = rw h refl
-  refused_there v f by_selection h (outside fi fw fg ft (selecting_all next)) = rw h refl
+  refused_there v f by_former h (outside fi fw fn fg ft (collecting next)) = rw h refl
+  refused_there v f by_selection h (outside fi fw fn fg ft (selecting_all next)) = rw h refl
   refused_there v f is h (level {ls = ls} {b = b} {items = items} {xs = xs} at ok here out) = rw (added_past (begin_of b) items (started ls) v xs, refused_there v f is h out) refl
 
   -- Operands with a value more in the collection.
@@ -121,8 +121,8 @@ module _ (c : Code) (pr : Program) where
     pub after : Levels c pr.procedures p l n (add_to_goal g v) t ls ws a operands w
 
   pub added_former : {p : Where} {l : Labels} {n a : ℕ} {k : Collection} {e : Expr} {have : List (Option Datum)} {t : Condition} {ls : List Level} {ws : Iterators} {xs : List Operand} {w : List Frame} (v : Option Datum) → refusal k v ≡ None → Levels c pr.procedures p l n (Collect k e have) t ls ws a xs w → AddedTo p l n a (Collect k e have) t ls ws xs w v
-  added_former {k = k} {e = e} {have = have} v h (outside {ws = ws} fi fw fg ft (collecting {xs = zs} next)) =
-      record { operands = Collecting k (v ∷ have) ∷ zs; adds = rw h refl; after = outside fi (still ws) fg ft (collecting next) }
+  added_former {k = k} {e = e} {have = have} v h (outside {ws = ws} fi fw fn fg ft (collecting {xs = zs} next)) =
+      record { operands = Collecting k (v ∷ have) ∷ zs; adds = rw h refl; after = outside fi (still ws) fn fg ft (collecting next) }
     where
       still : (us : Iterators) → FormedWaiting c pr.procedures (Collect k e (v ∷ have)) us
       still no_iterator = tt
@@ -132,8 +132,8 @@ module _ (c : Code) (pr : Program) where
       record { operands = iterator (begin_of b) items ∷ r.operands; adds = rw (added_past (begin_of b) items (started ls) v xs, r.adds) refl; after = level at ok here r.after }
 
   pub added_selection : {p : Where} {l : Labels} {n a : ℕ} {k : Collection} {u : Option Datum} {have : List (Option Datum)} {t : Condition} {ls : List Level} {ws : Iterators} {xs : List Operand} {w : List Frame} (v : Option Datum) → refusal k v ≡ None → Levels c pr.procedures p l n (Select k u have) t ls ws a xs w → AddedTo p l n a (Select k u have) t ls ws xs w v
-  added_selection {p = p} {k = k} {u = u} {have = have} {t = t} v h (outside {ws = ws} fi fw fg ft (selecting_all {xs = zs} next)) =
-      record { operands = Collecting k (v ∷ have) ∷ zs; adds = rw h refl; after = outside fi (still ws fw) fg (same_test t ft) (selecting_all next) }
+  added_selection {p = p} {k = k} {u = u} {have = have} {t = t} v h (outside {ws = ws} fi fw fn fg ft (selecting_all {xs = zs} next)) =
+      record { operands = Collecting k (v ∷ have) ∷ zs; adds = rw h refl; after = outside fi (still ws fw) fn fg (same_test t ft) (selecting_all next) }
     where
       behind : (us : Iterators) → FormedBehind c pr.procedures (Select k u have) us → FormedBehind c pr.procedures (Select k u (v ∷ have)) us
       behind no_iterator f = tt
@@ -165,11 +165,11 @@ module _ (c : Code) (pr : Program) where
 
   -- the iterators that wait
   pub waiting_formed : {p : Where} {l : Labels} {n a : ℕ} {g : Goal} {t : Condition} {ls : List Level} {ws : Iterators} {xs : List Operand} {w : List Frame} → Levels c pr.procedures p l n g t ls ws a xs w → FormedIterators (around c pr.procedures p) ws × FormedWaiting c pr.procedures g ws
-  waiting_formed (outside fi fw fg ft next) = (fi, fw)
+  waiting_formed (outside fi fw fn fg ft next) = (fi, fw)
   waiting_formed (level at ok here out) = let r = waiting_formed out in (r.0.3, r.1.2)
 
   pub goal_formed : {p : Where} {l : Labels} {n a : ℕ} {g : Goal} {t : Condition} {ls : List Level} {ws : Iterators} {xs : List Operand} {w : List Frame} → Levels c pr.procedures p l n g t ls ws a xs w → FormedGoal c pr.procedures p g × FormedTest c pr.procedures p g t
-  goal_formed (outside fi fw fg ft next) = (fg, ft)
+  goal_formed (outside fi fw fn fg ft next) = (fg, ft)
   goal_formed (level at ok here out) = goal_formed out
 
 -- ---- steps of iterations

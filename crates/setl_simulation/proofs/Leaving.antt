@@ -27,7 +27,7 @@ one_left Points items n xs = refl
 
 module _ (c : Code) (ps : List Procedure) where
   pub counted : {p : Where} {l : Labels} {n a : ℕ} {g : Goal} {t : Condition} {ls : List Level} {ws : Iterators} {xs : List Operand} {w : List Frame} → Levels c ps p l n g t ls ws a xs w → n ≡ started ls + levels ws
-  counted (outside {ws = ws} fi fw fg ft next) = omega arith
+  counted (outside {ws = ws} fi fw fn fg ft next) = omega arith
   counted (level {ls = ls} {ws = ws} at items here out) = let before = counted out in omega (arith, before)
 
   -- ---- a loop is left
@@ -40,7 +40,7 @@ module _ (c : Code) (ps : List Procedure) where
     pub after : AfterBlock c ps p outer exit operands w
 
   pub levels_left : {p : Where} {l : Labels} {n a line : ℕ} {b : Block} {t : Condition} {ls : List Level} {ws : Iterators} {xs : List Operand} {w : List Frame} → Levels c ps p l n (Repeat line b) t ls ws a xs w → Leaves p (started ls) l.exit xs w
-  levels_left {p = p} {w = w} (outside {xs = xs} fi fw fg ft (repeating q same after)) =
+  levels_left {p = p} {w = w} (outside {xs = xs} fi fw fn fg ft (repeating q same after)) =
       record { operands = xs; outer = q; left = refl; after = subst (λ m. AfterBlock c ps p q m xs w) (sym same) after }
   levels_left (level {ls = ls} {b = b} {items = items} {xs = xs} at ok stand out) =
       let r = levels_left out in record { operands = r.operands; outer = r.outer; left = rw (one_left (begin_of b) items (started ls) xs) r.left; after = r.after }
@@ -52,7 +52,7 @@ module _ (c : Code) (ps : List Procedure) where
     pub after : AfterResult c ps p exit operands w
 
   pub levels_decided : {p : Where} {l : Labels} {n a : ℕ} {q : Quantifier} {t : Condition} {ls : List Level} {ws : Iterators} {xs : List Operand} {w : List Frame} → Levels c ps p l n (Decide q) t ls ws a xs w → Decides p (started ls) l.exit xs w
-  levels_decided (outside {xs = xs} fi fw fg ft (deciding_all l2 here same after)) = record { operands = xs; left = refl; after = after }
+  levels_decided (outside {xs = xs} fi fw fn fg ft (deciding_all l2 here same after)) = record { operands = xs; left = refl; after = after }
   levels_decided (level {ls = ls} {b = b} {items = items} {xs = xs} at ok stand out) =
       let r = levels_decided out in record { operands = r.operands; left = rw (one_left (begin_of b) items (started ls) xs) r.left; after = r.after }
 
@@ -111,7 +111,7 @@ module _ (c : Code) (ps : List Procedure) where
     leading f (block_jumps is next) = leading f next
 
     leading_out : {p : Where} {l : Labels} {n a line : ℕ} {b : Block} {t : Condition} {ls : List Level} {ws : Iterators} {xs : List Operand} {w : List Frame} → InProcedure p.body → Levels c ps p l n (Repeat line b) t ls ws a xs w → Leads p w
-    leading_out f (outside fi fw fg ft (repeating q same after)) = leading f after
+    leading_out f (outside fi fw fn fg ft (repeating q same after)) = leading f after
     leading_out f (level at ok stand out) = leading_out f out
 
   pub returns : {p : Where} {name : List ℕ} {backs : HandBacks} {own : Environment} {w frames : List Frame} (v : Option Datum) (m : Core) → Returns c ps p w name backs own frames → return_value v w m ≡ go (Result v) (InCall (Activation name backs own) ∷ frames) m

@@ -10,3 +10,5 @@ pub mod Leaving
 pub mod Statements
 pub mod Iterations
 pub mod Rounds
+pub mod Following
+pub mod Meaning

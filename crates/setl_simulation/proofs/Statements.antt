@@ -135,7 +135,7 @@ module _ (c : Code) (pr : Program) (coded : Coded c pr) (formed : Formed pr) whe
       let exit = past at (iterators line nothing is ins end at) in
       let l = record q.labels { exit = exit } in
       let next = subst (λ m. AfterBlock c pr.procedures p q m xs (Then r ∷ w)) (same_end is at line n line b2 t end) (rest fr here.1 after) in
-      let out : Levels c pr.procedures p l n (Repeat line b2) t [] is end xs (Then r ∷ w) = outside f.1 (tt, tt, waiting ws) f.3 f.2 (repeating q (same_end is at line n line b2 t end) next) in
+      let out : Levels c pr.procedures p l n (Repeat line b2) t [] is end xs (Then r ∷ w) = outside f.1 (tt, tt, waiting ws) tt f.3 f.2 (repeating q (same_end is at line n line b2 t end) next) in
       after_step {r' = 1} (core s (Evaluate e) (InIteration (Sources [] es) (record { goal = Repeat line b2; condition = t; started = []; waiting = is }) ∷ Then r ∷ w) ss) refl
       (expr_answered c pr coded formed e l g o s p at xs ks _ ss same f.1.1.0 here.0.0.0 (source l at none f.1.1.1 (here.0.0.1, here.0.1.0) refl here.0 out))
     where

@@ -1,2 +1,3 @@
 pub mod Follow
 pub mod Matches
+pub mod Claims

@@ -175,6 +175,13 @@ module _ (c : Code) (ps : List Procedure) where
   FormedBehind (Decide q) ws = Unit {0}
   FormedBehind (Repeat line b) ws = Unit {0}
 
+  -- a selection has exactly one
+  abbrev pub FormedNumber : Goal → ℕ → Type 0
+  FormedNumber (Select k v got) n = n ≡ 1
+  FormedNumber (Collect k e got) n = Unit {0}
+  FormedNumber (Decide q) n = Unit {0}
+  FormedNumber (Repeat line b) n = Unit {0}
+
   abbrev pub FormedWaiting : Goal → Iterators → Type 0
   FormedWaiting g no_iterator = Unit {0}
   FormedWaiting g (more_iterators b es ws) = FormedLevel g b × FormedBehind g ws × FormedWaiting g ws
@@ -232,7 +239,7 @@ module _ (c : Code) (ps : List Procedure) where
     -- The started iterators, the innermost at this place, stand over these operands; where none is started, this is the
     -- place of the iteration's end.
     pub data Levels : Where → Labels → ℕ → Goal → Condition → List Level → Iterators → ℕ → List Operand → List Frame → Type 0 where
-      outside : {p : Where} {l : Labels} {g : Goal} {t : Condition} {ws : Iterators} {back : ℕ} {xs : List Operand} {w : List Frame} → FormedIterators (around p) ws → FormedWaiting g ws → FormedGoal p g → FormedTest p g t → Finish p l g ws back xs w → Levels p l (levels ws) g t [] ws back xs w
+      outside : {p : Where} {l : Labels} {g : Goal} {t : Condition} {ws : Iterators} {back : ℕ} {xs : List Operand} {w : List Frame} → FormedIterators (around p) ws → FormedWaiting g ws → FormedNumber g (levels ws) → FormedGoal p g → FormedTest p g t → Finish p l g ws back xs w → Levels p l (levels ws) g t [] ws back xs w
       level : {p : Where} {l : Labels} {n back : ℕ} {g : Goal} {t : Condition} {ls : List Level} {b : Binding} {es : Exprs} {items : List Item} {ws : Iterators} {xs : List Operand} {w : List Frame} → (at : ℕ) → ItemsOf (begin_of b) items → Stands (steps_in c p) l at (looping (goal_line g (line_of w)) n g t (more_iterators b es ws) back at) → Levels p l n g t ls (more_iterators b es ws) back xs w → Levels p l n g t (record { binding = b; sources = es; left = items } ∷ ls) ws (past at (begins (goal_line g (line_of w)) b 0 es at)) (iterator (begin_of b) items ∷ xs) w
 
     -- What an iteration is for goes on behind it.
