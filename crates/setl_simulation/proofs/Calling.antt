@@ -21,7 +21,8 @@ use Rattle.setl_code.specs.CodeCore.{Result as OperandResult}
 use Rattle.setl_code.specs.CodeCore.{There, Cells, held_in, cleared, variables_of, Operand, Copy}
 use Rattle.setl_code.specs.Machine.{call_body, return_to, handed_back, on_rest, body_steps}
 use Rattle.setl_simulation.specs.Follow.{Related, moves, halts}
-use Rattle.setl_simulation.specs.Matches.{Where, steps_in, Loop, Alike, Holds, Fills, filled, fills, arguments_number, AfterResult, ends, Awaits, awaits, result_below, executing, storing, Matches}
+use Rattle.setl_simulation.specs.Matches.{Where, steps_in, Loop, Holds, Fills, filled, fills, arguments_number, AfterResult, ends, Awaits, awaits, result_below, executing, storing, Matches}
+use Rattle.setl_simulation.specs.States.{Alike}
 use Rattle.setl_simulation.proofs.Stands.{stands_alone}
 use Rattle.setl_simulation.proofs.Parts.{code_core, core, Same, all_popped, turns}
 
@@ -80,7 +81,7 @@ module _ (c : Code) (pr : Program) (coded : Coded c pr) (formed : Formed pr) whe
           let number : 1 + f ≡ suc f = omega arith in
           let block_formed = subst (λ m. FormedBlock (record { body = m; procedures = pr.procedures }) false q.body) number (formed_at pr.procedures 1 f pr.procedures q formed.1 is) in
           let loop : Loop = record { is_loop = false; labels = no_loop; leaves = zero } in
-          let back = ends refl stand.1.0 stand.1.1 (awaits l (record { body = p.body; at = suc at; own = o; operands = xs }) p.callers (procedure_body q) all refl same.own body refl refl ok here after) in
+          let back = ends refl stand.1.0 stand.1.1 (awaits l (record { body = p.body; at = suc at; own = o; operands = xs }) p.callers (procedure_body q) all tt refl same.own body refl refl ok here after) in
           rw (body, all_popped pops)
           (turns c pr.procedures (code_core g o s.world p at os ks) (core s hand u ss) refl _ _
           (λ m. moves (record { world = refl; globals = same.globals; own = all_om (variables_of (suc f) (procedure_body q)); kept = same.kept; place = executing loop block_formed stand.0 back })))
@@ -111,7 +112,7 @@ module _ (c : Code) (pr : Program) (coded : Coded c pr) (formed : Formed pr) whe
 
   -- a procedure returns with a result
   pub left : {p : Where} {name : List ℕ} {backs : List (Variable × Variable)} {own : Environment} {w : List Frame} (v : Option Datum) (g o : Cells) (s : Shared) (at : ℕ) (xs ys : List Operand) (ks : List Copy) (hand : Hand) (u : List Frame) (ss : List Snapshot) → Same c pr.procedures g o s ks ss → Awaits c pr.procedures p name backs own w → Related (Matches c pr.procedures) (return_to (slice_get c.bodies p.body) v (code_core g o s.world p at ys ks) p.callers) (leave name backs own v w (core s hand u ss))
-  left {p = p} v g o s at xs ys ks hand u ss same (awaits l caller outer b all waits alike is named zipped passed here after) =
+  left {p = p} v g o s at xs ys ks hand u ss same (awaits l caller outer b all inside waits alike is named zipped passed here after) =
       let r = hands p.body b.parameters all o s.own (OperandResult v ∷ caller.operands) passed same.own in
       rw (is, waits, named, zipped, r.gives)
       (moves (record { world = refl; globals = same.globals; own = alike; kept = same.kept; place = storing l r.fill here (result_below refl after) }))

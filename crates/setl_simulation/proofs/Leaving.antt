@@ -14,6 +14,7 @@ use Rattle.setl_code.specs.Piece.{Labels, past}
 use Rattle.setl_code.specs.Generated.{levels, stmt}
 use Rattle.setl_code.specs.CodeCore.{Operand, Iterator, PairIterator, without_iterators}
 use Rattle.setl_code.specs.Machine.{iterator}
+use Rattle.setl_simulation.specs.States.{bodies_at_work}
 use Rattle.setl_simulation.specs.Matches.{Where, Loop, in_loop, AfterResult, AfterBlock, last, ends, rest, loop, body, block_jumps, Awaits, Returns, at_activation, past_rest, past_loop, past_body, Levels, outside, level, deciding_all, repeating, Placed, evaluating, iterating, while_test}
 
 abbrev pub started : List Level → ℕ
@@ -63,7 +64,7 @@ module _ (c : Code) (ps : List Procedure) where
     pub quits : (m : Core) → quit w m ≡ go (Execute no_stmt) frames m
 
   pub quitting : {p : Where} {q : Loop} {at : ℕ} {xs : List Operand} {w : List Frame} → IsInLoop q.is_loop → AfterBlock c ps p q at xs w → Quits p q xs w
-  quitting {q = q} f (last main alone is) = let never : IsInLoop false = subst IsInLoop alone f in absurd never
+  quitting {q = q} f (last main outermost alone is) = let never : IsInLoop false = subst IsInLoop alone f in absurd never
   quitting {q = q} f (ends alone push ret wait) = let never : IsInLoop false = subst IsInLoop alone f in absurd never
   quitting f (rest fb here next) = let r = quitting f next in record { frames = r.frames; leads = r.leads; quits = r.quits }
   quitting {xs = xs} f (loop {w = w} outer start fe fb here next) =
@@ -81,7 +82,7 @@ module _ (c : Code) (ps : List Procedure) where
     pub place : Placed c ps p q.labels.again xs hand frames
 
   pub continuing : {p : Where} {q : Loop} {at : ℕ} {xs : List Operand} {w : List Frame} → IsInLoop q.is_loop → AfterBlock c ps p q at xs w → Continues p q xs w
-  continuing f (last main alone is) = let never : IsInLoop false = subst IsInLoop alone f in absurd never
+  continuing f (last main outermost alone is) = let never : IsInLoop false = subst IsInLoop alone f in absurd never
   continuing f (ends alone push ret wait) = let never : IsInLoop false = subst IsInLoop alone f in absurd never
   continuing f (rest fb here next) = let r = continuing f next in record { hand = r.hand; frames = r.frames; goes = r.goes; place = r.place }
   continuing f (loop {line = line} {e = e} {b = b} {w = w} outer start fe fb here next) =
@@ -103,7 +104,7 @@ module _ (c : Code) (ps : List Procedure) where
 
   mutual
     pub leading : {p : Where} {q : Loop} {at : ℕ} {xs : List Operand} {w : List Frame} → InProcedure p.body → AfterBlock c ps p q at xs w → Leads p w
-    leading f (last main alone is) = let never : InProcedure 0 = subst InProcedure main f in absurd never
+    leading f (last main outermost alone is) = let never : InProcedure 0 = subst InProcedure main f in absurd never
     leading f (ends alone push ret wait) = record { name = _; backs = _; own = _; frames = _; to = at_activation; waits = wait }
     leading f (rest fb here next) = let r = leading f next in record { name = r.name; backs = r.backs; own = r.own; frames = r.frames; to = past_rest r.to; waits = r.waits }
     leading f (loop outer start fe fb here next) = let r = leading f next in record { name = r.name; backs = r.backs; own = r.own; frames = r.frames; to = past_loop r.to; waits = r.waits }
@@ -119,3 +120,10 @@ module _ (c : Code) (ps : List Procedure) where
   returns v m (past_rest to) = returns v m to
   returns v m (past_loop to) = returns v m to
   returns v m (past_body to) = returns v m to
+
+  -- the bodies at work stay
+  pub same_bodies : {p : Where} {name : List ℕ} {backs : HandBacks} {own : Environment} {w frames : List Frame} (now : Environment) → Returns c ps p w name backs own frames → bodies_at_work now w ≡ bodies_at_work now (InCall (Activation name backs own) ∷ frames)
+  same_bodies now at_activation = refl
+  same_bodies now (past_rest to) = same_bodies now to
+  same_bodies now (past_loop to) = same_bodies now to
+  same_bodies now (past_body to) = same_bodies now to

@@ -18,11 +18,13 @@ use Rattle.setl_code.specs.CodeCore.{CodeCore, variables_of}
 use Rattle.setl_code.specs.Machine.{machine}
 use Rattle.setl_code.specs.CodeMeans.{CodeMeans, code_first}
 use Rattle.setl_simulation.specs.Follow.{Shares}
-use Rattle.setl_simulation.specs.Matches.{Loop, executing, last, no_copy, Matches, rank}
+use Rattle.setl_simulation.specs.Matches.{Loop, executing, last, no_copy, Matches, rank, Keeps}
+use Rattle.setl_simulation.specs.States.{SameCore}
 use Rattle.setl_simulation.specs.Claims.{Ended, CodeEnded, CodeEndsAlike, CodeMeansAlike}
 use Rattle.setl_simulation.proofs.Stands.{stands_alone}
 use Rattle.setl_simulation.proofs.Calling.{Coded, all_om}
-use Rattle.setl_simulation.proofs.Following.{follows}
+use Rattle.setl_simulation.proofs.Activations.{shows_same}
+use Rattle.setl_simulation.proofs.Following.{follows, InHandOf}
 use Rattle.setl_simulation.proofs.Follow.{ends_too, ends_there}
 
 procedures_there : (ps : List Procedure) (f : ℕ) → slice_get (map procedure_body ps) f ≡ option_map procedure_body (slice_get ps f)
@@ -36,7 +38,7 @@ coded p = record { main = refl; procedures = λ f. procedures_there p.procedures
 
 module _ (p : Program) (formed : Formed p) (input : List ℕ) (turns : ℕ) where
   -- the first states match
-  begins : Shares (Matches (code_of p) p.procedures) (code_first (code_of p) input turns) (first p input turns)
+  pub begins : Shares (Matches (code_of p) p.procedures) (code_first (code_of p) input turns) (first p input turns)
   begins =
       let loop : Loop = record { is_loop = false; labels = no_loop; leaves = zero } in
       let here = stands_alone (main_code p.end_line p.main 0) no_loop in
@@ -46,7 +48,7 @@ module _ (p : Program) (formed : Formed p) (input : List ℕ) (turns : ℕ) wher
           globals = all_om (code_of p).vars;
           own = all_om (variables_of 0 (main_body p));
           kept = no_copy;
-          place = executing loop formed.0 here.0 (last refl refl here.1);
+          place = executing loop formed.0 here.0 (last refl refl refl here.1);
         };
         out = refl;
         events = refl;
@@ -54,13 +56,13 @@ module _ (p : Program) (formed : Formed p) (input : List ℕ) (turns : ℕ) wher
 
   ends_as_code : (based : Bool) (out : List ℕ) (events : List Event) (end : End) → Ended p input turns based out events end → CodeEnded p input turns based out events end
   ends_as_code based out events end h =
-      let r = ends_too CodeCore Core (machine (code_of p)) (language p) (Matches (code_of p) p.procedures) (rank (code_of p) p.procedures) (follows (code_of p) p (coded p) formed) (test_of p.modes based) end h.last (code_first (code_of p) input turns) (first p input turns) h.steps begins h.ends in
-      record { steps = r.0; last = r.1; ends = r.2; written = r.3 ∙ h.written; told = r.4 ∙ h.told }
+      let r = ends_too CodeCore Core (machine (code_of p)) (language p) (Matches (code_of p) p.procedures) (rank (code_of p) p.procedures) Keeps (InHandOf (code_of p) p (coded p) formed) (SameCore (code_of p)) (follows (code_of p) p (coded p) formed) (shows_same (code_of p) p.procedures) (test_of p.modes based) end h.last (code_first (code_of p) input turns) (first p input turns) h.steps begins h.ends in
+      record { steps = r.0; last = r.1; ends = r.2; written = r.3.out ∙ h.written; told = r.3.events ∙ h.told }
 
   ends_as_meant : (based : Bool) (out : List ℕ) (events : List Event) (end : End) → CodeEnded p input turns based out events end → Ended p input turns based out events end
   ends_as_meant based out events end h =
-      let r = ends_there CodeCore Core (machine (code_of p)) (language p) (Matches (code_of p) p.procedures) (rank (code_of p) p.procedures) (follows (code_of p) p (coded p) formed) (test_of p.modes based) h.steps end h.last (code_first (code_of p) input turns) (first p input turns) begins h.ends in
-      record { steps = r.0; last = r.1; ends = r.2; written = sym r.3 ∙ h.written; told = sym r.4 ∙ h.told }
+      let r = ends_there CodeCore Core (machine (code_of p)) (language p) (Matches (code_of p) p.procedures) (rank (code_of p) p.procedures) Keeps (InHandOf (code_of p) p (coded p) formed) (SameCore (code_of p)) (follows (code_of p) p (coded p) formed) (shows_same (code_of p) p.procedures) (test_of p.modes based) h.steps end h.last (code_first (code_of p) input turns) (first p input turns) begins h.ends in
+      record { steps = r.0; last = r.1; ends = r.2; written = sym r.3.out ∙ h.written; told = sym r.3.events ∙ h.told }
 
 pub code_ends_alike : CodeEndsAlike
 code_ends_alike p formed input turns based out events end = (ends_as_code p formed input turns based out events end, ends_as_meant p formed input turns based out events end)

@@ -36,6 +36,6 @@ module _ (c : Code) (pr : Program) where
   storing_answered done l at g o s ks ss same filled here after = done at g o s ks ss same after
   storing_answered done l at g o s ks ss same (skips {slots = slots} is later) here after =
       let less : rank_slots slots < suc (rank_slots slots) = omega arith in
-      rw (here.0, is) (by_none (matched c pr.procedures same (storing l later here.1 after)) less)
+      rw (here.0, is) (by_none tt (matched c pr.procedures same (storing l later here.1 after)) less)
   storing_answered {w = w} done l at g o s ks ss same (fills {x = x} {v = u} {os = ys} is later) here after =
-      rw (here.0, is) (by_step (stored c pr.procedures x (line_of w) u at _ ys _ _ same (storing l later here.1 after)))
+      rw (here.0, is) (by_step tt (stored c pr.procedures x (line_of w) u at _ ys _ _ same (storing l later here.1 after)))

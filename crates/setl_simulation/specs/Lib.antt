@@ -1,3 +1,4 @@
 pub mod Follow
+pub mod States
 pub mod Matches
 pub mod Claims

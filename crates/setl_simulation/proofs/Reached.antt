@@ -1,0 +1,112 @@
+-- The last states of the code and of the meaning, and the states that they reach, are the same.
+use Rattle.std.proofs.Common.{◌≡◌, ℕ, zero, suc, Bool, List, [], ◌∷◌, reverse, Option, Some, None, refl, sym, ap, ◌∙◌, subst}
+use Rattle.setl_value.specs.Datum.{Datum}
+use Rattle.setl_text.specs.Texts.{print_line}
+use Rattle.setl_run.specs.Events.{Event, End, Printed}
+use Rattle.setl_run.specs.Run.{Store, State, Next, Goes, Ends, Machine, Test, Move, Moves, step, and_then, run}
+use Rattle.setl_run.specs.RunLaws.{runs_join}
+use Rattle.setl_program.specs.Program.{Program}
+use Rattle.setl_program.specs.Formed.{Formed}
+use Rattle.setl_model.specs.Core.{Shared, Hand, Frame, Snapshot, Core}
+use Rattle.setl_model.specs.Step.{language, test_of}
+use Rattle.setl_model.specs.Means.{Means, first}
+use Rattle.setl_code.specs.Code.{ReadOne, PrintTop, Step}
+use Rattle.setl_code.specs.CodeOf.{code_of}
+use Rattle.setl_code.specs.CodeCore.{Operand, Popped, Pops, Lacks, popped, CodeCore}
+use Rattle.setl_code.specs.Machine.{machine, do_step, fetch, on_popped, print_values}
+use Rattle.setl_code.specs.CodeMeans.{CodeMeans, code_first}
+use Rattle.setl_simulation.specs.Follow.{Related, moves, halts, quiet, Shares}
+use Rattle.setl_simulation.specs.States.{SameCore, SameState, CodeReaches, ReachedAlike, IsNext, ReadsAlike, IsPrintOf, without_arguments, with_arguments, PrintsAlike}
+use Rattle.setl_simulation.specs.Matches.{Matches, rank, Keeps, InHand, IsReadFor}
+use Rattle.setl_simulation.specs.Claims.{CodeEndsInTheSameState, CodeReachesTheSameStates, CodeReadsWhereMeant, CodePrintsWhereMeant}
+use Rattle.setl_simulation.proofs.Parts.{core}
+use Rattle.setl_simulation.proofs.Follow.{ends_there, reaches_there, MadeAlike, alike, alone, Meets, meets}
+use Rattle.setl_simulation.proofs.Activations.{shows_same}
+use Rattle.setl_simulation.proofs.Following.{follows, InHandOf}
+use Rattle.setl_simulation.proofs.Meaning.{coded, begins}
+
+-- a run ends in one state
+one_end : {C : Type 0} (n : Machine C) (test : Test) (k i : ℕ) (a l l' : State C) (e e' : End) → run n test k a ≡ Ends e l → run n test i a ≡ Ends e' l' → l ≡ l'
+one_end n test zero i a l l' e e' h g = cc
+one_end n test (suc k) zero a l l' e e' h g = cc
+one_end n test (suc k) (suc i) a l l' e e' h g = go (step n test a) h g (λ b. one_end n test k i b l l' e e')
+  where
+    go : (x : Next C) → and_then x (run n test k) ≡ Ends e l → and_then x (run n test i) ≡ Ends e' l' → ((b : State C) → run n test k b ≡ Ends e l → run n test i b ≡ Ends e' l' → l ≡ l') → l ≡ l'
+    go (Goes b) h g ih = ih b h g
+    go (Ends f b) h g ih = cc
+
+pub ends_in_the_same_state : CodeEndsInTheSameState
+ends_in_the_same_state p formed input turns based out code_out end code_end meant done =
+    let c = code_of p in
+    let r = ends_there CodeCore Core (machine c) (language p) (Matches c p.procedures) (rank c p.procedures) Keeps (InHandOf c p (coded p) formed) (SameCore c) (follows c p (coded p) formed) (shows_same c p.procedures) (test_of p.modes based) done.steps code_end done.last (code_first c input turns) (first p input turns) (begins p formed input turns) done.ends in
+    let one = one_end (language p) (test_of p.modes based) r.0 meant.steps (first p input turns) r.1 meant.last code_end end r.2 meant.ends in
+    subst (λ l. SameState c done.last l) one r.3
+
+-- ---- prints
+
+-- a move like one that goes on goes on
+moves_alike : {K C : Type 0} {R : K → C → Type 0} {x : Move K} {y : Move C} {said : List ℕ} {told : List Event} {to : C} {line : ℕ} {xs : List Store} → Related R x y → y ≡ Moves said told to line xs → (k : K) × (x ≡ Moves said told k line xs)
+moves_alike (moves {k = k} r) h = (k, cc)
+moves_alike halts h = cc
+
+-- a `print` in hand writes a line
+print_moves : (p : Program) (line : ℕ) (s : Shared) (hand : Hand) (w : List Frame) (ss : List Snapshot) → IsPrintOf line hand w → (said : List ℕ) × (to : Core) × ((language p).move (core s hand w ss) ≡ Moves said (Printed said ∷ []) to 0 [])
+print_moves p line s hand w ss without_arguments = (_, _, refl)
+print_moves p line s hand w ss with_arguments = (_, _, refl)
+
+-- the code has its operands, and writes the same line
+printed_alike : (R : CodeCore → Core → Type 0) (q : Popped) (k : CodeCore) (y : Move Core) (said : List ℕ) (to : Core) → y ≡ Moves said (Printed said ∷ []) to 0 [] → MadeAlike R (on_popped q (λ vs xs. print_values vs xs k)) y → (values : List (Option Datum)) × (others : List Operand) × (q ≡ Pops values others) × (said ≡ print_line values)
+printed_alike R (Pops vs xs) k y said to h (alike r) = let m = moves_alike r h in let e = m.1 in (vs, xs, refl, cc)
+printed_alike R (Pops vs xs) k y said to h (alone k2 e) = cc
+printed_alike R Lacks k y said to h (alike r) = let m = moves_alike r h in let e = m.1 in cc
+printed_alike R Lacks k y said to h (alone k2 e) = cc
+
+-- ---- reached states
+
+module _ (p : Program) (formed : Formed p) (input : List ℕ) (turns : ℕ) (based : Bool) (s : State CodeCore) (reached : CodeReaches p input turns based s) where
+  -- the program comes to a state that is the same, with that in hand which the code does next
+  record Met : Type 0 where
+    there : ReachedAlike p input turns based s
+    in_hand : InHandOf (code_of p) p (coded p) formed s.core there.state.core
+    made : MadeAlike (Matches (code_of p) p.procedures) ((machine (code_of p)).move s.core) ((language p).move there.state.core)
+
+  met : Met
+  met =
+      let c = code_of p in
+      let test = test_of p.modes based in
+      let r = reaches_there CodeCore Core (machine c) (language p) (Matches c p.procedures) (rank c p.procedures) Keeps (InHandOf c p (coded p) formed) (SameCore c) (follows c p (coded p) formed) (shows_same c p.procedures) test reached.0 s (code_first c input turns) (first p input turns) (begins p formed input turns) reached.1 in
+      let m = meets CodeCore Core (machine c) (language p) (Matches c p.procedures) (rank c p.procedures) Keeps (InHandOf c p (coded p) formed) (SameCore c) (follows c p (coded p) formed) (shows_same c p.procedures) test s r.1 r.3 in
+      record { there = record { state = m.state; reached = runs_join (language p) test r.0 m.steps (first p input turns) r.1 (Goes m.state) r.2 m.leads; same = m.same }; in_hand = m.in_hand; made = m.made }
+
+  pub reads : (line : ℕ) → IsNext (code_of p) s.core line ReadOne → ReadsAlike p input turns based s line
+  reads line is =
+      let c = code_of p in
+      let r : IsReadFor line (fetch c s.core.now.body (suc s.core.now.at)) met.there.state.core.hand = subst (λ i. InHand i (fetch c s.core.now.body (suc s.core.now.at)) met.there.state.core) is met.in_hand in
+      record { there = met.there; in_hand = record { line = line; variable = r.variable; others = r.others; rest = r.rest; in_hand = r.in_hand }; line_same = refl; stores = r.stores }
+
+
+  pub prints : (line number : ℕ) → IsNext (code_of p) s.core line (PrintTop number) → PrintsAlike p input turns based s line number
+  prints line number is =
+      let c = code_of p in
+      let m = met.there.state.core in
+      let of_line : IsPrintOf line m.hand m.work = subst (λ i. InHand i (fetch c s.core.now.body (suc s.core.now.at)) m) is met.in_hand in
+      let means = print_moves p line m.shared m.hand m.work m.kept of_line in
+      let made = subst (λ i. MadeAlike (Matches c p.procedures) (do_step c i s.core) ((language p).move m)) is met.made in
+      let r = printed_alike (Matches c p.procedures) (popped number [] s.core.now.operands) s.core ((language p).move m) means.0 means.1 means.2 made in
+      record {
+        there = met.there;
+        values = r.0;
+        others = r.1;
+        operands = r.2;
+        in_hand = record { to = means.1; writes = subst (λ said. (language p).move m ≡ Moves said (Printed said ∷ []) means.1 0 []) r.3 means.2 };
+        of_line = of_line;
+      }
+
+pub reaches_the_same_states : CodeReachesTheSameStates
+reaches_the_same_states p formed input turns based s reached = (met p formed input turns based s reached).there
+
+pub reads_where_meant : CodeReadsWhereMeant
+reads_where_meant p formed input turns based s line reached is = reads p formed input turns based s reached line is
+
+pub prints_where_meant : CodePrintsWhereMeant
+prints_where_meant p formed input turns based s line number reached is = prints p formed input turns based s reached line number is
