@@ -44,15 +44,15 @@ module _ (c : Code) (ps : List Procedure) where
     result_stacked (if_test q fa fb here after) = block_stacked after
     result_stacked (while_test q start fe fb here after) = block_stacked after
     result_stacked (dropped q is after) = block_stacked after
-    result_stacked {p = p} (returned is to waits) a e same values =
-        subst (SameActivations c (a ∷ p.callers)) (sym (same_bodies c ps e to)) (call_stacked waits a e same values)
+    result_stacked {p = p} (returned is to waits) =
+        λ a e same values. subst (SameActivations c (a ∷ p.callers)) (sym (same_bodies c ps e to)) (call_stacked waits a e same values)
     result_stacked (source l at h f here place stand out) = levels_stacked out
     result_stacked (testing l at here out) = levels_stacked out
     result_stacked (value l is back out) = levels_stacked out
 
     block_stacked : {p : Where} {q : Loop} {at : ℕ} {xs : List Operand} {w : List Frame} → AfterBlock c ps p q at xs w → Stacked p w
-    block_stacked (last main outermost alone is) a e same values =
-        rw outermost (record { body = subst (λ n. IsBody c n None) (sym (same ∙ main)) tt; values = values }, tt)
+    block_stacked (last main outermost alone is) =
+        λ a e same values. rw outermost (record { body = subst (λ n. IsBody c n None) (sym (same ∙ main)) tt; values = values }, tt)
     block_stacked (ends alone push ret waits) = call_stacked waits
     block_stacked (rest f here after) = block_stacked after
     block_stacked (loop q start fe fb here after) = block_stacked after
@@ -60,8 +60,8 @@ module _ (c : Code) (ps : List Procedure) where
     block_stacked (block_jumps is after) = block_stacked after
 
     call_stacked : {p : Where} {name : List ℕ} {backs : HandBacks} {own : Environment} {w : List Frame} → Awaits c ps p name backs own w → Stacked p (InCall (Activation name backs own) ∷ w)
-    call_stacked {p = p} {name = name} {own = own} (awaits l caller outer b all inside waits alike is named zipped passed here after) a e same values =
-        rw waits
+    call_stacked {p = p} {name = name} {own = own} (awaits l caller outer b all inside waits alike is named zipped passed here after) =
+        λ a e same values. rw waits
         (record { body = subst (λ n. IsBody c n (Some name)) (sym same) (is_body c p.body b name inside is named); values = values }, result_stacked after caller own refl alike)
 
     levels_stacked : {p : Where} {l : Labels} {n a : ℕ} {g : Goal} {t : Condition} {ls : List Level} {ws : Iterators} {xs : List Operand} {w : List Frame} → Levels c ps p l n g t ls ws a xs w → Stacked p w

@@ -64,18 +64,18 @@ module _ (K C : Type 0) (m : Machine K) (n : Machine C) (R : K → C → Type 0)
   more r r' x s t u e o v (idle k q h l) =
       stepped 0 (rw (q, e) (record { core = h; out = append-nil s.out ∙ o; events = append-nil s.events ∙ v }))
 
-  answer : (r : ℕ) (x : Move K) (c : C) (s : State K) (out : List ℕ) (events : List Event) → Answers R rank n Keeps (InHand s.core) r x c → Shares Seen s (at c out events) → Reply r x s (at c out events)
-  answer r x c s out events (by_step does h) shares =
+  answer : (s : State K) (r : ℕ) (x : Move K) (c : C) (out : List ℕ) (events : List Event) → Answers R rank n Keeps (InHand s.core) r x c → Shares Seen s (at c out events) → Reply r x s (at c out events)
+  answer s r x c out events (by_step does h) shares =
       stepped 0 (rw (then_goes (settle n test (at c out events) (n.move c))) (settle_same x (n.move c) s _ h shares))
-  answer r x c s out events (after_step {r' = r'} c' q stays a) shares =
+  answer s r x c out events (after_step {r' = r'} c' q stays a) shares =
       let later = quiet_shares s c c' out events stays shares in
-      more r r' x s (at c out events) (at c' (out ++ []) (events ++ [])) (quiet_step c c' out events q) later.out later.events (answer r' x c' s (out ++ []) (events ++ []) a later)
-  answer r x c s out events (by_none {k = k} does h l) shares = idle k refl h l
+      more r r' x s (at c out events) (at c' (out ++ []) (events ++ [])) (quiet_step c c' out events q) later.out later.events (answer s r' x c' (out ++ []) (events ++ []) a later)
+  answer s r x c out events (by_none {k = k} does h l) shares = idle k refl h l
 
   answered : (s : State K) (t : State C) (h : Shares R s t) → Reply (rank s.core t.core h.core) (m.move s.core) s t
-  answered s t h = answer (rank s.core t.core h.core) (m.move s.core) t.core s t.out t.events (follows.answers s.core t.core h.core) (seen s t h)
+  answered s t h = answer s (rank s.core t.core h.core) (m.move s.core) t.core t.out t.events (follows.answers s.core t.core h.core) (seen s t h)
 
-  still_shares : (k : K) (s : State K) (t : State C) → R k t.core → Shares R s t → Shares R (record { core = k; out = s.out ++ []; events = s.events ++ [] }) t
+  abbrev still_shares : (k : K) (s : State K) (t : State C) → R k t.core → Shares R s t → Shares R (record { core = k; out = s.out ++ []; events = s.events ++ [] }) t
   still_shares k s t h shares = record { core = h; out = append-nil s.out ∙ shares.out; events = append-nil s.events ∙ shares.events }
 
   -- ---- ends
@@ -193,15 +193,15 @@ module _ (K C : Type 0) (m : Machine K) (n : Machine C) (R : K → C → Type 0)
   after_quiet s t u h r =
       record { steps = suc r.steps; state = r.state; leads = ap (λ y. and_then y (run n test r.steps)) h ∙ r.leads; same = r.same; in_hand = r.in_hand; made = r.made }
 
-  meets_by : (r : ℕ) (x : Move K) (c : C) (s : State K) (out : List ℕ) (events : List Event) → Answers R rank n Keeps (InHand s.core) r x c → m.move s.core ≡ x → Shares Seen s (at c out events) → Meets m n R InHand Seen test s (at c out events)
-  meets_by r x c s out events (by_step does h) is shares =
+  meets_by : (s : State K) (r : ℕ) (x : Move K) (c : C) (out : List ℕ) (events : List Event) → Answers R rank n Keeps (InHand s.core) r x c → m.move s.core ≡ x → Shares Seen s (at c out events) → Meets m n R InHand Seen test s (at c out events)
+  meets_by s r x c out events (by_step does h) is shares =
       record { steps = 0; state = at c out events; leads = refl; same = shares; in_hand = does; made = alike (subst (λ y. Related R y (n.move c)) (sym is) h) }
-  meets_by r x c s out events (after_step {r' = r'} c' q stays a) is shares =
+  meets_by s r x c out events (after_step {r' = r'} c' q stays a) is shares =
       let later = quiet_shares s c c' out events stays shares in
-      after_quiet s (at c out events) (at c' (out ++ []) (events ++ [])) (quiet_step c c' out events q) (meets_by r' x c' s (out ++ []) (events ++ []) a is later)
-  meets_by r x c s out events (by_none {k = k} does h l) is shares =
+      after_quiet s (at c out events) (at c' (out ++ []) (events ++ [])) (quiet_step c c' out events q) (meets_by s r' x c' (out ++ []) (events ++ []) a is later)
+  meets_by s r x c out events (by_none {k = k} does h l) is shares =
       record { steps = 0; state = at c out events; leads = refl; same = shares; in_hand = does; made = alone k is }
 
   -- from related states the second meets what the first does next
   pub meets : (s : State K) (t : State C) → Shares R s t → Meets m n R InHand Seen test s t
-  meets s t h = meets_by (rank s.core t.core h.core) (m.move s.core) t.core s t.out t.events (follows.answers s.core t.core h.core) refl (seen s t h)
+  meets s t h = meets_by s (rank s.core t.core h.core) (m.move s.core) t.core t.out t.events (follows.answers s.core t.core h.core) refl (seen s t h)

@@ -27,9 +27,9 @@ use Rattle.setl_simulation.proofs.Meaning.{coded, begins}
 
 -- a run ends in one state
 one_end : {C : Type 0} (n : Machine C) (test : Test) (k i : ℕ) (a l l' : State C) (e e' : End) → run n test k a ≡ Ends e l → run n test i a ≡ Ends e' l' → l ≡ l'
-one_end n test zero i a l l' e e' h g = cc
-one_end n test (suc k) zero a l l' e e' h g = cc
-one_end n test (suc k) (suc i) a l l' e e' h g = go (step n test a) h g (λ b. one_end n test k i b l l' e e')
+one_end {C = C} n test zero i a l l' e e' h g = cc
+one_end {C = C} n test (suc k) zero a l l' e e' h g = cc
+one_end {C = C} n test (suc k) (suc i) a l l' e e' h g = go (step n test a) h g (λ b. one_end n test k i b l l' e e')
   where
     go : (x : Next C) → and_then x (run n test k) ≡ Ends e l → and_then x (run n test i) ≡ Ends e' l' → ((b : State C) → run n test k b ≡ Ends e l → run n test i b ≡ Ends e' l' → l ≡ l') → l ≡ l'
     go (Goes b) h g ih = ih b h g

@@ -70,26 +70,26 @@ module _ (c : Code) (pr : Program) (coded : Coded c pr) (formed : Formed pr) whe
       rw (stand.1.1.0, is) (by_step tt (tests c pr.procedures v _ _ _ _ _ (moves (matched c pr.procedures same (decided_there true _ stand.1.1.1.0 stand.1.1.1.1.0 stand.1.1.1.1.1 out))) (moves (matched c pr.procedures same (iterating out)))))
   tested {g = Decide NotExists} l y v g1 o s at ks ss is same stand out =
       rw (stand.1.1.0, is) (by_step tt (tests c pr.procedures v _ _ _ _ _ (moves (matched c pr.procedures same (decided_there false _ stand.1.1.1.0 stand.1.1.1.1.0 stand.1.1.1.1.1 out))) (moves (matched c pr.procedures same (iterating out)))))
-  tested {g = Decide Forall} l y None g1 o s at ks ss is same stand out = rw (stand.1.0, is) (by_step halts)
+  tested {g = Decide Forall} l y None g1 o s at ks ss is same stand out = rw (stand.1.0, is) (by_step tt halts)
   tested {g = Decide Forall} l y (Some (bool b)) g1 o s at ks ss is same stand out =
       let less : 0 < 1 = omega arith in
       rw (stand.1.0, is) (by_none tt (record { world = ap (λ n. record s.world { left = n }) (sub-zero s.world.left); globals = same.globals; own = same.own; kept = same.kept; place = negating l stand.1.1 out }) less)
-  tested {g = Decide Forall} l y (Some (int z)) g1 o s at ks ss is same stand out = rw (stand.1.0, is) (by_step halts)
-  tested {g = Decide Forall} l y (Some (text t)) g1 o s at ks ss is same stand out = rw (stand.1.0, is) (by_step halts)
-  tested {g = Decide Forall} l y (Some (atom t)) g1 o s at ks ss is same stand out = rw (stand.1.0, is) (by_step halts)
-  tested {g = Decide Forall} l y (Some (tuple t)) g1 o s at ks ss is same stand out = rw (stand.1.0, is) (by_step halts)
-  tested {g = Decide Forall} l y (Some (set t)) g1 o s at ks ss is same stand out = rw (stand.1.0, is) (by_step halts)
+  tested {g = Decide Forall} l y (Some (int z)) g1 o s at ks ss is same stand out = rw (stand.1.0, is) (by_step tt halts)
+  tested {g = Decide Forall} l y (Some (text t)) g1 o s at ks ss is same stand out = rw (stand.1.0, is) (by_step tt halts)
+  tested {g = Decide Forall} l y (Some (atom t)) g1 o s at ks ss is same stand out = rw (stand.1.0, is) (by_step tt halts)
+  tested {g = Decide Forall} l y (Some (tuple t)) g1 o s at ks ss is same stand out = rw (stand.1.0, is) (by_step tt halts)
+  tested {g = Decide Forall} l y (Some (set t)) g1 o s at ks ss is same stand out = rw (stand.1.0, is) (by_step tt halts)
   tested {g = Select k u have} l y (Some (bool true)) g1 o s at ks ss is same stand out =
       let less : 0 < 1 = omega arith in
       rw (stand.1.0.0, is) (by_none tt (matched c pr.procedures same (adding l stand.1.0.1.0 stand.1.0.1.1 out)) less)
   tested {g = Select k u have} l y (Some (bool false)) g1 o s at ks ss is same stand out =
       rw (stand.1.0.0, is) (by_step tt (moves (matched c pr.procedures same (discarding refl stand.1.1.0 stand.1.1.1 out))))
-  tested {g = Select k u have} l y None g1 o s at ks ss is same stand out = rw (stand.1.0.0, is) (by_step halts)
-  tested {g = Select k u have} l y (Some (int z)) g1 o s at ks ss is same stand out = rw (stand.1.0.0, is) (by_step halts)
-  tested {g = Select k u have} l y (Some (text t)) g1 o s at ks ss is same stand out = rw (stand.1.0.0, is) (by_step halts)
-  tested {g = Select k u have} l y (Some (atom t)) g1 o s at ks ss is same stand out = rw (stand.1.0.0, is) (by_step halts)
-  tested {g = Select k u have} l y (Some (tuple t)) g1 o s at ks ss is same stand out = rw (stand.1.0.0, is) (by_step halts)
-  tested {g = Select k u have} l y (Some (set t)) g1 o s at ks ss is same stand out = rw (stand.1.0.0, is) (by_step halts)
+  tested {g = Select k u have} l y None g1 o s at ks ss is same stand out = rw (stand.1.0.0, is) (by_step tt halts)
+  tested {g = Select k u have} l y (Some (int z)) g1 o s at ks ss is same stand out = rw (stand.1.0.0, is) (by_step tt halts)
+  tested {g = Select k u have} l y (Some (text t)) g1 o s at ks ss is same stand out = rw (stand.1.0.0, is) (by_step tt halts)
+  tested {g = Select k u have} l y (Some (atom t)) g1 o s at ks ss is same stand out = rw (stand.1.0.0, is) (by_step tt halts)
+  tested {g = Select k u have} l y (Some (tuple t)) g1 o s at ks ss is same stand out = rw (stand.1.0.0, is) (by_step tt halts)
+  tested {g = Select k u have} l y (Some (set t)) g1 o s at ks ss is same stand out = rw (stand.1.0.0, is) (by_step tt halts)
 
   -- a condition of `forall` that has been negated
   pub negated_answered : {p : Where} {n a : ℕ} {e : Expr} {ls : List Level} {xs : List Operand} {w : List Frame} (b : Bool) (at : ℕ) (l : Labels) (g1 o : Cells) (s : Shared) (ks : List Copy) (ss : List Snapshot) → Same c pr.procedures g1 o s ks ss → Stands (steps_in c p) l at ((one (line_of w) (Unless a) ⨾ one (line_of w) (LeaveAll n) ⨾ one (line_of w) (Push (Some (bool (decided Forall)))) ⨾ jumps_out (line_of w)) at) → Levels c pr.procedures p l n (Decide Forall) (only_if e) ls no_iterator a xs w → Answered c pr 0 (slice_get (steps_in c p) at) g1 o s p at (OperandResult (Some (bool (not b))) ∷ xs) ks (Result (Some (bool b))) (InIteration Testing (iteration (Decide Forall) (only_if e) ls no_iterator) ∷ w) ss
@@ -237,8 +237,8 @@ module _ (c : Code) (pr : Program) (coded : Coded c pr) (formed : Formed pr) whe
       (storing_answered c pr {slots = Some x ∷ Some y ∷ []} (λ at2 g2 o2 s2 ks2 ss2 same2 after. stored_all results at2 g2 o2 s2 ks2 ss2 same2 after) l at g1 o s ks ss same (fills refl (fills refl filled)) bound (item_bound inner out))
   bound_answered {l = l} results (Components k slots) (One (Some (tuple ps))) at g1 o s ks ss same one_ bound inner out =
       rw bound.0 (by_step tt (moves (matched c pr.procedures same (storing l (parts_fill slots (part_list ps) _) bound.1 (item_bound inner out)))))
-  bound_answered results (Components k slots) (One None) at g1 o s ks ss same one_ bound inner out = rw bound.0 (by_step halts)
-  bound_answered results (Components k slots) (One (Some d)) at g1 o s ks ss same one_ bound inner out = rw bound.0 (by_step halts)
+  bound_answered results (Components k slots) (One None) at g1 o s ks ss same one_ bound inner out = rw bound.0 (by_step tt halts)
+  bound_answered results (Components k slots) (One (Some d)) at g1 o s ks ss same one_ bound inner out = rw bound.0 (by_step tt halts)
   bound_answered results (Member k x) (Two v u) at g1 o s ks ss same one_ bound inner out = absurd one_
   bound_answered results (Components k slots) (Two v u) at g1 o s ks ss same one_ bound inner out = absurd one_
   bound_answered results (Point y x) (One v) at g1 o s ks ss same one_ bound inner out = absurd one_

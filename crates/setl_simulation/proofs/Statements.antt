@@ -56,8 +56,8 @@ module _ (c : Code) (pr : Program) (coded : Coded c pr) (formed : Formed pr) whe
       rw (here.1.0, is) (by_none tt (matched c pr.procedures same (rounding q start fe fb here after)) less)
   looped line start e b q u (Some (bool false)) xs g o s p ks w ss is same fe fb here after =
       rw (here.1.0, is) (by_step tt (moves (matched c pr.procedures same (executing {b = no_stmt} q tt tt after))))
-  looped line start e b q u None xs g o s p ks w ss is same fe fb here after = rw (here.1.0, is) (by_step halts)
-  looped line start e b q u (Some d) xs g o s p ks w ss is same fe fb here after = rw (here.1.0, is) (by_step halts)
+  looped line start e b q u None xs g o s p ks w ss is same fe fb here after = rw (here.1.0, is) (by_step tt halts)
+  looped line start e b q u (Some d) xs g o s p ks w ss is same fe fb here after = rw (here.1.0, is) (by_step tt halts)
 
   -- the turn of a loop
   pub rounded : (line start : ℕ) (e : Expr) (b : Block) (q : Loop) (xs : List Operand) (g o : Cells) (s : Shared) (p : Where) (ks : List Copy) (w : List Frame) (ss : List Snapshot) → Same c pr.procedures g o s ks ss → FormedExpr (around c pr.procedures p) e → FormedBlock (around c pr.procedures p) true b → Stands (steps_in c p) q.labels start (stmt q.leaves line (While e b) start) → AfterBlock c pr.procedures p q (past start (stmt q.leaves line (While e b) start)) xs w → Answered c pr 0 (slice_get (steps_in c p) (suc (past start (expr line e start)))) g o s p (suc (past start (expr line e start))) xs ks (Result (Some (bool true))) (InStmt line (WhileTest e b) ∷ w) ss
@@ -76,8 +76,8 @@ module _ (c : Code) (pr : Program) (coded : Coded c pr) (formed : Formed pr) whe
   pub parted : (line : ℕ) (slots : Slots) (q : Loop) (u : Operand) (v : Option Datum) (xs : List Operand) (g o : Cells) (s : Shared) (p : Where) (at : ℕ) (ks : List Copy) (w : List Frame) (ss : List Snapshot) → value_of u ≡ Some v → Same c pr.procedures g o s ks ss → Stands (steps_in c p) q.labels at (parts line slots at) → AfterBlock c pr.procedures p q (past at (parts line slots at)) xs w → Answered c pr 0 (slice_get (steps_in c p) at) g o s p at (u ∷ xs) ks (Result v) (InStmt line (PartsRight slots) ∷ w) ss
   parted line slots q u (Some (tuple ps)) xs g o s p at ks w ss is same here after =
       rw (here.0, is) (by_step tt (moves (matched c pr.procedures same (storing q.labels (parts_fill slots (part_list ps) xs) here.1 (stmt_done q after)))))
-  parted line slots q u None xs g o s p at ks w ss is same here after = rw (here.0, is) (by_step halts)
-  parted line slots q u (Some d) xs g o s p at ks w ss is same here after = rw (here.0, is) (by_step halts)
+  parted line slots q u None xs g o s p at ks w ss is same here after = rw (here.0, is) (by_step tt halts)
+  parted line slots q u (Some d) xs g o s p at ks w ss is same here after = rw (here.0, is) (by_step tt halts)
 
   -- ---- statements in hand
 
@@ -151,7 +151,7 @@ module _ (c : Code) (pr : Program) (coded : Coded c pr) (formed : Formed pr) whe
       rw here.0 (by_step tt (subst (λ m. Related (Matches c pr.procedures) (go_to q.labels.again xs (code_core g o s.world p at xs ks)) m) (sym (to.goes (core s (Execute (more_stmts line Continue r)) w ss))) (moves (matched c pr.procedures same to.place))))
   stmt_answered Fail line r q g o s p at xs ks w ss same f fr here after later =
       rw here.0 (by_step tt (failed line g o s p at xs ks ks (Execute (more_stmts line Fail r)) w ss ss same.kept))
-  stmt_answered Stop line r q g o s p at xs ks w ss same f fr here after later = rw here.0 (by_step halts)
+  stmt_answered Stop line r q g o s p at xs ks w ss same f fr here after later = rw here.0 (by_step tt halts)
   stmt_answered Pass line r q g o s p at xs ks w ss same f fr here after later =
       after_step {r' = 0} (core s (Execute no_stmt) (Then r ∷ w) ss) refl (refl, refl) (after_step {r' = _} (core s (Execute r) w ss) refl (refl, refl) later)
   stmt_answered (Return e) line r q g o s p at xs ks w ss same f fr here after later =
@@ -181,7 +181,7 @@ module _ (c : Code) (pr : Program) (coded : Coded c pr) (formed : Formed pr) whe
 
   -- the end of statements
   pub ended : {q : Loop} {p : Where} {at : ℕ} {xs : List Operand} {w : List Frame} (g o : Cells) (s : Shared) (ks : List Copy) (ss : List Snapshot) → Same c pr.procedures g o s ks ss → (d : AfterBlock c pr.procedures p q at xs w) → Answered c pr (rank_block d) (slice_get (steps_in c p) at) g o s p at xs ks (Execute no_stmt) w ss
-  ended g o s ks ss same (last main outermost alone is) = rw is (by_step halts)
+  ended g o s ks ss same (last main outermost alone is) = rw is (by_step tt halts)
   ended g o s ks ss same (ends alone push ret wait) = rw push (by_step tt (moves (matched c pr.procedures same (got refl (returning ret wait)))))
   ended {p = p} {at = at} {xs = xs} g o s ks ss same (rest {q = q} {b = b} {w = u} f here later) =
       after_step {r' = rank_executing b later} (core s (Execute b) u ss) refl (refl, refl) (block_by b q g o s p at xs ks u ss same f here later (ended g o s ks ss same later))

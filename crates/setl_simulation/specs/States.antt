@@ -48,8 +48,8 @@ pub record SameActivation (c : Code) (a : CodeActivation) (b : BodyAtWork) : Typ
 -- and so it is with each, one by one
 abbrev pub SameActivations : Code → List CodeActivation → List BodyAtWork → Type 0
 SameActivations c [] [] = Unit {0}
-SameActivations c (a ∷ as) (b ∷ bs) = SameActivation c a b × SameActivations c as bs
-SameActivations c as bs = ⊥
+SameActivations c (a ∷ more) (b ∷ bs) = SameActivation c a b × SameActivations c more bs
+SameActivations c more bs = ⊥
 
 -- The world is the same, and so is each value: of the variables that all bodies see and, activation by activation, of
 -- the parameters and own names.
