@@ -170,7 +170,7 @@ module _ (K C : Type 0) (m : Machine K) (n : Machine C) (R : K → C → Type 0)
   ReachesThere u t = (j : ℕ) × (t' : State C) × (run n test j t ≡ Goes t') × Shares R u t'
 
   -- where the first comes to a state, the second comes to a related one
-  pub reaches_there : (i : ℕ) (u s : State K) (t : State C) → Shares R s t → run m test i s ≡ Goes u → ReachesThere u t
+  reaches_there : (i : ℕ) (u s : State K) (t : State C) → Shares R s t → run m test i s ≡ Goes u → ReachesThere u t
   reaches_there zero u s t h g = let same : s ≡ u = cc in (0, t, refl, subst (λ z. Shares R z t) same h)
   reaches_there (suc i) u s t h g = go (answered s t h) (reaches_there i u)
     where
@@ -202,6 +202,13 @@ module _ (K C : Type 0) (m : Machine K) (n : Machine C) (R : K → C → Type 0)
   meets_by s r x c out events (by_none {k = k} does h l) is shares =
       record { steps = 0; state = at c out events; leads = refl; same = shares; in_hand = does; made = alone k is }
 
-  -- from related states the second meets what the first does next
-  pub meets : (s : State K) (t : State C) → Shares R s t → Meets m n R InHand Seen test s t
+  meets : (s : State K) (t : State C) → Shares R s t → Meets m n R InHand Seen test s t
   meets s t h = meets_by s (rank s.core t.core h.core) (m.move s.core) t.core t.out t.events (follows.answers s.core t.core h.core) refl (seen s t h)
+
+  -- where the first comes to a state, the second meets what it does next
+  pub meets_there : (i : ℕ) (u s : State K) (t : State C) → Shares R s t → run m test i s ≡ Goes u → Meets m n R InHand Seen test u t
+  meets_there i u s t h g =
+      let r = reaches_there i u s t h g in
+      let x = meets u r.1 r.3 in
+      let all = runs_join n test r.0 x.steps t r.1 (Goes x.state) r.2 x.leads in
+      record { steps = all.0; state = x.state; leads = all.1; same = x.same; in_hand = x.in_hand; made = x.made }

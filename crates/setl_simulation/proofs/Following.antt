@@ -12,9 +12,9 @@ use Rattle.setl_model.specs.Moves.{store_or_bind}
 use Rattle.setl_model.specs.Step.{language}
 use Rattle.setl_code.specs.Code.{Code, Putting, Combining}
 use Rattle.setl_code.specs.CodeCore.{Cells, Operand, value_of, Copy, CodeCore}
-use Rattle.setl_code.specs.Machine.{machine, store_in, do_step, fetch}
+use Rattle.setl_code.specs.Machine.{machine, store_in, do_step}
 use Rattle.setl_simulation.specs.Follow.{Follows, Answers, Related, moves, halts, by_step, after_step, by_none}
-use Rattle.setl_simulation.specs.Matches.{AfterBlock, AfterResult, AfterStores, Copies, Fills, Finish, FormedBehind, FormedGoal, FormedLevel, FormedTest, FormedWaiting, Holds, ItemsOf, Levels, Loop, Matches, Placed, Where, adding, ahead, answering, argument, around, at_activation, awaits, begins, binding, block_jumps, body, brace_selected, choose_test, clearing, clearing_one, collecting, combines, combining, connect_left, connect_right, deciding_all, discarding, doubling, dropped, ends, evaluating, executing, filled, fills, forming, got, if_test, in_loop, inside, item_bound, item_operands, iterating, iterating_back, last, leaving_all, level, loop, looping, more, negating, none, operands, outside, parting_right, printing, puts, putting, rank, rank_block, rank_goal, rank_place, rank_result, rank_slots, repeating, rest, result_below, result_jumps, returned, returning, round_selected, rounding, selecting_all, selection_formed, skips, source, steps_in, stmt_done, storing, takes, testing, value, while_test, with_member, Keeps, InHand}
+use Rattle.setl_simulation.specs.Matches.{AfterBlock, AfterResult, AfterStores, Copies, Fills, Finish, FormedBehind, FormedGoal, FormedLevel, FormedTest, FormedWaiting, Holds, ItemsOf, Levels, Loop, Matches, Placed, Where, adding, ahead, answering, argument, around, at_activation, awaits, begins, binding, block_jumps, body, brace_selected, choose_test, clearing, clearing_one, collecting, combines, combining, connect_left, connect_right, deciding_all, discarding, doubling, dropped, ends, evaluating, executing, filled, fills, forming, got, if_test, in_loop, inside, item_bound, item_operands, iterating, iterating_back, last, leaving_all, level, loop, looping, more, negating, none, operands, outside, parting_right, printing, puts, putting, rank, rank_block, rank_goal, rank_place, rank_result, rank_slots, repeating, rest, result_below, result_jumps, returned, returning, round_selected, rounding, selecting_all, selection_formed, skips, source, steps_in, stmt_done, storing, takes, testing, value, while_test, with_member, Keeps, InHandOf}
 use Rattle.setl_simulation.proofs.Parts.{code_core, core, Same, matched, stored, writes, tests}
 use Rattle.setl_simulation.proofs.Calling.{Coded, left}
 use Rattle.setl_simulation.proofs.Expressions.{Answered, expr_answered, operand_answered, connected, argument_answered}
@@ -97,17 +97,13 @@ module _ (c : Code) (pr : Program) (coded : Coded c pr) (formed : Formed pr) whe
   state_answered {at = at} g1 o s ks ss same (negating {b = b} l here out) = negated_answered c pr coded formed b at l g1 o s ks ss same here out
   state_answered {at = at} g1 o s ks ss same (adding l adds back out) = adding_answered c pr coded formed l g1 o s at ks ss same adds back out
 
-  -- what the code does next is in hand
-  abbrev pub InHandOf : CodeCore → Core → Type 0
-  InHandOf k m = InHand (fetch c k.now.body k.now.at) (fetch c k.now.body (suc k.now.at)) m
-
   -- each state that matches is followed
-  pub follows : Follows (machine c) (language pr) (Matches c pr.procedures) (rank c pr.procedures) Keeps InHandOf
+  pub follows : Follows (machine c) (language pr) (Matches c pr.procedures) (rank c pr.procedures) Keeps (InHandOf c)
   follows = record { answers = answers; writes = λ x v k m h. writes c pr.procedures x v k m h }
     where
-      answers : (k : CodeCore) (m : Core) (h : Matches c pr.procedures k m) → Answers (Matches c pr.procedures) (rank c pr.procedures) (language pr) Keeps (InHandOf k) (rank c pr.procedures k m h) ((machine c).move k) m
+      answers : (k : CodeCore) (m : Core) (h : Matches c pr.procedures k m) → Answers (Matches c pr.procedures) (rank c pr.procedures) (language pr) Keeps (InHandOf c k) (rank c pr.procedures k m h) ((machine c).move k) m
       answers k m h =
           let s = m.shared in
           let same : Same c pr.procedures k.globals k.now.own s k.kept m.kept = record { globals = h.globals; own = h.own; kept = h.kept } in
           let answer = state_answered k.globals k.now.own s k.kept m.kept same h.place in
-          subst (λ u. Answers (Matches c pr.procedures) (rank c pr.procedures) (language pr) Keeps (InHandOf k) (rank_place h.place) (do_step c (slice_get (steps_in c (record { body = k.now.body; callers = k.callers })) k.now.at) (record k { world = u })) m) (sym h.world) answer
+          subst (λ u. Answers (Matches c pr.procedures) (rank c pr.procedures) (language pr) Keeps (InHandOf c k) (rank_place h.place) (do_step c (slice_get (steps_in c (record { body = k.now.body; callers = k.callers })) k.now.at) (record k { world = u })) m) (sym h.world) answer

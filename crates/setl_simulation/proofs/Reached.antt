@@ -20,10 +20,8 @@ use Rattle.setl_simulation.specs.States.{SameCore, SameState, CodeReaches, Reach
 use Rattle.setl_simulation.specs.Matches.{Matches, rank, Keeps, InHand, IsReadFor}
 use Rattle.setl_simulation.specs.Claims.{CodeEndsInTheSameState, CodeReachesTheSameStates, CodeReadsWhereMeant, CodePrintsWhereMeant}
 use Rattle.setl_simulation.proofs.Parts.{core}
-use Rattle.setl_simulation.proofs.Follow.{ends_there, reaches_there, MadeAlike, alike, alone, Meets, meets}
-use Rattle.setl_simulation.proofs.Activations.{shows_same}
-use Rattle.setl_simulation.proofs.Following.{follows, InHandOf}
-use Rattle.setl_simulation.proofs.Meaning.{coded, begins}
+use Rattle.setl_simulation.proofs.Follow.{MadeAlike, alike, alone}
+use Rattle.setl_simulation.proofs.Meaning.{meant_end, met}
 
 -- a run ends in one state
 one_end : {C : Type 0} (n : Machine C) (test : Test) (k i : ℕ) (a l l' : State C) (e e' : End) → run n test k a ≡ Ends e l → run n test i a ≡ Ends e' l' → l ≡ l'
@@ -37,10 +35,9 @@ one_end {C = C} n test (suc k) (suc i) a l l' e e' h g = go (step n test a) h g 
 
 pub ends_in_the_same_state : CodeEndsInTheSameState
 ends_in_the_same_state p formed input turns based out code_out end code_end meant done =
-    let c = code_of p in
-    let r = ends_there CodeCore Core (machine c) (language p) (Matches c p.procedures) (rank c p.procedures) Keeps (InHandOf c p (coded p) formed) (SameCore c) (follows c p (coded p) formed) (shows_same c p.procedures) (test_of p.modes based) done.steps code_end done.last (code_first c input turns) (first p input turns) (begins p formed input turns) done.ends in
+    let r = meant_end p formed input turns based code_end done.last done.steps done.ends in
     let one = one_end (language p) (test_of p.modes based) r.0 meant.steps (first p input turns) r.1 meant.last code_end end r.2 meant.ends in
-    subst (λ l. SameState c done.last l) one r.3
+    subst (λ l. SameState (code_of p) done.last l) one r.3
 
 -- ---- prints
 
@@ -64,37 +61,26 @@ printed_alike R Lacks k y said to h (alone k2 e) = cc
 -- ---- reached states
 
 module _ (p : Program) (formed : Formed p) (input : List ℕ) (turns : ℕ) (based : Bool) (s : State CodeCore) (reached : CodeReaches p input turns based s) where
-  -- the program comes to a state that is the same, with that in hand which the code does next
-  record Met : Type 0 where
-    there : ReachedAlike p input turns based s
-    in_hand : InHandOf (code_of p) p (coded p) formed s.core there.state.core
-    made : MadeAlike (Matches (code_of p) p.procedures) ((machine (code_of p)).move s.core) ((language p).move there.state.core)
-
-  met : Met
-  met =
-      let c = code_of p in
-      let test = test_of p.modes based in
-      let r = reaches_there CodeCore Core (machine c) (language p) (Matches c p.procedures) (rank c p.procedures) Keeps (InHandOf c p (coded p) formed) (SameCore c) (follows c p (coded p) formed) (shows_same c p.procedures) test reached.0 s (code_first c input turns) (first p input turns) (begins p formed input turns) reached.1 in
-      let m = meets CodeCore Core (machine c) (language p) (Matches c p.procedures) (rank c p.procedures) Keeps (InHandOf c p (coded p) formed) (SameCore c) (follows c p (coded p) formed) (shows_same c p.procedures) test s r.1 r.3 in
-      record { there = record { state = m.state; reached = runs_join (language p) test r.0 m.steps (first p input turns) r.1 (Goes m.state) r.2 m.leads; same = m.same }; in_hand = m.in_hand; made = m.made }
+  abbrev there : ReachedAlike p input turns based s
+  there = let m = met p formed input turns based s reached in record { state = m.state; reached = (m.steps, m.leads); same = m.same }
 
   pub reads : (line : ℕ) → IsNext (code_of p) s.core line ReadOne → ReadsAlike p input turns based s line
   reads line is =
       let c = code_of p in
-      let r : IsReadFor line (fetch c s.core.now.body (suc s.core.now.at)) met.there.state.core.hand = subst (λ i. InHand i (fetch c s.core.now.body (suc s.core.now.at)) met.there.state.core) is met.in_hand in
-      record { there = met.there; in_hand = record { line = line; variable = r.variable; others = r.others; rest = r.rest; in_hand = r.in_hand }; line_same = refl; stores = r.stores }
+      let r : IsReadFor line (fetch c s.core.now.body (suc s.core.now.at)) there.state.core.hand = subst (λ i. InHand i (fetch c s.core.now.body (suc s.core.now.at)) there.state.core) is (met p formed input turns based s reached).in_hand in
+      record { there = there; in_hand = record { line = line; variable = r.variable; others = r.others; rest = r.rest; in_hand = r.in_hand }; line_same = refl; stores = r.stores }
 
 
   pub prints : (line number : ℕ) → IsNext (code_of p) s.core line (PrintTop number) → PrintsAlike p input turns based s line number
   prints line number is =
       let c = code_of p in
-      let m = met.there.state.core in
-      let of_line : IsPrintOf line m.hand m.work = subst (λ i. InHand i (fetch c s.core.now.body (suc s.core.now.at)) m) is met.in_hand in
+      let m = there.state.core in
+      let of_line : IsPrintOf line m.hand m.work = subst (λ i. InHand i (fetch c s.core.now.body (suc s.core.now.at)) m) is (met p formed input turns based s reached).in_hand in
       let means = print_moves p line m.shared m.hand m.work m.kept of_line in
-      let made = subst (λ i. MadeAlike (Matches c p.procedures) (do_step c i s.core) ((language p).move m)) is met.made in
+      let made = subst (λ i. MadeAlike (Matches c p.procedures) (do_step c i s.core) ((language p).move m)) is (met p formed input turns based s reached).made in
       let r = printed_alike (Matches c p.procedures) (popped number [] s.core.now.operands) s.core ((language p).move m) means.0 means.1 means.2 made in
       record {
-        there = met.there;
+        there = there;
         values = r.0;
         others = r.1;
         operands = r.2;
@@ -103,7 +89,7 @@ module _ (p : Program) (formed : Formed p) (input : List ℕ) (turns : ℕ) (bas
       }
 
 pub reaches_the_same_states : CodeReachesTheSameStates
-reaches_the_same_states p formed input turns based s reached = (met p formed input turns based s reached).there
+reaches_the_same_states p formed input turns based s reached = there p formed input turns based s reached
 
 pub reads_where_meant : CodeReadsWhereMeant
 reads_where_meant p formed input turns based s line reached is = reads p formed input turns based s reached line is

@@ -24,7 +24,7 @@ use Rattle.setl_code.specs.Generated.{store_slots, parts, bind, clear, set_by, c
 use Rattle.setl_code.specs.CodeCore.{Result as OperandResult, without_iterators}
 use Rattle.setl_code.specs.CodeCore.{Activation as CodeActivation}
 use Rattle.setl_code.specs.CodeCore.{Iterator, Operand, Collecting, value_of, Copy, CodeCore}
-use Rattle.setl_code.specs.Machine.{iterator, body_steps}
+use Rattle.setl_code.specs.Machine.{iterator, body_steps, fetch}
 use Rattle.setl_simulation.specs.States.{Alike, bodies_at_work, IsPrintOf}
 
 -- The body at work, and the activations that wait for it.
@@ -360,3 +360,6 @@ InHandFor i line behind m = Unit {0}
 abbrev pub InHand : Option Step → Option Step → Core → Type 0
 InHand None behind m = Unit {0}
 InHand (Some s) behind m = InHandFor s.1 s.0 behind m
+
+abbrev pub InHandOf : Code → CodeCore → Core → Type 0
+InHandOf c k m = InHand (fetch c k.now.body k.now.at) (fetch c k.now.body (suc k.now.at)) m

@@ -1,24 +1,25 @@
 -- Worked rows of states that are the same: a program that reads a value and prints it in a procedure.
-use Rattle.std.specs.Prelude.{◌≡◌, ℕ, true, false, Bool, List, [], ◌∷◌, codes, cond, pos, Option, Some, None, refl}
-use Rattle.setl_value.specs.Datum.{Datum, int}
+use Rattle.std.specs.Prelude.{◌≡◌, ℕ, true, false, Bool, List, [], ◌∷◌, codes, cond, Option, Some, None, refl}
+use Rattle.setl_value.specs.Datum.{Datum, text}
 use Rattle.setl_tree.specs.declared.tree.Passing.TheVariants.{Rd}
 use Rattle.setl_text.specs.Texts.{print_line}
 use Rattle.setl_run.specs.Variable.{Variable, Own, is_variable, Environment, value_in}
+use Rattle.setl_run.specs.Events.{Done}
 use Rattle.setl_run.specs.Run.{State, Goes, run}
-use Rattle.setl_program.specs.Program.{Name, Call, more_exprs, no_expr, rd_argument, no_argument, Perform, Print, Read, more_stmts, no_stmt, Program}
+use Rattle.setl_program.specs.Program.{Name, Call, more_exprs, no_expr, rd_argument, no_argument, Perform, Print, Read, Stop, more_stmts, no_stmt, Program}
 use Rattle.setl_model.specs.Core.{Core}
 use Rattle.setl_model.specs.Step.{language, test_of}
-use Rattle.setl_model.specs.Means.{first}
+use Rattle.setl_model.specs.Means.{Means, first}
 use Rattle.setl_code.specs.Code.{Code, ReadOne, PrintTop, StoreIn}
 use Rattle.setl_code.specs.CodeCore.{There, Cells, held_in, CodeCore}
 use Rattle.setl_code.specs.CodeCore.{Activation as CodeActivation}
 use Rattle.setl_code.specs.CodeOf.{code_of}
 use Rattle.setl_code.specs.Machine.{machine, fetch}
-use Rattle.setl_code.specs.CodeMeans.{code_first}
-use Rattle.setl_simulation.specs.States.{Alike, BodyAtWork, bodies_at_work, IsBody, SameActivations, CodeReaches, IsNext, ReadsAlike, IsPrintOf, with_arguments, PrintsAlike}
+use Rattle.setl_code.specs.CodeMeans.{CodeMeans, code_first}
+use Rattle.setl_simulation.specs.States.{Alike, BodyAtWork, SameState, bodies_at_work, IsBody, SameActivations, CodeReaches, IsNext, ReadsAlike, IsPrintOf, with_arguments, PrintsAlike}
 
--- program q; read(y); p(y); proc p(a); print(a); end proc; end program;
--- with `read` in line 1, the call in line 2 and `print` in line 4
+-- program q; read(y); p(y); proc p(a); print(a); stop; end proc; end program;
+-- with `read` in line 1, the call in line 2, `print` in line 4 and `stop` in line 5
 abbrev pub y : Variable
 y = Own 0 (codes "y")
 
@@ -35,22 +36,26 @@ program = record {
       record {
         name = codes "p";
         parameters = record { passing = Rd; name = codes "a"; line = 3 } ∷ [];
-        body = more_stmts 4 (Print (more_exprs (Name a) no_expr)) no_stmt;
-        end_line = 5;
+        body = more_stmts 4 (Print (more_exprs (Name a) no_expr)) (more_stmts 5 Stop no_stmt);
+        end_line = 6;
       }
       ∷ [];
   modes = [];
 }
 
-abbrev pub seven : Option Datum
-seven = Some (int (pos 7))
+abbrev pub letter : Option Datum
+letter = Some (text (codes "x"))
 
--- so many steps of the meaning and of the code, with the input `7` and one turn
+-- the input `'x'`
+abbrev pub input : List ℕ
+input = codes "'x'"
+
+-- so many steps of the meaning and of the code, with that input and one turn
 abbrev MeaningAfter : ℕ → State Core → Type 0
-MeaningAfter n t = run (language program) (test_of [] true) n (first program (codes "7") 1) ≡ Goes t
+MeaningAfter n t = run (language program) (test_of [] true) n (first program input 1) ≡ Goes t
 
 abbrev CodeAfter : ℕ → State CodeCore → Type 0
-CodeAfter n s = run (machine (code_of program)) (test_of [] true) n (code_first (code_of program) (codes "7") 1) ≡ Goes s
+CodeAfter n s = run (machine (code_of program)) (test_of [] true) n (code_first (code_of program) input 1) ≡ Goes s
 
 -- the numbers of the bodies
 main_is_0 : IsBody (code_of program) 0 None
@@ -67,12 +72,12 @@ main_isnt_1 h = h
 
 -- in the procedure, at its `print`: the parameter has the value, and so has the variable that it was read into
 abbrev pub at_print : List BodyAtWork
-at_print = record { procedure = Some (codes "p"); own = (a, seven) ∷ [] } ∷ record { procedure = None; own = (y, seven) ∷ [] } ∷ []
+at_print = record { procedure = Some (codes "p"); own = (a, letter) ∷ [] } ∷ record { procedure = None; own = (y, letter) ∷ [] } ∷ []
 
 abbrev meaning_at_print : (t : State Core) × MeaningAfter 14 t × (bodies_at_work t.core.shared.own t.core.work ≡ at_print)
 meaning_at_print = (_, refl, refl)
 
-abbrev code_at_print : (s : State CodeCore) × CodeAfter 5 s × IsNext (code_of program) s.core 4 (PrintTop 1) × (s.core.now.body ≡ 1) × (s.core.now.own ≡ (a, There seven) ∷ [])
+abbrev code_at_print : (s : State CodeCore) × CodeAfter 5 s × IsNext (code_of program) s.core 4 (PrintTop 1) × (s.core.now.body ≡ 1) × (s.core.now.own ≡ (a, There letter) ∷ [])
 code_at_print = (_, refl, refl, refl, refl)
 
 -- cells and an environment with one variable
@@ -83,7 +88,7 @@ one_cell x z v = go (is_variable x z)
     go true = refl
     go false = refl
 
-printing : PrintsAlike program (codes "7") 1 true code_at_print.0 4 1
+abbrev printing : PrintsAlike program input 1 true code_at_print.0 4 1
 printing = record {
   there = record {
     state = meaning_at_print.0;
@@ -92,24 +97,45 @@ printing = record {
       core = record {
         world = refl;
         globals = λ z. refl;
-        activations = (record { body = refl; values = λ z. one_cell a z seven }, (record { body = tt; values = λ z. one_cell y z seven }, tt));
+        activations = (record { body = refl; values = λ z. one_cell a z letter }, (record { body = tt; values = λ z. one_cell y z letter }, tt));
       };
       out = refl;
       events = refl;
     };
   };
-  values = seven ∷ [];
+  values = letter ∷ [];
   others = [];
   operands = refl;
   in_hand = record { to = _; writes = refl };
   of_line = with_arguments;
 }
 
+-- at the `stop`, where both end: in the procedure, with the same values, and with nothing left of the input and of the turns
+abbrev meaning_ends : Means program input 1 true (codes "x\n") Done
+meaning_ends = record { steps = 30; last = _; ends = refl; written = refl }
+
+abbrev code_ends : CodeMeans (code_of program) [] input 1 true (codes "x\n") Done
+code_ends = record { steps = 20; last = _; ends = refl; written = refl }
+
+ending : SameState (code_of program) code_ends.last meaning_ends.last
+ending = record {
+  core = record {
+    world = refl;
+    globals = λ z. refl;
+    activations = (record { body = refl; values = λ z. one_cell a z letter }, (record { body = tt; values = λ z. one_cell y z letter }, tt));
+  };
+  out = refl;
+  events = refl;
+}
+
+nothing_left : (code_ends.last.core.world.input ≡ []) × (code_ends.last.core.world.left ≡ 0)
+nothing_left = (refl, refl)
+
 -- at the `read`, before anything is done
-reading : (values : Alike ((y, There None) ∷ []) []) → ReadsAlike program (codes "7") 1 true (code_first (code_of program) (codes "7") 1) 1
+reading : (values : Alike ((y, There None) ∷ []) []) → ReadsAlike program input 1 true (code_first (code_of program) input 1) 1
 reading values = record {
   there = record {
-    state = first program (codes "7") 1;
+    state = first program input 1;
     reached = (0, refl);
     same = record {
       core = record { world = refl; globals = λ z. refl; activations = (record { body = tt; values = values }, tt) };
@@ -123,7 +149,7 @@ reading values = record {
 }
 
 -- other values, another body or another number of activations aren't the same
-not_the_value : Alike ((y, There None) ∷ []) ((y, seven) ∷ []) → ⊥
+not_the_value : Alike ((y, There None) ∷ []) ((y, letter) ∷ []) → ⊥
 not_the_value h = let one = h y in cc
 
 not_the_number : (w : CodeActivation) → SameActivations (code_of program) (w ∷ []) at_print → ⊥
