@@ -1,26 +1,22 @@
 -- The code of calls and returns follows their meaning.
-use Rattle.std.proofs.Common.{◌≡◌, ◌<◌, ℕ, zero, suc, ◌+◌, Bool, true, false, List, [], ◌∷◌, ◌++◌, map, length, reverse, Option, Some, None, refl, sym, ap, ◌∙◌, subst, arith}
+use Rattle.std.proofs.Common.{◌≡◌, ℕ, zero, suc, ◌+◌, Bool, true, false, List, [], ◌∷◌, length, reverse, Option, Some, None, refl, sym, ap, ◌∙◌, subst, arith}
 use Rattle.std.specs.Prelude.{slice_get, cond}
 use Rattle.std.specs.Option.{option_map}
 use Rattle.setl_value.specs.Datum.{Datum}
-use Rattle.setl_tree.specs.declared.tree.Passing.{Passing}
-use Rattle.setl_tree.specs.declared.tree.Passing.TheVariants.{Rd, Wr, Rw}
-use Rattle.setl_run.specs.Variable.{Variable, Own, Environment, value_in, is_variable}
-use Rattle.setl_run.specs.Run.{Store, Moves}
+use Rattle.setl_run.specs.Variable.{Variable, Environment, value_in, is_variable}
 use Rattle.setl_program.specs.Program.{Arguments, no_argument, rd_argument, wr_argument, rw_argument, Parameter, Procedure, Program}
-use Rattle.setl_program.specs.Formed.{Around, Passed, PassedAs, FormedBlock, FormedProcedures, Formed}
-use Rattle.setl_model.specs.Core.{Shared, Hand, Result, Activation, Frame, InCall, Storing, Snapshot, line_of}
-use Rattle.setl_model.specs.Calls.{parameter, bindings, enter, leave, hand_backs}
+use Rattle.setl_program.specs.Formed.{Passed, PassedAs, FormedBlock, FormedProcedures, Formed}
+use Rattle.setl_model.specs.Core.{Shared, Hand, Frame, Snapshot, line_of}
+use Rattle.setl_model.specs.Calls.{parameter, enter, leave, hand_backs}
 use Rattle.setl_model.specs.Calls.{handed_back as backs_of}
-use Rattle.setl_code.specs.Code.{ReturnTop, Code}
-use Rattle.setl_code.specs.Code.{Body as CodeBody}
+use Rattle.setl_code.specs.Code.{Code}
 use Rattle.setl_code.specs.Piece.{Labels, no_loop, past, Stands}
-use Rattle.setl_code.specs.Generated.{store_slots, set_by, block, procedure_code}
+use Rattle.setl_code.specs.Generated.{store_slots, set_by, procedure_code}
 use Rattle.setl_code.specs.CodeOf.{main_body, procedure_body}
 use Rattle.setl_code.specs.CodeCore.{Result as OperandResult}
 use Rattle.setl_code.specs.CodeCore.{There, Cells, held_in, cleared, variables_of, Operand, Copy}
-use Rattle.setl_code.specs.Machine.{call_body, return_to, handed_back, on_rest, body_steps}
-use Rattle.setl_simulation.specs.Follow.{Related, moves, halts}
+use Rattle.setl_code.specs.Machine.{call_body, return_to, handed_back, body_steps}
+use Rattle.setl_simulation.specs.Follow.{Related, moves}
 use Rattle.setl_simulation.specs.Matches.{Where, steps_in, Loop, Holds, Fills, filled, fills, arguments_number, AfterResult, ends, Awaits, awaits, result_below, executing, storing, Matches}
 use Rattle.setl_simulation.specs.States.{Alike}
 use Rattle.setl_simulation.proofs.Stands.{stands_alone}

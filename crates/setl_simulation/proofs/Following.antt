@@ -1,20 +1,18 @@
 -- The machine of the code follows the language, from every state that stands for one of the meaning.
-use Rattle.std.proofs.Common.{◌≡◌, ◌<◌, ℕ, zero, suc, Bool, true, false, List, [], ◌∷◌, map, Option, Some, None, refl, sym, ap, subst, arith}
+use Rattle.std.proofs.Common.{◌≡◌, ◌<◌, ℕ, suc, List, [], ◌∷◌, Option, Some, refl, sym, subst, arith}
 use Rattle.std.specs.Prelude.{slice_get}
 use Rattle.std.proofs.Math.Nat.{sub-zero}
-use Rattle.setl_value.specs.Datum.{Datum, bool}
-use Rattle.setl_run.specs.Variable.{Variable}
-use Rattle.setl_run.specs.Run.{Move}
-use Rattle.setl_program.specs.Program.{Expr, Former, Selection, no_selector, round_selector, brace_selector, Selectors, Block, no_stmt, more_stmts, Program}
+use Rattle.setl_value.specs.Datum.{Datum}
+use Rattle.setl_program.specs.Program.{no_selector, round_selector, brace_selector, no_stmt, more_stmts, Program}
 use Rattle.setl_program.specs.Formed.{Formed}
-use Rattle.setl_model.specs.Core.{Shared, Hand, Execute, Evaluate, Result, Iterate, Activation, Round, Brace, Frame, InCall, InStmt, Snapshot, Core, line_of, AssignRight, Puts, Combines}
+use Rattle.setl_model.specs.Core.{Shared, Hand, Execute, Result, Activation, Round, Brace, Frame, InCall, InStmt, Snapshot, Core, AssignRight, Puts, Combines}
 use Rattle.setl_model.specs.Moves.{store_or_bind}
 use Rattle.setl_model.specs.Step.{language}
 use Rattle.setl_code.specs.Code.{Code, Putting, Combining}
 use Rattle.setl_code.specs.CodeCore.{Cells, Operand, value_of, Copy, CodeCore}
 use Rattle.setl_code.specs.Machine.{machine, store_in, do_step}
-use Rattle.setl_simulation.specs.Follow.{Follows, Answers, Related, moves, halts, by_step, after_step, by_none}
-use Rattle.setl_simulation.specs.Matches.{AfterBlock, AfterResult, AfterStores, Copies, Fills, Finish, FormedBehind, FormedGoal, FormedLevel, FormedTest, FormedWaiting, Holds, ItemsOf, Levels, Loop, Matches, Placed, Where, adding, ahead, answering, argument, around, at_activation, awaits, begins, binding, block_jumps, body, brace_selected, choose_test, clearing, clearing_one, collecting, combines, combining, connect_left, connect_right, deciding_all, discarding, doubling, dropped, ends, evaluating, executing, filled, fills, forming, got, if_test, in_loop, inside, item_bound, item_operands, iterating, iterating_back, last, leaving_all, level, loop, looping, more, negating, none, operands, outside, parting_right, printing, puts, putting, rank, rank_block, rank_goal, rank_place, rank_result, rank_slots, repeating, rest, result_below, result_jumps, returned, returning, round_selected, rounding, selecting_all, selection_formed, skips, source, steps_in, stmt_done, storing, takes, testing, value, while_test, with_member, Keeps, InHandOf}
+use Rattle.setl_simulation.specs.Follow.{Follows, Answers, Related, moves, by_step, after_step, by_none}
+use Rattle.setl_simulation.specs.Matches.{AfterResult, Matches, Placed, Where, adding, answering, argument, binding, brace_selected, choose_test, clearing, clearing_one, combines, combining, connect_left, connect_right, discarding, doubling, dropped, evaluating, executing, forming, got, if_test, iterating, iterating_back, leaving_all, more, negating, none, operands, parting_right, printing, puts, putting, rank, rank_place, rank_result, result_jumps, returned, returning, round_selected, rounding, selection_formed, source, steps_in, storing, testing, value, while_test, Keeps, InHandOf}
 use Rattle.setl_simulation.proofs.Parts.{code_core, core, Same, matched, stored, writes, tests}
 use Rattle.setl_simulation.proofs.Calling.{Coded, left}
 use Rattle.setl_simulation.proofs.Expressions.{Answered, expr_answered, operand_answered, connected, argument_answered}

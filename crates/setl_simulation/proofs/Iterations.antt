@@ -1,36 +1,33 @@
 -- The code of iterations follows their meaning: sources, items, bindings, conditions, and what is collected.
-use Rattle.std.proofs.Common.{◌≡◌, ◌<◌, ℕ, zero, suc, ◌+◌, Bool, true, false, List, [], ◌∷◌, map, reverse, length, Option, Some, None, refl, sym, ap, ◌∙◌, subst, arith}
-use Rattle.std.specs.Prelude.{slice_get, nat_le, if◌then◌else◌, unsigned_abs, ◌-ℤ◌, ◌==◌}
-use Rattle.setl_value.specs.Datum.{Datum, bool, int, text, tuple, set, element_list, part_list, depth}
+use Rattle.std.proofs.Common.{◌≡◌, ℕ, suc, Bool, true, false, List, [], ◌∷◌, reverse, Option, Some, None, refl, sym, subst}
+use Rattle.std.specs.Prelude.{slice_get, if◌then◌else◌, unsigned_abs, ◌-ℤ◌, ◌==◌}
+use Rattle.setl_value.specs.Datum.{Datum, int, text, tuple, set, element_list, part_list}
 use Rattle.setl_value.specs.Pairs.{is_map}
 use Rattle.setl_set.specs.Sets.{set_from}
 use Rattle.setl_map.specs.Ranges.{range_from, step_from}
 use Rattle.setl_map.specs.Maps.{domain_of}
-use Rattle.setl_map.specs.Outcome.{all_values, Fault, OmFault, KindFault, ZeroFault, DeepFault}
-use Rattle.setl_run.specs.Variable.{Variable}
-use Rattle.setl_run.specs.Run.{Move}
+use Rattle.setl_map.specs.Outcome.{all_values, Fault, KindFault, ZeroFault}
 use Rattle.setl_program.specs.declared.kinds.Collection.{Collection}
 use Rattle.setl_program.specs.declared.kinds.Source.{Source}
 use Rattle.setl_program.specs.declared.kinds.Source.TheVariants.{Values, Between, SetSteps, TupleSteps}
-use Rattle.setl_program.specs.Program.{Binding, Member, Components, Point, Begin, Members, Points, begin_of, Expr, Former, Selection, Exprs, no_expr, more_exprs, Iterators, no_iterator, more_iterators, Condition, no_condition, only_if, Program}
+use Rattle.setl_program.specs.Program.{Binding, Begin, Members, Points, begin_of, Expr, Exprs, no_expr, more_exprs, Iterators, no_iterator, more_iterators, Condition, no_condition, only_if, Program}
 use Rattle.setl_program.specs.Formed.{Formed, FormedExprs, FormedIterators}
-use Rattle.setl_model.specs.Collections.{refusal, collection}
-use Rattle.setl_model.specs.Core.{Shared, Hand, Execute, Evaluate, Result, Iterate, Goal, Collect, Select, Decide, Repeat, Item, One, Two, Level, Iteration, Sources, ToBind, IsBound, Testing, Body, Paused, Frame, InIteration, Storing, Snapshot, goal_line, line_of}
+use Rattle.setl_model.specs.Collections.{refusal}
+use Rattle.setl_model.specs.Core.{Shared, Hand, Execute, Evaluate, Result, Iterate, Goal, Collect, Select, Decide, Repeat, Item, Level, Iteration, Sources, Testing, Body, Paused, Frame, InIteration, Snapshot, goal_line, line_of}
 use Rattle.setl_model.specs.Iterations.{members, letters, map_points, place_points, values_of, points_of, of_values, one_source, integers_between, integers_stepped, Started, Starts, Refuses, items_of, singles, inward, start, gather_by, add_to_goal}
 use Rattle.setl_model.specs.Step.{language}
-use Rattle.setl_code.specs.Code.{AddBelow, Jump, Code}
+use Rattle.setl_code.specs.Code.{Jump, Code}
 use Rattle.setl_code.specs.Piece.{Labels, past, Is, Stands}
-use Rattle.setl_code.specs.Generated.{levels, expr, iterators, bind, block}
-use Rattle.setl_code.specs.CodeCore.{Result as OperandResult}
-use Rattle.setl_code.specs.CodeCore.{Cells, Operand, Iterator, PairIterator, Collecting, value_of, Copy}
-use Rattle.setl_code.specs.Machine.{iterator, Added, added, Adds, Refused, below, go_added, begin_over}
-use Rattle.setl_simulation.specs.Follow.{Related, moves, halts, by_step, after_step, by_none}
-use Rattle.setl_simulation.specs.Matches.{Where, steps_in, around, Holds, none, more, begins, inside, looping, ahead, ItemsOf, item_operands, with_member, AfterResult, source, testing, value, Levels, outside, level, Finish, collecting, selecting_all, deciding_all, repeating, FormedWaiting, FormedGoal, FormedTest, Placed, evaluating, iterating, iterating_back, Matches, FormedBehind, body, in_loop, AfterBlock}
+use Rattle.setl_code.specs.Generated.{block}
+use Rattle.setl_code.specs.CodeCore.{Cells, Operand, Collecting, value_of, Copy}
+use Rattle.setl_code.specs.Machine.{iterator, added, Adds, Refused, below, go_added, begin_over}
+use Rattle.setl_simulation.specs.Follow.{Related, moves, halts, by_step, after_step}
+use Rattle.setl_simulation.specs.Matches.{Where, steps_in, around, Holds, none, more, begins, looping, ItemsOf, with_member, source, testing, value, Levels, outside, level, collecting, selecting_all, FormedWaiting, FormedGoal, FormedTest, Placed, iterating, iterating_back, Matches, FormedBehind, body, in_loop, AfterBlock}
 use Rattle.setl_simulation.specs.States.{bodies_at_work}
-use Rattle.setl_simulation.proofs.Parts.{code_core, core, Same, matched, matched_in, all_popped, turns, tests}
+use Rattle.setl_simulation.proofs.Parts.{code_core, core, Same, matched, all_popped}
 use Rattle.setl_simulation.proofs.Calling.{Coded}
 use Rattle.setl_simulation.proofs.Expressions.{Answered, expr_answered, has_source}
-use Rattle.setl_simulation.proofs.Leaving.{started, counted, levels_decided}
+use Rattle.setl_simulation.proofs.Leaving.{started}
 use Rattle.setl_simulation.proofs.Statements.{rank_executing, block_answered}
 
 -- ---- what iterators run over

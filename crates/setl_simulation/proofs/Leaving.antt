@@ -1,21 +1,20 @@
 -- What is left by `quit`, by a quantifier's answer and by `return`.
-use Rattle.std.proofs.Common.{◌≡◌, ℕ, zero, suc, ◌+◌, Bool, true, false, List, [], ◌∷◌, Option, Some, None, refl, sym, ap, subst, arith}
+use Rattle.std.proofs.Common.{◌≡◌, ℕ, zero, suc, ◌+◌, false, List, [], ◌∷◌, Option, Some, refl, sym, subst, arith}
 use Rattle.setl_value.specs.Datum.{Datum}
-use Rattle.setl_run.specs.Variable.{Variable, Environment}
-use Rattle.setl_run.specs.Run.{Moves}
+use Rattle.setl_run.specs.Variable.{Environment}
 use Rattle.setl_program.specs.declared.kinds.Quantifier.{Quantifier}
-use Rattle.setl_program.specs.Program.{Begin, Members, Points, begin_of, Binding, Expr, Exprs, Iterators, no_iterator, Condition, While, Block, no_stmt, Procedure}
+use Rattle.setl_program.specs.Program.{Begin, Members, Points, begin_of, Iterators, no_iterator, Condition, Block, no_stmt, Procedure}
 use Rattle.setl_program.specs.Formed.{IsInLoop, InProcedure}
-use Rattle.setl_model.specs.Core.{Hand, Goal, Repeat, Decide, Item, Level, Iteration, Body, Paused, WhileBody, WhileTest, Evaluate, Execute, Iterate, Result, HandBacks, Activation, Frame, InIteration, InStmt, InCall, Then, Core}
+use Rattle.setl_model.specs.Core.{Hand, Goal, Repeat, Decide, Item, Level, Paused, WhileTest, Evaluate, Execute, Iterate, Result, HandBacks, Activation, Frame, InIteration, InStmt, InCall, Core}
 use Rattle.setl_model.specs.Moves.{go}
 use Rattle.setl_model.specs.Statements.{quit, continue_loop, return_value}
 use Rattle.setl_code.specs.Code.{Code}
-use Rattle.setl_code.specs.Piece.{Labels, past}
-use Rattle.setl_code.specs.Generated.{levels, stmt}
-use Rattle.setl_code.specs.CodeCore.{Operand, Iterator, PairIterator, without_iterators}
+use Rattle.setl_code.specs.Piece.{Labels}
+use Rattle.setl_code.specs.Generated.{levels}
+use Rattle.setl_code.specs.CodeCore.{Operand, without_iterators}
 use Rattle.setl_code.specs.Machine.{iterator}
 use Rattle.setl_simulation.specs.States.{bodies_at_work}
-use Rattle.setl_simulation.specs.Matches.{Where, Loop, in_loop, AfterResult, AfterBlock, last, ends, rest, loop, body, block_jumps, Awaits, Returns, at_activation, past_rest, past_loop, past_body, Levels, outside, level, deciding_all, repeating, Placed, evaluating, iterating, while_test}
+use Rattle.setl_simulation.specs.Matches.{Where, Loop, AfterResult, AfterBlock, last, ends, rest, loop, body, block_jumps, Awaits, Returns, at_activation, past_rest, past_loop, past_body, Levels, outside, level, deciding_all, repeating, Placed, evaluating, iterating, while_test}
 
 abbrev pub started : List Level → ℕ
 started [] = zero

@@ -1,5 +1,5 @@
 -- The code of a formed program means what the program means.
-use Rattle.std.proofs.Common.{◌≡◌, ◌↔◌, ℕ, zero, suc, Bool, false, List, [], ◌∷◌, map, Option, Some, None, refl, sym, ◌∙◌}
+use Rattle.std.proofs.Common.{◌≡◌, ℕ, zero, suc, Bool, false, List, [], ◌∷◌, map, refl, sym, ◌∙◌}
 use Rattle.std.specs.Prelude.{slice_get}
 use Rattle.std.specs.Option.{option_map}
 use Rattle.setl_run.specs.Events.{Event, End}
@@ -9,8 +9,6 @@ use Rattle.setl_program.specs.Formed.{Formed}
 use Rattle.setl_model.specs.Core.{Core}
 use Rattle.setl_model.specs.Step.{language, test_of}
 use Rattle.setl_model.specs.Means.{Means, first}
-use Rattle.setl_code.specs.Code.{Code}
-use Rattle.setl_code.specs.Code.{Body as CodeBody}
 use Rattle.setl_code.specs.Piece.{no_loop}
 use Rattle.setl_code.specs.Generated.{main_code}
 use Rattle.setl_code.specs.CodeOf.{code_of, main_body, procedure_body}

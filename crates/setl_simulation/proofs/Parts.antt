@@ -1,5 +1,5 @@
 -- Parts of steps that the code and the meaning make alike.
-use Rattle.std.proofs.Common.{◌≡◌, ℕ, suc, ◌-◌, true, false, List, [], ◌∷◌, reverse, Option, Some, None, refl, sym, ap, ◌∙◌, subst}
+use Rattle.std.proofs.Common.{◌≡◌, ℕ, suc, ◌-◌, true, false, List, [], ◌∷◌, reverse, Option, Some, None, refl, ap, ◌∙◌, subst}
 use mathlib.Core.List.{reverse_aux}
 use Rattle.setl_value.specs.Datum.{Datum, bool}
 use Rattle.setl_map.specs.Outcome.{Outcome, Gives, Fails, Overspends}

@@ -1,23 +1,21 @@
 -- The last states of the code and of the meaning, and the states that they reach, are the same.
-use Rattle.std.proofs.Common.{◌≡◌, ℕ, zero, suc, Bool, List, [], ◌∷◌, reverse, Option, Some, None, refl, sym, ap, ◌∙◌, subst}
+use Rattle.std.proofs.Common.{◌≡◌, ℕ, zero, suc, Bool, List, [], ◌∷◌, Option, refl, subst}
 use Rattle.setl_value.specs.Datum.{Datum}
 use Rattle.setl_text.specs.Texts.{print_line}
 use Rattle.setl_run.specs.Events.{Event, End, Printed}
 use Rattle.setl_run.specs.Run.{Store, State, Next, Goes, Ends, Machine, Test, Move, Moves, step, and_then, run}
-use Rattle.setl_run.specs.RunLaws.{runs_join}
 use Rattle.setl_program.specs.Program.{Program}
 use Rattle.setl_program.specs.Formed.{Formed}
 use Rattle.setl_model.specs.Core.{Shared, Hand, Frame, Snapshot, Core}
 use Rattle.setl_model.specs.Step.{language, test_of}
-use Rattle.setl_model.specs.Means.{Means, first}
-use Rattle.setl_code.specs.Code.{ReadOne, PrintTop, Step}
+use Rattle.setl_model.specs.Means.{first}
+use Rattle.setl_code.specs.Code.{ReadOne, PrintTop}
 use Rattle.setl_code.specs.CodeOf.{code_of}
 use Rattle.setl_code.specs.CodeCore.{Operand, Popped, Pops, Lacks, popped, CodeCore}
-use Rattle.setl_code.specs.Machine.{machine, do_step, fetch, on_popped, print_values}
-use Rattle.setl_code.specs.CodeMeans.{CodeMeans, code_first}
-use Rattle.setl_simulation.specs.Follow.{Related, moves, halts, quiet, Shares}
-use Rattle.setl_simulation.specs.States.{SameCore, SameState, CodeReaches, ReachedAlike, IsNext, ReadsAlike, IsPrintOf, without_arguments, with_arguments, PrintsAlike}
-use Rattle.setl_simulation.specs.Matches.{Matches, rank, Keeps, InHand, IsReadFor}
+use Rattle.setl_code.specs.Machine.{do_step, fetch, on_popped, print_values}
+use Rattle.setl_simulation.specs.Follow.{Related, moves, halts}
+use Rattle.setl_simulation.specs.States.{SameState, CodeReaches, ReachedAlike, IsNext, ReadsAlike, IsPrintOf, without_arguments, with_arguments, PrintsAlike}
+use Rattle.setl_simulation.specs.Matches.{Matches, InHand, IsReadFor}
 use Rattle.setl_simulation.specs.Claims.{CodeEndsInTheSameState, CodeReachesTheSameStates, CodeReadsWhereMeant, CodePrintsWhereMeant}
 use Rattle.setl_simulation.proofs.Parts.{core}
 use Rattle.setl_simulation.proofs.Follow.{MadeAlike, alike, alone}
@@ -69,7 +67,6 @@ module _ (p : Program) (formed : Formed p) (input : List ℕ) (turns : ℕ) (bas
       let c = code_of p in
       let r : IsReadFor line (fetch c s.core.now.body (suc s.core.now.at)) there.state.core.hand = subst (λ i. InHand i (fetch c s.core.now.body (suc s.core.now.at)) there.state.core) is (met p formed input turns based s reached).in_hand in
       record { there = there; in_hand = record { line = line; variable = r.variable; others = r.others; rest = r.rest; in_hand = r.in_hand }; line_same = refl; stores = r.stores }
-
 
   pub prints : (line number : ℕ) → IsNext (code_of p) s.core line (PrintTop number) → PrintsAlike p input turns based s line number
   prints line number is =

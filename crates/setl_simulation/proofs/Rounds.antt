@@ -1,6 +1,6 @@
 -- The code of iterations follows their meaning from item to item, and at their ends.
-use Rattle.setl_simulation.specs.Matches.{AfterBlock, AfterResult, AfterStores, Copies, Fills, Finish, FormedBehind, FormedGoal, FormedLevel, FormedTest, FormedWaiting, Holds, ItemsOf, Levels, Loop, Matches, Placed, Where, adding, ahead, answering, around, begins, binding, body, clearing, clearing_one, collecting, deciding_all, discarding, doubling, evaluating, executing, filled, fills, forming, got, in_loop, inside, item_bound, item_operands, iterating, iterating_back, leaving_all, level, looping, more, negating, none, outside, rank, rank_block, rank_goal, rank_result, rank_slots, repeating, result_below, rounding, selecting_all, selection_formed, skips, source, steps_in, stmt_done, storing, testing, value, with_member, rank_place, result_jumps}
-use Rattle.std.proofs.Common.{◌≡◌, ◌<◌, ℕ, zero, suc, ◌+◌, ◌-◌, Bool, true, false, List, [], ◌∷◌, map, reverse, length, Option, Some, None, refl, sym, ap, ◌∙◌, subst, arith}
+use Rattle.setl_simulation.specs.Matches.{AfterBlock, AfterResult, AfterStores, FormedBehind, FormedWaiting, ItemsOf, Levels, Placed, Where, adding, answering, around, begins, binding, body, clearing, clearing_one, collecting, deciding_all, discarding, doubling, evaluating, executing, filled, fills, got, in_loop, inside, item_bound, item_operands, iterating, iterating_back, leaving_all, level, looping, negating, outside, rank_block, rank_goal, rank_result, repeating, result_below, selecting_all, steps_in, stmt_done, storing, value, with_member, rank_place, result_jumps}
+use Rattle.std.proofs.Common.{◌≡◌, ◌<◌, ℕ, suc, Bool, true, false, List, [], ◌∷◌, Option, Some, None, refl, sym, ap, subst, arith}
 use Rattle.std.specs.Prelude.{slice_get, not}
 use Rattle.std.proofs.Math.Nat.{sub-zero}
 use Rattle.setl_value.specs.Datum.{Datum, bool, int, text, atom, tuple, set, part_list}
@@ -8,27 +8,26 @@ use Rattle.setl_run.specs.Variable.{Variable}
 use Rattle.setl_program.specs.declared.kinds.Collection.{Collection}
 use Rattle.setl_program.specs.declared.kinds.Quantifier.{Quantifier}
 use Rattle.setl_program.specs.declared.kinds.Quantifier.TheVariants.{Exists, Forall, NotExists}
-use Rattle.setl_program.specs.Program.{Binding, Member, Components, Point, Begin, Members, Points, begin_of, Expr, Former, Selection, Exprs, no_expr, more_exprs, Iterators, no_iterator, more_iterators, Condition, no_condition, only_if, Program, no_stmt}
+use Rattle.setl_program.specs.Program.{Binding, Member, Components, Point, Begin, Members, Points, begin_of, Expr, Former, Selection, Exprs, Iterators, no_iterator, more_iterators, Condition, no_condition, only_if, Program, no_stmt}
 use Rattle.setl_program.specs.Formed.{Formed, BindsMembers, FormedExpr}
-use Rattle.setl_model.specs.Collections.{refusal, collection}
-use Rattle.setl_model.specs.Core.{Shared, Hand, Execute, Evaluate, Result, Iterate, Goal, Collect, Select, Decide, Repeat, Item, One, Two, Level, Iteration, ToBind, IsBound, Testing, Body, Paused, Frame, InIteration, Storing, Dropping, InStmt, Snapshot, goal_line, line_of}
+use Rattle.setl_model.specs.Collections.{collection}
+use Rattle.setl_model.specs.Core.{Shared, Execute, Evaluate, Result, Iterate, Goal, Collect, Select, Decide, Repeat, Item, One, Two, Level, ToBind, IsBound, Testing, Body, Paused, Frame, InIteration, Storing, Dropping, InStmt, Snapshot, goal_line, line_of}
 use Rattle.setl_model.specs.Iterations.{decided, undecided, all_bound, goal_at}
 use Rattle.setl_model.specs.Slots.{om_stores}
-use Rattle.setl_model.specs.Step.{language}
 use Rattle.setl_code.specs.Code.{AddBelow, Jump, Push, DropTop, DupTop, StoreIn, Unless, LeaveAll, Code}
 use Rattle.setl_code.specs.Piece.{Labels, past, Is, Stands, ◌⨾◌, one, jumps_out, nothing}
 use Rattle.setl_code.specs.Generated.{levels, expr, iterators, bind, clear, block}
 use Rattle.setl_code.specs.CodeCore.{Result as OperandResult}
-use Rattle.setl_code.specs.CodeCore.{Cells, Operand, Iterator, PairIterator, Collecting, value_of, Copy, CodeCore, without_iterators}
+use Rattle.setl_code.specs.CodeCore.{Cells, Operand, Collecting, value_of, Copy, CodeCore, without_iterators}
 use Rattle.setl_code.specs.Machine.{iterator, next_or, go_to, next, turn}
-use Rattle.setl_simulation.specs.Follow.{Related, moves, halts, by_step, after_step, by_none}
+use Rattle.setl_simulation.specs.Follow.{moves, halts, by_step, after_step, by_none}
 use Rattle.setl_simulation.proofs.Parts.{code_core, core, Same, matched, matched_in, stored, turns, tests}
 use Rattle.setl_simulation.proofs.Calling.{Coded}
-use Rattle.setl_simulation.proofs.Expressions.{Answered, expr_answered, has_source}
+use Rattle.setl_simulation.proofs.Expressions.{Answered}
 use Rattle.setl_simulation.proofs.Storing.{parts_fill, storing_answered}
 use Rattle.setl_simulation.proofs.Leaving.{started, counted, levels_decided}
 use Rattle.setl_simulation.proofs.Statements.{ended}
-use Rattle.setl_simulation.proofs.Iterations.{Collects, by_former, by_selection, added_former, added_selection, gathered, waiting_formed, goal_formed, iteration, inner_operands, inward_answered}
+use Rattle.setl_simulation.proofs.Iterations.{by_former, by_selection, added_former, added_selection, gathered, waiting_formed, goal_formed, iteration, inner_operands, inward_answered}
 
 -- ---- an iterator at its next item
 

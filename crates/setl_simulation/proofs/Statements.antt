@@ -1,39 +1,27 @@
 -- The code of statements follows their meaning.
-use Rattle.std.proofs.Common.{◌≡◌, ◌<◌, ℕ, zero, suc, ◌+◌, ◌-◌, Bool, true, false, List, [], ◌∷◌, ◌++◌, length, reverse, Option, Some, None, refl, sym, ap, ◌∙◌, subst, append-nil, arith}
+use Rattle.std.proofs.Common.{◌≡◌, ◌<◌, ℕ, zero, suc, true, false, List, [], ◌∷◌, Option, Some, None, refl, sym, subst, arith}
 use Rattle.std.specs.Prelude.{slice_get}
-use Rattle.std.proofs.Math.Nat.{sub-zero}
 use Rattle.setl_value.specs.Datum.{Datum, bool, tuple, part_list}
-use Rattle.setl_map.specs.declared.Operator.{Operator}
 use Rattle.setl_text.specs.Reading.{Reading, Denotes, AtEnd, NotForm, TooWide, TooDeep, read_denotation}
 use Rattle.setl_run.specs.Variable.{Variable}
-use Rattle.setl_run.specs.Run.{Move}
-use Rattle.setl_program.specs.declared.kinds.Taking.{Taking}
-use Rattle.setl_program.specs.Program.{Slots, Expr, Exprs, no_expr, more_exprs, Iterators, no_iterator, more_iterators, Condition, no_condition, only_if, Selectors, no_selector, round_selector, brace_selector, Place, Stmt, Assign, Update, AssignParts, TakeFrom, Perform, If, For, While, Quit, Continue, Fail, Stop, Pass, Return, Print, Read, Block, no_stmt, more_stmts, Program}
-use Rattle.setl_program.specs.Formed.{FormedExprs, FormedSelectors, FormedStmt, FormedBlock, Formed, FormedExpr, FormedVariables, IsInLoop}
-use Rattle.setl_model.specs.World.{World}
-use Rattle.setl_model.specs.Core.{Shared, Hand, Execute, Evaluate, Result, Repeat, Sources, Puts, Combines, Takes, AssignRight, UpdateRight, PartsRight, IfTest, WhileTest, PrintParts, Returning, Dropping, Frame, InIteration, InStmt, InCall, Activation, Storing, Then, Snapshot, Core, line_of}
-use Rattle.setl_model.specs.Moves.{go}
-use Rattle.setl_model.specs.Places.{select}
-use Rattle.setl_model.specs.Slots.{parting}
-use Rattle.setl_model.specs.Statements.{fail, take_apart, take_reading, print_parts}
-use Rattle.setl_model.specs.Step.{language}
-use Rattle.setl_text.specs.Texts.{print_line}
+use Rattle.setl_program.specs.Program.{Slots, Expr, Exprs, no_expr, more_exprs, Iterators, no_iterator, more_iterators, Condition, no_condition, only_if, Stmt, Assign, Update, AssignParts, TakeFrom, Perform, If, For, While, Quit, Continue, Fail, Stop, Pass, Return, Print, Read, Block, no_stmt, more_stmts, Program}
+use Rattle.setl_program.specs.Formed.{FormedExprs, FormedStmt, FormedBlock, Formed, FormedExpr, FormedVariables, IsInLoop}
+use Rattle.setl_model.specs.Core.{Shared, Hand, Execute, Evaluate, Result, Repeat, Sources, Takes, AssignRight, UpdateRight, PartsRight, IfTest, WhileTest, PrintParts, Returning, Dropping, Frame, InIteration, InStmt, Then, Snapshot}
+use Rattle.setl_model.specs.Statements.{fail, take_reading}
 use Rattle.setl_code.specs.Code.{PrintTop, Code, TakingOut}
-use Rattle.setl_code.specs.Piece.{Labels, past, Is, Stands, ◌⨾◌, one, either, nothing}
-use Rattle.setl_code.specs.Generated.{store_slots, parts, put, levels, count_from, expr, exprs, iterators, stmt, block, read_all, quit}
-use Rattle.setl_code.specs.CodeCore.{Result as OperandResult}
+use Rattle.setl_code.specs.Piece.{Labels, past, Stands, ◌⨾◌, one, either, nothing}
+use Rattle.setl_code.specs.Generated.{store_slots, parts, levels, count_from, expr, exprs, iterators, stmt, block, read_all, quit}
 use Rattle.setl_code.specs.CodeCore.{Cells, Operand, value_of, Copy, without_iterators}
-use Rattle.setl_code.specs.Machine.{go_back, push_read, on_popped, print_values, go_to}
-use Rattle.setl_code.specs.Machine.{take_apart as code_take_apart}
+use Rattle.setl_code.specs.Machine.{go_back, push_read, go_to}
 use Rattle.setl_simulation.specs.Follow.{Related, moves, halts, by_step, after_step, by_none}
-use Rattle.setl_simulation.specs.Matches.{Where, steps_in, around, Loop, in_loop, Holds, none, more, filled, fills, inside, looping, FormedWaiting, AfterResult, putting, combining, parting_right, printing, if_test, while_test, dropped, returned, returning, source, AfterBlock, last, ends, rest, loop, body, block_jumps, Levels, outside, repeating, AfterStores, stmt_done, Copies, no_copy, more_copy, got, evaluating, executing, rounding, storing, iterating, Matches, rank_block, takes, past_rest}
+use Rattle.setl_simulation.specs.Matches.{Where, steps_in, around, Loop, in_loop, Holds, none, more, filled, fills, inside, FormedWaiting, putting, combining, parting_right, printing, if_test, while_test, dropped, returned, returning, source, AfterBlock, last, ends, rest, loop, body, block_jumps, Levels, outside, repeating, stmt_done, Copies, no_copy, more_copy, got, evaluating, executing, rounding, storing, iterating, Matches, rank_block, takes, past_rest}
 use Rattle.setl_simulation.specs.States.{without_arguments, with_arguments}
-use Rattle.setl_simulation.proofs.Parts.{code_core, core, Same, matched, matched_in, stored, all_popped, turns, tests}
-use Rattle.setl_simulation.proofs.Calling.{Coded, left}
+use Rattle.setl_simulation.proofs.Parts.{code_core, core, Same, matched, matched_in, all_popped, turns, tests}
+use Rattle.setl_simulation.proofs.Calling.{Coded}
 use Rattle.setl_simulation.proofs.Expressions.{Answered, expr_answered, has_source}
 use Rattle.setl_simulation.proofs.Storing.{parts_fill}
-use Rattle.setl_simulation.proofs.Updating.{in_world, select_answered}
-use Rattle.setl_simulation.proofs.Leaving.{quitting, continuing, leading, returns}
+use Rattle.setl_simulation.proofs.Updating.{select_answered}
+use Rattle.setl_simulation.proofs.Leaving.{quitting, continuing, leading}
 
 -- the place behind iterators doesn't rest on where the first leads back
 same_end : (is : Iterators) (at line n at0 : ℕ) (b : Block) (t : Condition) (end : ℕ) → past at (iterators line nothing is (inside line n (Repeat at0 b) t) end at) ≡ past at (iterators line nothing is (inside line n (Repeat at0 b) t) 0 at)

@@ -1,31 +1,29 @@
 -- The code of updates follows their meaning: the parts of places, what is put there or taken out, and the store.
-use Rattle.std.proofs.Common.{◌≡◌, ◌<◌, ℕ, zero, suc, ◌-◌, Bool, true, false, List, [], ◌∷◌, ◌++◌, map, length, reverse, Option, Some, None, refl, sym, ap, ◌∙◌, subst, append-nil, append_assoc, arith}
+use Rattle.std.proofs.Common.{◌≡◌, ℕ, suc, ◌-◌, List, [], ◌∷◌, ◌++◌, map, length, reverse, Option, Some, refl, sym, ap, ◌∙◌, subst, append-nil, append_assoc}
 use Rattle.std.specs.Prelude.{slice_get}
 use mathlib.Core.List.{reverse_aux}
 use Rattle.std.proofs.lemmas.List.{length-reverse}
 use Rattle.std.proofs.lemmas.Grind.{reverse_onto}
 use Rattle.setl_value.specs.Datum.{Datum}
-use Rattle.setl_map.specs.declared.Operator.{Operator}
 use Rattle.setl_map.specs.Outcome.{Outcome}
 use Rattle.setl_map.specs.Operators.{op_of}
 use Rattle.setl_run.specs.Variable.{Variable, Global, Own, Bound}
-use Rattle.setl_run.specs.Run.{Move}
-use Rattle.setl_program.specs.Program.{Slots, Selectors, no_selector, round_selector, brace_selector, no_stmt, Program}
+use Rattle.setl_program.specs.Program.{Selectors, no_selector, round_selector, brace_selector, no_stmt, Program}
 use Rattle.setl_program.specs.Formed.{FormedSelectors, Formed}
 use Rattle.setl_model.specs.World.{World}
-use Rattle.setl_model.specs.Core.{Shared, Hand, Execute, Evaluate, Result, Selected, Round, Brace, Change, Puts, Combines, Takes, RoundSelector, BraceSelector, Dropping, Frame, InStmt, Storing, Snapshot, Core, line_of, read_variable}
+use Rattle.setl_model.specs.Core.{Shared, Hand, Evaluate, Selected, Round, Brace, Change, RoundSelector, BraceSelector, Frame, InStmt, Snapshot, read_variable}
 use Rattle.setl_model.specs.Places.{with_part_at_all, part_at_all, combined, Taken, TakesOut, IsEmpty, CannotTake, take_out, take_from, store_whole, update, select}
 use Rattle.setl_model.specs.Step.{language}
-use Rattle.setl_code.specs.Code.{Bracket, InRound, InBrace, Alteration, Putting, Combining, TakingOut, Alter, Code}
+use Rattle.setl_code.specs.Code.{Bracket, InRound, InBrace, Alteration, Alter, Code}
 use Rattle.setl_code.specs.Piece.{Labels, past, Is, Stands, ◌⨾◌}
 use Rattle.setl_code.specs.Generated.{store_slots, brackets, selectors, expr}
 use Rattle.setl_code.specs.CodeCore.{Result as OperandResult}
-use Rattle.setl_code.specs.CodeCore.{There, Cells, Operand, value_of, popped, Copy, held}
-use Rattle.setl_code.specs.Machine.{on_popped, on_held, alter, selected_by}
+use Rattle.setl_code.specs.CodeCore.{Cells, Operand, Copy}
+use Rattle.setl_code.specs.Machine.{alter, selected_by}
 use Rattle.setl_code.specs.Machine.{take_from as code_take_from, store_whole as code_store_whole}
 use Rattle.setl_simulation.specs.Follow.{Related, moves, halts, by_step, after_step}
 use Rattle.setl_simulation.specs.Matches.{Where, steps_in, around, Loop, Holds, none, more, filled, fills, selected_value, bracket_of, Alters, puts, combines, takes, target_of, selecting, AfterBlock, stmt_done, round_selected, brace_selected, executing, storing, Matches}
-use Rattle.setl_simulation.specs.States.{Alike, bodies_at_work}
+use Rattle.setl_simulation.specs.States.{bodies_at_work}
 use Rattle.setl_simulation.proofs.Parts.{code_core, core, Same, matched, stored, all_popped, held_read, outcomes}
 use Rattle.setl_simulation.proofs.Calling.{Coded}
 use Rattle.setl_simulation.proofs.Expressions.{Answered, expr_answered}

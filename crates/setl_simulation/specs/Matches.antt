@@ -4,26 +4,24 @@ use Rattle.setl_value.specs.Datum.{Datum, bool}
 use Rattle.setl_run.specs.Variable.{Variable, Environment}
 use Rattle.setl_run.specs.Run.{Store}
 use Rattle.setl_map.specs.declared.Operator.{Operator}
-use Rattle.setl_map.specs.declared.Operator.TheVariants.{Not}
 use Rattle.setl_program.specs.declared.kinds.Collection.{Collection}
 use Rattle.setl_program.specs.declared.kinds.Connective.{Connective}
 use Rattle.setl_program.specs.declared.kinds.Quantifier.{Quantifier}
 use Rattle.setl_program.specs.declared.kinds.Quantifier.TheVariants.{Forall}
 use Rattle.setl_program.specs.declared.kinds.Taking.{Taking}
-use Rattle.setl_program.specs.Program.{Slots, Binding, Begin, Members, Points, begin_of, Expr, Former, Selection, Quantified, Exprs, no_expr, more_exprs, Iterators, no_iterator, more_iterators, Condition, no_condition, only_if, Arguments, no_argument, rd_argument, wr_argument, rw_argument, Selectors, Stmt, While, Read, Block, no_stmt, more_stmts, Parameter, Procedure}
-use Rattle.setl_program.specs.Formed.{Around, FormedBinding, BindsMembers, parts_of, number_of, Passed, FormedExpr, FormedExprs, FormedIterators, FormedCondition, FormedArguments, FormedSelectors, FormedBlock, PassedAs, InProcedure}
-use Rattle.setl_model.specs.World.{World}
-use Rattle.setl_model.specs.Core.{Shared, Hand, Execute, Evaluate, Result, Iterate, Operands, ConnectLeft, ConnectRight, ChooseTest, Goal, Collect, Select, Decide, Repeat, Item, One, Two, Level, Iteration, Sources, ToBind, IsBound, Testing, Body, Paused, HandBacks, Argument, Activation, Selected, Round, Brace, Change, Puts, Combines, Takes, AssignRight, UpdateRight, PartsRight, RoundSelector, BraceSelector, IfTest, WhileTest, WhileBody, PrintParts, Returning, Dropping, Frame, InExpr, InIteration, InCall, InStmt, Storing, Then, Snapshot, Core, goal_line, line_of}
+use Rattle.setl_program.specs.Program.{Slots, Binding, Begin, Members, Points, begin_of, Expr, Former, Selection, Exprs, Iterators, no_iterator, more_iterators, Condition, no_condition, only_if, Arguments, no_argument, rd_argument, wr_argument, rw_argument, Selectors, While, Read, Block, no_stmt, more_stmts, Procedure}
+use Rattle.setl_program.specs.Formed.{Around, BindsMembers, Passed, FormedExpr, FormedExprs, FormedIterators, FormedCondition, FormedArguments, FormedSelectors, FormedBlock, PassedAs, InProcedure}
+use Rattle.setl_model.specs.Core.{Hand, Execute, Evaluate, Result, Iterate, Operands, ConnectLeft, ConnectRight, ChooseTest, Goal, Collect, Select, Decide, Repeat, Item, One, Two, Level, Iteration, Sources, ToBind, IsBound, Testing, Body, Paused, HandBacks, Argument, Activation, Selected, Round, Brace, Change, Puts, Combines, Takes, AssignRight, UpdateRight, PartsRight, RoundSelector, BraceSelector, IfTest, WhileTest, WhileBody, PrintParts, Returning, Dropping, Frame, InExpr, InIteration, InCall, InStmt, Storing, Then, Snapshot, Core, goal_line, line_of}
 use Rattle.setl_model.specs.Slots.{om_stores}
-use Rattle.setl_model.specs.Iterations.{decided, undecided, bound_by, goal_at, all_bound}
-use Rattle.setl_model.specs.Calls.{handed_back, hand_backs}
-use Rattle.setl_code.specs.Code.{Bracket, InRound, InBrace, Alteration, Putting, Combining, TakingOut, Push, StoreIn, Operate, Alter, Decides, TestBool, Unless, Jump, DropTop, PartsOf, BeginOver, AddBelow, LeaveAll, CallBody, ReturnTop, PrintTop, ReadOne, StopRun, Instr, Step, Code, DupTop}
+use Rattle.setl_model.specs.Iterations.{decided, undecided, goal_at, all_bound}
+use Rattle.setl_model.specs.Calls.{hand_backs}
+use Rattle.setl_code.specs.Code.{Bracket, InRound, InBrace, Alteration, Putting, Combining, TakingOut, Push, StoreIn, Operate, Alter, Decides, TestBool, Unless, Jump, DropTop, BeginOver, AddBelow, LeaveAll, CallBody, ReturnTop, PrintTop, ReadOne, StopRun, Instr, Step, Code, DupTop}
 use Rattle.setl_code.specs.Code.{Body as CodeBody}
 use Rattle.setl_code.specs.Piece.{Labels, past, Is, Stands, Laid, ◌⨾◌, nothing, one, jumps_out, over, either, going_on}
 use Rattle.setl_code.specs.Generated.{store_slots, parts, bind, clear, set_by, count_from, levels, negated, keep_or_drop, expr, exprs, iterators, condition, arguments, selectors, brackets, alter, put, stmt, block}
 use Rattle.setl_code.specs.CodeCore.{Result as OperandResult, without_iterators}
 use Rattle.setl_code.specs.CodeCore.{Activation as CodeActivation}
-use Rattle.setl_code.specs.CodeCore.{Iterator, Operand, Collecting, value_of, Copy, CodeCore}
+use Rattle.setl_code.specs.CodeCore.{Operand, Collecting, value_of, Copy, CodeCore}
 use Rattle.setl_code.specs.Machine.{iterator, body_steps, fetch}
 use Rattle.setl_simulation.specs.States.{Alike, bodies_at_work, IsPrintOf}
 

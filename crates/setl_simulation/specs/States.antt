@@ -9,7 +9,7 @@ use Rattle.setl_program.specs.Program.{no_expr, Print, Block, more_stmts, Progra
 use Rattle.setl_model.specs.Core.{Hand, Execute, Result, Activation, PrintParts, Frame, InCall, InStmt, Core}
 use Rattle.setl_model.specs.Step.{test_of}
 use Rattle.setl_model.specs.Means.{Reaches, HasPrint, HasRead}
-use Rattle.setl_code.specs.Code.{Instr, StoreIn, PrintTop, ReadOne, Code}
+use Rattle.setl_code.specs.Code.{Instr, StoreIn, Code}
 use Rattle.setl_code.specs.CodeCore.{There, Cells, held_in, Operand, Pops, popped, CodeCore}
 use Rattle.setl_code.specs.CodeCore.{Activation as CodeActivation}
 use Rattle.setl_code.specs.CodeOf.{code_of}
@@ -51,14 +51,14 @@ SameActivations c [] [] = Unit {0}
 SameActivations c (a ∷ more) (b ∷ bs) = SameActivation c a b × SameActivations c more bs
 SameActivations c more bs = ⊥
 
--- The world is the same, and so is each value: of the variables that all bodies see and, activation by activation, of
--- the parameters and own names.
+-- The world is the same, the same body is in hand, and each value is the same: of the variables that all bodies see and,
+-- activation by activation, of the parameters and own names, those of formers too.
 pub record SameCore (c : Code) (k : CodeCore) (m : Core) : Type 0 where
   pub world : k.world ≡ m.shared.world
   pub globals : Alike k.globals m.shared.globals
   pub activations : SameActivations c (k.now ∷ k.callers) (bodies_at_work m.shared.own m.work)
 
--- and so is what was written and told
+-- and the same was written and told
 abbrev pub SameState : Code → State CodeCore → State Core → Type 0
 SameState c s t = Shares (SameCore c) s t
 

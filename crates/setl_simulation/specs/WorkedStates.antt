@@ -2,21 +2,20 @@
 use Rattle.std.specs.Prelude.{◌≡◌, ℕ, true, false, Bool, List, [], ◌∷◌, codes, cond, Option, Some, None, refl}
 use Rattle.setl_value.specs.Datum.{Datum, text}
 use Rattle.setl_tree.specs.declared.tree.Passing.TheVariants.{Rd}
-use Rattle.setl_text.specs.Texts.{print_line}
-use Rattle.setl_run.specs.Variable.{Variable, Own, is_variable, Environment, value_in}
+use Rattle.setl_run.specs.Variable.{Variable, Own, is_variable, value_in}
 use Rattle.setl_run.specs.Events.{Done}
 use Rattle.setl_run.specs.Run.{State, Goes, run}
 use Rattle.setl_program.specs.Program.{Name, Call, more_exprs, no_expr, rd_argument, no_argument, Perform, Print, Read, Stop, more_stmts, no_stmt, Program}
 use Rattle.setl_model.specs.Core.{Core}
 use Rattle.setl_model.specs.Step.{language, test_of}
 use Rattle.setl_model.specs.Means.{Means, first}
-use Rattle.setl_code.specs.Code.{Code, ReadOne, PrintTop, StoreIn}
-use Rattle.setl_code.specs.CodeCore.{There, Cells, held_in, CodeCore}
+use Rattle.setl_code.specs.Code.{PrintTop}
+use Rattle.setl_code.specs.CodeCore.{There, held_in, CodeCore}
 use Rattle.setl_code.specs.CodeCore.{Activation as CodeActivation}
 use Rattle.setl_code.specs.CodeOf.{code_of}
-use Rattle.setl_code.specs.Machine.{machine, fetch}
+use Rattle.setl_code.specs.Machine.{machine}
 use Rattle.setl_code.specs.CodeMeans.{CodeMeans, code_first}
-use Rattle.setl_simulation.specs.States.{Alike, BodyAtWork, SameState, bodies_at_work, IsBody, SameActivations, CodeReaches, IsNext, ReadsAlike, IsPrintOf, with_arguments, PrintsAlike}
+use Rattle.setl_simulation.specs.States.{Alike, BodyAtWork, SameState, bodies_at_work, IsBody, SameActivations, IsNext, ReadsAlike, with_arguments, PrintsAlike}
 
 -- program q; read(y); p(y); proc p(a); print(a); stop; end proc; end program;
 -- with `read` in line 1, the call in line 2, `print` in line 4 and `stop` in line 5
@@ -80,7 +79,7 @@ meaning_at_print = (_, refl, refl)
 abbrev code_at_print : (s : State CodeCore) × CodeAfter 5 s × IsNext (code_of program) s.core 4 (PrintTop 1) × (s.core.now.body ≡ 1) × (s.core.now.own ≡ (a, There letter) ∷ [])
 code_at_print = (_, refl, refl, refl, refl)
 
--- cells and an environment with one variable
+-- a cell that was stored, and an environment with the variable
 abbrev one_cell : (x z : Variable) (v : Option Datum) → held_in ((x, There v) ∷ []) z ≡ There (value_in ((x, v) ∷ []) z)
 one_cell x z v = go (is_variable x z)
   where
@@ -131,14 +130,22 @@ ending = record {
 nothing_left : (code_ends.last.core.world.input ≡ []) × (code_ends.last.core.world.left ≡ 0)
 nothing_left = (refl, refl)
 
+-- a cell that wasn't stored yet, and an environment without the variable
+abbrev no_value : (x z : Variable) → held_in ((x, There None) ∷ []) z ≡ There (value_in [] z)
+no_value x z = go (is_variable x z)
+  where
+    go : (b : Bool) → cond b (There None) (There None) ≡ There None
+    go true = refl
+    go false = refl
+
 -- at the `read`, before anything is done
-reading : (values : Alike ((y, There None) ∷ []) []) → ReadsAlike program input 1 true (code_first (code_of program) input 1) 1
-reading values = record {
+reading : ReadsAlike program input 1 true (code_first (code_of program) input 1) 1
+reading = record {
   there = record {
     state = first program input 1;
     reached = (0, refl);
     same = record {
-      core = record { world = refl; globals = λ z. refl; activations = (record { body = tt; values = values }, tt) };
+      core = record { world = refl; globals = λ z. refl; activations = (record { body = tt; values = λ z. no_value y z }, tt) };
       out = refl;
       events = refl;
     };
