@@ -5,6 +5,16 @@ use Rattle.setl_run.specs.RunLaws.{runs_join}
 use Rattle.setl_run.specs.Run.{Store, Move, State, Next, Goes, Ends, Machine, Test, if_fits, stored, store_all, settle, step, and_then, run}
 use Rattle.setl_simulation.specs.Follow.{Related, moves, halts, quiet, Answers, by_step, after_step, by_none, Follows, Shows, Shares, Same}
 
+-- a run ends in one way
+pub ends_alike : {C : Type 0} (n : Machine C) (test : Test) (k i : ℕ) (a l l' : State C) (e e' : End) → run n test k a ≡ Ends e l → run n test i a ≡ Ends e' l' → Ends e l ≡ Ends e' l'
+ends_alike n test zero i a l l' e e' h g = cc
+ends_alike n test (suc k) zero a l l' e e' h g = cc
+ends_alike {C = C} n test (suc k) (suc i) a l l' e e' h g = go (step n test a) h g (λ b. ends_alike n test k i b l l' e e')
+  where
+    go : (x : Next C) → and_then x (run n test k) ≡ Ends e l → and_then x (run n test i) ≡ Ends e' l' → ((b : State C) → run n test k b ≡ Ends e l → run n test i b ≡ Ends e' l' → Ends e l ≡ Ends e' l') → Ends e l ≡ Ends e' l'
+    go (Goes b) h g ih = ih b h g
+    go (Ends f b) h g ih = sym h ∙ g
+
 -- A move that the second makes alike, or that is quiet.
 pub data MadeAlike {K C : Type 0} (R : K → C → Type 0) (x : Move K) (y : Move C) : Type 0 where
   alike : Related R x y → MadeAlike R x y
@@ -95,15 +105,6 @@ module _ (K C : Type 0) (m : Machine K) (n : Machine C) (R : K → C → Type 0)
       go (Goes b) h g ih = let r = ih b h g in (r.0, omega (arith, r.1), r.2)
       go (Ends f b) h g ih = cc
 
-  ends_alike : (k i : ℕ) (a l l' : State C) (e e' : End) → run n test k a ≡ Ends e l → run n test i a ≡ Ends e' l' → Ends e l ≡ Ends e' l'
-  ends_alike zero i a l l' e e' h g = cc
-  ends_alike (suc k) zero a l l' e e' h g = cc
-  ends_alike (suc k) (suc i) a l l' e e' h g = go (step n test a) h g (λ b. ends_alike k i b l l' e e')
-    where
-      go : (x : Next C) → and_then x (run n test k) ≡ Ends e l → and_then x (run n test i) ≡ Ends e' l' → ((b : State C) → run n test k b ≡ Ends e l → run n test i b ≡ Ends e' l' → Ends e l ≡ Ends e' l') → Ends e l ≡ Ends e' l'
-      go (Goes b) h g ih = ih b h g
-      go (Ends f b) h g ih = sym h ∙ g
-
   module _ (e : End) (l : State C) where
     within : (b : ℕ) → ((s : State K) (t : State C) (i : ℕ) → i ≤ b → Shares R s t → run n test i t ≡ Ends e l → EndsWith e l s) → (r : ℕ) (s : State K) (t : State C) (i : ℕ) → i ≤ suc b → (h : Shares R s t) → rank s.core t.core h.core < r → run n test i t ≡ Ends e l → EndsWith e l s
     within b fewer zero s t i le h lt g = let no : ⊥ = omega arith in absurd no
@@ -115,7 +116,7 @@ module _ (K C : Type 0) (m : Machine K) (n : Machine C) (R : K → C → Type 0)
             let c = goes_then_ends (suc k) i t v l e hy g in
             one_more e l s u hx (fewer u v c.0 (let q = c.1 in omega (arith, q)) same c.2)
         ended (Ends f u) k (Ends f' v) hx hy same =
-            let a = ends_alike (suc k) i t v l f' e hy g in
+            let a = ends_alike n test (suc k) i t v l f' e hy g in
             let e1 : f' ≡ e = cc in
             let e2 : v ≡ l = cc in
             (1, u, ap (λ y. and_then y (run m test 0)) hx ∙ ap (λ z. Ends z u) (same.0 ∙ e1), subst (λ z. Shares Seen u z) e2 same.1)

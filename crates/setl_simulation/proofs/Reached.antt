@@ -1,9 +1,9 @@
 -- The last states of the code and of the meaning, and the states that they reach, are the same.
-use Rattle.std.proofs.Common.{◌≡◌, ℕ, zero, suc, Bool, List, [], ◌∷◌, Option, refl, subst}
+use Rattle.std.proofs.Common.{◌≡◌, ℕ, suc, Bool, List, [], ◌∷◌, Option, refl, subst}
 use Rattle.setl_value.specs.Datum.{Datum}
 use Rattle.setl_text.specs.Texts.{print_line}
-use Rattle.setl_run.specs.Events.{Event, End, Printed}
-use Rattle.setl_run.specs.Run.{Store, State, Next, Goes, Ends, Machine, Test, Move, Moves, step, and_then, run}
+use Rattle.setl_run.specs.Events.{Event, Printed}
+use Rattle.setl_run.specs.Run.{Store, State, Move, Moves}
 use Rattle.setl_program.specs.Program.{Program}
 use Rattle.setl_program.specs.Formed.{Formed}
 use Rattle.setl_model.specs.Core.{Shared, Hand, Frame, Snapshot, Core}
@@ -18,24 +18,15 @@ use Rattle.setl_simulation.specs.States.{SameState, CodeReaches, ReachedAlike, I
 use Rattle.setl_simulation.specs.Matches.{Matches, InHand, IsReadFor}
 use Rattle.setl_simulation.specs.Claims.{CodeEndsInTheSameState, CodeReachesTheSameStates, CodeReadsWhereMeant, CodePrintsWhereMeant}
 use Rattle.setl_simulation.proofs.Parts.{core}
-use Rattle.setl_simulation.proofs.Follow.{MadeAlike, alike, alone}
+use Rattle.setl_simulation.proofs.Follow.{ends_alike, MadeAlike, alike, alone}
 use Rattle.setl_simulation.proofs.Meaning.{meant_end, met}
-
--- a run ends in one state
-one_end : {C : Type 0} (n : Machine C) (test : Test) (k i : ℕ) (a l l' : State C) (e e' : End) → run n test k a ≡ Ends e l → run n test i a ≡ Ends e' l' → l ≡ l'
-one_end {C = C} n test zero i a l l' e e' h g = cc
-one_end {C = C} n test (suc k) zero a l l' e e' h g = cc
-one_end {C = C} n test (suc k) (suc i) a l l' e e' h g = go (step n test a) h g (λ b. one_end n test k i b l l' e e')
-  where
-    go : (x : Next C) → and_then x (run n test k) ≡ Ends e l → and_then x (run n test i) ≡ Ends e' l' → ((b : State C) → run n test k b ≡ Ends e l → run n test i b ≡ Ends e' l' → l ≡ l') → l ≡ l'
-    go (Goes b) h g ih = ih b h g
-    go (Ends f b) h g ih = cc
 
 pub ends_in_the_same_state : CodeEndsInTheSameState
 ends_in_the_same_state p formed input turns based out code_out end code_end meant done =
     let r = meant_end p formed input turns based code_end done.last done.steps done.ends in
-    let one = one_end (language p) (test_of p.modes based) r.0 meant.steps (first p input turns) r.1 meant.last code_end end r.2 meant.ends in
-    subst (λ l. SameState (code_of p) done.last l) one r.3
+    let one = ends_alike (language p) (test_of p.modes based) r.0 meant.steps (first p input turns) r.1 meant.last code_end end r.2 meant.ends in
+    let same : r.1 ≡ meant.last = cc in
+    subst (λ l. SameState (code_of p) done.last l) same r.3
 
 -- ---- prints
 
