@@ -4,7 +4,7 @@ use Rattle.std.specs.Prelude.{cond}
 use Rattle.setl_run.specs.Variable.{Variable, is_variable, Environment, value_in, with_value}
 use Rattle.setl_run.specs.VariableLaws.{same_variable, value_stored, value_elsewhere}
 use Rattle.setl_value.specs.Datum.{Datum}
-use Rattle.setl_simulation.specs.Matches.{Alike}
+use Rattle.setl_simulation.specs.States.{Alike}
 use Rattle.setl_code.specs.CodeCore.{There, Held, Cells, held_in, with_held}
 
 pub written : (g : Cells) (x : Variable) (h : Held) (y : Variable) → held_in (with_held g x h) y ≡ cond (is_variable x y) h (held_in g y)
