@@ -57,7 +57,13 @@ pub fn push_instr(into: &mut Vec<u8>, code: &Code, body: &Body, what: &Instr) ->
 }
 
 // Adds a word and behind it the name of a slot of a body, which has any number.
-fn push_access(into: &mut Vec<u8>, word: &str, code: &Code, body: &Body, slot: Slot) -> Result<(), Memory>
+fn push_access(
+    into: &mut Vec<u8>,
+    word: &str,
+    code: &Code,
+    body: &Body,
+    slot: Slot,
+) -> Result<(), Memory>
     ensures { (n : ℕ) → OnOk result (into.new.items ≡ into.old.items ++ (word.now ++ variable_text (plain_slot (variables_of code.now n body.now) slot))) }
 {
     push_word(into, word)?;
@@ -76,7 +82,14 @@ fn push_operate(into: &mut Vec<u8>, o: Operator, n: u32) -> Result<(), Memory>
 }
 
 // Adds an update of a slot of a body, which has any number.
-fn push_alter(into: &mut Vec<u8>, code: &Code, body: &Body, a: Alteration, slot: Slot, brackets: &[Bracket]) -> Result<(), Memory>
+fn push_alter(
+    into: &mut Vec<u8>,
+    code: &Code,
+    body: &Body,
+    a: Alteration,
+    slot: Slot,
+    brackets: &[Bracket],
+) -> Result<(), Memory>
     ensures { (n : ℕ) → OnOk result (into.new.items ≡ into.old.items ++ (alteration_word (plain_alteration a) ++ 32 ∷ variable_text (plain_slot (variables_of code.now n body.now) slot) ++ brackets_text (map plain_bracket brackets.now))) }
 {
     push_word(into, alteration_word(a))?;

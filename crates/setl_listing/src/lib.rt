@@ -68,7 +68,13 @@ fn push_steps(into: &mut Vec<u8>, code: &Code, body: &Body) -> Result<(), Memory
 }
 
 // Adds the line of a step.
-fn push_step(into: &mut Vec<u8>, code: &Code, body: &Body, at: usize, step: &Step) -> Result<(), Memory>
+fn push_step(
+    into: &mut Vec<u8>,
+    code: &Code,
+    body: &Body,
+    at: usize,
+    step: &Step,
+) -> Result<(), Memory>
     ensures { (n : ℕ) → OnOk result (into.new.items ≡ into.old.items ++ (decimal at ++ 32 ∷ instr_text (bodies_of code.now) (plain_instr (variables_of code.now n body.now) step.now.what) ++ 10 ∷ [])) }
 {
     push_decimal(into, at as u64)?;
