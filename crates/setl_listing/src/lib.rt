@@ -3,6 +3,8 @@
 
 mod instructions;
 mod names;
+#[cfg(test)]
+mod tests;
 mod texts;
 mod words;
 
