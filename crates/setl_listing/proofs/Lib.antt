@@ -1,1 +1,1 @@
-mod Variables
+pub mod Variables
