@@ -1,6 +1,6 @@
 //! Instructions.
 
-ghost use Rattle.std.specs.Prelude.{◌≡◌, ◌++◌, ◌∷◌, ℕ, codes, map, OnOk};
+ghost use Rattle.std.specs.Prelude.{◌≡◌, ◌++◌, ◌∷◌, codes, map, OnOk};
 ghost use Rattle.setl_code.specs.Listing.{alteration_word, brackets_text, instr_text, name_at, operate_text, variable_text};
 ghost use Rattle.setl_code.specs.Plain.{plain_alteration, plain_bracket, plain_instr, plain_slot};
 ghost use Rattle.setl_listing.specs.Parts.{bodies_of, variables_of};
@@ -13,9 +13,9 @@ use setl_map::Operator;
 use setl_program::Collection;
 use setl_value::Memory;
 
-/// Adds an instruction of a body, which has any number.
+/// Adds an instruction of a body.
 pub fn push_instr(into: &mut Vec<u8>, code: &Code, body: &Body, what: &Instr) -> Result<(), Memory>
-    ensures { (n : ℕ) → OnOk result (into.new.items ≡ into.old.items ++ instr_text (bodies_of code.now) (plain_instr (variables_of code.now n body.now) what.now)) }
+    ensures { OnOk result (into.new.items ≡ into.old.items ++ instr_text (bodies_of code.now) (plain_instr (variables_of code.now body.now) what.now)) }
 {
     match what {
         Instr::Integer(n) => push_integer(into, *n),
@@ -56,7 +56,7 @@ pub fn push_instr(into: &mut Vec<u8>, code: &Code, body: &Body, what: &Instr) ->
     }
 }
 
-// Adds a word and behind it the name of a slot of a body, which has any number.
+// Adds a word and behind it the name of a slot of a body.
 fn push_access(
     into: &mut Vec<u8>,
     word: &str,
@@ -64,7 +64,7 @@ fn push_access(
     body: &Body,
     slot: Slot,
 ) -> Result<(), Memory>
-    ensures { (n : ℕ) → OnOk result (into.new.items ≡ into.old.items ++ (word.now ++ variable_text (plain_slot (variables_of code.now n body.now) slot))) }
+    ensures { OnOk result (into.new.items ≡ into.old.items ++ (word.now ++ variable_text (plain_slot (variables_of code.now body.now) slot))) }
 {
     push_word(into, word)?;
     push_variable(into, code, body, slot)
@@ -81,7 +81,7 @@ fn push_operate(into: &mut Vec<u8>, o: Operator, n: u32) -> Result<(), Memory>
     }
 }
 
-// Adds an update of a slot of a body, which has any number.
+// Adds an update of a slot of a body.
 fn push_alter(
     into: &mut Vec<u8>,
     code: &Code,
@@ -90,7 +90,7 @@ fn push_alter(
     slot: Slot,
     brackets: &[Bracket],
 ) -> Result<(), Memory>
-    ensures { (n : ℕ) → OnOk result (into.new.items ≡ into.old.items ++ (alteration_word (plain_alteration a) ++ 32 ∷ variable_text (plain_slot (variables_of code.now n body.now) slot) ++ brackets_text (map plain_bracket brackets.now))) }
+    ensures { OnOk result (into.new.items ≡ into.old.items ++ (alteration_word (plain_alteration a) ++ 32 ∷ variable_text (plain_slot (variables_of code.now body.now) slot) ++ brackets_text (map plain_bracket brackets.now))) }
 {
     push_word(into, alteration_word(a))?;
     into.push(b' ')?;

@@ -8,12 +8,10 @@ mod tests;
 mod texts;
 mod words;
 
-ghost use Rattle.std.specs.Prelude.{◌≡◌, ◌++◌, ◌∷◌, ℕ, [], codes, decimal, map, IfOk, OnOk};
-ghost use Rattle.setl_run.specs.Variable.{Global};
-ghost use Rattle.setl_code.specs.Listing as spec;
+ghost use Rattle.std.specs.Prelude.{◌≡◌, ◌++◌, ◌∷◌, [], codes, decimal, IfOk, OnOk};
 ghost use Rattle.setl_code.specs.Listing.{body_text, instr_text, listing, steps_text};
-ghost use Rattle.setl_code.specs.Plain.{plain_body, plain_code, plain_instr};
-ghost use Rattle.setl_listing.specs.Parts.{bodies_of, variables_of};
+ghost use Rattle.setl_code.specs.Plain.{plain_code, plain_instr};
+ghost use Rattle.setl_listing.specs.Parts.{bodies_of, body_of, variables_of};
 
 use crate::instructions::push_instr;
 use crate::texts::{push_decimal, push_word};
@@ -48,9 +46,9 @@ fn push_bodies(into: &mut Vec<u8>, code: &Code) -> Result<(), Memory>
     Ok(())
 }
 
-// Adds the body of a procedure, which has any number.
+// Adds the body of a procedure.
 fn push_procedure(into: &mut Vec<u8>, code: &Code, body: &Body) -> Result<(), Memory>
-    ensures { (n : ℕ) → OnOk result (into.new.items ≡ into.old.items ++ body_text (bodies_of code.now) (codes "proc " ++ body.now.name ++ 58 ∷ []) (plain_body (map Global code.now.vars) n body.now)) }
+    ensures { OnOk result (into.new.items ≡ into.old.items ++ body_text (bodies_of code.now) (codes "proc " ++ body.now.name ++ 58 ∷ []) (body_of code.now body.now)) }
 {
     push_word(into, "proc ")?;
     into.extend_from_slice(body.name.bytes())?;
@@ -58,9 +56,9 @@ fn push_procedure(into: &mut Vec<u8>, code: &Code, body: &Body) -> Result<(), Me
     push_steps(into, code, body)
 }
 
-// Adds the steps of a body, which has any number.
+// Adds the steps of a body.
 fn push_steps(into: &mut Vec<u8>, code: &Code, body: &Body) -> Result<(), Memory>
-    ensures { (n : ℕ) → OnOk result (into.new.items ≡ into.old.items ++ steps_text (bodies_of code.now) 0 (plain_body (map Global code.now.vars) n body.now).steps) }
+    ensures { OnOk result (into.new.items ≡ into.old.items ++ steps_text (bodies_of code.now) 0 (body_of code.now body.now).steps) }
 {
     let steps = body.steps.as_slice();
     for at in 0..steps.len() {
@@ -77,7 +75,7 @@ fn push_step(
     at: usize,
     step: &Step,
 ) -> Result<(), Memory>
-    ensures { (n : ℕ) → OnOk result (into.new.items ≡ into.old.items ++ (decimal at ++ 32 ∷ instr_text (bodies_of code.now) (plain_instr (variables_of code.now n body.now) step.now.what) ++ 10 ∷ [])) }
+    ensures { OnOk result (into.new.items ≡ into.old.items ++ (decimal at ++ 32 ∷ instr_text (bodies_of code.now) (plain_instr (variables_of code.now body.now) step.now.what) ++ 10 ∷ [])) }
 {
     push_decimal(into, at as u64)?;
     into.push(b' ')?;

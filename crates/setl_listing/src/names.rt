@@ -1,6 +1,6 @@
 //! The names of variables and of bodies.
 
-ghost use Rattle.std.specs.Prelude.{◌≡◌, ◌++◌, ℕ, map, OnOk};
+ghost use Rattle.std.specs.Prelude.{◌≡◌, ◌++◌, map, OnOk};
 ghost use Rattle.setl_run.specs.Variable.{Global};
 ghost use Rattle.setl_code.specs.Listing.{name_at, variable_text};
 ghost use Rattle.setl_code.specs.Plain.{own_variables, plain_name, plain_slot, variable_at};
@@ -11,9 +11,9 @@ use setl_code::{Body, Code, OwnName, Slot};
 use setl_tree::Text;
 use setl_value::Memory;
 
-/// Adds the name of a slot of a body, which has any number. A slot behind all names has none.
+/// Adds the name of a slot of a body. A slot behind all names has none.
 pub fn push_variable(into: &mut Vec<u8>, code: &Code, body: &Body, slot: Slot) -> Result<(), Memory>
-    ensures { (n : ℕ) → OnOk result (into.new.items ≡ into.old.items ++ variable_text (plain_slot (variables_of code.now n body.now) slot)) }
+    ensures { OnOk result (into.new.items ≡ into.old.items ++ variable_text (plain_slot (variables_of code.now body.now) slot)) }
 {
     match slot {
         Slot::Global(k) => push_global(into, code.vars.as_slice(), k as usize),
@@ -34,7 +34,7 @@ fn push_global(into: &mut Vec<u8>, vars: &[Text], k: usize) -> Result<(), Memory
 
 // Adds the name of a variable of a body.
 fn push_own(into: &mut Vec<u8>, body: &Body, k: usize) -> Result<(), Memory>
-    ensures { (n : ℕ) → OnOk result (into.new.items ≡ into.old.items ++ variable_text (variable_at (own_variables n body.now.parameters body.now.names) k)) }
+    ensures { OnOk result (into.new.items ≡ into.old.items ++ variable_text (variable_at (own_variables 0 body.now.parameters body.now.names) k)) }
 {
     let parameters = body.parameters.as_slice();
     if k < parameters.len() {
@@ -46,7 +46,7 @@ fn push_own(into: &mut Vec<u8>, body: &Body, k: usize) -> Result<(), Memory>
 
 // Adds the name at a place.
 fn push_name_at(into: &mut Vec<u8>, names: &[OwnName], k: usize) -> Result<(), Memory>
-    ensures { (n : ℕ) → OnOk result (into.new.items ≡ into.old.items ++ variable_text (variable_at (map (plain_name n) names.now) k)) }
+    ensures { OnOk result (into.new.items ≡ into.old.items ++ variable_text (variable_at (map (plain_name 0) names.now) k)) }
 {
     if k < names.len() {
         push_name(into, &names[k])
@@ -57,7 +57,7 @@ fn push_name_at(into: &mut Vec<u8>, names: &[OwnName], k: usize) -> Result<(), M
 
 // Adds a name; that of a former's variable has the number of the former behind it.
 fn push_name(into: &mut Vec<u8>, name: &OwnName) -> Result<(), Memory>
-    ensures { (n : ℕ) → OnOk result (into.new.items ≡ into.old.items ++ variable_text (plain_name n name.now)) }
+    ensures { OnOk result (into.new.items ≡ into.old.items ++ variable_text (plain_name 0 name.now)) }
 {
     match name {
         OwnName::Body(x) => into.extend_from_slice(x.bytes()),
