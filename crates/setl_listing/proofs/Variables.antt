@@ -1,5 +1,5 @@
 -- Variables and bodies by their places, and that no text tells the number of a body.
-use Rattle.std.proofs.Common.{◌≡◌, ◌∙◌, ℕ, zero, suc, ◌-◌, ◌<◌, ◌≤◌, List, [], ◌∷◌, ◌++◌, length, map, slice_get, Some, refl, ap, arith, codes}
+use Rattle.std.proofs.Common.{◌≡◌, ◌∙◌, ℕ, zero, suc, ◌-◌, ◌≤◌, List, [], ◌∷◌, ◌++◌, length, map, slice_get, Some, refl, ap, arith, codes}
 use Rattle.setl_tree.specs.declared.tree.Param.{Param}
 use Rattle.setl_run.specs.Variable.{Variable, Global}
 use Rattle.setl_code.specs.declared.code.Slot.{Slot}

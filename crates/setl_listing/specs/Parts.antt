@@ -1,5 +1,5 @@
 -- The parts of code as plain data.
-use Rattle.std.specs.Prelude.{ℕ, List, map}
+use Rattle.std.specs.Prelude.{List, map}
 use Rattle.setl_run.specs.Variable.{Global}
 use Rattle.setl_code.specs.declared.code.Body.{Body}
 use Rattle.setl_code.specs.declared.code.Code.{Code}

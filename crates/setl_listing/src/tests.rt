@@ -58,8 +58,16 @@ fn procedure_steps(alloc: Global) -> Result<Items<Step>, Memory> {
         Instr::Load(Slot::Own(3)),
         Instr::Operate(Operator::FoldAdd, 1),
         Instr::Operate(Operator::SetOf, 0),
-        Instr::Alter(Alteration::TakeOut(Taking::TakeFirst), Slot::Own(0), Items::from_vec(brackets)),
-        Instr::Alter(Alteration::Combine(Operator::With), Slot::Own(0), Items::new(alloc)),
+        Instr::Alter(
+            Alteration::TakeOut(Taking::TakeFirst),
+            Slot::Own(0),
+            Items::from_vec(brackets)
+        ),
+        Instr::Alter(
+            Alteration::Combine(Operator::With),
+            Slot::Own(0),
+            Items::new(alloc)
+        ),
         Instr::Decide(Connective::Implies, 12),
         Instr::Begin(Begin::Members(Source::SetSteps), 3),
         Instr::Next(16),
@@ -89,7 +97,8 @@ fn two_bodies(alloc: Global) -> Result<Code, Memory> {
 fn lists_two_bodies(rt: HostRuntime) -> Result<(), Fail> {
     let code = two_bodies(rt.alloc())?;
     let text = listing(rt.alloc(), &code)?;
-    let want = "main:\n0 call p\n1 drop\n2 stop\nproc p:\n0 str 'it''s'\n1 int -7\n2 load f\n3 take x\n4 store y.2\n5 load g\n6 load \n7 fold +\n8 set 0\n9 fromb f {} ()\n10 with f\n11 impl 12\n12 begin set step\n13 next 16\n14 newtuple\n15 false\n16 return\n";
+    let want =
+        "main:\n0 call p\n1 drop\n2 stop\nproc p:\n0 str 'it''s'\n1 int -7\n2 load f\n3 take x\n4 store y.2\n5 load g\n6 load \n7 fold +\n8 set 0\n9 fromb f {} ()\n10 with f\n11 impl 12\n12 begin set step\n13 next 16\n14 newtuple\n15 false\n16 return\n";
     assert_eq!(rt; text.as_slice(), want.as_bytes());
     Ok(())
 }
