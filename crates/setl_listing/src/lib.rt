@@ -1,10 +1,9 @@
-//! The text of code.
+//! The text of code: `listing` writes what the definition `listing` of setl_code says of the plain code that the code
+//! stands for.
 #![tactic(auto)]
 
 mod instructions;
 mod names;
-#[cfg(test)]
-mod tests;
 mod texts;
 mod words;
 

@@ -1,7 +1,7 @@
 //! Codes made by hand, and their listings.
 
-use crate::listing;
 use setl_code::{Alteration, Begin, Body, Bracket, Code, Instr, OwnName, Slot, Step};
+use setl_listing::listing;
 use setl_map::Operator;
 use setl_program::{Collection, Connective, Source, Taking};
 use setl_tree::{Items, Param, Passing, Text};
