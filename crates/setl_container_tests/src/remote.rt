@@ -70,33 +70,40 @@ const PUTS: [(u64, bool, bool); 4] = [
 fn puts_of_bits_answer_their_row(rt: HostRuntime) -> Result<(), Fail> {
     let mut bits = both(rt.alloc(), 0, 200)?;
     for (number, on, fits) in PUTS {
-        assert_eq!(rt; bits.put(number, on).is_ok(), fits, "at {number}");
+        assert_eq!(rt; bits.put(number, on).is_ok(), fits);
     }
     assert_eq!(rt; read(&bits), (true, false, 2));
     Ok(())
 }
 
-// A put of a content: the number, the content, the old one, or None where there is no memory, and the length then.
-const CONTENTS: [(u64, Option<u64>, Option<Option<u64>>, u64); 7] = [
-    (3, Some(5), Some(None), 3),
-    (3, Some(6), Some(Some(5)), 3),
-    (1, Some(2), Some(None), 3),
-    (3, None, Some(Some(6)), 3),
-    (u64::MAX, None, Some(None), 3),
-    (u64::MAX, Some(1), None, 3),
-    (1 << 60, Some(1), None, 3),
+// A put of a content: the number, the content, and the old one, or None where there is no memory.
+const CONTENTS: [(u64, Option<u64>, Option<Option<u64>>); 7] = [
+    (3, Some(5), Some(None)),
+    (3, Some(6), Some(Some(5))),
+    (1, Some(2), Some(None)),
+    (3, None, Some(Some(6))),
+    (u64::MAX, None, Some(None)),
+    (u64::MAX, Some(1), None),
+    (1 << 60, Some(1), None),
 ];
+
+fn put(slots: &mut Slots<u64>, number: u64, content: Option<u64>) -> Option<Option<u64>> {
+    slots.put(number, content).ok()
+}
+
+// Of the contents only that of 1 is left, and the length is 3.
+fn expect(rt: &impl Abort, slots: &Slots<u64>) {
+    assert_eq!(rt; slots.len(), 3);
+    assert_eq!(rt; slots.get(1).copied(), Some(2));
+    assert_eq!(rt; slots.get(3).copied(), None);
+}
 
 #[test]
 fn puts_of_contents_answer_their_row(rt: HostRuntime) -> Result<(), Fail> {
     let mut slots = Slots::new(rt.alloc())?;
-    for (number, content, want, len) in CONTENTS {
-        assert_eq!(rt; slots.put(number, content).ok(), want, "at {number}");
-        assert_eq!(rt; slots.len(), len, "at {number}");
+    for (number, content, want) in CONTENTS {
+        assert_eq!(rt; put(&mut slots, number, content), want);
     }
-    assert_eq!(rt;
-        (slots.get(1).copied(), slots.get(3).copied()),
-        (Some(2), None)
-    );
+    expect(&rt, &slots);
     Ok(())
 }

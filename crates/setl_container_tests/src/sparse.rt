@@ -6,22 +6,31 @@ use std::alloc::Global;
 use std::process::Abort;
 use std::test::Fail;
 
-fn filled(alloc: Global) -> Result<SparseSet, Memory> {
+// The set of two numbers.
+fn both(alloc: Global, number: u64, other: u64) -> Result<SparseSet, Memory> {
     let mut set = SparseSet::new(alloc)?;
-    for number in [3, 1, 3, u64::MAX, 2] {
-        set.put(number)?;
-    }
+    set.put(number)?;
+    set.put(other)?;
     Ok(set)
+}
+
+fn expect_set(
+    rt: &impl Abort,
+    alloc: Global,
+    set: &SparseSet,
+    numbers: &[u64],
+) -> Result<(), Memory> {
+    assert_eq!(rt; set.numbers(alloc)?.as_slice(), numbers);
+    Ok(())
 }
 
 #[test]
 fn a_set_gives_its_numbers_rising(rt: HostRuntime) -> Result<(), Fail> {
-    let mut set = filled(rt.alloc())?;
-    set.cut(3)?;
-    set.cut(4)?;
-    let numbers = set.numbers(rt.alloc())?;
-    assert_eq!(rt; numbers.as_slice(), [1, 2, u64::MAX].as_slice());
-    assert_eq!(rt; (set.test(1), set.test(3)), (true, false));
+    let mut set = both(rt.alloc(), u64::MAX, 1)?;
+    expect_set(&rt, rt.alloc(), &set, &[1, u64::MAX])?;
+    set.cut(u64::MAX)?;
+    expect_set(&rt, rt.alloc(), &set, &[1])?;
+    assert!(rt; set.test(1));
     Ok(())
 }
 
@@ -35,16 +44,30 @@ const PUTS: [(u64, Option<u64>, Option<u64>); 6] = [
     (4, None, None),
 ];
 
+fn put(
+    rt: &impl Abort,
+    map: &mut SparseMap<u64>,
+    (number, content, want): (u64, Option<u64>, Option<u64>),
+) -> Result<(), Memory> {
+    assert_eq!(rt; map.put(number, content)?, want);
+    Ok(())
+}
+
+// Only 2 and the greatest number have a content.
+fn expect_map(rt: &impl Abort, alloc: Global, map: &SparseMap<u64>) -> Result<(), Memory> {
+    assert_eq!(rt; map.numbers(alloc)?.as_slice(), [2, u64::MAX].as_slice());
+    assert_eq!(rt; (map.test(2), map.test(4)), (true, false));
+    assert_eq!(rt; map.get(2).copied(), Some(3));
+    Ok(())
+}
+
 #[test]
 fn puts_of_contents_answer_their_row(rt: HostRuntime) -> Result<(), Fail> {
     let mut map = SparseMap::new(rt.alloc())?;
-    for (number, content, want) in PUTS {
-        assert_eq!(rt; map.put(number, content)?, want, "at {number}");
+    for row in PUTS {
+        put(&rt, &mut map, row)?;
     }
-    let numbers = map.numbers(rt.alloc())?;
-    assert_eq!(rt; numbers.as_slice(), [2, u64::MAX].as_slice());
-    assert_eq!(rt; (map.test(2), map.test(4)), (true, false));
-    assert_eq!(rt; map.get(2).copied(), Some(3));
+    expect_map(&rt, rt.alloc(), &map)?;
     Ok(())
 }
 

@@ -4,5 +4,5 @@ use Rattle.setl_container_tests.proofs.base.each_call_answers_its_row.Given as g
 abbrev pub invariant-loop-row : goal.invariant-loop-row
 invariant-loop-row g l = record {
   cuts : l.b.cuts ≤ l.row-index;
-  few : length l.row-items ≡ 11;
+  few : length l.row-items ≡ 16;
 }
