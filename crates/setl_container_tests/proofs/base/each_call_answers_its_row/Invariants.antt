@@ -1,5 +1,5 @@
 use Rattle.std.proofs.Common.{◌≡◌, ◌≤◌, length}
-use Rattle.setl_base.proofs.tests.each_call_answers_its_row.Given as goal
+use Rattle.setl_container_tests.proofs.base.each_call_answers_its_row.Given as goal
 
 abbrev pub invariant-loop-row : goal.invariant-loop-row
 invariant-loop-row g l = record {

@@ -1,20 +1,20 @@
-//! Each call on worked rows.
+//! Bases of element blocks.
 
-ghost use Rattle.std.specs.Prelude.{◌≡◌, ◌+◌, ◌≤◌, ◌<◌, ◌^◌, IfOk, length};
+ghost use Rattle.std.specs.Prelude.{◌≡◌, ◌+◌, ◌≤◌, ◌<◌, ◌^◌, length};
 
-use crate::{Base, BaseMark, Elt};
-use setl_value::{SetBody, Text, Value};
-use std::alloc::Global;
+use setl_base::{Base, BaseMark, Elt};
+use setl_value::Value;
 use std::process::Abort;
 use std::test::Fail;
 
-// A call and what it answers; a handle is its block's number and generation.
+// A call and what it answers; a handle is its block's number and generation, and that of `rank_next` its number alone.
 #[derive(Clone, Copy)]
 enum Row {
     Enter(i128, (u64, u64)),
     Find(i128, Option<(u64, u64)>),
     Elt(u64, Option<(u64, u64)>),
     Value((u64, u64), Option<i128>),
+    Next(Option<u64>, Option<u64>),
     Mark(u64),
     Back(u64),
     Undo(u64),
@@ -26,18 +26,18 @@ const ROWS: [Row; 16] = [
     Row::Mark(1),
     Row::Enter(30, (2, 0)),
     Row::Enter(10, (1, 0)),
-    Row::Mark(2),
     Row::Find(30, Some((2, 0))),
     Row::Back(1),
-    Row::Find(30, None),
-    Row::Elt(2, None),
     Row::Enter(40, (2, 1)),
     Row::Elt(2, Some((2, 1))),
     Row::Value((2, 0), None),
-    Row::Value((2, 1), Some(40)),
     Row::Undo(1),
     Row::Enter(50, (2, 1)),
-    Row::Find(10, Some((1, 0))),
+    Row::Enter(5, (3, 1)),
+    Row::Next(None, Some(3)),
+    Row::Next(Some(3), Some(1)),
+    Row::Next(Some(1), Some(2)),
+    Row::Next(Some(2), None),
 ];
 
 fn pair(e: Elt) -> (u64, u64) {
@@ -61,6 +61,14 @@ fn value(b: &Base, (block, generation): (u64, u64)) -> Option<i128> {
     }
 }
 
+fn next(b: &Base, after: Option<u64>) -> Option<u64> {
+    let after = match after {
+        Some(block) => b.elt(block),
+        None => None,
+    };
+    Some(b.rank_next(after)?.block)
+}
+
 // The mark of so many members.
 fn mark(rt: &impl Abort, b: &Base, count: u64) -> BaseMark
     ensures { result.count ≤ length b.now.members }
@@ -78,6 +86,7 @@ fn check(rt: &impl Abort, b: &mut Base, row: Row) -> Result<(), Fail>
         Row::Find(item, want) => assert_eq!(rt; find(b, item), want),
         Row::Elt(block, want) => assert_eq!(rt; b.elt(block).map(pair), want),
         Row::Value(e, want) => assert_eq!(rt; value(b, e), want),
+        Row::Next(after, want) => assert_eq!(rt; next(b, after), want),
         Row::Mark(want) => assert_eq!(rt; b.mark().count, want),
         Row::Back(count) => b.back(&mark(rt, b, count)),
         Row::Undo(count) => b.undo(&mark(rt, b, count)),
@@ -91,38 +100,5 @@ fn each_call_answers_its_row(rt: HostRuntime) -> Result<(), Fail> {
     for row in ROWS {
         check(&rt, &mut b, row)?;
     }
-    Ok(())
-}
-
-// The numbers of the blocks by `rank_next` from the first on.
-fn walk(rt: &impl Abort, b: &Base, blocks: &[u64]) {
-    let mut at = None;
-    for block in blocks {
-        at = b.rank_next(at);
-        assert_eq!(rt; at.map(|e| e.block), Some(*block));
-    }
-    assert_eq!(rt; b.rank_next(at), None);
-}
-
-// Values of several kinds, the greatest first.
-fn kinds(alloc: Global) -> Result<Base, Fail>
-    ensures { IfOk result (λ b. b.cuts ≡ 0) }
-{
-    let mut b = Base::new(alloc)?;
-    b.enter(Value::Set(SetBody::new(alloc)?))?;
-    b.enter(Value::Text(Text::of(alloc, b"a")?))?;
-    b.enter(Value::Int(-7))?;
-    b.enter(Value::Int(7))?;
-    b.enter(Value::Bool(true))?;
-    Ok(b)
-}
-
-#[test]
-fn members_are_walked_in_the_canonical_order(rt: HostRuntime) -> Result<(), Fail> {
-    let mut b = kinds(rt.alloc())?;
-    walk(&rt, &b, &[5, 3, 4, 2, 1]);
-    let mark = mark(&rt, &b, 3);
-    b.back(&mark);
-    walk(&rt, &b, &[3, 2, 1]);
     Ok(())
 }
