@@ -1,0 +1,53 @@
+//! The operands of a `begin`, taken apart.
+
+ghost use Rattle.std.specs.Prelude.{◌≡◌, ◌∷◌, [], List, Some, map, MatchResult};
+ghost use Rattle.setl_value.specs.Datum.{Datum};
+ghost use Rattle.setl_value.specs.DatumOf.{datum, part};
+ghost use Rattle.setl_map.specs.Outcome.{all_values};
+ghost use Rattle.setl_model.specs.Iterations.{Started, of_values, one_source, integers_between, integers_stepped};
+ghost use Rattle.setl_iterator.specs.Operands.{fault_of, Refused};
+
+use setl_map::OpFault;
+use setl_value::Value;
+
+/// The only operand. Om where one is `om`, Kind where there is another number of them.
+pub(crate) fn one(sources: &[Option<Value>]) -> Result<&Value, OpFault>
+    ensures { MatchResult result (λ v. map part sources.now ≡ Some (datum v.now) ∷ []) (λ e. (f : Datum → Started) → Refused e (of_values (one_source f) (all_values (map part sources.now)))) }
+{
+    match sources {
+        [a] => a.as_ref().ok_or(OpFault::Om),
+        _ => Err(unfit(sources)),
+    }
+}
+
+/// Both operands. Om where one is `om`, Kind where there is another number of them.
+pub(crate) fn two(sources: &[Option<Value>]) -> Result<(&Value, &Value), OpFault>
+    ensures { MatchResult result (λ vs. map part sources.now ≡ Some (datum vs.0.now) ∷ Some (datum vs.1.now) ∷ []) (λ e. Refused e (of_values integers_between (all_values (map part sources.now)))) }
+{
+    match sources {
+        [Some(a), Some(b)] => Ok((a, b)),
+        _ => Err(unfit(sources)),
+    }
+}
+
+/// The three operands. Om where one is `om`, Kind where there is another number of them.
+pub(crate) fn three(sources: &[Option<Value>]) -> Result<(&Value, &Value, &Value), OpFault>
+    ensures { MatchResult result (λ vs. map part sources.now ≡ Some (datum vs.0.now) ∷ Some (datum vs.1.now) ∷ Some (datum vs.2.now) ∷ []) (λ e. (order : List Datum → List Datum) → Refused e (of_values (integers_stepped order) (all_values (map part sources.now)))) }
+{
+    match sources {
+        [Some(a), Some(b), Some(c)] => Ok((a, b, c)),
+        _ => Err(unfit(sources)),
+    }
+}
+
+// What is wrong with operands that are not the values they should be: one is `om`, or there are too many or too few.
+fn unfit(sources: &[Option<Value>]) -> OpFault
+    ensures { result ≡ fault_of (all_values (map part sources.now)) }
+{
+    for source in sources {
+        if source.is_none() {
+            return OpFault::Om;
+        }
+    }
+    OpFault::Kind
+}
