@@ -1,14 +1,14 @@
 -- Integers that are one step apart, counted modulo 2^128, and in rising order.
-use Rattle.std.specs.Prelude.{◌≡◌, ◌==◌, ℕ, zero, suc, ◌+◌, ◌-◌, ◌*◌, ◌/◌, ◌%◌, ◌<◌, ◌≤◌, ℤ, pos, ◌+ℤ◌, ◌-ℤ◌, ◌<ℤ◌, ◌≤ℤ◌, Bool, true, false, List, [], ◌∷◌, int_le, int_lt, unsigned_abs, refl}
+use Rattle.std.specs.Prelude.{◌≡◌, ◌==◌, ℕ, zero, suc, ◌+◌, ◌-◌, ◌*◌, ◌/◌, ◌%◌, ◌<◌, ◌≤◌, ℤ, pos, negsuc, ◌+ℤ◌, ◌-ℤ◌, ◌<ℤ◌, ◌≤ℤ◌, Bool, true, false, List, [], ◌∷◌, int_le, int_lt, unsigned_abs, refl}
 use Rattle.std.specs.Bool.{if◌then◌else◌}
 use Rattle.std.specs.Cmp.{int_cmp_is}
-use Rattle.std.specs.Int.{int_wrap, w128}
+use Rattle.std.specs.Int.{int_wrap, saturate_signed, w128}
 use Rattle.std.specs.Int.RustNames.{FitsSigned}
 use Rattle.std.specs.Ordering.{int_cmp}
 use Rattle.std.specs.declared.cmp.Ordering.TheVariants.{Less, Equal, Greater}
 use Rattle.std.proofs.Common.{ap, sym, ◌∙◌, arith, subst}
 use Rattle.std.proofs.Math.Nat.{mul-suc, suc-mul, mul-div-le, div-add-mod, mul_comm}
-use Rattle.std.proofs.lemmas.Int.{ints, int_wrap_fits, int_wrap-add_right}
+use Rattle.std.proofs.lemmas.Int.{ints, by_lt_z, int_wrap_fits, int_wrap-add_right}
 use Rattle.setl_value.specs.Datum.{Datum, int}
 use Rattle.setl_set.specs.Sets.{insert_datum, insert_by, set_from}
 use Rattle.setl_map.specs.Ranges.{spread, range_size, range_from, is_past, step_size, step_from}
@@ -63,3 +63,100 @@ falling_set a by last d zero p b h = ap (λ x. int x ∷ []) (omega (arith, ints
 falling_set a by last d (suc k) p b h =
     let m = suc-mul k d in
     ap (insert_datum (int a)) (falling_set (a +ℤ by) by last d k p b (omega (arith, ints))) ∙ insert_last last a d (suc k) p h
+
+-- ---- what the calls count, where a call's numbers are a's, b's and c's
+
+unit_step : pos 1 ≡ int_wrap w128 (pos 1)
+unit_step = sym (int_wrap_fits w128 (pos 1) (omega (arith, ints)))
+
+between_is : (a b : ℤ) → FitsSigned w128 a → FitsSigned w128 b → int_lt b a ≡ false → counted a (pos 1) (suc (unsigned_abs (b -ℤ a))) ≡ range_from a b
+between_is a b f g h =
+    let l : a ≤ℤ b = grind (arith, ints) in
+    let t : int_le a b ≡ true = grind (arith, ints) in
+    rising a (pos 1) b (pos 1) (unsigned_abs (b -ℤ a)) f g unit_step (omega (arith, ints)) l (omega (arith, ints))
+    ∙ ap (spread a (pos 1)) {x = suc (unsigned_abs (b -ℤ a))} {y = unsigned_abs (b -ℤ a) + 1} (omega arith)
+    ∙ sym (ap (λ s. spread a (pos 1) (if s then unsigned_abs (b -ℤ a) + 1 else 0)) t)
+
+pub told_between : (x y a b : ℤ) (n : ℕ) → x ≡ a → y ≡ b → FitsSigned w128 a → FitsSigned w128 b → int_lt y x ≡ false → n ≡ unsigned_abs (y -ℤ x) → counted x (pos 1) (suc n) ≡ range_from a b
+told_between x y a b n p q f g h e =
+    ap (λ k. counted x (pos 1) (suc k)) e
+    ∙ between_is x y (subst (FitsSigned w128) (sym p) f) (subst (FitsSigned w128) (sym q) g) h ∙ (λ i. range_from (p i) (q i))
+
+-- a step isn't 0
+moves : (a b : ℤ) → (a ≡ b → ⊥) → unsigned_abs (b -ℤ a) ≡ 0 → ⊥
+moves a b n e = n (omega (arith, ints))
+
+by_step : (a by c step : ℤ) → FitsSigned w128 a → FitsSigned w128 c → step ≡ int_wrap w128 by → (unsigned_abs by ≡ 0 → ⊥) → is_past a by c ≡ false → counted a step (suc (unsigned_abs (c -ℤ a) / unsigned_abs by)) ≡ spread a by (suc (unsigned_abs (c -ℤ a) / unsigned_abs by))
+by_step a by c step f g s n h =
+    let m = mul-div-le (unsigned_abs (c -ℤ a)) (unsigned_abs by) in
+    by_lt_z (pos 0) by (λ p. rising a by c step (unsigned_abs (c -ℤ a) / unsigned_abs by) f g s p (up p) m) (λ p. falling a by c step (unsigned_abs (c -ℤ a) / unsigned_abs by) f g s (below p) (down p) m)
+  where
+    below : by ≤ℤ pos 0 → by <ℤ pos 0
+    below p = grind (arith, ints)
+    up : pos 0 <ℤ by → a ≤ℤ c
+    up p = grind (arith, ints)
+    down : by ≤ℤ pos 0 → c ≤ℤ a
+    down p = grind (arith, ints)
+
+step_range : (a b c : ℤ) → is_past a (b -ℤ a) c ≡ false → step_from a b c ≡ spread a (b -ℤ a) (suc (unsigned_abs (c -ℤ a) / unsigned_abs (b -ℤ a)))
+step_range a b c h =
+    ap (λ t. spread a (b -ℤ a) (if t then 0 else unsigned_abs (c -ℤ a) / unsigned_abs (b -ℤ a) + 1)) h
+    ∙ ap (spread a (b -ℤ a)) {x = unsigned_abs (c -ℤ a) / unsigned_abs (b -ℤ a) + 1} {y = suc (unsigned_abs (c -ℤ a) / unsigned_abs (b -ℤ a))} (omega arith)
+
+steps_are : (a b c step : ℤ) (m d : ℕ) → FitsSigned w128 a → FitsSigned w128 c → (a ≡ b → ⊥) → step ≡ int_wrap w128 (b -ℤ a) → is_past a (b -ℤ a) c ≡ false → m ≡ unsigned_abs (c -ℤ a) → d ≡ unsigned_abs (b -ℤ a) → counted a step (suc (m / d)) ≡ step_from a b c
+steps_are a b c step m d f g n s h e k =
+    (λ i. counted a step (suc (e i / k i))) ∙ by_step a (b -ℤ a) c step f g s (moves a b n) h ∙ sym (step_range a b c h)
+
+pub told_steps : (x y z a b c step : ℤ) (m d : ℕ) → x ≡ a → y ≡ b → z ≡ c → FitsSigned w128 a → FitsSigned w128 c → (a ≡ b → ⊥) → step ≡ int_wrap w128 (b -ℤ a) → is_past x (y -ℤ x) z ≡ false → m ≡ unsigned_abs (z -ℤ x) → d ≡ unsigned_abs (y -ℤ x) → counted x step (suc (m / d)) ≡ step_from a b c
+told_steps x y z a b c step m d p q r f g n s h e k =
+    (λ i. counted (p i) step (suc (m / d)))
+    ∙ steps_are a b c step m d f g n s (sym (λ i. is_past (p i) (q i -ℤ p i) (r i)) ∙ h) (e ∙ (λ i. unsigned_abs (r i -ℤ p i))) (k ∙ (λ i. unsigned_abs (q i -ℤ p i)))
+
+-- none is left where c lies on the other side
+pub no_steps : (x y z a b c : ℤ) → x ≡ a → y ≡ b → z ≡ c → is_past x (y -ℤ x) z ≡ true → [] ≡ step_from a b c
+no_steps x y z a b c p q r h =
+    sym (ap (λ t. spread a (b -ℤ a) (if t then 0 else unsigned_abs (c -ℤ a) / unsigned_abs (b -ℤ a) + 1)) (sym (λ i. is_past (p i) (q i -ℤ p i) (r i)) ∙ h))
+
+-- a rising range is a set as it stands
+pub rising_steps : (a b c : ℤ) → a <ℤ b → set_from (step_from a b c) ≡ step_from a b c
+rising_steps a b c l = rising_set a (b -ℤ a) (step_size a b c) (omega (arith, ints))
+
+-- ---- down to c, the last one first
+
+saturated : (z : ℤ) → FitsSigned w128 z → saturate_signed w128 z ≡ z
+saturated (pos n) f = ap pos (omega (arith, ints))
+saturated (negsuc n) f = ap negsuc (omega (arith, ints))
+
+back_is : (a b c last step : ℤ) (m d : ℕ) → FitsSigned w128 a → FitsSigned w128 c → b <ℤ a → c ≤ℤ a → m ≡ unsigned_abs (a -ℤ c) → d ≡ unsigned_abs (a -ℤ b) → last ≡ saturate_signed w128 (c +ℤ pos (m % d)) → step ≡ int_wrap w128 (a -ℤ b) → counted last step (suc (m / d)) ≡ set_from (step_from a b c)
+back_is a b c last step m d f g l k e h s t =
+    let parts : d * (m / d) + m % d ≡ m = div-add-mod m d in
+    let turned : m / d * d ≡ d * (m / d) = mul_comm (m / d) d in
+    let fits : FitsSigned w128 (c +ℤ pos (m % d)) = omega (arith, ints) in
+    let is : last ≡ c +ℤ pos (m % d) = s ∙ saturated (c +ℤ pos (m % d)) fits in
+    let first : a ≡ last +ℤ pos (m / d * d) = omega (arith, ints) in
+    let up : a -ℤ b ≡ pos d = omega (arith, ints) in
+    let fits_last : FitsSigned w128 last = subst (FitsSigned w128) (sym is) fits in
+    let past : is_past a (b -ℤ a) c ≡ false = grind (arith, ints) in
+    let count : unsigned_abs (c -ℤ a) / unsigned_abs (b -ℤ a) ≡ m / d = λ i. side c a m (omega (arith, ints)) i / side b a d (omega (arith, ints)) i in
+    rising last (pos d) a step (m / d) fits_last f (t ∙ ap (int_wrap w128) up) (omega (arith, ints)) (omega (arith, ints)) (omega (arith, ints))
+    ∙ sym (falling_set a (b -ℤ a) last d (m / d) (omega (arith, ints)) (omega (arith, ints)) first)
+    ∙ ap (λ n. set_from (spread a (b -ℤ a) (suc n))) (sym count)
+    ∙ ap set_from (sym (step_range a b c past))
+  where
+    side : (p q : ℤ) (n : ℕ) → n ≡ unsigned_abs (q -ℤ p) → unsigned_abs (p -ℤ q) ≡ n
+    side p q n e = omega (arith, ints)
+
+pub told_back : (x y z a b c last step : ℤ) (m d : ℕ) → x ≡ a → y ≡ b → z ≡ c → FitsSigned w128 a → FitsSigned w128 c → b <ℤ a → int_lt x z ≡ false → m ≡ unsigned_abs (x -ℤ z) → d ≡ unsigned_abs (x -ℤ y) → last ≡ saturate_signed w128 (z +ℤ pos (m % d)) → step ≡ int_wrap w128 (a -ℤ b) → counted last step (suc (m / d)) ≡ set_from (step_from a b c)
+told_back x y z a b c last step m d p q r f g l h e k s t =
+    let below : z ≤ℤ x = grind (arith, ints) in
+    back_is a b c last step m d f g l (omega (arith, ints, p, r)) (e ∙ (λ i. unsigned_abs (p i -ℤ r i))) (k ∙ (λ i. unsigned_abs (p i -ℤ q i))) (s ∙ (λ i. saturate_signed w128 (r i +ℤ pos (m % d)))) t
+
+pub none_back : (x z a b c : ℤ) → x ≡ a → z ≡ c → b <ℤ a → int_lt x z ≡ true → [] ≡ set_from (step_from a b c)
+none_back x z a b c p r l h =
+    let past : is_past a (b -ℤ a) c ≡ true = grind (arith, ints) in
+    ap set_from (sym (ap (λ t. spread a (b -ℤ a) (if t then 0 else unsigned_abs (c -ℤ a) / unsigned_abs (b -ℤ a) + 1)) past))
+
+-- ---- behind the first
+
+pub following_are : (z step next : ℤ) (n : ℕ) → (n ≡ 0 → ⊥) → next ≡ int_wrap w128 (z +ℤ step) → counted (int_wrap w128 (z +ℤ step)) step n ≡ counted next step (suc (n - 1))
+following_are z step next n h e = (λ i. counted (sym e i) step n) ∙ ap (counted next step) {x = n} {y = suc (n - 1)} (omega arith)

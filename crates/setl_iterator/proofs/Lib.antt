@@ -1,3 +1,5 @@
 pub mod Lists
-pub mod PointSteps
+pub mod Operands
+pub mod Sources
 pub mod IntegerSteps
+pub mod PointSteps

@@ -1,5 +1,6 @@
 -- The arguments of a map one after the other: the pairs of each stand together in the rising list.
-use Rattle.std.specs.Prelude.{◌≡◌, ℕ, zero, suc, ◌+◌, ◌<◌, Bool, true, false, cond, List, [], ◌∷◌, drop, map, slice_get, Option, Some, None, is_some, refl}
+use Rattle.std.specs.Prelude.{◌≡◌, ℕ, zero, suc, ◌+◌, ◌-◌, ◌==◌, ◌<◌, ◌≤◌, length, Bool, true, false, cond, List, [], ◌∷◌, drop, map, slice_get, Option, Some, None, is_some, refl}
+use Rattle.std.specs.Bool.{if◌then◌else◌}
 use Rattle.std.specs.List.{AllByRecursion, filter_map, prefix_len}
 use Rattle.std.specs.List.Sorted.{IsStrictlySortedBy}
 use Rattle.std.specs.declared.cmp.Ordering.{Ordering}
@@ -7,9 +8,15 @@ use Rattle.std.specs.declared.cmp.Ordering.TheVariants.{Less, Equal, Greater}
 use Rattle.std.specs.Ordering.{is_eq, ordering_then, ordering_reverse}
 use Rattle.std.proofs.Common.{ap, sym, ◌∙◌, subst, arith}
 use Rattle.std.proofs.lemmas.Bool.{false≢true, and_parts}
+use Rattle.std.proofs.lemmas.Bool.Decides.{nat_tests}
 use Rattle.std.proofs.Math.Seq.{drop-nil}
 use Rattle.std.proofs.lemmas.List.{drop-drop}
-use Rattle.setl_value.specs.Datum.{Datum, tuple, part_then, no_part, element_list-elements_of}
+use Rattle.std.proofs.lemmas.List.Sums.{prefix_len-drop_all}
+use Rattle.std.specs.Option.{unwrap_or}
+use Rattle.setl_value.specs.declared.Value.{Value}
+use Rattle.setl_value.specs.declared.Value.TheVariants.{Bool as boolean, Int, Text, Atom, Tuple, Set}
+use Rattle.setl_value.specs.DatumOf.{datum}
+use Rattle.setl_value.specs.Datum.{Datum, tuple, tuple_of, part_then, no_part, part_list, part_list-parts_of, element_list-elements_of}
 use Rattle.setl_value.specs.Order.{datum_cmp, IsRising}
 use Rattle.setl_value.specs.OrderLaws.{datum_cmp_total, same_datum, equal_iff_same}
 use Rattle.setl_value.specs.Pairs.{pair, pair_parts, second_of, is_map, pairs_at, images}
@@ -60,6 +67,7 @@ abbrev Above : Datum → List Parts → Type 0
 Above x ps = AllByRecursion (λ p. datum_cmp x p.0 ≡ Less) ps
 
 all_above : (x : Datum) (p : Parts) (ps : List Parts) → IsRising (pairs (p ∷ ps)) → datum_cmp x p.0 ≡ Less → Above x (p ∷ ps)
+unfolding IsStrictlySortedBy
 all_above x p [] r l = (l, tt)
 all_above x p (q ∷ qs) r l = (l, all_above x q qs r.1 (still_below x p.0 p.1 q.0 q.1 (datum_cmp p.0 q.0) refl r.0.0 l))
 
@@ -94,6 +102,7 @@ abbrev Behind : Datum → Datum → List Parts → Type 0
 Behind x y ps = IsRising (pairs ((x, y) ∷ ps)) → Above x (rest x ps)
 
 behind_by : (x y a b : Datum) (ps : List Parts) (o : Ordering) → datum_cmp x a ≡ o → Behind x b ps → IsRising (pairs ((x, y) ∷ (a, b) ∷ ps)) → Above x (rest_by o (a, b) ps (rest x ps))
+unfolding IsStrictlySortedBy
 behind_by x y a b ps Less e h r = all_above x (a, b) ps r.1 e
 behind_by x y a b ps Equal e h r = h (subst (λ z. IsRising (pairs ((z, b) ∷ ps))) (sym (same_datum x a e)) r.1)
 behind_by x y a b ps Greater e h r = absurd (not_down x y a b e r.0.0)
@@ -133,6 +142,7 @@ abbrev DomainStep : Datum → Datum → List Parts → Type 0
 DomainStep x y ps = IsRising (pairs ((x, y) ∷ ps)) → dom ((x, y) ∷ ps) ≡ x ∷ dom (rest x ps)
 
 domain_by : (x y a b : Datum) (ps : List Parts) (o : Ordering) → datum_cmp x a ≡ o → DomainStep x b ps → IsRising (pairs ((x, y) ∷ (a, b) ∷ ps)) → dom ((x, y) ∷ (a, b) ∷ ps) ≡ x ∷ dom (rest_by o (a, b) ps (rest x ps))
+unfolding IsStrictlySortedBy
 domain_by x y a b ps Less e h r = insert_first x (dom ((a, b) ∷ ps)) (dom_above x ((a, b) ∷ ps) (all_above x (a, b) ps r.1 e))
 domain_by x y a b ps Equal e h r =
     let s = same_datum x a e in
@@ -167,6 +177,7 @@ abbrev ImageStep : Datum → Datum → List Parts → Type 0
 ImageStep x y ps = (run x ps ≡ 0 → image x (pairs ((x, y) ∷ ps)) ≡ Some y) × ((run x ps ≡ 0 → ⊥) → image x (pairs ((x, y) ∷ ps)) ≡ None)
 
 image_by : (x y a b : Datum) (ps : List Parts) (o : Ordering) → datum_cmp x a ≡ o → IsRising (pairs ((x, y) ∷ (a, b) ∷ ps)) → ImageStep x y ((a, b) ∷ ps)
+unfolding IsStrictlySortedBy
 image_by x y a b ps Less e r =
     let n : run x ((a, b) ∷ ps) ≡ 0 = ap (λ o. cond (is_eq o) (1 + run x ps) 0) e in
     (λ z. ap only (images_at x y (pairs ((a, b) ∷ ps)) ∙ ap (λ l. y ∷ l) (no_images x ((a, b) ∷ ps) (all_above x (a, b) ps r.1 e))), λ z. absurd (z n))
@@ -194,13 +205,13 @@ other_images : (a x y : Datum) (ps : List Parts) → OtherImages a x y ps
 other_images a x y [] l = images_other a x y [] l
 other_images a x y (p ∷ ps) l = other_by a x y p.0 p.1 ps (datum_cmp x p.0) refl (other_images a x p.1 ps) l
 
-same_points : (f g as : List Datum) → AllByRecursion (λ a. images a f ≡ images a g) as → map_points f as ≡ map_points g as
+same_points : (f g xs : List Datum) → AllByRecursion (λ a. images a f ≡ images a g) xs → map_points f xs ≡ map_points g xs
 same_points f g [] h = refl
-same_points f g (a ∷ as) h = λ i. Two (Some a) (only (h.0 i)) ∷ same_points f g as h.1 i
+same_points f g (a ∷ xs) h = λ i. Two (Some a) (only (h.0 i)) ∷ same_points f g xs h.1 i
 
-all_others : (x y : Datum) (ps : List Parts) (as : List Datum) → AllByRecursion (λ a. datum_cmp x a ≡ Less) as → AllByRecursion (λ a. images a (pairs ((x, y) ∷ ps)) ≡ images a (pairs (rest x ps))) as
+all_others : (x y : Datum) (ps : List Parts) (xs : List Datum) → AllByRecursion (λ a. datum_cmp x a ≡ Less) xs → AllByRecursion (λ a. images a (pairs ((x, y) ∷ ps)) ≡ images a (pairs (rest x ps))) xs
 all_others x y ps [] h = tt
-all_others x y ps (a ∷ as) h = (other_images a x y ps h.0, all_others x y ps as h.1)
+all_others x y ps (a ∷ xs) h = (other_images a x y ps h.0, all_others x y ps xs h.1)
 
 -- ---- one step
 
@@ -212,6 +223,7 @@ points_step x y ps r =
     ∙ ap (λ l. Two (Some x) (image x f) ∷ l) (same_points f g (dom (rest x ps)) (all_others x y ps (dom (rest x ps)) (dom_above x (rest x ps) (behind x y ps r))))
 
 rising_drop : (ds : List Datum) (n : ℕ) → IsRising ds → IsRising (drop n ds)
+unfolding IsStrictlySortedBy
 rising_drop ds zero r = r
 rising_drop [] (suc n) r = subst IsRising (sym (drop-nil (suc n))) tt
 rising_drop (d ∷ ds) (suc n) r = rising_drop ds n r.1
@@ -221,25 +233,30 @@ map_drop ds zero h = h
 map_drop [] (suc n) h = ap is_map (drop-nil (suc n))
 map_drop (d ∷ ds) (suc n) h = map_drop ds n (and_parts (is_some (pair_parts d)) (is_map ds) h).1
 
--- the argument at a place of a map, where its pairs end at another
-pub record IsStep (f : List Datum) (at end : ℕ) (x y : Datum) : Type 0 where
-  pub one : end ≡ at + 1 → points (drop at f) ≡ Two (Some x) (Some y) ∷ points (drop end f)
-  pub several : (end ≡ at + 1 → ⊥) → points (drop at f) ≡ Two (Some x) None ∷ points (drop end f)
+-- the image, by how many pairs of x there are
+abbrev shown : Bool → Datum → Option Datum
+shown t y = if t then Some y else None
 
-step_of : (f : List Datum) (at end : ℕ) (x y : Datum) (ps : List Parts) → drop at f ≡ pairs ((x, y) ∷ ps) → IsRising (pairs ((x, y) ∷ ps)) → end ≡ at + (1 + run x ps) → IsStep f at end x y
+image_is : (x y : Datum) (ps : List Parts) (count : ℕ) (t : Bool) → (count == 1) ≡ t → count ≡ 1 + run x ps → ImageStep x y ps → image x (pairs ((x, y) ∷ ps)) ≡ shown t y
+image_is x y ps count true e n h = h.0 (one (run x ps) count e n)
+  where
+    one : (k count : ℕ) → (count == 1) ≡ true → count ≡ 1 + k → k ≡ 0
+    one k count e n = grind (arith, nat_tests)
+image_is x y ps count false e n h = h.1 (λ z. more (run x ps) count e n z)
+  where
+    more : (k count : ℕ) → (count == 1) ≡ false → count ≡ 1 + k → k ≡ 0 → ⊥
+    more k count e n z = grind (arith, nat_tests)
+
+step_of : (f : List Datum) (at end : ℕ) (x y : Datum) (ps : List Parts) → drop at f ≡ pairs ((x, y) ∷ ps) → IsRising (pairs ((x, y) ∷ ps)) → end ≡ at + (1 + run x ps) → points (drop at f) ≡ Two (Some x) (shown (end - at == 1) y) ∷ points (drop end f)
 step_of f at end x y ps e r n =
-    let whole = points_step x y ps r in
-    let i = image_step x y ps r in
     let behind : drop end f ≡ pairs (rest x ps) =
       ap (λ k. drop k f) n ∙ sym (drop-drop (1 + run x ps) at f) ∙ ap (drop (1 + run x ps)) e ∙ drop_more (run x ps) (pair x y) (pairs ps) ∙ drop_run x ps in
-    let step : (o : Option Datum) → image x (pairs ((x, y) ∷ ps)) ≡ o → points (drop at f) ≡ Two (Some x) o ∷ points (drop end f) =
-      λ o h. ap points e ∙ whole ∙ ap (λ v. Two (Some x) v ∷ points (pairs (rest x ps))) h ∙ ap (λ l. Two (Some x) o ∷ points l) (sym behind) in
-    record {
-      one = λ h. step (Some y) (i.0 (omega (arith, h, n)));
-      several = λ h. step None (i.1 (λ z. h (omega (arith, z, n))));
-    }
+    ap points e ∙ points_step x y ps r
+    ∙ ap (λ v. Two (Some x) v ∷ points (pairs (rest x ps))) (image_is x y ps (end - at) (end - at == 1) refl (omega (arith, n)) (image_step x y ps r))
+    ∙ ap (λ l. Two (Some x) (shown (end - at == 1) y) ∷ points l) (sym behind)
 
-pub step_at : (f : List Datum) (at end : ℕ) (x y : Datum) → IsSetList f → is_map f ≡ true → slice_get f at ≡ Some (pair x y) → end ≡ at + prefix_len (is_at x) (drop at f) → IsStep f at end x y
+-- the first argument at a place of a map, where its pairs end at another place
+pub step_at : (f : List Datum) (at end : ℕ) (x y : Datum) → IsSetList f → is_map f ≡ true → slice_get f at ≡ Some (pair x y) → end ≡ at + prefix_len (is_at x) (drop at f) → points (drop at f) ≡ Two (Some x) (shown (end - at == 1) y) ∷ points (drop end f)
 step_at f at end x y s m g n =
     let d : drop at f ≡ pair x y ∷ drop (at + 1) f = drop_at f at (at + 1) (pair x y) refl g in
     let p = as_pairs (drop (at + 1) f) (map_drop f (at + 1) m) in
@@ -247,3 +264,43 @@ step_at f at end x y s m g n =
     let r = subst IsRising e (rising_drop f at (subst IsRising (element_list-elements_of f) s.0.1)) in
     let k : prefix_len (is_at x) (pairs ((x, y) ∷ p.0)) ≡ 1 + run x p.0 = ap (λ o. cond (is_eq o) (1 + run x p.0) 0) (same_itself x) in
     step_of f at end x y p.0 e r (n ∙ ap (λ l. at + prefix_len (is_at x) l) e ∙ ap (λ j. at + j) k)
+
+-- each member of a map is a pair
+pub member_is_pair : (f : List Datum) (at : ℕ) (d : Datum) → is_map f ≡ true → slice_get f at ≡ Some d → (p : Parts) × (d ≡ pair p.0 p.1)
+member_is_pair [] at d m h = cc
+member_is_pair (e ∷ ds) zero d m h = pair_of d (ap (λ o. is_some (pair_parts (unwrap_or o d))) (sym h) ∙ (and_parts (is_some (pair_parts e)) (is_map ds) m).0)
+member_is_pair (e ∷ ds) (suc at) d m h = member_is_pair ds at d (and_parts (is_some (pair_parts e)) (is_map ds) m).1 h
+
+-- the pairs of x from an index on, by whether the first is one of them
+pub run_more : (f : List Datum) (at : ℕ) (x a b : Datum) → slice_get f at ≡ Some (pair a b) → is_eq (datum_cmp x a) ≡ true → prefix_len (is_at x) (drop at f) ≡ 1 + prefix_len (is_at x) (drop (at + 1) f)
+run_more f at x a b g h = ap (prefix_len (is_at x)) (drop_at f at (at + 1) (pair a b) refl g) ∙ ap (λ t. cond t (1 + prefix_len (is_at x) (drop (at + 1) f)) 0) h
+
+pub run_ends : (f : List Datum) (at : ℕ) (x a b : Datum) → slice_get f at ≡ Some (pair a b) → is_eq (datum_cmp x a) ≡ false → prefix_len (is_at x) (drop at f) ≡ 0
+run_ends f at x a b g h = ap (prefix_len (is_at x)) (drop_at f at (at + 1) (pair a b) refl g) ∙ ap (λ t. cond t (1 + prefix_len (is_at x) (drop (at + 1) f)) 0) h
+
+pub run_over : (f : List Datum) (at : ℕ) (x : Datum) → length f ≤ at → prefix_len (is_at x) (drop at f) ≡ 0
+run_over f at x h = prefix_len-drop_all (is_at x) f at h
+
+-- ---- a pair as a value
+
+pub pair_is_tuple : (v : Value) (p : Parts) → datum v ≡ pair p.0 p.1 → ((t : List (Option Datum)) → v ≡ Tuple t → ⊥) → ⊥
+pair_is_tuple (boolean b) p e n = cc
+pair_is_tuple (Int z) p e n = cc
+pair_is_tuple (Text t) p e n = cc
+pair_is_tuple (Atom k) p e n = cc
+pair_is_tuple (Tuple t) p e n = n t refl
+pair_is_tuple (Set s) p e n = cc
+
+parts_in : Datum → List (Option Datum)
+parts_in (tuple ps) = part_list ps
+parts_in d = []
+
+pub pair_list : (t : List (Option Datum)) (p : Parts) → tuple_of t ≡ pair p.0 p.1 → t ≡ Some p.0 ∷ Some p.1 ∷ []
+pair_list t p e = sym (part_list-parts_of t) ∙ ap parts_in e
+
+pub pair_is : (t : List (Option Datum)) (p : Parts) (x y : Datum) → tuple_of t ≡ pair p.0 p.1 → slice_get t 0 ≡ Some (Some x) → slice_get t 1 ≡ Some (Some y) → tuple_of t ≡ pair x y
+pair_is t p x y e g h =
+    let l = pair_list t p e in
+    let a : p.0 ≡ x = ap (λ o. unwrap_or (unwrap_or o None) x) (sym (ap (λ s. slice_get s 0) l) ∙ g) in
+    let b : p.1 ≡ y = ap (λ o. unwrap_or (unwrap_or o None) y) (sym (ap (λ s. slice_get s 1) l) ∙ h) in
+    e ∙ (λ i. pair (a i) (b i))

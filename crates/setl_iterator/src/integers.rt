@@ -45,7 +45,7 @@ pub(crate) fn stepped(a: i128, b: i128, c: i128) -> Option<Steps>
     Some(Steps {
         next: a,
         step: b.wrapping_sub(a),
-        more: a.abs_diff(c) / a.abs_diff(b),
+        more: c.abs_diff(a) / b.abs_diff(a),
     })
 }
 

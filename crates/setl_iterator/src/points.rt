@@ -1,6 +1,6 @@
 //! The arguments of a map with their images.
 
-ghost use Rattle.std.specs.Prelude.{◌≡◌, ◌∷◌, ◌<◌, ◌≤◌, ◌+◌, true, drop, length, slice_get, Some, IfOk, OnErr};
+ghost use Rattle.std.specs.Prelude.{◌≡◌, ◌∷◌, ◌<◌, ◌≤◌, ◌+◌, ◌==◌, true, drop, length, slice_get, if◌then◌else◌, Some, None, IfOk, OnErr};
 ghost use Rattle.std.specs.List.{prefix_len};
 ghost use Rattle.setl_value.specs.Body.{Members};
 ghost use Rattle.setl_value.specs.DatumOf.{datum, lent};
@@ -25,8 +25,7 @@ pub(crate) fn next_point(f: &SetBody, at: &mut usize) -> Result<Item, Memory>
     f.learn();
     let (x, y) = parts(f, *at);
     let end = end_of(f, *at, x);
-    let image = if end == *at + 1 { Some(y) } else { None };
-    let item = point(x, image)?;
+    let item = point(x, only(y, end - *at))?;
     *at = end;
     Ok(item)
 }
@@ -43,6 +42,13 @@ fn point(x: &Value, image: Option<&Value>) -> Result<Item, Memory>
     })
 }
 
+// An image, where an argument has no other.
+fn only(y: &Value, count: usize) -> Option<&Value>
+    ensures { lent result ≡ (if count == 1 then Some (datum y.now) else None) }
+{
+    if count == 1 { Some(y) } else { None }
+}
+
 // The two parts of the pair at a place of a map.
 fn parts(f: &SetBody, at: usize) -> (&Value, &Value)
     requires inside { at < length (Members f.now) }
@@ -52,10 +58,13 @@ fn parts(f: &SetBody, at: usize) -> (&Value, &Value)
     let Value::Tuple(t) = f.at(at) else {
         unreachable!();
     };
-    match (t.at(0), t.at(1)) {
-        (Some(x), Some(y)) => (x, y),
-        _ => unreachable!(),
-    }
+    let Some(x) = t.at(0) else {
+        unreachable!();
+    };
+    let Some(y) = t.at(1) else {
+        unreachable!();
+    };
+    (x, y)
 }
 
 // Where the pairs of `x` end that stand at a place of a map, one after the other.

@@ -1,6 +1,6 @@
 //! The operands of a `begin`, taken apart.
 
-ghost use Rattle.std.specs.Prelude.{◌≡◌, ◌∷◌, [], List, Some, map, MatchResult};
+ghost use Rattle.std.specs.Prelude.{◌≡◌, ◌∷◌, [], List, Some, None, map, MatchResult};
 ghost use Rattle.setl_value.specs.Datum.{Datum};
 ghost use Rattle.setl_value.specs.DatumOf.{datum, part};
 ghost use Rattle.setl_map.specs.Outcome.{all_values};
@@ -25,7 +25,7 @@ pub(crate) fn two(sources: &[Option<Value>]) -> Result<(&Value, &Value), OpFault
     ensures { MatchResult result (λ vs. map part sources.now ≡ Some (datum vs.0.now) ∷ Some (datum vs.1.now) ∷ []) (λ e. Refused e (of_values integers_between (all_values (map part sources.now)))) }
 {
     match sources {
-        [Some(a), Some(b)] => Ok((a, b)),
+        [a, b] => both(a, b),
         _ => Err(unfit(sources)),
     }
 }
@@ -35,8 +35,33 @@ pub(crate) fn three(sources: &[Option<Value>]) -> Result<(&Value, &Value, &Value
     ensures { MatchResult result (λ vs. map part sources.now ≡ Some (datum vs.0.now) ∷ Some (datum vs.1.now) ∷ Some (datum vs.2.now) ∷ []) (λ e. (order : List Datum → List Datum) → Refused e (of_values (integers_stepped order) (all_values (map part sources.now)))) }
 {
     match sources {
-        [Some(a), Some(b), Some(c)] => Ok((a, b, c)),
+        [a, b, c] => all(a, b, c),
         _ => Err(unfit(sources)),
+    }
+}
+
+fn both<'a>(
+    a: &'a Option<Value>,
+    b: &'a Option<Value>,
+) -> Result<(&'a Value, &'a Value), OpFault>
+    ensures { MatchResult result (λ vs. (part a.now ≡ Some (datum vs.0.now)) × (part b.now ≡ Some (datum vs.1.now))) (λ e. (e ≡ OpFault.Om) × (all_values (part a.now ∷ part b.now ∷ []) ≡ None)) }
+{
+    match (a, b) {
+        (Some(a), Some(b)) => Ok((a, b)),
+        _ => Err(OpFault::Om),
+    }
+}
+
+fn all<'a>(
+    a: &'a Option<Value>,
+    b: &'a Option<Value>,
+    c: &'a Option<Value>,
+) -> Result<(&'a Value, &'a Value, &'a Value), OpFault>
+    ensures { MatchResult result (λ vs. (part a.now ≡ Some (datum vs.0.now)) × (part b.now ≡ Some (datum vs.1.now)) × (part c.now ≡ Some (datum vs.2.now))) (λ e. (e ≡ OpFault.Om) × (all_values (part a.now ∷ part b.now ∷ part c.now ∷ []) ≡ None)) }
+{
+    match (a, b, c) {
+        (Some(a), Some(b), Some(c)) => Ok((a, b, c)),
+        _ => Err(OpFault::Om),
     }
 }
 
