@@ -1,5 +1,5 @@
 -- Integers that are one step apart, counted modulo 2^128, and in rising order.
-use Rattle.std.specs.Prelude.{◌≡◌, ◌==◌, ℕ, zero, suc, ◌+◌, ◌-◌, ◌*◌, ◌/◌, ◌%◌, ◌<◌, ◌≤◌, ℤ, pos, negsuc, ◌+ℤ◌, ◌-ℤ◌, ◌<ℤ◌, ◌≤ℤ◌, Bool, true, false, List, [], ◌∷◌, int_le, int_lt, unsigned_abs, refl}
+use Rattle.std.specs.Prelude.{◌≡◌, ◌==◌, ℕ, zero, suc, ◌+◌, ◌-◌, ◌*◌, ◌/◌, ◌%◌, ◌<◌, ◌≤◌, ℤ, pos, negsuc, ◌+ℤ◌, ◌-ℤ◌, ◌<ℤ◌, ◌≤ℤ◌, Bool, true, false, List, [], ◌∷◌, Option, int_le, int_lt, unsigned_abs, refl}
 use Rattle.std.specs.Bool.{if◌then◌else◌}
 use Rattle.std.specs.Cmp.{int_cmp_is}
 use Rattle.std.specs.Int.{int_wrap, saturate_signed, w128}
@@ -7,11 +7,16 @@ use Rattle.std.specs.Int.RustNames.{FitsSigned}
 use Rattle.std.specs.Ordering.{int_cmp}
 use Rattle.std.specs.declared.cmp.Ordering.TheVariants.{Less, Equal, Greater}
 use Rattle.std.proofs.Common.{ap, sym, ◌∙◌, arith, subst}
-use Rattle.std.proofs.Math.Nat.{mul-suc, suc-mul, mul-div-le, div-add-mod, mul_comm}
+use Rattle.std.proofs.Math.Nat.{mul-suc, suc-mul, mul-div-le, mul_comm}
+use Rattle.std.proofs.lemmas.Bool.Decides.{nat_tests}
+use Rattle.std.proofs.lemmas.Nat.{div-add-mod'}
 use Rattle.std.proofs.lemmas.Int.{ints, by_lt_z, int_wrap_fits, int_wrap-add_right}
 use Rattle.setl_value.specs.Datum.{Datum, int}
 use Rattle.setl_set.specs.Sets.{insert_datum, insert_by, set_from}
 use Rattle.setl_map.specs.Ranges.{spread, range_size, range_from, is_past, step_size, step_from}
+use Rattle.setl_map.specs.Outcome.{all_values, ZeroFault}
+use Rattle.setl_model.specs.Iterations.{Starts, Refuses, members, of_values, integers_stepped}
+use Rattle.setl_iterator.specs.Operands.{AreBounds}
 use Rattle.setl_iterator.specs.Integers.{counted}
 
 -- ---- no integer of a range is wrapped
@@ -127,24 +132,39 @@ saturated : (z : ℤ) → FitsSigned w128 z → saturate_signed w128 z ≡ z
 saturated (pos n) f = ap pos (omega (arith, ints))
 saturated (negsuc n) f = ap negsuc (omega (arith, ints))
 
+fits_between : (a c : ℤ) (m r : ℕ) → FitsSigned w128 a → FitsSigned w128 c → c ≤ℤ a → m ≡ unsigned_abs (a -ℤ c) → r ≤ m → FitsSigned w128 (c +ℤ pos r)
+fits_between a c m r f g k e h = omega (arith, ints)
+
+top_is : (a c last : ℤ) (m p r : ℕ) → c ≤ℤ a → m ≡ unsigned_abs (a -ℤ c) → last ≡ c +ℤ pos r → p + r ≡ m → a ≡ last +ℤ pos p
+top_is a c last m p r k e i h = omega (arith, ints)
+
+width_is : (a b : ℤ) (d : ℕ) → b <ℤ a → d ≡ unsigned_abs (a -ℤ b) → (a -ℤ b ≡ pos d) × ((b -ℤ a) +ℤ pos d ≡ pos 0) × (0 < d)
+width_is a b d l e = (omega (arith, ints), (omega (arith, ints), omega (arith, ints)))
+
+-- the other way round
+back_side : (p q : ℤ) (n : ℕ) → n ≡ unsigned_abs (q -ℤ p) → unsigned_abs (p -ℤ q) ≡ n
+back_side p q n e = omega (arith, ints)
+
+not_past : (a b c : ℤ) → b <ℤ a → c ≤ℤ a → is_past a (b -ℤ a) c ≡ false
+not_past a b c l k = grind (arith, ints)
+
+back_from : (z a step : ℤ) (d q p : ℕ) → FitsSigned w128 z → FitsSigned w128 a → step ≡ int_wrap w128 (pos d) → 0 < d → d * q ≡ p → a ≡ z +ℤ pos p → counted z step (suc q) ≡ spread z (pos d) (suc q)
+back_from z a step d q p f g s l e h =
+    let up : z ≤ℤ a = omega (arith, ints, h) in
+    let room : d * q ≤ unsigned_abs (a -ℤ z) = omega (arith, ints, e, h) in
+    rising z (pos d) a step q f g s (omega (arith, ints)) up room
+
 back_is : (a b c last step : ℤ) (m d : ℕ) → FitsSigned w128 a → FitsSigned w128 c → b <ℤ a → c ≤ℤ a → m ≡ unsigned_abs (a -ℤ c) → d ≡ unsigned_abs (a -ℤ b) → last ≡ saturate_signed w128 (c +ℤ pos (m % d)) → step ≡ int_wrap w128 (a -ℤ b) → counted last step (suc (m / d)) ≡ set_from (step_from a b c)
 back_is a b c last step m d f g l k e h s t =
-    let parts : d * (m / d) + m % d ≡ m = div-add-mod m d in
-    let turned : m / d * d ≡ d * (m / d) = mul_comm (m / d) d in
-    let fits : FitsSigned w128 (c +ℤ pos (m % d)) = omega (arith, ints) in
+    let w = width_is a b d l h in
+    let parts : m / d * d + m % d ≡ m = div-add-mod' m d in
+    let fits = fits_between a c m (m % d) f g k e (omega (arith, parts)) in
     let is : last ≡ c +ℤ pos (m % d) = s ∙ saturated (c +ℤ pos (m % d)) fits in
-    let first : a ≡ last +ℤ pos (m / d * d) = omega (arith, ints) in
-    let up : a -ℤ b ≡ pos d = omega (arith, ints) in
-    let fits_last : FitsSigned w128 last = subst (FitsSigned w128) (sym is) fits in
-    let past : is_past a (b -ℤ a) c ≡ false = grind (arith, ints) in
-    let count : unsigned_abs (c -ℤ a) / unsigned_abs (b -ℤ a) ≡ m / d = λ i. side c a m (omega (arith, ints)) i / side b a d (omega (arith, ints)) i in
-    rising last (pos d) a step (m / d) fits_last f (t ∙ ap (int_wrap w128) up) (omega (arith, ints)) (omega (arith, ints)) (omega (arith, ints))
-    ∙ sym (falling_set a (b -ℤ a) last d (m / d) (omega (arith, ints)) (omega (arith, ints)) first)
-    ∙ ap (λ n. set_from (spread a (b -ℤ a) (suc n))) (sym count)
-    ∙ ap set_from (sym (step_range a b c past))
-  where
-    side : (p q : ℤ) (n : ℕ) → n ≡ unsigned_abs (q -ℤ p) → unsigned_abs (p -ℤ q) ≡ n
-    side p q n e = omega (arith, ints)
+    let top = top_is a c last m (m / d * d) (m % d) k e is parts in
+    back_from last a step d (m / d) (m / d * d) (subst (FitsSigned w128) (sym is) fits) f (t ∙ ap (int_wrap w128) w.0) w.1.1 (mul_comm d (m / d)) top
+    ∙ sym (falling_set a (b -ℤ a) last d (m / d) w.1.1 w.1.0 top)
+    ∙ sym (λ i. set_from (spread a (b -ℤ a) (suc (back_side c a m e i / back_side b a d h i))))
+    ∙ ap set_from (sym (step_range a b c (not_past a b c l k)))
 
 pub told_back : (x y z a b c last step : ℤ) (m d : ℕ) → x ≡ a → y ≡ b → z ≡ c → FitsSigned w128 a → FitsSigned w128 c → b <ℤ a → int_lt x z ≡ false → m ≡ unsigned_abs (x -ℤ z) → d ≡ unsigned_abs (x -ℤ y) → last ≡ saturate_signed w128 (z +ℤ pos (m % d)) → step ≡ int_wrap w128 (a -ℤ b) → counted last step (suc (m / d)) ≡ set_from (step_from a b c)
 told_back x y z a b c last step m d p q r f g l h e k s t =
@@ -160,3 +180,14 @@ none_back x z a b c p r l h =
 
 pub following_are : (z step next : ℤ) (n : ℕ) → (n ≡ 0 → ⊥) → next ≡ int_wrap w128 (z +ℤ step) → counted (int_wrap w128 (z +ℤ step)) step n ≡ counted next step (suc (n - 1))
 following_are z step next n h e = (λ i. counted (sym e i) step n) ∙ ap (counted next step) {x = n} {y = suc (n - 1)} (omega arith)
+
+-- ---- the items
+
+pub started_steps : (order : List Datum → List Datum) (vs : List (Option Datum)) (a b c : ℤ) (ds : List Datum) → AreBounds a b c vs → ds ≡ order (step_from a b c) → of_values (integers_stepped order) (all_values vs) ≡ Starts (members ds)
+started_steps order vs a b c ds are e =
+    let moved : (unsigned_abs (b -ℤ a) == 0) ≡ false = tested (unsigned_abs (b -ℤ a)) (moves a b are.differ) in
+    ap (λ l. of_values (integers_stepped order) (all_values l)) are.are
+    ∙ ap (λ t. if t then Refuses ZeroFault else Starts (members (order (step_from a b c)))) moved ∙ ap (λ l. Starts (members l)) (sym e)
+  where
+    tested : (n : ℕ) → (n ≡ 0 → ⊥) → (n == 0) ≡ false
+    tested n h = grind (arith, nat_tests)

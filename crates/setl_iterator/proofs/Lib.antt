@@ -1,5 +1,6 @@
 pub mod Lists
 pub mod Operands
-pub mod Sources
+pub mod Wholes
 pub mod IntegerSteps
 pub mod PointSteps
+pub mod Ends

@@ -1,5 +1,5 @@
 -- The arguments of a map one after the other: the pairs of each stand together in the rising list.
-use Rattle.std.specs.Prelude.{◌≡◌, ℕ, zero, suc, ◌+◌, ◌-◌, ◌==◌, ◌<◌, ◌≤◌, length, Bool, true, false, cond, List, [], ◌∷◌, drop, map, slice_get, Option, Some, None, is_some, refl}
+use Rattle.std.specs.Prelude.{◌≡◌, ℕ, zero, suc, ◌+◌, ◌-◌, ◌==◌, ◌<◌, ◌≤◌, length, nat_le, Bool, true, false, cond, List, [], ◌∷◌, drop, map, slice_get, Option, Some, None, is_some, refl}
 use Rattle.std.specs.Bool.{if◌then◌else◌}
 use Rattle.std.specs.List.{AllByRecursion, filter_map, prefix_len}
 use Rattle.std.specs.List.Sorted.{IsStrictlySortedBy}
@@ -27,7 +27,7 @@ use Rattle.setl_map.specs.Points.{is_at}
 use Rattle.setl_model.specs.Core.{Item, Two}
 use Rattle.setl_model.specs.Iterations.{map_points}
 use Rattle.setl_iterator.specs.Points.{points}
-use Rattle.setl_iterator.proofs.Lists.{drop_at}
+use Rattle.setl_iterator.proofs.Lists.{drop_at, none_left}
 
 -- ---- pairs as their two parts
 
@@ -291,7 +291,7 @@ pair_is_tuple (Atom k) p e n = cc
 pair_is_tuple (Tuple t) p e n = n t refl
 pair_is_tuple (Set s) p e n = cc
 
-parts_in : Datum → List (Option Datum)
+abbrev parts_in : Datum → List (Option Datum)
 parts_in (tuple ps) = part_list ps
 parts_in d = []
 
@@ -304,3 +304,31 @@ pair_is t p x y e g h =
     let a : p.0 ≡ x = ap (λ o. unwrap_or (unwrap_or o None) x) (sym (ap (λ s. slice_get s 0) l) ∙ g) in
     let b : p.1 ≡ y = ap (λ o. unwrap_or (unwrap_or o None) y) (sym (ap (λ s. slice_get s 1) l) ∙ h) in
     e ∙ (λ i. pair (a i) (b i))
+
+-- ---- at the end
+
+insert_some : (x : Datum) (ds : List Datum) → 0 < length (insert_datum x ds)
+insert_some x [] = omega arith
+insert_some x (d ∷ ds) = by_order (datum_cmp x d)
+  where
+    by_order : (o : Ordering) → 0 < length (insert_by o x d ds (insert_datum x ds))
+    by_order Less = omega arith
+    by_order Equal = omega arith
+    by_order Greater = omega arith
+
+length_points : (f xs : List Datum) → length (map_points f xs) ≡ length xs
+length_points f [] = refl
+length_points f (x ∷ xs) = ap (λ n. suc n) (length_points f xs)
+
+points_some : (f : List Datum) → is_map f ≡ true → (length f == 0) ≡ (length (points f) == 0)
+points_some [] h = refl
+points_some (d ∷ ds) h =
+    let p = pair_of d (and_parts (is_some (pair_parts d)) (is_map ds) h).0 in
+    let some : 0 < length (domain_of (d ∷ ds)) = subst (λ e. 0 < length (domain_of (e ∷ ds))) (sym p.1) (insert_some p.0.0 (domain_of ds)) in
+    both (length (d ∷ ds)) (length (points (d ∷ ds))) (omega arith) (omega (arith, some, length_points (d ∷ ds) (domain_of (d ∷ ds))))
+  where
+    both : (m n : ℕ) → 0 < m → 0 < n → (m == 0) ≡ (n == 0)
+    both m n p q = grind (arith, nat_tests)
+
+pub no_points : (f : List Datum) (n i : ℕ) → is_map f ≡ true → n ≡ length f → nat_le n i ≡ (length (points (drop i f)) == 0)
+no_points f n i h e = ap (λ k. nat_le k i) e ∙ none_left f i ∙ points_some (drop i f) (map_drop f i h)

@@ -14,30 +14,30 @@ use setl_value::Value;
 pub(crate) fn one(sources: &[Option<Value>]) -> Result<&Value, OpFault>
     ensures { MatchResult result (λ v. map part sources.now ≡ Some (datum v.now) ∷ []) (λ e. (f : Datum → Started) → Refused e (of_values (one_source f) (all_values (map part sources.now)))) }
 {
-    match sources {
-        [a] => a.as_ref().ok_or(OpFault::Om),
-        _ => Err(unfit(sources)),
+    if sources.len() != 1 {
+        return Err(unfit(sources));
     }
+    sources[0].as_ref().ok_or(OpFault::Om)
 }
 
 /// Both operands. Om where one is `om`, Kind where there is another number of them.
 pub(crate) fn two(sources: &[Option<Value>]) -> Result<(&Value, &Value), OpFault>
     ensures { MatchResult result (λ vs. map part sources.now ≡ Some (datum vs.0.now) ∷ Some (datum vs.1.now) ∷ []) (λ e. Refused e (of_values integers_between (all_values (map part sources.now)))) }
 {
-    match sources {
-        [a, b] => both(a, b),
-        _ => Err(unfit(sources)),
+    if sources.len() != 2 {
+        return Err(unfit(sources));
     }
+    both(&sources[0], &sources[1])
 }
 
 /// The three operands. Om where one is `om`, Kind where there is another number of them.
 pub(crate) fn three(sources: &[Option<Value>]) -> Result<(&Value, &Value, &Value), OpFault>
     ensures { MatchResult result (λ vs. map part sources.now ≡ Some (datum vs.0.now) ∷ Some (datum vs.1.now) ∷ Some (datum vs.2.now) ∷ []) (λ e. (order : List Datum → List Datum) → Refused e (of_values (integers_stepped order) (all_values (map part sources.now)))) }
 {
-    match sources {
-        [a, b, c] => all(a, b, c),
-        _ => Err(unfit(sources)),
+    if sources.len() != 3 {
+        return Err(unfit(sources));
     }
+    all(&sources[0], &sources[1], &sources[2])
 }
 
 fn both<'a>(

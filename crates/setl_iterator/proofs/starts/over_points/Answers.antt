@@ -3,7 +3,7 @@ use Rattle.setl_value.specs.Body.{Members}
 use Rattle.setl_value.specs.DatumOf.{datum}
 use Rattle.setl_model.specs.Iterations.{Starts, place_points, points_of}
 use Rattle.setl_iterator.specs.Points.{points}
-use Rattle.setl_iterator.proofs.Sources.{map_points_of, no_points_of, tuple_points}
+use Rattle.setl_iterator.proofs.Wholes.{map_points_of, no_points_of, tuple_points}
 use Rattle.setl_iterator.proofs.starts.over_points.Goals as goal
 
 pub returns-in_ok-copy-in-Set : goal.returns-in_ok-copy-in-Set

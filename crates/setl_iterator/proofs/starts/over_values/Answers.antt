@@ -2,7 +2,7 @@ use Rattle.std.proofs.Common.{ap, sym, ◌∙◌}
 use Rattle.setl_value.specs.Body.{Members}
 use Rattle.setl_value.specs.DatumOf.{datum}
 use Rattle.setl_model.specs.Iterations.{Starts, members, singles, values_of}
-use Rattle.setl_iterator.proofs.Sources.{set_values, tuple_values}
+use Rattle.setl_iterator.proofs.Wholes.{set_values, tuple_values}
 use Rattle.setl_iterator.proofs.starts.over_values.Goals as goal
 
 pub returns-in_ok-copy-in-Set : goal.returns-in_ok-copy-in-Set
