@@ -139,7 +139,7 @@ top_is : (a c last : ℤ) (m p r : ℕ) → c ≤ℤ a → m ≡ unsigned_abs (a
 top_is a c last m p r k e i h = omega (arith, ints)
 
 width_is : (a b : ℤ) (d : ℕ) → b <ℤ a → d ≡ unsigned_abs (a -ℤ b) → (a -ℤ b ≡ pos d) × ((b -ℤ a) +ℤ pos d ≡ pos 0) × (0 < d)
-width_is a b d l e = (omega (arith, ints), (omega (arith, ints), omega (arith, ints)))
+width_is a b d l e = (omega (arith, ints), omega (arith, ints), omega (arith, ints))
 
 -- the other way round
 back_side : (p q : ℤ) (n : ℕ) → n ≡ unsigned_abs (q -ℤ p) → unsigned_abs (p -ℤ q) ≡ n
@@ -161,8 +161,8 @@ back_is a b c last step m d f g l k e h s t =
     let fits = fits_between a c m (m % d) f g k e (omega (arith, parts)) in
     let is : last ≡ c +ℤ pos (m % d) = s ∙ saturated (c +ℤ pos (m % d)) fits in
     let top = top_is a c last m (m / d * d) (m % d) k e is parts in
-    back_from last a step d (m / d) (m / d * d) (subst (FitsSigned w128) (sym is) fits) f (t ∙ ap (int_wrap w128) w.0) w.1.1 (mul_comm d (m / d)) top
-    ∙ sym (falling_set a (b -ℤ a) last d (m / d) w.1.1 w.1.0 top)
+    back_from last a step d (m / d) (m / d * d) (subst (FitsSigned w128) (sym is) fits) f (t ∙ ap (int_wrap w128) w.0) w.2 (mul_comm d (m / d)) top
+    ∙ sym (falling_set a (b -ℤ a) last d (m / d) w.2 w.1 top)
     ∙ sym (λ i. set_from (spread a (b -ℤ a) (suc (back_side c a m e i / back_side b a d h i))))
     ∙ ap set_from (sym (step_range a b c (not_past a b c l k)))
 

@@ -6,7 +6,7 @@ use Rattle.std.specs.List.Sorted.{IsStrictlySortedBy}
 use Rattle.std.specs.declared.cmp.Ordering.{Ordering}
 use Rattle.std.specs.declared.cmp.Ordering.TheVariants.{Less, Equal, Greater}
 use Rattle.std.specs.Ordering.{is_eq, ordering_then, ordering_reverse}
-use Rattle.std.proofs.Common.{ap, sym, ◌∙◌, subst, arith}
+use Rattle.std.proofs.Common.{ap, sym, ◌∙◌, subst, arith, ◌⊎◌, inl, inr}
 use Rattle.std.proofs.lemmas.Bool.{false≢true, and_parts}
 use Rattle.std.proofs.lemmas.Bool.Decides.{nat_tests}
 use Rattle.std.proofs.Math.Seq.{drop-nil}
@@ -332,3 +332,16 @@ points_some (d ∷ ds) h =
 
 pub no_points : (f : List Datum) (n i : ℕ) → is_map f ≡ true → n ≡ length f → nat_le n i ≡ (length (points (drop i f)) == 0)
 no_points f n i h e = ap (λ k. nat_le k i) e ∙ none_left f i ∙ points_some (drop i f) (map_drop f i h)
+
+-- ---- the tuple of a map's member
+
+pub member_parts : (f : List Datum) (at : ℕ) (v : Value) (t : List (Option Datum)) → is_map f ≡ true → slice_get f at ≡ Some (datum v) → v ≡ Tuple t → (p : Parts) × (tuple_of t ≡ pair p.0 p.1)
+member_parts f at v t m h e = let p = member_is_pair f at (datum v) m h in (p.0, sym (ap datum e) ∙ p.1)
+
+pub first_there : (t : List (Option Datum)) (p : Parts) → tuple_of t ≡ pair p.0 p.1 → (slice_get t 0 ≡ Some None) ⊎ (slice_get t 0 ≡ None) → ⊥
+first_there t p e (inl h) = let g = ap (λ s. slice_get s 0) (pair_list t p e) in cc
+first_there t p e (inr h) = let g = ap (λ s. slice_get s 0) (pair_list t p e) in cc
+
+pub second_there : (t : List (Option Datum)) (p : Parts) → tuple_of t ≡ pair p.0 p.1 → (slice_get t 1 ≡ Some None) ⊎ (slice_get t 1 ≡ None) → ⊥
+second_there t p e (inl h) = let g = ap (λ s. slice_get s 1) (pair_list t p e) in cc
+second_there t p e (inr h) = let g = ap (λ s. slice_get s 1) (pair_list t p e) in cc
