@@ -1,11 +1,10 @@
 -- Integers that are one step apart, counted modulo 2^128, and in rising order.
-use Rattle.std.specs.Prelude.{◌≡◌, ◌==◌, ℕ, zero, suc, ◌+◌, ◌-◌, ◌*◌, ◌/◌, ◌%◌, ◌<◌, ◌≤◌, ℤ, pos, negsuc, ◌+ℤ◌, ◌-ℤ◌, ◌<ℤ◌, ◌≤ℤ◌, Bool, true, false, List, [], ◌∷◌, Option, int_le, int_lt, unsigned_abs, refl}
+use Rattle.std.specs.Prelude.{◌≡◌, ◌==◌, ℕ, zero, suc, ◌+◌, ◌-◌, ◌*◌, ◌/◌, ◌%◌, ◌<◌, ◌≤◌, ℤ, pos, negsuc, ◌+ℤ◌, ◌-ℤ◌, ◌<ℤ◌, ◌≤ℤ◌, true, false, List, [], ◌∷◌, Option, int_le, int_lt, unsigned_abs, refl}
 use Rattle.std.specs.Bool.{if◌then◌else◌}
 use Rattle.std.specs.Cmp.{int_cmp_is}
 use Rattle.std.specs.Int.{int_wrap, saturate_signed, w128}
 use Rattle.std.specs.Int.RustNames.{FitsSigned}
-use Rattle.std.specs.Ordering.{int_cmp}
-use Rattle.std.specs.declared.cmp.Ordering.TheVariants.{Less, Equal, Greater}
+use Rattle.std.specs.declared.cmp.Ordering.TheVariants.{Less, Greater}
 use Rattle.std.proofs.Common.{ap, sym, ◌∙◌, arith, subst}
 use Rattle.std.proofs.Math.Nat.{mul-suc, suc-mul, mul-div-le, mul_comm}
 use Rattle.std.proofs.lemmas.Bool.Decides.{nat_tests}
@@ -13,7 +12,7 @@ use Rattle.std.proofs.lemmas.Nat.{div-add-mod'}
 use Rattle.std.proofs.lemmas.Int.{ints, by_lt_z, int_wrap_fits, int_wrap-add_right}
 use Rattle.setl_value.specs.Datum.{Datum, int}
 use Rattle.setl_set.specs.Sets.{insert_datum, insert_by, set_from}
-use Rattle.setl_map.specs.Ranges.{spread, range_size, range_from, is_past, step_size, step_from}
+use Rattle.setl_map.specs.Ranges.{spread, range_from, is_past, step_size, step_from}
 use Rattle.setl_map.specs.Outcome.{all_values, ZeroFault}
 use Rattle.setl_model.specs.Iterations.{Starts, Refuses, members, of_values, integers_stepped}
 use Rattle.setl_iterator.specs.Operands.{AreBounds}
@@ -98,8 +97,10 @@ by_step a by c step f g s n h =
   where
     below : by ≤ℤ pos 0 → by <ℤ pos 0
     below p = grind (arith, ints)
+
     up : pos 0 <ℤ by → a ≤ℤ c
     up p = grind (arith, ints)
+
     down : by ≤ℤ pos 0 → c ≤ℤ a
     down p = grind (arith, ints)
 

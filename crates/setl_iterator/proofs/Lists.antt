@@ -1,15 +1,15 @@
 -- Lists from an index on.
-use Rattle.std.specs.Prelude.{◌≡◌, ℕ, zero, suc, ◌+◌, ◌-◌, ◌<◌, ◌==◌, ◌≤◌, Bool, true, false, nat_le, List, [], ◌∷◌, length, map, drop, take, get_or, slice_get, Option, Some, None, ℤ, pos, refl}
+use Rattle.std.specs.Prelude.{◌≡◌, ℕ, zero, suc, ◌+◌, ◌<◌, ◌==◌, nat_le, List, [], ◌∷◌, length, drop, slice_get, Option, Some, None, ℤ, pos, refl}
 use Rattle.std.specs.Option.{unwrap_or}
 use Rattle.std.specs.Borrow.{Bor}
 use Rattle.std.proofs.Common.{ap, sym, ◌∙◌, arith, inl, inr, ◌⊎◌, MatchOption}
 use Rattle.std.proofs.lemmas.Option.{slice_get-get_or}
 use Rattle.std.proofs.Math.Seq.{drop-nil}
 use Rattle.std.proofs.lemmas.Bool.Decides.{nat_tests}
-use Rattle.setl_value.specs.Datum.{Datum, text, int}
+use Rattle.setl_value.specs.Datum.{Datum, int}
 use Rattle.setl_value.specs.declared.Value.{Value}
 use Rattle.setl_value.specs.DatumOf.{datum, lent}
-use Rattle.setl_model.specs.Core.{Item, One, Two}
+use Rattle.setl_model.specs.Core.{Two}
 use Rattle.setl_model.specs.Iterations.{members, singles, letters, place_points}
 
 some_same : {X : Type 0} (x y : X) → Some x ≡ Some y → x ≡ y

@@ -24,7 +24,7 @@ use Rattle.setl_value.specs.WellFormed.{IsSetList}
 use Rattle.setl_set.specs.Sets.{insert_datum, insert_by}
 use Rattle.setl_map.specs.Maps.{image, domain_of, only}
 use Rattle.setl_map.specs.Points.{is_at}
-use Rattle.setl_model.specs.Core.{Item, Two}
+use Rattle.setl_model.specs.Core.{Two}
 use Rattle.setl_model.specs.Iterations.{map_points}
 use Rattle.setl_iterator.specs.Points.{points}
 use Rattle.setl_iterator.proofs.Lists.{drop_at, none_left}
@@ -250,7 +250,7 @@ image_is x y ps count false e n h = h.1 (λ z. more (run x ps) count e n z)
 step_of : (f : List Datum) (at end : ℕ) (x y : Datum) (ps : List Parts) → drop at f ≡ pairs ((x, y) ∷ ps) → IsRising (pairs ((x, y) ∷ ps)) → end ≡ at + (1 + run x ps) → points (drop at f) ≡ Two (Some x) (shown (end - at == 1) y) ∷ points (drop end f)
 step_of f at end x y ps e r n =
     let behind : drop end f ≡ pairs (rest x ps) =
-      ap (λ k. drop k f) n ∙ sym (drop-drop (1 + run x ps) at f) ∙ ap (drop (1 + run x ps)) e ∙ drop_more (run x ps) (pair x y) (pairs ps) ∙ drop_run x ps in
+    ap (λ k. drop k f) n ∙ sym (drop-drop (1 + run x ps) at f) ∙ ap (drop (1 + run x ps)) e ∙ drop_more (run x ps) (pair x y) (pairs ps) ∙ drop_run x ps in
     ap points e ∙ points_step x y ps r
     ∙ ap (λ v. Two (Some x) v ∷ points (pairs (rest x ps))) (image_is x y ps (end - at) (end - at == 1) refl (omega (arith, n)) (image_step x y ps r))
     ∙ ap (λ l. Two (Some x) (shown (end - at == 1) y) ∷ points l) (sym behind)

@@ -1,5 +1,5 @@
 -- The items of sets and tuples.
-use Rattle.std.specs.Prelude.{◌≡◌, true, false, List, Option, refl}
+use Rattle.std.specs.Prelude.{◌≡◌, true, false, List, Option}
 use Rattle.std.specs.Bool.{if◌then◌else◌}
 use Rattle.std.proofs.Common.{ap, ◌∙◌}
 use Rattle.setl_value.specs.Datum.{Datum, set_of, tuple_of, element_list-elements_of, part_list-parts_of}

@@ -8,8 +8,8 @@ use crate::Memory;
 use crate::integers::next_integer;
 use crate::points::next_point;
 use crate::rests::{
-    Rest, copied_rest, next_component, next_letter, next_letter_place, next_member, next_place,
-    is_over, is_paired
+    Rest, copied_rest, is_over, is_paired, next_component, next_letter, next_letter_place,
+    next_member, next_place,
 };
 use setl_environment::Copied;
 use setl_value::Value;

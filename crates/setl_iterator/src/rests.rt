@@ -44,7 +44,10 @@ pub(crate) fn is_over(rest: &Rest) -> bool
 pub(crate) fn is_paired(rest: &Rest) -> bool
     ensures { result ≡ pairs_of rest.now }
 {
-    matches!(rest, Rest::Points(_, _) | Rest::Places(_, _) | Rest::LetterPlaces(_, _))
+    matches!(
+        rest,
+        Rest::Points(_, _) | Rest::Places(_, _) | Rest::LetterPlaces(_, _)
+    )
 }
 
 /// The same, which shares its body.

@@ -1,4 +1,4 @@
-use Rattle.std.proofs.Common.{ap, sym, ◌∙◌, arith, ◌<ℤ◌, FitsSigned}
+use Rattle.std.proofs.Common.{sym, ◌∙◌, arith, ◌<ℤ◌}
 use Rattle.std.specs.Int.{w128}
 use Rattle.std.proofs.lemmas.Int.{ints, to_z-of_z}
 use Rattle.setl_map.specs.Ranges.{step_from}
