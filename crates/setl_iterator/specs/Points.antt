@@ -1,0 +1,9 @@
+-- The arguments of a map with their images.
+use Rattle.std.specs.Prelude.{List}
+use Rattle.setl_value.specs.Datum.{Datum}
+use Rattle.setl_map.specs.Maps.{domain_of}
+use Rattle.setl_model.specs.Core.{Item}
+use Rattle.setl_model.specs.Iterations.{map_points}
+
+abbrev pub points : List Datum → List Item
+points f = map_points f (domain_of f)
