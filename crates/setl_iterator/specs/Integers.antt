@@ -1,4 +1,4 @@
--- The integers that are left of a range.
+-- The integers that are left of a range. No public clause cites this module.
 use Rattle.std.specs.Prelude.{ℕ, zero, suc, ℤ, ◌+ℤ◌, List, [], ◌∷◌, Option, Some, None}
 use Rattle.std.specs.Int.{int_wrap, w128}
 use Rattle.setl_value.specs.Datum.{Datum, int}

@@ -9,6 +9,7 @@ abbrev pub plain_item : Item → core.Item
 plain_item (One v) = core.One (part v)
 plain_item (Two x y) = core.Two (part x) (part y)
 
+-- whether it is an argument with its image
 abbrev pub is_pair : Item → Bool
 is_pair (One v) = false
 is_pair (Two x y) = true

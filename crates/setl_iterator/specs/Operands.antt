@@ -6,7 +6,7 @@ use Rattle.setl_map.specs.declared.OpFault.{OpFault}
 use Rattle.setl_map.specs.declared.OpFault.TheVariants.{Kind, Om, Zero, NoMemory}
 use Rattle.setl_model.specs.Iterations.{Started, Refuses}
 
--- a fault is told where it comes, and want of memory tells nothing
+-- this fault is why there are none; want of memory tells nothing
 abbrev pub Refused : OpFault → Started → Type 0
 Refused Om s = s ≡ Refuses OmFault
 Refused Kind s = s ≡ Refuses KindFault

@@ -1,4 +1,4 @@
--- What the rest of a source stands for.
+-- What the rest of a source stands for. No public clause cites this module.
 use Rattle.std.specs.Prelude.{◌≡◌, ◌+◌, Bool, true, false, List, drop}
 use Rattle.setl_value.specs.Body.{Members}
 use Rattle.setl_value.specs.Pairs.{is_map}

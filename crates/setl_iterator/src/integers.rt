@@ -69,6 +69,7 @@ fn stepped_back(a: i128, b: i128, c: i128) -> Option<Steps>
     if a < c {
         return None;
     }
+    // The last one lies between c and a, so it fits.
     let between = a.abs_diff(c);
     let step = a.abs_diff(b);
     Some(Steps {

@@ -40,6 +40,7 @@ pub(crate) fn three(sources: &[Option<Value>]) -> Result<(&Value, &Value, &Value
     all(&sources[0], &sources[1], &sources[2])
 }
 
+// Both values. Om where one is `om`.
 fn both<'a>(a: &'a Option<Value>, b: &'a Option<Value>) -> Result<(&'a Value, &'a Value), OpFault>
     ensures { MatchResult result (λ vs. (part a.now ≡ Some (datum vs.0.now)) × (part b.now ≡ Some (datum vs.1.now))) (λ e. (e ≡ OpFault.Om) × (all_values (part a.now ∷ part b.now ∷ []) ≡ None)) }
 {
@@ -49,6 +50,7 @@ fn both<'a>(a: &'a Option<Value>, b: &'a Option<Value>) -> Result<(&'a Value, &'
     }
 }
 
+// The three values. Om where one is `om`.
 fn all<'a>(
     a: &'a Option<Value>,
     b: &'a Option<Value>,
