@@ -9,23 +9,26 @@ use setl_value::Memory;
 use std::alloc::Global;
 use std::test::Fail;
 
-/// Steps of line 1.
-fn steps(alloc: Global, instrs: Vec<Instr>) -> Result<Items<Step>, Memory> {
-    let mut steps = Items::new(alloc);
+/// Adds steps of line 1.
+fn push(steps: &mut Items<Step>, instrs: Vec<Instr>) -> Result<(), Memory> {
     for what in instrs {
         steps.push(Step { line: 1, what })?;
     }
-    Ok(steps)
+    Ok(())
 }
 
 /// A main program that calls a procedure.
 fn main_body(alloc: Global) -> Result<Body, Memory> {
-    let instrs = vec![in alloc; Instr::Call(1), Instr::Discard, Instr::Stop]?;
+    let mut steps = Items::new(alloc);
+    push(
+        &mut steps,
+        vec![in alloc; Instr::Call(1), Instr::Discard, Instr::Stop]?,
+    )?;
     Ok(Body {
         name: Text::of(alloc, b"q")?,
         parameters: Items::new(alloc),
         names: Items::new(alloc),
-        steps: steps(alloc, instrs)?,
+        steps,
     })
 }
 
@@ -44,38 +47,52 @@ fn names(alloc: Global) -> Result<(Items<Param>, Items<OwnName>), Memory> {
     ))
 }
 
-/// Its steps, of which no run would get to the end.
-fn procedure_steps(alloc: Global) -> Result<Items<Step>, Memory> {
+/// A string, and updates.
+fn values(alloc: Global) -> Result<Vec<Instr>, Memory> {
     let string = Text::of(alloc, b"it's")?;
     let brackets = vec![in alloc; Bracket::Brace, Bracket::Round]?;
-    let instrs = vec![in alloc;
+    let first = Alteration::TakeOut(Taking::TakeFirst);
+    let with = Alteration::Combine(Operator::With);
+    Ok(vec![in alloc;
         Instr::Text(string),
-        Instr::Integer(-7),
+        Instr::Alter(first, Slot::Own(0), Items::from_vec(brackets)),
+        Instr::Alter(with, Slot::Own(0), Items::new(alloc)),
+    ]?)
+}
+
+/// Variables, the last of which has no name.
+fn variables(alloc: Global) -> Result<Vec<Instr>, Memory> {
+    Ok(vec![in alloc;
         Instr::Load(Slot::Own(0)),
         Instr::Take(Slot::Own(1)),
         Instr::Store(Slot::Own(2)),
         Instr::Load(Slot::Global(0)),
         Instr::Load(Slot::Own(3)),
+    ]?)
+}
+
+/// Other steps.
+fn others(alloc: Global) -> Result<Vec<Instr>, Memory> {
+    Ok(vec![in alloc;
+        Instr::Integer(-7),
         Instr::Operate(Operator::FoldAdd, 1),
         Instr::Operate(Operator::SetOf, 0),
-        Instr::Alter(
-            Alteration::TakeOut(Taking::TakeFirst),
-            Slot::Own(0),
-            Items::from_vec(brackets)
-        ),
-        Instr::Alter(
-            Alteration::Combine(Operator::With),
-            Slot::Own(0),
-            Items::new(alloc)
-        ),
         Instr::Decide(Connective::Implies, 12),
         Instr::Begin(Begin::Members(Source::SetSteps), 3),
         Instr::Next(16),
         Instr::Collect(Collection::OfTuple),
         Instr::Truth(false),
         Instr::Return,
-    ]?;
-    steps(alloc, instrs)
+    ]?)
+}
+
+/// The steps of the procedure, which no run would get through.
+fn procedure_steps(alloc: Global) -> Result<Items<Step>, Memory> {
+    let mut steps = Items::new(alloc);
+    push(&mut steps, values(alloc)?)?;
+    push(&mut steps, variables(alloc)?)?;
+    push(&mut steps, others(alloc)?)?;
+    Ok(steps)
 }
 
 /// Two bodies.
@@ -98,7 +115,7 @@ fn lists_two_bodies(rt: HostRuntime) -> Result<(), Fail> {
     let code = two_bodies(rt.alloc())?;
     let text = listing(rt.alloc(), &code)?;
     let want =
-        "main:\n0 call p\n1 drop\n2 stop\nproc p:\n0 str 'it''s'\n1 int -7\n2 load f\n3 take x\n4 store y.2\n5 load g\n6 load \n7 fold +\n8 set 0\n9 fromb f {} ()\n10 with f\n11 impl 12\n12 begin set step\n13 next 16\n14 newtuple\n15 false\n16 return\n";
+        "main:\n0 call p\n1 drop\n2 stop\nproc p:\n0 str 'it''s'\n1 fromb f {} ()\n2 with f\n3 load f\n4 take x\n5 store y.2\n6 load g\n7 load \n8 int -7\n9 fold +\n10 set 0\n11 impl 12\n12 begin set step\n13 next 16\n14 newtuple\n15 false\n16 return\n";
     assert_eq!(rt; text.as_slice(), want.as_bytes());
     Ok(())
 }
