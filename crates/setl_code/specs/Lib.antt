@@ -9,5 +9,6 @@ pub mod Machine
 pub mod CodeMeans
 pub mod Shapes
 pub mod Sound
+pub mod Ready
 pub mod Plain
 pub mod Worked
