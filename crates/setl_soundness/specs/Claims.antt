@@ -1,5 +1,5 @@
 -- What sound code gives, and that the code of programs is sound.
-use Rattle.std.specs.Prelude.{◌≡◌, ℕ, Bool, List}
+use Rattle.std.specs.Prelude.{ℕ, Bool, List}
 use Rattle.setl_run.specs.Variable.{Variable}
 use Rattle.setl_run.specs.Events.{End, Done, Stopped, Spent, Stuck}
 use Rattle.setl_run.specs.Run.{State, Next, Goes, Ends, step}
