@@ -1,2 +1,5 @@
 pub mod Laying
 pub mod Joining
+pub mod Expressions
+pub mod Statements
+pub mod Bodies

@@ -1,0 +1,156 @@
+-- The code of a formed program is sound.
+use Rattle.std.proofs.Common.{◌≡◌, ◌<◌, ◌≤◌, ℕ, zero, suc, ◌+◌, Bool, true, false, List, [], ◌∷◌, ◌++◌, ◌⊎◌, inl, inr, map, length, Option, Some, None, refl, sym, ap, ◌∙◌, subst, arith, length-append}
+use Rattle.std.specs.Prelude.{slice_get}
+use Rattle.std.specs.Option.{option_map}
+use Rattle.std.proofs.lemmas.Option.{slice_get-map}
+use Rattle.std.proofs.lemmas.List.{length-map}
+use Rattle.setl_run.specs.Variable.{Variable}
+use Rattle.setl_program.specs.Program.{Block, Procedure, Program}
+use Rattle.setl_program.specs.Formed.{FormedBlock, FormedProcedures, Formed}
+use Rattle.setl_code.specs.Code.{Instr, Take, Jump, Push, ReturnTop, StopRun, Step, Body, Code}
+use Rattle.setl_code.specs.Piece.{Piece, empty, step, jump_out, jump_on, join, ending_at, going_on_at, Labels, no_loop, past, steps_of, Is, Laid, ◌⨾◌, one}
+use Rattle.setl_code.specs.Generated.{block, main_code, procedure_code}
+use Rattle.setl_code.specs.CodeOf.{code_of, main_body, procedure_body}
+use Rattle.setl_code.specs.Shapes.{AResult, Shape, all_serve, outs, free_successors}
+use Rattle.setl_code.specs.Sound.{shape_at, is_fine, StaysBelow, height_at, AllLower, ReadLater, may_take, SoundBody, Sound}
+use Rattle.setl_soundness.proofs.Laying.{Entry, entry, shapes, heights, shape_of, height_of, Lies, lies_alone, Leads, Each, Fine, IsNoTake, Checked}
+use Rattle.setl_soundness.proofs.Joining.{then_, goes, stops}
+use Rattle.setl_soundness.proofs.Expressions.{HasBodies, place}
+use Rattle.setl_soundness.proofs.Statements.{block_checked}
+
+-- ---- each step of a piece
+
+-- a place of two lists one behind the other
+split : (A B : List Step) (i : ℕ) (st : Step) → slice_get (A ++ B) i ≡ Some st → (slice_get A i ≡ Some st) ⊎ ((k : ℕ) × (i ≡ length A + k) × (slice_get B k ≡ Some st))
+split [] B i st h = inr (i, omega arith, h)
+split (x ∷ A) B zero st h = inl h
+split (x ∷ A) B (suc i) st h = elim (split A B i st h) [ inl one ↦ inl one | inr two ↦ inr (two.0, (let is = two.1 in omega arith), two.2) ]
+
+past_steps : (p : Piece) (l : Labels) (at : ℕ) → past at p ≡ at + length (steps_of l p)
+past_steps empty l at = omega arith
+past_steps (step line i) l at = omega arith
+past_steps (jump_out line) l at = omega arith
+past_steps (jump_on line) l at = omega arith
+past_steps (join p q) l at =
+    let one = past_steps p l at in
+    let two = past_steps q l (past at p) in
+    let three = length-append (steps_of l p) (steps_of l q) in
+    omega (arith, one, two, three)
+past_steps (ending_at to p) l at = past_steps p (record l { exit = to }) at
+past_steps (going_on_at to p) l at = past_steps p (record l { again = to }) at
+
+-- what holds of each step of a piece holds of each step of its code
+module _ (P : ℕ → ℕ → Instr → Type 0) where
+  single : (at line line' : ℕ) (j j' : Instr) → P at line' j' → ◌≡◌ {A = Option Step} (Some (line', j')) (Some (line, j)) → P (at + 0) line j
+  single at line line' j j' h is =
+      let same : ◌≡◌ {A = Step} (line', j') (line, j) = cc in
+      let here : at ≡ at + 0 = omega arith in
+      subst (λ m. P m line j) here (subst (λ (s : Step). P at s.0 s.1) same h)
+
+  each_of : (p : Piece) (l : Labels) (at i line : ℕ) (j : Instr) → Each P l at p → slice_get (steps_of l p) i ≡ Some (line, j) → P (at + i) line j
+  each_of empty l at i line j h is = cc
+  each_of (step line' j') l at zero line j h is = single at line line' j j' h is
+  each_of (step line' j') l at (suc i) line j h is = cc
+  each_of (jump_out line') l at zero line j h is = single at line line' j (Jump l.exit) h is
+  each_of (jump_out line') l at (suc i) line j h is = cc
+  each_of (jump_on line') l at zero line j h is = single at line line' j (Jump l.again) h is
+  each_of (jump_on line') l at (suc i) line j h is = cc
+  each_of (join p q) l at i line j h is = go (split (steps_of l p) (steps_of l q) i (line, j) is) (λ k one. each_of p l at k line j h.0 one) (λ k two. each_of q l (past at p) k line j h.1 two)
+    where
+      go : (slice_get (steps_of l p) i ≡ Some (line, j)) ⊎ ((k : ℕ) × (i ≡ length (steps_of l p) + k) × (slice_get (steps_of l q) k ≡ Some (line, j))) → ((k : ℕ) → slice_get (steps_of l p) k ≡ Some (line, j) → P (at + k) line j) → ((k : ℕ) → slice_get (steps_of l q) k ≡ Some (line, j) → P (past at p + k) line j) → P (at + i) line j
+      go (inl one) first second = first i one
+      go (inr two) first second =
+          let place : past at p + two.0 ≡ at + i = (let is = two.1 in let all = past_steps p l at in omega arith) in
+          subst (λ m. P m line j) place (second two.0 two.2)
+  each_of (ending_at to p) l at i line j h is = each_of p (record l { exit = to }) at i line j h is
+  each_of (going_on_at to p) l at i line j h is = each_of p (record l { again = to }) at i line j h is
+
+-- ---- bodies
+
+no_operand : (s : Shape) → all_serve [] s ≡ true → s ≡ []
+no_operand [] h = refl
+no_operand (k ∷ s) h = cc
+
+same_shape : (s t : Shape) (o : Option Shape) → o ≡ Some s → o ≡ Some t → s ≡ t
+same_shape s t o h g = cc
+
+-- code that is checked as a whole is the code of a sound body
+sound_body : (c : Code) (declared : List Variable) (n : ℕ) (b : Body) (code : Laid) → b.steps ≡ steps_of no_loop (code 0) → Checked c.bodies n None None None (λ a. code) [] None → SoundBody c declared n b
+sound_body c declared n b code is p = record {
+  below = λ at line i here. (step_of at line i here).below;
+  table = shapes T;
+  whole = whole;
+  starts = shape_of T 0 all.0.entry all.0.is ∙ ap Some (no_operand all.0.entry.shape all.0.fits);
+  fine = λ at line i s here shape. (
+      let f = step_of at line i here in
+      subst (λ t. is_fine (shapes T) (outs c.bodies i (suc at) t) ≡ true) (same_shape f.entry.shape s (shape_at (shapes T) at) (shape_of T at f.entry f.is) shape) f.keeps);
+  heights = heights T;
+  falls = λ at line i here. (
+      let f = step_of at line i here in
+      subst (λ h. AllLower (heights T) h (free_successors i (suc at))) (sym (height_of T at f.entry f.is)) f.falls);
+  takes = λ at line x here. absurd ((step_of at line (Take x) here).no_take);
+}
+  where
+    T : List Entry
+    T = p.entries 0
+
+    all : Leads T 0 [] (0 + p.size) × Each (Fine c.bodies n T) no_loop 0 (code 0)
+    all = p.good T no_loop 0 0 0 (lies_alone T) (tt, tt, tt) tt
+
+    whole : length (shapes T) ≡ length b.steps
+    whole =
+        let one = p.counts 0 in
+        let two = p.places 0 0 in
+        let three = past_steps (code 0) no_loop 0 in
+        let four = ap length is in
+        let five : length (shapes T) ≡ length T = length-map T (λ (e : Entry). Some e.shape) in
+        omega arith
+
+    step_of : (at line : ℕ) (i : Instr) → Is b.steps at line i → Fine c.bodies n T at line i
+    step_of at line i here =
+        let place : 0 + at ≡ at = omega arith in
+        subst (λ m. Fine c.bodies n T m line i) place (each_of (Fine c.bodies n T) (code 0) no_loop 0 at line i all.1 (subst (λ ss. slice_get ss at ≡ Some (line, i)) is here))
+
+-- ---- programs
+
+-- the body of a procedure is formed
+formed_at : (all : List Procedure) (n f : ℕ) (ps : List Procedure) (p : Procedure) → FormedProcedures all n ps → slice_get ps f ≡ Some p → FormedBlock (place (n + f) all) false p.body
+formed_at all n zero (q ∷ ps) p h is =
+    let same : q ≡ p = cc in
+    let there : n ≡ n + 0 = omega arith in
+    subst (λ m. FormedBlock (place m all) false p.body) there (subst (λ r. FormedBlock (place n all) false r.body) same h.0)
+formed_at all n (suc f) (q ∷ ps) p h is =
+    let there : suc n + f ≡ n + suc f = omega arith in
+    subst (λ m. FormedBlock (place m all) false p.body) there (formed_at all (suc n) f ps p h.1 is)
+formed_at all n zero [] p h is = cc
+formed_at all n (suc f) [] p h is = cc
+
+module _ (p : Program) (formed : Formed p) where
+  has : HasBodies (code_of p).bodies p.procedures
+  has f = slice_get-map procedure_body p.procedures f
+
+  main_checked : Checked (code_of p).bodies 0 None None None (λ a. main_code p.end_line p.main) [] None
+  main_checked = then_ (block_checked (code_of p).bodies 0 p.procedures has false zero p.main formed.0 tt) (stops StopRun (λ at. refl) (λ at. refl) tt tt)
+
+  procedure_checked : (f : ℕ) (q : Procedure) → slice_get p.procedures f ≡ Some q → Checked (code_of p).bodies (suc f) None None None (λ a. procedure_code q.end_line q.body) [] None
+  procedure_checked f q is =
+      let number : 1 + f ≡ suc f = omega arith in
+      let over : 0 < suc f = omega arith in
+      let block_formed = subst (λ m. FormedBlock (place m p.procedures) false q.body) number (formed_at p.procedures 1 f p.procedures q formed.1 is) in
+      then_ (block_checked (code_of p).bodies (suc f) p.procedures has false zero q.body block_formed tt)
+      (then_ (goes (Push None) (λ at. refl) (λ hs h at less. (less, tt)) tt tt) (stops ReturnTop (λ at. refl) (λ at. refl) over tt))
+
+  body_sound : (declared : List Variable) (n : ℕ) (b : Body) → slice_get (code_of p).bodies n ≡ Some b → SoundBody (code_of p) declared n b
+  body_sound declared zero b is =
+      let same : main_body p ≡ b = cc in
+      subst (λ d. SoundBody (code_of p) declared zero d) same (sound_body (code_of p) declared zero (main_body p) (main_code p.end_line p.main) refl main_checked)
+  body_sound declared (suc f) b is = go (slice_get p.procedures f) refl (sym (has f) ∙ is)
+    where
+      go : (o : Option Procedure) → slice_get p.procedures f ≡ o → option_map procedure_body o ≡ Some b → SoundBody (code_of p) declared (suc f) b
+      go None there h = cc
+      go (Some q) there h =
+          let same : procedure_body q ≡ b = cc in
+          subst (λ d. SoundBody (code_of p) declared (suc f) d) same (sound_body (code_of p) declared (suc f) (procedure_body q) (procedure_code q.end_line q.body) refl (procedure_checked f q there))
+
+pub code_of_programs_is_sound : (p : Program) → Formed p → (declared : List Variable) → Sound (code_of p) declared
+code_of_programs_is_sound p formed declared = record { bodies = body_sound p formed declared; main = omega arith }
