@@ -5,6 +5,7 @@ pub mod Names
 pub mod CodeOf
 pub mod Listing
 pub mod CodeCore
+pub mod CellLaws
 pub mod Machine
 pub mod CodeMeans
 pub mod Shapes

@@ -1,11 +1,11 @@
 -- States that sound code goes through: the operands have the shape of their place, and no taken slot is read.
-use Rattle.std.specs.Prelude.{◌≡◌, ℕ, zero, suc, ◌<◌, true, List, [], ◌∷◌, length, slice_get, Some}
-use Rattle.setl_run.specs.Variable.{Variable}
+use Rattle.std.specs.Prelude.{◌≡◌, ℕ, suc, true, List, [], ◌∷◌, slice_get, Some}
+use Rattle.setl_run.specs.Variable.{Variable, Global, Own, Bound}
 use Rattle.setl_model.specs.Core.{Item, One, Two}
 use Rattle.setl_code.specs.Code.{Body, Code}
 use Rattle.setl_code.specs.CodeCore.{Gone, Cells, held_in, Operand, Result, Iterator, PairIterator, Collecting, Activation, Copy, CodeCore}
 use Rattle.setl_code.specs.Shapes.{Kind, AResult, ACollection, AnIterator, APairIterator, Shape, all_serve, results, handed}
-use Rattle.setl_code.specs.Sound.{shape_at, ReadLater, height_at, SoundBody, Sound}
+use Rattle.setl_code.specs.Sound.{shape_at, ReadLater, SoundBody, Sound}
 
 -- ---- operands
 
@@ -35,6 +35,12 @@ HaveShape os ks = ⊥
 
 -- ---- activations
 
+-- a variable that lies in an activation
+abbrev pub IsOwn : Variable → Type 0
+IsOwn (Global name) = ⊥
+IsOwn (Own body name) = Unit {0}
+IsOwn (Bound former name) = Unit {0}
+
 -- An activation at a step that is reached, with the operands for it once so many results are pushed. None of its
 -- variables that are taken is read before it is written.
 pub record AtWork (c : Code) (declared : List Variable) (a : Activation) (pushed : ℕ) : Type 0 where
@@ -46,7 +52,7 @@ pub record AtWork (c : Code) (declared : List Variable) (a : Activation) (pushed
   pub below : Shape
   pub operands : HaveShape a.operands below
   pub fits : all_serve (results pushed below) shape ≡ true
-  pub taken : (x : Variable) → held_in a.own x ≡ Gone → ReadLater a.body body x a.at → ⊥
+  pub taken : (x : Variable) → IsOwn x → held_in a.own x ≡ Gone → ReadLater a.body body x a.at → ⊥
 
 -- Activations that wait for a body of this number, the innermost first; none waits for the main program.
 abbrev pub Waiting : Code → List Variable → ℕ → List Activation → Type 0
