@@ -3,3 +3,5 @@ pub mod Joining
 pub mod Expressions
 pub mod Statements
 pub mod Bodies
+pub mod Operands
+pub mod Moving
