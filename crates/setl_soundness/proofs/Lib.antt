@@ -5,3 +5,4 @@ pub mod Statements
 pub mod Bodies
 pub mod Operands
 pub mod Moving
+pub mod Instructions

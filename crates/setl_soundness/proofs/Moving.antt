@@ -47,6 +47,10 @@ own_apart name (Global other) h = absurd h
 own_apart name (Own body other) h = refl
 own_apart name (Bound former other) h = refl
 
+-- the same core in another world
+abbrev pub in_world : World → CodeCore → CodeCore
+in_world w k = record k { world = w }
+
 module _ (c : Code) (declared : List Variable) where
   abbrev pub height : (k : CodeCore) → Ready c declared k → ℕ
   height k r = height_at r.now.sound.heights k.now.at
@@ -58,10 +62,6 @@ module _ (c : Code) (declared : List Variable) where
   abbrev pub FineMove : (k : CodeCore) → Ready c declared k → Move CodeCore → Type 0
   FineMove k r (Moves said told to line xs) = Leads k r (write_all xs to)
   FineMove k r (Halts e) = IsNotStuck e
-
-  -- the same core in another world
-  abbrev pub in_world : World → CodeCore → CodeCore
-  in_world w k = record k { world = w }
 
   module _ (k : CodeCore) (r : Ready c declared k) where
     -- ---- outcomes, turns and tests
@@ -111,7 +111,7 @@ module _ (c : Code) (declared : List Variable) where
       not_taken x read own gone = r.now.taken x own gone (reads is read)
 
       -- at a next step with operands of its shape, and other own cells
-      pub stands : (to : ℕ) (s : Shape) (xs : List Operand) (own : Cells) → says (shape_at r.now.sound.table to) s ≡ true → HaveShape xs s → ((y : Variable) → IsOwn y → held_in own y ≡ Gone → ReadLater k.now.body r.now.body y to → ⊥) → AtWork c declared (record { body = k.now.body; at = to; own = own; operands = xs }) 0
+      abbrev pub stands : (to : ℕ) (s : Shape) (xs : List Operand) (own : Cells) → says (shape_at r.now.sound.table to) s ≡ true → HaveShape xs s → ((y : Variable) → IsOwn y → held_in own y ≡ Gone → ReadLater k.now.body r.now.body y to → ⊥) → AtWork c declared (record { body = k.now.body; at = to; own = own; operands = xs }) 0
       stands to s xs own said shape taken =
           let t = there r.now.sound.table to s said in
           record { body = r.now.body; is = r.now.is; sound = r.now.sound; shape = t.0; reached = t.1; below = s; operands = shape; fits = t.2; taken = taken }
