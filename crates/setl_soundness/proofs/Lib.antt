@@ -6,3 +6,4 @@ pub mod Bodies
 pub mod Operands
 pub mod Moving
 pub mod Instructions
+pub mod Calling
