@@ -23,10 +23,10 @@ use Rattle.setl_soundness.proofs.Moving.{write_all, Falls, takes_turn, returns, 
 use Rattle.setl_soundness.proofs.Instructions.{T, H, Here, fine, lower, here, same_turns, first}
 
 -- no cell is taken
-abbrev NoneGone : Cells → Type 0
+abbrev pub NoneGone : Cells → Type 0
 NoneGone own = (y : Variable) → held_in own y ≡ Gone → ⊥
 
-all_there : (xs : List Variable) → NoneGone (cleared xs)
+pub all_there : (xs : List Variable) → NoneGone (cleared xs)
 all_there [] y gone = cc
 all_there (x ∷ xs) y gone = go (is_variable x y) (all_there xs y) gone
   where

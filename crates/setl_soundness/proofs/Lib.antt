@@ -7,3 +7,4 @@ pub mod Operands
 pub mod Moving
 pub mod Instructions
 pub mod Calling
+pub mod Running

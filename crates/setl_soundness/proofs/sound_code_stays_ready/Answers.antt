@@ -1,0 +1,8 @@
+use Rattle.setl_soundness.proofs.Running.{starts_ready, stays_ready}
+use Rattle.setl_soundness.proofs.sound_code_stays_ready.Goals as goal
+
+pub returns-clause-starts : goal.returns-clause-starts
+returns-clause-starts c = starts_ready
+
+pub returns-clause-stays : goal.returns-clause-stays
+returns-clause-stays c = stays_ready
