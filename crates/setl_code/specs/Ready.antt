@@ -1,11 +1,12 @@
 -- States that sound code goes through: the operands have the shape of their place, and no taken slot is read.
-use Rattle.std.specs.Prelude.{◌≡◌, ℕ, suc, true, List, [], ◌∷◌, slice_get, Some}
+use Rattle.std.specs.Prelude.{◌≡◌, ℕ, suc, true, List, [], ◌∷◌, slice_get, Some, IsSome}
 use Rattle.setl_run.specs.Variable.{Variable, Global, Own, Bound}
 use Rattle.setl_model.specs.Core.{Item, One, Two}
-use Rattle.setl_code.specs.Code.{Body, Code}
-use Rattle.setl_code.specs.CodeCore.{Gone, Cells, held_in, Operand, Result, Iterator, PairIterator, Collecting, Activation, Copy, CodeCore}
-use Rattle.setl_code.specs.Shapes.{Kind, AResult, ACollection, AnIterator, APairIterator, Shape, all_serve, results, handed}
-use Rattle.setl_code.specs.Sound.{shape_at, ReadLater, SoundBody, Sound}
+use Rattle.setl_code.specs.Code.{Instr, Body, Code}
+use Rattle.setl_code.specs.Piece.{Is}
+use Rattle.setl_code.specs.CodeCore.{Gone, Cells, held_in, Operand, Result, Iterator, PairIterator, Collecting, Activation, Copy, CodeCore, held}
+use Rattle.setl_code.specs.Shapes.{Kind, AResult, ACollection, AnIterator, APairIterator, Shape, all_serve, results, handed, outs}
+use Rattle.setl_code.specs.Sound.{shape_at, is_read, ReadLater, SoundBody, Sound}
 
 -- ---- operands
 
@@ -75,3 +76,15 @@ pub record Ready (c : Code) (declared : List Variable) (k : CodeCore) : Type 0 w
   pub now : AtWork c declared k.now 0
   pub callers : Waiting c declared k.now.body k.callers
   pub kept : AllKept c declared k.kept
+
+-- What the step in hand finds: its instruction takes operands of their shape, and reads no variable that is taken.
+pub record Finds (c : Code) (k : CodeCore) : Type 0 where
+  pub body : Body
+  pub has : slice_get c.bodies k.now.body ≡ Some body
+  pub line : ℕ
+  pub instr : Instr
+  pub is : Is body.steps k.now.at line instr
+  pub shape : Shape
+  pub operands : HaveShape k.now.operands shape
+  pub takes : IsSome (outs c.bodies instr (suc k.now.at) shape)
+  pub reads : (x : Variable) → is_read k.now.body body instr x ≡ true → held x k ≡ Gone → ⊥

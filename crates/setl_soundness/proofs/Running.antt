@@ -1,21 +1,22 @@
 -- Runs of sound code end, and aren't stuck.
 use Rattle.std.proofs.Common.{◌≡◌, ◌<◌, ◌≤◌, ℕ, zero, suc, ◌+◌, Bool, true, false, List, [], ◌∷◌, ◌++◌, length, Option, Some, None, refl, sym, ap, ◌∙◌, subst, arith}
-use Rattle.std.specs.Prelude.{slice_get}
-use Rattle.setl_run.specs.Variable.{Variable}
+use Rattle.std.specs.Prelude.{slice_get, IsSome}
+use Rattle.setl_run.specs.Variable.{Variable, Global, Own, Bound}
 use Rattle.setl_run.specs.Events.{Stored, Unfit, End, Stopped, Stuck}
 use Rattle.setl_run.specs.Run.{Store, Move, Moves, Halts, State, Next, Goes, Ends, Test, if_fits, stored, store_all, settle, step, and_then, run}
 use Rattle.setl_modes.specs.Modes.{Mode}
 use Rattle.setl_model.specs.Step.{test_of}
 use Rattle.setl_code.specs.Code.{Instr, Push, PushAtom, PushEof, Load, Take, StoreIn, Operate, Alter, Decides, TestBool, Unless, Jump, DropTop, DupTop, PartsOf, BeginOver, NextOr, BeginOf, AddBelow, LeaveAll, PayRound, CallBody, ReturnTop, KeepAll, GoBack, PrintTop, ReadOne, StopRun, Step, Body, Code}
-use Rattle.setl_code.specs.CodeCore.{There, Gone, held_in, variables_of, CodeCore, write}
+use Rattle.setl_code.specs.Piece.{Is}
+use Rattle.setl_code.specs.CodeCore.{There, Gone, held_in, variables_of, CodeCore, held, write}
 use Rattle.setl_code.specs.Machine.{do_instr, do_step, body_steps, machine}
 use Rattle.setl_code.specs.CodeMeans.{main_slots, code_first, CodeMeans}
-use Rattle.setl_code.specs.Shapes.{Shape}
-use Rattle.setl_code.specs.Sound.{Table, shape_at, SoundBody, Sound}
+use Rattle.setl_code.specs.Shapes.{Shape, Outs}
+use Rattle.setl_code.specs.Sound.{Table, shape_at, is_fine, is_read, Sound}
 use Rattle.setl_code.specs.Ready.{AtWork, Ready}
-use Rattle.setl_soundness.specs.Claims.{IsNotStuck, GoesOn, CodeEnding, StartsReady, StaysReady, EveryCodeRunEnds, NoCodeIsStuck}
-use Rattle.setl_soundness.proofs.Moving.{write_all, Falls, takes_turn, returns, moves_on, height, Leads, FineMove}
-use Rattle.setl_soundness.proofs.Instructions.{Here, push_fine, eof_fine, atom_fine, load_fine, begin_of_fine, read_fine, store_fine, drop_fine, dup_fine, operate_fine, print_fine, parts_fine, jump_fine, test_fine, unless_fine, decides_fine, alter_fine, begin_fine, next_fine, add_fine, leave_fine, round_fine}
+use Rattle.setl_soundness.specs.Claims.{IsNotStuck, GoesOn, CodeEnding, StartsReady, StaysReady, ReachedAreReady, ReadyFinds, EveryCodeRunEnds, NoCodeIsStuck}
+use Rattle.setl_soundness.proofs.Moving.{not_taken, write_all, Falls, takes_turn, returns, moves_on, height, Leads, FineMove}
+use Rattle.setl_soundness.proofs.Instructions.{T, Here, fine, here, push_fine, eof_fine, atom_fine, load_fine, begin_of_fine, read_fine, store_fine, drop_fine, dup_fine, operate_fine, print_fine, parts_fine, jump_fine, test_fine, unless_fine, decides_fine, alter_fine, begin_fine, next_fine, add_fine, leave_fine, round_fine}
 use Rattle.setl_soundness.proofs.Calling.{NoneGone, all_there, call_fine, return_fine, keep_fine, back_fine, take_fine}
 
 -- a place that the table of a body knows has a step
@@ -102,6 +103,15 @@ module _ (c : Code) (declared : List Variable) where
       go (Goes u) ready h ih = ih u ready h
       go (Ends f u) fine h ih = let same : f ≡ e = cc in subst IsNotStuck same fine
 
+  -- a run from a ready state goes to ready states
+  pub reached : (test : Test) (n : ℕ) (s t : State CodeCore) → Ready c declared s.core → run (machine c) test n s ≡ Goes t → Ready c declared t.core
+  reached test zero s t r h = let same : s ≡ t = cc in subst (λ u. Ready c declared u.core) same r
+  reached test (suc n) s t r h = go (step (machine c) test s) (stays test s r) h (λ u. reached test n u t)
+    where
+      go : (x : Next CodeCore) → GoesOn c declared x → and_then x (run (machine c) test n) ≡ Goes t → ((u : State CodeCore) → Ready c declared u.core → run (machine c) test n u ≡ Goes t → Ready c declared t.core) → Ready c declared t.core
+      go (Goes u) ready h ih = ih u ready h
+      go (Ends f u) fine h ih = cc
+
   abbrev HasEnd : Test → State CodeCore → Type 0
   HasEnd test s = (n : ℕ) × (e : End) × (t : State CodeCore) × (run (machine c) test n s ≡ Ends e t)
 
@@ -175,3 +185,32 @@ every_code_run_ends c declared sound modes input turns based =
 
 pub no_code_is_stuck : NoCodeIsStuck
 no_code_is_stuck c declared sound modes input turns based out means = never_stuck c declared (test_of modes based) means.steps (code_first c input turns) means.last Stuck (starts_ready c declared sound input turns) means.ends
+
+pub reached_are_ready : ReachedAreReady
+reached_are_ready c declared sound modes input turns based n s h = reached c declared (test_of modes based) n (code_first c input turns) s (starts_ready c declared sound input turns) h
+
+-- what is fine pops what it needs
+some_outs : (table : Table) (o : Outs) → is_fine table o ≡ true → IsSome o
+some_outs table None h = cc
+some_outs table (Some os) h = refl
+
+pub ready_finds : ReadyFinds
+ready_finds c declared k r =
+    let st = step_there r.now.sound.table r.now.body.steps k.now.at r.now.shape r.now.sound.whole r.now.reached in
+    let is : Is r.now.body.steps k.now.at st.0.0 st.0.1 = st.1 in
+    record {
+      body = r.now.body;
+      has = r.now.is;
+      line = st.0.0;
+      instr = st.0.1;
+      is = is;
+      shape = r.now.shape;
+      operands = here c declared k r st.0.0;
+      takes = some_outs (T c declared k r st.0.0) _ (fine c declared k r st.0.0 st.0.1 is);
+      reads = λ x. read x st.0.0 st.0.1 is;
+    }
+  where
+    read : (x : Variable) (line : ℕ) (i : Instr) → Is r.now.body.steps k.now.at line i → is_read k.now.body r.now.body i x ≡ true → held x k ≡ Gone → ⊥
+    read (Global name) line i is reads_ gone = r.globals (Global name) gone
+    read (Own body name) line i is reads_ gone = not_taken c declared k r line i is (Own body name) reads_ tt gone
+    read (Bound former name) line i is reads_ gone = not_taken c declared k r line i is (Bound former name) reads_ tt gone

@@ -1,8 +1,8 @@
 -- What sound code gives, and that the code of programs is sound.
-use Rattle.std.specs.Prelude.{ℕ, Bool, List}
+use Rattle.std.specs.Prelude.{◌≡◌, ℕ, Bool, List}
 use Rattle.setl_run.specs.Variable.{Variable}
 use Rattle.setl_run.specs.Events.{End, Done, Stopped, Spent, Stuck}
-use Rattle.setl_run.specs.Run.{State, Next, Goes, Ends, step}
+use Rattle.setl_run.specs.Run.{State, Next, Goes, Ends, step, run}
 use Rattle.setl_modes.specs.Modes.{Mode}
 use Rattle.setl_program.specs.Program.{Program}
 use Rattle.setl_program.specs.Formed.{Formed}
@@ -13,7 +13,7 @@ use Rattle.setl_code.specs.CodeCore.{CodeCore}
 use Rattle.setl_code.specs.Machine.{machine}
 use Rattle.setl_code.specs.CodeMeans.{code_first, CodeMeans}
 use Rattle.setl_code.specs.Sound.{Sound}
-use Rattle.setl_code.specs.Ready.{Ready}
+use Rattle.setl_code.specs.Ready.{Ready, Finds}
 
 -- ---- sound code
 
@@ -34,6 +34,14 @@ GoesOn c declared (Ends e s) = IsNotStuck e
 
 abbrev pub StaysReady : Type 0
 StaysReady = (c : Code) (declared : List Variable) (modes : List (Variable × Mode)) (based : Bool) (s : State CodeCore) → Ready c declared s.core → GoesOn c declared (step (machine c) (test_of modes based) s)
+
+-- each state that a run of sound code reaches is ready
+abbrev pub ReachedAreReady : Type 0
+ReachedAreReady = (c : Code) (declared : List Variable) → Sound c declared → (modes : List (Variable × Mode)) (input : List ℕ) (turns : ℕ) (based : Bool) (n : ℕ) (s : State CodeCore) → run (machine c) (test_of modes based) n (code_first c input turns) ≡ Goes s → Ready c declared s.core
+
+-- in a ready state the instruction in hand finds the operands that it takes, and reads no taken variable
+abbrev pub ReadyFinds : Type 0
+ReadyFinds = (c : Code) (declared : List Variable) (k : CodeCore) → Ready c declared k → Finds c k
 
 -- What a run of code wrote and how it ended.
 pub record CodeEnding (c : Code) (modes : List (Variable × Mode)) (input : List ℕ) (turns : ℕ) (based : Bool) : Type 0 where

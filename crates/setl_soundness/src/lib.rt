@@ -2,14 +2,17 @@
 //! No code that runs: laws alone.
 #![tactic(auto)]
 
-ghost use Rattle.setl_soundness.specs.Claims.{StartsReady, StaysReady, EveryCodeRunEnds, NoCodeIsStuck, CodeOfProgramsIsSound};
+ghost use Rattle.setl_soundness.specs.Claims.{StartsReady, StaysReady, ReachedAreReady, ReadyFinds, EveryCodeRunEnds, NoCodeIsStuck, CodeOfProgramsIsSound};
 ghost use Rattle.setl_model.specs.Ending.{EveryRunEnds, NoneIsStuck};
 
 /// Sound code starts in a state that is ready, and each step from a ready state leads to a ready state or ends the run,
-/// which isn't stuck.
+/// which isn't stuck. So each state that a run reaches is ready. There the instruction in hand finds the operands that it
+/// takes, of their kinds, and reads no variable whose value was taken.
 pub fn sound_code_stays_ready()
     ensures starts { StartsReady }
     ensures stays { StaysReady }
+    ensures reached { ReachedAreReady }
+    ensures finds { ReadyFinds }
 {}
 
 /// Every run of sound code ends, for every input and bound on turns, and is not stuck.
