@@ -1,5 +1,6 @@
 pub mod Code
 pub mod Piece
+pub mod PieceLaws
 pub mod Generated
 pub mod Names
 pub mod CodeOf

@@ -1,19 +1,21 @@
 -- The code of a formed program is sound.
-use Rattle.std.proofs.Common.{◌≡◌, ◌<◌, ◌≤◌, ℕ, zero, suc, ◌+◌, Bool, true, false, List, [], ◌∷◌, ◌++◌, ◌⊎◌, inl, inr, map, length, Option, Some, None, refl, sym, ap, ◌∙◌, subst, arith, length-append}
+use Rattle.std.proofs.Common.{◌≡◌, ◌<◌, ℕ, zero, suc, ◌+◌, true, false, List, [], ◌∷◌, ◌++◌, ◌⊎◌, inl, inr, length, Option, Some, None, refl, sym, ap, ◌∙◌, subst, arith}
 use Rattle.std.specs.Prelude.{slice_get}
 use Rattle.std.specs.Option.{option_map}
 use Rattle.std.proofs.lemmas.Option.{slice_get-map}
 use Rattle.std.proofs.lemmas.List.{length-map}
 use Rattle.setl_run.specs.Variable.{Variable}
-use Rattle.setl_program.specs.Program.{Block, Procedure, Program}
-use Rattle.setl_program.specs.Formed.{FormedBlock, FormedProcedures, Formed}
+use Rattle.setl_program.specs.Program.{Procedure, Program}
+use Rattle.setl_program.specs.FormedLaws.{formed_at}
+use Rattle.setl_program.specs.Formed.{FormedBlock, Formed}
 use Rattle.setl_code.specs.Code.{Instr, Take, Jump, Push, ReturnTop, StopRun, Step, Body, Code}
-use Rattle.setl_code.specs.Piece.{Piece, empty, step, jump_out, jump_on, join, ending_at, going_on_at, Labels, no_loop, past, steps_of, Is, Laid, ◌⨾◌, one}
-use Rattle.setl_code.specs.Generated.{block, main_code, procedure_code}
+use Rattle.setl_code.specs.Piece.{Piece, empty, step, jump_out, jump_on, join, ending_at, going_on_at, Labels, no_loop, past, steps_of, Is, Laid, one}
+use Rattle.setl_code.specs.PieceLaws.{past_steps}
+use Rattle.setl_code.specs.Generated.{main_code, procedure_code}
 use Rattle.setl_code.specs.CodeOf.{code_of, main_body, procedure_body}
-use Rattle.setl_code.specs.Shapes.{AResult, Shape, all_serve, outs, free_successors}
-use Rattle.setl_code.specs.Sound.{shape_at, is_fine, StaysBelow, height_at, AllLower, ReadLater, may_take, SoundBody, Sound}
-use Rattle.setl_soundness.proofs.Laying.{Entry, entry, shapes, heights, shape_of, height_of, Lies, lies_alone, Leads, Each, Fine, IsNoTake, Checked}
+use Rattle.setl_code.specs.Shapes.{Shape, all_serve, outs, free_successors}
+use Rattle.setl_code.specs.Sound.{shape_at, is_fine, AllLower, SoundBody, Sound}
+use Rattle.setl_soundness.proofs.Laying.{Entry, shapes, heights, shape_of, height_of, lies_alone, Leads, Each, Fine, Checked}
 use Rattle.setl_soundness.proofs.Joining.{then_, goes, stops}
 use Rattle.setl_soundness.proofs.Expressions.{HasBodies, place}
 use Rattle.setl_soundness.proofs.Statements.{block_checked}
@@ -25,19 +27,6 @@ split : (A B : List Step) (i : ℕ) (st : Step) → slice_get (A ++ B) i ≡ Som
 split [] B i st h = inr (i, omega arith, h)
 split (x ∷ A) B zero st h = inl h
 split (x ∷ A) B (suc i) st h = elim (split A B i st h) [ inl one ↦ inl one | inr two ↦ inr (two.0, (let is = two.1 in omega arith), two.2) ]
-
-past_steps : (p : Piece) (l : Labels) (at : ℕ) → past at p ≡ at + length (steps_of l p)
-past_steps empty l at = omega arith
-past_steps (step line i) l at = omega arith
-past_steps (jump_out line) l at = omega arith
-past_steps (jump_on line) l at = omega arith
-past_steps (join p q) l at =
-    let one = past_steps p l at in
-    let two = past_steps q l (past at p) in
-    let three = length-append (steps_of l p) (steps_of l q) in
-    omega (arith, one, two, three)
-past_steps (ending_at to p) l at = past_steps p (record l { exit = to }) at
-past_steps (going_on_at to p) l at = past_steps p (record l { again = to }) at
 
 -- what holds of each step of a piece holds of each step of its code
 module _ (P : ℕ → ℕ → Instr → Type 0) where
@@ -112,18 +101,6 @@ sound_body c declared n b code is p = record {
         subst (λ m. Fine c.bodies n T m line i) place (each_of (Fine c.bodies n T) (code 0) no_loop 0 at line i all.1 (subst (λ ss. slice_get ss at ≡ Some (line, i)) is here))
 
 -- ---- programs
-
--- the body of a procedure is formed
-formed_at : (all : List Procedure) (n f : ℕ) (ps : List Procedure) (p : Procedure) → FormedProcedures all n ps → slice_get ps f ≡ Some p → FormedBlock (place (n + f) all) false p.body
-formed_at all n zero (q ∷ ps) p h is =
-    let same : q ≡ p = cc in
-    let there : n ≡ n + 0 = omega arith in
-    subst (λ m. FormedBlock (place m all) false p.body) there (subst (λ r. FormedBlock (place n all) false r.body) same h.0)
-formed_at all n (suc f) (q ∷ ps) p h is =
-    let there : suc n + f ≡ n + suc f = omega arith in
-    subst (λ m. FormedBlock (place m all) false p.body) there (formed_at all (suc n) f ps p h.1 is)
-formed_at all n zero [] p h is = cc
-formed_at all n (suc f) [] p h is = cc
 
 module _ (p : Program) (formed : Formed p) where
   has : HasBodies (code_of p).bodies p.procedures

@@ -1,26 +1,23 @@
 -- Calls, returns, `ok`, `fail` and takes of sound code.
-use Rattle.std.proofs.Common.{◌≡◌, ◌<◌, ◌≤◌, ℕ, zero, suc, ◌+◌, ◌-◌, Bool, true, false, List, [], ◌∷◌, ◌++◌, ◌⊎◌, inl, inr, map, length, Option, Some, None, refl, sym, ap, ◌∙◌, subst, arith}
-use Rattle.std.specs.Prelude.{◌&&◌, slice_get, cond}
-use Rattle.setl_value.specs.Datum.{Datum, bool}
+use Rattle.std.proofs.Common.{◌≡◌, ◌<◌, ℕ, suc, Bool, true, false, List, [], ◌∷◌, ◌⊎◌, inl, inr, length, Option, Some, None, refl, sym, ap, ◌∙◌, subst, arith}
+use Rattle.std.specs.Prelude.{slice_get, cond}
+use Rattle.setl_value.specs.Datum.{Datum}
 use Rattle.setl_run.specs.Variable.{Variable, Global, Own, Bound, is_variable}
 use Rattle.setl_run.specs.VariableLaws.{same_variable, variable_itself}
-use Rattle.setl_run.specs.Events.{Called, Returned, Kept, Back}
-use Rattle.setl_run.specs.Run.{Store, Move, Moves}
 use Rattle.setl_program.specs.Program.{Parameter}
 use Rattle.setl_model.specs.Calls.{parameter, bindings}
-use Rattle.setl_code.specs.Code.{Instr, Take, CallBody, ReturnTop, KeepAll, GoBack, Step, Body, Code}
-use Rattle.setl_code.specs.Piece.{Is}
-use Rattle.setl_code.specs.CodeCore.{There, Gone, Held, Cells, held_in, with_held, cleared, variables_of, Operand, Result, popped, Activation, Copy, CodeCore, held, write}
+use Rattle.setl_code.specs.Code.{Take, CallBody, ReturnTop, KeepAll, GoBack, Body, Code}
+use Rattle.setl_code.specs.CodeCore.{There, Gone, Cells, held_in, with_held, cleared, variables_of, Operand, Result, Activation, Copy, CodeCore, write}
 use Rattle.setl_code.specs.CellLaws.{held_after}
-use Rattle.setl_code.specs.Machine.{next, on_top, on_rest, on_held, do_instr, call_body, return_to, handed_back, go_back}
-use Rattle.setl_code.specs.Shapes.{AResult, Shape, Outs, outs, on_to, lead, call_outs, without_results, results, handed}
-use Rattle.setl_code.specs.Sound.{Table, shape_at, says, all_said, is_fine, is_read, is_handed, ReadLater, reads, later, may_take, SoundBody, Sound}
-use Rattle.setl_code.specs.Ready.{HaveShape, IsOwn, AtWork, Waiting, Whole, AllKept, Ready}
-use Rattle.setl_soundness.proofs.Laying.{parts, serve_on}
+use Rattle.setl_code.specs.Machine.{do_instr, call_body, return_to, go_back}
+use Rattle.setl_code.specs.Shapes.{AResult, Shape, call_outs, without_results, results, handed}
+use Rattle.setl_code.specs.Sound.{all_said, is_fine, ReadLater}
+use Rattle.setl_code.specs.Ready.{HaveShape, IsOwn, AtWork, Waiting, AllKept, Ready}
+use Rattle.setl_soundness.proofs.Laying.{parts}
 use Rattle.setl_soundness.proofs.Expressions.{results_more}
 use Rattle.setl_soundness.proofs.Operands.{led, topped, popping, handing}
-use Rattle.setl_soundness.proofs.Moving.{write_all, Falls, takes_turn, returns, moves_on, there, Leads, FineMove, in_world, turns, not_gone, not_taken, stands, still}
-use Rattle.setl_soundness.proofs.Instructions.{T, H, Here, fine, lower, here, same_turns, first}
+use Rattle.setl_soundness.proofs.Moving.{write_all, takes_turn, returns, moves_on, there, Leads, FineMove, turns, not_gone, not_taken, stands, still}
+use Rattle.setl_soundness.proofs.Instructions.{T, Here, fine, lower, here, same_turns, first}
 
 -- no cell is taken
 abbrev pub NoneGone : Cells → Type 0

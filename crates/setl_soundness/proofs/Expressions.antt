@@ -1,24 +1,22 @@
 -- The code of expressions keeps shapes and falls in height.
-use Rattle.std.proofs.Common.{◌≡◌, ◌<◌, ℕ, zero, suc, ◌+◌, Bool, true, false, List, [], ◌∷◌, map, length, Option, Some, None, refl, sym, ap, ◌∙◌, subst, arith}
+use Rattle.std.proofs.Common.{◌≡◌, ◌<◌, ℕ, zero, suc, ◌+◌, List, [], ◌∷◌, length, Option, Some, None, refl, ap, ◌∙◌, subst, arith}
 use Rattle.std.specs.Prelude.{slice_get}
 use Rattle.std.specs.Option.{option_map}
 use Rattle.setl_value.specs.Datum.{bool}
-use Rattle.setl_tree.specs.declared.tree.Passing.{Passing}
-use Rattle.setl_tree.specs.declared.tree.Passing.TheVariants.{Rd, Wr, Rw}
 use Rattle.setl_map.specs.declared.Operator.TheVariants.{Not}
 use Rattle.setl_run.specs.Variable.{Variable}
 use Rattle.setl_program.specs.declared.kinds.Quantifier.{Quantifier}
 use Rattle.setl_program.specs.declared.kinds.Quantifier.TheVariants.{Exists, Forall, NotExists}
-use Rattle.setl_program.specs.Program.{Slots, Binding, Member, Components, Point, Begin, Members, Points, begin_of, Expr, Literal, Undefined, Name, Apply, Connect, Choose, Former, Selection, Quantified, Call, Newat, Eof, Ok, Exprs, no_expr, more_exprs, Iterators, no_iterator, more_iterators, Condition, no_condition, only_if, Arguments, no_argument, rd_argument, wr_argument, rw_argument, Parameter, Procedure, Program}
+use Rattle.setl_program.specs.Program.{Slots, Binding, Member, Components, Point, Begin, Members, Points, begin_of, Expr, Literal, Undefined, Name, Apply, Connect, Choose, Former, Selection, Quantified, Call, Newat, Eof, Ok, Exprs, no_expr, more_exprs, Iterators, no_iterator, more_iterators, Condition, no_condition, only_if, Arguments, no_argument, rd_argument, wr_argument, rw_argument, Parameter, Procedure}
 use Rattle.setl_program.specs.Formed.{Around, BindsMembers, number_of, Passed, PassedAs, FormedExpr, FormedExprs, FormedIterators, FormedCondition, FormedArguments}
 use Rattle.setl_model.specs.Iterations.{decided, undecided, all_bound}
-use Rattle.setl_code.specs.Code.{Push, PushAtom, PushEof, Load, StoreIn, Operate, Unless, Jump, DropTop, DupTop, PartsOf, BeginOver, BeginOf, AddBelow, LeaveAll, CallBody, KeepAll, TestBool, Body}
-use Rattle.setl_code.specs.CodeOf.{code_of, main_body, procedure_body}
-use Rattle.setl_code.specs.Piece.{Laid, ◌⨾◌, nothing, one, jumps_out}
+use Rattle.setl_code.specs.Code.{Push, PushAtom, PushEof, Load, StoreIn, Operate, DropTop, DupTop, PartsOf, BeginOver, BeginOf, AddBelow, LeaveAll, CallBody, KeepAll, TestBool, Body}
+use Rattle.setl_code.specs.CodeOf.{procedure_body}
+use Rattle.setl_code.specs.Piece.{Laid, ◌⨾◌, nothing, one}
 use Rattle.setl_code.specs.Generated.{store_slots, parts, bind, clear, set_by, count_from, count, levels, negated, keep_or_drop, expr, exprs, iterators, condition, arguments}
-use Rattle.setl_code.specs.Shapes.{AResult, ACollection, AnIterator, APairIterator, Shape, Outs, outs, on_to, lead, after, if_collection, call_outs, without_results, without_levels, results, handed, iterator_kind}
-use Rattle.setl_simulation.specs.Matches.{arguments_number}
-use Rattle.setl_soundness.proofs.Laying.{both, itself, Checked}
+use Rattle.setl_code.specs.Shapes.{AResult, ACollection, Shape, outs, on_to, lead, after, if_collection, call_outs, without_results, without_levels, results, handed, iterator_kind}
+use Rattle.setl_program.specs.FormedLaws.{arguments_number, as_many}
+use Rattle.setl_soundness.proofs.Laying.{itself, Checked}
 use Rattle.setl_soundness.proofs.Joining.{no_code, then_, goes, jumps, jumps_behind, unless, over_unless, over_decides, chooses, names_end, leaves, with_item, goes_round}
 
 -- ---- shapes
@@ -117,16 +115,6 @@ module _ {bs : List Body} {n : ℕ} where
       one Points at = refl
 
 -- ---- calls
-
-pub as_many : (ps : List Parameter) (all : Arguments) → PassedAs ps all → length ps ≡ arguments_number all
-as_many [] no_argument h = refl
-as_many (p ∷ ps) (rd_argument e rest) h = ap suc (as_many ps rest h.1)
-as_many (p ∷ ps) (wr_argument x rest) h = ap suc (as_many ps rest h.1)
-as_many (p ∷ ps) (rw_argument x rest) h = ap suc (as_many ps rest h.1)
-as_many [] (rd_argument e rest) h = absurd h
-as_many [] (wr_argument x rest) h = absurd h
-as_many [] (rw_argument x rest) h = absurd h
-as_many (p ∷ ps) no_argument h = absurd h
 
 pub as_many_set : (ps : List Parameter) (all : Arguments) → PassedAs ps all → handed ps ≡ length (set_by all)
 as_many_set [] no_argument h = refl

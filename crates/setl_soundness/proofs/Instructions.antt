@@ -1,33 +1,31 @@
 -- Each instruction of sound code moves from a ready state to a ready state, or ends and isn't stuck.
-use Rattle.std.proofs.Common.{◌≡◌, ◌<◌, ◌≤◌, ℕ, zero, suc, ◌+◌, ◌-◌, Bool, true, false, List, [], ◌∷◌, ◌⊎◌, inl, inr, length, Option, Some, None, refl, sym, ap, ◌∙◌, subst, arith}
-use Rattle.std.specs.Prelude.{◌&&◌, slice_get}
+use Rattle.std.proofs.Common.{◌≡◌, ◌<◌, ◌≤◌, ℕ, suc, ◌+◌, ◌-◌, Bool, true, false, List, [], ◌∷◌, inl, inr, length, Option, Some, None, refl, subst, arith}
 use Rattle.std.specs.List.{Contains}
-use Rattle.setl_value.specs.Datum.{Datum, bool, int, text, atom, tuple, set, part_list}
-use Rattle.setl_map.specs.Outcome.{Fault, Outcome}
+use Rattle.setl_value.specs.Datum.{Datum, bool, atom, tuple, part_list}
+use Rattle.setl_map.specs.Outcome.{Outcome}
 use Rattle.setl_map.specs.declared.Operator.{Operator}
 use Rattle.setl_map.specs.Operators.{op_of}
 use Rattle.setl_text.specs.Texts.{print_line}
 use Rattle.setl_text.specs.Reading.{Reading, Denotes, AtEnd, NotForm, TooWide, TooDeep, read_denotation}
 use Rattle.setl_run.specs.Variable.{Variable}
 use Rattle.setl_run.specs.VariableLaws.{variable_itself}
-use Rattle.setl_run.specs.Events.{Event, Printed}
-use Rattle.setl_run.specs.Run.{Move, Moves}
+use Rattle.setl_run.specs.Events.{Printed}
 use Rattle.setl_program.specs.declared.kinds.Collection.{Collection}
 use Rattle.setl_program.specs.declared.kinds.Connective.{Connective}
 use Rattle.setl_program.specs.declared.kinds.Connective.TheVariants.{And, Or, Implies}
 use Rattle.setl_program.specs.declared.kinds.Taking.{Taking}
-use Rattle.setl_program.specs.Program.{Begin, Members, Points}
+use Rattle.setl_program.specs.Program.{Begin}
 use Rattle.setl_model.specs.World.{World}
-use Rattle.setl_model.specs.Core.{Item, One, Two, Selected}
+use Rattle.setl_model.specs.Core.{One, Two, Selected}
 use Rattle.setl_model.specs.Iterations.{Started, Starts, Refuses, items_of}
 use Rattle.setl_model.specs.Places.{with_part_at_all, part_at_all, combined, Taken, TakesOut, IsEmpty, CannotTake, take_out}
-use Rattle.setl_code.specs.Code.{Bracket, Alteration, Putting, Combining, TakingOut, Instr, Push, PushAtom, PushEof, Load, StoreIn, Operate, Alter, Decides, TestBool, Unless, Jump, DropTop, DupTop, PartsOf, BeginOver, NextOr, BeginOf, AddBelow, LeaveAll, PayRound, PrintTop, ReadOne, Step, Body, Code}
+use Rattle.setl_code.specs.Code.{Bracket, Alteration, Putting, Combining, TakingOut, Instr, Push, PushAtom, PushEof, Load, StoreIn, Operate, Alter, Decides, TestBool, Unless, Jump, DropTop, DupTop, PartsOf, BeginOver, NextOr, BeginOf, AddBelow, LeaveAll, PayRound, PrintTop, ReadOne, Code}
 use Rattle.setl_code.specs.Piece.{Is}
-use Rattle.setl_code.specs.CodeCore.{Operand, Result, Iterator, PairIterator, Collecting, popped, CodeCore}
-use Rattle.setl_code.specs.Machine.{at_step, go_to, next, on_top, on_popped, on_rest, do_instr, store_whole, take_from, take_apart, begin_over, next_or, iterator, go_added, Added, Adds, Refused, Nowhere, added, alter, selected_by, push_read, print_values, decides}
-use Rattle.setl_code.specs.Shapes.{Kind, AResult, ACollection, AnIterator, APairIterator, Shape, Outs, outs, on_to, lead, after, if_collection, alter_outs, next_outs, iterator_kind, without_results, without_levels, results, successors, free_successors}
-use Rattle.setl_code.specs.Sound.{Table, shape_at, says, all_said, is_fine, is_written, height_at, AllLower}
-use Rattle.setl_code.specs.Ready.{AllSingle, AllPairs, HasKind, HaveShape, Ready}
+use Rattle.setl_code.specs.CodeCore.{Operand, Result, Iterator, PairIterator, Collecting, CodeCore}
+use Rattle.setl_code.specs.Machine.{go_to, next, do_instr, store_whole, take_from, take_apart, begin_over, next_or, iterator, go_added, Added, Adds, Refused, Nowhere, added, alter, selected_by, push_read, decides}
+use Rattle.setl_code.specs.Shapes.{AResult, ACollection, AnIterator, APairIterator, Shape, outs, after, if_collection, alter_outs, next_outs, iterator_kind, without_results, without_levels, results, successors, free_successors}
+use Rattle.setl_code.specs.Sound.{Table, all_said, is_fine, is_written, height_at, AllLower}
+use Rattle.setl_code.specs.Ready.{HaveShape, Ready}
 use Rattle.setl_soundness.proofs.Laying.{parts}
 use Rattle.setl_soundness.proofs.Operands.{led, after_some, shape_on, topped, popping, leaving, parted, IsAdded, adding, AllOf, items_alike}
 use Rattle.setl_soundness.proofs.Moving.{FineMove, in_world, outcomes, turns, branches, not_gone, not_taken, Goes, lands, stores}

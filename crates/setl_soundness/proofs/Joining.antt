@@ -1,13 +1,12 @@
 -- How code with shapes and heights is put together.
-use Rattle.std.proofs.Common.{◌≡◌, ◌<◌, ◌≤◌, ℕ, zero, suc, ◌+◌, Bool, true, false, List, [], ◌∷◌, ◌++◌, length, Option, Some, None, refl, sym, ap, ◌∙◌, subst, arith, length-append}
-use Rattle.std.specs.Prelude.{slice_get}
+use Rattle.std.proofs.Common.{◌≡◌, ◌<◌, ◌≤◌, ℕ, suc, ◌+◌, true, List, [], ◌∷◌, ◌++◌, length, Option, Some, refl, ap, arith, length-append}
 use Rattle.setl_program.specs.declared.kinds.Connective.{Connective}
 use Rattle.setl_program.specs.Program.{Begin, Members, Points}
 use Rattle.setl_code.specs.Code.{Instr, Jump, Unless, Decides, NextOr, PayRound, Body}
 use Rattle.setl_code.specs.Piece.{past, Labels, Laid, ◌⨾◌, nothing, one, jumps_out, jumps_on, over, either, ending, going_on, leaving, with_end, with_start}
 use Rattle.setl_code.specs.Shapes.{AResult, Shape, all_serve, outs, free_successors, iterator_kind}
-use Rattle.setl_code.specs.Sound.{is_fine, all_said, says, shape_at, StaysBelow, height_at, AllLower}
-use Rattle.setl_soundness.proofs.Laying.{both, itself, Entry, entry, shapes, heights, Lies, lies_first, lies_next, Leads, raised, serving, moved, said, lower, Wants, raised_want, Around, raised_all, IsNoTake, Each, Fine, Checked, first_at}
+use Rattle.setl_code.specs.Sound.{is_fine, says, shape_at, StaysBelow, height_at, AllLower}
+use Rattle.setl_soundness.proofs.Laying.{both, Entry, entry, shapes, heights, Lies, lies_first, lies_next, Leads, raised, serving, moved, said, lower, Wants, raised_want, Around, raised_all, IsNoTake, Each, Fine, Checked, first_at}
 
 -- an item of an iterator lies on the operands
 abbrev pub with_item : Begin → Shape → Shape

@@ -1,9 +1,9 @@
 -- Pieces of code with a shape and a height at each step.
-use Rattle.std.proofs.Common.{◌≡◌, ◌<◌, ◌≤◌, ℕ, zero, suc, ◌+◌, Bool, true, false, List, [], ◌∷◌, ◌++◌, map, length, Option, Some, None, refl, sym, ap, ◌∙◌, subst, arith, length-append}
+use Rattle.std.proofs.Common.{◌≡◌, ◌<◌, ◌≤◌, ℕ, zero, suc, ◌+◌, Bool, true, false, List, [], ◌∷◌, ◌++◌, map, length, Option, Some, None, refl, ap, ◌∙◌, subst, arith}
 use Rattle.std.specs.Prelude.{◌&&◌, slice_get}
-use Rattle.setl_code.specs.Code.{Instr, Take, Jump, Unless, Step, Body}
-use Rattle.setl_code.specs.Piece.{Piece, empty, step, jump_out, jump_on, join, ending_at, going_on_at, past, Labels, steps_of, Laid, ◌⨾◌, nothing, one}
-use Rattle.setl_code.specs.Shapes.{Kind, AResult, ACollection, AnIterator, APairIterator, Shape, serves, all_serve, Outs, outs, free_successors}
+use Rattle.setl_code.specs.Code.{Instr, Take, Jump, Body}
+use Rattle.setl_code.specs.Piece.{Piece, empty, step, jump_out, jump_on, join, ending_at, going_on_at, past, Labels, Laid}
+use Rattle.setl_code.specs.Shapes.{Kind, AResult, ACollection, AnIterator, APairIterator, Shape, serves, all_serve, outs, free_successors}
 use Rattle.setl_code.specs.Sound.{Table, shape_at, says, is_fine, StaysBelow, height_at, AllLower}
 
 -- ---- shapes that serve

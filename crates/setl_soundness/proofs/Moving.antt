@@ -1,26 +1,24 @@
 -- Moves of sound code: they lead to ready states, and each takes a turn, returns, or falls in height.
-use Rattle.std.proofs.Common.{◌≡◌, ◌<◌, ◌≤◌, ℕ, zero, suc, ◌+◌, ◌-◌, Bool, true, false, List, [], ◌∷◌, ◌⊎◌, inl, inr, length, Option, Some, None, refl, sym, ap, ◌∙◌, subst, arith}
-use Rattle.std.specs.Prelude.{◌&&◌, slice_get, nat_le, cond}
+use Rattle.std.proofs.Common.{◌≡◌, ◌<◌, ◌≤◌, ℕ, suc, ◌-◌, Bool, true, false, List, [], ◌∷◌, ◌⊎◌, inl, inr, length, Option, Some, None, refl, sym, ap, ◌∙◌, arith}
+use Rattle.std.specs.Prelude.{nat_le, cond}
 use Rattle.std.specs.List.{Contains}
 use Rattle.std.proofs.lemmas.Bool.{leb-true}
 use Rattle.setl_value.specs.Datum.{Datum, bool}
 use Rattle.setl_map.specs.Outcome.{Outcome, Gives, Fails, Overspends}
 use Rattle.setl_run.specs.Variable.{Variable, Global, Own, Bound, is_variable}
-use Rattle.setl_run.specs.VariableLaws.{same_variable, variable_itself}
-use Rattle.setl_run.specs.Events.{Event, End, Done, Stopped, Spent, Stuck}
+use Rattle.setl_run.specs.Events.{Event}
 use Rattle.setl_run.specs.Run.{Store, Move, Moves, Halts}
 use Rattle.setl_model.specs.World.{World, branch}
 use Rattle.setl_model.specs.World as world
-use Rattle.setl_code.specs.Code.{Instr, Step, Body, Code}
+use Rattle.setl_code.specs.Code.{Instr, Code}
 use Rattle.setl_code.specs.Piece.{Is}
-use Rattle.setl_code.specs.CodeCore.{There, Gone, Held, Cells, held_in, with_held, Operand, Activation, CodeCore, holding, held, write}
+use Rattle.setl_code.specs.CodeCore.{There, Gone, Held, Cells, held_in, with_held, Operand, CodeCore, holding, held, write}
 use Rattle.setl_code.specs.CellLaws.{held_after}
-use Rattle.setl_code.specs.Machine.{at_step, go_to, next, on_held, store_in}
-use Rattle.setl_code.specs.Shapes.{Shape, all_serve, results, successors}
-use Rattle.setl_code.specs.Sound.{Table, shape_at, says, is_read, is_written, ReadLater, reads, later, height_at, SoundBody}
-use Rattle.setl_code.specs.Ready.{HaveShape, IsOwn, AtWork, Waiting, Whole, Ready}
+use Rattle.setl_code.specs.Machine.{at_step, on_held, store_in}
+use Rattle.setl_code.specs.Shapes.{Shape, all_serve, successors}
+use Rattle.setl_code.specs.Sound.{Table, shape_at, says, is_read, is_written, ReadLater, reads, later, height_at}
+use Rattle.setl_code.specs.Ready.{HaveShape, IsOwn, AtWork, Ready}
 use Rattle.setl_soundness.specs.Claims.{IsNotStuck}
-use Rattle.setl_soundness.proofs.Operands.{shape_on}
 
 -- the core after all stores of a move
 abbrev pub write_all : List Store → CodeCore → CodeCore

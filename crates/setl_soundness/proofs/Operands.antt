@@ -1,27 +1,26 @@
 -- Operands of a shape have what instructions pop.
-use Rattle.std.proofs.Common.{◌≡◌, ℕ, zero, suc, Bool, true, false, List, [], ◌∷◌, map, length, Option, Some, None, refl, sym, ap, ◌∙◌, subst}
-use Rattle.std.specs.Prelude.{◌&&◌, ◌||◌, ◌==◌, ◌-ℤ◌, unsigned_abs, if◌then◌else◌, cond}
-use Rattle.setl_value.specs.Datum.{Datum, bool, int, text, atom, tuple, set, element_list, part_list}
+use Rattle.std.proofs.Common.{◌≡◌, ℕ, zero, suc, Bool, true, false, List, [], ◌∷◌, Option, Some, None, refl, sym, ap, subst}
+use Rattle.std.specs.Prelude.{◌&&◌, ◌||◌, ◌==◌, ◌-ℤ◌, unsigned_abs, cond}
+use Rattle.setl_value.specs.Datum.{Datum, int, text, tuple, set, element_list, part_list}
 use Rattle.setl_value.specs.Pairs.{is_map}
 use Rattle.setl_set.specs.Sets.{set_from}
 use Rattle.setl_map.specs.Outcome.{Fault, KindFault, ZeroFault, all_values}
 use Rattle.setl_map.specs.Ranges.{range_from, step_from}
-use Rattle.setl_map.specs.Maps.{image, domain_of}
+use Rattle.setl_map.specs.Maps.{domain_of}
 use Rattle.setl_program.specs.declared.kinds.Collection.{Collection}
 use Rattle.setl_program.specs.declared.kinds.Source.TheVariants.{Values, Between, SetSteps, TupleSteps}
 use Rattle.setl_tree.specs.declared.tree.Passing.{Passing}
 use Rattle.setl_tree.specs.declared.tree.Passing.TheVariants.{Rd, Wr, Rw}
-use Rattle.setl_run.specs.Variable.{Variable, is_variable}
+use Rattle.setl_run.specs.Variable.{is_variable}
 use Rattle.setl_run.specs.VariableLaws.{variable_itself}
 use Rattle.setl_run.specs.Run.{Move}
 use Rattle.setl_program.specs.Program.{Begin, Members, Points, Parameter}
 use Rattle.setl_model.specs.Calls.{parameter}
 use Rattle.setl_model.specs.Collections.{refusal}
-use Rattle.setl_model.specs.Core.{Item, One, Two}
 use Rattle.setl_model.specs.Iterations.{Started, Starts, Refuses, items_of, of_values, one_source, values_of, points_of, integers_between, integers_stepped, members, singles, letters, map_points, place_points}
-use Rattle.setl_code.specs.CodeCore.{There, Gone, Held, Cells, held_in, Operand, Result, Iterator, PairIterator, Collecting, value_of, Popped, Pops, popped, pop_before, without_iterators, CodeCore}
+use Rattle.setl_code.specs.CodeCore.{There, Gone, Held, Cells, held_in, Operand, Result, Iterator, PairIterator, Collecting, Pops, popped, without_iterators, CodeCore}
 use Rattle.setl_code.specs.Machine.{on_top, iterator, Added, Adds, Refused, Nowhere, add_by, below, added, first_parts, hand, push_held, handed_back}
-use Rattle.setl_code.specs.Shapes.{Kind, AResult, ACollection, AnIterator, APairIterator, Shape, serves, all_serve, Outs, lead, after, if_collection, without_results, without_levels, results, one_more, handed, iterator_kind}
+use Rattle.setl_code.specs.Shapes.{Kind, AResult, ACollection, AnIterator, APairIterator, Shape, serves, all_serve, lead, after, if_collection, without_results, without_levels, results, one_more, handed, iterator_kind}
 use Rattle.setl_code.specs.Sound.{Table, is_fine, all_said, is_back, is_handed}
 use Rattle.setl_code.specs.Ready.{AllSingle, AllPairs, HasKind, HaveShape}
 use Rattle.setl_soundness.proofs.Laying.{parts}

@@ -1,21 +1,20 @@
 -- Runs of sound code end, and aren't stuck.
-use Rattle.std.proofs.Common.{◌≡◌, ◌<◌, ◌≤◌, ℕ, zero, suc, ◌+◌, Bool, true, false, List, [], ◌∷◌, ◌++◌, length, Option, Some, None, refl, sym, ap, ◌∙◌, subst, arith}
+use Rattle.std.proofs.Common.{◌≡◌, ◌<◌, ℕ, zero, suc, Bool, true, false, List, [], ◌∷◌, ◌++◌, length, Option, Some, None, refl, ap, ◌∙◌, subst, arith}
 use Rattle.std.specs.Prelude.{slice_get, IsSome}
 use Rattle.setl_run.specs.Variable.{Variable, Global, Own, Bound}
-use Rattle.setl_run.specs.Events.{Stored, Unfit, End, Stopped, Stuck}
+use Rattle.setl_run.specs.Events.{Unfit, End, Stopped, Stuck}
 use Rattle.setl_run.specs.Run.{Store, Move, Moves, Halts, State, Next, Goes, Ends, Test, if_fits, stored, store_all, settle, step, and_then, run}
-use Rattle.setl_modes.specs.Modes.{Mode}
 use Rattle.setl_model.specs.Step.{test_of}
 use Rattle.setl_code.specs.Code.{Instr, Push, PushAtom, PushEof, Load, Take, StoreIn, Operate, Alter, Decides, TestBool, Unless, Jump, DropTop, DupTop, PartsOf, BeginOver, NextOr, BeginOf, AddBelow, LeaveAll, PayRound, CallBody, ReturnTop, KeepAll, GoBack, PrintTop, ReadOne, StopRun, Step, Body, Code}
 use Rattle.setl_code.specs.Piece.{Is}
-use Rattle.setl_code.specs.CodeCore.{There, Gone, held_in, variables_of, CodeCore, held, write}
-use Rattle.setl_code.specs.Machine.{do_instr, do_step, body_steps, machine}
-use Rattle.setl_code.specs.CodeMeans.{main_slots, code_first, CodeMeans}
+use Rattle.setl_code.specs.CodeCore.{Gone, variables_of, CodeCore, held}
+use Rattle.setl_code.specs.Machine.{do_instr, body_steps, machine}
+use Rattle.setl_code.specs.CodeMeans.{main_slots, code_first}
 use Rattle.setl_code.specs.Shapes.{Shape, Outs}
-use Rattle.setl_code.specs.Sound.{Table, shape_at, is_fine, is_read, Sound}
-use Rattle.setl_code.specs.Ready.{AtWork, Ready}
-use Rattle.setl_soundness.specs.Claims.{IsNotStuck, GoesOn, CodeEnding, StartsReady, StaysReady, ReachedAreReady, ReadyFinds, EveryCodeRunEnds, NoCodeIsStuck}
-use Rattle.setl_soundness.proofs.Moving.{not_taken, write_all, Falls, takes_turn, returns, moves_on, height, Leads, FineMove}
+use Rattle.setl_code.specs.Sound.{Table, shape_at, is_fine, is_read}
+use Rattle.setl_code.specs.Ready.{Ready}
+use Rattle.setl_soundness.specs.Claims.{IsNotStuck, GoesOn, StartsReady, StaysReady, ReachedAreReady, ReadyFinds, EveryCodeRunEnds, NoCodeIsStuck}
+use Rattle.setl_soundness.proofs.Moving.{not_taken, write_all, takes_turn, returns, moves_on, height, Leads, FineMove}
 use Rattle.setl_soundness.proofs.Instructions.{T, Here, fine, here, push_fine, eof_fine, atom_fine, load_fine, begin_of_fine, read_fine, store_fine, drop_fine, dup_fine, operate_fine, print_fine, parts_fine, jump_fine, test_fine, unless_fine, decides_fine, alter_fine, begin_fine, next_fine, add_fine, leave_fine, round_fine}
 use Rattle.setl_soundness.proofs.Calling.{NoneGone, all_there, call_fine, return_fine, keep_fine, back_fine, take_fine}
 

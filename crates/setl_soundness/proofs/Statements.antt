@@ -1,16 +1,15 @@
 -- The code of statements and of bodies keeps shapes and falls in height.
-use Rattle.std.proofs.Common.{◌≡◌, ◌<◌, ◌≤◌, ℕ, zero, suc, ◌+◌, Bool, true, false, List, [], ◌∷◌, ◌++◌, length, Option, Some, None, refl, sym, ap, ◌∙◌, subst, arith}
-use Rattle.std.specs.Prelude.{slice_get}
+use Rattle.std.proofs.Common.{◌≡◌, ◌<◌, ℕ, zero, suc, Bool, true, false, List, [], ◌∷◌, length, Option, Some, refl, sym, ap, ◌∙◌, subst, arith}
 use Rattle.setl_run.specs.Variable.{Variable}
-use Rattle.setl_program.specs.Program.{Slots, Expr, Selectors, no_selector, round_selector, brace_selector, Stmt, Assign, Update, AssignParts, TakeFrom, Perform, If, For, While, Quit, Continue, Fail, Stop, Pass, Return, Print, Read, Block, no_stmt, more_stmts, Procedure}
-use Rattle.setl_program.specs.Formed.{FormedSelectors, InProcedure, IsInLoop, FormedStmt, FormedBlock}
-use Rattle.setl_code.specs.Code.{Bracket, Alteration, Putting, Combining, TakingOut, Push, StoreIn, Alter, Jump, DropTop, LeaveAll, ReturnTop, GoBack, PrintTop, ReadOne, StopRun, Body}
-use Rattle.setl_code.specs.Piece.{Laid, ◌⨾◌, nothing, one, jumps_out, jumps_on, going_on}
-use Rattle.setl_code.specs.Generated.{store_slots, parts, count, levels, expr, exprs, iterators, condition, selectors, brackets, alter, put, read_all, quit, stmt, block}
-use Rattle.setl_code.specs.Shapes.{AResult, Shape, Outs, outs, on_to, after, lead, alter_outs, without_results, without_levels, results}
+use Rattle.setl_program.specs.Program.{Selectors, no_selector, round_selector, brace_selector, Stmt, Assign, Update, AssignParts, TakeFrom, Perform, If, For, While, Quit, Continue, Fail, Stop, Pass, Return, Print, Read, Block, no_stmt, more_stmts, Procedure}
+use Rattle.setl_program.specs.Formed.{FormedSelectors, InProcedure, FormedStmt, FormedBlock}
+use Rattle.setl_code.specs.Code.{Alteration, Putting, Combining, TakingOut, Alter, LeaveAll, ReturnTop, GoBack, PrintTop, ReadOne, StopRun, Body}
+use Rattle.setl_code.specs.Piece.{jumps_on}
+use Rattle.setl_code.specs.Generated.{count, levels, selectors, brackets, alter, put, read_all, quit, stmt, block}
+use Rattle.setl_code.specs.Shapes.{AResult, Shape, on_to, alter_outs, without_levels, results}
 use Rattle.setl_soundness.proofs.Laying.{itself, Checked}
 use Rattle.setl_soundness.proofs.Joining.{no_code, then_, goes, stops, jumps, jumps_behind, jumps_again, chooses, ends_there, goes_on, names_end, goes_while}
-use Rattle.setl_soundness.proofs.Expressions.{results_more, results_popped, exprs_popped, above, levels_left, drops, stores, slots_stored, parts_stored, ends_as, HasBodies, place, expr_checked, exprs_checked, iterators_checked, condition_checked}
+use Rattle.setl_soundness.proofs.Expressions.{results_more, results_popped, exprs_popped, levels_left, drops, stores, slots_stored, parts_stored, ends_as, HasBodies, place, expr_checked, exprs_checked, iterators_checked, condition_checked}
 
 -- ---- places
 
