@@ -1,5 +1,5 @@
 -- Sound code: no operand is ever missing or of a wrong kind, no taken slot is read, and each way round takes a turn.
--- And closed code: what it names is there.
+-- Closed code: what it names is there. And few enough of everything.
 use Rattle.std.specs.Prelude.{◌≡◌, ℕ, zero, suc, ◌<◌, ◌^◌, Bool, true, false, ◌&&◌, ◌||◌, not, List, [], ◌∷◌, ◌++◌, length, slice_get, Option, Some, None}
 use Rattle.std.specs.List.{Contains}
 use Rattle.setl_run.specs.Variable.{Variable, Global, is_variable}
@@ -170,10 +170,12 @@ last_step (s ∷ ss) = last_step ss
 pub record ClosedBody (c : Code) (n : ℕ) (b : Body) : Type 0 where
   pub names : (at line : ℕ) (i : Instr) → Is b.steps at line i → Names c n b i
   pub last : ends_body (last_step b.steps) ≡ true
-  pub few : (length b.steps < 2 ^ 32) × (length (variables_of n b) < 2 ^ 32)
 
--- Code that can be written down with numbers of 32 bits: each slot, step and body that it names is there, each body ends,
--- and there are few of each.
-pub record Closed (c : Code) (declared : List Variable) : Type 0 where
+-- Code in which each slot, step and body that is named is there, and each body ends.
+pub record Closed (c : Code) : Type 0 where
   pub bodies : (n : ℕ) (b : Body) → slice_get c.bodies n ≡ Some b → ClosedBody c n b
-  pub few : (length c.bodies < 2 ^ 32) × (length c.vars < 2 ^ 32) × (length declared < 2 ^ 32)
+
+-- Code whose bodies, steps and slots have numbers of 32 bits.
+pub record Few (c : Code) (declared : List Variable) : Type 0 where
+  pub bodies : (n : ℕ) (b : Body) → slice_get c.bodies n ≡ Some b → (length b.steps < 2 ^ 32) × (length (variables_of n b) < 2 ^ 32)
+  pub counts : (length c.bodies < 2 ^ 32) × (length c.vars < 2 ^ 32) × (length declared < 2 ^ 32)

@@ -8,3 +8,4 @@ pub mod Moving
 pub mod Instructions
 pub mod Calling
 pub mod Running
+pub mod Uses

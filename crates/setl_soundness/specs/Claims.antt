@@ -12,7 +12,8 @@ use Rattle.setl_code.specs.CodeOf.{code_of}
 use Rattle.setl_code.specs.CodeCore.{CodeCore}
 use Rattle.setl_code.specs.Machine.{machine}
 use Rattle.setl_code.specs.CodeMeans.{code_first, CodeMeans}
-use Rattle.setl_code.specs.Sound.{Sound}
+use Rattle.setl_code.specs.Sound.{Sound, Closed}
+use Rattle.setl_soundness.specs.Named.{Named}
 use Rattle.setl_code.specs.Ready.{Ready, Finds}
 
 -- ---- sound code
@@ -62,3 +63,7 @@ NoCodeIsStuck = (c : Code) (declared : List Variable) → Sound c declared → (
 -- the code of a formed program is sound, whichever variables are declared
 abbrev pub CodeOfProgramsIsSound : Type 0
 CodeOfProgramsIsSound = (p : Program) → Formed p → (declared : List Variable) → Sound (code_of p) declared
+
+-- and where the program names what is there, so does its code
+abbrev pub CodeOfProgramsIsClosed : Type 0
+CodeOfProgramsIsClosed = (p : Program) → Formed p → Named p → Closed (code_of p)

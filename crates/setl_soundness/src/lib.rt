@@ -2,7 +2,7 @@
 //! No code that runs: laws alone.
 #![tactic(auto)]
 
-ghost use Rattle.setl_soundness.specs.Claims.{StartsReady, StaysReady, ReachedAreReady, ReadyFinds, EveryCodeRunEnds, NoCodeIsStuck, CodeOfProgramsIsSound};
+ghost use Rattle.setl_soundness.specs.Claims.{StartsReady, StaysReady, ReachedAreReady, ReadyFinds, EveryCodeRunEnds, NoCodeIsStuck, CodeOfProgramsIsSound, CodeOfProgramsIsClosed};
 ghost use Rattle.setl_model.specs.Ending.{EveryRunEnds, NoneIsStuck};
 
 /// Sound code starts in a state that is ready, and each step from a ready state leads to a ready state or ends the run,
@@ -21,9 +21,10 @@ pub fn every_run_of_sound_code_ends()
     ensures not_stuck { NoCodeIsStuck }
 {}
 
-/// The code of a formed program is sound.
+/// The code of a formed program is sound. And closed, where the program names what is there.
 pub fn code_of_programs_is_sound()
-    ensures { CodeOfProgramsIsSound }
+    ensures sound { CodeOfProgramsIsSound }
+    ensures closed { CodeOfProgramsIsClosed }
 {}
 
 /// Every run of a formed program ends, for every input and bound on turns, whether declarations count or not, and none is
