@@ -36,7 +36,7 @@ module _ (P : ℕ → ℕ → Instr → Type 0) where
       let here : at ≡ at + 0 = omega arith in
       subst (λ m. P m line j) here (subst (λ (s : Step). P at s.0 s.1) same h)
 
-  each_of : (p : Piece) (l : Labels) (at i line : ℕ) (j : Instr) → Each P l at p → slice_get (steps_of l p) i ≡ Some (line, j) → P (at + i) line j
+  pub each_of : (p : Piece) (l : Labels) (at i line : ℕ) (j : Instr) → Each P l at p → slice_get (steps_of l p) i ≡ Some (line, j) → P (at + i) line j
   each_of empty l at i line j h is = cc
   each_of (step line' j') l at zero line j h is = single at line line' j j' h is
   each_of (step line' j') l at (suc i) line j h is = cc
@@ -63,42 +63,55 @@ no_operand (k ∷ s) h = cc
 same_shape : (s t : Shape) (o : Option Shape) → o ≡ Some s → o ≡ Some t → s ≡ t
 same_shape s t o h g = cc
 
--- code that is checked as a whole is the code of a sound body
-sound_body : (c : Code) (declared : List Variable) (n : ℕ) (b : Body) (code : Laid) → b.steps ≡ steps_of no_loop (code 0) → Checked c.bodies n None None None (λ a. code) [] None → SoundBody c declared n b
-sound_body c declared n b code is p = record {
-  below = λ at line i here. (step_of at line i here).below;
-  table = shapes T;
+-- Steps with a table in which each of them is fine.
+pub record LaidOut (bs : List Body) (n : ℕ) (steps : List Step) : Type 0 where
+  pub table : List Entry
+  pub whole : length table ≡ length steps
+  pub starts : shape_at (shapes table) 0 ≡ Some []
+  pub each : (at line : ℕ) (i : Instr) → Is steps at line i → Fine bs n table at line i
+
+-- code that is checked as a whole
+pub laid_out : {bs : List Body} {n : ℕ} (code : Laid) → Checked bs n None None None (λ a. code) [] None → LaidOut bs n (steps_of no_loop (code 0))
+laid_out {bs = bs} {n = n} code p = record {
+  table = T;
   whole = whole;
   starts = shape_of T 0 all.0.entry all.0.is ∙ ap Some (no_operand all.0.entry.shape all.0.fits);
-  fine = λ at line i s here shape. (
-      let f = step_of at line i here in
-      subst (λ t. is_fine (shapes T) (outs c.bodies i (suc at) t) ≡ true) (same_shape f.entry.shape s (shape_at (shapes T) at) (shape_of T at f.entry f.is) shape) f.keeps);
-  heights = heights T;
-  falls = λ at line i here. (
-      let f = step_of at line i here in
-      subst (λ h. AllLower (heights T) h (free_successors i (suc at))) (sym (height_of T at f.entry f.is)) f.falls);
-  takes = λ at line x here. absurd ((step_of at line (Take x) here).no_take);
+  each = step_of;
 }
   where
     T : List Entry
     T = p.entries 0
 
-    all : Leads T 0 [] (0 + p.size) × Each (Fine c.bodies n T) no_loop 0 (code 0)
+    all : Leads T 0 [] (0 + p.size) × Each (Fine bs n T) no_loop 0 (code 0)
     all = p.good T no_loop 0 0 0 (lies_alone T) (tt, tt, tt) tt
 
-    whole : length (shapes T) ≡ length b.steps
+    whole : length T ≡ length (steps_of no_loop (code 0))
     whole =
         let one = p.counts 0 in
         let two = p.places 0 0 in
         let three = past_steps (code 0) no_loop 0 in
-        let four = ap length is in
-        let five : length (shapes T) ≡ length T = length-map T (λ (e : Entry). Some e.shape) in
         omega arith
 
-    step_of : (at line : ℕ) (i : Instr) → Is b.steps at line i → Fine c.bodies n T at line i
+    step_of : (at line : ℕ) (i : Instr) → Is (steps_of no_loop (code 0)) at line i → Fine bs n T at line i
     step_of at line i here =
         let place : 0 + at ≡ at = omega arith in
-        subst (λ m. Fine c.bodies n T m line i) place (each_of (Fine c.bodies n T) (code 0) no_loop 0 at line i all.1 (subst (λ ss. slice_get ss at ≡ Some (line, i)) is here))
+        subst (λ m. Fine bs n T m line i) place (each_of (Fine bs n T) (code 0) no_loop 0 at line i all.1 here)
+
+sound_body : (c : Code) (declared : List Variable) (n : ℕ) (b : Body) → LaidOut c.bodies n b.steps → SoundBody c declared n b
+sound_body c declared n b p = record {
+  below = λ at line i here. (p.each at line i here).below;
+  table = shapes p.table;
+  whole = length-map p.table (λ (e : Entry). Some e.shape) ∙ p.whole;
+  starts = p.starts;
+  fine = λ at line i s here shape. (
+      let f = p.each at line i here in
+      subst (λ t. is_fine (shapes p.table) (outs c.bodies i (suc at) t) ≡ true) (same_shape f.entry.shape s (shape_at (shapes p.table) at) (shape_of p.table at f.entry f.is) shape) f.keeps);
+  heights = heights p.table;
+  falls = λ at line i here. (
+      let f = p.each at line i here in
+      subst (λ h. AllLower (heights p.table) h (free_successors i (suc at))) (sym (height_of p.table at f.entry f.is)) f.falls);
+  takes = λ at line x here. absurd ((p.each at line (Take x) here).no_take);
+}
 
 -- ---- programs
 
@@ -106,28 +119,33 @@ module _ (p : Program) (formed : Formed p) where
   has : HasBodies (code_of p).bodies p.procedures
   has f = slice_get-map procedure_body p.procedures f
 
-  main_checked : Checked (code_of p).bodies 0 None None None (λ a. main_code p.end_line p.main) [] None
-  main_checked = then_ (block_checked (code_of p).bodies 0 p.procedures has false zero p.main formed.0 tt) (stops StopRun (λ at. refl) (λ at. refl) tt tt)
+  pub main_laid : LaidOut (code_of p).bodies 0 (main_body p).steps
+  main_laid =
+      laid_out (main_code p.end_line p.main)
+      (then_ (block_checked (code_of p).bodies 0 p.procedures has false zero p.main formed.0 tt) (stops StopRun (λ at. refl) (λ at. refl) tt tt))
 
-  procedure_checked : (f : ℕ) (q : Procedure) → slice_get p.procedures f ≡ Some q → Checked (code_of p).bodies (suc f) None None None (λ a. procedure_code q.end_line q.body) [] None
-  procedure_checked f q is =
+  pub procedure_laid : (f : ℕ) (q : Procedure) → slice_get p.procedures f ≡ Some q → LaidOut (code_of p).bodies (suc f) (procedure_body q).steps
+  procedure_laid f q is =
       let number : 1 + f ≡ suc f = omega arith in
       let over : 0 < suc f = omega arith in
       let block_formed = subst (λ m. FormedBlock (place m p.procedures) false q.body) number (formed_at p.procedures 1 f p.procedures q formed.1 is) in
-      then_ (block_checked (code_of p).bodies (suc f) p.procedures has false zero q.body block_formed tt)
-      (then_ (goes (Push None) (λ at. refl) (λ hs h at less. (less, tt)) tt tt) (stops ReturnTop (λ at. refl) (λ at. refl) over tt))
+      laid_out (procedure_code q.end_line q.body)
+      (then_ (block_checked (code_of p).bodies (suc f) p.procedures has false zero q.body block_formed tt)
+      (then_ (goes (Push None) (λ at. refl) (λ hs h at less. (less, tt)) tt tt) (stops ReturnTop (λ at. refl) (λ at. refl) over tt)))
 
-  body_sound : (declared : List Variable) (n : ℕ) (b : Body) → slice_get (code_of p).bodies n ≡ Some b → SoundBody (code_of p) declared n b
-  body_sound declared zero b is =
-      let same : main_body p ≡ b = cc in
-      subst (λ d. SoundBody (code_of p) declared zero d) same (sound_body (code_of p) declared zero (main_body p) (main_code p.end_line p.main) refl main_checked)
-  body_sound declared (suc f) b is = go (slice_get p.procedures f) refl (sym (has f) ∙ is)
-    where
-      go : (o : Option Procedure) → slice_get p.procedures f ≡ o → option_map procedure_body o ≡ Some b → SoundBody (code_of p) declared (suc f) b
-      go None there h = cc
-      go (Some q) there h =
-          let same : procedure_body q ≡ b = cc in
-          subst (λ d. SoundBody (code_of p) declared (suc f) d) same (sound_body (code_of p) declared (suc f) (procedure_body q) (procedure_code q.end_line q.body) refl (procedure_checked f q there))
+-- what holds of the main program and of each procedure holds of each body
+pub each_body : (p : Program) (P : ℕ → Body → Type 0) → P 0 (main_body p) → ((f : ℕ) (q : Procedure) → slice_get p.procedures f ≡ Some q → P (suc f) (procedure_body q)) → (n : ℕ) (b : Body) → slice_get (code_of p).bodies n ≡ Some b → P n b
+each_body p P main procedures zero b is = let same : main_body p ≡ b = cc in subst (P zero) same main
+each_body p P main procedures (suc f) b is = go (slice_get p.procedures f) refl (sym (slice_get-map procedure_body p.procedures f) ∙ is)
+  where
+    go : (o : Option Procedure) → slice_get p.procedures f ≡ o → option_map procedure_body o ≡ Some b → P (suc f) b
+    go None there h = cc
+    go (Some q) there h = let same : procedure_body q ≡ b = cc in subst (P (suc f)) same (procedures f q there)
 
 pub code_of_programs_is_sound : (p : Program) → Formed p → (declared : List Variable) → Sound (code_of p) declared
-code_of_programs_is_sound p formed declared = record { bodies = body_sound p formed declared; main = omega arith }
+code_of_programs_is_sound p formed declared = record {
+  bodies = each_body p (SoundBody (code_of p) declared)
+      (sound_body (code_of p) declared 0 (main_body p) (main_laid p formed))
+      (λ f q is. sound_body (code_of p) declared (suc f) (procedure_body q) (procedure_laid p formed f q is));
+  main = omega arith;
+}

@@ -9,3 +9,6 @@ pub mod Instructions
 pub mod Calling
 pub mod Running
 pub mod Uses
+pub mod Occurring
+pub mod Slotted
+pub mod Closing
