@@ -1,13 +1,16 @@
 pub mod Code
 pub mod Piece
+pub mod PieceLaws
 pub mod Generated
 pub mod Names
 pub mod CodeOf
 pub mod Listing
 pub mod CodeCore
+pub mod CellLaws
 pub mod Machine
 pub mod CodeMeans
 pub mod Shapes
 pub mod Sound
+pub mod Ready
 pub mod Plain
 pub mod Worked

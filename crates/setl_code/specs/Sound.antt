@@ -1,4 +1,5 @@
 -- Sound code: no operand is ever missing or of a wrong kind, no taken slot is read, and each way round takes a turn.
+-- Closed code: what it names is there. And few enough of everything.
 use Rattle.std.specs.Prelude.{◌≡◌, ℕ, zero, suc, ◌<◌, ◌^◌, Bool, true, false, ◌&&◌, ◌||◌, not, List, [], ◌∷◌, ◌++◌, length, slice_get, Option, Some, None}
 use Rattle.std.specs.List.{Contains}
 use Rattle.setl_run.specs.Variable.{Variable, Global, is_variable}
@@ -13,47 +14,6 @@ use Rattle.setl_code.specs.Piece.{Is}
 use Rattle.setl_code.specs.Names.{is_among}
 use Rattle.setl_code.specs.CodeCore.{variables_of}
 use Rattle.setl_code.specs.Shapes.{Shape, all_serve, Outs, outs, successors, free_successors}
-
--- ---- what is named exists
-
--- the operators that an update may have
-abbrev pub is_updating : Operator → Bool
-is_updating Add = true
-is_updating Subtract = true
-is_updating Multiply = true
-is_updating Power = true
-is_updating Divide = true
-is_updating Modulo = true
-is_updating Max = true
-is_updating Min = true
-is_updating With = true
-is_updating Less = true
-is_updating Lessf = true
-is_updating Npow = true
-is_updating o = false
-
-abbrev pub may_alter : Alteration → Bool
-may_alter Putting = true
-may_alter (Combining o) = is_updating o
-may_alter (TakingOut k) = true
-
--- a variable has a slot among the variables of the whole program or of the body
-abbrev pub HasSlot : Code → ℕ → Body → Variable → Type 0
-HasSlot c n b x = is_among (c.vars ++ variables_of n b) x ≡ true
-
--- what an instruction names is there; no instruction calls the main program or returns from it
-abbrev pub Names : Code → ℕ → Body → Instr → Type 0
-Names c n b (Load x) = HasSlot c n b x
-Names c n b (Take x) = HasSlot c n b x
-Names c n b (StoreIn x) = HasSlot c n b x
-Names c n b (Alter a x ks) = HasSlot c n b x × (may_alter a ≡ true)
-Names c n b (Decides k to) = to < length b.steps
-Names c n b (Unless to) = to < length b.steps
-Names c n b (Jump to) = to < length b.steps
-Names c n b (NextOr to) = to < length b.steps
-Names c n b (CallBody m) = (0 < m) × (m < length c.bodies)
-Names c n b ReturnTop = 0 < n
-Names c n b i = Unit {0}
 
 -- ---- shapes
 
@@ -115,6 +75,81 @@ may_take declared x = not (is_among declared x)
 
 -- ---- the whole
 
+-- no instruction calls the main program or returns from it
+abbrev pub StaysBelow : ℕ → Instr → Type 0
+StaysBelow n (CallBody m) = 0 < m
+StaysBelow n ReturnTop = 0 < n
+StaysBelow n i = Unit {0}
+
+abbrev pub height_at : List ℕ → ℕ → ℕ
+height_at [] at = 0
+height_at (h ∷ hs) zero = h
+height_at (h ∷ hs) (suc at) = height_at hs at
+
+-- each of these places is lower
+abbrev pub AllLower : List ℕ → ℕ → List ℕ → Type 0
+AllLower hs h [] = Unit {0}
+AllLower hs h (to ∷ tos) = (height_at hs to < h) × AllLower hs h tos
+
+-- A body of sound code, with its number.
+pub record SoundBody (c : Code) (declared : List Variable) (n : ℕ) (b : Body) : Type 0 where
+  pub below : (at line : ℕ) (i : Instr) → Is b.steps at line i → StaysBelow n i
+  -- a table of shapes that each step keeps
+  pub table : Table
+  pub whole : length table ≡ length b.steps
+  pub starts : shape_at table 0 ≡ Some []
+  pub fine : (at line : ℕ) (i : Instr) (s : Shape) → Is b.steps at line i → shape_at table at ≡ Some s → is_fine table (outs c.bodies i (suc at) s) ≡ true
+  -- heights that fall at each step without a turn
+  pub heights : List ℕ
+  pub falls : (at line : ℕ) (i : Instr) → Is b.steps at line i → AllLower heights (height_at heights at) (free_successors i (suc at))
+  -- what is taken isn't read before it is written
+  pub takes : (at line : ℕ) (x : Variable) → Is b.steps at line (Take x) → (may_take declared x ≡ true) × (ReadLater n b x (suc at) → ⊥)
+
+-- Code that never lacks an operand, reads no taken slot, and takes a turn on each way round.
+pub record Sound (c : Code) (declared : List Variable) : Type 0 where
+  pub bodies : (n : ℕ) (b : Body) → slice_get c.bodies n ≡ Some b → SoundBody c declared n b
+  pub main : 0 < length c.bodies
+
+-- ---- what is named exists
+
+-- the operators that an update may have
+abbrev pub is_updating : Operator → Bool
+is_updating Add = true
+is_updating Subtract = true
+is_updating Multiply = true
+is_updating Power = true
+is_updating Divide = true
+is_updating Modulo = true
+is_updating Max = true
+is_updating Min = true
+is_updating With = true
+is_updating Less = true
+is_updating Lessf = true
+is_updating Npow = true
+is_updating o = false
+
+abbrev pub may_alter : Alteration → Bool
+may_alter Putting = true
+may_alter (Combining o) = is_updating o
+may_alter (TakingOut k) = true
+
+-- a variable has a slot among the variables of the whole program or of the body
+abbrev pub HasSlot : Code → ℕ → Body → Variable → Type 0
+HasSlot c n b x = is_among (c.vars ++ variables_of n b) x ≡ true
+
+-- what an instruction names is there
+abbrev pub Names : Code → ℕ → Body → Instr → Type 0
+Names c n b (Load x) = HasSlot c n b x
+Names c n b (Take x) = HasSlot c n b x
+Names c n b (StoreIn x) = HasSlot c n b x
+Names c n b (Alter a x ks) = HasSlot c n b x × (may_alter a ≡ true)
+Names c n b (Decides k to) = to < length b.steps
+Names c n b (Unless to) = to < length b.steps
+Names c n b (Jump to) = to < length b.steps
+Names c n b (NextOr to) = to < length b.steps
+Names c n b (CallBody m) = m < length c.bodies
+Names c n b i = Unit {0}
+
 abbrev pub is_last : Instr → Bool
 is_last (Jump to) = true
 is_last ReturnTop = true
@@ -131,27 +166,16 @@ last_step [] = None
 last_step (s ∷ []) = Some s
 last_step (s ∷ ss) = last_step ss
 
-abbrev pub height_at : List ℕ → ℕ → ℕ
-height_at [] at = 0
-height_at (h ∷ hs) zero = h
-height_at (h ∷ hs) (suc at) = height_at hs at
-
--- a body of a code, with its number
-pub record SoundBody (c : Code) (declared : List Variable) (n : ℕ) (b : Body) : Type 0 where
+-- A body of closed code, with its number.
+pub record ClosedBody (c : Code) (n : ℕ) (b : Body) : Type 0 where
   pub names : (at line : ℕ) (i : Instr) → Is b.steps at line i → Names c n b i
   pub last : ends_body (last_step b.steps) ≡ true
-  -- a table of shapes that each step keeps
-  pub table : Table
-  pub starts : shape_at table 0 ≡ Some []
-  pub fine : (at line : ℕ) (i : Instr) (s : Shape) → Is b.steps at line i → shape_at table at ≡ Some s → is_fine table (outs c.bodies i (suc at) s) ≡ true
-  -- heights that fall at each step without a turn
-  pub heights : List ℕ
-  pub falls : (at line to : ℕ) (i : Instr) → Is b.steps at line i → Contains (free_successors i (suc at)) to → height_at heights to < height_at heights at
-  -- what is taken isn't read before it is written
-  pub takes : (at line : ℕ) (x : Variable) → Is b.steps at line (Take x) → (may_take declared x ≡ true) × (ReadLater n b x (suc at) → ⊥)
-  pub few : (length b.steps < 2 ^ 32) × (length (variables_of n b) < 2 ^ 32)
 
-pub record Sound (c : Code) (declared : List Variable) : Type 0 where
-  pub bodies : (n : ℕ) (b : Body) → slice_get c.bodies n ≡ Some b → SoundBody c declared n b
-  pub main : 0 < length c.bodies
-  pub few : (length c.bodies < 2 ^ 32) × (length c.vars < 2 ^ 32) × (length declared < 2 ^ 32)
+-- Code in which each slot, step and body that is named is there, and each body ends.
+pub record Closed (c : Code) : Type 0 where
+  pub bodies : (n : ℕ) (b : Body) → slice_get c.bodies n ≡ Some b → ClosedBody c n b
+
+-- Code whose bodies, steps and slots have numbers of 32 bits.
+pub record Few (c : Code) (declared : List Variable) : Type 0 where
+  pub bodies : (n : ℕ) (b : Body) → slice_get c.bodies n ≡ Some b → (length b.steps < 2 ^ 32) × (length (variables_of n b) < 2 ^ 32)
+  pub counts : (length c.bodies < 2 ^ 32) × (length c.vars < 2 ^ 32) × (length declared < 2 ^ 32)

@@ -1,6 +1,7 @@
 pub mod Program
 pub mod Source
 pub mod Formed
+pub mod FormedLaws
 pub mod Numbered
 pub mod Scope
 pub mod Operators

@@ -5,9 +5,10 @@ use Rattle.std.specs.Option.{option_map}
 use Rattle.setl_value.specs.Datum.{Datum}
 use Rattle.setl_run.specs.Variable.{Variable, Environment, value_in, is_variable}
 use Rattle.setl_program.specs.Program.{Arguments, no_argument, rd_argument, wr_argument, rw_argument, Parameter, Procedure, Program}
-use Rattle.setl_program.specs.Formed.{Passed, PassedAs, FormedBlock, FormedProcedures, Formed}
-use Rattle.setl_model.specs.Core.{Shared, Hand, Frame, Snapshot, line_of}
-use Rattle.setl_model.specs.Calls.{parameter, enter, leave, hand_backs}
+use Rattle.setl_program.specs.Formed.{Passed, PassedAs, FormedBlock, FormedProcedures, Formed, Around}
+use Rattle.setl_model.specs.Core.{Shared, Hand, Frame, Snapshot, line_of, Result, Activation, InCall, Storing}
+use Rattle.setl_model.specs.Calls.{parameter, enter, leave, hand_backs, bindings}
+use Rattle.setl_program.specs.FormedLaws.{arguments_number, as_many, formed_at}
 use Rattle.setl_model.specs.Calls.{handed_back as backs_of}
 use Rattle.setl_code.specs.Code.{Code}
 use Rattle.setl_code.specs.Piece.{Labels, no_loop, past, Stands}
@@ -15,9 +16,9 @@ use Rattle.setl_code.specs.Generated.{store_slots, set_by, procedure_code}
 use Rattle.setl_code.specs.CodeOf.{main_body, procedure_body}
 use Rattle.setl_code.specs.CodeCore.{Result as OperandResult}
 use Rattle.setl_code.specs.CodeCore.{There, Cells, held_in, cleared, variables_of, Operand, Copy}
-use Rattle.setl_code.specs.Machine.{call_body, return_to, handed_back, body_steps}
-use Rattle.setl_simulation.specs.Follow.{Related, moves}
-use Rattle.setl_simulation.specs.Matches.{Where, steps_in, Loop, Holds, Fills, filled, fills, arguments_number, AfterResult, ends, Awaits, awaits, result_below, executing, storing, Matches}
+use Rattle.setl_code.specs.Machine.{call_body, return_to, handed_back, body_steps, on_rest}
+use Rattle.setl_simulation.specs.Follow.{Related, moves, halts}
+use Rattle.setl_simulation.specs.Matches.{Where, steps_in, Loop, Holds, Fills, filled, fills, AfterResult, ends, Awaits, awaits, result_below, executing, storing, Matches}
 use Rattle.setl_simulation.specs.States.{Alike}
 use Rattle.setl_simulation.proofs.Stands.{stands_alone}
 use Rattle.setl_simulation.proofs.Parts.{code_core, core, Same, all_popped, turns}
@@ -27,18 +28,6 @@ pub record Coded (c : Code) (pr : Program) : Type 0 where
   pub main : slice_get c.bodies 0 ≡ Some (main_body pr)
   pub procedures : (f : ℕ) → slice_get c.bodies (suc f) ≡ option_map procedure_body (slice_get pr.procedures f)
 
--- ---- parameters
-
-pub as_many : (ps : List Parameter) (all : Arguments) → PassedAs ps all → length ps ≡ arguments_number all
-as_many [] no_argument h = refl
-as_many (p ∷ ps) (rd_argument e rest) h = ap suc (as_many ps rest h.1)
-as_many (p ∷ ps) (wr_argument x rest) h = ap suc (as_many ps rest h.1)
-as_many (p ∷ ps) (rw_argument x rest) h = ap suc (as_many ps rest h.1)
-as_many [] (rd_argument e rest) h = absurd h
-as_many [] (wr_argument x rest) h = absurd h
-as_many [] (rw_argument x rest) h = absurd h
-as_many (p ∷ ps) no_argument h = absurd h
-
 -- every variable is `om`
 pub all_om : (xs : List Variable) → Alike (cleared xs) []
 all_om [] x = refl
@@ -47,18 +36,6 @@ all_om (y ∷ ys) x = go (is_variable y x) (all_om ys x)
     go : (b : Bool) → held_in (cleared ys) x ≡ There None → cond b (There None) (held_in (cleared ys) x) ≡ There None
     go true later = refl
     go false later = later
-
--- the body of a procedure is formed
-pub formed_at : (all : List Procedure) (n f : ℕ) (ps : List Procedure) (p : Procedure) → FormedProcedures all n ps → slice_get ps f ≡ Some p → FormedBlock (record { body = n + f; procedures = all }) false p.body
-formed_at all n zero (q ∷ ps) p h is =
-    let same : q ≡ p = cc in
-    let place : n ≡ n + 0 = omega arith in
-    subst (λ m. FormedBlock (record { body = m; procedures = all }) false p.body) place (subst (λ r. FormedBlock (record { body = n; procedures = all }) false r.body) same h.0)
-formed_at all n (suc f) (q ∷ ps) p h is =
-    let place : suc n + f ≡ n + suc f = omega arith in
-    subst (λ m. FormedBlock (record { body = m; procedures = all }) false p.body) place (formed_at all (suc n) f ps p h.1 is)
-formed_at all n zero [] p h is = cc
-formed_at all n (suc f) [] p h is = cc
 
 module _ (c : Code) (pr : Program) (coded : Coded c pr) (formed : Formed pr) where
   -- a procedure is called with results on the operands

@@ -1,0 +1,14 @@
+pub mod Laying
+pub mod Joining
+pub mod Expressions
+pub mod Statements
+pub mod Bodies
+pub mod Operands
+pub mod Moving
+pub mod Instructions
+pub mod Calling
+pub mod Running
+pub mod Uses
+pub mod Occurring
+pub mod Slotted
+pub mod Closing
