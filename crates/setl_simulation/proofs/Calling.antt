@@ -5,9 +5,9 @@ use Rattle.std.specs.Option.{option_map}
 use Rattle.setl_value.specs.Datum.{Datum}
 use Rattle.setl_run.specs.Variable.{Variable, Environment, value_in, is_variable}
 use Rattle.setl_program.specs.Program.{Arguments, no_argument, rd_argument, wr_argument, rw_argument, Parameter, Procedure, Program}
-use Rattle.setl_program.specs.Formed.{Passed, PassedAs, FormedBlock, FormedProcedures, Formed, Around}
-use Rattle.setl_model.specs.Core.{Shared, Hand, Frame, Snapshot, line_of, Result, Activation, InCall, Storing}
-use Rattle.setl_model.specs.Calls.{parameter, enter, leave, hand_backs, bindings}
+use Rattle.setl_program.specs.Formed.{Passed, PassedAs, FormedBlock, Formed}
+use Rattle.setl_model.specs.Core.{Shared, Hand, Frame, Snapshot, line_of}
+use Rattle.setl_model.specs.Calls.{parameter, enter, leave, hand_backs}
 use Rattle.setl_program.specs.FormedLaws.{arguments_number, as_many, formed_at}
 use Rattle.setl_model.specs.Calls.{handed_back as backs_of}
 use Rattle.setl_code.specs.Code.{Code}
@@ -16,8 +16,8 @@ use Rattle.setl_code.specs.Generated.{store_slots, set_by, procedure_code}
 use Rattle.setl_code.specs.CodeOf.{main_body, procedure_body}
 use Rattle.setl_code.specs.CodeCore.{Result as OperandResult}
 use Rattle.setl_code.specs.CodeCore.{There, Cells, held_in, cleared, variables_of, Operand, Copy}
-use Rattle.setl_code.specs.Machine.{call_body, return_to, handed_back, body_steps, on_rest}
-use Rattle.setl_simulation.specs.Follow.{Related, moves, halts}
+use Rattle.setl_code.specs.Machine.{call_body, return_to, handed_back, body_steps}
+use Rattle.setl_simulation.specs.Follow.{Related, moves}
 use Rattle.setl_simulation.specs.Matches.{Where, steps_in, Loop, Holds, Fills, filled, fills, AfterResult, ends, Awaits, awaits, result_below, executing, storing, Matches}
 use Rattle.setl_simulation.specs.States.{Alike}
 use Rattle.setl_simulation.proofs.Stands.{stands_alone}

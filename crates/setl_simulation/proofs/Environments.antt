@@ -1,5 +1,5 @@
 -- A write changes what one slot holds.
-use Rattle.std.proofs.Common.{◌≡◌, Bool, true, false, [], ◌∷◌, Option, refl, sym, ap, ◌∙◌, subst}
+use Rattle.std.proofs.Common.{◌≡◌, Bool, true, false, Option, refl, sym, ap, ◌∙◌, subst}
 use Rattle.std.specs.Prelude.{cond}
 use Rattle.setl_run.specs.Variable.{Variable, is_variable, Environment, value_in, with_value}
 use Rattle.setl_run.specs.VariableLaws.{same_variable, value_stored, value_elsewhere}

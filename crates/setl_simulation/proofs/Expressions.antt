@@ -8,9 +8,9 @@ use Rattle.setl_program.specs.declared.kinds.Connective.{Connective}
 use Rattle.setl_program.specs.declared.kinds.Connective.TheVariants.{And, Or, Implies}
 use Rattle.setl_program.specs.declared.kinds.Quantifier.{Quantifier}
 use Rattle.setl_program.specs.declared.kinds.Source.TheVariants.{Values, Between, SetSteps, TupleSteps}
-use Rattle.setl_program.specs.Program.{Binding, Members, Points, begin_of, Iterators, no_iterator, more_iterators, Expr, Literal, Undefined, Name, Apply, Connect, Choose, Former, Selection, Quantified, Call, Newat, Eof, Ok, Exprs, no_expr, more_exprs, only_if, Arguments, no_argument, rd_argument, wr_argument, rw_argument, Program, Begin, Condition}
-use Rattle.setl_program.specs.Formed.{Passed, FormedExpr, FormedExprs, FormedArguments, Formed, parts_of, parts_of_source, number_of}
-use Rattle.setl_model.specs.Core.{Shared, Hand, Evaluate, Result, Operands, ConnectLeft, ChooseTest, Decide, Sources, Argument, Frame, InExpr, InIteration, InCall, Snapshot, line_of, ConnectRight, Testing}
+use Rattle.setl_program.specs.Program.{Binding, Members, Points, begin_of, Iterators, no_iterator, more_iterators, Expr, Literal, Undefined, Name, Apply, Connect, Choose, Former, Selection, Quantified, Call, Newat, Eof, Ok, Exprs, no_expr, more_exprs, only_if, Arguments, no_argument, rd_argument, wr_argument, rw_argument, Program, Begin}
+use Rattle.setl_program.specs.Formed.{Passed, FormedExpr, FormedExprs, FormedArguments, Formed, parts_of}
+use Rattle.setl_model.specs.Core.{Shared, Hand, Evaluate, Result, Operands, ConnectLeft, ChooseTest, Decide, Sources, Argument, Frame, InExpr, InIteration, InCall, Snapshot, line_of}
 use Rattle.setl_program.specs.FormedLaws.{arguments_number}
 use Rattle.setl_model.specs.Moves.{deliver}
 use Rattle.setl_model.specs.Iterations.{undecided, all_bound}
@@ -22,7 +22,7 @@ use Rattle.setl_code.specs.CodeCore.{Result as OperandResult}
 use Rattle.setl_code.specs.CodeCore.{Cells, Operand, value_of, popped, Copy}
 use Rattle.setl_code.specs.Machine.{do_step, on_popped, next, with_outcome}
 use Rattle.setl_simulation.specs.Follow.{Related, moves, Answers, by_step, after_step, by_none}
-use Rattle.setl_simulation.specs.Matches.{Where, steps_in, around, Holds, none, more, behind_left, inside, AfterResult, operands, connect_left, connect_right, choose_test, argument, source, Levels, outside, deciding_all, forming, selection_formed, evaluating, got, more_copy, Matches, rank, FormedWaiting, Keeps, InHand, looping, testing}
+use Rattle.setl_simulation.specs.Matches.{Where, steps_in, around, Holds, none, more, behind_left, inside, AfterResult, operands, connect_left, connect_right, choose_test, argument, source, Levels, outside, deciding_all, forming, selection_formed, evaluating, got, more_copy, Matches, rank, FormedWaiting, Keeps, InHand}
 use Rattle.setl_simulation.proofs.Parts.{code_core, core, Same, matched, matched_in, all_popped, held_read, outcomes, turns, tests}
 use Rattle.setl_simulation.proofs.Calling.{Coded, called}
 

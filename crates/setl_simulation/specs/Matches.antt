@@ -9,11 +9,10 @@ use Rattle.setl_program.specs.declared.kinds.Connective.{Connective}
 use Rattle.setl_program.specs.declared.kinds.Quantifier.{Quantifier}
 use Rattle.setl_program.specs.declared.kinds.Quantifier.TheVariants.{Forall}
 use Rattle.setl_program.specs.declared.kinds.Taking.{Taking}
-use Rattle.setl_program.specs.Program.{Slots, Binding, Begin, Members, Points, begin_of, Expr, Former, Selection, Exprs, Iterators, no_iterator, more_iterators, Condition, no_condition, only_if, Arguments, no_argument, rd_argument, wr_argument, rw_argument, Selectors, While, Read, Block, no_stmt, more_stmts, Procedure, Quantified, no_expr, more_exprs, Stmt, Parameter}
-use Rattle.setl_program.specs.Formed.{Around, BindsMembers, Passed, FormedExpr, FormedExprs, FormedIterators, FormedCondition, FormedArguments, FormedSelectors, FormedBlock, PassedAs, InProcedure, FormedBinding, parts_of, number_of}
-use Rattle.setl_model.specs.Core.{Hand, Execute, Evaluate, Result, Iterate, Operands, ConnectLeft, ConnectRight, ChooseTest, Goal, Collect, Select, Decide, Repeat, Item, One, Two, Level, Iteration, Sources, ToBind, IsBound, Testing, Body, Paused, HandBacks, Argument, Activation, Selected, Round, Brace, Change, Puts, Combines, Takes, AssignRight, UpdateRight, PartsRight, RoundSelector, BraceSelector, IfTest, WhileTest, WhileBody, PrintParts, Returning, Dropping, Frame, InExpr, InIteration, InCall, InStmt, Storing, Then, Snapshot, Core, goal_line, line_of, Shared}
+use Rattle.setl_program.specs.Program.{Slots, Binding, Begin, Members, Points, begin_of, Expr, Former, Selection, Exprs, Iterators, no_iterator, more_iterators, Condition, no_condition, only_if, Arguments, Selectors, While, Read, Block, no_stmt, more_stmts, Procedure}
+use Rattle.setl_program.specs.Formed.{Around, BindsMembers, Passed, FormedExpr, FormedExprs, FormedIterators, FormedCondition, FormedArguments, FormedSelectors, FormedBlock, PassedAs, InProcedure}
+use Rattle.setl_model.specs.Core.{Hand, Execute, Evaluate, Result, Iterate, Operands, ConnectLeft, ConnectRight, ChooseTest, Goal, Collect, Select, Decide, Repeat, Item, One, Two, Level, Iteration, Sources, ToBind, IsBound, Testing, Body, Paused, HandBacks, Argument, Activation, Selected, Round, Brace, Change, Puts, Combines, Takes, AssignRight, UpdateRight, PartsRight, RoundSelector, BraceSelector, IfTest, WhileTest, WhileBody, PrintParts, Returning, Dropping, Frame, InExpr, InIteration, InCall, InStmt, Storing, Then, Snapshot, Core, goal_line, line_of}
 use Rattle.setl_program.specs.FormedLaws.{arguments_number}
-use Rattle.setl_model.specs.World.{World}
 use Rattle.setl_model.specs.Slots.{om_stores}
 use Rattle.setl_model.specs.Iterations.{decided, undecided, goal_at, all_bound}
 use Rattle.setl_model.specs.Calls.{hand_backs}
