@@ -119,7 +119,7 @@ selectors_of (s.Brace e ∷ rest) = plain.brace_selector (plain_expr e) (selecto
 abbrev pub plain_place : Place → plain.Place
 plain_place p = record { variable = plain_variable p.variable; selectors = selectors_of p.selectors }
 
-abbrev pub kind_step : StmtKind-F plain.Stmt (ℕ × plain.Stmt) (plain.Block → plain.Block) → plain.Stmt
+abbrev pub kind_step : StmtKind-F plain.Stmt (plain.Block → plain.Block) (ℕ × plain.Stmt) → plain.Stmt
 kind_step (StmtKind-F.Assign p e) = plain.Assign (plain_place p) (plain_expr e)
 kind_step (StmtKind-F.Update o p e) = plain.Update o (plain_place p) (plain_expr e)
 kind_step (StmtKind-F.AssignParts xs e) = plain.AssignParts (plain_slots xs) (plain_expr e)
@@ -137,18 +137,18 @@ kind_step (StmtKind-F.Return e) = plain.Return (plain_expr e)
 kind_step (StmtKind-F.Print es) = plain.Print (plain_exprs es)
 kind_step (StmtKind-F.Read xs) = plain.Read (map plain_variable xs)
 
-abbrev pub stmt_step : Stmt-F plain.Stmt (ℕ × plain.Stmt) (plain.Block → plain.Block) → ℕ × plain.Stmt
+abbrev pub stmt_step : Stmt-F plain.Stmt (plain.Block → plain.Block) (ℕ × plain.Stmt) → ℕ × plain.Stmt
 stmt_step x = (x.line, x.kind)
 
 -- an `elseif` before what follows it
-abbrev pub branch_step : Branch-F plain.Stmt (ℕ × plain.Stmt) (plain.Block → plain.Block) → plain.Block → plain.Block
+abbrev pub branch_step : Branch-F plain.Stmt (plain.Block → plain.Block) (ℕ × plain.Stmt) → plain.Block → plain.Block
 branch_step b rest = plain.more_stmts b.line (plain.If (plain_expr b.condition) (block_of b.body) rest) plain.no_stmt
 
 abbrev pub plain_stmt : Stmt → ℕ × plain.Stmt
-plain_stmt = fold-Stmt plain.Stmt (ℕ × plain.Stmt) (plain.Block → plain.Block) kind_step stmt_step branch_step
+plain_stmt = fold-Stmt plain.Stmt (plain.Block → plain.Block) (ℕ × plain.Stmt) kind_step branch_step stmt_step
 
 abbrev pub plain_branch : Branch → plain.Block → plain.Block
-plain_branch = fold-Branch plain.Stmt (ℕ × plain.Stmt) (plain.Block → plain.Block) kind_step stmt_step branch_step
+plain_branch = fold-Branch plain.Stmt (plain.Block → plain.Block) (ℕ × plain.Stmt) kind_step branch_step stmt_step
 
 abbrev pub plain_block : List Stmt → plain.Block
 plain_block ss = block_of (map plain_stmt ss)
