@@ -15,8 +15,9 @@ use Rattle.setl_program.specs.declared.expr.Argument.{Argument, fold-Argument}
 use Rattle.setl_program.specs.declared.stmt.Selector.{Selector}
 use Rattle.setl_program.specs.declared.stmt.Selector.TheVariants as s
 use Rattle.setl_program.specs.declared.stmt.Place.{Place}
+use Rattle.setl_program.specs.declared.stmt.Branch.{Branch, fold-Branch}
 use Rattle.setl_program.specs.declared.stmt.Stmt.{Stmt, fold-Stmt}
-use Rattle.setl_program.specs.declared.stmt.StmtKind.TheOpen.{StmtKind-F, Stmt-F}
+use Rattle.setl_program.specs.declared.stmt.StmtKind.TheOpen.{StmtKind-F, Branch-F, Stmt-F}
 use Rattle.setl_program.specs.declared.program.Procedure.{Procedure}
 use Rattle.setl_program.specs.declared.program.Program.{Program}
 use Rattle.setl_program.specs.Program as plain
@@ -57,6 +58,11 @@ arguments_of (a ∷ as_) = a (arguments_of as_)
 abbrev pub block_of : List (ℕ × plain.Stmt) → plain.Block
 block_of [] = plain.no_stmt
 block_of (s ∷ ss) = plain.more_stmts s.0 s.1 (block_of ss)
+
+-- what stands behind the `else` of an `if` with these `elseif` branches, each as what it puts before the others
+abbrev pub otherwise : List (plain.Block → plain.Block) → plain.Block → plain.Block
+otherwise [] last = last
+otherwise (b ∷ bs) last = b (otherwise bs last)
 
 -- ---- expressions
 
@@ -113,13 +119,13 @@ selectors_of (s.Brace e ∷ rest) = plain.brace_selector (plain_expr e) (selecto
 abbrev pub plain_place : Place → plain.Place
 plain_place p = record { variable = plain_variable p.variable; selectors = selectors_of p.selectors }
 
-abbrev pub kind_step : StmtKind-F plain.Stmt (ℕ × plain.Stmt) → plain.Stmt
+abbrev pub kind_step : StmtKind-F plain.Stmt (plain.Block → plain.Block) (ℕ × plain.Stmt) → plain.Stmt
 kind_step (StmtKind-F.Assign p e) = plain.Assign (plain_place p) (plain_expr e)
 kind_step (StmtKind-F.Update o p e) = plain.Update o (plain_place p) (plain_expr e)
 kind_step (StmtKind-F.AssignParts xs e) = plain.AssignParts (plain_slots xs) (plain_expr e)
 kind_step (StmtKind-F.TakeFrom k x p) = plain.TakeFrom k (plain_variable x) (plain_place p)
 kind_step (StmtKind-F.Perform e) = plain.Perform (plain_expr e)
-kind_step (StmtKind-F.If e x y) = plain.If (plain_expr e) (block_of x) (block_of y)
+kind_step (StmtKind-F.If e x bs y) = plain.If (plain_expr e) (block_of x) (otherwise bs (block_of y))
 kind_step (StmtKind-F.For is t x) = plain.For (plain_iterators is) (condition_of (option_map plain_expr t)) (block_of x)
 kind_step (StmtKind-F.While e x) = plain.While (plain_expr e) (block_of x)
 kind_step StmtKind-F.Quit = plain.Quit
@@ -131,11 +137,18 @@ kind_step (StmtKind-F.Return e) = plain.Return (plain_expr e)
 kind_step (StmtKind-F.Print es) = plain.Print (plain_exprs es)
 kind_step (StmtKind-F.Read xs) = plain.Read (map plain_variable xs)
 
-abbrev pub stmt_step : Stmt-F plain.Stmt (ℕ × plain.Stmt) → ℕ × plain.Stmt
+abbrev pub stmt_step : Stmt-F plain.Stmt (plain.Block → plain.Block) (ℕ × plain.Stmt) → ℕ × plain.Stmt
 stmt_step x = (x.line, x.kind)
 
+-- an `elseif` before what follows it
+abbrev pub branch_step : Branch-F plain.Stmt (plain.Block → plain.Block) (ℕ × plain.Stmt) → plain.Block → plain.Block
+branch_step b rest = plain.more_stmts b.line (plain.If (plain_expr b.condition) (block_of b.body) rest) plain.no_stmt
+
 abbrev pub plain_stmt : Stmt → ℕ × plain.Stmt
-plain_stmt = fold-Stmt plain.Stmt (ℕ × plain.Stmt) kind_step stmt_step
+plain_stmt = fold-Stmt plain.Stmt (plain.Block → plain.Block) (ℕ × plain.Stmt) kind_step branch_step stmt_step
+
+abbrev pub plain_branch : Branch → plain.Block → plain.Block
+plain_branch = fold-Branch plain.Stmt (plain.Block → plain.Block) (ℕ × plain.Stmt) kind_step branch_step stmt_step
 
 abbrev pub plain_block : List Stmt → plain.Block
 plain_block ss = block_of (map plain_stmt ss)
