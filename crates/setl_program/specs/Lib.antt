@@ -2,6 +2,7 @@ pub mod Program
 pub mod Source
 pub mod Formed
 pub mod Numbered
+pub mod Lists
 pub mod Scope
 pub mod Operators
 pub mod Expressions
