@@ -1,5 +1,5 @@
 -- Which variable a name stands for where it stands. What a name means is the name resolution of `setl_names`.
-use Rattle.std.specs.Prelude.{ℕ, suc, List, [], ◌∷◌, ◌++◌, map, Option, Some, None, if◌then◌else◌, bytes_eq}
+use Rattle.std.specs.Prelude.{ℕ, List, [], ◌∷◌, ◌++◌, map, Option, Some, None, if◌then◌else◌}
 use Rattle.setl_tree.specs.declared.expr.Slot.{Slot}
 use Rattle.setl_tree.specs.declared.expr.Slot.TheVariants as sl
 use Rattle.setl_tree.specs.declared.expr.Bound.{Bound}
@@ -7,6 +7,7 @@ use Rattle.setl_tree.specs.declared.expr.Bound.TheVariants as bd
 use Rattle.setl_tree.specs.declared.tree.Param.{Param}
 use Rattle.setl_tree.specs.declared.tree.Proc.{Proc}
 use Rattle.setl_names.specs.Names.{Name, has}
+use Rattle.setl_names.specs.Procedures.{found_procedure}
 use Rattle.setl_names.specs.Variables as meaning
 use Rattle.setl_run.specs.Variable as run
 use Rattle.setl_program.specs.declared.kinds.Source.{Source}
@@ -72,10 +73,6 @@ abbrev pub binding_of : Bound → Source → (Name → run.Variable) → Binding
 binding_of (bd.Name x) k v = Member k (v x)
 binding_of (bd.Pattern slots) k v = Components k (map (slot_variable v) slots)
 
--- the place of the first procedure with this name, from n on, and its parameters
-abbrev pub procedure_from : ℕ → List Proc → Name → Option (ℕ × List Param)
-procedure_from n [] x = None
-procedure_from n (p ∷ ps) x = if bytes_eq x p.name then Some (n, p.params) else procedure_from (suc n) ps x
-
+-- the place of the first procedure with this name, and its parameters
 abbrev pub procedure_of : Scope → Name → Option (ℕ × List Param)
-procedure_of s x = procedure_from 0 s.procedures x
+procedure_of s x = found_procedure s.procedures x
