@@ -1,1 +1,2 @@
 mod Scopes
+mod BoundNames

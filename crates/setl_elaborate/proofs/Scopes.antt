@@ -1,5 +1,5 @@
 -- Scopes: which former binds a name, and leaving a former.
-use Rattle.std.proofs.Common.{◌≡◌, ◌<◌, ◌+◌, ◌∙◌, ℕ, suc, Bool, true, false, true≢false, cond, ◌||◌, List, [], ◌∷◌, ◌++◌, length, drop, get_or, Option, Some, None, refl, sym, ap, add-one, drop-cons}
+use Rattle.std.proofs.Common.{◌≡◌, ◌∙◌, ℕ, Bool, true, false, true≢false, cond, ◌||◌, List, [], ◌∷◌, ◌++◌, Option, Some, None, refl, sym, ap}
 use Rattle.std.specs.Option.{is_some}
 use Rattle.std.specs.List.{list_any}
 use Rattle.std.proofs.lemmas.List.Folds.{list_any-append}
@@ -47,15 +47,6 @@ by_former s x None false e found = refl
 -- the variable of a name by the former that is found
 pub variable_found : (s : Scope) (x : Name) → variable_of s x ≡ variable_in s x (former_of s x)
 variable_found s x = by_former s x (former_of s x) (has (names_of_formers s.formers) x) (is_found None s.formers x ∙ or_false (has (names_of_formers s.formers) x)) refl
-
--- one former more that was looked at
-pub looked : (found : Option ℕ) (fs : List Former) (i : ℕ) (f : Former) (x : Name) (b : Bool) (whole : Option ℕ) → i < length fs → f ≡ get_or fs i f → b ≡ has f.names x → innermost found (drop i fs) x ≡ whole →
-    innermost (cond b (Some f.number) found) (drop (i + 1) fs) x ≡ whole
-looked found fs i f x b whole h is eb inv =
-    ap (λ (c : Bool). innermost (cond c (Some f.number) found) (drop (i + 1) fs) x) eb
-    ∙ ap (λ n. innermost (cond (has f.names x) (Some f.number) found) (drop n fs) x) (add-one i)
-    ∙ ap (λ (z : List Former). innermost found z x) (ap (λ (g : Former). g ∷ drop (suc i) fs) is ∙ sym (drop-cons fs i f h))
-    ∙ inv
 
 -- ---- leaving a former
 

@@ -136,6 +136,17 @@ call place ps xs s = do all ← arguments ps xs s; pure (Call place (arguments_o
 
 -- ---- selections
 
+-- a list in brackets behind an expression, by the operator that takes both
+abbrev pub at_list : Operator → List Part → Expr → Scope → Numbered Expr
+at_list f xs e s = do i ← listed xs s; pure (two f e i)
+
+abbrev pub with_bound : Expr → Expr → Option Expr → Expr
+with_bound e i None = two Tail e i
+with_bound e i (Some j) = Apply Slice (exprs_of (e ∷ i ∷ j ∷ []))
+
+abbrev pub at_bounds : Part → Option Part → Expr → Scope → Numbered Expr
+at_bounds a b e s = do i ← a.term s; j ← optional b s; pure (with_bound e i j)
+
 -- an expression with selectors behind it
 abbrev pub selected : Expr → List Behind → Scope → Numbered Expr
 selected e [] s = pure e
@@ -144,27 +155,26 @@ selected e (b ∷ bs) s = do x ← b.applied e s; selected x bs s
 abbrev pub selected_part : Part → List Behind → Scope → Numbered Expr
 selected_part x bs s = do e ← x.term s; selected e bs s
 
--- a call with selectors behind it
-abbrev pub called_part : ℕ → List Param → List Part → List Behind → Scope → Numbered Expr
-called_part place ps xs bs s = do e ← call place ps xs s; selected e bs s
+abbrev pub named : Name → Scope → Expr
+named f s = Named (variable_of s f)
 
--- a name with selectors, of which the first is a list in round brackets: a call if the name is a procedure's
-abbrev pub application : Option (ℕ × List Param) → Part → List Behind → List Part → List Behind → Scope → Numbered Expr
-application None x bs xs others s = selected_part x bs s
-application (Some p) x bs xs others s = called_part p.0 p.1 xs others s
+-- a name before a list in round brackets: a call if the name is a procedure's
+abbrev pub application : Option (ℕ × List Param) → Name → List Part → Scope → Numbered Expr
+application None f xs s = at_list Get xs (named f s) s
+application (Some p) f xs s = call p.0 p.1 xs s
 
--- a name with selectors, by the list of the first if it is one in round brackets
-abbrev pub by_list : Name → Part → List Behind → Option (List Part) → List Behind → Scope → Numbered Expr
-by_list f x bs None others s = selected_part x bs s
-by_list f x bs (Some xs) others s = application (procedure_of s f) x bs xs others s
+-- a name with selectors, by the list of the first if it is one in round brackets, and by the others
+abbrev pub by_list : Name → Option (List Part) → List Behind → List Behind → Scope → Numbered Expr
+by_list f None bs others s = selected (named f s) bs s
+by_list f (Some xs) bs others s = do e ← application (procedure_of s f) f xs s; selected e others s
 
-abbrev pub name_selection : Name → Part → List Behind → Scope → Numbered Expr
-name_selection f x [] s = selected_part x [] s
-name_selection f x (b ∷ bs) s = by_list f x (b ∷ bs) b.list bs s
+abbrev pub name_selection : Name → List Behind → Scope → Numbered Expr
+name_selection f [] s = pure (named f s)
+name_selection f (b ∷ bs) s = by_list f b.list (b ∷ bs) bs s
 
 abbrev pub by_name : Option Name → Part → List Behind → Scope → Numbered Expr
 by_name None x bs s = selected_part x bs s
-by_name (Some f) x bs s = name_selection f x bs s
+by_name (Some f) x bs s = name_selection f bs s
 
 -- a procedure's name before a list in round brackets is a call; anything else is a selection
 abbrev pub selection : Part → List Behind → Scope → Numbered Expr
@@ -176,7 +186,7 @@ abbrev pub over : Bound → Part → Option ℕ → Scope → Numbered (Binding 
 over b x former s = do from ← x.source s; pure (binding_of b from.0 (bound_by former s), exprs_of from.1)
 
 abbrev pub image : Name → Name → Name → Option ℕ → Scope → Numbered (Binding × Exprs)
-image y f x former s = pure (Point (bound_by former s y) (bound_by former s x), exprs_of (Named (variable_of s f) ∷ []))
+image y f x former s = pure (Point (bound_by former s y) (bound_by former s x), exprs_of (named f s ∷ []))
 
 -- those that bind variables
 abbrev pub iterators : List Turn → Scope → Numbered (List (Binding × Exprs))
@@ -219,18 +229,28 @@ steps OfTuple = TupleSteps
 abbrev pub enumerated : List Part → Collection → Scope → Numbered Expr
 enumerated xs k s = do es ← terms xs s; pure (Apply (enumeration k) (exprs_of es))
 
--- a range by its bounds, where the second is there
+-- the bounds of a range in their order, where the second is there
+abbrev pub bounds : Expr → Option Expr → Expr → List Expr
+bounds a None c = a ∷ c ∷ []
+bounds a (Some b) c = a ∷ b ∷ c ∷ []
+
+abbrev pub bounded_operator : Collection → Option Expr → Operator
+bounded_operator k None = range_operator k
+bounded_operator k (Some b) = step_operator k
+
+abbrev pub bounded_source : Collection → Option Expr → Source
+bounded_source k None = Between
+bounded_source k (Some b) = steps k
+
 abbrev pub range_of : Collection → Expr → Option Expr → Expr → Expr
-range_of k a None c = two (range_operator k) a c
-range_of k a (Some b) c = Apply (step_operator k) (exprs_of (a ∷ b ∷ c ∷ []))
+range_of k a b c = Apply (bounded_operator k b) (exprs_of (bounds a b c))
 
 abbrev pub range : Part → Option Part → Part → Collection → Scope → Numbered Expr
 range a b c k s = do x ← a.term s; y ← optional b s; z ← c.term s; pure (range_of k x y z)
 
 -- the same written directly as the source of an iterator
 abbrev pub range_source : Collection → Expr → Option Expr → Expr → Range
-range_source k a None c = (Between, a ∷ c ∷ [])
-range_source k a (Some b) c = (steps k, a ∷ b ∷ c ∷ [])
+range_source k a b c = (bounded_source k b, bounds a b c)
 
 abbrev pub source_range : Part → Option Part → Part → Collection → Scope → Numbered Range
 source_range a b c k s = do x ← a.term s; y ← optional b s; z ← c.term s; pure (range_source k x y z)
@@ -256,18 +276,7 @@ filter b x c k s = do
 abbrev pub inside_by : (Collection → Scope → Numbered Expr) → Inside
 inside_by term = record { term = term; source = λ k. value_source (term k) }
 
--- ---- selectors
-
--- a list in brackets behind an expression, by the operator that takes both
-abbrev pub at_list : Operator → List Part → Expr → Scope → Numbered Expr
-at_list f xs e s = do i ← listed xs s; pure (two f e i)
-
-abbrev pub with_bound : Expr → Expr → Option Expr → Expr
-with_bound e i None = two Tail e i
-with_bound e i (Some j) = Apply Slice (exprs_of (e ∷ i ∷ j ∷ []))
-
-abbrev pub at_bounds : Part → Option Part → Expr → Scope → Numbered Expr
-at_bounds a b e s = do i ← a.term s; j ← optional b s; pure (with_bound e i j)
+-- ---- selectors of a place
 
 abbrev pub round_part : Part → Scope → Numbered (Selectors → Selectors)
 round_part x s = do e ← x.term s; pure (round_selector e)
@@ -292,7 +301,7 @@ expr_step Expr-F.False = constant (Literal (bool false))
 expr_step Expr-F.Newat = constant Newat
 expr_step Expr-F.Eof = constant Eof
 expr_step Expr-F.Ok = constant Ok
-expr_step (Expr-F.Name x) = record (part_by (λ s. pure (Named (variable_of s x)))) { name = Some x }
+expr_step (Expr-F.Name x) = record (part_by (λ s. pure (named x s))) { name = Some x }
 expr_step (Expr-F.If a b c) = part_by (choice a b c)
 expr_step (Expr-F.Set x) = inside x OfSet
 expr_step (Expr-F.Tuple x) = inside x OfTuple

@@ -73,6 +73,6 @@ abbrev pub binding_of : Bound → Source → (Name → run.Variable) → Binding
 binding_of (bd.Name x) k v = Member k (v x)
 binding_of (bd.Pattern slots) k v = Components k (map (slot_variable v) slots)
 
--- the place of the procedure of this name, from 0, and its parameters
+-- the place of the first procedure with this name, and its parameters
 abbrev pub procedure_of : Scope → Name → Option (ℕ × List Param)
 procedure_of s x = found_procedure s.procedures x
