@@ -10,4 +10,9 @@ mod operators;
 mod ranges;
 mod scope;
 mod selections;
+mod statements;
 mod stmt_makers;
+mod tree;
+
+pub use std::alloc::AllocError as Memory;
+pub use tree::elaborate;
