@@ -216,11 +216,25 @@ impl Elaborator<'_> {
             }
             StmtKind::Take(name, end, place) => self.taking_from(line, name, *end, place),
             StmtKind::Call(name, xs) => self.performance(line, name, xs.as_slice()),
-            StmtKind::If(first, others, last) => self.choice(line, first, others.as_slice(), last),
-            StmtKind::For(turns, condition, body) => {
-                self.for_loop(line, turns.as_slice(), condition, body.as_slice())
+            StmtKind::If(first, others, last) => {
+                let condition = self.expr(&first.condition)?;
+                let body = self.stmts(first.body.as_slice())?;
+                let branches = self.branches(line, others.as_slice())?;
+                match last {
+                    None => {
+                        let last = Items::new(self.alloc);
+                        Ok(stmt_makers::choice(line, condition, body, branches, last))
+                    }
+                    Some(last) => {
+                        let last = self.stmts(last.as_slice())?;
+                        Ok(stmt_makers::choice(line, condition, body, branches, last))
+                    }
+                }
             }
-            StmtKind::While(condition, body) => self.while_loop(line, condition, body.as_slice()),
+            StmtKind::For(turns, condition, body) => {
+                self.for_loop(line, body.as_slice(), turns.as_slice(), condition)
+            }
+            StmtKind::While(condition, body) => self.while_loop(line, body.as_slice(), condition),
             StmtKind::Quit => Ok(stmt_makers::quit(line)),
             StmtKind::Continue => Ok(stmt_makers::continue_(line)),
             StmtKind::Fail => Ok(stmt_makers::fail(line)),
@@ -230,25 +244,6 @@ impl Elaborator<'_> {
             StmtKind::Print(xs) => self.print_of(line, xs.as_slice()),
             StmtKind::Read(names) => self.read_of(line, names.as_slice()),
         }
-    }
-
-    /// What `if` becomes. An error is want of memory.
-    #[cycle(statements)]
-    fn choice(
-        &mut self,
-        line: u32,
-        first: &TreeBranch,
-        others: &[TreeBranch],
-        last: &Option<Items<TreeStmt>>,
-    ) -> Result<Stmt, AllocError>
-        ensures value { IfOk result (λ x. plain_stmt x ≡ (line, made (spec.choice line (branch_of first.now) (map branch_of others.now) (option_map (map lined) last.now)) self.old)) }
-        ensures state { OnOk result (self.new ≡ past (spec.choice line (branch_of first.now) (map branch_of others.now) (option_map (map lined) last.now)) self.old) }
-    {
-        let condition = self.expr(&first.condition)?;
-        let body = self.stmts(first.body.as_slice())?;
-        let branches = self.branches(line, others)?;
-        let last = self.optional_block(last)?;
-        Ok(stmt_makers::choice(line, condition, body, branches, last))
     }
 
     /// What the `elseif` branches of an `if` on this line become. An error is want of memory.
@@ -275,26 +270,14 @@ impl Elaborator<'_> {
         Ok(stmt_makers::branch(line, condition, body))
     }
 
-    /// What the statements behind `else` become, if there are some. An error is want of memory.
-    #[cycle(statements)]
-    fn optional_block(&mut self, xs: &Option<Items<TreeStmt>>) -> Result<Items<Stmt>, AllocError>
-        ensures value { IfOk result (λ all. map plain_stmt all ≡ made (spec.optional_block (option_map (map lined) xs.now)) self.old) }
-        ensures state { OnOk result (self.new ≡ past (spec.optional_block (option_map (map lined) xs.now)) self.old) }
-    {
-        match xs {
-            None => Ok(Items::new(self.alloc)),
-            Some(xs) => self.stmts(xs.as_slice()),
-        }
-    }
-
     /// What a loop over iterators becomes. An error is want of memory.
     #[cycle(statements)]
     fn for_loop(
         &mut self,
         line: u32,
+        body: &[TreeStmt],
         turns: &[Iter],
         condition: &Option<TreeExpr>,
-        body: &[TreeStmt],
     ) -> Result<Stmt, AllocError>
         ensures value { IfOk result (λ x. plain_stmt x ≡ (line, made (spec.for_loop (map turn_of turns.now) (option_map part_of condition.now) (map lined body.now)) self.old)) }
         ensures state { OnOk result (self.new ≡ past (spec.for_loop (map turn_of turns.now) (option_map part_of condition.now) (map lined body.now)) self.old) }
@@ -310,8 +293,8 @@ impl Elaborator<'_> {
     fn while_loop(
         &mut self,
         line: u32,
-        condition: &TreeExpr,
         body: &[TreeStmt],
+        condition: &TreeExpr,
     ) -> Result<Stmt, AllocError>
         ensures value { IfOk result (λ x. plain_stmt x ≡ (line, made (spec.while_loop (part_of condition.now) (map lined body.now)) self.old)) }
         ensures state { OnOk result (self.new ≡ past (spec.while_loop (part_of condition.now) (map lined body.now)) self.old) }
