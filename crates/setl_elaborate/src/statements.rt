@@ -199,12 +199,12 @@ impl Elaborator<'_> {
         ensures value { IfOk result (λ y. plain_stmt y ≡ made (lined x.now) self.old) }
         ensures state { OnOk result (self.new ≡ past (lined x.now) self.old) }
     {
-        self.kind(x.line, &x.kind)
+        self.kind(&x.kind, x.line)
     }
 
     /// What a statement on this line becomes. An error is want of memory.
     #[cycle(statements)]
-    fn kind(&mut self, line: u32, x: &StmtKind) -> Result<Stmt, AllocError>
+    fn kind(&mut self, x: &StmtKind, line: u32) -> Result<Stmt, AllocError>
         ensures value { IfOk result (λ y. plain_stmt y ≡ (line, made (kind_of x.now line) self.old)) }
         ensures state { OnOk result (self.new ≡ past (kind_of x.now line) self.old) }
     {
@@ -216,11 +216,25 @@ impl Elaborator<'_> {
             }
             StmtKind::Take(name, end, place) => self.taking_from(line, name, *end, place),
             StmtKind::Call(name, xs) => self.performance(line, name, xs.as_slice()),
-            StmtKind::If(first, others, last) => self.choice(line, first, others.as_slice(), last),
-            StmtKind::For(turns, condition, body) => {
-                self.for_loop(line, turns.as_slice(), condition, body.as_slice())
+            StmtKind::If(first, others, last) => {
+                let condition = self.expr(&first.condition)?;
+                let body = self.stmts(first.body.as_slice())?;
+                let branches = self.branches(others.as_slice(), line)?;
+                match last {
+                    None => {
+                        let last = Items::new(self.alloc);
+                        Ok(stmt_makers::choice(line, condition, body, branches, last))
+                    }
+                    Some(last) => {
+                        let last = self.stmts(last.as_slice())?;
+                        Ok(stmt_makers::choice(line, condition, body, branches, last))
+                    }
+                }
             }
-            StmtKind::While(condition, body) => self.while_loop(line, condition, body.as_slice()),
+            StmtKind::For(turns, condition, body) => {
+                self.for_loop(body.as_slice(), line, turns.as_slice(), condition)
+            }
+            StmtKind::While(condition, body) => self.while_loop(body.as_slice(), line, condition),
             StmtKind::Quit => Ok(stmt_makers::quit(line)),
             StmtKind::Continue => Ok(stmt_makers::continue_(line)),
             StmtKind::Fail => Ok(stmt_makers::fail(line)),
@@ -232,41 +246,22 @@ impl Elaborator<'_> {
         }
     }
 
-    /// What `if` becomes. An error is want of memory.
-    #[cycle(statements)]
-    fn choice(
-        &mut self,
-        line: u32,
-        first: &TreeBranch,
-        others: &[TreeBranch],
-        last: &Option<Items<TreeStmt>>,
-    ) -> Result<Stmt, AllocError>
-        ensures value { IfOk result (λ x. plain_stmt x ≡ (line, made (spec.choice line (branch_of first.now) (map branch_of others.now) (option_map (map lined) last.now)) self.old)) }
-        ensures state { OnOk result (self.new ≡ past (spec.choice line (branch_of first.now) (map branch_of others.now) (option_map (map lined) last.now)) self.old) }
-    {
-        let condition = self.expr(&first.condition)?;
-        let body = self.stmts(first.body.as_slice())?;
-        let branches = self.branches(line, others)?;
-        let last = self.optional_block(last)?;
-        Ok(stmt_makers::choice(line, condition, body, branches, last))
-    }
-
     /// What the `elseif` branches of an `if` on this line become. An error is want of memory.
     #[cycle(statements)]
-    fn branches(&mut self, line: u32, branches: &[TreeBranch]) -> Result<Items<Branch>, AllocError>
+    fn branches(&mut self, branches: &[TreeBranch], line: u32) -> Result<Items<Branch>, AllocError>
         ensures value { IfOk result (λ all. map plain_branch all ≡ made (spec.branches line (map branch_of branches.now)) self.old) }
         ensures state { OnOk result (self.new ≡ past (spec.branches line (map branch_of branches.now)) self.old) }
     {
         let mut all = Items::new(self.alloc);
         for branch in branches {
-            all.push(self.branch(line, branch)?)?;
+            all.push(self.branch(branch, line)?)?;
         }
         Ok(all)
     }
 
     /// What an `elseif` branch becomes. An error is want of memory.
     #[cycle(statements)]
-    fn branch(&mut self, line: u32, branch: &TreeBranch) -> Result<Branch, AllocError>
+    fn branch(&mut self, branch: &TreeBranch, line: u32) -> Result<Branch, AllocError>
         ensures value { IfOk result (λ b. plain_branch b ≡ made (spec.guarded line (branch_of branch.now)) self.old) }
         ensures state { OnOk result (self.new ≡ past (spec.guarded line (branch_of branch.now)) self.old) }
     {
@@ -275,26 +270,14 @@ impl Elaborator<'_> {
         Ok(stmt_makers::branch(line, condition, body))
     }
 
-    /// What the statements behind `else` become, if there are some. An error is want of memory.
-    #[cycle(statements)]
-    fn optional_block(&mut self, xs: &Option<Items<TreeStmt>>) -> Result<Items<Stmt>, AllocError>
-        ensures value { IfOk result (λ all. map plain_stmt all ≡ made (spec.optional_block (option_map (map lined) xs.now)) self.old) }
-        ensures state { OnOk result (self.new ≡ past (spec.optional_block (option_map (map lined) xs.now)) self.old) }
-    {
-        match xs {
-            None => Ok(Items::new(self.alloc)),
-            Some(xs) => self.stmts(xs.as_slice()),
-        }
-    }
-
     /// What a loop over iterators becomes. An error is want of memory.
     #[cycle(statements)]
     fn for_loop(
         &mut self,
+        body: &[TreeStmt],
         line: u32,
         turns: &[Iter],
         condition: &Option<TreeExpr>,
-        body: &[TreeStmt],
     ) -> Result<Stmt, AllocError>
         ensures value { IfOk result (λ x. plain_stmt x ≡ (line, made (spec.for_loop (map turn_of turns.now) (option_map part_of condition.now) (map lined body.now)) self.old)) }
         ensures state { OnOk result (self.new ≡ past (spec.for_loop (map turn_of turns.now) (option_map part_of condition.now) (map lined body.now)) self.old) }
@@ -309,9 +292,9 @@ impl Elaborator<'_> {
     #[cycle(statements)]
     fn while_loop(
         &mut self,
+        body: &[TreeStmt],
         line: u32,
         condition: &TreeExpr,
-        body: &[TreeStmt],
     ) -> Result<Stmt, AllocError>
         ensures value { IfOk result (λ x. plain_stmt x ≡ (line, made (spec.while_loop (part_of condition.now) (map lined body.now)) self.old)) }
         ensures state { OnOk result (self.new ≡ past (spec.while_loop (part_of condition.now) (map lined body.now)) self.old) }
