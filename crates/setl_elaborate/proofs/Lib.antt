@@ -1,2 +1,3 @@
 mod Scopes
 mod BoundNames
+mod Walks

@@ -199,12 +199,12 @@ impl Elaborator<'_> {
         ensures value { IfOk result (λ y. plain_stmt y ≡ made (lined x.now) self.old) }
         ensures state { OnOk result (self.new ≡ past (lined x.now) self.old) }
     {
-        self.kind(&x.kind, x.line)
+        self.kind(x.line, &x.kind)
     }
 
     /// What a statement on this line becomes. An error is want of memory.
     #[cycle(statements)]
-    fn kind(&mut self, x: &StmtKind, line: u32) -> Result<Stmt, AllocError>
+    fn kind(&mut self, line: u32, x: &StmtKind) -> Result<Stmt, AllocError>
         ensures value { IfOk result (λ y. plain_stmt y ≡ (line, made (kind_of x.now line) self.old)) }
         ensures state { OnOk result (self.new ≡ past (kind_of x.now line) self.old) }
     {
@@ -219,7 +219,7 @@ impl Elaborator<'_> {
             StmtKind::If(first, others, last) => {
                 let condition = self.expr(&first.condition)?;
                 let body = self.stmts(first.body.as_slice())?;
-                let branches = self.branches(others.as_slice(), line)?;
+                let branches = self.branches(line, others.as_slice())?;
                 match last {
                     None => {
                         let last = Items::new(self.alloc);
@@ -232,9 +232,9 @@ impl Elaborator<'_> {
                 }
             }
             StmtKind::For(turns, condition, body) => {
-                self.for_loop(body.as_slice(), line, turns.as_slice(), condition)
+                self.for_loop(line, body.as_slice(), turns.as_slice(), condition)
             }
-            StmtKind::While(condition, body) => self.while_loop(body.as_slice(), line, condition),
+            StmtKind::While(condition, body) => self.while_loop(line, body.as_slice(), condition),
             StmtKind::Quit => Ok(stmt_makers::quit(line)),
             StmtKind::Continue => Ok(stmt_makers::continue_(line)),
             StmtKind::Fail => Ok(stmt_makers::fail(line)),
@@ -248,20 +248,20 @@ impl Elaborator<'_> {
 
     /// What the `elseif` branches of an `if` on this line become. An error is want of memory.
     #[cycle(statements)]
-    fn branches(&mut self, branches: &[TreeBranch], line: u32) -> Result<Items<Branch>, AllocError>
+    fn branches(&mut self, line: u32, branches: &[TreeBranch]) -> Result<Items<Branch>, AllocError>
         ensures value { IfOk result (λ all. map plain_branch all ≡ made (spec.branches line (map branch_of branches.now)) self.old) }
         ensures state { OnOk result (self.new ≡ past (spec.branches line (map branch_of branches.now)) self.old) }
     {
         let mut all = Items::new(self.alloc);
         for branch in branches {
-            all.push(self.branch(branch, line)?)?;
+            all.push(self.branch(line, branch)?)?;
         }
         Ok(all)
     }
 
     /// What an `elseif` branch becomes. An error is want of memory.
     #[cycle(statements)]
-    fn branch(&mut self, branch: &TreeBranch, line: u32) -> Result<Branch, AllocError>
+    fn branch(&mut self, line: u32, branch: &TreeBranch) -> Result<Branch, AllocError>
         ensures value { IfOk result (λ b. plain_branch b ≡ made (spec.guarded line (branch_of branch.now)) self.old) }
         ensures state { OnOk result (self.new ≡ past (spec.guarded line (branch_of branch.now)) self.old) }
     {
@@ -274,8 +274,8 @@ impl Elaborator<'_> {
     #[cycle(statements)]
     fn for_loop(
         &mut self,
-        body: &[TreeStmt],
         line: u32,
+        body: &[TreeStmt],
         turns: &[Iter],
         condition: &Option<TreeExpr>,
     ) -> Result<Stmt, AllocError>
@@ -292,8 +292,8 @@ impl Elaborator<'_> {
     #[cycle(statements)]
     fn while_loop(
         &mut self,
-        body: &[TreeStmt],
         line: u32,
+        body: &[TreeStmt],
         condition: &TreeExpr,
     ) -> Result<Stmt, AllocError>
         ensures value { IfOk result (λ x. plain_stmt x ≡ (line, made (spec.while_loop (part_of condition.now) (map lined body.now)) self.old)) }
