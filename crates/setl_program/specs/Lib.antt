@@ -3,6 +3,7 @@ pub mod Source
 pub mod Formed
 pub mod FormedLaws
 pub mod Numbered
+pub mod Lists
 pub mod Scope
 pub mod Operators
 pub mod Expressions

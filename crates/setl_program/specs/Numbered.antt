@@ -1,5 +1,5 @@
 -- Counting the formers of a body from 1, in the order of their opening brackets.
-use Rattle.std.specs.Prelude.{ℕ, suc, List, [], ◌∷◌}
+use Rattle.std.specs.Prelude.{ℕ, suc}
 
 -- what is made where so many formers were opened before, with how many are open afterwards
 abbrev pub Numbered : Type 0 → Type 0
@@ -19,8 +19,3 @@ x >>= k = λ n. handed_on k (x n)
 -- the number of the former that is opened
 abbrev pub opened : Numbered ℕ
 opened n = (suc n, suc n)
-
--- one after another
-abbrev pub in_turn : {A : Type 0} → List (Numbered A) → Numbered (List A)
-in_turn [] = pure []
-in_turn (x ∷ xs) = x >>= (λ a. in_turn xs >>= (λ rest. pure (a ∷ rest)))

@@ -1,4 +1,5 @@
 -- What the operators of a tree become in a program.
+use Rattle.std.specs.Prelude.{Option, Some, None}
 use Rattle.setl_tree.specs.declared.expr.BinaryOp.{BinaryOp}
 use Rattle.setl_tree.specs.declared.expr.BinaryOp.TheVariants as op
 use Rattle.setl_tree.specs.declared.expr.Relation.{Relation}
@@ -13,6 +14,7 @@ use Rattle.setl_tree.specs.declared.stmt.FromEnd.{FromEnd}
 use Rattle.setl_tree.specs.declared.stmt.FromEnd.TheVariants as fr
 use Rattle.setl_map.specs.declared.Operator.{Operator}
 use Rattle.setl_map.specs.declared.Operator.TheVariants as o
+use Rattle.setl_program.specs.declared.kinds.Connective.{Connective}
 use Rattle.setl_program.specs.declared.kinds.Connective.TheVariants.{And, Or, Implies}
 use Rattle.setl_program.specs.declared.kinds.Quantifier.{Quantifier}
 use Rattle.setl_program.specs.declared.kinds.Quantifier.TheVariants.{Exists, Forall, NotExists}
@@ -25,24 +27,6 @@ one f a = Apply f (more_exprs a no_expr)
 
 abbrev pub two : Operator → Expr → Expr → Expr
 two f a b = Apply f (more_exprs a (more_exprs b no_expr))
-
--- a binary operator; `and`, `or` and `impl` look at their right part only where they need it
-abbrev pub binary : BinaryOp → Expr → Expr → Expr
-binary op.Impl a b = Connect Implies a b
-binary op.Or a b = Connect Or a b
-binary op.And a b = Connect And a b
-binary op.With a b = two o.With a b
-binary op.Less a b = two o.Less a b
-binary op.Lessf a b = two o.Lessf a b
-binary op.Npow a b = two o.Npow a b
-binary op.Plus a b = two o.Add a b
-binary op.Minus a b = two o.Subtract a b
-binary op.Max a b = two o.Max a b
-binary op.Min a b = two o.Min a b
-binary op.Times a b = two o.Multiply a b
-binary op.Div a b = two o.Divide a b
-binary op.Mod a b = two o.Modulo a b
-binary op.Power a b = two o.Power a b
 
 -- the operator of an update; `and`, `or` and `impl` never stand there
 abbrev pub updating : BinaryOp → Operator
@@ -59,6 +43,20 @@ updating op.Div = o.Divide
 updating op.Mod = o.Modulo
 updating op.Power = o.Power
 updating f = o.Equal
+
+-- the operators that look at their right part only where they need it
+abbrev pub connective : BinaryOp → Option Connective
+connective op.Impl = Some Implies
+connective op.Or = Some Or
+connective op.And = Some And
+connective f = None
+
+abbrev pub joined : Option Connective → Operator → Expr → Expr → Expr
+joined None f a b = two f a b
+joined (Some k) f a b = Connect k a b
+
+abbrev pub binary : BinaryOp → Expr → Expr → Expr
+binary f a b = joined (connective f) (updating f) a b
 
 abbrev pub relation : Relation → Operator
 relation rel.Equal = o.Equal

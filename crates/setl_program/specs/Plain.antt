@@ -1,9 +1,9 @@
 -- The plain data that a program stands for.
-use Rattle.std.specs.Prelude.{ℕ, List, [], ◌∷◌, map, Option, Some, None}
+use Rattle.std.specs.Prelude.{ℕ, List, map, Option}
 use Rattle.std.specs.Option.{option_map}
 use Rattle.setl_value.specs.Datum.{bool, int, text}
 use Rattle.setl_run.specs.Variable as run
-use Rattle.setl_modes.specs.Modes.{mode_of}
+use Rattle.setl_modes.specs.Modes.{Mode, mode_of}
 use Rattle.setl_program.specs.declared.expr.Variable.{Variable}
 use Rattle.setl_program.specs.declared.expr.Variable.TheVariants as v
 use Rattle.setl_program.specs.declared.expr.Binding.{Binding}
@@ -15,48 +15,32 @@ use Rattle.setl_program.specs.declared.expr.Argument.{Argument, fold-Argument}
 use Rattle.setl_program.specs.declared.stmt.Selector.{Selector}
 use Rattle.setl_program.specs.declared.stmt.Selector.TheVariants as s
 use Rattle.setl_program.specs.declared.stmt.Place.{Place}
+use Rattle.setl_program.specs.declared.stmt.Branch.{Branch, fold-Branch}
 use Rattle.setl_program.specs.declared.stmt.Stmt.{Stmt, fold-Stmt}
-use Rattle.setl_program.specs.declared.stmt.StmtKind.TheOpen.{StmtKind-F, Stmt-F}
+use Rattle.setl_program.specs.declared.stmt.StmtKind.{StmtKind, fold-StmtKind}
+use Rattle.setl_program.specs.declared.stmt.StmtKind.TheOpen.{StmtKind-F, Branch-F, Stmt-F}
+use Rattle.setl_program.specs.declared.program.Declared.{Declared}
 use Rattle.setl_program.specs.declared.program.Procedure.{Procedure}
 use Rattle.setl_program.specs.declared.program.Program.{Program}
 use Rattle.setl_program.specs.Program as plain
 use Rattle.setl_program.specs.ProgramOf.{parameter_of}
+pub use Rattle.setl_program.specs.Lists.{exprs_of, iterators_of, condition_of, arguments_of, all_selectors, block_of, otherwise}
 
 abbrev pub plain_variable : Variable → run.Variable
 plain_variable (v.Global name) = run.Global name
 plain_variable (v.Own body name) = run.Own body name
 plain_variable (v.Former former name) = run.Bound former name
 
+abbrev pub plain_slot : Option Variable → Option run.Variable
+plain_slot x = option_map plain_variable x
+
 abbrev pub plain_slots : List (Option Variable) → plain.Slots
-plain_slots xs = map (λ x. option_map plain_variable x) xs
+plain_slots xs = map plain_slot xs
 
 abbrev pub plain_binding : Binding → plain.Binding
 plain_binding (b.Member k x) = plain.Member k (plain_variable x)
 plain_binding (b.Components k xs) = plain.Components k (plain_slots xs)
 plain_binding (b.Point y x) = plain.Point (plain_variable y) (plain_variable x)
-
--- ---- lists
-
-abbrev pub exprs_of : List plain.Expr → plain.Exprs
-exprs_of [] = plain.no_expr
-exprs_of (e ∷ es) = plain.more_exprs e (exprs_of es)
-
-abbrev pub iterators_of : List (plain.Binding × plain.Exprs) → plain.Iterators
-iterators_of [] = plain.no_iterator
-iterators_of (i ∷ is) = plain.more_iterators i.0 i.1 (iterators_of is)
-
-abbrev pub condition_of : Option plain.Expr → plain.Condition
-condition_of None = plain.no_condition
-condition_of (Some e) = plain.only_if e
-
--- arguments in their order, each as what it puts before the others
-abbrev pub arguments_of : List (plain.Arguments → plain.Arguments) → plain.Arguments
-arguments_of [] = plain.no_argument
-arguments_of (a ∷ as_) = a (arguments_of as_)
-
-abbrev pub block_of : List (ℕ × plain.Stmt) → plain.Block
-block_of [] = plain.no_stmt
-block_of (s ∷ ss) = plain.more_stmts s.0 s.1 (block_of ss)
 
 -- ---- expressions
 
@@ -105,21 +89,23 @@ plain_arguments all = arguments_of (map plain_argument all)
 
 -- ---- statements
 
+abbrev pub plain_selector : Selector → plain.Selectors → plain.Selectors
+plain_selector (s.Round e) = plain.round_selector (plain_expr e)
+plain_selector (s.Brace e) = plain.brace_selector (plain_expr e)
+
 abbrev pub selectors_of : List Selector → plain.Selectors
-selectors_of [] = plain.no_selector
-selectors_of (s.Round e ∷ rest) = plain.round_selector (plain_expr e) (selectors_of rest)
-selectors_of (s.Brace e ∷ rest) = plain.brace_selector (plain_expr e) (selectors_of rest)
+selectors_of ss = all_selectors (map plain_selector ss)
 
 abbrev pub plain_place : Place → plain.Place
 plain_place p = record { variable = plain_variable p.variable; selectors = selectors_of p.selectors }
 
-abbrev pub kind_step : StmtKind-F plain.Stmt (ℕ × plain.Stmt) → plain.Stmt
+abbrev pub kind_step : StmtKind-F plain.Stmt (plain.Block → plain.Block) (ℕ × plain.Stmt) → plain.Stmt
 kind_step (StmtKind-F.Assign p e) = plain.Assign (plain_place p) (plain_expr e)
 kind_step (StmtKind-F.Update o p e) = plain.Update o (plain_place p) (plain_expr e)
 kind_step (StmtKind-F.AssignParts xs e) = plain.AssignParts (plain_slots xs) (plain_expr e)
 kind_step (StmtKind-F.TakeFrom k x p) = plain.TakeFrom k (plain_variable x) (plain_place p)
 kind_step (StmtKind-F.Perform e) = plain.Perform (plain_expr e)
-kind_step (StmtKind-F.If e x y) = plain.If (plain_expr e) (block_of x) (block_of y)
+kind_step (StmtKind-F.If e x bs y) = plain.If (plain_expr e) (block_of x) (otherwise bs (block_of y))
 kind_step (StmtKind-F.For is t x) = plain.For (plain_iterators is) (condition_of (option_map plain_expr t)) (block_of x)
 kind_step (StmtKind-F.While e x) = plain.While (plain_expr e) (block_of x)
 kind_step StmtKind-F.Quit = plain.Quit
@@ -131,11 +117,21 @@ kind_step (StmtKind-F.Return e) = plain.Return (plain_expr e)
 kind_step (StmtKind-F.Print es) = plain.Print (plain_exprs es)
 kind_step (StmtKind-F.Read xs) = plain.Read (map plain_variable xs)
 
-abbrev pub stmt_step : Stmt-F plain.Stmt (ℕ × plain.Stmt) → ℕ × plain.Stmt
+abbrev pub stmt_step : Stmt-F plain.Stmt (plain.Block → plain.Block) (ℕ × plain.Stmt) → ℕ × plain.Stmt
 stmt_step x = (x.line, x.kind)
 
+-- an `elseif` before what follows it
+abbrev pub branch_step : Branch-F plain.Stmt (plain.Block → plain.Block) (ℕ × plain.Stmt) → plain.Block → plain.Block
+branch_step b rest = plain.more_stmts b.line (plain.If (plain_expr b.condition) (block_of b.body) rest) plain.no_stmt
+
+abbrev pub plain_kind : StmtKind → plain.Stmt
+plain_kind = fold-StmtKind plain.Stmt (plain.Block → plain.Block) (ℕ × plain.Stmt) kind_step branch_step stmt_step
+
 abbrev pub plain_stmt : Stmt → ℕ × plain.Stmt
-plain_stmt = fold-Stmt plain.Stmt (ℕ × plain.Stmt) kind_step stmt_step
+plain_stmt = fold-Stmt plain.Stmt (plain.Block → plain.Block) (ℕ × plain.Stmt) kind_step branch_step stmt_step
+
+abbrev pub plain_branch : Branch → plain.Block → plain.Block
+plain_branch = fold-Branch plain.Stmt (plain.Block → plain.Block) (ℕ × plain.Stmt) kind_step branch_step stmt_step
 
 abbrev pub plain_block : List Stmt → plain.Block
 plain_block ss = block_of (map plain_stmt ss)
@@ -150,6 +146,9 @@ plain_procedure p = record {
   end_line = p.end_line;
 }
 
+abbrev pub plain_declared : Declared → run.Variable × Mode
+plain_declared d = (plain_variable d.variable, mode_of d.mode)
+
 abbrev pub plain_program : Program → plain.Program
 plain_program p = record {
   name = p.name;
@@ -157,5 +156,5 @@ plain_program p = record {
   main = plain_block p.main;
   end_line = p.end_line;
   procedures = map plain_procedure p.procedures;
-  modes = map (λ d. (plain_variable d.variable, mode_of d.mode)) p.declared;
+  modes = map plain_declared p.declared;
 }

@@ -12,5 +12,5 @@ mod worked;
 pub use expr::{Argument, Binding, Expr, Iterator, Variable};
 pub use kinds::{Collection, Connective, Quantifier, Source, Taking};
 pub use program::{Declared, Procedure, Program};
-pub use stmt::{Place, Selector, Stmt, StmtKind};
+pub use stmt::{Branch, Place, Selector, Stmt, StmtKind};
 pub use worked::worked_trees;

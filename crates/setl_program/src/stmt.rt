@@ -27,6 +27,15 @@ pub struct Stmt {
     pub kind: StmtKind,
 }
 
+/// An `elseif` with the statements that its condition guards, and the line that it has: that of its `if`.
+#[cycle(stmt)]
+#[derive(Drop)]
+pub struct Branch {
+    pub line: u32,
+    pub condition: Expr,
+    pub body: Items<Stmt>,
+}
+
 /// What a statement is.
 #[cycle(stmt)]
 #[derive(Drop)]
@@ -41,7 +50,9 @@ pub enum StmtKind {
     TakeFrom(Taking, Variable, Place),
     /// A call whose result is dropped.
     Perform(Expr),
-    If(Expr, Items<Stmt>, Items<Stmt>),
+    /// The condition and the statements that it guards, the `elseif` branches, and the statements behind `else`. A branch
+    /// means an `if` that alone stands behind the `else` of what comes before it.
+    If(Expr, Items<Stmt>, Items<Branch>, Items<Stmt>),
     For(Items<Iterator>, Option<Expr>, Items<Stmt>),
     While(Expr, Items<Stmt>),
     Quit,

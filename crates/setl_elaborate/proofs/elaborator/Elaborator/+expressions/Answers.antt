@@ -1,0 +1,50 @@
+use Rattle.std.proofs.Common.{◌≡◌, ◌∙◌, List, map, Some, IfOk, OnOk, ap, subst}
+use Rattle.setl_names.specs.Names.{Name, with_names}
+use Rattle.setl_program.specs.Program as plain
+use Rattle.setl_program.specs.Expressions.{term_of, turn_of}
+use Rattle.setl_program.specs.Plain.{plain_expr, plain_argument, plain_iterator}
+use Rattle.setl_elaborate.specs.declared.elaborator.Elaborator.{Elaborator}
+use Rattle.setl_elaborate.proofs.BoundNames.{one_turn}
+use Rattle.setl_elaborate.proofs.Walks.{within_state, within_names, chain_walked, arguments_made, arguments_past, turn_made, turn_past}
+use Rattle.setl_elaborate.proofs.elaborator.Elaborator.+expressions.Goals as goal
+
+pub arguments-returns-clause-value : goal.arguments-returns-clause-value
+arguments-returns-clause-value t c = arguments_made c.loop-x.left.now c.args.xs.now c.loop-x.x-index (map plain_argument c.loop-x.all) _ c.loop-x.self c.loop-x-test.false c.loop-x.invariant.value
+
+pub arguments-returns-clause-state : goal.arguments-returns-clause-state
+arguments-returns-clause-state t c = arguments_past c.loop-x.left.now c.args.xs.now c.loop-x.x-index c.loop-x.self _ c.loop-x-test.false c.loop-x.invariant.state
+
+pub expr-returns-in_ok-left-in-Chain-clause-value : goal.expr-returns-in_ok-left-in-Chain-clause-value
+expr-returns-in_ok-left-in-Chain-clause-value t c =
+    let walked =
+    chain_walked c.args.x.now c.in-Chain.first c.get-in-Chain.result.now c.in-Chain.others c.as_slice.result.now (plain_expr c.in_ok-left-in-Chain.left) c.args.self.now c.expr-in-Chain.new.self
+    c.in-Chain.is c.get-in-Chain.ensures c.as_slice.ensures c.in_ok-left-in-Chain.ensures.value c.in_ok-left-in-Chain.ensures.state in
+    subst (λ (v : plain.Expr). IfOk c.chain_on.result (λ e. plain_expr e ≡ v)) walked.0 c.chain_on.ensures.value
+
+pub expr-returns-in_ok-left-in-Chain-clause-state : goal.expr-returns-in_ok-left-in-Chain-clause-state
+expr-returns-in_ok-left-in-Chain-clause-state t c =
+    let walked =
+    chain_walked c.args.x.now c.in-Chain.first c.get-in-Chain.result.now c.in-Chain.others c.as_slice.result.now (plain_expr c.in_ok-left-in-Chain.left) c.args.self.now c.expr-in-Chain.new.self
+    c.in-Chain.is c.get-in-Chain.ensures c.as_slice.ensures c.in_ok-left-in-Chain.ensures.value c.in_ok-left-in-Chain.ensures.state in
+    subst (λ (w : Elaborator). OnOk c.chain_on.result (c.chain_on.new.self ≡ w)) walked.1 c.chain_on.ensures.state
+
+pub expr_within-returns-clause-state : goal.expr_within-returns-clause-state
+expr_within-returns-clause-state t c = within_state (term_of c.args.x.now) c.args.number c.args.names c.args.self.now c.enter.new.self c.expr.new.self c.leave.new.self c.in_ok-enter.ensures c.in_ok-made.ensures.state c.leave.ensures.left
+
+pub own_iterator-returns-clause-names : goal.own_iterator-returns-clause-names
+own_iterator-returns-clause-names t c =
+    c.in_ok-put_turn.ensures
+    ∙ ap (λ (z : List Name). with_names z (turn_of c.args.turn.now).names) (within_names ((turn_of c.args.turn.now).iterator (Some c.args.number)) c.args.number c.args.seen c.leave-names.result c.args.self.now c.enter.new.self c.iterator.new.self c.in_ok-enter.ensures c.in_ok-iterator.ensures.state c.leave-names.ensures.names)
+
+pub own_iterator-returns-clause-state : goal.own_iterator-returns-clause-state
+own_iterator-returns-clause-state t c =
+    within_state ((turn_of c.args.turn.now).iterator (Some c.args.number)) c.args.number c.args.seen c.args.self.now c.enter.new.self c.iterator.new.self c.leave-names.new.self c.in_ok-enter.ensures c.in_ok-iterator.ensures.state c.leave-names.ensures.left
+
+pub own_iterators-loop-turn-preserved : goal.own_iterators-loop-turn-preserved
+own_iterators-loop-turn-preserved t c = record {
+  value =
+      turn_made c.args.number c.args.turns.now c.loop-turn.turn-index c.turn-item.result c.loop-turn.seen c.in_ok-seen.seen (map plain_iterator c.loop-turn.all) (map plain_iterator c.own_iterator.new.all) _ c.loop-turn.self c.own_iterator.new.self
+      c.loop-turn-test.true c.turn-item.is c.in_ok-seen.ensures.value c.in_ok-seen.ensures.names c.in_ok-seen.ensures.state c.loop-turn.invariant.value;
+  names = one_turn c.args.turns.now c.loop-turn.turn-index c.turn-item.result c.loop-turn.seen c.in_ok-seen.seen _ c.loop-turn-test.true c.turn-item.is c.loop-turn.invariant.names c.in_ok-seen.ensures.names;
+  state = turn_past c.args.number c.args.turns.now c.loop-turn.turn-index c.turn-item.result c.loop-turn.seen c.in_ok-seen.seen c.loop-turn.self c.own_iterator.new.self _ c.loop-turn-test.true c.turn-item.is c.in_ok-seen.ensures.names c.in_ok-seen.ensures.state c.loop-turn.invariant.state;
+}

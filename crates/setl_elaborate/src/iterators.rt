@@ -1,0 +1,151 @@
+//! What iterators become, and what stands inside a former.
+
+ghost use Rattle.std.specs.Prelude.{◌≡◌, [], ◌∷◌, ◌++◌, Some, map, option_map, OnOk, IfOk};
+ghost use Rattle.setl_names.specs.Names.{with_names, in_order};
+ghost use Rattle.setl_program.specs.Expressions as spec;
+ghost use Rattle.setl_program.specs.Expressions.{part_of, term_of, turn_of};
+ghost use Rattle.setl_program.specs.Plain.{plain_expr, plain_iterator};
+ghost use Rattle.setl_program.specs.Scope.{in_former};
+ghost use Rattle.setl_elaborate.specs.Elaborators.{made, past};
+
+use crate::bound;
+use crate::elaborator::Elaborator;
+use setl_names::Names;
+use setl_program::{Binding, Expr, Iterator};
+use setl_tree::{Bound, Boxed, Expr as TreeExpr, Items, Iter, Text};
+use std::alloc::AllocError;
+
+impl Elaborator<'_> {
+    /// What an expression becomes inside a former that binds these names. An error is want of memory.
+    #[cycle(expressions)]
+    pub fn expr_within(
+        &mut self,
+        x: &TreeExpr,
+        number: u32,
+        names: Names,
+    ) -> Result<Boxed<Expr>, AllocError>
+        ensures value { IfOk result (λ e. plain_expr e ≡ made (λ s. term_of x.now (in_former number names s)) self.old) }
+        ensures state { OnOk result (self.new ≡ past (λ s. term_of x.now (in_former number names s)) self.old) }
+    {
+        self.enter(number, names)?;
+        let made = self.expr(x)?;
+        self.leave();
+        Ok(made)
+    }
+
+    /// What an expression becomes inside a former that binds these names, if there is one. An error is want of memory.
+    #[cycle(expressions)]
+    pub fn optional_within(
+        &mut self,
+        x: &Option<Boxed<TreeExpr>>,
+        number: u32,
+        names: Names,
+    ) -> Result<Option<Boxed<Expr>>, AllocError>
+        ensures value { IfOk result (λ e. option_map plain_expr e ≡ made (λ s. spec.optional (option_map part_of x.now) (in_former number names s)) self.old) }
+        ensures state { OnOk result (self.new ≡ past (λ s. spec.optional (option_map part_of x.now) (in_former number names s)) self.old) }
+    {
+        match x {
+            None => Ok(None),
+            Some(x) => Ok(Some(self.expr_within(x.get(), number, names)?)),
+        }
+    }
+
+    /// What iterators become that bind variables. An error is want of memory.
+    #[cycle(expressions)]
+    pub fn iterators(&mut self, turns: &[Iter]) -> Result<Items<Iterator>, AllocError>
+        ensures value { IfOk result (λ is. map plain_iterator is ≡ made (spec.iterators (map turn_of turns.now)) self.old) }
+        ensures state { OnOk result (self.new ≡ past (spec.iterators (map turn_of turns.now)) self.old) }
+    {
+        let mut all = Items::new(self.alloc);
+        for turn in turns {
+            self.iterator(turn, None, &mut all)?;
+        }
+        Ok(all)
+    }
+
+    /// What the iterators of a former become, each of which sees the names of the ones before it, and all names that they
+    /// bind. An error is want of memory.
+    #[cycle(expressions)]
+    pub fn own_iterators(
+        &mut self,
+        turns: &[Iter],
+        number: u32,
+    ) -> Result<(Items<Iterator>, Names), AllocError>
+        ensures value { IfOk result (λ r. map plain_iterator r.0 ≡ made (spec.own_iterators number [] (map turn_of turns.now)) self.old) }
+        ensures names { IfOk result (λ r. r.1 ≡ in_order (spec.names_of_turns (map turn_of turns.now))) }
+        ensures state { OnOk result (self.new ≡ past (spec.own_iterators number [] (map turn_of turns.now)) self.old) }
+    {
+        let mut all = Items::new(self.alloc);
+        let mut seen = Names::new(self.alloc);
+        for turn in turns {
+            seen = self.own_iterator(turn, number, seen, &mut all)?;
+        }
+        Ok((all, seen))
+    }
+
+    /// What an iterator of a former becomes, which sees these names. It is put at the end. It gives the names with those
+    /// that the iterator binds. An error is want of memory.
+    #[cycle(expressions)]
+    fn own_iterator(
+        &mut self,
+        turn: &Iter,
+        number: u32,
+        seen: Names,
+        all: &mut Items<Iterator>,
+    ) -> Result<Names, AllocError>
+        ensures value { OnOk result (map plain_iterator all.new ≡ map plain_iterator all.old ++ made (λ s. (turn_of turn.now).iterator (Some number) (in_former number seen s)) self.old ∷ []) }
+        ensures names { IfOk result (λ names. names ≡ with_names seen (turn_of turn.now).names) }
+        ensures state { OnOk result (self.new ≡ past (λ s. (turn_of turn.now).iterator (Some number) (in_former number seen s)) self.old) }
+    {
+        self.enter(number, seen)?;
+        self.iterator(turn, Some(number), all)?;
+        let mut names = self.leave();
+        bound::put_turn(turn, &mut names)?;
+        Ok(names)
+    }
+
+    /// What an iterator becomes, where the names that it binds are own names of the former with this number, or else
+    /// variables. It is put at the end. An error is want of memory.
+    #[cycle(expressions)]
+    fn iterator(
+        &mut self,
+        turn: &Iter,
+        former: Option<u32>,
+        all: &mut Items<Iterator>,
+    ) -> Result<(), AllocError>
+        ensures value { OnOk result (map plain_iterator all.new ≡ map plain_iterator all.old ++ made ((turn_of turn.now).iterator former) self.old ∷ []) }
+        ensures state { OnOk result (self.new ≡ past ((turn_of turn.now).iterator former) self.old) }
+    {
+        match turn {
+            Iter::Over(bound, source) => {
+                let (kind, sources) = self.source(source)?;
+                let binding = self.scope.binding(self.alloc, former, bound, kind)?;
+                all.push(Iterator { binding, sources })
+            }
+            Iter::Image(value, map, argument) => {
+                let iterator = self.image(former, value, map, argument)?;
+                all.push(iterator)
+            }
+        }
+    }
+
+    /// What an iterator over the images of a map becomes. An error is want of memory.
+    fn image(
+        &self,
+        former: Option<u32>,
+        value: &Text,
+        map: &Text,
+        argument: &Text,
+    ) -> Result<Iterator, AllocError>
+        ensures { IfOk result (λ i. plain_iterator i ≡ made (spec.image value.now map.now argument.now former) self.now) }
+    {
+        let mut sources = Items::new(self.alloc);
+        sources.push(self.name(map)?.into_inner())?;
+        let image = self.scope.bound_variable(former, value)?;
+        let argument = self.scope.bound_variable(former, argument)?;
+        Ok(Iterator {
+            binding: Binding::Point(image, argument),
+            sources,
+        })
+    }
+}

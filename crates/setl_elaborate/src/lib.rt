@@ -1,0 +1,18 @@
+//! The program of a syntax tree: each name in it becomes its variable.
+#![tactic(auto)]
+
+mod bound;
+mod elaborator;
+mod expressions;
+mod iterators;
+mod makers;
+mod operators;
+mod ranges;
+mod scope;
+mod selections;
+mod statements;
+mod stmt_makers;
+mod tree;
+
+pub use std::alloc::AllocError as Memory;
+pub use tree::elaborate;

@@ -1,0 +1,196 @@
+//! What selections and calls become.
+
+ghost use Rattle.std.specs.Prelude.{◌≡◌, [], ◌∷◌, ◌++◌, map, option_map, OnOk, IfOk};
+ghost use Rattle.setl_program.specs.Expressions as spec;
+ghost use Rattle.setl_program.specs.Expressions.{part_of, behind_of};
+ghost use Rattle.setl_program.specs.Plain.{plain_expr, plain_argument};
+ghost use Rattle.setl_program.specs.Scope.{procedure_of};
+ghost use Rattle.setl_elaborate.specs.Elaborators.{made, past};
+
+use crate::elaborator::Elaborator;
+use crate::expressions::name_of;
+use crate::{makers, ranges};
+use setl_map::Operator;
+use setl_program::{Argument, Expr};
+use setl_tree::{Boxed, Expr as TreeExpr, Items, Param, Passing, Selector, Text};
+use std::alloc::AllocError;
+
+impl Elaborator<'_> {
+    /// What a name becomes. An error is want of memory.
+    pub fn name(&self, name: &Text) -> Result<Boxed<Expr>, AllocError>
+        ensures { IfOk result (λ e. plain_expr e ≡ spec.named name.now self.now.scope) }
+    {
+        makers::name(self.alloc, self.scope.variable(name)?)
+    }
+
+    /// What an expression becomes with selectors behind it. An error is want of memory.
+    #[cycle(expressions)]
+    pub fn selected(
+        &mut self,
+        selectors: &[Selector],
+        value: Boxed<Expr>,
+    ) -> Result<Boxed<Expr>, AllocError>
+        ensures value { IfOk result (λ e. plain_expr e ≡ made (spec.selected (plain_expr value) (map behind_of selectors.now)) self.old) }
+        ensures state { OnOk result (self.new ≡ past (spec.selected (plain_expr value) (map behind_of selectors.now)) self.old) }
+    {
+        let mut all = value;
+        for selector in selectors {
+            all = self.applied(selector, all)?;
+        }
+        Ok(all)
+    }
+
+    /// What an expression becomes with a selector behind it. An error is want of memory.
+    #[cycle(expressions)]
+    fn applied(
+        &mut self,
+        selector: &Selector,
+        value: Boxed<Expr>,
+    ) -> Result<Boxed<Expr>, AllocError>
+        ensures value { IfOk result (λ e. plain_expr e ≡ made ((behind_of selector.now).applied (plain_expr value)) self.old) }
+        ensures state { OnOk result (self.new ≡ past ((behind_of selector.now).applied (plain_expr value)) self.old) }
+    {
+        match selector {
+            Selector::Round(xs) => self.at_list(xs.as_slice(), Operator::Get, value),
+            Selector::Slice(a, b) => {
+                let first = self.expr(a.get())?;
+                let last = self.optional(b)?;
+                ranges::with_bound(self.alloc, value, first, last)
+            }
+            Selector::Braces(xs) => self.at_list(xs.as_slice(), Operator::Images, value),
+        }
+    }
+
+    /// What an operator over an expression and a list in brackets becomes. An error is want of memory.
+    #[cycle(expressions)]
+    fn at_list(
+        &mut self,
+        xs: &[TreeExpr],
+        operator: Operator,
+        value: Boxed<Expr>,
+    ) -> Result<Boxed<Expr>, AllocError>
+        ensures value { IfOk result (λ e. plain_expr e ≡ made (spec.at_list operator (map part_of xs.now) (plain_expr value)) self.old) }
+        ensures state { OnOk result (self.new ≡ past (spec.at_list operator (map part_of xs.now) (plain_expr value)) self.old) }
+    {
+        let list = self.listed(xs)?;
+        makers::two(self.alloc, operator, value, list)
+    }
+
+    /// What a list in brackets becomes: one expression alone, or the tuple of several. An error is want of memory.
+    #[cycle(expressions)]
+    pub fn listed(&mut self, xs: &[TreeExpr]) -> Result<Boxed<Expr>, AllocError>
+        ensures value { IfOk result (λ e. plain_expr e ≡ made (spec.listed (map part_of xs.now)) self.old) }
+        ensures state { OnOk result (self.new ≡ past (spec.listed (map part_of xs.now)) self.old) }
+    {
+        let all = self.exprs(xs)?;
+        ranges::tuple_of_several(self.alloc, all)
+    }
+
+    /// What a name with selectors becomes: a call, or a selection. An error is want of memory.
+    #[cycle(expressions)]
+    pub fn name_selection(
+        &mut self,
+        selectors: &[Selector],
+        name: &Text,
+    ) -> Result<Boxed<Expr>, AllocError>
+        ensures value { IfOk result (λ e. plain_expr e ≡ made (spec.name_selection name.now (map behind_of selectors.now)) self.old) }
+        ensures state { OnOk result (self.new ≡ past (spec.name_selection name.now (map behind_of selectors.now)) self.old) }
+    {
+        match selectors {
+            [] => self.name(name),
+            [Selector::Round(xs), others @ ..] => {
+                let value = self.application(xs.as_slice(), name)?;
+                self.selected(others, value)
+            }
+            [Selector::Slice(_, _), ..] => {
+                let value = self.name(name)?;
+                self.selected(selectors, value)
+            }
+            [Selector::Braces(_), ..] => {
+                let value = self.name(name)?;
+                self.selected(selectors, value)
+            }
+        }
+    }
+
+    /// What a name before a list in round brackets becomes: a call if it is a procedure's. An error is want of memory.
+    #[cycle(expressions)]
+    fn application(&mut self, xs: &[TreeExpr], name: &Text) -> Result<Boxed<Expr>, AllocError>
+        ensures value { IfOk result (λ e. plain_expr e ≡ made (λ s. spec.application (procedure_of s name.now) name.now (map part_of xs.now) s) self.old) }
+        ensures state { OnOk result (self.new ≡ past (λ s. spec.application (procedure_of s name.now) name.now (map part_of xs.now) s) self.old) }
+    {
+        match self.scope.procedure(name) {
+            None => {
+                let value = self.name(name)?;
+                self.at_list(xs, Operator::Get, value)
+            }
+            Some((place, parameters)) => self.call(xs, place, parameters),
+        }
+    }
+
+    /// What a call of the procedure at this place becomes, which has these parameters. An error is want of memory.
+    #[cycle(expressions)]
+    pub fn call(
+        &mut self,
+        xs: &[TreeExpr],
+        place: usize,
+        parameters: &[Param],
+    ) -> Result<Boxed<Expr>, AllocError>
+        ensures value { IfOk result (λ e. plain_expr e ≡ made (spec.call place parameters.now (map part_of xs.now)) self.old) }
+        ensures state { OnOk result (self.new ≡ past (spec.call place parameters.now (map part_of xs.now)) self.old) }
+    {
+        let all = self.arguments(xs, parameters)?;
+        makers::call(self.alloc, place, all)
+    }
+
+    /// What arguments become for these parameters. An error is want of memory.
+    #[cycle(expressions)]
+    fn arguments(
+        &mut self,
+        xs: &[TreeExpr],
+        parameters: &[Param],
+    ) -> Result<Items<Argument>, AllocError>
+        ensures value { IfOk result (λ all. map plain_argument all ≡ made (spec.arguments parameters.now (map part_of xs.now)) self.old) }
+        ensures state { OnOk result (self.new ≡ past (spec.arguments parameters.now (map part_of xs.now)) self.old) }
+    {
+        let mut all = Items::new(self.alloc);
+        let mut left = parameters;
+        for x in xs {
+            if let [parameter, others @ ..] = left {
+                self.argument(x, parameter.passing, &mut all)?;
+                left = others;
+            }
+        }
+        Ok(all)
+    }
+
+    /// What an argument becomes, which is passed so. It is put at the end. An error is want of memory.
+    #[cycle(expressions)]
+    fn argument(
+        &mut self,
+        x: &TreeExpr,
+        passing: Passing,
+        all: &mut Items<Argument>,
+    ) -> Result<(), AllocError>
+        ensures value { OnOk result (map plain_argument all.new ≡ map plain_argument all.old ++ made (spec.argument passing (part_of x.now)) self.old ∷ []) }
+        ensures state { OnOk result (self.new ≡ past (spec.argument passing (part_of x.now)) self.old) }
+    {
+        match (passing, name_of(x)) {
+            (Passing::Wr, Some(name)) => { all.push(Argument::Wr(self.scope.variable(name)?)) }
+            (Passing::Rw, Some(name)) => { all.push(Argument::Rw(self.scope.variable(name)?)) }
+            (Passing::Wr, None) | (Passing::Rw, None) | (Passing::Rd, _) => {
+                self.value_argument(x, all)
+            }
+        }
+    }
+
+    /// What an argument becomes that is passed as a value. It is put at the end. An error is want of memory.
+    #[cycle(expressions)]
+    fn value_argument(&mut self, x: &TreeExpr, all: &mut Items<Argument>) -> Result<(), AllocError>
+        ensures value { OnOk result (map plain_argument all.new ≡ map plain_argument all.old ++ made (spec.value_argument (part_of x.now)) self.old ∷ []) }
+        ensures state { OnOk result (self.new ≡ past (spec.value_argument (part_of x.now)) self.old) }
+    {
+        let made = self.expr(x)?;
+        all.push(Argument::Rd(made.into_inner()))
+    }
+}

@@ -1,0 +1,306 @@
+//! What statements become.
+
+ghost use Rattle.std.specs.Prelude.{◌≡◌, map, option_map, OnOk, IfOk};
+ghost use Rattle.setl_program.specs.Expressions as terms;
+ghost use Rattle.setl_program.specs.Expressions.{part_of, turn_of, behind_of};
+ghost use Rattle.setl_program.specs.Plain.{plain_expr, plain_selector, plain_place, plain_stmt, plain_branch};
+ghost use Rattle.setl_program.specs.Statements as spec;
+ghost use Rattle.setl_program.specs.Statements.{kind_of, branch_of, lined};
+ghost use Rattle.setl_elaborate.specs.Elaborators.{made, past};
+
+use crate::elaborator::Elaborator;
+use crate::{makers, operators, stmt_makers};
+use setl_program::{Branch, Expr, Place, Selector, Stmt};
+use setl_tree::{
+    BinaryOp, Boxed, Branch as TreeBranch, Expr as TreeExpr, FromEnd, Items, Iter,
+    Place as TreePlace, Selector as TreeSelector, Slot, Stmt as TreeStmt, StmtKind, Text,
+};
+use std::alloc::AllocError;
+
+impl Elaborator<'_> {
+    /// What a selector of a place becomes. An error is want of memory.
+    fn selector(&mut self, selector: &TreeSelector) -> Result<Selector, AllocError>
+        ensures value { IfOk result (λ x. plain_selector x ≡ made (behind_of selector.now).selector self.old) }
+        ensures state { OnOk result (self.new ≡ past (behind_of selector.now).selector self.old) }
+    {
+        match selector {
+            TreeSelector::Round(xs) => {
+                let list = self.listed(xs.as_slice())?;
+                Ok(Selector::Round(list.into_inner()))
+            }
+            TreeSelector::Slice(a, _) => {
+                let first = self.expr(a.get())?;
+                Ok(Selector::Round(first.into_inner()))
+            }
+            TreeSelector::Braces(xs) => {
+                let list = self.listed(xs.as_slice())?;
+                Ok(Selector::Brace(list.into_inner()))
+            }
+        }
+    }
+
+    /// What the selectors of a place become. An error is want of memory.
+    fn selectors(&mut self, selectors: &[TreeSelector]) -> Result<Items<Selector>, AllocError>
+        ensures value { IfOk result (λ all. map plain_selector all ≡ made (spec.selectors (map behind_of selectors.now)) self.old) }
+        ensures state { OnOk result (self.new ≡ past (spec.selectors (map behind_of selectors.now)) self.old) }
+    {
+        let mut all = Items::new(self.alloc);
+        for selector in selectors {
+            all.push(self.selector(selector)?)?;
+        }
+        Ok(all)
+    }
+
+    /// What a place becomes. An error is want of memory.
+    fn place(&mut self, place: &TreePlace) -> Result<Place, AllocError>
+        ensures value { IfOk result (λ p. plain_place p ≡ made (spec.place place.now) self.old) }
+        ensures state { OnOk result (self.new ≡ past (spec.place place.now) self.old) }
+    {
+        let selectors = self.selectors(place.selectors.as_slice())?;
+        Ok(Place {
+            variable: self.scope.variable(&place.name)?,
+            selectors,
+        })
+    }
+
+    /// What an assignment becomes. An error is want of memory.
+    fn assignment(
+        &mut self,
+        line: u32,
+        place: &TreePlace,
+        value: &TreeExpr,
+    ) -> Result<Stmt, AllocError>
+        ensures value { IfOk result (λ x. plain_stmt x ≡ (line, made (spec.assignment place.now (part_of value.now)) self.old)) }
+        ensures state { OnOk result (self.new ≡ past (spec.assignment place.now (part_of value.now)) self.old) }
+    {
+        let place = self.place(place)?;
+        let value = self.expr(value)?;
+        Ok(stmt_makers::assign(line, place, value))
+    }
+
+    /// What an update becomes. An error is want of memory.
+    fn update(
+        &mut self,
+        line: u32,
+        place: &TreePlace,
+        op: BinaryOp,
+        value: &TreeExpr,
+    ) -> Result<Stmt, AllocError>
+        ensures value { IfOk result (λ x. plain_stmt x ≡ (line, made (spec.update place.now op (part_of value.now)) self.old)) }
+        ensures state { OnOk result (self.new ≡ past (spec.update place.now op (part_of value.now)) self.old) }
+    {
+        let place = self.place(place)?;
+        let value = self.expr(value)?;
+        Ok(stmt_makers::update(line, operators::updating(op), place, value))
+    }
+
+    /// What an assignment to a tuple of names becomes. An error is want of memory.
+    fn parts_assignment(
+        &mut self,
+        line: u32,
+        slots: &[Slot],
+        value: &TreeExpr,
+    ) -> Result<Stmt, AllocError>
+        ensures value { IfOk result (λ x. plain_stmt x ≡ (line, made (spec.parts_assignment slots.now (part_of value.now)) self.old)) }
+        ensures state { OnOk result (self.new ≡ past (spec.parts_assignment slots.now (part_of value.now)) self.old) }
+    {
+        let value = self.expr(value)?;
+        let slots = self.scope.slots(self.alloc, None, slots)?;
+        Ok(stmt_makers::assign_parts(line, slots, value))
+    }
+
+    /// What `from` and the like become. An error is want of memory.
+    fn taking_from(
+        &mut self,
+        line: u32,
+        name: &Text,
+        end: FromEnd,
+        place: &TreePlace,
+    ) -> Result<Stmt, AllocError>
+        ensures value { IfOk result (λ x. plain_stmt x ≡ (line, made (spec.taking_from name.now end place.now) self.old)) }
+        ensures state { OnOk result (self.new ≡ past (spec.taking_from name.now end place.now) self.old) }
+    {
+        let place = self.place(place)?;
+        let variable = self.scope.variable(name)?;
+        Ok(stmt_makers::take_from(line, operators::taking(end), variable, place))
+    }
+
+    /// What a call statement becomes. An error is want of memory.
+    fn performance(&mut self, line: u32, name: &Text, xs: &[TreeExpr]) -> Result<Stmt, AllocError>
+        ensures value { IfOk result (λ x. plain_stmt x ≡ (line, made (spec.performance name.now (map part_of xs.now)) self.old)) }
+        ensures state { OnOk result (self.new ≡ past (spec.performance name.now (map part_of xs.now)) self.old) }
+    {
+        match self.scope.procedure(name) {
+            None => {
+                let nothing = makers::undefined(self.alloc)?;
+                Ok(stmt_makers::perform(line, nothing))
+            }
+            Some((place, parameters)) => {
+                let call = self.call(xs, place, parameters)?;
+                Ok(stmt_makers::perform(line, call))
+            }
+        }
+    }
+
+    /// What an expression becomes, if there is one. An error is want of memory.
+    fn optional_expr(&mut self, x: &Option<TreeExpr>) -> Result<Option<Boxed<Expr>>, AllocError>
+        ensures value { IfOk result (λ e. option_map plain_expr e ≡ made (terms.optional (option_map part_of x.now)) self.old) }
+        ensures state { OnOk result (self.new ≡ past (terms.optional (option_map part_of x.now)) self.old) }
+    {
+        match x {
+            None => Ok(None),
+            Some(x) => Ok(Some(self.expr(x)?)),
+        }
+    }
+
+    /// What `return` becomes. An error is want of memory.
+    fn return_of(&mut self, line: u32, x: &Option<TreeExpr>) -> Result<Stmt, AllocError>
+        ensures value { IfOk result (λ y. plain_stmt y ≡ (line, made (spec.return_of (option_map part_of x.now)) self.old)) }
+        ensures state { OnOk result (self.new ≡ past (spec.return_of (option_map part_of x.now)) self.old) }
+    {
+        let value = self.optional_expr(x)?;
+        Ok(stmt_makers::return_(line, value))
+    }
+
+    /// What `print` becomes. An error is want of memory.
+    fn print_of(&mut self, line: u32, xs: &[TreeExpr]) -> Result<Stmt, AllocError>
+        ensures value { IfOk result (λ x. plain_stmt x ≡ (line, made (spec.print_of (map part_of xs.now)) self.old)) }
+        ensures state { OnOk result (self.new ≡ past (spec.print_of (map part_of xs.now)) self.old) }
+    {
+        let values = self.exprs(xs)?;
+        Ok(stmt_makers::print(line, values))
+    }
+
+    /// What `read` becomes. An error is want of memory.
+    fn read_of(&mut self, line: u32, names: &[Text]) -> Result<Stmt, AllocError>
+        ensures value { IfOk result (λ x. plain_stmt x ≡ (line, made (spec.read_of names.now) self.old)) }
+        ensures state { OnOk result (self.new ≡ past (spec.read_of names.now) self.old) }
+    {
+        let variables = self.scope.variables(self.alloc, names)?;
+        Ok(stmt_makers::read(line, variables))
+    }
+
+    /// What statements become. An error is want of memory.
+    #[cycle(statements)]
+    pub fn stmts(&mut self, xs: &[TreeStmt]) -> Result<Items<Stmt>, AllocError>
+        ensures value { IfOk result (λ all. map plain_stmt all ≡ made (spec.statements (map lined xs.now)) self.old) }
+        ensures state { OnOk result (self.new ≡ past (spec.statements (map lined xs.now)) self.old) }
+    {
+        let mut all = Items::new(self.alloc);
+        for x in xs {
+            all.push(self.stmt(x)?)?;
+        }
+        Ok(all)
+    }
+
+    /// What a statement becomes. An error is want of memory.
+    #[cycle(statements)]
+    fn stmt(&mut self, x: &TreeStmt) -> Result<Stmt, AllocError>
+        ensures value { IfOk result (λ y. plain_stmt y ≡ made (lined x.now) self.old) }
+        ensures state { OnOk result (self.new ≡ past (lined x.now) self.old) }
+    {
+        self.kind(x.line, &x.kind)
+    }
+
+    /// What a statement on this line becomes. An error is want of memory.
+    #[cycle(statements)]
+    fn kind(&mut self, line: u32, x: &StmtKind) -> Result<Stmt, AllocError>
+        ensures value { IfOk result (λ y. plain_stmt y ≡ (line, made (kind_of x.now line) self.old)) }
+        ensures state { OnOk result (self.new ≡ past (kind_of x.now line) self.old) }
+    {
+        match x {
+            StmtKind::Assign(place, value) => self.assignment(line, place, value),
+            StmtKind::Update(place, op, value) => self.update(line, place, *op, value),
+            StmtKind::TupleAssign(slots, value) => {
+                self.parts_assignment(line, slots.as_slice(), value)
+            }
+            StmtKind::Take(name, end, place) => self.taking_from(line, name, *end, place),
+            StmtKind::Call(name, xs) => self.performance(line, name, xs.as_slice()),
+            StmtKind::If(first, others, last) => {
+                let condition = self.expr(&first.condition)?;
+                let body = self.stmts(first.body.as_slice())?;
+                let branches = self.branches(line, others.as_slice())?;
+                match last {
+                    None => {
+                        let last = Items::new(self.alloc);
+                        Ok(stmt_makers::choice(line, condition, body, branches, last))
+                    }
+                    Some(last) => {
+                        let last = self.stmts(last.as_slice())?;
+                        Ok(stmt_makers::choice(line, condition, body, branches, last))
+                    }
+                }
+            }
+            StmtKind::For(turns, condition, body) => {
+                self.for_loop(line, body.as_slice(), turns.as_slice(), condition)
+            }
+            StmtKind::While(condition, body) => self.while_loop(line, body.as_slice(), condition),
+            StmtKind::Quit => Ok(stmt_makers::quit(line)),
+            StmtKind::Continue => Ok(stmt_makers::continue_(line)),
+            StmtKind::Fail => Ok(stmt_makers::fail(line)),
+            StmtKind::Stop => Ok(stmt_makers::stop(line)),
+            StmtKind::Pass => Ok(stmt_makers::pass(line)),
+            StmtKind::Return(value) => self.return_of(line, value),
+            StmtKind::Print(xs) => self.print_of(line, xs.as_slice()),
+            StmtKind::Read(names) => self.read_of(line, names.as_slice()),
+        }
+    }
+
+    /// What the `elseif` branches of an `if` on this line become. An error is want of memory.
+    #[cycle(statements)]
+    fn branches(&mut self, line: u32, branches: &[TreeBranch]) -> Result<Items<Branch>, AllocError>
+        ensures value { IfOk result (λ all. map plain_branch all ≡ made (spec.branches line (map branch_of branches.now)) self.old) }
+        ensures state { OnOk result (self.new ≡ past (spec.branches line (map branch_of branches.now)) self.old) }
+    {
+        let mut all = Items::new(self.alloc);
+        for branch in branches {
+            all.push(self.branch(line, branch)?)?;
+        }
+        Ok(all)
+    }
+
+    /// What an `elseif` branch becomes. An error is want of memory.
+    #[cycle(statements)]
+    fn branch(&mut self, line: u32, branch: &TreeBranch) -> Result<Branch, AllocError>
+        ensures value { IfOk result (λ b. plain_branch b ≡ made (spec.guarded line (branch_of branch.now)) self.old) }
+        ensures state { OnOk result (self.new ≡ past (spec.guarded line (branch_of branch.now)) self.old) }
+    {
+        let condition = self.expr(&branch.condition)?;
+        let body = self.stmts(branch.body.as_slice())?;
+        Ok(stmt_makers::branch(line, condition, body))
+    }
+
+    /// What a loop over iterators becomes. An error is want of memory.
+    #[cycle(statements)]
+    fn for_loop(
+        &mut self,
+        line: u32,
+        body: &[TreeStmt],
+        turns: &[Iter],
+        condition: &Option<TreeExpr>,
+    ) -> Result<Stmt, AllocError>
+        ensures value { IfOk result (λ x. plain_stmt x ≡ (line, made (spec.for_loop (map turn_of turns.now) (option_map part_of condition.now) (map lined body.now)) self.old)) }
+        ensures state { OnOk result (self.new ≡ past (spec.for_loop (map turn_of turns.now) (option_map part_of condition.now) (map lined body.now)) self.old) }
+    {
+        let iterators = self.iterators(turns)?;
+        let condition = self.optional_expr(condition)?;
+        let body = self.stmts(body)?;
+        Ok(stmt_makers::for_loop(line, iterators, condition, body))
+    }
+
+    /// What a loop with a condition becomes. An error is want of memory.
+    #[cycle(statements)]
+    fn while_loop(
+        &mut self,
+        line: u32,
+        body: &[TreeStmt],
+        condition: &TreeExpr,
+    ) -> Result<Stmt, AllocError>
+        ensures value { IfOk result (λ x. plain_stmt x ≡ (line, made (spec.while_loop (part_of condition.now) (map lined body.now)) self.old)) }
+        ensures state { OnOk result (self.new ≡ past (spec.while_loop (part_of condition.now) (map lined body.now)) self.old) }
+    {
+        let condition = self.expr(condition)?;
+        let body = self.stmts(body)?;
+        Ok(stmt_makers::while_loop(line, condition, body))
+    }
+}
