@@ -18,8 +18,6 @@ ghost use Rattle.setl_base.specs.Tables.{StartsAbove};
 
 pub mod laws;
 mod tables;
-#[cfg(test)]
-mod tests;
 
 use indexmap::IndexMap;
 use setl_value::Value;

@@ -1,5 +1,6 @@
 -- The order of places, and lists of places.
 use Rattle.std.proofs.Common.{◌≡◌, ◌∙◌, Bool, true, false, cond, ◌&&◌, ◌||◌, List, [], ◌∷◌, filter, Option, None, Some, refl, sym, ap, is_some, nat_eq}
+use Rattle.std.proofs.Math.Bool.{and-false}
 use Rattle.std.specs.Ordering.{nat_cmp, eq_by_cmp, is_eq}
 use Rattle.std.specs.List.{list_any}
 use Rattle.std.specs.Option.{option_map_or}
@@ -31,13 +32,9 @@ module _ {T : Type 0} where
         | false ↦ listed q es
       ]
 
-none_and : (b : Bool) → (b && false) ≡ false
-none_and true = refl
-none_and false = refl
-
 one_of_kept : (a b c kept all : Bool) → kept ≡ (all && c) → (b ≡ true → a ≡ c) → (cond a b false || kept) ≡ ((b || all) && c)
 one_of_kept true true c kept all rest same = same refl
-one_of_kept false true c kept all rest same = rest ∙ ap (λ d. all && d) (sym (same refl)) ∙ none_and all ∙ same refl
+one_of_kept false true c kept all rest same = rest ∙ ap (λ d. all && d) (sym (same refl)) ∙ and-false all ∙ same refl
 one_of_kept true false c kept all rest same = rest
 one_of_kept false false c kept all rest same = rest
 

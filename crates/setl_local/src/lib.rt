@@ -6,8 +6,6 @@
 #![tactic(auto)]
 
 mod fields;
-#[cfg(test)]
-mod tests;
 
 pub use fields::Fields;
 pub use std::alloc::AllocError as Memory;

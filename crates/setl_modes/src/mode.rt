@@ -1,7 +1,6 @@
 //! Modes.
 
-use setl_tree::{Boxed, Items};
-use setl_value::Text;
+use setl_tree::{Boxed, Items, Text};
 
 /// How a value of a mode is kept, which has no part in what fits.
 #[derive(Clone, Copy, Debug, PartialEq, Eq)]

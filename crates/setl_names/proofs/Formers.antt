@@ -43,40 +43,40 @@ pub former_walked : (line : ℕ) (v : Part) (is : List Turn) (c : Option Part) (
     s ≡ back_to m w5.scope → w7 ≡ after (bound (names_of_turns is) (here line (scoped s w5))) (scoped s w5) → w7 ≡ after (former v is c (here line w0)) w0
 former_walked line v is c m w0 w1 w2 w4 w5 w7 own s em e1 e2 eo e4 e5 es e7 =
     let names : List Name = names_of_turns is in
-    let W1 : Walk = with_own names (inside_former names w0) in
-    let W2 : Walk = after (v.standing (here line W1)) W1 in
-    let W3 : Walk = owning w0.scope.own W2 in
-    let W4 : Walk = after (own_turns is (here line W3)) (with_own names W3) in
-    let W5 : Walk = after (optional_part c (here line W4)) W4 in
-    let d2 : w2 ≡ W2 = e2 ∙ ap (λ (w : Walk). after (v.standing (here line w)) w) e1 in
+    let walk_1 : Walk = with_own names (inside_former names w0) in
+    let walk_2 : Walk = after (v.standing (here line walk_1)) walk_1 in
+    let walk_3 : Walk = owning w0.scope.own walk_2 in
+    let walk_4 : Walk = after (own_turns is (here line walk_3)) (with_own names walk_3) in
+    let walk_5 : Walk = after (optional_part c (here line walk_4)) walk_4 in
+    let d2 : w2 ≡ walk_2 = e2 ∙ ap (λ (w : Walk). after (v.standing (here line w)) w) e1 in
     let back : own ≡ w0.scope.own =
     eo ∙ ap (λ (w : Walk). take m.own w.scope.own) d2 ∙ ap (λ (z : Mark). take z.own (with_names w0.scope.own names)) em ∙ taken_back w0.scope.own names in
-    let d3 : owning own w2 ≡ W3 = ap (λ (o : List Name). owning o w2) back ∙ ap (λ (w : Walk). owning w0.scope.own w) d2 in
-    let d4 : w4 ≡ W4 = e4 ∙ ap (λ (w : Walk). after (own_turns is (here line w)) (with_own names w)) d3 in
-    let d5 : w5 ≡ W5 = e5 ∙ ap (λ (w : Walk). after (optional_part c (here line w)) w) d4 in
+    let d3 : owning own w2 ≡ walk_3 = ap (λ (o : List Name). owning o w2) back ∙ ap (λ (w : Walk). owning w0.scope.own w) d2 in
+    let d4 : w4 ≡ walk_4 = e4 ∙ ap (λ (w : Walk). after (own_turns is (here line w)) (with_own names w)) d3 in
+    let d5 : w5 ≡ walk_5 = e5 ∙ ap (λ (w : Walk). after (optional_part c (here line w)) w) d4 in
     let d6 : s ≡ w0.scope = es ∙ ap (λ (w : Walk). back_to m w.scope) d5 ∙ scope_back w0.scope names m em in
     e7
     ∙ ap (λ (z : Scope). after (bound names (here line w0)) (scoped z w5)) d6
     ∙ ap (λ (w : Walk). after (bound names (here line w0)) (scoped w0.scope w)) d5
-    ∙ ap (λ (us : List Occurrence). record { alloc = w0.alloc; scope = w0.scope; found = us }) (four w0.found (v.standing (here line W1)) (own_turns is (here line W3)) (optional_part c (here line W4)) (bound names (here line w0)))
+    ∙ ap (λ (us : List Occurrence). record { alloc = w0.alloc; scope = w0.scope; found = us }) (four w0.found (v.standing (here line walk_1)) (own_turns is (here line walk_3)) (optional_part c (here line walk_4)) (bound names (here line w0)))
 
 -- a former that collects what it binds
 pub filter_walked : (line : ℕ) (names : List Name) (x c : Part) (m : Mark) (w0 w1 w2 w3 w4 w6 : Walk) (s : Scope) → m ≡ mark_of w0.scope →
     w1 ≡ with_filter line names w0 → w2 ≡ after (x.standing (here line w1)) w1 → w3 ≡ with_own names w2 → w4 ≡ after (c.standing (here line w3)) w3 →
     s ≡ back_to m w4.scope → w6 ≡ after (bound names (here line (scoped s w4))) (scoped s w4) → w6 ≡ after (filter names x c (here line w0)) w0
 filter_walked line names x c m w0 w1 w2 w3 w4 w6 s em e1 e2 e3 e4 es e6 =
-    let W1 : Walk = with_filter line names w0 in
-    let W2 : Walk = after (x.standing (here line W1)) W1 in
-    let W3 : Walk = with_own names W2 in
-    let W4 : Walk = after (c.standing (here line W3)) W3 in
-    let d2 : w2 ≡ W2 = e2 ∙ ap (λ (w : Walk). after (x.standing (here line w)) w) e1 in
-    let d3 : w3 ≡ W3 = e3 ∙ ap (with_own names) d2 in
-    let d4 : w4 ≡ W4 = e4 ∙ ap (λ (w : Walk). after (c.standing (here line w)) w) d3 in
+    let walk_1 : Walk = with_filter line names w0 in
+    let walk_2 : Walk = after (x.standing (here line walk_1)) walk_1 in
+    let walk_3 : Walk = with_own names walk_2 in
+    let walk_4 : Walk = after (c.standing (here line walk_3)) walk_3 in
+    let d2 : w2 ≡ walk_2 = e2 ∙ ap (λ (w : Walk). after (x.standing (here line w)) w) e1 in
+    let d3 : w3 ≡ walk_3 = e3 ∙ ap (with_own names) d2 in
+    let d4 : w4 ≡ walk_4 = e4 ∙ ap (λ (w : Walk). after (c.standing (here line w)) w) d3 in
     let d5 : s ≡ w0.scope = es ∙ ap (λ (w : Walk). back_to m w.scope) d4 ∙ scope_back w0.scope names m em in
     e6
     ∙ ap (λ (z : Scope). after (bound names (here line w0)) (scoped z w4)) d5
     ∙ ap (λ (w : Walk). after (bound names (here line w0)) (scoped w0.scope w)) d4
-    ∙ ap (λ (us : List Occurrence). record { alloc = w0.alloc; scope = w0.scope; found = us }) (four w0.found (bound_names true names (here line (inside_former names w0))) (x.standing (here line W1)) (c.standing (here line W3)) (bound names (here line w0)))
+    ∙ ap (λ (us : List Occurrence). record { alloc = w0.alloc; scope = w0.scope; found = us }) (four w0.found (bound_names true names (here line (inside_former names w0))) (x.standing (here line walk_1)) (c.standing (here line walk_3)) (bound names (here line w0)))
 
 -- ---- iterators that bind a former's own names
 

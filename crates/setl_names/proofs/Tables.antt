@@ -7,7 +7,7 @@ use Rattle.std.specs.Cmp.Lexicographic.{bytes_decides}
 use Rattle.indexmap.specs.IndexMap.{IndexMap, insert_entry}
 use Rattle.setl_tree.specs.declared.tree.Param.{Param}
 use Rattle.setl_tree.specs.declared.tree.Proc.{Proc}
-use Rattle.setl_names.specs.Procedures.{params_of}
+use Rattle.setl_names.specs.Procedures.{params_of, found_from}
 use Rattle.setl_names.specs.Tables.{value_at, Finds}
 
 abbrev same_key : Vec ℕ → Vec ℕ → Bool
@@ -49,19 +49,29 @@ map_cond f true x y = refl
 map_cond f false x y = refl
 
 -- no procedures
-pub finds_none : {T S : Type 0} (m : IndexMap (Vec ℕ) T S) (f : T → List Param) (procs : List Proc) (at : ℕ) → m.entries ≡ [] → drop at procs ≡ [] → Finds m f (drop at procs)
-finds_none m f procs at em ep x = ap (λ es. option_map f (at_name x es)) em ∙ sym (ap (λ (ps : List Proc). params_of ps x) ep)
+pub finds_none : {T S : Type 0} (m : IndexMap (Vec ℕ) T S) (f : T → ℕ × List Param) (procs : List Proc) (at : ℕ) → m.entries ≡ [] → drop at procs ≡ [] → Finds m f at (drop at procs)
+finds_none m f procs at em ep x = ap (λ es. option_map f (at_name x es)) em ∙ sym (ap (λ (ps : List Proc). found_from at ps x) ep)
 
 -- one more procedure in front
-pub finds_more : {T S : Type 0} (m n : IndexMap (Vec ℕ) T S) (f : T → List Param) (procs : List Proc) (proc : Proc) (key : Vec ℕ) (v : T) → key.items ≡ proc.name → f v ≡ proc.params →
-    n.entries ≡ insert_entry same_key m.entries key v → Finds m f procs → Finds n f (proc ∷ procs)
-finds_more m n f procs proc key v ek ef en inv x =
+pub finds_more : {T S : Type 0} (m n : IndexMap (Vec ℕ) T S) (f : T → ℕ × List Param) (at : ℕ) (procs : List Proc) (proc : Proc) (key : Vec ℕ) (v : T) → key.items ≡ proc.name → f v ≡ (at, proc.params) →
+    n.entries ≡ insert_entry same_key m.entries key v → Finds m f (suc at) procs → Finds n f at (proc ∷ procs)
+finds_more m n f at procs proc key v ek ef en inv x =
     ap (λ es. option_map f (at_name x es)) en
     ∙ ap (option_map f) (at_name-insert m.entries key v x)
     ∙ map_cond f (bytes_eq x key.items) (Some v) (value_at m x)
     ∙ ap (λ (k : List ℕ). cond (bytes_eq x k) (Some (f v)) (option_map f (value_at m x))) ek
-    ∙ ap (λ (ps : List Param). cond (bytes_eq x proc.name) (Some ps) (option_map f (value_at m x))) ef
-    ∙ ap (λ (r : Option (List Param)). cond (bytes_eq x proc.name) (Some proc.params) r) (inv x)
+    ∙ ap (λ (found : ℕ × List Param). cond (bytes_eq x proc.name) (Some found) (option_map f (value_at m x))) ef
+    ∙ ap (λ (r : Option (ℕ × List Param)). cond (bytes_eq x proc.name) (Some (at, proc.params)) r) (inv x)
+
+-- the parameters of what is found
+found_params : (n : ℕ) (procs : List Proc) (x : List ℕ) → option_map (λ (found : ℕ × List Param). found.1) (found_from n procs x) ≡ params_of procs x
+found_params n [] x = refl
+found_params n (p ∷ ps) x =
+    map_cond (λ (found : ℕ × List Param). found.1) (bytes_eq x p.name) (Some (n, p.params)) (found_from (suc n) ps x)
+    ∙ ap (cond (bytes_eq x p.name) (Some p.params)) (found_params (suc n) ps x)
+
+pub params_found : (procs : List Proc) (x : List ℕ) (r : Option (ℕ × List Param)) → r ≡ found_from 0 procs x → option_map (λ (found : ℕ × List Param). found.1) r ≡ params_of procs x
+params_found procs x r e = ap (option_map (λ (found : ℕ × List Param). found.1)) e ∙ found_params 0 procs x
 
 -- the procedures from the one before on
 pub one_before : (procs : List Proc) (at next : ℕ) (proc : Proc) → next + 1 ≡ at → next < length procs → proc ≡ get_or procs next proc → drop next procs ≡ proc ∷ drop at procs

@@ -6,12 +6,12 @@ use Rattle.indexmap.specs.IndexMap.{IndexMap, get_by}
 use Rattle.setl_tree.specs.declared.tree.Proc.{Proc}
 use Rattle.setl_tree.specs.declared.tree.Param.{Param}
 use Rattle.setl_names.specs.Names.{Name}
-use Rattle.setl_names.specs.Procedures.{params_of}
+use Rattle.setl_names.specs.Procedures.{found_from}
 
 -- the value at each name
 abbrev pub value_at : {T S : Type 0} → IndexMap (Vec ℕ) T S → Name → Option T
 value_at table name = get_by (λ key. bytes_eq name key.items) table
 
--- the table gives the parameters of each procedure by its name
-abbrev pub Finds : {T S : Type 0} → IndexMap (Vec ℕ) T S → (T → List Param) → List Proc → Type 0
-Finds table params procs = (x : Name) → option_map params (value_at table x) ≡ params_of procs x
+-- the table gives the place of each procedure, where the places are counted from n, and its parameters, by its name
+abbrev pub Finds : {T S : Type 0} → IndexMap (Vec ℕ) T S → (T → ℕ × List Param) → ℕ → List Proc → Type 0
+Finds table found n procs = (x : Name) → option_map found (value_at table x) ≡ found_from n procs x

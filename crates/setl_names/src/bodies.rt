@@ -23,20 +23,13 @@ pub struct BodyNames {
     pub slots: Items<Text>,
 }
 
-/// The same text again. An error is want of memory.
-pub fn copied(alloc: Global, text: &Text) -> Result<Text, AllocError>
-    ensures { IfOk result (λ t. t ≡ text.now) }
-{
-    Text::of(alloc, text.bytes())
-}
-
 /// The same parameters again. An error is want of memory.
 pub fn copied_params(alloc: Global, params: &[Param]) -> Result<Items<Param>, AllocError>
     ensures { IfOk result (λ all. all ≡ params.now) }
 {
     let mut all = Items::new(alloc);
     for param in params {
-        let name = copied(alloc, &param.name)?;
+        let name = param.name.copy()?;
         all.push(Param {
             passing: param.passing,
             name,
@@ -121,7 +114,7 @@ fn add_slot(
 {
     if is_of_body(name.bytes(), procs, vars, params) {
         if seen.put(name.bytes())? {
-            all.push(copied(alloc, name)?)?;
+            all.push(name.copy()?)?;
         }
     }
     Ok(())
@@ -170,7 +163,7 @@ pub fn slots(
 fn without_slots(alloc: Global, name: &Text, params: &[Param]) -> Result<BodyNames, AllocError>
     ensures { IfOk result (λ b. b ≡ spec.names_with name.now params.now []) }
 {
-    let name = copied(alloc, name)?;
+    let name = name.copy()?;
     Ok(BodyNames {
         name,
         params: copied_params(alloc, params)?,

@@ -21,8 +21,10 @@ mod simple;
 mod statements;
 mod walk;
 
-pub use bodies::BodyNames;
+pub use bodies::{BodyNames, names_of_params, names_of_vars};
 pub use broken::RuleFault;
 pub use laws::worked_rows;
+pub use names::Names;
+pub use procs::Procs;
 pub use program::resolve;
 pub use std::alloc::AllocError as Memory;

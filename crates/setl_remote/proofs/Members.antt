@@ -5,6 +5,7 @@ use Rattle.std.specs.Int.{bit_at}
 use Rattle.std.specs.List.{list_any}
 use Rattle.std.specs.Cmp.{nat_cmp_total, nat_eq_equiv, unsigned_tied}
 use Rattle.std.specs.FinSet as set
+use Rattle.std.proofs.Math.Bool.{and-false, or-true}
 use Rattle.std.proofs.lemmas.Bool.{cases_lt}
 use Rattle.std.proofs.lemmas.List.{get_or_past}
 use Rattle.std.proofs.lemmas.Map.Made.{is_member-filter}
@@ -13,19 +14,11 @@ use Rattle.std.proofs.lemmas.Nat.Bits.{bit_at-zero}
 use Rattle.setl_remote.specs.Words.{has_bit, below, members, Writes}
 use Rattle.setl_remote.proofs.Bit.{apart, itself}
 
-either_true : (b : Bool) → (b || true) ≡ true
-either_true true = refl
-either_true false = refl
-
-none_and : (b : Bool) → (b && false) ≡ false
-none_and true = refl
-none_and false = refl
-
 in_below : (q n : ℕ) → q < n → list_any (nat_eq q) (below n) ≡ true
 in_below q zero h = absurd (omega arith)
 in_below q (suc n) h =
     elim (cases_lt q n) as (λ _. (nat_eq q n || list_any (nat_eq q) (below n)) ≡ true) [
-      | inl less ↦ ap (λ b. nat_eq q n || b) (in_below q n less) ∙ either_true (nat_eq q n)
+      | inl less ↦ ap (λ b. nat_eq q n || b) (in_below q n less) ∙ or-true (nat_eq q n)
       | inr more ↦ let e : n ≡ q = omega arith in ap (λ b. b || list_any (nat_eq q) (below n)) (ap (nat_eq q) e ∙ itself q)
     ]
 
@@ -51,7 +44,7 @@ members_at words q =
     among (has_bit words) q (64 * length words)
     ∙ elim (cases_lt q (64 * length words)) as (λ _. (list_any (nat_eq q) (below (64 * length words)) && has_bit words q) ≡ has_bit words q) [
       | inl less ↦ ap (λ b. b && has_bit words q) (in_below q (64 * length words) less)
-      | inr more ↦ ap (λ b. list_any (nat_eq q) (below (64 * length words)) && b) (outside words q more) ∙ none_and _ ∙ sym (outside words q more)
+      | inr more ↦ ap (λ b. list_any (nat_eq q) (below (64 * length words)) && b) (outside words q more) ∙ and-false _ ∙ sym (outside words q more)
     ]
 
 pub same_members : (s t : set.FinSet nat_cmp) → ((q : ℕ) → set.contains s q ≡ set.contains t q) → s ≡ t

@@ -7,8 +7,6 @@
 mod bits;
 mod combine;
 mod slots;
-#[cfg(test)]
-mod tests;
 mod words;
 
 pub use bits::Bits;

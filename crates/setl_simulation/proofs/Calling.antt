@@ -1,28 +1,25 @@
 -- The code of calls and returns follows their meaning.
-use Rattle.std.proofs.Common.{◌≡◌, ◌<◌, ℕ, zero, suc, ◌+◌, Bool, true, false, List, [], ◌∷◌, ◌++◌, map, length, reverse, Option, Some, None, refl, sym, ap, ◌∙◌, subst, arith}
+use Rattle.std.proofs.Common.{◌≡◌, ℕ, zero, suc, ◌+◌, Bool, true, false, List, [], ◌∷◌, length, reverse, Option, Some, None, refl, sym, ap, ◌∙◌, subst, arith}
 use Rattle.std.specs.Prelude.{slice_get, cond}
 use Rattle.std.specs.Option.{option_map}
 use Rattle.setl_value.specs.Datum.{Datum}
-use Rattle.setl_tree.specs.declared.tree.Passing.{Passing}
-use Rattle.setl_tree.specs.declared.tree.Passing.TheVariants.{Rd, Wr, Rw}
-use Rattle.setl_run.specs.Variable.{Variable, Own, Environment, value_in, is_variable}
-use Rattle.setl_run.specs.Run.{Store, Moves}
+use Rattle.setl_run.specs.Variable.{Variable, Environment, value_in, is_variable}
 use Rattle.setl_program.specs.Program.{Arguments, no_argument, rd_argument, wr_argument, rw_argument, Parameter, Procedure, Program}
-use Rattle.setl_program.specs.Formed.{Around, Passed, PassedAs, FormedBlock, FormedProcedures, Formed}
+use Rattle.setl_program.specs.Formed.{Passed, PassedAs, FormedBlock, Formed}
 use Rattle.setl_program.specs.FormedLaws.{arguments_number, as_many, formed_at}
-use Rattle.setl_model.specs.Core.{Shared, Hand, Result, Activation, Frame, InCall, Storing, Snapshot, line_of}
-use Rattle.setl_model.specs.Calls.{parameter, bindings, enter, leave, hand_backs}
+use Rattle.setl_model.specs.Core.{Shared, Hand, Frame, Snapshot, line_of}
+use Rattle.setl_model.specs.Calls.{parameter, enter, leave, hand_backs}
 use Rattle.setl_model.specs.Calls.{handed_back as backs_of}
-use Rattle.setl_code.specs.Code.{ReturnTop, Code}
-use Rattle.setl_code.specs.Code.{Body as CodeBody}
+use Rattle.setl_code.specs.Code.{Code}
 use Rattle.setl_code.specs.Piece.{Labels, no_loop, past, Stands}
-use Rattle.setl_code.specs.Generated.{store_slots, set_by, block, procedure_code}
+use Rattle.setl_code.specs.Generated.{store_slots, set_by, procedure_code}
 use Rattle.setl_code.specs.CodeOf.{main_body, procedure_body}
 use Rattle.setl_code.specs.CodeCore.{Result as OperandResult}
 use Rattle.setl_code.specs.CodeCore.{There, Cells, held_in, cleared, variables_of, Operand, Copy}
-use Rattle.setl_code.specs.Machine.{call_body, return_to, handed_back, on_rest, body_steps}
-use Rattle.setl_simulation.specs.Follow.{Related, moves, halts}
-use Rattle.setl_simulation.specs.Matches.{Where, steps_in, Loop, Alike, Holds, Fills, filled, fills, AfterResult, ends, Awaits, awaits, result_below, executing, storing, Matches}
+use Rattle.setl_code.specs.Machine.{call_body, return_to, handed_back, body_steps}
+use Rattle.setl_simulation.specs.Follow.{Related, moves}
+use Rattle.setl_simulation.specs.Matches.{Where, steps_in, Loop, Holds, Fills, filled, fills, AfterResult, ends, Awaits, awaits, result_below, executing, storing, Matches}
+use Rattle.setl_simulation.specs.States.{Alike}
 use Rattle.setl_simulation.proofs.Stands.{stands_alone}
 use Rattle.setl_simulation.proofs.Parts.{code_core, core, Same, all_popped, turns}
 
@@ -57,7 +54,7 @@ module _ (c : Code) (pr : Program) (coded : Coded c pr) (formed : Formed pr) whe
           let number : 1 + f ≡ suc f = omega arith in
           let block_formed = subst (λ m. FormedBlock (record { body = m; procedures = pr.procedures }) false q.body) number (formed_at pr.procedures 1 f pr.procedures q formed.1 is) in
           let loop : Loop = record { is_loop = false; labels = no_loop; leaves = zero } in
-          let back = ends refl stand.1.0 stand.1.1 (awaits l (record { body = p.body; at = suc at; own = o; operands = xs }) p.callers (procedure_body q) all refl same.own body refl refl ok here after) in
+          let back = ends refl stand.1.0 stand.1.1 (awaits l (record { body = p.body; at = suc at; own = o; operands = xs }) p.callers (procedure_body q) all tt refl same.own body refl refl ok here after) in
           rw (body, all_popped pops)
           (turns c pr.procedures (code_core g o s.world p at os ks) (core s hand u ss) refl _ _
           (λ m. moves (record { world = refl; globals = same.globals; own = all_om (variables_of (suc f) (procedure_body q)); kept = same.kept; place = executing loop block_formed stand.0 back })))
@@ -88,7 +85,7 @@ module _ (c : Code) (pr : Program) (coded : Coded c pr) (formed : Formed pr) whe
 
   -- a procedure returns with a result
   pub left : {p : Where} {name : List ℕ} {backs : List (Variable × Variable)} {own : Environment} {w : List Frame} (v : Option Datum) (g o : Cells) (s : Shared) (at : ℕ) (xs ys : List Operand) (ks : List Copy) (hand : Hand) (u : List Frame) (ss : List Snapshot) → Same c pr.procedures g o s ks ss → Awaits c pr.procedures p name backs own w → Related (Matches c pr.procedures) (return_to (slice_get c.bodies p.body) v (code_core g o s.world p at ys ks) p.callers) (leave name backs own v w (core s hand u ss))
-  left {p = p} v g o s at xs ys ks hand u ss same (awaits l caller outer b all waits alike is named zipped passed here after) =
+  left {p = p} v g o s at xs ys ks hand u ss same (awaits l caller outer b all inside waits alike is named zipped passed here after) =
       let r = hands p.body b.parameters all o s.own (OperandResult v ∷ caller.operands) passed same.own in
       rw (is, waits, named, zipped, r.gives)
       (moves (record { world = refl; globals = same.globals; own = alike; kept = same.kept; place = storing l r.fill here (result_below refl after) }))

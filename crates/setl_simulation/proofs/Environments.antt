@@ -1,10 +1,10 @@
 -- A write changes what one slot holds.
-use Rattle.std.proofs.Common.{◌≡◌, Bool, true, false, [], ◌∷◌, Option, refl, sym, ap, ◌∙◌, subst}
+use Rattle.std.proofs.Common.{◌≡◌, Bool, true, false, Option, refl, sym, ap, ◌∙◌, subst}
 use Rattle.std.specs.Prelude.{cond}
 use Rattle.setl_run.specs.Variable.{Variable, is_variable, Environment, value_in, with_value}
 use Rattle.setl_run.specs.VariableLaws.{same_variable, value_stored, value_elsewhere}
 use Rattle.setl_value.specs.Datum.{Datum}
-use Rattle.setl_simulation.specs.Matches.{Alike}
+use Rattle.setl_simulation.specs.States.{Alike}
 use Rattle.setl_code.specs.CodeCore.{There, Cells, held_in, with_held}
 use Rattle.setl_code.specs.CellLaws.{held_after}
 

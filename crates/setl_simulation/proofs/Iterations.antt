@@ -1,35 +1,33 @@
 -- The code of iterations follows their meaning: sources, items, bindings, conditions, and what is collected.
-use Rattle.std.proofs.Common.{◌≡◌, ◌<◌, ℕ, zero, suc, ◌+◌, Bool, true, false, List, [], ◌∷◌, map, reverse, length, Option, Some, None, refl, sym, ap, ◌∙◌, subst, arith}
-use Rattle.std.specs.Prelude.{slice_get, nat_le, if◌then◌else◌, unsigned_abs, ◌-ℤ◌, ◌==◌}
-use Rattle.setl_value.specs.Datum.{Datum, bool, int, text, tuple, set, element_list, part_list, depth}
+use Rattle.std.proofs.Common.{◌≡◌, ℕ, suc, Bool, true, false, List, [], ◌∷◌, reverse, Option, Some, None, refl, sym, subst}
+use Rattle.std.specs.Prelude.{slice_get, if◌then◌else◌, unsigned_abs, ◌-ℤ◌, ◌==◌}
+use Rattle.setl_value.specs.Datum.{Datum, int, text, tuple, set, element_list, part_list}
 use Rattle.setl_value.specs.Pairs.{is_map}
 use Rattle.setl_set.specs.Sets.{set_from}
 use Rattle.setl_map.specs.Ranges.{range_from, step_from}
 use Rattle.setl_map.specs.Maps.{domain_of}
-use Rattle.setl_map.specs.Outcome.{all_values, Fault, OmFault, KindFault, ZeroFault, DeepFault}
-use Rattle.setl_run.specs.Variable.{Variable}
-use Rattle.setl_run.specs.Run.{Move}
+use Rattle.setl_map.specs.Outcome.{all_values, Fault, KindFault, ZeroFault}
 use Rattle.setl_program.specs.declared.kinds.Collection.{Collection}
 use Rattle.setl_program.specs.declared.kinds.Source.{Source}
 use Rattle.setl_program.specs.declared.kinds.Source.TheVariants.{Values, Between, SetSteps, TupleSteps}
-use Rattle.setl_program.specs.Program.{Binding, Member, Components, Point, Begin, Members, Points, begin_of, Expr, Former, Selection, Exprs, no_expr, more_exprs, Iterators, no_iterator, more_iterators, Condition, no_condition, only_if, Program}
+use Rattle.setl_program.specs.Program.{Binding, Begin, Members, Points, begin_of, Expr, Exprs, no_expr, more_exprs, Iterators, no_iterator, more_iterators, Condition, no_condition, only_if, Program}
 use Rattle.setl_program.specs.Formed.{Formed, FormedExprs, FormedIterators}
-use Rattle.setl_model.specs.Collections.{refusal, collection}
-use Rattle.setl_model.specs.Core.{Shared, Hand, Execute, Evaluate, Result, Iterate, Goal, Collect, Select, Decide, Repeat, Item, One, Two, Level, Iteration, Sources, ToBind, IsBound, Testing, Body, Paused, Frame, InIteration, Storing, Snapshot, goal_line, line_of}
+use Rattle.setl_model.specs.Collections.{refusal}
+use Rattle.setl_model.specs.Core.{Shared, Hand, Execute, Evaluate, Result, Iterate, Goal, Collect, Select, Decide, Repeat, Item, Level, Iteration, Sources, Testing, Body, Paused, Frame, InIteration, Snapshot, goal_line, line_of}
 use Rattle.setl_model.specs.Iterations.{members, letters, map_points, place_points, values_of, points_of, of_values, one_source, integers_between, integers_stepped, Started, Starts, Refuses, items_of, singles, inward, start, gather_by, add_to_goal}
 use Rattle.setl_model.specs.Step.{language}
-use Rattle.setl_code.specs.Code.{AddBelow, Jump, Code}
+use Rattle.setl_code.specs.Code.{Jump, Code}
 use Rattle.setl_code.specs.Piece.{Labels, past, Is, Stands}
-use Rattle.setl_code.specs.Generated.{levels, expr, iterators, bind, block}
-use Rattle.setl_code.specs.CodeCore.{Result as OperandResult}
-use Rattle.setl_code.specs.CodeCore.{Cells, Operand, Iterator, PairIterator, Collecting, value_of, Copy}
-use Rattle.setl_code.specs.Machine.{iterator, Added, added, Adds, Refused, below, go_added, begin_over}
-use Rattle.setl_simulation.specs.Follow.{Related, moves, halts, by_step, after_step, by_none}
-use Rattle.setl_simulation.specs.Matches.{Where, steps_in, around, Holds, none, more, begins, inside, looping, ahead, ItemsOf, item_operands, with_member, AfterResult, source, testing, value, Levels, outside, level, Finish, collecting, selecting_all, deciding_all, repeating, FormedWaiting, FormedGoal, FormedTest, Placed, evaluating, iterating, iterating_back, Matches, FormedBehind, body, in_loop, AfterBlock}
-use Rattle.setl_simulation.proofs.Parts.{code_core, core, Same, matched, matched_in, all_popped, turns, tests}
+use Rattle.setl_code.specs.Generated.{block}
+use Rattle.setl_code.specs.CodeCore.{Cells, Operand, Collecting, value_of, Copy}
+use Rattle.setl_code.specs.Machine.{iterator, added, Adds, Refused, below, go_added, begin_over}
+use Rattle.setl_simulation.specs.Follow.{Related, moves, halts, by_step, after_step}
+use Rattle.setl_simulation.specs.Matches.{Where, steps_in, around, Holds, none, more, begins, looping, ItemsOf, with_member, source, testing, value, Levels, outside, level, collecting, selecting_all, FormedWaiting, FormedGoal, FormedTest, Placed, iterating, iterating_back, Matches, FormedBehind, body, in_loop, AfterBlock}
+use Rattle.setl_simulation.specs.States.{bodies_at_work}
+use Rattle.setl_simulation.proofs.Parts.{code_core, core, Same, matched, all_popped}
 use Rattle.setl_simulation.proofs.Calling.{Coded}
 use Rattle.setl_simulation.proofs.Expressions.{Answered, expr_answered, has_source}
-use Rattle.setl_simulation.proofs.Leaving.{started, counted, levels_decided}
+use Rattle.setl_simulation.proofs.Leaving.{started}
 use Rattle.setl_simulation.proofs.Statements.{rank_executing, block_answered}
 
 -- ---- what iterators run over
@@ -187,9 +185,9 @@ module _ (c : Code) (pr : Program) (coded : Coded c pr) (formed : Formed pr) whe
 
   pub source_answered : {p : Where} {l : Labels} {n m back : ℕ} {b : Binding} {es : Exprs} {ws : Iterators} {g : Goal} {t : Condition} {ls : List Level} {os xs : List Operand} {vs : List (Option Datum)} {w : List Frame} (rest : Exprs) (y : Operand) (v : Option Datum) (g1 o : Cells) (s : Shared) (here at : ℕ) (ks : List Copy) (ss : List Snapshot) → value_of y ≡ Some v → Same c pr.procedures g1 o s ks ss → Holds m os vs xs → FormedExprs (around c pr.procedures p) rest → Stands (steps_in c p) l here (begins (goal_line g (line_of w)) b (suc m) rest here) → past here (begins (goal_line g (line_of w)) b (suc m) rest here) ≡ past at (begins (goal_line g (line_of w)) b 0 es at) → Stands (steps_in c p) l at (looping c pr.procedures (goal_line g (line_of w)) n g t (more_iterators b es ws) back at) → Levels c pr.procedures p l n g t ls (more_iterators b es ws) back xs w → Answered c pr 0 (slice_get (steps_in c p) here) g1 o s p here (y ∷ os) ks (Result v) (InIteration (Sources vs rest) (iteration g t ls (more_iterators b es ws)) ∷ w) ss
   source_answered {b = b} {vs = vs} no_expr y v g1 o s here at ks ss is same h f code place stand out =
-      rw (code.1, all_popped (more is h)) (by_step (begun (items_of (begin_of b) (reverse (v ∷ vs))) _ g1 o s here at _ ks _ _ ss same refl (items_start (begin_of b) (reverse (v ∷ vs))) place stand out))
+      rw (code.1, all_popped (more is h)) (by_step tt (begun (items_of (begin_of b) (reverse (v ∷ vs))) _ g1 o s here at _ ks _ _ ss same refl (items_start (begin_of b) (reverse (v ∷ vs))) place stand out))
   source_answered {p = p} {l = l} {b = b} {es = es} {ws = ws} {g = g} {t = t} {ls = ls} {os = os} {vs = vs} {w = w} (more_exprs e rest) y v g1 o s here at ks ss is same h f code place stand out =
-      after_step {r' = 1} (core s (Evaluate e) (InIteration (Sources (v ∷ vs) rest) (iteration g t ls (more_iterators b es ws)) ∷ w) ss) refl (expr_answered c pr coded formed e l g1 o s p here (y ∷ os) ks _ ss same f.0 code.0.0 (source l at (more is h) f.1 (code.0.1, code.1) place stand out))
+      after_step {r' = 1} (core s (Evaluate e) (InIteration (Sources (v ∷ vs) rest) (iteration g t ls (more_iterators b es ws)) ∷ w) ss) refl (refl, refl) (expr_answered c pr coded formed e l g1 o s p here (y ∷ os) ks _ ss same f.0 code.0.0 (source l at (more is h) f.1 (code.0.1, code.1) place stand out))
 
   -- the operands inside the iterators that have started
   abbrev pub inner_operands : Goal → Iterators → List Operand → List Operand
@@ -197,30 +195,30 @@ module _ (c : Code) (pr : Program) (coded : Coded c pr) (formed : Formed pr) whe
   inner_operands g (more_iterators b es ws) xs = xs
 
   -- the next iterator, or the condition and the body where all have started; the meaning's step leads there
-  pub inward_answered : {p : Where} {l : Labels} {n a : ℕ} {g : Goal} {t : Condition} {ls : List Level} {xs : List Operand} {w : List Frame} (ws : Iterators) (r : ℕ) (g1 o : Cells) (s : Shared) (at : ℕ) (ks : List Copy) (hand : Hand) (u : List Frame) (ss : List Snapshot) → Same c pr.procedures g1 o s ks ss → Stands (steps_in c p) l at (looping c pr.procedures (goal_line g (line_of w)) n g t ws a at) → Levels c pr.procedures p l n g t ls ws a xs w → (language pr).move (core s hand u ss) ≡ inward (iteration g t ls ws) w (core s hand u ss) → Answered c pr r (slice_get (steps_in c p) at) g1 o s p at (inner_operands g ws xs) ks hand u ss
-  inward_answered {p = p} {l = l} {g = g} {t = t} {ls = ls} {xs = xs} {w = w} (more_iterators b (more_exprs e es) ws) r g1 o s at ks hand u ss same stand out moving =
+  pub inward_answered : {p : Where} {l : Labels} {n a : ℕ} {g : Goal} {t : Condition} {ls : List Level} {xs : List Operand} {w : List Frame} (ws : Iterators) (r : ℕ) (g1 o : Cells) (s : Shared) (at : ℕ) (ks : List Copy) (hand : Hand) (u : List Frame) (ss : List Snapshot) → Same c pr.procedures g1 o s ks ss → Stands (steps_in c p) l at (looping c pr.procedures (goal_line g (line_of w)) n g t ws a at) → Levels c pr.procedures p l n g t ls ws a xs w → (language pr).move (core s hand u ss) ≡ inward (iteration g t ls ws) w (core s hand u ss) → bodies_at_work s.own u ≡ bodies_at_work s.own w → Answered c pr r (slice_get (steps_in c p) at) g1 o s p at (inner_operands g ws xs) ks hand u ss
+  inward_answered {p = p} {l = l} {g = g} {t = t} {ls = ls} {xs = xs} {w = w} (more_iterators b (more_exprs e es) ws) r g1 o s at ks hand u ss same stand out moving stays =
       let f = (waiting_formed c pr out).0 in
-      after_step {r' = 1} (core s (Evaluate e) (InIteration (Sources [] es) (iteration g t ls (more_iterators b (more_exprs e es) ws)) ∷ w) ss) moving
+      after_step {r' = 1} (core s (Evaluate e) (InIteration (Sources [] es) (iteration g t ls (more_iterators b (more_exprs e es) ws)) ∷ w) ss) moving (refl, stays)
       (expr_answered c pr coded formed e l g1 o s p at xs ks _ ss same f.1.0 stand.0.0 (source l at none f.1.1 (stand.0.1, stand.1.0) refl stand out))
-  inward_answered (more_iterators b no_expr ws) r g1 o s at ks hand u ss same stand out moving = absurd (has_source b (waiting_formed c pr out).0.2)
-  inward_answered {p = p} {l = l} {g = Collect k e have} {t = only_if f} {ls = ls} {xs = xs} {w = w} no_iterator r g1 o s at ks hand u ss same stand out moving =
-      after_step {r' = 1} (core s (Evaluate f) (InIteration Testing (iteration (Collect k e have) (only_if f) ls no_iterator) ∷ w) ss) moving
+  inward_answered (more_iterators b no_expr ws) r g1 o s at ks hand u ss same stand out moving stays = absurd (has_source b (waiting_formed c pr out).0.2)
+  inward_answered {p = p} {l = l} {g = Collect k e have} {t = only_if f} {ls = ls} {xs = xs} {w = w} no_iterator r g1 o s at ks hand u ss same stand out moving stays =
+      after_step {r' = 1} (core s (Evaluate f) (InIteration Testing (iteration (Collect k e have) (only_if f) ls no_iterator) ∷ w) ss) moving (refl, stays)
       (expr_answered c pr coded formed f l g1 o s p at xs ks _ ss same (goal_formed c pr out).1 stand.0.0 (testing l at stand out))
-  inward_answered {p = p} {l = l} {g = Collect k e have} {t = no_condition} {ls = ls} {xs = xs} {w = w} no_iterator r g1 o s at ks hand u ss same stand out moving =
-      after_step {r' = 1} (core s (Evaluate e) (InIteration Body (iteration (Collect k e have) no_condition ls no_iterator) ∷ w) ss) moving
+  inward_answered {p = p} {l = l} {g = Collect k e have} {t = no_condition} {ls = ls} {xs = xs} {w = w} no_iterator r g1 o s at ks hand u ss same stand out moving stays =
+      after_step {r' = 1} (core s (Evaluate e) (InIteration Body (iteration (Collect k e have) no_condition ls no_iterator) ∷ w) ss) moving (refl, stays)
       (expr_answered c pr coded formed e l g1 o s p at xs ks _ ss same (goal_formed c pr out).0 stand.1.0 (value l stand.1.1.0 stand.1.1.1 out))
-  inward_answered {p = p} {l = l} {g = Select k v have} {t = only_if f} {ls = ls} {xs = xs} {w = w} no_iterator r g1 o s at ks hand u ss same stand out moving =
-      after_step {r' = 1} (core s (Evaluate f) (InIteration Testing (iteration (Select k v have) (only_if f) ls no_iterator) ∷ w) ss) moving
+  inward_answered {p = p} {l = l} {g = Select k v have} {t = only_if f} {ls = ls} {xs = xs} {w = w} no_iterator r g1 o s at ks hand u ss same stand out moving stays =
+      after_step {r' = 1} (core s (Evaluate f) (InIteration Testing (iteration (Select k v have) (only_if f) ls no_iterator) ∷ w) ss) moving (refl, stays)
       (expr_answered c pr coded formed f l g1 o s p at _ ks _ ss same (goal_formed c pr out).1 stand.0 (testing l at stand out))
-  inward_answered {g = Select k v have} {t = no_condition} no_iterator r g1 o s at ks hand u ss same stand out moving = absurd (goal_formed c pr out).1
-  inward_answered {p = p} {l = l} {g = Decide q} {t = only_if f} {ls = ls} {xs = xs} {w = w} no_iterator r g1 o s at ks hand u ss same stand out moving =
-      after_step {r' = 1} (core s (Evaluate f) (InIteration Testing (iteration (Decide q) (only_if f) ls no_iterator) ∷ w) ss) moving
+  inward_answered {g = Select k v have} {t = no_condition} no_iterator r g1 o s at ks hand u ss same stand out moving stays = absurd (goal_formed c pr out).1
+  inward_answered {p = p} {l = l} {g = Decide q} {t = only_if f} {ls = ls} {xs = xs} {w = w} no_iterator r g1 o s at ks hand u ss same stand out moving stays =
+      after_step {r' = 1} (core s (Evaluate f) (InIteration Testing (iteration (Decide q) (only_if f) ls no_iterator) ∷ w) ss) moving (refl, stays)
       (expr_answered c pr coded formed f l g1 o s p at xs ks _ ss same (goal_formed c pr out).1 stand.0 (testing l at stand out))
-  inward_answered {g = Decide q} {t = no_condition} no_iterator r g1 o s at ks hand u ss same stand out moving = absurd (goal_formed c pr out).1
-  inward_answered {p = p} {l = l} {g = Repeat line b} {t = only_if f} {ls = ls} {xs = xs} {w = w} no_iterator r g1 o s at ks hand u ss same stand out moving =
-      after_step {r' = 1} (core s (Evaluate f) (InIteration Testing (iteration (Repeat line b) (only_if f) ls no_iterator) ∷ w) ss) moving
+  inward_answered {g = Decide q} {t = no_condition} no_iterator r g1 o s at ks hand u ss same stand out moving stays = absurd (goal_formed c pr out).1
+  inward_answered {p = p} {l = l} {g = Repeat line b} {t = only_if f} {ls = ls} {xs = xs} {w = w} no_iterator r g1 o s at ks hand u ss same stand out moving stays =
+      after_step {r' = 1} (core s (Evaluate f) (InIteration Testing (iteration (Repeat line b) (only_if f) ls no_iterator) ∷ w) ss) moving (refl, stays)
       (expr_answered c pr coded formed f l g1 o s p at xs ks _ ss same (goal_formed c pr out).1 stand.0.0 (testing l at stand out))
-  inward_answered {p = p} {l = l} {n = n} {a = a} {g = Repeat line b} {t = no_condition} {ls = ls} {xs = xs} {w = w} no_iterator r g1 o s at ks hand u ss same stand out moving =
+  inward_answered {p = p} {l = l} {n = n} {a = a} {g = Repeat line b} {t = no_condition} {ls = ls} {xs = xs} {w = w} no_iterator r g1 o s at ks hand u ss same stand out moving stays =
       let after : AfterBlock c pr.procedures p (in_loop l a n) (past at (block n b at)) xs (InIteration Body (iteration (Repeat line b) no_condition ls no_iterator) ∷ w) = body l (past at (block n b at)) stand.1.1 out in
-      after_step {r' = rank_executing c pr coded formed b after} (core s (Execute b) (InIteration Body (iteration (Repeat line b) no_condition ls no_iterator) ∷ w) ss) moving
+      after_step {r' = rank_executing c pr coded formed b after} (core s (Execute b) (InIteration Body (iteration (Repeat line b) no_condition ls no_iterator) ∷ w) ss) moving (refl, stays)
       (block_answered c pr coded formed b (in_loop l a n) g1 o s p at xs ks _ ss same (goal_formed c pr out).0 stand.1.0 after)

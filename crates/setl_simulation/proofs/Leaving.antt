@@ -1,20 +1,20 @@
 -- What is left by `quit`, by a quantifier's answer and by `return`.
-use Rattle.std.proofs.Common.{◌≡◌, ℕ, zero, suc, ◌+◌, Bool, true, false, List, [], ◌∷◌, Option, Some, None, refl, sym, ap, subst, arith}
+use Rattle.std.proofs.Common.{◌≡◌, ℕ, zero, suc, ◌+◌, false, List, [], ◌∷◌, Option, Some, refl, sym, subst, arith}
 use Rattle.setl_value.specs.Datum.{Datum}
-use Rattle.setl_run.specs.Variable.{Variable, Environment}
-use Rattle.setl_run.specs.Run.{Moves}
+use Rattle.setl_run.specs.Variable.{Environment}
 use Rattle.setl_program.specs.declared.kinds.Quantifier.{Quantifier}
-use Rattle.setl_program.specs.Program.{Begin, Members, Points, begin_of, Binding, Expr, Exprs, Iterators, no_iterator, Condition, While, Block, no_stmt, Procedure}
+use Rattle.setl_program.specs.Program.{Begin, Members, Points, begin_of, Iterators, no_iterator, Condition, Block, no_stmt, Procedure}
 use Rattle.setl_program.specs.Formed.{IsInLoop, InProcedure}
-use Rattle.setl_model.specs.Core.{Hand, Goal, Repeat, Decide, Item, Level, Iteration, Body, Paused, WhileBody, WhileTest, Evaluate, Execute, Iterate, Result, HandBacks, Activation, Frame, InIteration, InStmt, InCall, Then, Core}
+use Rattle.setl_model.specs.Core.{Hand, Goal, Repeat, Decide, Item, Level, Paused, WhileTest, Evaluate, Execute, Iterate, Result, HandBacks, Activation, Frame, InIteration, InStmt, InCall, Core}
 use Rattle.setl_model.specs.Moves.{go}
 use Rattle.setl_model.specs.Statements.{quit, continue_loop, return_value}
 use Rattle.setl_code.specs.Code.{Code}
-use Rattle.setl_code.specs.Piece.{Labels, past}
-use Rattle.setl_code.specs.Generated.{levels, stmt}
-use Rattle.setl_code.specs.CodeCore.{Operand, Iterator, PairIterator, without_iterators}
+use Rattle.setl_code.specs.Piece.{Labels}
+use Rattle.setl_code.specs.Generated.{levels}
+use Rattle.setl_code.specs.CodeCore.{Operand, without_iterators}
 use Rattle.setl_code.specs.Machine.{iterator}
-use Rattle.setl_simulation.specs.Matches.{Where, Loop, in_loop, AfterResult, AfterBlock, last, ends, rest, loop, body, block_jumps, Awaits, Returns, at_activation, past_rest, past_loop, past_body, Levels, outside, level, deciding_all, repeating, Placed, evaluating, iterating, while_test}
+use Rattle.setl_simulation.specs.States.{bodies_at_work}
+use Rattle.setl_simulation.specs.Matches.{Where, Loop, AfterResult, AfterBlock, last, ends, rest, loop, body, block_jumps, Awaits, Returns, at_activation, past_rest, past_loop, past_body, Levels, outside, level, deciding_all, repeating, Placed, evaluating, iterating, while_test}
 
 abbrev pub started : List Level → ℕ
 started [] = zero
@@ -63,7 +63,7 @@ module _ (c : Code) (ps : List Procedure) where
     pub quits : (m : Core) → quit w m ≡ go (Execute no_stmt) frames m
 
   pub quitting : {p : Where} {q : Loop} {at : ℕ} {xs : List Operand} {w : List Frame} → IsInLoop q.is_loop → AfterBlock c ps p q at xs w → Quits p q xs w
-  quitting {q = q} f (last main alone is) = let never : IsInLoop false = subst IsInLoop alone f in absurd never
+  quitting {q = q} f (last main outermost alone is) = let never : IsInLoop false = subst IsInLoop alone f in absurd never
   quitting {q = q} f (ends alone push ret wait) = let never : IsInLoop false = subst IsInLoop alone f in absurd never
   quitting f (rest fb here next) = let r = quitting f next in record { frames = r.frames; leads = r.leads; quits = r.quits }
   quitting {xs = xs} f (loop {w = w} outer start fe fb here next) =
@@ -81,7 +81,7 @@ module _ (c : Code) (ps : List Procedure) where
     pub place : Placed c ps p q.labels.again xs hand frames
 
   pub continuing : {p : Where} {q : Loop} {at : ℕ} {xs : List Operand} {w : List Frame} → IsInLoop q.is_loop → AfterBlock c ps p q at xs w → Continues p q xs w
-  continuing f (last main alone is) = let never : IsInLoop false = subst IsInLoop alone f in absurd never
+  continuing f (last main outermost alone is) = let never : IsInLoop false = subst IsInLoop alone f in absurd never
   continuing f (ends alone push ret wait) = let never : IsInLoop false = subst IsInLoop alone f in absurd never
   continuing f (rest fb here next) = let r = continuing f next in record { hand = r.hand; frames = r.frames; goes = r.goes; place = r.place }
   continuing f (loop {line = line} {e = e} {b = b} {w = w} outer start fe fb here next) =
@@ -103,7 +103,7 @@ module _ (c : Code) (ps : List Procedure) where
 
   mutual
     pub leading : {p : Where} {q : Loop} {at : ℕ} {xs : List Operand} {w : List Frame} → InProcedure p.body → AfterBlock c ps p q at xs w → Leads p w
-    leading f (last main alone is) = let never : InProcedure 0 = subst InProcedure main f in absurd never
+    leading f (last main outermost alone is) = let never : InProcedure 0 = subst InProcedure main f in absurd never
     leading f (ends alone push ret wait) = record { name = _; backs = _; own = _; frames = _; to = at_activation; waits = wait }
     leading f (rest fb here next) = let r = leading f next in record { name = r.name; backs = r.backs; own = r.own; frames = r.frames; to = past_rest r.to; waits = r.waits }
     leading f (loop outer start fe fb here next) = let r = leading f next in record { name = r.name; backs = r.backs; own = r.own; frames = r.frames; to = past_loop r.to; waits = r.waits }
@@ -119,3 +119,10 @@ module _ (c : Code) (ps : List Procedure) where
   returns v m (past_rest to) = returns v m to
   returns v m (past_loop to) = returns v m to
   returns v m (past_body to) = returns v m to
+
+  -- the bodies at work stay
+  pub same_bodies : {p : Where} {name : List ℕ} {backs : HandBacks} {own : Environment} {w frames : List Frame} (now : Environment) → Returns c ps p w name backs own frames → bodies_at_work now w ≡ bodies_at_work now (InCall (Activation name backs own) ∷ frames)
+  same_bodies now at_activation = refl
+  same_bodies now (past_rest to) = same_bodies now to
+  same_bodies now (past_loop to) = same_bodies now to
+  same_bodies now (past_body to) = same_bodies now to

@@ -7,8 +7,10 @@ pub mod Expressions
 pub mod Storing
 pub mod Updating
 pub mod Leaving
+pub mod Activations
 pub mod Statements
 pub mod Iterations
 pub mod Rounds
 pub mod Following
 pub mod Meaning
+pub mod Reached

@@ -1,5 +1,5 @@
 -- Parts of steps that the code and the meaning make alike.
-use Rattle.std.proofs.Common.{◌≡◌, ℕ, suc, ◌-◌, true, false, List, [], ◌∷◌, reverse, Option, Some, None, refl, sym, ap, ◌∙◌, subst}
+use Rattle.std.proofs.Common.{◌≡◌, ℕ, suc, ◌-◌, true, false, List, [], ◌∷◌, reverse, Option, Some, None, refl, ap, ◌∙◌, subst}
 use mathlib.Core.List.{reverse_aux}
 use Rattle.setl_value.specs.Datum.{Datum, bool}
 use Rattle.setl_map.specs.Outcome.{Outcome, Gives, Fails, Overspends}
@@ -17,7 +17,8 @@ use Rattle.setl_code.specs.CodeCore.{holding as code_holding}
 use Rattle.setl_code.specs.Machine.{store_in}
 use Rattle.setl_simulation.specs.Follow.{Related, moves, halts}
 use Rattle.setl_simulation.proofs.Environments.{alike_written}
-use Rattle.setl_simulation.specs.Matches.{Where, Alike, Holds, none, more, Copies, Placed, Matches}
+use Rattle.setl_simulation.specs.Matches.{Where, Holds, none, more, Copies, Placed, Matches}
+use Rattle.setl_simulation.specs.States.{Alike}
 
 abbrev pub code_core : Cells → Cells → World → Where → ℕ → List Operand → List Copy → CodeCore
 code_core g o u p at xs ks =

@@ -1,25 +1,19 @@
 -- The code of stores and updates follows their meaning.
-use Rattle.std.proofs.Common.{◌≡◌, ◌<◌, ℕ, zero, suc, ◌-◌, Bool, true, false, List, [], ◌∷◌, ◌++◌, map, length, reverse, Option, Some, None, refl, sym, ap, ◌∙◌, subst, arith}
+use Rattle.std.proofs.Common.{◌<◌, ℕ, suc, List, [], ◌∷◌, length, Option, Some, None, refl, arith}
 use Rattle.std.specs.Prelude.{slice_get}
-use Rattle.setl_value.specs.Datum.{Datum, tuple, part_list}
-use Rattle.setl_map.specs.Outcome.{Outcome, Gives, Fails, Overspends}
-use Rattle.setl_run.specs.Variable.{Variable}
+use Rattle.setl_value.specs.Datum.{Datum}
 use Rattle.setl_run.specs.Run.{Store}
 use Rattle.setl_program.specs.Program.{Slots, Program}
-use Rattle.setl_program.specs.Formed.{Formed}
-use Rattle.setl_model.specs.World.{World}
-use Rattle.setl_model.specs.Core.{Shared, Hand, Execute, Result, Dropping, Frame, InStmt, Storing, Snapshot, line_of}
+use Rattle.setl_model.specs.Core.{Shared, Result, Frame, Storing, Snapshot, line_of}
 use Rattle.setl_model.specs.Slots.{slot_stores}
 use Rattle.setl_code.specs.Code.{Code}
 use Rattle.setl_code.specs.Piece.{Labels, past, Stands}
 use Rattle.setl_code.specs.Generated.{store_slots}
-use Rattle.setl_code.specs.CodeCore.{Result as OperandResult}
 use Rattle.setl_code.specs.CodeCore.{Cells, Operand, Copy}
 use Rattle.setl_code.specs.Machine.{first_parts}
-use Rattle.setl_simulation.specs.Follow.{by_step, after_step, by_none}
+use Rattle.setl_simulation.specs.Follow.{by_step, by_none}
 use Rattle.setl_simulation.specs.Matches.{Where, steps_in, Fills, filled, skips, fills, AfterStores, storing, rank_slots}
-use Rattle.setl_simulation.proofs.Parts.{code_core, core, Same, matched, stored}
-use Rattle.setl_simulation.proofs.Calling.{Coded}
+use Rattle.setl_simulation.proofs.Parts.{Same, matched, stored}
 use Rattle.setl_simulation.proofs.Expressions.{Answered}
 
 -- the first parts of a tuple fill its slots
@@ -36,6 +30,6 @@ module _ (c : Code) (pr : Program) where
   storing_answered done l at g o s ks ss same filled here after = done at g o s ks ss same after
   storing_answered done l at g o s ks ss same (skips {slots = slots} is later) here after =
       let less : rank_slots slots < suc (rank_slots slots) = omega arith in
-      rw (here.0, is) (by_none (matched c pr.procedures same (storing l later here.1 after)) less)
+      rw (here.0, is) (by_none tt (matched c pr.procedures same (storing l later here.1 after)) less)
   storing_answered {w = w} done l at g o s ks ss same (fills {x = x} {v = u} {os = ys} is later) here after =
-      rw (here.0, is) (by_step (stored c pr.procedures x (line_of w) u at _ ys _ _ same (storing l later here.1 after)))
+      rw (here.0, is) (by_step tt (stored c pr.procedures x (line_of w) u at _ ys _ _ same (storing l later here.1 after)))

@@ -1,30 +1,29 @@
 -- The code of updates follows their meaning: the parts of places, what is put there or taken out, and the store.
-use Rattle.std.proofs.Common.{◌≡◌, ◌<◌, ℕ, zero, suc, ◌-◌, Bool, true, false, List, [], ◌∷◌, ◌++◌, map, length, reverse, Option, Some, None, refl, sym, ap, ◌∙◌, subst, append-nil, append_assoc, arith}
+use Rattle.std.proofs.Common.{◌≡◌, ℕ, suc, ◌-◌, List, [], ◌∷◌, ◌++◌, map, length, reverse, Option, Some, refl, sym, ap, ◌∙◌, subst, append-nil, append_assoc}
 use Rattle.std.specs.Prelude.{slice_get}
 use mathlib.Core.List.{reverse_aux}
 use Rattle.std.proofs.lemmas.List.{length-reverse}
 use Rattle.std.proofs.lemmas.Grind.{reverse_onto}
 use Rattle.setl_value.specs.Datum.{Datum}
-use Rattle.setl_map.specs.declared.Operator.{Operator}
 use Rattle.setl_map.specs.Outcome.{Outcome}
 use Rattle.setl_map.specs.Operators.{op_of}
 use Rattle.setl_run.specs.Variable.{Variable, Global, Own, Bound}
-use Rattle.setl_run.specs.Run.{Move}
-use Rattle.setl_program.specs.Program.{Slots, Selectors, no_selector, round_selector, brace_selector, no_stmt, Program}
+use Rattle.setl_program.specs.Program.{Selectors, no_selector, round_selector, brace_selector, no_stmt, Program}
 use Rattle.setl_program.specs.Formed.{FormedSelectors, Formed}
 use Rattle.setl_model.specs.World.{World}
-use Rattle.setl_model.specs.Core.{Shared, Hand, Execute, Evaluate, Result, Selected, Round, Brace, Change, Puts, Combines, Takes, RoundSelector, BraceSelector, Dropping, Frame, InStmt, Storing, Snapshot, Core, line_of, read_variable}
+use Rattle.setl_model.specs.Core.{Shared, Hand, Evaluate, Selected, Round, Brace, Change, RoundSelector, BraceSelector, Frame, InStmt, Snapshot, read_variable}
 use Rattle.setl_model.specs.Places.{with_part_at_all, part_at_all, combined, Taken, TakesOut, IsEmpty, CannotTake, take_out, take_from, store_whole, update, select}
 use Rattle.setl_model.specs.Step.{language}
-use Rattle.setl_code.specs.Code.{Bracket, InRound, InBrace, Alteration, Putting, Combining, TakingOut, Alter, Code}
+use Rattle.setl_code.specs.Code.{Bracket, InRound, InBrace, Alteration, Alter, Code}
 use Rattle.setl_code.specs.Piece.{Labels, past, Is, Stands, ◌⨾◌}
 use Rattle.setl_code.specs.Generated.{store_slots, brackets, selectors, expr}
 use Rattle.setl_code.specs.CodeCore.{Result as OperandResult}
-use Rattle.setl_code.specs.CodeCore.{There, Cells, Operand, value_of, popped, Copy, held}
-use Rattle.setl_code.specs.Machine.{on_popped, on_held, alter, selected_by}
+use Rattle.setl_code.specs.CodeCore.{Cells, Operand, Copy}
+use Rattle.setl_code.specs.Machine.{alter, selected_by}
 use Rattle.setl_code.specs.Machine.{take_from as code_take_from, store_whole as code_store_whole}
 use Rattle.setl_simulation.specs.Follow.{Related, moves, halts, by_step, after_step}
-use Rattle.setl_simulation.specs.Matches.{Where, steps_in, around, Loop, Alike, Holds, none, more, filled, fills, selected_value, bracket_of, Alters, puts, combines, takes, target_of, selecting, AfterBlock, stmt_done, round_selected, brace_selected, executing, storing, Matches}
+use Rattle.setl_simulation.specs.Matches.{Where, steps_in, around, Loop, Holds, none, more, filled, fills, selected_value, bracket_of, Alters, puts, combines, takes, target_of, selecting, AfterBlock, stmt_done, round_selected, brace_selected, executing, storing, Matches}
+use Rattle.setl_simulation.specs.States.{bodies_at_work}
 use Rattle.setl_simulation.proofs.Parts.{code_core, core, Same, matched, stored, all_popped, held_read, outcomes}
 use Rattle.setl_simulation.proofs.Calling.{Coded}
 use Rattle.setl_simulation.proofs.Expressions.{Answered, expr_answered}
@@ -106,19 +105,19 @@ bracket_moved k before after = sym (ap (λ l. l ++ after) (reverse_onto before k
 
 module _ (c : Code) (pr : Program) (coded : Coded c pr) (formed : Formed pr) where
   -- the next selector of a place, or the update; the meaning's step leads there
-  pub select_answered : (rest : Selectors) (r : ℕ) (a : Alteration) (change : Change) (x : Variable) (line n : ℕ) (q : Loop) (have : List Selected) (g o : Cells) (s : Shared) (p : Where) (at : ℕ) (os ys xs : List Operand) (ks : List Copy) (hand : Hand) (u w : List Frame) (ss : List Snapshot) → Same c pr.procedures g o s ks ss → (language pr).move (core s hand u ss) ≡ select line x change have rest w (core s hand u ss) → Holds n os (map selected_value have) ys → Alters a change ys xs → FormedSelectors (around c pr.procedures p) rest → Stands (steps_in c p) q.labels at ((selecting line a x (reverse (map bracket_of have)) rest ⨾ store_slots line (target_of change)) at) → AfterBlock c pr.procedures p q (past at ((selecting line a x (reverse (map bracket_of have)) rest ⨾ store_slots line (target_of change)) at)) xs w → Answered c pr r (slice_get (steps_in c p) at) g o s p at os ks hand u ss
-  select_answered no_selector r a change x line n q have g o s p at os ys xs ks hand u w ss same moving h alters f here after =
+  pub select_answered : (rest : Selectors) (r : ℕ) (a : Alteration) (change : Change) (x : Variable) (line n : ℕ) (q : Loop) (have : List Selected) (g o : Cells) (s : Shared) (p : Where) (at : ℕ) (os ys xs : List Operand) (ks : List Copy) (hand : Hand) (u w : List Frame) (ss : List Snapshot) → Same c pr.procedures g o s ks ss → (language pr).move (core s hand u ss) ≡ select line x change have rest w (core s hand u ss) → bodies_at_work s.own u ≡ bodies_at_work s.own w → Holds n os (map selected_value have) ys → Alters a change ys xs → FormedSelectors (around c pr.procedures p) rest → Stands (steps_in c p) q.labels at ((selecting line a x (reverse (map bracket_of have)) rest ⨾ store_slots line (target_of change)) at) → AfterBlock c pr.procedures p q (past at ((selecting line a x (reverse (map bracket_of have)) rest ⨾ store_slots line (target_of change)) at)) xs w → Answered c pr r (slice_get (steps_in c p) at) g o s p at os ks hand u ss
+  select_answered no_selector r a change x line n q have g o s p at os ys xs ks hand u w ss same moving stays h alters f here after =
       let is = subst (λ bs. Is (steps_in c p) at line (Alter a x bs)) (append-nil (reverse (map bracket_of have))) here.0.1 in
       let count : n ≡ length (reverse (map bracket_of have)) = holds_number h ∙ sym (as_many_brackets have) in
       let pops = all_popped (subst (λ m. Holds m os (map selected_value have) ys) count h) in
       rw (is, pops, held_read g o s p at os ks same.globals same.own x, selected_back have)
-      (by_step (subst (λ m. Related (Matches c pr.procedures) (alter a line x (read_variable x s) (reverse have) ys (code_core g o s.world p at os ks)) m) (sym moving)
+      (by_step tt (subst (λ m. Related (Matches c pr.procedures) (alter a line x (read_variable x s) (reverse have) ys (code_core g o s.world p at os ks)) m) (sym moving)
       (altered c pr a change x line q (reverse have) at os ys xs hand u w same alters here.1 after)))
-  select_answered (round_selector e rest) r a change x line n q have g o s p at os ys xs ks hand u w ss same moving h alters f here after =
+  select_answered (round_selector e rest) r a change x line n q have g o s p at os ys xs ks hand u w ss same moving stays h alters f here after =
       let moved = subst (λ bs. Is (steps_in c p) (past (past at (expr line e at)) (selectors line rest (past at (expr line e at)))) line (Alter a x bs)) (bracket_moved InRound (map bracket_of have) (brackets rest)) here.0.1 in
-      after_step {r' = 1} (core s (Evaluate e) (InStmt line (RoundSelector x change have rest) ∷ w) ss) moving
+      after_step {r' = 1} (core s (Evaluate e) (InStmt line (RoundSelector x change have rest) ∷ w) ss) moving (refl, stays)
       (expr_answered c pr coded formed e q.labels g o s p at os ks _ ss same f.0 here.0.0.0 (round_selected q h alters f.1 ((here.0.0.1, moved), here.1) after))
-  select_answered (brace_selector e rest) r a change x line n q have g o s p at os ys xs ks hand u w ss same moving h alters f here after =
+  select_answered (brace_selector e rest) r a change x line n q have g o s p at os ys xs ks hand u w ss same moving stays h alters f here after =
       let moved = subst (λ bs. Is (steps_in c p) (past (past at (expr line e at)) (selectors line rest (past at (expr line e at)))) line (Alter a x bs)) (bracket_moved InBrace (map bracket_of have) (brackets rest)) here.0.1 in
-      after_step {r' = 1} (core s (Evaluate e) (InStmt line (BraceSelector x change have rest) ∷ w) ss) moving
+      after_step {r' = 1} (core s (Evaluate e) (InStmt line (BraceSelector x change have rest) ∷ w) ss) moving (refl, stays)
       (expr_answered c pr coded formed e q.labels g o s p at os ks _ ss same f.0 here.0.0.0 (brace_selected q h alters f.1 ((here.0.0.1, moved), here.1) after))

@@ -7,10 +7,12 @@ use Rattle.setl_program.specs.Formed.{Formed}
 use Rattle.setl_model.specs.Core.{Core}
 use Rattle.setl_model.specs.Step.{language, test_of}
 use Rattle.setl_model.specs.Means.{Means, first}
+use Rattle.setl_code.specs.Code.{ReadOne, PrintTop}
 use Rattle.setl_code.specs.CodeOf.{code_of}
 use Rattle.setl_code.specs.CodeCore.{CodeCore}
 use Rattle.setl_code.specs.Machine.{machine}
 use Rattle.setl_code.specs.CodeMeans.{CodeMeans, code_first}
+use Rattle.setl_simulation.specs.States.{SameState, CodeReaches, ReachedAlike, IsNext, ReadsAlike, PrintsAlike}
 
 -- The run of the program ends so, after it wrote and told this.
 pub record Ended (p : Program) (input : List ℕ) (turns : ℕ) (based : Bool) (out : List ℕ) (events : List Event) (end : End) : Type 0 where
@@ -36,3 +38,20 @@ CodeEndsAlike = (p : Program) → Formed p → (input : List ℕ) (turns : ℕ) 
 -- so it means what the program means
 abbrev pub CodeMeansAlike : Type 0
 CodeMeansAlike = (p : Program) → Formed p → (input : List ℕ) (turns : ℕ) (based : Bool) (out : List ℕ) (end : End) → Means p input turns based out end ↔ CodeMeans (code_of p) p.modes input turns based out end
+
+-- the last states of both are the same: in the body in hand, in the values of all variables, activation by activation,
+-- and in the world
+abbrev pub CodeEndsInTheSameState : Type 0
+CodeEndsInTheSameState = (p : Program) → Formed p → (input : List ℕ) (turns : ℕ) (based : Bool) (out code_out : List ℕ) (end code_end : End) → (meant : Means p input turns based out end) → (done : CodeMeans (code_of p) p.modes input turns based code_out code_end) → SameState (code_of p) done.last meant.last
+
+-- the program reaches each state that its code reaches
+abbrev pub CodeReachesTheSameStates : Type 0
+CodeReachesTheSameStates = (p : Program) → Formed p → (input : List ℕ) (turns : ℕ) (based : Bool) (s : State CodeCore) → CodeReaches p input turns based s → ReachedAlike p input turns based s
+
+-- where the code reads, the program has that `read` in hand
+abbrev pub CodeReadsWhereMeant : Type 0
+CodeReadsWhereMeant = (p : Program) → Formed p → (input : List ℕ) (turns : ℕ) (based : Bool) (s : State CodeCore) (line : ℕ) → CodeReaches p input turns based s → IsNext (code_of p) s.core line ReadOne → ReadsAlike p input turns based s line
+
+-- where the code prints, the program has that `print` in hand, with the same text
+abbrev pub CodePrintsWhereMeant : Type 0
+CodePrintsWhereMeant = (p : Program) → Formed p → (input : List ℕ) (turns : ℕ) (based : Bool) (s : State CodeCore) (line number : ℕ) → CodeReaches p input turns based s → IsNext (code_of p) s.core line (PrintTop number) → PrintsAlike p input turns based s line number

@@ -1,3 +1,5 @@
 pub mod Follow
+pub mod States
 pub mod Matches
 pub mod Claims
+pub mod WorkedStates

@@ -1,31 +1,30 @@
 -- How a state of the code stands for a state of the meaning.
 use Rattle.std.specs.Prelude.{◌≡◌, ℕ, zero, suc, ◌+◌, true, List, [], ◌∷◌, ◌++◌, map, reverse, slice_get, Option, Some, None, Bool, false, not}
 use Rattle.setl_value.specs.Datum.{Datum, bool}
-use Rattle.setl_run.specs.Variable.{Variable, Environment, value_in}
+use Rattle.setl_run.specs.Variable.{Variable, Environment}
 use Rattle.setl_run.specs.Run.{Store}
 use Rattle.setl_map.specs.declared.Operator.{Operator}
-use Rattle.setl_map.specs.declared.Operator.TheVariants.{Not}
 use Rattle.setl_program.specs.declared.kinds.Collection.{Collection}
 use Rattle.setl_program.specs.declared.kinds.Connective.{Connective}
 use Rattle.setl_program.specs.declared.kinds.Quantifier.{Quantifier}
 use Rattle.setl_program.specs.declared.kinds.Quantifier.TheVariants.{Forall}
 use Rattle.setl_program.specs.declared.kinds.Taking.{Taking}
-use Rattle.setl_program.specs.Program.{Slots, Binding, Begin, Members, Points, begin_of, Expr, Former, Selection, Quantified, Exprs, no_expr, more_exprs, Iterators, no_iterator, more_iterators, Condition, no_condition, only_if, Arguments, no_argument, rd_argument, wr_argument, rw_argument, Selectors, Stmt, While, Block, no_stmt, Parameter, Procedure}
-use Rattle.setl_program.specs.Formed.{Around, FormedBinding, BindsMembers, parts_of, number_of, Passed, FormedExpr, FormedExprs, FormedIterators, FormedCondition, FormedArguments, FormedSelectors, FormedBlock, PassedAs}
+use Rattle.setl_program.specs.Program.{Slots, Binding, Begin, Members, Points, begin_of, Expr, Former, Selection, Exprs, Iterators, no_iterator, more_iterators, Condition, no_condition, only_if, Arguments, Selectors, While, Read, Block, no_stmt, more_stmts, Procedure}
+use Rattle.setl_program.specs.Formed.{Around, BindsMembers, Passed, FormedExpr, FormedExprs, FormedIterators, FormedCondition, FormedArguments, FormedSelectors, FormedBlock, PassedAs, InProcedure}
 use Rattle.setl_program.specs.FormedLaws.{arguments_number}
-use Rattle.setl_model.specs.World.{World}
-use Rattle.setl_model.specs.Core.{Shared, Hand, Execute, Evaluate, Result, Iterate, Operands, ConnectLeft, ConnectRight, ChooseTest, Goal, Collect, Select, Decide, Repeat, Item, One, Two, Level, Iteration, Sources, ToBind, IsBound, Testing, Body, Paused, HandBacks, Argument, Activation, Selected, Round, Brace, Change, Puts, Combines, Takes, AssignRight, UpdateRight, PartsRight, RoundSelector, BraceSelector, IfTest, WhileTest, WhileBody, PrintParts, Returning, Dropping, Frame, InExpr, InIteration, InCall, InStmt, Storing, Then, Snapshot, Core, goal_line, line_of}
+use Rattle.setl_model.specs.Core.{Hand, Execute, Evaluate, Result, Iterate, Operands, ConnectLeft, ConnectRight, ChooseTest, Goal, Collect, Select, Decide, Repeat, Item, One, Two, Level, Iteration, Sources, ToBind, IsBound, Testing, Body, Paused, HandBacks, Argument, Activation, Selected, Round, Brace, Change, Puts, Combines, Takes, AssignRight, UpdateRight, PartsRight, RoundSelector, BraceSelector, IfTest, WhileTest, WhileBody, PrintParts, Returning, Dropping, Frame, InExpr, InIteration, InCall, InStmt, Storing, Then, Snapshot, Core, goal_line, line_of}
 use Rattle.setl_model.specs.Slots.{om_stores}
-use Rattle.setl_model.specs.Iterations.{decided, undecided, bound_by, goal_at, all_bound}
-use Rattle.setl_model.specs.Calls.{handed_back, hand_backs}
-use Rattle.setl_code.specs.Code.{Bracket, InRound, InBrace, Alteration, Putting, Combining, TakingOut, Push, StoreIn, Operate, Alter, Decides, TestBool, Unless, Jump, DropTop, PartsOf, BeginOver, AddBelow, LeaveAll, CallBody, ReturnTop, PrintTop, StopRun, Step, Code, DupTop}
+use Rattle.setl_model.specs.Iterations.{decided, undecided, goal_at, all_bound}
+use Rattle.setl_model.specs.Calls.{hand_backs}
+use Rattle.setl_code.specs.Code.{Bracket, InRound, InBrace, Alteration, Putting, Combining, TakingOut, Push, StoreIn, Operate, Alter, Decides, TestBool, Unless, Jump, DropTop, BeginOver, AddBelow, LeaveAll, CallBody, ReturnTop, PrintTop, ReadOne, StopRun, Instr, Step, Code, DupTop}
 use Rattle.setl_code.specs.Code.{Body as CodeBody}
 use Rattle.setl_code.specs.Piece.{Labels, past, Is, Stands, Laid, ◌⨾◌, nothing, one, jumps_out, over, either, going_on}
 use Rattle.setl_code.specs.Generated.{store_slots, parts, bind, clear, set_by, count_from, levels, negated, keep_or_drop, expr, exprs, iterators, condition, arguments, selectors, brackets, alter, put, stmt, block}
 use Rattle.setl_code.specs.CodeCore.{Result as OperandResult, without_iterators}
 use Rattle.setl_code.specs.CodeCore.{Activation as CodeActivation}
-use Rattle.setl_code.specs.CodeCore.{Iterator, There, Cells, held_in, Operand, Collecting, value_of, Copy, CodeCore}
-use Rattle.setl_code.specs.Machine.{iterator, body_steps}
+use Rattle.setl_code.specs.CodeCore.{Operand, Collecting, value_of, Copy, CodeCore}
+use Rattle.setl_code.specs.Machine.{iterator, body_steps, fetch}
+use Rattle.setl_simulation.specs.States.{Alike, bodies_at_work, IsPrintOf}
 
 -- The body at work, and the activations that wait for it.
 pub record Where : Type 0 where
@@ -42,10 +41,6 @@ pub record Loop : Type 0 where
   pub leaves : ℕ
 
 -- ---- values
-
--- the cells hold what the variables hold
-abbrev pub Alike : Cells → Environment → Type 0
-Alike s e = (x : Variable) → held_in s x ≡ There (value_in e x)
 
 -- So many operands serve as these results, the latest first, over others.
 pub data Holds : ℕ → List Operand → List (Option Datum) → List Operand → Type 0 where
@@ -212,7 +207,7 @@ module _ (c : Code) (ps : List Procedure) where
 
     -- At this place, over these operands, the statements in hand are done, and the code goes on as these frames.
     pub data AfterBlock : Where → Loop → ℕ → List Operand → List Frame → Type 0 where
-      last : {p : Where} {q : Loop} {at line : ℕ} {xs : List Operand} → p.body ≡ 0 → q.is_loop ≡ false → Is (steps_in c p) at line StopRun → AfterBlock p q at xs []
+      last : {p : Where} {q : Loop} {at line : ℕ} {xs : List Operand} → p.body ≡ 0 → p.callers ≡ [] → q.is_loop ≡ false → Is (steps_in c p) at line StopRun → AfterBlock p q at xs []
       ends : {p : Where} {q : Loop} {at line : ℕ} {xs : List Operand} {name : List ℕ} {backs : HandBacks} {own : Environment} {w : List Frame} → q.is_loop ≡ false → Is (steps_in c p) at line (Push None) → Is (steps_in c p) (suc at) line ReturnTop → Awaits p name backs own w → AfterBlock p q at xs (InCall (Activation name backs own) ∷ w)
       rest : {p : Where} {q : Loop} {at : ℕ} {b : Block} {xs : List Operand} {w : List Frame} → FormedBlock (around p) q.is_loop b → Stands (steps_in c p) q.labels at (block q.leaves b at) → AfterBlock p q (past at (block q.leaves b at)) xs w → AfterBlock p q at xs (Then b ∷ w)
       loop : {p : Where} {line : ℕ} {e : Expr} {b : Block} {xs : List Operand} {w : List Frame} → (q : Loop) (start : ℕ) → FormedExpr (around p) e → FormedBlock (around p) true b → Stands (steps_in c p) q.labels start (stmt q.leaves line (While e b) start) → AfterBlock p q (past start (stmt q.leaves line (While e b) start)) xs w → AfterBlock p (in_loop (record { exit = past start (stmt q.leaves line (While e b) start); again = 0 }) start 0) (past (suc (suc (past start (expr line e start)))) (block 0 b (suc (suc (past start (expr line e start)))))) xs (InStmt line (WhileBody e b) ∷ w)
@@ -221,7 +216,7 @@ module _ (c : Code) (ps : List Procedure) where
 
     -- The activation that waits for the body at work, with the code that stores what is handed back.
     pub data Awaits : Where → List ℕ → HandBacks → Environment → List Frame → Type 0 where
-      awaits : {p : Where} {name : List ℕ} {backs : HandBacks} {own : Environment} {w : List Frame} → (l : Labels) (caller : CodeActivation) (outer : List CodeActivation) (b : CodeBody) (all : Arguments) → p.callers ≡ caller ∷ outer → Alike caller.own own → slice_get c.bodies p.body ≡ Some b → b.name ≡ name → backs ≡ hand_backs p.body b.parameters all → PassedAs b.parameters all → Stands (steps_in c (record { body = caller.body; callers = outer })) l caller.at (store_slots (line_of w) (set_by all) caller.at) → AfterResult (record { body = caller.body; callers = outer }) (past caller.at (store_slots (line_of w) (set_by all) caller.at)) caller.operands w → Awaits p name backs own w
+      awaits : {p : Where} {name : List ℕ} {backs : HandBacks} {own : Environment} {w : List Frame} → (l : Labels) (caller : CodeActivation) (outer : List CodeActivation) (b : CodeBody) (all : Arguments) → InProcedure p.body → p.callers ≡ caller ∷ outer → Alike caller.own own → slice_get c.bodies p.body ≡ Some b → b.name ≡ name → backs ≡ hand_backs p.body b.parameters all → PassedAs b.parameters all → Stands (steps_in c (record { body = caller.body; callers = outer })) l caller.at (store_slots (line_of w) (set_by all) caller.at) → AfterResult (record { body = caller.body; callers = outer }) (past caller.at (store_slots (line_of w) (set_by all) caller.at)) caller.operands w → Awaits p name backs own w
 
     -- The frames up to the activation at work: those of loops and of statements that follow.
     pub data Returns : Where → List Frame → List ℕ → HandBacks → Environment → List Frame → Type 0 where
@@ -333,3 +328,30 @@ rank_place d = 0
 
 abbrev pub rank : (c : Code) (ps : List Procedure) (k : CodeCore) (m : Core) → Matches c ps k m → ℕ
 rank c ps k m h = rank_place h.place
+
+-- ---- what quiet steps of the meaning keep, and what is then in hand
+
+-- the variables, the world and the bodies at work stay
+abbrev pub Keeps : Core → Core → Type 0
+Keeps a b = (a.shared ≡ b.shared) × (bodies_at_work a.shared.own a.work ≡ bodies_at_work b.shared.own b.work)
+
+-- a `read` of this line, into the variable in which the step behind it stores
+pub record IsReadFor (line : ℕ) (behind : Option Step) (hand : Hand) : Type 0 where
+  pub variable : Variable
+  pub others : List Variable
+  pub rest : Block
+  pub in_hand : hand ≡ Execute (more_stmts line (Read (variable ∷ others)) rest)
+  pub stores : behind ≡ Some (line, StoreIn variable)
+
+-- the `read` or the `print` that this instruction does
+abbrev pub InHandFor : Instr → ℕ → Option Step → Core → Type 0
+InHandFor ReadOne line behind m = IsReadFor line behind m.hand
+InHandFor (PrintTop n) line behind m = IsPrintOf line m.hand m.work
+InHandFor i line behind m = Unit {0}
+
+abbrev pub InHand : Option Step → Option Step → Core → Type 0
+InHand None behind m = Unit {0}
+InHand (Some s) behind m = InHandFor s.1 s.0 behind m
+
+abbrev pub InHandOf : Code → CodeCore → Core → Type 0
+InHandOf c k m = InHand (fetch c k.now.body k.now.at) (fetch c k.now.body (suc k.now.at)) m

@@ -6,8 +6,6 @@
 
 mod map;
 mod set;
-#[cfg(test)]
-mod tests;
 
 pub use map::SparseMap;
 pub use set::SparseSet;

@@ -1,5 +1,5 @@
 -- How far a call of the reader went.
-use Rattle.std.proofs.Common.{◌≡◌, ℕ, List, [], ◌++◌, drop, refl, sym, ap, subst, ◌∙◌, Some, None, Ok, Err, Option, Result, false, inl, inr, append_assoc, append-nil, ◌+◌, ◌-◌, ◌≤◌, take, arith, length-take}
+use Rattle.std.proofs.Common.{◌≡◌, ℕ, List, [], ◌++◌, drop, refl, sym, ap, subst, ◌∙◌, Some, None, Ok, Err, Option, Result, Bool, true, false, inl, inr, append_assoc, append-nil, ◌+◌, ◌-◌, ◌≤◌, take, arith, length-take}
 use Rattle.std.proofs.lemmas.List.{drop-take, drop-drop, drop_all}
 use Rattle.std.specs.Io.KnownBytes.{Consumes, Keeps, IsAtEnd}
 use Rattle.std.proofs.KnownBytes.{Consumes-nil, Consumes-trans, Consumes-kept}
@@ -7,7 +7,7 @@ use Rattle.setl_value.specs.declared.Value.{Value}
 use Rattle.setl_value.specs.DatumOf.{part}
 use Rattle.setl_text.specs.Reading.{Reading, Denotes, Token, Between, Open, finish, resume, read_denotation}
 use Rattle.setl_text.specs.Scans.{token_of, reading_of, Scans, Finishes}
-use Rattle.setl_text.specs.Reads.{Answered, Answers, AnswersTold, GivesAll, ScansKept, Fills}
+use Rattle.setl_text.specs.Reads.{ahead, StaysHonest, TakesOff, Answered, Answers, AnswersTold, IsAll, ScansKept, Fills}
 use Rattle.setl_text.specs.declared.scan.Piece.{Piece}
 use Rattle.setl_text.specs.declared.read.Scanned.TheVariants.{Onward, Found}
 use Rattle.setl_text.specs.declared.Got.{Got}
@@ -24,13 +24,16 @@ pub record Went (kept : List ℕ) (left : Option (List ℕ)) (kept' : List ℕ) 
 pub went_start : (kept : List ℕ) (left : Option (List ℕ)) → Went kept left kept left Between []
 went_start kept left = record { gave = []; taken = Consumes-nil left; same = λ more. refl }
 
-gives_all : (a b c : Option (List ℕ)) (gave : List ℕ) → Consumes a b gave → IsAtEnd b → Keeps b c → GivesAll a c gave
-gives_all None b c gave taken end k = tt
-gives_all (Some x) None c gave taken end k = absurd taken
-gives_all (Some x) (Some y) None gave taken end k = absurd k
-gives_all (Some x) (Some y) (Some z) gave taken end k = (taken ∙ ap (λ l. gave ++ l) end ∙ append-nil gave, k ∙ end)
+gives_all : (a b : Option (List ℕ)) (gave : List ℕ) → Consumes a b gave → IsAtEnd b → IsAll a gave
+gives_all None b gave taken end = tt
+gives_all (Some x) None gave taken end = absurd taken
+gives_all (Some x) (Some y) gave taken end = taken ∙ ap (λ l. gave ++ l) end ∙ append-nil gave
 
 module _ (kept : List ℕ) (left : Option (List ℕ)) where
+  -- whether an end was told is as before
+  pub went_still : (kept' : List ℕ) (e e' : Bool) (left' : Option (List ℕ)) (t : Token) (os : List Open) → e' ≡ e → Went kept left kept' (ahead e left') t os → Went kept left kept' (ahead e' left') t os
+  went_still kept' e e' left' t os same w = subst (λ x. Went kept left kept' (ahead x left') t os) (sym same) w
+
   pub went_onward : (kept' kept'' : List ℕ) (left' : Option (List ℕ)) (t : Token) (os new : List Open) (p : Piece) → Went kept left kept' left' t os → ScansKept kept' kept'' t os new (Ok (Onward p)) → Went kept left kept'' left' (token_of p) new
   went_onward kept' kept'' left' t os new p w h = record {
     gave = w.gave;
@@ -87,7 +90,8 @@ module _ (kept : List ℕ) (left : Option (List ℕ)) where
   pub went_finished : (kept' kept'' : List ℕ) (left' left'' : Option (List ℕ)) (t : Token) (os : List Open) (result : Result Got ReadFault) → kept' ≡ [] → Went kept left kept' left' t os → Fills left' left'' kept'' (Ok false) → Finishes (finish t os) result → Answers kept left kept'' left'' result
   went_finished kept' kept'' left' left'' t os result none w h e = inr (record {
     gave = w.gave;
-    taken = gives_all left left' left'' w.gave w.taken h.0 h.1.0;
+    all = gives_all left left' w.gave w.taken h.0;
+    none = h.1.0;
     empty = h.1.1;
     answered = answered_end result (finish t os) _ (ap (λ l. read_denotation (kept ++ l)) (sym (append-nil w.gave)) ∙ w.same [] ∙ ap (λ l. resume (l ++ []) t os) none) e;
   })
@@ -97,11 +101,38 @@ module _ (kept : List ℕ) (left : Option (List ℕ)) where
 pub told : (kept : List ℕ) (left : Option (List ℕ)) (kept' : List ℕ) (left' : Option (List ℕ)) (result : Result Got ReadFault) → Answers kept left kept' left' result → AnswersTold kept left kept' left' result
 told kept None kept' left' result h = tt
 told kept (Some l) kept' None result (inl g) = absurd g.taken
-told kept (Some l) kept' None result (inr g) = absurd g.taken
 told kept (Some l) kept' (Some m) result (inl g) = subst (λ x. Answered result (kept' ++ m) (read_denotation (kept ++ x))) (sym g.taken) (g.answered m)
-told kept (Some l) kept' (Some m) result (inr g) =
-    let rest : kept' ++ m ≡ [] = ap (λ x. x ++ m) g.empty ∙ g.taken.1 in
-    subst (λ x. Answered result x (read_denotation (kept ++ l))) (sym rest) (subst (λ x. Answered result [] (read_denotation (kept ++ x))) (sym g.taken.0) g.answered)
+told kept (Some l) kept' left' result (inr g) =
+    subst (λ x. AnswersTold kept (Some l) kept' x result) (sym g.none)
+    (subst (λ x. Answered result x (read_denotation (kept ++ l))) (sym (ap (λ x. x ++ []) g.empty))
+    (subst (λ x. Answered result [] (read_denotation (kept ++ x))) (sym g.all) g.answered))
+
+-- ---- what an input gives
+
+pub took_nothing : (left : Option (List ℕ)) → TakesOff left left
+took_nothing left = ([], Consumes-nil left)
+
+pub took_then : (a b c : Option (List ℕ)) → TakesOff a b → TakesOff b c → TakesOff a c
+took_then a b c x y = (x.0 ++ y.0, Consumes-trans a b c x.0 y.0 x.1 y.1)
+
+pub took_kept : (a b : Option (List ℕ)) → Keeps a b → TakesOff a b
+took_kept a b h = ([], Consumes-kept a a b [] (Consumes-nil a) h)
+
+-- an end that is told at the end
+pub honest_end : (ended ended' : Bool) (a b : Option (List ℕ)) → IsAtEnd a → Keeps a b → StaysHonest ended a ended' b
+honest_end ended ended' None b end h = tt
+honest_end ended ended' (Some x) None end h = absurd h
+honest_end ended ended' (Some x) (Some y) end h = λ before now. h ∙ end
+
+pub honest_then : (e e' e'' : Bool) (a b c : Option (List ℕ)) → TakesOff a b → StaysHonest e a e' b → StaysHonest e' b e'' c → StaysHonest e a e'' c
+honest_then e e' e'' None b c t x y = tt
+honest_then e e' e'' (Some l) None c t x y = absurd t.1
+honest_then e e' e'' (Some l) (Some m) c t x y = λ before now. y (x before) now
+
+-- no end was told in between
+pub honest_still : (e e' : Bool) (a : Option (List ℕ)) → e' ≡ e → StaysHonest e a e' a
+honest_still e e' None h = tt
+honest_still e e' (Some x) h = λ before now. before (sym h ∙ now)
 
 -- ---- the bytes of the buffer that are kept
 

@@ -12,10 +12,28 @@ use Rattle.setl_text.specs.declared.Got.TheVariants.{Value, Om, End}
 use Rattle.setl_text.specs.declared.ReadFault.{ReadFault}
 use Rattle.setl_text.specs.declared.ReadFault.TheVariants.{Form, Wide, Deep, Source, NoMemory}
 
--- the bytes that a reader took from its input and that no denotation took, and the fault that it answers
+-- the bytes that a reader took from its input and that no denotation took, whether the input told its end, and the fault
+-- that the reader answers
 pub record ReaderState : Type 0 where
   pub kept : List ℕ
+  pub ended : Bool
   pub fault : Option ReadFault
+
+-- The bytes that a reader has still to come from an input, where they are told: none behind an end that the input told,
+-- since it isn't asked again.
+abbrev pub ahead : (ended : Bool) → Option (List ℕ) → Option (List ℕ)
+ahead true left = Some []
+ahead false left = left
+
+-- an end was told only where no byte was left, if that was so before; of an input that doesn't tell its bytes nothing is
+-- said
+abbrev pub StaysHonest : (ended : Bool) → Option (List ℕ) → (ended' : Bool) → Option (List ℕ) → Type 0
+StaysHonest ended None ended' left' = ⊤
+StaysHonest ended (Some left) ended' left' = (ended ≡ true → left ≡ []) → ended' ≡ true → IsAtEnd left'
+
+-- some bytes were taken off the front of an input
+abbrev pub TakesOff : Option (List ℕ) → Option (List ℕ) → Type 0
+TakesOff left left' = (bytes : List ℕ) × Consumes left left' bytes
 
 -- the answer to bytes that are read as this, where these are left behind it
 abbrev pub Answered : Result Got ReadFault → List ℕ → Reading → Type 0
@@ -40,16 +58,16 @@ pub record Gave (kept : List ℕ) (left : Option (List ℕ)) (kept' : List ℕ) 
   pub taken : Consumes left left' gave
   pub answered : (more : List ℕ) → Answered result (kept' ++ more) (read_denotation (kept ++ (gave ++ more)))
 
--- where the bytes left are told, these were all of them, and none is left
-abbrev pub GivesAll : Option (List ℕ) → Option (List ℕ) → List ℕ → Type 0
-GivesAll None left' gave = ⊤
-GivesAll (Some left) None gave = ⊥
-GivesAll (Some left) (Some left') gave = (left ≡ gave) × (left' ≡ [])
+-- where the bytes left are told, these were all of them
+abbrev pub IsAll : Option (List ℕ) → List ℕ → Type 0
+IsAll None gave = ⊤
+IsAll (Some left) gave = left ≡ gave
 
 -- Or it gave some bytes and then told its end, and the answer is that to the bytes kept followed by these alone.
 pub record GaveAll (kept : List ℕ) (left : Option (List ℕ)) (kept' : List ℕ) (left' : Option (List ℕ)) (result : Result Got ReadFault) : Type 0 where
   pub gave : List ℕ
-  pub taken : GivesAll left left' gave
+  pub all : IsAll left gave
+  pub none : left' ≡ Some []
   pub empty : kept' ≡ []
   pub answered : Answered result [] (read_denotation (kept ++ gave))
 
@@ -83,7 +101,7 @@ ScansKept kept kept' t os new (Err NoMemory) = ⊤
 -- the input gave the bytes that are kept now, or told its end, or failed
 abbrev pub Fills : Option (List ℕ) → Option (List ℕ) → List ℕ → Result Bool ReadFault → Type 0
 Fills left left' kept' (Ok true) = Consumes left left' kept'
-Fills left left' kept' (Ok false) = IsAtEnd left × (Keeps left left' × (kept' ≡ []))
+Fills left left' kept' (Ok false) = IsAtEnd left × ((left' ≡ Some []) × (kept' ≡ []))
 Fills left left' kept' (Err Source) = Keeps left left'
 Fills left left' kept' (Err Form) = ⊥
 Fills left left' kept' (Err Wide) = ⊥

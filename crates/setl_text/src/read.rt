@@ -1,11 +1,11 @@
 //! The reader of denotations.
 
-ghost use Rattle.std.specs.Prelude.{◌≡◌, ◌≤◌, [], Err, None, IfOk, MatchOption};
+ghost use Rattle.std.specs.Prelude.{◌≡◌, ◌≤◌, [], true, false, Err, None, IfOk, MatchOption};
 ghost use Rattle.setl_value.specs.DatumOf.{part};
 ghost use Rattle.setl_text.specs.Denoted.{IsDecided};
 ghost use Rattle.setl_text.specs.Reading.{Denotes};
 ghost use Rattle.setl_text.specs.Scans.{token_of, opens, reading_of, TokenFits, IsShallow, Scans};
-ghost use Rattle.setl_text.specs.Reads.{Answers, AnswersTold, KeepsFault, SourceCounts, ScansKept, Fills};
+ghost use Rattle.setl_text.specs.Reads.{ahead, StaysHonest, TakesOff, Answers, AnswersTold, KeepsFault, SourceCounts, ScansKept, Fills};
 
 use crate::place::Collection;
 use crate::scan::{Fed, Piece, feed, finish};
@@ -16,13 +16,15 @@ use std::alloc::Global;
 use std::marker::Model;
 
 /// Reads denotations one after another. It asks an input for at most 4,096 bytes at a time, and only where those that
-/// it keeps don't end the denotation. Contracts see the bytes that it keeps and the fault that it answers from now on.
+/// it keeps don't end the denotation, and never again once it told its end. Contracts see the bytes that it keeps, whether
+/// the input told its end, and the fault that it answers from now on.
 #[derive(Drop)]
 pub struct Reader {
     alloc: Global,
     buffer: Vec<u8>,
     at: usize,
     end: usize,
+    ended: bool,
     stopped: Option<ReadFault>,
 }
 
@@ -32,7 +34,7 @@ impl Model for Reader {
 
     ghost Value = { ReaderState };
 
-    ghost view = { λ r. record { kept = drop r.at (take r.end r.buffer.items); fault = r.stopped } };
+    ghost view = { λ r. record { kept = drop r.at (take r.end r.buffer.items); ended = r.ended; fault = r.stopped } };
 
     ghost invariant = { λ r. (r.at ≤ r.end) × (r.end ≤ vec_len r.buffer) × (0 < vec_len r.buffer) };
 }
@@ -47,13 +49,14 @@ pub(crate) enum Scanned {
 impl Reader {
     /// A reader that keeps no byte, with room for 4,096. The error is want of memory.
     pub fn new(alloc: Global) -> Result<Reader, Memory>
-        ensures { IfOk result (λ r. r ≡ record { kept = []; fault = None }) }
+        ensures { IfOk result (λ r. r ≡ record { kept = []; ended = false; fault = None }) }
     {
         Ok(Reader {
             alloc,
             buffer: vec![in alloc; 0; 4096]?,
             at: 0,
             end: 0,
+            ended: false,
             stopped: None,
         })
     }
@@ -67,12 +70,15 @@ impl Reader {
     /// answers the same fault and leaves the input alone. Where the bytes kept decide the answer, whatever follows them,
     /// the input isn't asked.
     pub fn next<I: Source>(&mut self, input: &mut I) -> Result<Got, ReadFault>
-        ensures answer { self.old.fault ≡ None → Answers self.old.kept (I.left input.old) self.new.kept (I.left input.new) result }
-        ensures told { self.old.fault ≡ None → AnswersTold self.old.kept (I.left input.old) self.new.kept (I.left input.new) result }
+        ensures answer { self.old.fault ≡ None → Answers self.old.kept (ahead self.old.ended (I.left input.old)) self.new.kept (ahead self.new.ended (I.left input.new)) result }
+        ensures told { self.old.fault ≡ None → AnswersTold self.old.kept (ahead self.old.ended (I.left input.old)) self.new.kept (ahead self.new.ended (I.left input.new)) result }
         ensures fault { MatchOption self.old.fault (KeepsFault result self.new.fault) (λ f. (result ≡ Err f) × (self.new ≡ self.old) × (input.new ≡ input.old)) }
         ensures source { self.old.fault ≡ None → SourceCounts (I.faults input.old) (I.faults input.new) result }
         ensures later { I.faults input.old ≤ I.faults input.new }
         ensures decided { IsDecided self.old.kept → input.new ≡ input.old }
+        ensures ended { self.old.ended ≡ true → input.new ≡ input.old }
+        ensures honest { StaysHonest self.old.ended (I.left input.old) self.new.ended (I.left input.new) }
+        ensures took { TakesOff (I.left input.old) (I.left input.new) }
     {
         if let Some(fault) = self.stopped {
             return Err(fault);
@@ -87,11 +93,14 @@ impl Reader {
     }
 
     fn read<I: Source>(&mut self, input: &mut I) -> Result<Got, ReadFault>
-        ensures answer { Answers self.old.kept (I.left input.old) self.new.kept (I.left input.new) result }
+        ensures answer { Answers self.old.kept (ahead self.old.ended (I.left input.old)) self.new.kept (ahead self.new.ended (I.left input.new)) result }
         ensures fault { self.new.fault ≡ self.old.fault }
         ensures source { SourceCounts (I.faults input.old) (I.faults input.new) result }
         ensures later { I.faults input.old ≤ I.faults input.new }
         ensures decided { IsDecided self.old.kept → input.new ≡ input.old }
+        ensures ended { self.old.ended ≡ true → input.new ≡ input.old }
+        ensures honest { StaysHonest self.old.ended (I.left input.old) self.new.ended (I.left input.new) }
+        ensures took { TakesOff (I.left input.old) (I.left input.new) }
     {
         let mut piece = Piece::Idle;
         let mut opened = Vec::new(self.alloc);
@@ -119,6 +128,7 @@ impl Reader {
         requires token { TokenFits (token_of piece) }
         requires shallow { IsShallow (opens opened.old.items) }
         ensures scans { ScansKept self.old.kept self.new.kept (token_of piece) (opens opened.old.items) (opens opened.new.items) result }
+        ensures ended { self.new.ended ≡ self.old.ended }
         ensures fault { self.new.fault ≡ self.old.fault }
     {
         match scan(self.alloc, &self.buffer[self.at..self.end], piece, opened) {
@@ -134,21 +144,31 @@ impl Reader {
         }
     }
 
-    // Asks the input for bytes, and says whether it gave some.
+    // Asks the input for bytes, unless it told its end, and says whether it gave some.
     fn fill<I: Source>(&mut self, input: &mut I) -> Result<bool, ReadFault>
-        ensures bytes { Fills (I.left input.old) (I.left input.new) self.new.kept result }
+        ensures bytes { Fills (ahead self.old.ended (I.left input.old)) (ahead self.new.ended (I.left input.new)) self.new.kept result }
         ensures fault { self.new.fault ≡ self.old.fault }
         ensures source { SourceCounts (I.faults input.old) (I.faults input.new) result }
         ensures later { I.faults input.old ≤ I.faults input.new }
+        ensures ended { self.old.ended ≡ true → input.new ≡ input.old }
+        ensures stays { self.old.ended ≡ true → self.new.ended ≡ true }
+        ensures honest { StaysHonest self.old.ended (I.left input.old) self.new.ended (I.left input.new) }
+        ensures took { TakesOff (I.left input.old) (I.left input.new) }
     {
         self.at = self.end;
+        if self.ended {
+            return Ok(false);
+        }
         match input.read(self.buffer.as_mut_slice()) {
             Took::Bytes(n) => {
                 self.at = 0;
                 self.end = n;
                 Ok(true)
             }
-            Took::End => Ok(false),
+            Took::End => {
+                self.ended = true;
+                Ok(false)
+            }
             Took::Failed => Err(ReadFault::Source),
         }
     }

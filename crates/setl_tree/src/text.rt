@@ -6,11 +6,13 @@ ghost use Rattle.setl_tree.specs.Texts.{IsTextByte};
 
 use std::alloc::{AllocError, Global};
 use std::marker::Model;
+use std::rc::Rc;
 
-/// Bytes without byte 10: a name in lower case, or what a string holds. Contracts see the list of the bytes.
+/// Bytes without byte 10: a name in lower case, or what a string holds. Copies share them. Contracts see the list of the
+/// bytes.
 #[derive(Debug, Drop)]
 pub struct Text {
-    bytes: Vec<u8>,
+    bytes: Rc<Vec<u8>>,
 }
 
 impl Model for Text {
@@ -20,9 +22,9 @@ impl Model for Text {
 
     ghost Value = { List ℕ };
 
-    ghost view = { λ t. t.bytes.items };
+    ghost view = { λ t. t.bytes.value.items };
 
-    ghost invariant = { λ t. AllByRecursion IsTextByte t.bytes.items };
+    ghost invariant = { λ t. AllByRecursion IsTextByte t.bytes.value.items };
 }
 
 impl Text {
@@ -31,8 +33,9 @@ impl Text {
         requires { AllByRecursion IsTextByte bytes.now }
         ensures { IfOk result (λ t. t ≡ bytes.now) }
     {
+        let bytes = Vec::from_slice(alloc, bytes)?;
         Ok(Text {
-            bytes: Vec::from_slice(alloc, bytes)?,
+            bytes: Rc::new(alloc, bytes)?,
         })
     }
 
@@ -42,5 +45,14 @@ impl Text {
         ensures clean { AllByRecursion IsTextByte result.now }
     {
         self.bytes.as_slice()
+    }
+
+    /// The same text, which shares its bytes. An error is want of memory.
+    pub fn copy(&self) -> Result<Text, AllocError>
+        ensures { IfOk result (λ t. t ≡ self.now) }
+    {
+        Ok(Text {
+            bytes: self.bytes.clone()?,
+        })
     }
 }

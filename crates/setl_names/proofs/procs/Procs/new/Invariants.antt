@@ -8,5 +8,5 @@ decreases-loop-at l = l.at
 abbrev pub invariant-loop-at : goal.invariant-loop-at
 invariant-loop-at l = record {
   within : l.at ≤ length l.procs;
-  finds : Finds l.params (λ r. r.now) (drop l.at l.procs);
+  finds : Finds l.table (λ r. (r.0, r.1.now)) l.at (drop l.at l.procs);
 }

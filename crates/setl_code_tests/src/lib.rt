@@ -1,0 +1,5 @@
+//! Tests of code. Nothing stands on this crate.
+#![tactic(auto)]
+
+#[cfg(test)]
+mod listings;

@@ -1,0 +1,20 @@
+use Rattle.std.proofs.Common.{◌≡◌, ap, sym, ◌∙◌, arith, is_eq, true, false}
+use Rattle.setl_value.specs.Body.{Members}
+use Rattle.setl_value.specs.DatumOf.{datum}
+use Rattle.setl_value.specs.Order.{datum_cmp}
+use Rattle.setl_iterator.proofs.PointSteps.{run_more, run_ends}
+use Rattle.setl_iterator.proofs.points.end_of.Goals as goal
+
+pub returns-then-not-is_eq : goal.returns-then-not-is_eq
+returns-then-not-is_eq c =
+    let x = datum c.args.x.now in
+    let a = datum c.parts.result.0.now in
+    let no : is_eq (datum_cmp x a) ≡ false = ap is_eq (sym c.compare.ensures) ∙ sym c.is_eq.ensures ∙ c.if-not-is_eq.true in
+    omega (arith, run_ends (Members c.args.f.now) c.loop-end.end x a (datum c.parts.result.1.now) c.parts.ensures no, c.loop-end.invariant)
+
+pub loop-end-preserved : goal.loop-end-preserved
+loop-end-preserved c =
+    let x = datum c.args.x.now in
+    let a = datum c.parts.result.0.now in
+    let yes : is_eq (datum_cmp x a) ≡ true = ap is_eq (sym c.compare.ensures) ∙ sym c.is_eq.ensures ∙ c.if-not-is_eq.false in
+    omega (arith, run_more (Members c.args.f.now) c.loop-end.end x a (datum c.parts.result.1.now) c.parts.ensures yes, c.loop-end.invariant)

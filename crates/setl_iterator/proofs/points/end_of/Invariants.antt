@@ -1,0 +1,10 @@
+use Rattle.std.proofs.Common.{◌≡◌, ◌+◌, drop}
+use Rattle.std.specs.List.{prefix_len}
+use Rattle.setl_value.specs.Body.{Members}
+use Rattle.setl_value.specs.DatumOf.{datum}
+use Rattle.setl_map.specs.Points.{is_at}
+use Rattle.setl_iterator.proofs.points.end_of.Given as goal
+
+abbrev pub invariant-loop-end : goal.invariant-loop-end
+invariant-loop-end l =
+    l.end + prefix_len (is_at (datum l.x)) (drop l.end (Members l.f)) ≡ l.from + prefix_len (is_at (datum l.x)) (drop l.from (Members l.f))

@@ -1,0 +1,14 @@
+use Rattle.std.proofs.Common.{◌∷◌, ◌+◌, ap, sym, ◌∙◌, drop, Some, refl}
+use Rattle.setl_value.specs.Body.{Members}
+use Rattle.setl_value.specs.DatumOf.{datum}
+use Rattle.setl_model.specs.Core.{One}
+use Rattle.setl_model.specs.Iterations.{members}
+use Rattle.setl_iterator.proofs.Lists.{drop_at}
+use Rattle.setl_iterator.proofs.rests.next_member.Goals as goal
+
+pub returns-clause-first : goal.returns-clause-first
+returns-clause-first c =
+    let ds = Members c.args.s.now in
+    let i = c.args.at.now in
+    ap members (drop_at ds i (i + 1) (datum c.at.result.now) refl c.at.ensures.member)
+    ∙ ap (λ v. One (Some (datum v)) ∷ members (drop (i + 1) ds)) (sym c.in_ok-member.ensures.same)
