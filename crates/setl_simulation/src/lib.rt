@@ -4,6 +4,7 @@
 //! the meaning, or by none where a rank falls (`Follows`).
 #![tactic(auto)]
 
+ghost use Rattle.setl_model.specs.Ending.{EveryRunEnds, NoneIsStuck};
 ghost use Rattle.setl_simulation.specs.Claims.{CodeEndsAlike, CodeMeansAlike, CodeEndsInTheSameState, CodeReachesTheSameStates, CodeReadsWhereMeant, CodePrintsWhereMeant};
 
 /// The code of a formed program ends exactly as the program does, after the same output and the same events, whether
@@ -28,3 +29,13 @@ pub fn code_reaches_the_same_states()
     ensures reads { CodeReadsWhereMeant }
     ensures prints { CodePrintsWhereMeant }
 {}
+
+/// Every run of a formed program ends, for every input and bound on turns, whether declarations count or not, and none is
+/// stuck. For so it is with its code, which is sound.
+pub fn every_run_ends()
+    ensures ends { EveryRunEnds }
+    ensures not_stuck { NoneIsStuck }
+{
+    setl_soundness::code_of_programs_is_sound();
+    setl_soundness::every_run_of_sound_code_ends();
+}

@@ -79,14 +79,16 @@ module _ (c : Code) (declared : List Variable) (k : CodeCore) (r : Ready c decla
             fits = s.2;
             taken = λ y mine gone. still c declared k r line (CallBody n) is (suc k.now.at) (first []) y refl mine gone;
           } in
-          subst (Leads c declared k r) (sym own.is)
-          (record {
-            sound = r.sound;
-            globals = r.globals;
-            now = record { body = b; is = body; sound = sound; shape = []; reached = sound.starts; below = []; operands = tt; fits = refl; taken = λ y mine gone. absurd (own.none y gone) };
-            callers = (b, body, outer, r.callers);
-            kept = r.kept;
-          }, takes_turn less)
+          subst (Leads c declared k r) (sym own.is) (
+            record {
+              sound = r.sound;
+              globals = r.globals;
+              now = record { body = b; is = body; sound = sound; shape = []; reached = sound.starts; below = []; operands = tt; fits = refl; taken = λ y mine gone. absurd (own.none y gone) };
+              callers = (b, body, outer, r.callers);
+              kept = r.kept;
+            },
+            takes_turn less,
+          )
 
   pub call_fine : (n : ℕ) → Here c declared k r line (CallBody n) → FineMove c declared k r (do_instr c line (CallBody n) k)
   call_fine n is = go (slice_get c.bodies n) refl (fine c declared k r line (CallBody n) is)
@@ -108,14 +110,16 @@ module _ (c : Code) (declared : List Variable) (k : CodeCore) (r : Ready c decla
       let below : Shape = results (suc (handed r.now.body.parameters)) caller.below in
       let shape : HaveShape hands.0 below = subst (HaveShape hands.0) (results_more (handed r.now.body.parameters) caller.below) hands.2 in
       let fewer : length cs < length k.callers = (let long = ap length some in omega arith) in
-      rw (hands.1)
-      (record {
-        sound = r.sound;
-        globals = r.globals;
-        now = record { body = caller.body; is = caller.is; sound = caller.sound; shape = caller.shape; reached = caller.reached; below = below; operands = shape; fits = caller.fits; taken = caller.taken };
-        callers = wait;
-        kept = r.kept;
-      }, returns (same_turns c declared k r line) fewer)
+      rw (hands.1) (
+        record {
+          sound = r.sound;
+          globals = r.globals;
+          now = record { body = caller.body; is = caller.is; sound = caller.sound; shape = caller.shape; reached = caller.reached; below = below; operands = shape; fits = caller.fits; taken = caller.taken };
+          callers = wait;
+          kept = r.kept;
+        },
+        returns (same_turns c declared k r line) fewer,
+      )
     where
       one : (b d : Body) (o : Option Body) → o ≡ Some b → o ≡ Some d → b ≡ d
       one b d o h g = cc
@@ -133,26 +137,30 @@ module _ (c : Code) (declared : List Variable) (k : CodeCore) (r : Ready c decla
       let s = there (T c declared k r line) (suc k.now.at) (AResult ∷ r.now.shape) (parts _ true (fine c declared k r line KeepAll is)).0 in
       let unread : (y : Variable) → IsOwn y → held_in k.now.own y ≡ Gone → ReadLater k.now.body r.now.body y (suc k.now.at) → ⊥ = λ y mine gone. still c declared k r line KeepAll is (suc k.now.at) (first []) y refl mine gone in
       let copy : AtWork c declared (record k.now { at = suc k.now.at }) 1 = record { body = r.now.body; is = r.now.is; sound = r.now.sound; shape = s.0; reached = s.1; below = r.now.shape; operands = here c declared k r line; fits = s.2; taken = unread } in
-      let down = (lower c declared k r line KeepAll is).0 in
-      (record {
-        sound = r.sound;
-        globals = r.globals;
-        now = record { body = r.now.body; is = r.now.is; sound = r.now.sound; shape = s.0; reached = s.1; below = AResult ∷ r.now.shape; operands = (tt, here c declared k r line); fits = s.2; taken = unread };
-        callers = r.callers;
-        kept = (r.globals, copy, r.callers, r.kept);
-      }, moves_on (same_turns c declared k r line) (omega arith) down)
+      let down = (lower c declared k r line KeepAll is).0 in (
+        record {
+          sound = r.sound;
+          globals = r.globals;
+          now = record { body = r.now.body; is = r.now.is; sound = r.now.sound; shape = s.0; reached = s.1; below = AResult ∷ r.now.shape; operands = (tt, here c declared k r line); fits = s.2; taken = unread };
+          callers = r.callers;
+          kept = (r.globals, copy, r.callers, r.kept);
+        },
+        moves_on (same_turns c declared k r line) (omega arith) down,
+      )
 
   backing : (ks : List Copy) → AllKept c declared ks → FineMove c declared k r (go_back line ks k)
   backing [] kept = tt
   backing (copy ∷ older) (globals, now, callers, kept) =
-      turns c declared k r _ (λ m less.
-      (record {
-        sound = r.sound;
-        globals = globals;
-        now = record { body = now.body; is = now.is; sound = now.sound; shape = now.shape; reached = now.reached; below = AResult ∷ now.below; operands = (tt, now.operands); fits = now.fits; taken = now.taken };
-        callers = callers;
-        kept = kept;
-      }, takes_turn less))
+      turns c declared k r _ (λ m less. (
+        record {
+          sound = r.sound;
+          globals = globals;
+          now = record { body = now.body; is = now.is; sound = now.sound; shape = now.shape; reached = now.reached; below = AResult ∷ now.below; operands = (tt, now.operands); fits = now.fits; taken = now.taken };
+          callers = callers;
+          kept = kept;
+        },
+        takes_turn less,
+      ))
 
   pub back_fine : Here c declared k r line GoBack → FineMove c declared k r (do_instr c line GoBack k)
   back_fine is = backing k.kept r.kept
@@ -169,14 +177,16 @@ module _ (c : Code) (declared : List Variable) (k : CodeCore) (r : Ready c decla
 
   taking : (x : Variable) → IsOwn x → (is : Here c declared k r line (Take x)) (v : Option Datum) (own : Cells) → own ≡ with_held k.now.own x Gone → Leads c declared k r (record k { now = record k.now { at = suc k.now.at; own = own; operands = Result v ∷ k.now.operands } })
   taking x mine is v own taken =
-      let down = (lower c declared k r line (Take x) is).0 in
-      (record {
-        sound = r.sound;
-        globals = r.globals;
-        now = stands c declared k r line (Take x) is (suc k.now.at) (AResult ∷ r.now.shape) (Result v ∷ k.now.operands) own (parts _ true (fine c declared k r line (Take x) is)).0 (tt, here c declared k r line) unread;
-        callers = r.callers;
-        kept = r.kept;
-      }, moves_on (same_turns c declared k r line) (omega arith) down)
+      let down = (lower c declared k r line (Take x) is).0 in (
+        record {
+          sound = r.sound;
+          globals = r.globals;
+          now = stands c declared k r line (Take x) is (suc k.now.at) (AResult ∷ r.now.shape) (Result v ∷ k.now.operands) own (parts _ true (fine c declared k r line (Take x) is)).0 (tt, here c declared k r line) unread;
+          callers = r.callers;
+          kept = r.kept;
+        },
+        moves_on (same_turns c declared k r line) (omega arith) down,
+      )
     where
       unread : (y : Variable) → IsOwn y → held_in own y ≡ Gone → ReadLater k.now.body r.now.body y (suc k.now.at) → ⊥
       unread y y_mine gone read = go (gone_after x y k.now.own (subst (λ cells. held_in cells y ≡ Gone) taken gone))

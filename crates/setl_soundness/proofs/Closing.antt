@@ -1,20 +1,19 @@
 -- The code of a formed program whose names are there is closed.
-use Rattle.std.proofs.Common.{◌≡◌, ◌<◌, ◌≤◌, ℕ, zero, suc, ◌+◌, true, false, List, [], ◌∷◌, ◌++◌, map, length, Option, Some, None, refl, sym, ap, ◌∙◌, subst, arith}
+use Rattle.std.proofs.Common.{◌≡◌, ◌<◌, ℕ, zero, suc, ◌+◌, true, false, List, [], ◌∷◌, ◌++◌, map, length, Option, Some, None, refl, ap, subst, arith}
 use Rattle.std.specs.Prelude.{slice_get}
 use Rattle.std.proofs.lemmas.Option.{slice_get_within}
 use Rattle.setl_run.specs.Variable.{Variable, Global}
 use Rattle.setl_program.specs.Program.{Block, Parameter, Procedure, Program}
 use Rattle.setl_program.specs.Formed.{FormedBlock, Formed}
 use Rattle.setl_program.specs.FormedLaws.{formed_at}
-use Rattle.setl_code.specs.Code.{Instr, Push, PushAtom, PushEof, Load, Take, StoreIn, Operate, Alter, Decides, TestBool, Unless, Jump, DropTop, DupTop, PartsOf, BeginOver, NextOr, BeginOf, AddBelow, LeaveAll, PayRound, CallBody, ReturnTop, KeepAll, GoBack, PrintTop, ReadOne, StopRun, Step, Body, Code}
-use Rattle.setl_code.specs.Piece.{Labels, no_loop, steps_of, Is, Laid}
+use Rattle.setl_code.specs.Code.{Instr, Push, Load, Take, StoreIn, Alter, Decides, Unless, Jump, NextOr, CallBody, ReturnTop, StopRun, Step, Body, Code}
+use Rattle.setl_code.specs.Piece.{no_loop, steps_of, Is, Laid}
 use Rattle.setl_code.specs.Generated.{block, main_code, procedure_code}
 use Rattle.setl_code.specs.CodeOf.{code_of, main_body, procedure_body}
 use Rattle.setl_code.specs.Names.{in_block, own_names}
-use Rattle.setl_code.specs.CodeCore.{variables_of}
-use Rattle.setl_code.specs.Shapes.{AResult, ACollection, AnIterator, APairIterator, Shape, outs, lead, next_outs, call_outs, handed, without_results, results}
-use Rattle.setl_code.specs.Sound.{Table, shape_at, says, all_said, is_fine, Names, HasSlot, ends_body, last_step, ClosedBody, Closed}
-use Rattle.setl_soundness.specs.Named.{AreAmong, UpdatesInBlock, NamedBlock, NamedProcedures, Named}
+use Rattle.setl_code.specs.Shapes.{AResult, ACollection, AnIterator, APairIterator, Shape, next_outs, call_outs, without_results}
+use Rattle.setl_code.specs.Sound.{shape_at, says, all_said, is_fine, Names, HasSlot, ends_body, last_step, ClosedBody, Closed}
+use Rattle.setl_soundness.specs.Named.{AreAmong, NamedBlock, NamedProcedures, Named}
 use Rattle.setl_soundness.proofs.Laying.{Entry, shapes, parts, Each, Fine}
 use Rattle.setl_soundness.proofs.Operands.{led}
 use Rattle.setl_soundness.proofs.Uses.{Each_of, Uses, block_used}

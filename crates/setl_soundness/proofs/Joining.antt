@@ -45,146 +45,80 @@ module _ {bs : List Body} {n : ℕ} where
 
   -- ---- single steps
 
-  -- a step that goes on at the next one
-  pub goes : {x y z : Option Shape} {s : Shape} {t : Shape} {line : ℕ} (i : Instr) → ((at : ℕ) → outs bs i at s ≡ Some ((at, t) ∷ [])) → ((hs : List ℕ) (h at : ℕ) → height_at hs at < h → AllLower hs h (free_successors i at)) → StaysBelow n i → IsNoTake i → Checked bs n x y z (λ a. one line i) s (Some t)
-  goes {s = s} {t = t} {line = line} i leads falls stays plain = record {
+  -- code of one step, which may name a place
+  alone : {x y z : Option Shape} {s : Shape} {o : Option Shape} (line : ℕ) (f : ℕ → Laid) (i : Labels → ℕ → Instr) → ((a at : ℕ) → past at (f a at) ≡ suc at) → ((T : List Entry) (l : Labels) (a at : ℕ) → Fine bs n T at line (i l a) → Each (Fine bs n T) l at (f a at)) → ((T : List Entry) (l : Labels) (a at h : ℕ) → Around x y z T l a h → Wants T o (past at (f a at)) h → (is_fine (shapes T) (outs bs (i l a) (suc at) s) ≡ true) × AllLower (heights T) (suc h) (free_successors (i l a) (suc at))) → ((l : Labels) (a : ℕ) → StaysBelow n (i l a) × IsNoTake (i l a)) → Checked bs n x y z f s o
+  alone {s = s} line f i behind each leads plain = record {
     size = 1;
     entries = λ h. entry s (suc h) ∷ [];
     counts = λ h. refl;
-    places = λ a at. omega arith;
-    good = λ T l a at h lies around next. (first_at s lies.0 (omega arith), record {
-      entry = entry s (suc h);
-      is = lies.0;
-      keeps = rw (leads (suc at)) (both _ true (said next) refl);
-      falls = falls (heights T) (suc h) (suc at) (lower next (omega arith));
-      below = stays;
-      no_take = plain;
-    });
+    places = λ a at. (let p1 = behind a at in omega arith);
+    good = λ T l a at h lies around next.
+        (let fine = leads T l a at h around next in
+        (first_at s lies.0 (omega arith), each T l a at (record { entry = entry s (suc h); is = lies.0; keeps = fine.0; falls = fine.1; below = (plain l a).0; no_take = (plain l a).1 })));
   }
+
+  -- a step that goes on at the next one
+  pub goes : {x y z : Option Shape} {s : Shape} {t : Shape} {line : ℕ} (i : Instr) → ((at : ℕ) → outs bs i at s ≡ Some ((at, t) ∷ [])) → ((hs : List ℕ) (h at : ℕ) → height_at hs at < h → AllLower hs h (free_successors i at)) → StaysBelow n i → IsNoTake i → Checked bs n x y z (λ a. one line i) s (Some t)
+  goes {line = line} i leads falls stays plain =
+      alone line (λ a. one line i) (λ l a. i) (λ a at. refl) (λ T l a at fine. fine)
+      (λ T l a at h around next. (rw (leads (suc at)) (both _ true (said next) refl), falls (heights T) (suc h) (suc at) (lower next (omega arith))))
+      (λ l a. (stays, plain))
 
   -- a step behind which nothing comes
   pub stops : {x y z : Option Shape} {s : Shape} {o : Option Shape} {line : ℕ} (i : Instr) → ((at : ℕ) → outs bs i at s ≡ Some []) → ((at : ℕ) → free_successors i at ≡ []) → StaysBelow n i → IsNoTake i → Checked bs n x y z (λ a. one line i) s o
-  stops {s = s} {line = line} i leads falls stays plain = record {
-    size = 1;
-    entries = λ h. entry s (suc h) ∷ [];
-    counts = λ h. refl;
-    places = λ a at. omega arith;
-    good = λ T l a at h lies around next. (first_at s lies.0 (omega arith), record {
-      entry = entry s (suc h);
-      is = lies.0;
-      keeps = rw (leads (suc at)) refl;
-      falls = rw (falls (suc at)) tt;
-      below = stays;
-      no_take = plain;
-    });
-  }
+  stops {line = line} i leads falls stays plain =
+      alone line (λ a. one line i) (λ l a. i) (λ a at. refl) (λ T l a at fine. fine)
+      (λ T l a at h around next. (rw (leads (suc at)) refl, rw (falls (suc at)) tt))
+      (λ l a. (stays, plain))
 
   -- ---- jumps
 
   pub jumps : {x y : Option Shape} {s : Shape} {o : Option Shape} {line : ℕ} → Checked bs n x y (Some s) (λ a. one line (Jump a)) s o
-  jumps {s = s} {line = line} = record {
-    size = 1;
-    entries = λ h. entry s (suc h) ∷ [];
-    counts = λ h. refl;
-    places = λ a at. omega arith;
-    good = λ T l a at h lies around next. (first_at s lies.0 (omega arith), record {
-      entry = entry s (suc h);
-      is = lies.0;
-      keeps = both _ true (said around.2) refl;
-      falls = (lower around.2 (omega arith), tt);
-      below = tt;
-      no_take = tt;
-    });
-  }
+  jumps {line = line} =
+      alone line (λ a. one line (Jump a)) (λ l a. Jump a) (λ a at. refl) (λ T l a at fine. fine)
+      (λ T l a at h around next. (both _ true (said around.2) refl, (lower around.2 (omega arith), tt)))
+      (λ l a. (tt, tt))
 
   pub jumps_behind : {y z : Option Shape} {s : Shape} {o : Option Shape} {line : ℕ} → Checked bs n (Some s) y z (λ a. jumps_out line) s o
-  jumps_behind {s = s} {line = line} = record {
-    size = 1;
-    entries = λ h. entry s (suc h) ∷ [];
-    counts = λ h. refl;
-    places = λ a at. omega arith;
-    good = λ T l a at h lies around next. (first_at s lies.0 (omega arith), record {
-      entry = entry s (suc h);
-      is = lies.0;
-      keeps = both _ true (said around.0) refl;
-      falls = (lower around.0 (omega arith), tt);
-      below = tt;
-      no_take = tt;
-    });
-  }
+  jumps_behind {line = line} =
+      alone line (λ a. jumps_out line) (λ l a. Jump l.exit) (λ a at. refl) (λ T l a at fine. fine)
+      (λ T l a at h around next. (both _ true (said around.0) refl, (lower around.0 (omega arith), tt)))
+      (λ l a. (tt, tt))
 
   pub jumps_again : {x z : Option Shape} {s : Shape} {o : Option Shape} {line : ℕ} → Checked bs n x (Some s) z (λ a. jumps_on line) s o
-  jumps_again {s = s} {line = line} = record {
-    size = 1;
-    entries = λ h. entry s (suc h) ∷ [];
-    counts = λ h. refl;
-    places = λ a at. omega arith;
-    good = λ T l a at h lies around next. (first_at s lies.0 (omega arith), record {
-      entry = entry s (suc h);
-      is = lies.0;
-      keeps = both _ true (said around.1) refl;
-      falls = (lower around.1 (omega arith), tt);
-      below = tt;
-      no_take = tt;
-    });
-  }
+  jumps_again {line = line} =
+      alone line (λ a. jumps_on line) (λ l a. Jump l.again) (λ a at. refl) (λ T l a at fine. fine)
+      (λ T l a at h around next. (both _ true (said around.1) refl, (lower around.1 (omega arith), tt)))
+      (λ l a. (tt, tt))
 
   -- a condition that goes back where it doesn't hold
   pub unless : {x y : Option Shape} {s : Shape} {line : ℕ} → Checked bs n x y (Some s) (λ a. one line (Unless a)) (AResult ∷ s) (Some s)
-  unless {s = s} {line = line} = record {
-    size = 1;
-    entries = λ h. entry (AResult ∷ s) (suc h) ∷ [];
-    counts = λ h. refl;
-    places = λ a at. omega arith;
-    good = λ T l a at h lies around next. (first_at (AResult ∷ s) lies.0 (omega arith), record {
-      entry = entry (AResult ∷ s) (suc h);
-      is = lies.0;
-      keeps = both _ _ (said next) (both _ true (said around.2) refl);
-      falls = (lower next (omega arith), (lower around.2 (omega arith), tt));
-      below = tt;
-      no_take = tt;
-    });
+  unless {line = line} =
+      alone line (λ a. one line (Unless a)) (λ l a. Unless a) (λ a at. refl) (λ T l a at fine. fine)
+      (λ T l a at h around next. (both _ _ (said next) (both _ true (said around.2) refl), (lower next (omega arith), (lower around.2 (omega arith), tt))))
+      (λ l a. (tt, tt))
+
+  -- a step that goes on at the next one or behind the code that follows
+  over_ : {x y z : Option Shape} {t w : Shape} {f : ℕ → Laid} {line : ℕ} (s : Shape) (i : ℕ → Instr) → ((T : List Entry) (at to k : ℕ) → says (shape_at (shapes T) at) t ≡ true → height_at (heights T) at < k → says (shape_at (shapes T) to) w ≡ true → height_at (heights T) to < k → (is_fine (shapes T) (outs bs (i to) at s) ≡ true) × AllLower (heights T) k (free_successors (i to) at)) → ((to : ℕ) → StaysBelow n (i to) × IsNoTake (i to)) → Checked bs n x y z f t (Some w) → Checked bs n x y z (λ a. over line i (f a)) s (Some w)
+  over_ {f = f} {line = line} s i leads plain p = record {
+    size = suc p.size;
+    entries = λ h. entry s (suc (h + p.size)) ∷ p.entries h;
+    counts = λ h. ap suc (p.counts h);
+    places = λ a at. (let p1 = p.places a (suc at) in omega arith);
+    good = λ T l a at h lies around next.
+        (let inner = p.good T l a (suc at) h lies.1 around next in
+        let to = past (suc at) (f a (suc at)) in
+        let fine = leads T (suc at) to (suc (h + p.size)) (said inner.0) (lower inner.0 (omega arith)) (said next) (lower next (omega arith)) in
+        (first_at s lies.0 (omega arith), (record { entry = entry s (suc (h + p.size)); is = lies.0; keeps = fine.0; falls = fine.1; below = (plain to).0; no_take = (plain to).1 }, inner.1)));
   }
 
   -- a condition behind whose code both ways meet
   pub over_unless : {x y z : Option Shape} {s : Shape} {f : ℕ → Laid} {line : ℕ} → Checked bs n x y z f s (Some s) → Checked bs n x y z (λ a. over line Unless (f a)) (AResult ∷ s) (Some s)
-  over_unless {s = s} {f = f} {line = line} p = record {
-    size = suc p.size;
-    entries = λ h. entry (AResult ∷ s) (suc (h + p.size)) ∷ p.entries h;
-    counts = λ h. ap suc (p.counts h);
-    places = λ a at. (let p1 = p.places a (suc at) in omega arith);
-    good = λ T l a at h lies around next.
-        (let inner = p.good T l a (suc at) h lies.1 around next in
-        (first_at (AResult ∷ s) lies.0 (omega arith),
-        (record {
-          entry = entry (AResult ∷ s) (suc (h + p.size));
-          is = lies.0;
-          keeps = both _ _ (said inner.0) (both _ true (said next) refl);
-          falls = (lower inner.0 (omega arith), (lower next (omega arith), tt));
-          below = tt;
-          no_take = tt;
-        }, inner.1)));
-  }
+  over_unless {s = s} p = over_ (AResult ∷ s) Unless (λ T at to m one low two down. (both _ _ one (both _ true two refl), (low, (down, tt)))) (λ to. (tt, tt)) p
 
   -- a connective, whose right part is left where the left one decides
   pub over_decides : {x y z : Option Shape} {s : Shape} {f : ℕ → Laid} {line : ℕ} (k : Connective) → Checked bs n x y z f s (Some (AResult ∷ s)) → Checked bs n x y z (λ a. over line (Decides k) (f a)) (AResult ∷ s) (Some (AResult ∷ s))
-  over_decides {s = s} {f = f} {line = line} k p = record {
-    size = suc p.size;
-    entries = λ h. entry (AResult ∷ s) (suc (h + p.size)) ∷ p.entries h;
-    counts = λ h. ap suc (p.counts h);
-    places = λ a at. (let p1 = p.places a (suc at) in omega arith);
-    good = λ T l a at h lies around next.
-        (let inner = p.good T l a (suc at) h lies.1 around next in
-        (first_at (AResult ∷ s) lies.0 (omega arith),
-        (record {
-          entry = entry (AResult ∷ s) (suc (h + p.size));
-          is = lies.0;
-          keeps = both _ _ (said inner.0) (both _ true (said next) refl);
-          falls = (lower inner.0 (omega arith), (lower next (omega arith), tt));
-          below = tt;
-          no_take = tt;
-        }, inner.1)));
-  }
+  over_decides {s = s} k p = over_ (AResult ∷ s) (Decides k) (λ T at to m one low two down. (both _ _ one (both _ true two refl), (low, (down, tt)))) (λ to. (tt, tt)) p
 
   -- a choice whose two ways meet behind it
   pub chooses : {x y z : Option Shape} {s t : Shape} {f g : ℕ → Laid} {line : ℕ} → Checked bs n x y z f s (Some t) → Checked bs n x y z g s (Some t) → Checked bs n x y z (λ a. either line (f a) (g a)) (AResult ∷ s) (Some t)

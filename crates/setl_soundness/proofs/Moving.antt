@@ -128,9 +128,10 @@ module _ (c : Code) (declared : List Variable) where
 
       -- a move in the activation that stores nothing
       pub lands : (said : List ℕ) (told : List Event) (to : ℕ) (s : Shape) (xs : List Operand) (w : World) → says (shape_at r.now.sound.table to) s ≡ true → HaveShape xs s → Contains (successors i (suc k.now.at)) to → ((y : Variable) → is_written i y ≡ false) → Goes w to → FineMove k r (Moves said told (at_step to xs (in_world w k)) 0 [])
-      lands said told to s xs w said_ shape within kept goes =
-          (record { sound = r.sound; globals = r.globals; now = stands to s xs k.now.own said_ shape (λ y own gone. still to within y (kept y) own gone); callers = r.callers; kept = r.kept },
-          falls w to goes)
+      lands said told to s xs w said_ shape within kept goes = (
+        record { sound = r.sound; globals = r.globals; now = stands to s xs k.now.own said_ shape (λ y own gone. still to within y (kept y) own gone); callers = r.callers; kept = r.kept },
+        falls w to goes,
+      )
 
       -- own cells after a write
       written : (x : Variable) (v : Option Datum) (y : Variable) (own : Cells) → held_in (with_held own x (There v)) y ≡ Gone → (is_variable x y ≡ false) × (held_in own y ≡ Gone)
@@ -142,27 +143,33 @@ module _ (c : Code) (declared : List Variable) where
 
       -- a store, behind which the code goes on at the next step
       pub stores : (x : Variable) (v : Option Datum) (s : Shape) (xs : List Operand) (w : World) → says (shape_at r.now.sound.table (suc k.now.at)) s ≡ true → HaveShape xs s → Contains (successors i (suc k.now.at)) (suc k.now.at) → ((y : Variable) → is_variable x y ≡ false → is_written i y ≡ false) → Goes w (suc k.now.at) → FineMove k r (store_in x line v xs (in_world w k))
-      stores (Global name) v s xs w said shape within kept goes =
-          (record {
-            sound = r.sound;
-            globals = λ y gone. r.globals y (written (Global name) v y k.globals gone).1;
-            now = stands (suc k.now.at) s xs k.now.own said shape (λ y own gone. still (suc k.now.at) within y (kept y (own_apart name y own)) own gone);
-            callers = r.callers;
-            kept = r.kept;
-          }, falls w (suc k.now.at) goes)
-      stores (Own body name) v s xs w said shape within kept goes =
-          (record {
-            sound = r.sound;
-            globals = r.globals;
-            now = stands (suc k.now.at) s xs (with_held k.now.own (Own body name) (There v)) said shape (λ y own gone. (let two = written (Own body name) v y k.now.own gone in still (suc k.now.at) within y (kept y two.0) own two.1));
-            callers = r.callers;
-            kept = r.kept;
-          }, falls w (suc k.now.at) goes)
-      stores (Bound former name) v s xs w said shape within kept goes =
-          (record {
-            sound = r.sound;
-            globals = r.globals;
-            now = stands (suc k.now.at) s xs (with_held k.now.own (Bound former name) (There v)) said shape (λ y own gone. (let two = written (Bound former name) v y k.now.own gone in still (suc k.now.at) within y (kept y two.0) own two.1));
-            callers = r.callers;
-            kept = r.kept;
-          }, falls w (suc k.now.at) goes)
+      stores (Global name) v s xs w said shape within kept goes = (
+        record {
+          sound = r.sound;
+          globals = λ y gone. r.globals y (written (Global name) v y k.globals gone).1;
+          now = stands (suc k.now.at) s xs k.now.own said shape (λ y own gone. still (suc k.now.at) within y (kept y (own_apart name y own)) own gone);
+          callers = r.callers;
+          kept = r.kept;
+        },
+        falls w (suc k.now.at) goes,
+      )
+      stores (Own body name) v s xs w said shape within kept goes = (
+        record {
+          sound = r.sound;
+          globals = r.globals;
+          now = stands (suc k.now.at) s xs (with_held k.now.own (Own body name) (There v)) said shape (λ y own gone. (let two = written (Own body name) v y k.now.own gone in still (suc k.now.at) within y (kept y two.0) own two.1));
+          callers = r.callers;
+          kept = r.kept;
+        },
+        falls w (suc k.now.at) goes,
+      )
+      stores (Bound former name) v s xs w said shape within kept goes = (
+        record {
+          sound = r.sound;
+          globals = r.globals;
+          now = stands (suc k.now.at) s xs (with_held k.now.own (Bound former name) (There v)) said shape (λ y own gone. (let two = written (Bound former name) v y k.now.own gone in still (suc k.now.at) within y (kept y two.0) own two.1));
+          callers = r.callers;
+          kept = r.kept;
+        },
+        falls w (suc k.now.at) goes,
+      )

@@ -1,5 +1,5 @@
 -- The variables that stand in a formed body are of that body, or of the whole program.
-use Rattle.std.proofs.Common.{ℕ, Bool, List, [], ◌∷◌, ◌++◌, Some, None}
+use Rattle.std.proofs.Common.{Bool, List, [], ◌∷◌, ◌++◌, Some, None}
 use Rattle.setl_run.specs.Variable.{Variable}
 use Rattle.setl_program.specs.Program.{Slots, Binding, Member, Components, Point, Expr, Literal, Undefined, Name, Apply, Connect, Choose, Former, Selection, Quantified, Call, Newat, Eof, Ok, Exprs, no_expr, more_exprs, Iterators, no_iterator, more_iterators, Condition, no_condition, only_if, Arguments, no_argument, rd_argument, wr_argument, rw_argument, Selectors, no_selector, round_selector, brace_selector, Stmt, Assign, Update, AssignParts, TakeFrom, Perform, If, For, While, Quit, Continue, Fail, Stop, Pass, Return, Print, Read, Block, no_stmt, more_stmts}
 use Rattle.setl_program.specs.Formed.{Around, FormedVariable, FormedSlots, FormedBinding, FormedExpr, FormedExprs, FormedIterators, FormedCondition, FormedArguments, FormedSelectors, FormedVariables, FormedStmt, FormedBlock}

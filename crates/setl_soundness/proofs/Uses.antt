@@ -1,5 +1,5 @@
 -- The instructions of a construct name the variables that stand in it.
-use Rattle.std.proofs.Common.{◌≡◌, ℕ, zero, suc, true, List, [], ◌∷◌, ◌++◌, Option, Some, None, refl}
+use Rattle.std.proofs.Common.{◌≡◌, ℕ, zero, suc, true, List, [], ◌∷◌, ◌++◌, Some, None, refl}
 use Rattle.setl_run.specs.Variable.{Variable}
 use Rattle.setl_program.specs.declared.kinds.Quantifier.{Quantifier}
 use Rattle.setl_program.specs.declared.kinds.Quantifier.TheVariants.{Exists, Forall, NotExists}
@@ -7,8 +7,8 @@ use Rattle.setl_program.specs.Program.{Slots, Binding, Member, Components, Point
 use Rattle.setl_model.specs.Slots.{variables_in}
 use Rattle.setl_model.specs.Iterations.{bound_by, all_bound}
 use Rattle.setl_code.specs.Code.{Alteration, Putting, Combining, TakingOut, Instr, Load, Take, StoreIn, Alter}
-use Rattle.setl_code.specs.Piece.{Labels, past, Laid, ◌⨾◌, nothing, one}
-use Rattle.setl_code.specs.Generated.{store_slots, parts, bind, clear, set_by, negated, expr, exprs, iterators, condition, arguments, selectors, alter, put, read_all, quit, stmt, block}
+use Rattle.setl_code.specs.Piece.{Labels, Laid, nothing}
+use Rattle.setl_code.specs.Generated.{store_slots, bind, clear, set_by, negated, expr, exprs, iterators, condition, arguments, selectors, alter, put, read_all, quit, stmt, block}
 use Rattle.setl_code.specs.Names.{around, in_expr, in_exprs, in_iterators, in_condition, in_arguments, in_selectors, in_stmt, in_block}
 use Rattle.setl_code.specs.Sound.{may_alter}
 use Rattle.setl_soundness.specs.Named.{UpdatesInStmt, UpdatesInBlock}

@@ -2,7 +2,7 @@
 -- operator.
 use Rattle.std.specs.Prelude.{◌≡◌, true, List, [], ◌∷◌, map}
 use Rattle.setl_run.specs.Variable.{Variable, Global, Own, Bound}
-use Rattle.setl_program.specs.Program.{Stmt, Assign, Update, AssignParts, TakeFrom, Perform, If, For, While, Quit, Continue, Fail, Stop, Pass, Return, Print, Read, Block, no_stmt, more_stmts, Procedure, Program}
+use Rattle.setl_program.specs.Program.{Stmt, Update, If, For, While, Block, no_stmt, more_stmts, Procedure, Program}
 use Rattle.setl_code.specs.Names.{is_among, in_block}
 use Rattle.setl_code.specs.Sound.{is_updating}
 

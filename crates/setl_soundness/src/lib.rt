@@ -1,9 +1,7 @@
-//! That the code of a program is sound, and that runs of sound code end and are never stuck. So are the runs of programs.
-//! No code that runs: laws alone.
+//! That the code of a program is sound, and that runs of sound code end and are never stuck. No code that runs: laws alone.
 #![tactic(auto)]
 
 ghost use Rattle.setl_soundness.specs.Claims.{StartsReady, StaysReady, ReachedAreReady, ReadyFinds, EveryCodeRunEnds, NoCodeIsStuck, CodeOfProgramsIsSound, CodeOfProgramsIsClosed};
-ghost use Rattle.setl_model.specs.Ending.{EveryRunEnds, NoneIsStuck};
 
 /// Sound code starts in a state that is ready, and each step from a ready state leads to a ready state or ends the run,
 /// which isn't stuck. So each state that a run reaches is ready. There the instruction in hand finds the operands that it
@@ -26,12 +24,3 @@ pub fn code_of_programs_is_sound()
     ensures sound { CodeOfProgramsIsSound }
     ensures closed { CodeOfProgramsIsClosed }
 {}
-
-/// Every run of a formed program ends, for every input and bound on turns, whether declarations count or not, and none is
-/// stuck.
-pub fn every_run_ends()
-    ensures ends { EveryRunEnds }
-    ensures not_stuck { NoneIsStuck }
-{
-    setl_simulation::code_means_what_the_program_means();
-}
