@@ -1,11 +1,9 @@
 -- Scopes: which former binds a name, and leaving a former.
 use Rattle.std.proofs.Common.{◌≡◌, ◌∙◌, ℕ, Bool, true, false, true≢false, cond, ◌||◌, List, [], ◌∷◌, ◌++◌, Option, Some, None, refl, sym, ap}
 use Rattle.std.specs.Option.{is_some}
-use Rattle.std.specs.List.{list_any}
 use Rattle.std.proofs.lemmas.List.Folds.{list_any-append}
 use Rattle.setl_names.specs.Names.{Name, has}
 use Rattle.setl_names.specs.Variables as meaning
-use Rattle.setl_run.specs.Variable as run
 use Rattle.setl_program.specs.Scope.{Former, Scope, in_former, names_of_formers, innermost, former_of, of_former, variable_by, variable_of}
 use Rattle.setl_elaborate.specs.Places.{variable_in, outer, inner_names, outside}
 

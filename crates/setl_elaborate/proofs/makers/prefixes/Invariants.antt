@@ -1,4 +1,4 @@
-use Rattle.std.proofs.Common.{◌≡◌, ◌≤◌, drop, take, length}
+use Rattle.std.proofs.Common.{◌≡◌, ◌≤◌, drop, length}
 use Rattle.setl_program.specs.Expressions.{prefixes}
 use Rattle.setl_program.specs.Plain.{plain_expr}
 use Rattle.setl_elaborate.proofs.makers.prefixes.Given as goal

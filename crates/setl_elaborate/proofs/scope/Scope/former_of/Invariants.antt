@@ -1,4 +1,4 @@
-use Rattle.std.proofs.Common.{◌≡◌, None, drop}
+use Rattle.std.proofs.Common.{◌≡◌, drop}
 use Rattle.setl_program.specs.Scope.{innermost, former_of}
 use Rattle.setl_elaborate.proofs.scope.Scope.former_of.Given as goal
 
