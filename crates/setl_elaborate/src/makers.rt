@@ -207,7 +207,7 @@ pub fn quantified(
     Boxed::new(alloc, Expr::Quantified(quantifier, iterators, condition))
 }
 
-/// A call of the procedure at a place.
+/// A call of the procedure at a place. Want of memory is also that the place doesn't fit 32 bits.
 pub fn call(
     alloc: Global,
     place: usize,
