@@ -13,4 +13,5 @@ pub mod Shapes
 pub mod Sound
 pub mod Ready
 pub mod Plain
+pub mod MayRun
 pub mod Worked

@@ -32,9 +32,9 @@ plain_name n (name.Former former x) = Bound former x
 abbrev pub own_variables : (body : ℕ) → List Param → List OwnName → List Variable
 own_variables n ps names = map (λ p. Own n p.name) ps ++ map (plain_name n) names
 
--- the variable at a place; behind all of them there is none, and this one stands for it
+-- the variable at a place; behind all of them there is none, and this one, which no program has, stands for it
 abbrev pub variable_at : List Variable → ℕ → Variable
-variable_at [] k = Global []
+variable_at [] k = Bound 0 []
 variable_at (x ∷ xs) zero = x
 variable_at (x ∷ xs) (suc k) = variable_at xs k
 

@@ -115,7 +115,7 @@ fn lists_two_bodies(rt: HostRuntime) -> Result<(), Fail> {
     let code = two_bodies(rt.alloc())?;
     let text = listing(rt.alloc(), &code)?;
     let want =
-        "main:\n0 call p\n1 drop\n2 stop\nproc p:\n0 str 'it''s'\n1 fromb f {} ()\n2 with f\n3 load f\n4 take x\n5 store y.2\n6 load g\n7 load \n8 int -7\n9 fold +\n10 set 0\n11 impl 12\n12 begin set step\n13 next 16\n14 newtuple\n15 false\n16 return\n";
+        "main:\n0 call p\n1 drop\n2 stop\nproc p:\n0 str 'it''s'\n1 fromb f {} ()\n2 with f\n3 load f\n4 take x\n5 store y.2\n6 load g\n7 load .0\n8 int -7\n9 fold +\n10 set 0\n11 impl 12\n12 begin set step\n13 next 16\n14 newtuple\n15 false\n16 return\n";
     assert_eq!(rt; text.as_slice(), want.as_bytes());
     Ok(())
 }

@@ -1,7 +1,7 @@
 -- Variables and bodies by their places, and that no text tells the number of a body.
 use Rattle.std.proofs.Common.{◌≡◌, ◌∙◌, ℕ, zero, suc, ◌-◌, ◌≤◌, List, [], ◌∷◌, ◌++◌, length, map, slice_get, Some, refl, ap, arith, codes}
 use Rattle.setl_tree.specs.declared.tree.Param.{Param}
-use Rattle.setl_run.specs.Variable.{Variable, Global}
+use Rattle.setl_run.specs.Variable.{Variable, Bound}
 use Rattle.setl_code.specs.declared.code.Slot.{Slot}
 use Rattle.setl_code.specs.declared.code.Slot.TheVariants as slot
 use Rattle.setl_code.specs.declared.code.OwnName.{OwnName}
@@ -21,7 +21,7 @@ module _ {A : Type 0} (f : A → Variable) where
   variable_within (y ∷ xs) zero x h = let same : y ≡ x = cc in ap f same
   variable_within (y ∷ xs) (suc k) x h = variable_within xs k x h
 
-  pub variable_past : (xs : List A) (k : ℕ) → length xs ≤ k → variable_at (map f xs) k ≡ Global []
+  pub variable_past : (xs : List A) (k : ℕ) → length xs ≤ k → variable_at (map f xs) k ≡ Bound 0 []
   variable_past [] k h = refl
   variable_past (y ∷ xs) zero h = absurd (omega arith)
   variable_past (y ∷ xs) (suc k) h = variable_past xs k (omega arith)

@@ -1,7 +1,7 @@
 //! The names of variables and of bodies.
 
-ghost use Rattle.std.specs.Prelude.{◌≡◌, ◌++◌, map, OnOk};
-ghost use Rattle.setl_run.specs.Variable.{Global};
+ghost use Rattle.std.specs.Prelude.{◌≡◌, ◌++◌, [], map, OnOk};
+ghost use Rattle.setl_run.specs.Variable.{Bound, Global};
 ghost use Rattle.setl_code.specs.Listing.{name_at, variable_text};
 ghost use Rattle.setl_code.specs.Plain.{own_variables, plain_name, plain_slot, variable_at};
 ghost use Rattle.setl_listing.specs.Parts.{bodies_of, variables_of};
@@ -11,7 +11,7 @@ use setl_code::{Body, Code, OwnName, Slot};
 use setl_tree::Text;
 use setl_value::Memory;
 
-/// Adds the name of a slot of a body. A slot behind all names has none.
+/// Adds the name of a slot of a body. A slot behind all names, which the code of a program never has, is written `.0`.
 pub fn push_variable(into: &mut Vec<u8>, code: &Code, body: &Body, slot: Slot) -> Result<(), Memory>
     ensures { OnOk result (into.new.items ≡ into.old.items ++ variable_text (plain_slot (variables_of code.now body.now) slot)) }
 {
@@ -28,7 +28,7 @@ fn push_global(into: &mut Vec<u8>, vars: &[Text], k: usize) -> Result<(), Memory
     if k < vars.len() {
         into.extend_from_slice(vars[k].bytes())
     } else {
-        Ok(())
+        push_missing(into)
     }
 }
 
@@ -51,8 +51,15 @@ fn push_name_at(into: &mut Vec<u8>, names: &[OwnName], k: usize) -> Result<(), M
     if k < names.len() {
         push_name(into, &names[k])
     } else {
-        Ok(())
+        push_missing(into)
     }
+}
+
+// Adds what stands for the name of a slot behind all names.
+fn push_missing(into: &mut Vec<u8>) -> Result<(), Memory>
+    ensures { OnOk result (into.new.items ≡ into.old.items ++ variable_text (Bound 0 [])) }
+{
+    into.extend_from_slice(b".0")
 }
 
 // Adds a name; that of a former's variable has the number of the former behind it.

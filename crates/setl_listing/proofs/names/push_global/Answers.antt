@@ -1,5 +1,4 @@
-use Rattle.std.proofs.Common.{◌≡◌, length, slice_get, Some, refl, sym, rules}
-use Rattle.std.proofs.lemmas.List.{append-nil}
+use Rattle.std.proofs.Common.{◌≡◌, length, slice_get, Some, refl, rules}
 use Rattle.std.proofs.lemmas.Option.{slice_get_read}
 use Rattle.setl_run.specs.Variable.{Global}
 use Rattle.setl_listing.proofs.Variables.{variable_within, variable_past}
@@ -13,4 +12,4 @@ returns-then-k-vars c =
     rw (variable_within Global vars c.args.k x at) (search rules)
 
 pub returns-else-k-vars : goal.returns-else-k-vars
-returns-else-k-vars c = rw (variable_past Global c.args.vars.now c.args.k c.if-k-vars.false) (sym (append-nil _))
+returns-else-k-vars c = rw (variable_past Global c.args.vars.now c.args.k c.if-k-vars.false) c.push_missing.ensures

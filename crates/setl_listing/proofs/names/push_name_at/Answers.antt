@@ -1,5 +1,4 @@
-use Rattle.std.proofs.Common.{◌≡◌, length, slice_get, Some, refl, sym}
-use Rattle.std.proofs.lemmas.List.{append-nil}
+use Rattle.std.proofs.Common.{◌≡◌, length, slice_get, Some, refl}
 use Rattle.std.proofs.lemmas.Option.{slice_get_read}
 use Rattle.setl_code.specs.Plain.{plain_name}
 use Rattle.setl_listing.proofs.Variables.{variable_within, variable_past}
@@ -13,4 +12,4 @@ returns-then-k-names c =
     rw (variable_within (plain_name 0) names c.args.k x at) c.push_name.ensures
 
 pub returns-else-k-names : goal.returns-else-k-names
-returns-else-k-names c = rw (variable_past (plain_name 0) c.args.names.now c.args.k c.if-k-names.false) (sym (append-nil _))
+returns-else-k-names c = rw (variable_past (plain_name 0) c.args.names.now c.args.k c.if-k-names.false) c.push_missing.ensures
