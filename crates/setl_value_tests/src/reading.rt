@@ -119,8 +119,7 @@ fn an_input_fails_at_each_read(rt: HostRuntime) -> Result<(), Fail> {
         (2, "SS"),
         (3, "12 SS"),
         (4, "12 {3} SS"),
-        (5, "12 {3} .S"),
-        (6, "12 {3} .."),
+        (5, "12 {3} .."),
     ] {
         let all = read_in_pieces(alloc, "12 {3}", 2, vec![in alloc; failing]?)?;
         assert_eq!(rt; all.as_slice(), expected.as_bytes(), "failing at {failing}");
