@@ -1,6 +1,7 @@
 pub mod Program
 pub mod Source
 pub mod Formed
+pub mod Placed
 pub mod Numbered
 pub mod Lists
 pub mod Scope
