@@ -1,2 +1,4 @@
 pub mod Kept
 pub mod Fine
+pub mod Agreeing
+pub mod Parts
