@@ -17,7 +17,7 @@ use Rattle.setl_program.specs.declared.kinds.Source.TheVariants.{Values}
 use Rattle.setl_program.specs.Program.{Binding, Expr, Exprs, Iterators}
 use Rattle.setl_program.specs.Formed.{number_of, parts_of_source, parts_of, HasIterator}
 use Rattle.setl_program.specs.Lists.{exprs_of, iterators_of, condition_of}
-use Rattle.setl_program.specs.Numbered.{Numbered}
+use Rattle.setl_program.specs.Numbered.{Numbered, pure}
 use Rattle.setl_program.specs.Scope.{Scope, in_former, bound_by, binding_of}
 use Rattle.setl_program.specs.Operators.{binary, quantifier}
 use Rattle.setl_program.specs.Expressions as q
@@ -99,6 +99,11 @@ module _ {c : Context} where
 
   pub named_fine : (f : Word) (s : Scope) → Within c s → Fine c (q.named f s)
   named_fine f s w = fine_name (variable_fine f w)
+
+  pub named_agrees : (x : Word) → Agree c (record { standing = n.named x; name = Some x }) (record (q.part_by (λ s. pure (q.named x s))) { name = Some x })
+  named_agrees x =
+      let h = part_agrees {st = n.named x} (record { at = λ p k s w m. named_fine x s w }) in
+      record { term = h.term; source = h.source; name = refl }
 
   pub inside_agrees : (k : Collection) {st : Standing} {x : q.Inside} → AgreeInside c st x → Agree c (n.unnamed st) (q.inside x k)
   inside_agrees k h = record { term = h.term k; source = h.source k; name = refl }
