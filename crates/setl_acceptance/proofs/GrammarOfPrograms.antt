@@ -1,20 +1,44 @@
 -- Each statement that the grammar derives is good, and so are the bodies of a program that it derives.
-use Rattle.std.proofs.Common.{◌≡◌, ℕ, zero, suc, ◌-◌, List, [], ◌∷◌, Option, Some, None}
+use Rattle.std.proofs.Common.{◌≡◌, ℕ, zero, suc, ◌-◌, true, refl, List, [], ◌∷◌, Option, Some, None}
 use Rattle.setl_tree.specs.declared.kind.Kind.{Kind}
 use Rattle.setl_tree.specs.declared.kind.Kind.TheVariants as k
+use Rattle.setl_tree.specs.declared.expr.BinaryOp.{BinaryOp}
 use Rattle.setl_tree.specs.declared.stmt.Stmt.{Stmt}
 use Rattle.setl_tree.specs.declared.tree.Proc.{Proc}
 use Rattle.setl_tree.specs.declared.tree.Tree.{Tree}
 use Rattle.setl_tree.specs.Lang.{Lang}
+use Rattle.setl_tree.specs.Operators.{update_op}
 use Rattle.setl_tree.specs.Expressions.{nested}
 use Rattle.setl_tree.specs.Statements as g
 use Rattle.setl_tree.specs.Statements.{simple}
 use Rattle.setl_tree.specs.Programs as p
+use Rattle.setl_program.specs.Operators.{updating}
+use Rattle.setl_program.specs.Updating.{is_updating}
 use Rattle.setl_acceptance.proofs.Languages.{Each, SomeEach, Maybe, Keeps, anything, k_any, k_pure, k_never, k_then, k_or, k_one_of, k_many, k_optional, k_past, k_separated, k_listed, k_lined}
 use Rattle.setl_acceptance.proofs.Fine.{Context}
 use Rattle.setl_acceptance.proofs.Trees.{Good, GoodSelector, selector_round, selector_braces}
 use Rattle.setl_acceptance.proofs.GrammarOfExpressions.{iters_keeps, nested_keeps, expr_keeps}
 use Rattle.setl_acceptance.proofs.StatementTrees.{GoodKind, GoodStmt, GoodBranch, GoodPlace, good_stmt, good_branch, is_assign, is_update, is_tuple_assign, is_take, is_call, is_if, is_for, is_while, is_quit, is_continue, is_fail, is_stop, is_pass, is_return, is_print, is_read}
+
+-- the operators that the grammar has in an update
+abbrev MayUpdate : BinaryOp → Type 0
+MayUpdate f = is_updating (updating f) ≡ true
+
+updates_only : (kind : Kind) → Maybe MayUpdate (update_op kind)
+unfolding update_op
+updates_only k.With = refl
+updates_only k.Less = refl
+updates_only k.Lessf = refl
+updates_only k.Npow = refl
+updates_only k.Plus = refl
+updates_only k.Minus = refl
+updates_only k.Max = refl
+updates_only k.Min = refl
+updates_only k.Star = refl
+updates_only k.Div = refl
+updates_only k.Mod = refl
+updates_only k.Power = refl
+updates_only _ = tt
 
 module _ (c : Context) where
   simple_good : (kind : Kind) → Maybe (GoodKind c) (simple kind)
@@ -46,7 +70,7 @@ module _ (c : Context) where
       kind_keeps : Keeps (g.stmt_kind room deep) (GoodKind c)
       unfolding g.stmt_kind
       kind_keeps = k_or (k_then place_keeps (λ t gt. k_past (k_then (expr_keeps c room) (λ x gx. k_past (k_pure (is_assign c t x gt gx))))))
-          (k_or (k_then place_keeps (λ t gt. k_then k_any (λ o _. k_past (k_then (expr_keeps c room) (λ x gx. k_past (k_pure (is_update c t o x gt gx)))))))
+          (k_or (k_then place_keeps (λ t gt. k_then (k_one_of update_op updates_only) (λ o may. k_past (k_then (expr_keeps c room) (λ x gx. k_past (k_pure (is_update c t o x may gt gx)))))))
           (k_or (k_then k_any (λ slots _. k_past (k_then (expr_keeps c room) (λ x gx. k_past (k_pure (is_tuple_assign c slots x gx))))))
           (k_or (k_then k_any (λ x _. k_then k_any (λ w _. k_then place_keeps (λ t gt. k_past (k_pure (is_take c x w t gt))))))
           (k_or (k_then k_any (λ f _. k_past (k_then (k_listed deep_expr) (λ xs gs. k_past (k_past (k_pure (is_call c f xs gs)))))))

@@ -1,5 +1,5 @@
 -- Each form of a statement's tree: what stands in it agrees with what it becomes.
-use Rattle.std.proofs.Common.{◌≡◌, ℕ, List, [], ◌∷◌, ◌++◌, map, Option, Some, None, option_map, sym, ap, subst₂, ◌∙◌}
+use Rattle.std.proofs.Common.{◌≡◌, ℕ, true, List, [], ◌∷◌, ◌++◌, map, Option, Some, None, option_map, sym, ap, subst₂, ◌∙◌}
 use Rattle.setl_tree.specs.declared.expr.BinaryOp.{BinaryOp}
 use Rattle.setl_tree.specs.declared.expr.Expr.{Expr}
 use Rattle.setl_tree.specs.declared.expr.Iter.{Iter}
@@ -16,6 +16,8 @@ use Rattle.setl_names.specs.Places.{in_statement}
 use Rattle.setl_names.specs.declared.occurrence.What.TheVariants as what
 use Rattle.setl_names.specs.Occurrences as n
 use Rattle.setl_names.specs.Statements as ns
+use Rattle.setl_program.specs.Operators.{updating}
+use Rattle.setl_program.specs.Updating.{is_updating}
 use Rattle.setl_program.specs.Expressions as q
 use Rattle.setl_program.specs.Statements as qs
 use Rattle.setl_acceptance.proofs.Languages.{Each, SomeEach, Maybe}
@@ -70,8 +72,8 @@ module _ (c : Context) where
   pub is_assign : (t : Target) (x : Expr) → GoodPlace t → Good c x → GoodKind (st.Assign t x)
   is_assign t x g h = kind_by (st.Assign t x) _ _ (ap ns.kind_told (sym (st.rolls-Assign t x)) ∙ fold-roll-StmtKind ns.Placed ns.Placed ns.Told ns.kind_step ns.branch_step ns.stmt_step (StmtKind-F.Assign t x)) (ap qs.kind_of (sym (st.rolls-Assign t x)) ∙ fold-roll-StmtKind qs.Kind qs.Guarded qs.Lined qs.kind_step qs.branch_step qs.stmt_step (StmtKind-F.Assign t x)) (assignment_agrees t (n.part x) (q.part_of x) (selectors_good c t.selectors g) h)
 
-  pub is_update : (t : Target) (f : BinaryOp) (x : Expr) → GoodPlace t → Good c x → GoodKind (st.Update t f x)
-  is_update t f x g h = kind_by (st.Update t f x) _ _ (ap ns.kind_told (sym (st.rolls-Update t f x)) ∙ fold-roll-StmtKind ns.Placed ns.Placed ns.Told ns.kind_step ns.branch_step ns.stmt_step (StmtKind-F.Update t f x)) (ap qs.kind_of (sym (st.rolls-Update t f x)) ∙ fold-roll-StmtKind qs.Kind qs.Guarded qs.Lined qs.kind_step qs.branch_step qs.stmt_step (StmtKind-F.Update t f x)) (update_agrees t f (n.part x) (q.part_of x) (selectors_good c t.selectors g) h)
+  pub is_update : (t : Target) (f : BinaryOp) (x : Expr) → is_updating (updating f) ≡ true → GoodPlace t → Good c x → GoodKind (st.Update t f x)
+  is_update t f x may g h = kind_by (st.Update t f x) _ _ (ap ns.kind_told (sym (st.rolls-Update t f x)) ∙ fold-roll-StmtKind ns.Placed ns.Placed ns.Told ns.kind_step ns.branch_step ns.stmt_step (StmtKind-F.Update t f x)) (ap qs.kind_of (sym (st.rolls-Update t f x)) ∙ fold-roll-StmtKind qs.Kind qs.Guarded qs.Lined qs.kind_step qs.branch_step qs.stmt_step (StmtKind-F.Update t f x)) (update_agrees t f (n.part x) (q.part_of x) may (selectors_good c t.selectors g) h)
 
   pub is_tuple_assign : (slots : List Slot) (x : Expr) → Good c x → GoodKind (st.TupleAssign slots x)
   is_tuple_assign slots x h = kind_by (st.TupleAssign slots x) _ _ (ap ns.kind_told (sym (st.rolls-TupleAssign slots x)) ∙ fold-roll-StmtKind ns.Placed ns.Placed ns.Told ns.kind_step ns.branch_step ns.stmt_step (StmtKind-F.TupleAssign slots x)) (ap qs.kind_of (sym (st.rolls-TupleAssign slots x)) ∙ fold-roll-StmtKind qs.Kind qs.Guarded qs.Lined qs.kind_step qs.branch_step qs.stmt_step (StmtKind-F.TupleAssign slots x)) (parts_agree slots (n.part x) (q.part_of x) h)

@@ -17,6 +17,8 @@ use Rattle.setl_run.specs.Variable.{Variable}
 use Rattle.setl_program.specs.Program.{Place as Changed, Stmt, Assign, Update, AssignParts, TakeFrom, Perform, If, For, While, Quit, Continue, Fail, Stop, Pass, Return, Print, Read, Block, no_stmt, more_stmts, Expr, Selectors}
 use Rattle.setl_program.specs.Formed.{FormedStmt, FormedBlock, FormedVariables, InProcedure, IsInLoop}
 use Rattle.setl_program.specs.Placed.{PlacedStmt, PlacedBlock, PlacedVariables}
+use Rattle.setl_program.specs.Updating.{is_updating, UpdatingStmt, UpdatingBlock}
+use Rattle.setl_program.specs.Operators.{updating}
 use Rattle.setl_program.specs.Lists.{exprs_of, iterators_of, condition_of, all_selectors, block_of, otherwise}
 use Rattle.setl_program.specs.Scope.{Scope, variable_of, slot_variable, procedure_of}
 use Rattle.setl_program.specs.Expressions as q
@@ -31,10 +33,12 @@ module _ (c : Context) where
   pub record FineStmt (l : Bool) (st : Stmt) : Type 0 where
     pub formed : FormedStmt c.around l st
     pub placed : PlacedStmt c.vars st
+    pub updating : UpdatingStmt st
 
   pub record FineBlock (l : Bool) (b : Block) : Type 0 where
     pub formed : FormedBlock c.around l b
     pub placed : PlacedBlock c.vars b
+    pub updating : UpdatingBlock b
 
   record FinePlace (p : Changed) : Type 0 where
     pub variable : FineVariable c p.variable
@@ -91,8 +95,8 @@ module _ {c : Context} where
   -- ---- blocks
 
   pub block_fine : {l : Bool} (xs : List (ℕ × Stmt)) → FineStmts c l xs → FineBlock c l (block_of xs)
-  block_fine [] h = record { formed = tt; placed = tt }
-  block_fine (x ∷ xs) h = let rest = block_fine xs h.1 in record { formed = (h.0.formed, rest.formed); placed = (h.0.placed, rest.placed) }
+  block_fine [] h = record { formed = tt; placed = tt; updating = tt }
+  block_fine (x ∷ xs) h = let rest = block_fine xs h.1 in record { formed = (h.0.formed, rest.formed); placed = (h.0.placed, rest.placed); updating = (h.0.updating, rest.updating) }
 
   pub statements_fine : (as_ : List ns.Told) (xs : List qs.Lined) → AllStmts c as_ xs → (w : Spot) → Kept c.procs (ns.all_told as_ w) → InBody c w → (s : Scope) → Within c s → (m : ℕ) → FineStmts c w.in_loop (qs.statements xs s m).0
   statements_fine [] [] h w k i s v m = tt
@@ -129,15 +133,15 @@ module _ {c : Context} where
     at = λ p w k i line s v m.
         let place = place_fine t g p (first (ns.target t p) (a.standing p) k) s v m in
         let value = h.term.at p (second (ns.target t p) (a.standing p) k) s v _ in
-        record { formed = (place.variable.formed, place.selectors.formed, value.formed); placed = ((place.variable.placed, place.selectors.placed), value.placed) };
+        record { formed = (place.variable.formed, place.selectors.formed, value.formed); placed = ((place.variable.placed, place.selectors.placed), value.placed); updating = tt };
   }
 
-  pub update_agrees : (t : Target) (f : BinaryOp) (a : n.Part) (x : q.Part) → AllBehind c (map n.behind t.selectors) (map q.behind_of t.selectors) → Agree c a x → AgreeKind c (λ p w. ns.target t p ++ a.standing p) (λ line. qs.update t f x)
-  update_agrees t f a x g h = record {
+  pub update_agrees : (t : Target) (f : BinaryOp) (a : n.Part) (x : q.Part) → is_updating (updating f) ≡ true → AllBehind c (map n.behind t.selectors) (map q.behind_of t.selectors) → Agree c a x → AgreeKind c (λ p w. ns.target t p ++ a.standing p) (λ line. qs.update t f x)
+  update_agrees t f a x may g h = record {
     at = λ p w k i line s v m.
         let place = place_fine t g p (first (ns.target t p) (a.standing p) k) s v m in
         let value = h.term.at p (second (ns.target t p) (a.standing p) k) s v _ in
-        record { formed = (place.variable.formed, place.selectors.formed, value.formed); placed = (updates f, (place.variable.placed, place.selectors.placed), value.placed) };
+        record { formed = (place.variable.formed, place.selectors.formed, value.formed); placed = (updates f, (place.variable.placed, place.selectors.placed), value.placed); updating = may };
   }
 
   pub parts_agree : (slots : List Slot) (a : n.Part) (x : q.Part) → Agree c a x → AgreeKind c (λ p w. ns.tuple_target slots p ++ a.standing p) (λ line. qs.parts_assignment slots x)
@@ -145,7 +149,7 @@ module _ {c : Context} where
     at = λ p w k i line s v m.
         let all = slots_fine {c = c} (variable_of s) slots (λ y. variable_fine y v) in
         let value = h.term.at p (second (ns.tuple_target slots p) (a.standing p) k) s v m in
-        record { formed = (all.formed, value.formed); placed = (all.placed, value.placed) };
+        record { formed = (all.formed, value.formed); placed = (all.placed, value.placed); updating = tt };
   }
 
   pub taking_agrees : (y : Word) (end : FromEnd) (t : Target) → AllBehind c (map n.behind t.selectors) (map q.behind_of t.selectors) → AgreeKind c (λ p w. n.named y p ++ ns.target t p) (λ line. qs.taking_from y end t)
@@ -153,14 +157,14 @@ module _ {c : Context} where
     at = λ p w k i line s v m.
         let place = place_fine t g p (second (n.named y p) (ns.target t p) k) s v m in
         let var = variable_fine {c = c} y v in
-        record { formed = (var.formed, place.variable.formed, place.selectors.formed); placed = (var.placed, (place.variable.placed, place.selectors.placed)) };
+        record { formed = (var.formed, place.variable.formed, place.selectors.formed); placed = (var.placed, (place.variable.placed, place.selectors.placed)); updating = tt };
   }
 
   called_fine : {l : Bool} (found : Option (ℕ × List Param)) (f : Word) → found_procedure c.procs f ≡ found → (as_ : List n.Part) (xs : List q.Part) → AllAgree c as_ xs → (p : Place) → Kept c.procs (n.applied f as_ p) → (s : Scope) → Within c s → (m : ℕ) → FineStmt c l (qs.called found xs s m).0
-  called_fine None f is as_ xs h p k s v m = record { formed = tt; placed = tt }
+  called_fine None f is as_ xs h p k s v m = record { formed = tt; placed = tt; updating = tt }
   called_fine (Some r) f is as_ xs h p k s v m =
       let value = found_call_fine f r.0 r.1 is as_ xs h p k s v m in
-      record { formed = value.formed; placed = value.placed }
+      record { formed = value.formed; placed = value.placed; updating = tt }
 
   pub performance_agrees : (f : Word) (as_ : List n.Part) (xs : List q.Part) → AllAgree c as_ xs → (called : Place → List Occurrence) → AgreeKind c (λ p w. called p ++ n.applied f as_ p) (λ line. qs.performance f xs)
   performance_agrees f as_ xs h called = record {
@@ -174,7 +178,7 @@ module _ {c : Context} where
   guarded_fine line a g h p w k i s v m =
       let test = h.test p w k s v m in
       let body = block_fine _ (h.body p w k i s v (g.test.term s m).1) in
-      record { before = λ rest later. record { formed = ((test.formed, body.formed, later.formed), tt); placed = ((test.placed, body.placed, later.placed), tt) } }
+      record { before = λ rest later. record { formed = ((test.formed, body.formed, later.formed), tt); placed = ((test.placed, body.placed, later.placed), tt); updating = ((body.updating, later.updating), tt) } }
 
   branches_fine : (line : ℕ) (as_ : List ns.Placed) (gs : List qs.Guarded) → AllGuarded c as_ gs → (p : Place) (w : Spot) → Kept c.procs (ns.all_branches as_ p w) → InBody c w → (s : Scope) → Within c s → (m : ℕ) → FineBranches c w.in_loop (qs.branches line gs s m).0
   branches_fine line [] [] h p w k i s v m = tt
@@ -197,7 +201,7 @@ module _ {c : Context} where
         let others = branches_fine line as_ gs h p w (first (ns.all_branches as_ p w) (ns.optional_told b w) later) i s v (qs.statements g.body s (g.test.term s m).1).1 in
         let last = block_fine _ (optional_block_fine b y j w (second (ns.all_branches as_ p w) (ns.optional_told b w) later) i s v (qs.branches line gs s (qs.statements g.body s (g.test.term s m).1).1).1) in
         let rest = otherwise_fine _ _ others last in
-        record { formed = (test.formed, body.formed, rest.formed); placed = (test.placed, body.placed, rest.placed) };
+        record { formed = (test.formed, body.formed, rest.formed); placed = (test.placed, body.placed, rest.placed); updating = (body.updating, rest.updating) };
   }
 
   -- ---- loops
@@ -215,7 +219,7 @@ module _ {c : Context} where
         let over = iterators_fine _ ((ordinary_turns_fine (t ∷ as_) ts f).at p (first turns (n.optional_part b p ++ told) k) s v m) in
         let condition = condition_fine _ ((optional_fine b y g).at p (first (n.optional_part b p) told later) s v (q.iterators ts s m).1) in
         let inner = block_fine _ (statements_fine body xs h (in_a_loop w) (second (n.optional_part b p) told later) (looping i) s v (q.optional y s (q.iterators ts s m).1).1) in
-        record { formed = (some_iterator c t as_ ts f s m, over.formed, condition.formed, inner.formed); placed = (over.placed, condition.placed, inner.placed) };
+        record { formed = (some_iterator c t as_ ts f s m, over.formed, condition.formed, inner.formed); placed = (over.placed, condition.placed, inner.placed); updating = inner.updating };
   }
 
   pub while_agrees : (a : n.Part) (x : q.Part) (body : List ns.Told) (xs : List qs.Lined) → Agree c a x → AllStmts c body xs → AgreeKind c (λ p w. a.standing p ++ ns.all_told body (in_a_loop w)) (λ line. qs.while_loop x xs)
@@ -224,25 +228,25 @@ module _ {c : Context} where
         let told = ns.all_told body (in_a_loop w) in
         let test = g.term.at p (first (a.standing p) told k) s v m in
         let inner = block_fine _ (statements_fine body xs h (in_a_loop w) (second (a.standing p) told k) (looping i) s v (x.term s m).1) in
-        record { formed = (test.formed, inner.formed); placed = (test.placed, inner.placed) };
+        record { formed = (test.formed, inner.formed); placed = (test.placed, inner.placed); updating = inner.updating };
   }
 
   -- ---- statements of one word, and the others
 
   pub quit_agrees : AgreeKind c (λ p w. ns.quit w p) (λ line s m. (Quit, m))
-  quit_agrees = record { at = λ p w k i line s v m. record { formed = loops_truly w.in_loop k.all.0; placed = tt } }
+  quit_agrees = record { at = λ p w k i line s v m. record { formed = loops_truly w.in_loop k.all.0; placed = tt; updating = tt } }
 
   pub continue_agrees : AgreeKind c (λ p w. ns.quit w p) (λ line s m. (Continue, m))
-  continue_agrees = record { at = λ p w k i line s v m. record { formed = loops_truly w.in_loop k.all.0; placed = tt } }
+  continue_agrees = record { at = λ p w k i line s v m. record { formed = loops_truly w.in_loop k.all.0; placed = tt; updating = tt } }
 
   pub fail_agrees : AgreeKind c (λ p w. []) (λ line s m. (Fail, m))
-  fail_agrees = record { at = λ p w k i line s v m. record { formed = tt; placed = tt } }
+  fail_agrees = record { at = λ p w k i line s v m. record { formed = tt; placed = tt; updating = tt } }
 
   pub stop_agrees : AgreeKind c (λ p w. []) (λ line s m. (Stop, m))
-  stop_agrees = record { at = λ p w k i line s v m. record { formed = tt; placed = tt } }
+  stop_agrees = record { at = λ p w k i line s v m. record { formed = tt; placed = tt; updating = tt } }
 
   pub pass_agrees : AgreeKind c (λ p w. []) (λ line s m. (Pass, m))
-  pass_agrees = record { at = λ p w k i line s v m. record { formed = tt; placed = tt } }
+  pass_agrees = record { at = λ p w k i line s v m. record { formed = tt; placed = tt; updating = tt } }
 
   returned_fine : (e : Option Expr) → FineOption c e → Fine c (qs.returned e)
   returned_fine None h = fine_undefined
@@ -252,14 +256,14 @@ module _ {c : Context} where
   return_agrees b y h = record {
     at = λ p w k i line s v m.
         let value = returned_fine _ ((optional_fine b y h).at p (second (n.at p (what.Return w.in_procedure) ∷ []) (n.optional_part b p) k) s v m) in
-        record { formed = (i.is k.all.0, value.formed); placed = value.placed };
+        record { formed = (i.is k.all.0, value.formed); placed = value.placed; updating = tt };
   }
 
   pub print_agrees : (as_ : List n.Part) (xs : List q.Part) → AllAgree c as_ xs → AgreeKind c (λ p w. n.all_parts as_ p) (λ line. qs.print_of xs)
   print_agrees as_ xs h = record {
     at = λ p w k i line s v m.
         let all = exprs_fine _ ((terms_fine as_ xs h).at p k s v m) in
-        record { formed = all.formed; placed = all.placed };
+        record { formed = all.formed; placed = all.placed; updating = tt };
   }
 
   variables_formed : (xs : List Word) (s : Scope) → Within c s → FormedVariables c.around.body (map (variable_of s) xs)
@@ -271,4 +275,4 @@ module _ {c : Context} where
   variables_placed (x ∷ xs) s v = ((variable_fine {c = c} x v).placed, variables_placed xs s v)
 
   pub read_agrees : (xs : List Word) → AgreeKind c (λ p w. n.all_named xs p) (λ line. qs.read_of xs)
-  read_agrees xs = record { at = λ p w k i line s v m. record { formed = variables_formed xs s v; placed = variables_placed xs s v } }
+  read_agrees xs = record { at = λ p w k i line s v m. record { formed = variables_formed xs s v; placed = variables_placed xs s v; updating = tt } }

@@ -15,10 +15,11 @@ use Rattle.setl_names.specs.Variables.{var_names}
 use Rattle.setl_program.specs.Program.{Arguments, Procedure}
 use Rattle.setl_program.specs.Formed.{PassedAs, Passed, FormedProcedures, Formed}
 use Rattle.setl_program.specs.Placed.{PlacedProcedures, Placed}
+use Rattle.setl_program.specs.Updating.{UpdatingProcedures, Updating}
 use Rattle.setl_program.specs.Scope.{Scope}
 use Rattle.setl_program.specs.Statements as qs
 use Rattle.setl_program.specs.ProgramOf.{main_scope, in_body, parameter_of, procedure_of_tree, procedures_from, program_of}
-use Rattle.setl_acceptance.specs.Claims.{IsAccepted, AcceptedIsFormed, AcceptedIsPlaced}
+use Rattle.setl_acceptance.specs.Claims.{IsAccepted, AcceptedIsFormed, AcceptedIsPlaced, AcceptedIsUpdating}
 use Rattle.setl_acceptance.proofs.Kept.{Kept, kept, no_first, no_second}
 use Rattle.setl_acceptance.proofs.Heads.{has_in_order, params_differ, vars_differ, no_breaks}
 use Rattle.setl_acceptance.proofs.Languages.{Each}
@@ -89,17 +90,23 @@ module _ (t : Tree) where
   record FineProcedures (m : ℕ) (ps : List Procedure) : Type 0 where
     pub formed : FormedProcedures (procedures_from (main_scope t) 1 t.procs) m ps
     pub placed : PlacedProcedures (var_names t.vars) ps
+    pub updating : UpdatingProcedures ps
 
   procedures_fine : (m : ℕ) (ps : List Proc) → Each GoodProc ps → param_breaks t.procs ps ≡ [] → all_body_breaks t.procs (map proc_body ps) ≡ [] → FineProcedures (suc m) (procedures_from (main_scope t) (suc m) ps)
-  procedures_fine m [] good params inner = record { formed = tt; placed = tt }
+  procedures_fine m [] good params inner = record { formed = tt; placed = tt; updating = tt }
   procedures_fine m (p ∷ ps) good params inner =
       let k = kept t.procs (occurrences (proc_body p)) (no_first (body_breaks t.procs (proc_body p)) (all_body_breaks t.procs (map proc_body ps)) inner) in
       let here = body_fine (suc m) true p.body good.0 k (in_procedure m) (in_body (suc m) p.params (main_scope t)) (within_body (suc m) p.params) in
       let differ = params_differ t.procs p.params (no_first (list_breaks t.procs p.params) (param_breaks t.procs ps) params) in
       let rest = procedures_fine (suc m) ps good.1 (no_second (list_breaks t.procs p.params) (param_breaks t.procs ps) params) (no_second (body_breaks t.procs (proc_body p)) (all_body_breaks t.procs (map proc_body ps)) inner) in
-      record { formed = (here.formed, rest.formed); placed = (differ, here.placed, rest.placed) }
+      record { formed = (here.formed, rest.formed); placed = (differ, here.placed, rest.placed); updating = (here.updating, rest.updating) }
 
-  whole : GoodTree t → breaks t ≡ [] → Formed (program_of t) × Placed (program_of t)
+  record FineProgram : Type 0 where
+    pub formed : Formed (program_of t)
+    pub placed : Placed (program_of t)
+    pub updating : Updating (program_of t)
+
+  whole : GoodTree t → breaks t ≡ [] → FineProgram
   whole good none =
       let heads = no_first (head_breaks t) (all_body_breaks t.procs (bodies t)) none in
       let inner = no_second (head_breaks t) (all_body_breaks t.procs (bodies t)) none in
@@ -107,13 +114,20 @@ module _ (t : Tree) where
       let k = kept t.procs (occurrences (main_body t)) (no_first (body_breaks t.procs (main_body t)) (all_body_breaks t.procs (map proc_body t.procs)) inner) in
       let main = body_fine 0 false t.body good.0 k in_main (main_scope t) within_main in
       let procs = procedures_fine 0 t.procs good.1 (no_second (var_breaks t.procs t.vars) (param_breaks t.procs t.procs) later) (no_second (body_breaks t.procs (main_body t)) (all_body_breaks t.procs (map proc_body t.procs)) inner) in
-      ((main.formed, procs.formed), (vars_differ t.procs t.vars (no_first (var_breaks t.procs t.vars) (param_breaks t.procs t.procs) later), main.placed, procs.placed))
+      record {
+        formed = (main.formed, procs.formed);
+        placed = (vars_differ t.procs t.vars (no_first (var_breaks t.procs t.vars) (param_breaks t.procs t.procs) later), main.placed, procs.placed);
+        updating = (main.updating, procs.updating);
+      }
 
-both : (t : Tree) → IsAccepted t → Formed (program_of t) × Placed (program_of t)
-both t h = whole t ((program_keeps h.derived.0).at h.tokens t h.derived.1) (no_breaks (breaks t) h.sound)
+accepted : (t : Tree) → IsAccepted t → FineProgram t
+accepted t h = whole t ((program_keeps h.derived.0).at h.tokens t h.derived.1) (no_breaks (breaks t) h.sound)
 
 pub accepted_is_formed : AcceptedIsFormed
-accepted_is_formed t h = (both t h).0
+accepted_is_formed t h = (accepted t h).formed
 
 pub accepted_is_placed : AcceptedIsPlaced
-accepted_is_placed t h = (both t h).1
+accepted_is_placed t h = (accepted t h).placed
+
+pub accepted_is_updating : AcceptedIsUpdating
+accepted_is_updating t h = (accepted t h).updating

@@ -7,6 +7,7 @@ use Rattle.setl_names.specs.Breaks.{breaks, first_break}
 use Rattle.setl_program.specs.ProgramOf.{program_of}
 use Rattle.setl_program.specs.Formed.{Formed}
 use Rattle.setl_program.specs.Placed.{Placed}
+use Rattle.setl_program.specs.Updating.{Updating}
 
 -- some tokens derive the tree, and it breaks no rule
 pub record IsAccepted (tree : Tree) : Type 0 where
@@ -19,3 +20,6 @@ AcceptedIsFormed = (t : Tree) → IsAccepted t → Formed (program_of t)
 
 abbrev pub AcceptedIsPlaced : Type 0
 AcceptedIsPlaced = (t : Tree) → IsAccepted t → Placed (program_of t)
+
+abbrev pub AcceptedIsUpdating : Type 0
+AcceptedIsUpdating = (t : Tree) → IsAccepted t → Updating (program_of t)

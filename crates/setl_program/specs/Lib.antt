@@ -2,6 +2,7 @@ pub mod Program
 pub mod Source
 pub mod Formed
 pub mod Placed
+pub mod Updating
 pub mod Numbered
 pub mod Lists
 pub mod Scope
