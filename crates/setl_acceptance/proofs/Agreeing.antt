@@ -1,14 +1,12 @@
 -- What stands in a part of a tree, beside what the part becomes: where the first breaks no rule, the second is fine.
 use Rattle.std.proofs.Common.{◌≡◌, ℕ, Bool, List, [], ◌∷◌, Option, Some, None}
 use Rattle.setl_tree.specs.declared.expr.BinaryOp.{BinaryOp}
-use Rattle.setl_names.specs.Names.{Name as Word}
 use Rattle.setl_names.specs.declared.occurrence.Occurrence.{Occurrence}
 use Rattle.setl_names.specs.Places.{Place}
 use Rattle.setl_names.specs.Occurrences as n
 use Rattle.setl_names.specs.Occurrences.{Standing}
 use Rattle.setl_program.specs.declared.kinds.Collection.{Collection}
 use Rattle.setl_program.specs.Program.{Expr, Selectors}
-use Rattle.setl_program.specs.Numbered.{Numbered}
 use Rattle.setl_program.specs.Scope.{Scope}
 use Rattle.setl_program.specs.Expressions as q
 use Rattle.setl_acceptance.proofs.Kept.{Kept}

@@ -1,5 +1,5 @@
 -- Parts of programs that are formed and placed, and how they are put together.
-use Rattle.std.proofs.Common.{◌≡◌, ◌≤◌, ℕ, suc, Bool, true, false, List, [], ◌∷◌, ◌++◌, map, length, slice_get, if◌then◌else◌, Option, Some, None, refl, sym, ap, subst, ◌∙◌, arith}
+use Rattle.std.proofs.Common.{◌≡◌, ◌≤◌, ℕ, Bool, true, false, List, [], ◌∷◌, ◌++◌, map, length, slice_get, if◌then◌else◌, Option, Some, None, refl}
 use Rattle.setl_value.specs.Datum.{Datum}
 use Rattle.setl_tree.specs.declared.expr.BinaryOp.{BinaryOp}
 use Rattle.setl_tree.specs.declared.expr.BinaryOp.TheVariants as op
@@ -19,14 +19,13 @@ use Rattle.setl_names.specs.Names.{Name as Word, has}
 use Rattle.setl_names.specs.Procedures.{found_procedure}
 use Rattle.setl_names.specs.Variables as meaning
 use Rattle.setl_map.specs.declared.Operator.{Operator}
-use Rattle.setl_map.specs.declared.Operator.TheVariants as o
 use Rattle.setl_map.specs.Operators.{operand_count, TakesOperands}
-use Rattle.setl_run.specs.Variable.{Variable, Global, Own, Bound as OfFormer}
+use Rattle.setl_run.specs.Variable.{Variable, Own}
 use Rattle.setl_program.specs.declared.kinds.Connective.{Connective}
 use Rattle.setl_program.specs.declared.kinds.Collection.{Collection}
 use Rattle.setl_program.specs.declared.kinds.Quantifier.{Quantifier}
 use Rattle.setl_program.specs.declared.kinds.Source.{Source}
-use Rattle.setl_program.specs.Program.{Slots, Binding, Member, Components, Point, begin_of, Expr, Literal, Undefined, Name, Apply, Connect, Choose, Former, Selection, Quantified, Call, Newat, Eof, Ok, Exprs, no_expr, more_exprs, Iterators, no_iterator, more_iterators, Condition, no_condition, only_if, Arguments, Selectors}
+use Rattle.setl_program.specs.Program.{Slots, Binding, begin_of, Expr, Literal, Undefined, Name, Apply, Connect, Choose, Former, Selection, Quantified, Call, Newat, Eof, Ok, Exprs, Iterators, Condition, Arguments, Selectors}
 use Rattle.setl_program.specs.Formed.{Around, FormedVariable, FormedSlots, FormedBinding, BindsMembers, parts_of_source, parts_of, HasIterator, number_of, PassedAs, Passed, FormedExpr, FormedExprs, FormedIterators, FormedCondition, FormedArguments, FormedSelectors}
 use Rattle.setl_program.specs.Placed.{PlacedVariable, PlacedSlots, PlacedBinding, PlacedExpr, PlacedExprs, PlacedIterators, PlacedCondition, PlacedArguments, PlacedSelectors}
 use Rattle.setl_program.specs.Lists.{exprs_of, iterators_of, condition_of}

@@ -1,5 +1,5 @@
 -- Each expression that the grammar derives is good.
-use Rattle.std.proofs.Common.{◌≡◌, ℕ, zero, suc, ◌-◌, List, [], ◌∷◌, Option, Some, None}
+use Rattle.std.proofs.Common.{ℕ, zero, suc, ◌-◌, List, [], ◌∷◌}
 use Rattle.setl_tree.specs.declared.kind.Kind.{Kind}
 use Rattle.setl_tree.specs.declared.kind.Kind.TheVariants as k
 use Rattle.setl_tree.specs.declared.expr.BinaryOp.{BinaryOp}
@@ -9,7 +9,7 @@ use Rattle.setl_tree.specs.declared.expr.Selector.{Selector}
 use Rattle.setl_tree.specs.Lang.{Lang}
 use Rattle.setl_tree.specs.Operators.{constant, chain_of, prefixed, selected}
 use Rattle.setl_tree.specs.Expressions as x
-use Rattle.setl_acceptance.proofs.Languages.{Each, SomeEach, Maybe, Keeps, anything, k_any, k_pure, k_never, k_then, k_or, k_one_of, k_many, k_optional, k_past, k_some, k_separated, k_listed}
+use Rattle.setl_acceptance.proofs.Languages.{Each, SomeEach, Maybe, Keeps, k_any, k_pure, k_never, k_then, k_or, k_one_of, k_many, k_optional, k_past, k_some, k_separated, k_listed}
 use Rattle.setl_acceptance.proofs.Fine.{Context}
 use Rattle.setl_acceptance.proofs.Trees.{Good, GoodInner, GoodIter, GoodSelector, good_number, good_text, good_om, good_true, good_false, good_newat, good_eof, good_ok, good_name, good_if, good_set, good_tuple, good_chain, good_compare, good_prefixed, good_selected, good_quantified, inner_list, inner_range, inner_former, inner_filter, iter_over, iter_image, selector_round, selector_braces, selector_slice}
 

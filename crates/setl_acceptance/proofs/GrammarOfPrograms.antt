@@ -1,5 +1,5 @@
 -- Each statement that the grammar derives is good, and so are the bodies of a program that it derives.
-use Rattle.std.proofs.Common.{◌≡◌, ℕ, zero, suc, ◌-◌, true, refl, List, [], ◌∷◌, Option, Some, None}
+use Rattle.std.proofs.Common.{◌≡◌, ℕ, zero, suc, ◌-◌, true, refl, List}
 use Rattle.setl_tree.specs.declared.kind.Kind.{Kind}
 use Rattle.setl_tree.specs.declared.kind.Kind.TheVariants as k
 use Rattle.setl_tree.specs.declared.expr.BinaryOp.{BinaryOp}
@@ -14,7 +14,7 @@ use Rattle.setl_tree.specs.Statements.{simple}
 use Rattle.setl_tree.specs.Programs as p
 use Rattle.setl_program.specs.Operators.{updating}
 use Rattle.setl_program.specs.Updating.{is_updating}
-use Rattle.setl_acceptance.proofs.Languages.{Each, SomeEach, Maybe, Keeps, anything, k_any, k_pure, k_never, k_then, k_or, k_one_of, k_many, k_optional, k_past, k_separated, k_listed, k_lined}
+use Rattle.setl_acceptance.proofs.Languages.{Each, Maybe, Keeps, k_any, k_pure, k_never, k_then, k_or, k_one_of, k_many, k_optional, k_past, k_separated, k_listed, k_lined}
 use Rattle.setl_acceptance.proofs.Fine.{Context}
 use Rattle.setl_acceptance.proofs.Trees.{Good, GoodSelector, selector_round, selector_braces}
 use Rattle.setl_acceptance.proofs.GrammarOfExpressions.{iters_keeps, nested_keeps, expr_keeps}

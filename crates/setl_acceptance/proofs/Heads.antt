@@ -1,5 +1,5 @@
 -- What the rules say of names outside statements, and that no first break is no break.
-use Rattle.std.proofs.Common.{◌≡◌, ℕ, Bool, true, false, true≢false, List, [], ◌∷◌, ◌++◌, ◌||◌, map, fold, Option, Some, None, refl, sym, ap, ◌∙◌, bytes_eq, if◌then◌else◌}
+use Rattle.std.proofs.Common.{◌≡◌, ℕ, Bool, true, false, true≢false, List, [], ◌∷◌, ◌++◌, ◌||◌, map, fold, Some, None, refl, sym, ap, ◌∙◌, bytes_eq, if◌then◌else◌}
 use Rattle.std.specs.Cmp.Lexicographic.{bytes_decides}
 use Rattle.setl_tree.specs.declared.tree.Declared.{Declared}
 use Rattle.setl_tree.specs.declared.tree.Param.{Param}
@@ -13,7 +13,7 @@ use Rattle.setl_names.specs.Variables.{var_names}
 use Rattle.setl_program.specs.Program.{Parameter}
 use Rattle.setl_program.specs.Placed.{NamesDiffer}
 use Rattle.setl_program.specs.ProgramOf.{parameter_of}
-use Rattle.setl_acceptance.proofs.Kept.{no_first, no_second}
+use Rattle.setl_acceptance.proofs.Kept.{no_first}
 
 -- ---- names among names
 

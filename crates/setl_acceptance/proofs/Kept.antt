@@ -1,12 +1,11 @@
 -- What stands in the statements of a program that breaks no rule.
-use Rattle.std.proofs.Common.{◌≡◌, ℕ, Bool, true, false, not, cond, List, [], ◌∷◌, ◌++◌, ◌||◌, length, nat_eq, Option, Some, None, refl, true≢false}
+use Rattle.std.proofs.Common.{◌≡◌, ℕ, Bool, true, false, not, cond, List, [], ◌∷◌, ◌++◌, length, nat_eq, Option, Some, None, refl, true≢false}
 use Rattle.std.proofs.Math.Dec.{eqb-suc-zero, eqb-zero-suc, eqb-suc-suc}
 use Rattle.std.specs.List.{list_any}
 use Rattle.setl_tree.specs.declared.tree.Param.{Param}
 use Rattle.setl_tree.specs.declared.tree.Passing.{Passing}
 use Rattle.setl_tree.specs.declared.tree.Passing.TheVariants as pa
 use Rattle.setl_tree.specs.declared.tree.Proc.{Proc}
-use Rattle.setl_names.specs.declared.broken.Break.{Break}
 use Rattle.setl_names.specs.declared.occurrence.Argument.{Argument}
 use Rattle.setl_names.specs.declared.occurrence.Argument.TheVariants as arg
 use Rattle.setl_names.specs.declared.occurrence.What.{What}
@@ -14,7 +13,7 @@ use Rattle.setl_names.specs.declared.occurrence.What.TheVariants as what
 use Rattle.setl_names.specs.declared.occurrence.Occurrence.{Occurrence}
 use Rattle.setl_names.specs.Breaks.{broken, occurrence_breaks, all_occurrence_breaks}
 use Rattle.setl_names.specs.Procedures.{params_of}
-use Rattle.setl_names.specs.Rules.{is_stored, is_no_variable, stored, has_other_count, stores_no_variable, rule_9, rule_10, rule_11, rule_12, rule_13, rule_14, rule_15, rule_16, rule_17, rule_18}
+use Rattle.setl_names.specs.Rules.{is_stored, is_no_variable, stored, has_other_count, stores_no_variable, rule_9, rule_10, rule_11, rule_12, rule_13, rule_14}
 
 -- an argument for a `wr` or `rw` parameter is a name
 abbrev pub ArgumentFits : Passing → Argument → Type 0

@@ -1,7 +1,7 @@
 -- What holds of all values that a language spells, for each way to make a larger language of smaller ones.
-use Rattle.std.proofs.Common.{ℕ, List, [], ◌∷◌, Option, Some, None, subst, ◌⊎◌, inl, inr}
+use Rattle.std.proofs.Common.{List, [], ◌∷◌, Option, Some, None, subst, ◌⊎◌, inl, inr}
 use Rattle.setl_tree.specs.declared.kind.Kind.{Kind}
-use Rattle.setl_tree.specs.Tokens.{Token, Tokens}
+use Rattle.setl_tree.specs.Tokens.{Tokens}
 use Rattle.setl_tree.specs.Lang.{Lang, Then, Split}
 use Rattle.setl_tree.specs.Lang as lang
 

@@ -1,5 +1,5 @@
 -- Lists of expressions, operators, and what stands inside braces and brackets.
-use Rattle.std.proofs.Common.{◌≡◌, ◌≤◌, ℕ, suc, Bool, true, false, List, [], ◌∷◌, ◌++◌, length, Option, Some, None, refl, sym, ap, subst, ◌∙◌, arith}
+use Rattle.std.proofs.Common.{◌≡◌, ◌≤◌, ℕ, suc, true, false, List, [], ◌∷◌, ◌++◌, length, Option, Some, None, refl, sym, ap, ◌∙◌, arith}
 use Rattle.setl_tree.specs.declared.expr.BinaryOp.{BinaryOp}
 use Rattle.setl_tree.specs.declared.expr.Relation.{Relation}
 use Rattle.setl_tree.specs.declared.expr.Prefix.{Prefix}
@@ -12,17 +12,15 @@ use Rattle.setl_names.specs.Occurrences.{Standing, names_of_bound}
 use Rattle.setl_map.specs.Operators.{TakesOperands}
 use Rattle.setl_program.specs.declared.kinds.Collection.{Collection}
 use Rattle.setl_program.specs.declared.kinds.Collection.TheVariants.{OfSet, OfTuple}
-use Rattle.setl_program.specs.declared.kinds.Source.{Source}
-use Rattle.setl_program.specs.declared.kinds.Source.TheVariants.{Values}
-use Rattle.setl_program.specs.Program.{Binding, Expr, Exprs, Iterators}
-use Rattle.setl_program.specs.Formed.{number_of, parts_of_source, parts_of, HasIterator}
-use Rattle.setl_program.specs.Lists.{exprs_of, iterators_of, condition_of}
+use Rattle.setl_program.specs.Program.{Expr}
+use Rattle.setl_program.specs.Formed.{number_of, parts_of_source, HasIterator}
+use Rattle.setl_program.specs.Lists.{exprs_of, iterators_of}
 use Rattle.setl_program.specs.Numbered.{Numbered, pure}
-use Rattle.setl_program.specs.Scope.{Scope, in_former, bound_by, binding_of}
-use Rattle.setl_program.specs.Operators.{binary, quantifier}
+use Rattle.setl_program.specs.Scope.{Scope, in_former, bound_by}
+use Rattle.setl_program.specs.Operators.{binary}
 use Rattle.setl_program.specs.Expressions as q
 use Rattle.setl_acceptance.proofs.Kept.{Kept, first, second}
-use Rattle.setl_acceptance.proofs.Fine.{Context, Within, within_former, IsCounted, variable_fine, bound_fine, binding_fine, binds_members, parts_of_binding, Fine, FineExprs, FineList, FineOption, FineRange, FineTurn, FineTurns, exprs_fine, iterators_fine, condition_fine, fine_apply, fine_choose, fine_former, fine_selection, fine_quantified, fine_name, binary_fine, relation_fine, prefix_fine}
+use Rattle.setl_acceptance.proofs.Fine.{Context, Within, within_former, variable_fine, bound_fine, binding_fine, binds_members, parts_of_binding, Fine, FineList, FineOption, FineTurns, exprs_fine, iterators_fine, condition_fine, fine_apply, fine_choose, fine_former, fine_selection, fine_quantified, fine_name, binary_fine, relation_fine, prefix_fine}
 use Rattle.setl_acceptance.proofs.Agreeing.{Makes, Agree, AgreeInside, AgreeTurn, AllAgree, AgreeOption, AgreeOperands, AgreeTurns}
 
 pub count_exprs : (es : List Expr) → number_of (exprs_of es) ≡ length es
@@ -183,9 +181,10 @@ module _ {c : Context} where
   variable_turns_fine : (as_ : List n.Turn) (xs : List q.Turn) → AgreeTurns c as_ xs → Makes c (FineTurns c) (n.variable_turns as_) (q.iterators xs)
   variable_turns_fine [] [] h = record { at = λ p k s w m. tt }
   variable_turns_fine (a ∷ as_) (x ∷ xs) h = record {
-    at = λ p k s w m.
-        ((h.0.iterator false None tt).at p (first (a.standing false p) (n.variable_turns as_ p) k) s w m,
-        (variable_turns_fine as_ xs h.1).at p (second (a.standing false p) (n.variable_turns as_ p) k) s w _);
+    at = λ p k s w m. (
+      (h.0.iterator false None tt).at p (first (a.standing false p) (n.variable_turns as_ p) k) s w m,
+      (variable_turns_fine as_ xs h.1).at p (second (a.standing false p) (n.variable_turns as_ p) k) s w _,
+    );
   }
   variable_turns_fine [] (x ∷ xs) h = absurd h
   variable_turns_fine (a ∷ as_) [] h = absurd h
@@ -193,9 +192,10 @@ module _ {c : Context} where
   own_turns_fine : (f : ℕ) (seen : List Word) → 1 ≤ f → (as_ : List n.Turn) (xs : List q.Turn) → AgreeTurns c as_ xs → Makes c (FineTurns c) (n.own_turns as_) (q.own_iterators f seen xs)
   own_turns_fine f seen less [] [] h = record { at = λ p k s w m. tt }
   own_turns_fine f seen less (a ∷ as_) (x ∷ xs) h = record {
-    at = λ p k s w m.
-        ((h.0.iterator true (Some f) less).at p (first (a.standing true p) (n.own_turns as_ (with_own a.names p)) k) (in_former f seen s) (within_former f seen less w) m,
-        (own_turns_fine f (with_names seen x.names) less as_ xs h.1).at (with_own a.names p) (second (a.standing true p) (n.own_turns as_ (with_own a.names p)) k) s w _);
+    at = λ p k s w m. (
+      (h.0.iterator true (Some f) less).at p (first (a.standing true p) (n.own_turns as_ (with_own a.names p)) k) (in_former f seen s) (within_former f seen less w) m,
+      (own_turns_fine f (with_names seen x.names) less as_ xs h.1).at (with_own a.names p) (second (a.standing true p) (n.own_turns as_ (with_own a.names p)) k) s w _,
+    );
   }
   own_turns_fine f seen less [] (x ∷ xs) h = absurd h
   own_turns_fine f seen less (a ∷ as_) [] h = absurd h

@@ -1,5 +1,5 @@
 -- Calls and selections.
-use Rattle.std.proofs.Common.{◌≡◌, ℕ, suc, Bool, true, false, cond, List, [], ◌∷◌, ◌++◌, map, Option, Some, None, option_map, refl, sym, ap, subst, ◌∙◌, bytes_eq}
+use Rattle.std.proofs.Common.{◌≡◌, ℕ, suc, Bool, true, false, cond, List, [], ◌∷◌, ◌++◌, map, Option, Some, None, option_map, refl, sym, ap, subst, bytes_eq}
 use Rattle.setl_tree.specs.declared.tree.Param.{Param}
 use Rattle.setl_tree.specs.declared.tree.Passing.{Passing}
 use Rattle.setl_tree.specs.declared.tree.Passing.TheVariants as pa
@@ -9,18 +9,17 @@ use Rattle.setl_names.specs.Places.{Place}
 use Rattle.setl_names.specs.Procedures.{params_of, found_from, found_procedure}
 use Rattle.setl_names.specs.Occurrences as n
 use Rattle.setl_names.specs.Occurrences.{Standing}
-use Rattle.setl_map.specs.declared.Operator.TheVariants.{Get, Images, Slice, Tail}
+use Rattle.setl_map.specs.declared.Operator.TheVariants.{Get, Images}
 use Rattle.setl_map.specs.declared.Operator.{Operator}
 use Rattle.setl_map.specs.Operators.{TakesOperands}
-use Rattle.setl_run.specs.Variable.{Variable}
-use Rattle.setl_program.specs.Program.{Expr, Arguments, no_argument, rd_argument, wr_argument, rw_argument, Selectors, round_selector, brace_selector}
+use Rattle.setl_program.specs.Program.{Expr, Arguments, rd_argument, wr_argument, rw_argument, round_selector, brace_selector}
 use Rattle.setl_program.specs.Formed.{PassedAs}
-use Rattle.setl_program.specs.Lists.{exprs_of, arguments_of}
-use Rattle.setl_program.specs.Scope.{Scope, variable_of, procedure_of}
+use Rattle.setl_program.specs.Lists.{arguments_of}
+use Rattle.setl_program.specs.Scope.{Scope, procedure_of}
 use Rattle.setl_program.specs.ProgramOf.{parameter_of}
 use Rattle.setl_program.specs.Expressions as q
 use Rattle.setl_acceptance.proofs.Kept.{ArgumentFits, ArgumentsFit, CallFits, Kept, first, second}
-use Rattle.setl_acceptance.proofs.Fine.{Context, Within, variable_fine, Fine, FineArguments, FineOption, FineSelectors, exprs_fine, fine_apply, fine_two, fine_call}
+use Rattle.setl_acceptance.proofs.Fine.{Context, Within, variable_fine, Fine, FineArguments, FineOption, exprs_fine, fine_apply, fine_two, fine_call}
 use Rattle.setl_acceptance.proofs.Agreeing.{Makes, Agree, AllAgree, AgreeOption, AgreeLists, FineBefore, AgreeBehind, AllBehind}
 use Rattle.setl_acceptance.proofs.Parts.{listed_fine, optional_fine, named_fine}
 

@@ -1,5 +1,5 @@
 -- Each form of a statement's tree: what stands in it agrees with what it becomes.
-use Rattle.std.proofs.Common.{◌≡◌, ℕ, true, List, [], ◌∷◌, ◌++◌, map, Option, Some, None, option_map, sym, ap, subst₂, ◌∙◌}
+use Rattle.std.proofs.Common.{◌≡◌, ℕ, true, List, [], ◌∷◌, map, Option, Some, None, option_map, sym, ap, subst₂, ◌∙◌}
 use Rattle.setl_tree.specs.declared.expr.BinaryOp.{BinaryOp}
 use Rattle.setl_tree.specs.declared.expr.Expr.{Expr}
 use Rattle.setl_tree.specs.declared.expr.Iter.{Iter}

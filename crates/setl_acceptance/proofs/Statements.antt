@@ -1,5 +1,5 @@
 -- What the statements of a tree become is fine where no rule is broken.
-use Rattle.std.proofs.Common.{◌≡◌, ℕ, Bool, true, false, List, [], ◌∷◌, ◌++◌, map, Option, Some, None, refl, sym, ap, subst, ◌∙◌}
+use Rattle.std.proofs.Common.{◌≡◌, ℕ, Bool, true, false, List, [], ◌∷◌, ◌++◌, map, Option, Some, None, sym, ap}
 use Rattle.setl_tree.specs.declared.expr.BinaryOp.{BinaryOp}
 use Rattle.setl_tree.specs.declared.expr.Slot.{Slot}
 use Rattle.setl_tree.specs.declared.stmt.FromEnd.{FromEnd}
@@ -13,14 +13,13 @@ use Rattle.setl_names.specs.Places.{Place, in_a_loop}
 use Rattle.setl_names.specs.Procedures.{found_procedure}
 use Rattle.setl_names.specs.Occurrences as n
 use Rattle.setl_names.specs.Statements as ns
-use Rattle.setl_run.specs.Variable.{Variable}
-use Rattle.setl_program.specs.Program.{Place as Changed, Stmt, Assign, Update, AssignParts, TakeFrom, Perform, If, For, While, Quit, Continue, Fail, Stop, Pass, Return, Print, Read, Block, no_stmt, more_stmts, Expr, Selectors}
+use Rattle.setl_program.specs.Program.{Place as Changed, Stmt, Quit, Continue, Fail, Stop, Pass, Block, Expr}
 use Rattle.setl_program.specs.Formed.{FormedStmt, FormedBlock, FormedVariables, InProcedure, IsInLoop}
 use Rattle.setl_program.specs.Placed.{PlacedStmt, PlacedBlock, PlacedVariables}
 use Rattle.setl_program.specs.Updating.{is_updating, UpdatingStmt, UpdatingBlock}
 use Rattle.setl_program.specs.Operators.{updating}
-use Rattle.setl_program.specs.Lists.{exprs_of, iterators_of, condition_of, all_selectors, block_of, otherwise}
-use Rattle.setl_program.specs.Scope.{Scope, variable_of, slot_variable, procedure_of}
+use Rattle.setl_program.specs.Lists.{all_selectors, block_of, otherwise}
+use Rattle.setl_program.specs.Scope.{Scope, variable_of, procedure_of}
 use Rattle.setl_program.specs.Expressions as q
 use Rattle.setl_program.specs.Statements as qs
 use Rattle.setl_acceptance.proofs.Kept.{Kept, first, second}

@@ -1,14 +1,14 @@
 -- The program of an accepted tree is formed and placed.
-use Rattle.std.proofs.Common.{◌≡◌, ℕ, zero, suc, ◌+◌, Bool, true, false, true≢false, cond, List, [], ◌∷◌, ◌++◌, map, slice_get, Option, Some, None, is_some, option_map, unwrap_or, refl, sym, ap, subst, ◌∙◌, bytes_eq, add-zero, zero-add, arith}
+use Rattle.std.proofs.Common.{◌≡◌, ℕ, suc, ◌+◌, Bool, true, false, true≢false, cond, List, [], ◌∷◌, ◌++◌, map, slice_get, Option, Some, is_some, option_map, unwrap_or, refl, sym, ap, subst, ◌∙◌, bytes_eq, add-zero, zero-add, arith}
 use Rattle.setl_tree.specs.declared.tree.Param.{Param}
 use Rattle.setl_tree.specs.declared.tree.Proc.{Proc}
 use Rattle.setl_tree.specs.declared.tree.Tree.{Tree}
 use Rattle.setl_tree.specs.declared.stmt.Stmt.{Stmt}
 use Rattle.setl_names.specs.declared.around.Around.{Around as Spot}
-use Rattle.setl_names.specs.Names.{Name as Word, has, in_order}
-use Rattle.setl_names.specs.Bodies.{Body, main_body, proc_body, bodies, occurrences}
+use Rattle.setl_names.specs.Names.{Name as Word}
+use Rattle.setl_names.specs.Bodies.{main_body, proc_body, bodies, occurrences}
 use Rattle.setl_names.specs.Heads.{rule_1}
-use Rattle.setl_names.specs.Breaks.{broken, breaks, head_breaks, proc_breaks, var_breaks, list_breaks, param_breaks, body_breaks, all_body_breaks, first_break}
+use Rattle.setl_names.specs.Breaks.{broken, breaks, head_breaks, proc_breaks, var_breaks, list_breaks, param_breaks, body_breaks, all_body_breaks}
 use Rattle.setl_names.specs.Procedures.{found_from, found_procedure}
 use Rattle.setl_names.specs.Statements as ns
 use Rattle.setl_names.specs.Variables.{var_names}
@@ -18,14 +18,14 @@ use Rattle.setl_program.specs.Placed.{PlacedProcedures, Placed}
 use Rattle.setl_program.specs.Updating.{UpdatingProcedures, Updating}
 use Rattle.setl_program.specs.Scope.{Scope}
 use Rattle.setl_program.specs.Statements as qs
-use Rattle.setl_program.specs.ProgramOf.{main_scope, in_body, parameter_of, procedure_of_tree, procedures_from, program_of}
+use Rattle.setl_program.specs.ProgramOf.{main_scope, in_body, parameter_of, procedures_from, program_of}
 use Rattle.setl_acceptance.specs.Claims.{IsAccepted, AcceptedIsFormed, AcceptedIsPlaced, AcceptedIsUpdating}
 use Rattle.setl_acceptance.proofs.Kept.{Kept, kept, no_first, no_second}
 use Rattle.setl_acceptance.proofs.Heads.{has_in_order, params_differ, vars_differ, no_breaks}
 use Rattle.setl_acceptance.proofs.Languages.{Each}
 use Rattle.setl_acceptance.proofs.Fine.{Context, Within}
 use Rattle.setl_acceptance.proofs.Statements.{FineBlock, InBody, block_fine, statements_fine}
-use Rattle.setl_acceptance.proofs.StatementTrees.{GoodStmt, all_stmts}
+use Rattle.setl_acceptance.proofs.StatementTrees.{all_stmts}
 use Rattle.setl_acceptance.proofs.GrammarOfPrograms.{GoodBody, GoodProc, GoodTree, program_keeps}
 
 -- ---- procedures by their names
