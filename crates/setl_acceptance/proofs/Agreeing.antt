@@ -1,5 +1,5 @@
 -- What stands in a part of a tree, beside what the part becomes: where the first breaks no rule, the second is fine.
-use Rattle.std.proofs.Common.{◌≡◌, ℕ, Bool, List, [], ◌∷◌, Option, Some, None}
+use Rattle.std.proofs.Common.{◌≡◌, ℕ, Bool, List, [], ◌∷◌, Option, Some, None, sym, subst₂}
 use Rattle.setl_tree.specs.declared.expr.BinaryOp.{BinaryOp}
 use Rattle.setl_names.specs.declared.occurrence.Occurrence.{Occurrence}
 use Rattle.setl_names.specs.Places.{Place}
@@ -11,6 +11,10 @@ use Rattle.setl_program.specs.Scope.{Scope}
 use Rattle.setl_program.specs.Expressions as q
 use Rattle.setl_acceptance.proofs.Kept.{Kept}
 use Rattle.setl_acceptance.proofs.Fine.{Context, Within, IsCounted, Fine, FineRange, FineTurn, FineSelectors}
+
+-- what holds of two values holds of those that equal them
+pub carried : {A B : Type 0} (R : A → B → Type 0) {a d : A} {b e : B} → a ≡ d → b ≡ e → R d e → R a b
+carried R p q h = subst₂ R (sym p) (sym q) h
 
 module _ (c : Context) where
   -- where this is kept, what is made in each scope of the body is so

@@ -1,5 +1,5 @@
 -- Each form of a statement's tree: what stands in it agrees with what it becomes.
-use Rattle.std.proofs.Common.{◌≡◌, ℕ, true, List, [], ◌∷◌, map, Option, Some, None, option_map, sym, ap, subst₂, ◌∙◌}
+use Rattle.std.proofs.Common.{◌≡◌, ℕ, true, List, [], ◌∷◌, map, Option, Some, None, option_map, sym, ap, ◌∙◌}
 use Rattle.setl_tree.specs.declared.expr.BinaryOp.{BinaryOp}
 use Rattle.setl_tree.specs.declared.expr.Expr.{Expr}
 use Rattle.setl_tree.specs.declared.expr.Iter.{Iter}
@@ -24,6 +24,7 @@ use Rattle.setl_acceptance.proofs.Languages.{Each, SomeEach, Maybe}
 use Rattle.setl_acceptance.proofs.Kept.{first, second}
 use Rattle.setl_acceptance.proofs.Fine.{Context}
 use Rattle.setl_acceptance.proofs.Trees.{Good, GoodIter, GoodSelector, all_good, option_good, turns_good, selectors_good}
+use Rattle.setl_acceptance.proofs.Agreeing.{carried}
 use Rattle.setl_acceptance.proofs.Statements.{AgreeKind, AgreeStmt, AgreeGuarded, AllStmts, AllGuarded, statements_fine, assignment_agrees, update_agrees, parts_agree, taking_agrees, performance_agrees, choice_agrees, for_agrees, while_agrees, quit_agrees, continue_agrees, fail_agrees, stop_agrees, pass_agrees, return_agrees, print_agrees, read_agrees}
 
 module _ (c : Context) where
@@ -52,69 +53,66 @@ module _ (c : Context) where
   -- ---- each form
 
   pub good_stmt : (line : ℕ) (kind : StmtKind) → GoodKind kind → GoodStmt (roll-Stmt (record { line = line; kind = kind }))
-  good_stmt line kind h = subst₂ (AgreeStmt c)
-      (sym (fold-roll-Stmt ns.Placed ns.Placed ns.Told ns.kind_step ns.branch_step ns.stmt_step (record { line = line; kind = kind })))
-      (sym (fold-roll-Stmt qs.Kind qs.Guarded qs.Lined qs.kind_step qs.branch_step qs.stmt_step (record { line = line; kind = kind })))
+  good_stmt line kind h = carried (AgreeStmt c)
+      (fold-roll-Stmt ns.Placed ns.Placed ns.Told ns.kind_step ns.branch_step ns.stmt_step (record { line = line; kind = kind }))
+      (fold-roll-Stmt qs.Kind qs.Guarded qs.Lined qs.kind_step qs.branch_step qs.stmt_step (record { line = line; kind = kind }))
       (record { at = λ w k i s v m. h.at (in_statement line) w k i line s v m })
 
   pub good_branch : (t : Expr) (body : List Stmt) → Good c t → Each GoodStmt body → GoodBranch (roll-Branch (record { condition = t; body = body }))
-  good_branch t body g h = subst₂ (AgreeGuarded c)
-      (sym (fold-roll-Branch ns.Placed ns.Placed ns.Told ns.kind_step ns.branch_step ns.stmt_step (record { condition = t; body = body })))
-      (sym (fold-roll-Branch qs.Kind qs.Guarded qs.Lined qs.kind_step qs.branch_step qs.stmt_step (record { condition = t; body = body })))
+  good_branch t body g h = carried (AgreeGuarded c)
+      (fold-roll-Branch ns.Placed ns.Placed ns.Told ns.kind_step ns.branch_step ns.stmt_step (record { condition = t; body = body }))
+      (fold-roll-Branch qs.Kind qs.Guarded qs.Lined qs.kind_step qs.branch_step qs.stmt_step (record { condition = t; body = body }))
       (record {
         test = λ p w k s v m. g.term.at p (first (n.standing_in t p) (ns.all_told (map ns.stmt_told body) w) k) s v m;
         body = λ p w k i s v m. statements_fine (map ns.stmt_told body) (map qs.lined body) (all_stmts body h) w (second (n.standing_in t p) (ns.all_told (map ns.stmt_told body) w) k) i s v m;
       })
 
-  kind_by : (y : StmtKind) (a : ns.Placed) (x : qs.Kind) → ns.kind_told y ≡ a → qs.kind_of y ≡ x → AgreeKind c a x → GoodKind y
-  kind_by y a x ea ex h = subst₂ (AgreeKind c) (sym ea) (sym ex) h
-
   pub is_assign : (t : Target) (x : Expr) → GoodPlace t → Good c x → GoodKind (st.Assign t x)
-  is_assign t x g h = kind_by (st.Assign t x) _ _ (ap ns.kind_told (sym (st.rolls-Assign t x)) ∙ fold-roll-StmtKind ns.Placed ns.Placed ns.Told ns.kind_step ns.branch_step ns.stmt_step (StmtKind-F.Assign t x)) (ap qs.kind_of (sym (st.rolls-Assign t x)) ∙ fold-roll-StmtKind qs.Kind qs.Guarded qs.Lined qs.kind_step qs.branch_step qs.stmt_step (StmtKind-F.Assign t x)) (assignment_agrees t (n.part x) (q.part_of x) (selectors_good c t.selectors g) h)
+  is_assign t x g h = carried (AgreeKind c) (ap ns.kind_told (sym (st.rolls-Assign t x)) ∙ fold-roll-StmtKind ns.Placed ns.Placed ns.Told ns.kind_step ns.branch_step ns.stmt_step (StmtKind-F.Assign t x)) (ap qs.kind_of (sym (st.rolls-Assign t x)) ∙ fold-roll-StmtKind qs.Kind qs.Guarded qs.Lined qs.kind_step qs.branch_step qs.stmt_step (StmtKind-F.Assign t x)) (assignment_agrees t (n.part x) (q.part_of x) (selectors_good c t.selectors g) h)
 
   pub is_update : (t : Target) (f : BinaryOp) (x : Expr) → is_updating (updating f) ≡ true → GoodPlace t → Good c x → GoodKind (st.Update t f x)
-  is_update t f x may g h = kind_by (st.Update t f x) _ _ (ap ns.kind_told (sym (st.rolls-Update t f x)) ∙ fold-roll-StmtKind ns.Placed ns.Placed ns.Told ns.kind_step ns.branch_step ns.stmt_step (StmtKind-F.Update t f x)) (ap qs.kind_of (sym (st.rolls-Update t f x)) ∙ fold-roll-StmtKind qs.Kind qs.Guarded qs.Lined qs.kind_step qs.branch_step qs.stmt_step (StmtKind-F.Update t f x)) (update_agrees t f (n.part x) (q.part_of x) may (selectors_good c t.selectors g) h)
+  is_update t f x may g h = carried (AgreeKind c) (ap ns.kind_told (sym (st.rolls-Update t f x)) ∙ fold-roll-StmtKind ns.Placed ns.Placed ns.Told ns.kind_step ns.branch_step ns.stmt_step (StmtKind-F.Update t f x)) (ap qs.kind_of (sym (st.rolls-Update t f x)) ∙ fold-roll-StmtKind qs.Kind qs.Guarded qs.Lined qs.kind_step qs.branch_step qs.stmt_step (StmtKind-F.Update t f x)) (update_agrees t f (n.part x) (q.part_of x) may (selectors_good c t.selectors g) h)
 
   pub is_tuple_assign : (slots : List Slot) (x : Expr) → Good c x → GoodKind (st.TupleAssign slots x)
-  is_tuple_assign slots x h = kind_by (st.TupleAssign slots x) _ _ (ap ns.kind_told (sym (st.rolls-TupleAssign slots x)) ∙ fold-roll-StmtKind ns.Placed ns.Placed ns.Told ns.kind_step ns.branch_step ns.stmt_step (StmtKind-F.TupleAssign slots x)) (ap qs.kind_of (sym (st.rolls-TupleAssign slots x)) ∙ fold-roll-StmtKind qs.Kind qs.Guarded qs.Lined qs.kind_step qs.branch_step qs.stmt_step (StmtKind-F.TupleAssign slots x)) (parts_agree slots (n.part x) (q.part_of x) h)
+  is_tuple_assign slots x h = carried (AgreeKind c) (ap ns.kind_told (sym (st.rolls-TupleAssign slots x)) ∙ fold-roll-StmtKind ns.Placed ns.Placed ns.Told ns.kind_step ns.branch_step ns.stmt_step (StmtKind-F.TupleAssign slots x)) (ap qs.kind_of (sym (st.rolls-TupleAssign slots x)) ∙ fold-roll-StmtKind qs.Kind qs.Guarded qs.Lined qs.kind_step qs.branch_step qs.stmt_step (StmtKind-F.TupleAssign slots x)) (parts_agree slots (n.part x) (q.part_of x) h)
 
   pub is_take : (x : Word) (end : FromEnd) (t : Target) → GoodPlace t → GoodKind (st.Take x end t)
-  is_take x end t g = kind_by (st.Take x end t) _ _ (ap ns.kind_told (sym (st.rolls-Take x end t)) ∙ fold-roll-StmtKind ns.Placed ns.Placed ns.Told ns.kind_step ns.branch_step ns.stmt_step (StmtKind-F.Take x end t)) (ap qs.kind_of (sym (st.rolls-Take x end t)) ∙ fold-roll-StmtKind qs.Kind qs.Guarded qs.Lined qs.kind_step qs.branch_step qs.stmt_step (StmtKind-F.Take x end t)) (taking_agrees x end t (selectors_good c t.selectors g))
+  is_take x end t g = carried (AgreeKind c) (ap ns.kind_told (sym (st.rolls-Take x end t)) ∙ fold-roll-StmtKind ns.Placed ns.Placed ns.Told ns.kind_step ns.branch_step ns.stmt_step (StmtKind-F.Take x end t)) (ap qs.kind_of (sym (st.rolls-Take x end t)) ∙ fold-roll-StmtKind qs.Kind qs.Guarded qs.Lined qs.kind_step qs.branch_step qs.stmt_step (StmtKind-F.Take x end t)) (taking_agrees x end t (selectors_good c t.selectors g))
 
   pub is_call : (f : Word) (xs : List Expr) → Each (Good c) xs → GoodKind (st.Call f xs)
-  is_call f xs h = kind_by (st.Call f xs) _ _ (ap ns.kind_told (sym (st.rolls-Call f xs)) ∙ fold-roll-StmtKind ns.Placed ns.Placed ns.Told ns.kind_step ns.branch_step ns.stmt_step (StmtKind-F.Call f xs)) (ap qs.kind_of (sym (st.rolls-Call f xs)) ∙ fold-roll-StmtKind qs.Kind qs.Guarded qs.Lined qs.kind_step qs.branch_step qs.stmt_step (StmtKind-F.Call f xs)) (performance_agrees f (map n.part xs) (map q.part_of xs) (all_good c xs h) (λ p. n.at p (what.CallStatement f) ∷ []))
+  is_call f xs h = carried (AgreeKind c) (ap ns.kind_told (sym (st.rolls-Call f xs)) ∙ fold-roll-StmtKind ns.Placed ns.Placed ns.Told ns.kind_step ns.branch_step ns.stmt_step (StmtKind-F.Call f xs)) (ap qs.kind_of (sym (st.rolls-Call f xs)) ∙ fold-roll-StmtKind qs.Kind qs.Guarded qs.Lined qs.kind_step qs.branch_step qs.stmt_step (StmtKind-F.Call f xs)) (performance_agrees f (map n.part xs) (map q.part_of xs) (all_good c xs h) (λ p. n.at p (what.CallStatement f) ∷ []))
 
   pub is_if : (first_one : Branch) (others : List Branch) (last : Option (List Stmt)) → GoodBranch first_one → Each GoodBranch others → Maybe (Each GoodStmt) last → GoodKind (st.If first_one others last)
-  is_if first_one others None f g h = kind_by (st.If first_one others None) _ _ (ap ns.kind_told (sym (st.rolls-If first_one others None)) ∙ fold-roll-StmtKind ns.Placed ns.Placed ns.Told ns.kind_step ns.branch_step ns.stmt_step (StmtKind-F.If first_one others None)) (ap qs.kind_of (sym (st.rolls-If first_one others None)) ∙ fold-roll-StmtKind qs.Kind qs.Guarded qs.Lined qs.kind_step qs.branch_step qs.stmt_step (StmtKind-F.If first_one others None)) (choice_agrees (ns.branch_told first_one) (qs.branch_of first_one) (map ns.branch_told others) (map qs.branch_of others) None None f (all_branches others g) tt)
-  is_if first_one others (Some body) f g h = kind_by (st.If first_one others (Some body)) _ _ (ap ns.kind_told (sym (st.rolls-If first_one others (Some body))) ∙ fold-roll-StmtKind ns.Placed ns.Placed ns.Told ns.kind_step ns.branch_step ns.stmt_step (StmtKind-F.If first_one others (Some body))) (ap qs.kind_of (sym (st.rolls-If first_one others (Some body))) ∙ fold-roll-StmtKind qs.Kind qs.Guarded qs.Lined qs.kind_step qs.branch_step qs.stmt_step (StmtKind-F.If first_one others (Some body))) (choice_agrees (ns.branch_told first_one) (qs.branch_of first_one) (map ns.branch_told others) (map qs.branch_of others) (Some (map ns.stmt_told body)) (Some (map qs.lined body)) f (all_branches others g) (all_stmts body h))
+  is_if first_one others None f g h = carried (AgreeKind c) (ap ns.kind_told (sym (st.rolls-If first_one others None)) ∙ fold-roll-StmtKind ns.Placed ns.Placed ns.Told ns.kind_step ns.branch_step ns.stmt_step (StmtKind-F.If first_one others None)) (ap qs.kind_of (sym (st.rolls-If first_one others None)) ∙ fold-roll-StmtKind qs.Kind qs.Guarded qs.Lined qs.kind_step qs.branch_step qs.stmt_step (StmtKind-F.If first_one others None)) (choice_agrees (ns.branch_told first_one) (qs.branch_of first_one) (map ns.branch_told others) (map qs.branch_of others) None None f (all_branches others g) tt)
+  is_if first_one others (Some body) f g h = carried (AgreeKind c) (ap ns.kind_told (sym (st.rolls-If first_one others (Some body))) ∙ fold-roll-StmtKind ns.Placed ns.Placed ns.Told ns.kind_step ns.branch_step ns.stmt_step (StmtKind-F.If first_one others (Some body))) (ap qs.kind_of (sym (st.rolls-If first_one others (Some body))) ∙ fold-roll-StmtKind qs.Kind qs.Guarded qs.Lined qs.kind_step qs.branch_step qs.stmt_step (StmtKind-F.If first_one others (Some body))) (choice_agrees (ns.branch_told first_one) (qs.branch_of first_one) (map ns.branch_told others) (map qs.branch_of others) (Some (map ns.stmt_told body)) (Some (map qs.lined body)) f (all_branches others g) (all_stmts body h))
 
   pub is_for : (is : List Iter) (t : Option Expr) (body : List Stmt) → SomeEach (GoodIter c) is → Maybe (Good c) t → Each GoodStmt body → GoodKind (st.For is t body)
-  is_for (i ∷ is) t body g h j = kind_by (st.For (i ∷ is) t body) _ _ (ap ns.kind_told (sym (st.rolls-For (i ∷ is) t body)) ∙ fold-roll-StmtKind ns.Placed ns.Placed ns.Told ns.kind_step ns.branch_step ns.stmt_step (StmtKind-F.For (i ∷ is) t body)) (ap qs.kind_of (sym (st.rolls-For (i ∷ is) t body)) ∙ fold-roll-StmtKind qs.Kind qs.Guarded qs.Lined qs.kind_step qs.branch_step qs.stmt_step (StmtKind-F.For (i ∷ is) t body)) (for_agrees (n.turn i) (map n.turn is) (map q.turn_of (i ∷ is)) (option_map n.part t) (option_map q.part_of t) (map ns.stmt_told body) (map qs.lined body) (turns_good c (i ∷ is) g) (option_good c t h) (all_stmts body j))
+  is_for (i ∷ is) t body g h j = carried (AgreeKind c) (ap ns.kind_told (sym (st.rolls-For (i ∷ is) t body)) ∙ fold-roll-StmtKind ns.Placed ns.Placed ns.Told ns.kind_step ns.branch_step ns.stmt_step (StmtKind-F.For (i ∷ is) t body)) (ap qs.kind_of (sym (st.rolls-For (i ∷ is) t body)) ∙ fold-roll-StmtKind qs.Kind qs.Guarded qs.Lined qs.kind_step qs.branch_step qs.stmt_step (StmtKind-F.For (i ∷ is) t body)) (for_agrees (n.turn i) (map n.turn is) (map q.turn_of (i ∷ is)) (option_map n.part t) (option_map q.part_of t) (map ns.stmt_told body) (map qs.lined body) (turns_good c (i ∷ is) g) (option_good c t h) (all_stmts body j))
   is_for [] t body g h j = absurd g
 
   pub is_while : (t : Expr) (body : List Stmt) → Good c t → Each GoodStmt body → GoodKind (st.While t body)
-  is_while t body g h = kind_by (st.While t body) _ _ (ap ns.kind_told (sym (st.rolls-While t body)) ∙ fold-roll-StmtKind ns.Placed ns.Placed ns.Told ns.kind_step ns.branch_step ns.stmt_step (StmtKind-F.While t body)) (ap qs.kind_of (sym (st.rolls-While t body)) ∙ fold-roll-StmtKind qs.Kind qs.Guarded qs.Lined qs.kind_step qs.branch_step qs.stmt_step (StmtKind-F.While t body)) (while_agrees (n.part t) (q.part_of t) (map ns.stmt_told body) (map qs.lined body) g (all_stmts body h))
+  is_while t body g h = carried (AgreeKind c) (ap ns.kind_told (sym (st.rolls-While t body)) ∙ fold-roll-StmtKind ns.Placed ns.Placed ns.Told ns.kind_step ns.branch_step ns.stmt_step (StmtKind-F.While t body)) (ap qs.kind_of (sym (st.rolls-While t body)) ∙ fold-roll-StmtKind qs.Kind qs.Guarded qs.Lined qs.kind_step qs.branch_step qs.stmt_step (StmtKind-F.While t body)) (while_agrees (n.part t) (q.part_of t) (map ns.stmt_told body) (map qs.lined body) g (all_stmts body h))
 
   pub is_quit : GoodKind st.Quit
-  is_quit = kind_by st.Quit _ _ (ap ns.kind_told (sym st.rolls-Quit) ∙ fold-roll-StmtKind ns.Placed ns.Placed ns.Told ns.kind_step ns.branch_step ns.stmt_step StmtKind-F.Quit) (ap qs.kind_of (sym st.rolls-Quit) ∙ fold-roll-StmtKind qs.Kind qs.Guarded qs.Lined qs.kind_step qs.branch_step qs.stmt_step StmtKind-F.Quit) (quit_agrees)
+  is_quit = carried (AgreeKind c) (ap ns.kind_told (sym st.rolls-Quit) ∙ fold-roll-StmtKind ns.Placed ns.Placed ns.Told ns.kind_step ns.branch_step ns.stmt_step StmtKind-F.Quit) (ap qs.kind_of (sym st.rolls-Quit) ∙ fold-roll-StmtKind qs.Kind qs.Guarded qs.Lined qs.kind_step qs.branch_step qs.stmt_step StmtKind-F.Quit) (quit_agrees)
 
   pub is_continue : GoodKind st.Continue
-  is_continue = kind_by st.Continue _ _ (ap ns.kind_told (sym st.rolls-Continue) ∙ fold-roll-StmtKind ns.Placed ns.Placed ns.Told ns.kind_step ns.branch_step ns.stmt_step StmtKind-F.Continue) (ap qs.kind_of (sym st.rolls-Continue) ∙ fold-roll-StmtKind qs.Kind qs.Guarded qs.Lined qs.kind_step qs.branch_step qs.stmt_step StmtKind-F.Continue) (continue_agrees)
+  is_continue = carried (AgreeKind c) (ap ns.kind_told (sym st.rolls-Continue) ∙ fold-roll-StmtKind ns.Placed ns.Placed ns.Told ns.kind_step ns.branch_step ns.stmt_step StmtKind-F.Continue) (ap qs.kind_of (sym st.rolls-Continue) ∙ fold-roll-StmtKind qs.Kind qs.Guarded qs.Lined qs.kind_step qs.branch_step qs.stmt_step StmtKind-F.Continue) (continue_agrees)
 
   pub is_fail : GoodKind st.Fail
-  is_fail = kind_by st.Fail _ _ (ap ns.kind_told (sym st.rolls-Fail) ∙ fold-roll-StmtKind ns.Placed ns.Placed ns.Told ns.kind_step ns.branch_step ns.stmt_step StmtKind-F.Fail) (ap qs.kind_of (sym st.rolls-Fail) ∙ fold-roll-StmtKind qs.Kind qs.Guarded qs.Lined qs.kind_step qs.branch_step qs.stmt_step StmtKind-F.Fail) (fail_agrees)
+  is_fail = carried (AgreeKind c) (ap ns.kind_told (sym st.rolls-Fail) ∙ fold-roll-StmtKind ns.Placed ns.Placed ns.Told ns.kind_step ns.branch_step ns.stmt_step StmtKind-F.Fail) (ap qs.kind_of (sym st.rolls-Fail) ∙ fold-roll-StmtKind qs.Kind qs.Guarded qs.Lined qs.kind_step qs.branch_step qs.stmt_step StmtKind-F.Fail) (fail_agrees)
 
   pub is_stop : GoodKind st.Stop
-  is_stop = kind_by st.Stop _ _ (ap ns.kind_told (sym st.rolls-Stop) ∙ fold-roll-StmtKind ns.Placed ns.Placed ns.Told ns.kind_step ns.branch_step ns.stmt_step StmtKind-F.Stop) (ap qs.kind_of (sym st.rolls-Stop) ∙ fold-roll-StmtKind qs.Kind qs.Guarded qs.Lined qs.kind_step qs.branch_step qs.stmt_step StmtKind-F.Stop) (stop_agrees)
+  is_stop = carried (AgreeKind c) (ap ns.kind_told (sym st.rolls-Stop) ∙ fold-roll-StmtKind ns.Placed ns.Placed ns.Told ns.kind_step ns.branch_step ns.stmt_step StmtKind-F.Stop) (ap qs.kind_of (sym st.rolls-Stop) ∙ fold-roll-StmtKind qs.Kind qs.Guarded qs.Lined qs.kind_step qs.branch_step qs.stmt_step StmtKind-F.Stop) (stop_agrees)
 
   pub is_pass : GoodKind st.Pass
-  is_pass = kind_by st.Pass _ _ (ap ns.kind_told (sym st.rolls-Pass) ∙ fold-roll-StmtKind ns.Placed ns.Placed ns.Told ns.kind_step ns.branch_step ns.stmt_step StmtKind-F.Pass) (ap qs.kind_of (sym st.rolls-Pass) ∙ fold-roll-StmtKind qs.Kind qs.Guarded qs.Lined qs.kind_step qs.branch_step qs.stmt_step StmtKind-F.Pass) (pass_agrees)
+  is_pass = carried (AgreeKind c) (ap ns.kind_told (sym st.rolls-Pass) ∙ fold-roll-StmtKind ns.Placed ns.Placed ns.Told ns.kind_step ns.branch_step ns.stmt_step StmtKind-F.Pass) (ap qs.kind_of (sym st.rolls-Pass) ∙ fold-roll-StmtKind qs.Kind qs.Guarded qs.Lined qs.kind_step qs.branch_step qs.stmt_step StmtKind-F.Pass) (pass_agrees)
 
   pub is_return : (x : Option Expr) → Maybe (Good c) x → GoodKind (st.Return x)
-  is_return x h = kind_by (st.Return x) _ _ (ap ns.kind_told (sym (st.rolls-Return x)) ∙ fold-roll-StmtKind ns.Placed ns.Placed ns.Told ns.kind_step ns.branch_step ns.stmt_step (StmtKind-F.Return x)) (ap qs.kind_of (sym (st.rolls-Return x)) ∙ fold-roll-StmtKind qs.Kind qs.Guarded qs.Lined qs.kind_step qs.branch_step qs.stmt_step (StmtKind-F.Return x)) (return_agrees (option_map n.part x) (option_map q.part_of x) (option_good c x h))
+  is_return x h = carried (AgreeKind c) (ap ns.kind_told (sym (st.rolls-Return x)) ∙ fold-roll-StmtKind ns.Placed ns.Placed ns.Told ns.kind_step ns.branch_step ns.stmt_step (StmtKind-F.Return x)) (ap qs.kind_of (sym (st.rolls-Return x)) ∙ fold-roll-StmtKind qs.Kind qs.Guarded qs.Lined qs.kind_step qs.branch_step qs.stmt_step (StmtKind-F.Return x)) (return_agrees (option_map n.part x) (option_map q.part_of x) (option_good c x h))
 
   pub is_print : (xs : List Expr) → Each (Good c) xs → GoodKind (st.Print xs)
-  is_print xs h = kind_by (st.Print xs) _ _ (ap ns.kind_told (sym (st.rolls-Print xs)) ∙ fold-roll-StmtKind ns.Placed ns.Placed ns.Told ns.kind_step ns.branch_step ns.stmt_step (StmtKind-F.Print xs)) (ap qs.kind_of (sym (st.rolls-Print xs)) ∙ fold-roll-StmtKind qs.Kind qs.Guarded qs.Lined qs.kind_step qs.branch_step qs.stmt_step (StmtKind-F.Print xs)) (print_agrees (map n.part xs) (map q.part_of xs) (all_good c xs h))
+  is_print xs h = carried (AgreeKind c) (ap ns.kind_told (sym (st.rolls-Print xs)) ∙ fold-roll-StmtKind ns.Placed ns.Placed ns.Told ns.kind_step ns.branch_step ns.stmt_step (StmtKind-F.Print xs)) (ap qs.kind_of (sym (st.rolls-Print xs)) ∙ fold-roll-StmtKind qs.Kind qs.Guarded qs.Lined qs.kind_step qs.branch_step qs.stmt_step (StmtKind-F.Print xs)) (print_agrees (map n.part xs) (map q.part_of xs) (all_good c xs h))
 
   pub is_read : (xs : List Word) → GoodKind (st.Read xs)
-  is_read xs = kind_by (st.Read xs) _ _ (ap ns.kind_told (sym (st.rolls-Read xs)) ∙ fold-roll-StmtKind ns.Placed ns.Placed ns.Told ns.kind_step ns.branch_step ns.stmt_step (StmtKind-F.Read xs)) (ap qs.kind_of (sym (st.rolls-Read xs)) ∙ fold-roll-StmtKind qs.Kind qs.Guarded qs.Lined qs.kind_step qs.branch_step qs.stmt_step (StmtKind-F.Read xs)) (read_agrees xs)
+  is_read xs = carried (AgreeKind c) (ap ns.kind_told (sym (st.rolls-Read xs)) ∙ fold-roll-StmtKind ns.Placed ns.Placed ns.Told ns.kind_step ns.branch_step ns.stmt_step (StmtKind-F.Read xs)) (ap qs.kind_of (sym (st.rolls-Read xs)) ∙ fold-roll-StmtKind qs.Kind qs.Guarded qs.Lined qs.kind_step qs.branch_step qs.stmt_step (StmtKind-F.Read xs)) (read_agrees xs)
