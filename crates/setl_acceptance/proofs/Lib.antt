@@ -1,0 +1,13 @@
+pub mod Kept
+pub mod Heads
+pub mod Fine
+pub mod Agreeing
+pub mod Parts
+pub mod Selections
+pub mod Statements
+pub mod Languages
+pub mod Trees
+pub mod StatementTrees
+pub mod GrammarOfExpressions
+pub mod GrammarOfPrograms
+pub mod Whole
