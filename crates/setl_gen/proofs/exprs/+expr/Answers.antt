@@ -1,0 +1,177 @@
+use Rattle.std.proofs.Common.{◌≡◌, ◌∙◌, List, ap, refl, sym, arith, Some}
+use Rattle.std.proofs.lemmas.Grind.{common_steps}
+use Rattle.std.specs.Option.{option_map}
+use Rattle.setl_program.specs.declared.expr.Expr.{Expr}
+use Rattle.setl_program.specs.declared.expr.Iterator.{Iterator}
+use Rattle.setl_program.specs.declared.expr.Argument.{Argument}
+use Rattle.setl_program.specs.Program as plain
+use Rattle.setl_program.specs.Plain.{plain_expr, plain_exprs, plain_iterator, plain_iterators, plain_binding, plain_arguments, condition_of}
+use Rattle.setl_code.specs.Code.{Unless}
+use Rattle.setl_code.specs.Piece.{one}
+use Rattle.setl_code.specs.Generated as code
+use Rattle.setl_gen.specs.Emitted.{Emitted, held, here, after}
+use Rattle.setl_gen.specs.Heads.{opened, with_end_undecided}
+use Rattle.setl_gen.proofs.Emitting.{after_nothing, then_made}
+use Rattle.setl_gen.proofs.Rounds.{done_made, exprs_round, arguments_round, count_is, levels_is, iterator_begun, iterator_headed}
+use Rattle.setl_gen.proofs.ExprKinds.{connect_is, choose_is, former_is, selection_is, quantified_is, got, of_kind}
+use Rattle.setl_gen.proofs.Constructs.{apply_made, connect_made, choose_made, former_made, selection_made, quantified_made, call_made}
+use Rattle.setl_gen.proofs.exprs.+expr.Goals as goal
+
+pub exprs-loop-e-preserved : goal.exprs-loop-e-preserved
+exprs-loop-e-preserved t c =
+    exprs_round c.args.line c.args.es.now c.loop-e.e-index c.e-item.result (held c.loop-e.to) (held c.expr.new.to) c.loop-e-test.true c.e-item.is c.in_ok-expr.ensures
+    ∙ c.loop-e.invariant
+
+pub exprs-returns : goal.exprs-returns
+exprs-returns t c =
+    let f = λ (r : List Expr). code.exprs c.args.line (plain_exprs r) in
+    done_made f c.args.es.now c.loop-e.e-index (held c.loop-e.to) (after (f c.args.es.now) (held c.args.to.now)) c.loop-e-test.false (after_nothing (held c.loop-e.to)) c.loop-e.invariant
+
+pub arguments-loop-x-preserved : goal.arguments-loop-x-preserved
+arguments-loop-x-preserved t c =
+    arguments_round c.args.line c.args.all.now c.loop-x.x-index c.x-item.result (held c.loop-x.to) (held c.argument.new.to) c.loop-x-test.true c.x-item.is c.in_ok-argument.ensures
+    ∙ c.loop-x.invariant
+
+pub arguments-returns : goal.arguments-returns
+arguments-returns t c =
+    let f = λ (r : List Argument). code.arguments c.args.line (plain_arguments r) in
+    done_made f c.args.all.now c.loop-x.x-index (held c.loop-x.to) (after (f c.args.all.now) (held c.args.to.now)) c.loop-x-test.false (after_nothing (held c.loop-x.to)) c.loop-x.invariant
+
+pub apply-returns : goal.apply-returns
+apply-returns t c =
+    apply_made c.args.line c.args.o (plain_exprs c.args.es.now) c.in_ok-count.count (held c.args.to.now) (held c.exprs.new.to) (held c.put.new.self)
+    c.in_ok-exprs.ensures (c.in_ok-count.ensures ∙ count_is c.args.es.now) c.in_ok-put.ensures
+
+pub call-returns : goal.call-returns
+call-returns t c =
+    call_made c.args.line c.args.f c.in_ok-body.body (plain_arguments c.args.all.now) (held c.args.to.now) (held c.arguments.new.to) (held c.put.new.self) (held c.store_set.new.to)
+    c.in_ok-arguments.ensures (omega (arith, c.in_ok-body.ensures)) c.in_ok-put.ensures c.in_ok-store_set.ensures
+
+pub condition-returns-in-None : goal.condition-returns-in-None
+condition-returns-in-None t c =
+    let s = held c.args.to.now in
+    sym (after_nothing s) ∙ ap (λ o. after (code.condition c.args.line (condition_of (option_map plain_expr o)) c.args.back) s) (sym c.in-None.is)
+
+pub tested-returns : goal.tested-returns
+tested-returns t c =
+    then_made (code.expr c.args.line (plain_expr c.args.c.now)) (one c.args.line (Unless c.args.back)) (held c.args.to.now) (held c.expr.new.to) (held c.put.new.self) c.in_ok-expr.ensures c.in_ok-put.ensures
+
+pub expr-returns-in_ok-decide_here-in-Connect : goal.expr-returns-in_ok-decide_here-in-Connect
+expr-returns-in_ok-decide_here-in-Connect t c =
+    let line = c.args.line in
+    let k = c.in-Connect.k in
+    let a = c.in-Connect.a in
+    let b = c.in-Connect.b in
+    let s = held c.args.to.now in
+    let s1 = held c.expr.new.to in
+    let s2 = held c.step.new.self in
+    let s3 = held c.expr-in-Connect.new.to in
+    let s4 = held c.put-in-Connect.new.self in
+    let u = held c.decide_here.new.self in
+    let e1 = got line c.get.result.now a s s1 c.in_ok-expr-in-Connect.ensures c.get.ensures in
+    let e3 = got line c.get-in-Connect.result.now b s2 s3 c.in_ok-expr-in-Connect-2.ensures c.get-in-Connect.ensures in
+    of_kind line c.args.e.now (plain.Connect k (plain_expr a) (plain_expr b)) s u (connect_is c.args.e.now k a b c.in-Connect.is)
+    (connect_made line k (plain_expr a) (plain_expr b) c.in_ok-test-in-Connect.test (here s4) s s1 s2 s3 s4 u
+    e1 c.in_ok-test-in-Connect.ensures.place c.in_ok-test-in-Connect.ensures.code e3 c.in_ok-put-in-Connect.ensures refl c.in_ok-decide_here-in-Connect.ensures)
+
+pub expr-returns-in_ok-jump_here-in-Choose : goal.expr-returns-in_ok-jump_here-in-Choose
+expr-returns-in_ok-jump_here-in-Choose t c =
+    let line = c.args.line in
+    let t = c.in-Choose.t in
+    let a = c.in-Choose.a in
+    let b = c.in-Choose.b in
+    let s = held c.args.to.now in
+    let s1 = held c.expr-in-Choose.new.to in
+    let s2 = held c.step-in-Choose.new.self in
+    let s3 = held c.expr-in-Choose-2.new.to in
+    let s4 = held c.step-in-Choose-2.new.self in
+    let s5 = held c.unless_here.new.self in
+    let s6 = held c.expr-in-Choose-3.new.to in
+    let u = held c.jump_here.new.self in
+    let e1 = got line c.get-in-Choose.result.now t s s1 c.in_ok-expr-in-Choose.ensures c.get-in-Choose.ensures in
+    let e3 = got line c.get-in-Choose-2.result.now a s2 s3 c.in_ok-expr-in-Choose-2.ensures c.get-in-Choose-2.ensures in
+    let e6 = got line c.get-in-Choose-3.result.now b s5 s6 c.in_ok-expr-in-Choose-3.ensures c.get-in-Choose-3.ensures in
+    of_kind line c.args.e.now (plain.Choose (plain_expr t) (plain_expr a) (plain_expr b)) s u (choose_is c.args.e.now t a b c.in-Choose.is)
+    (choose_made line (plain_expr t) (plain_expr a) (plain_expr b) c.in_ok-test-in-Choose.test c.in_ok-over-in-Choose.over (here s4) (here s6) s s1 s2 s3 s4 s5 s6 u
+    e1 c.in_ok-test-in-Choose.ensures.place c.in_ok-test-in-Choose.ensures.code e3 c.in_ok-over-in-Choose.ensures.place c.in_ok-over-in-Choose.ensures.code refl c.in_ok-unless_here-in-Choose.ensures e6 refl c.in_ok-jump_here-in-Choose.ensures)
+
+pub expr-returns-in_ok-next_here-in-Former : goal.expr-returns-in_ok-next_here-in-Former
+expr-returns-in_ok-next_here-in-Former t c =
+    let line = c.args.line in
+    let k = c.in-Former.k in
+    let x = c.in-Former.e in
+    let is = c.in-Former.is' in
+    let t = c.in-Former.t in
+    let s = held c.args.to.now in
+    let s1 = held c.put-in-Former.new.self in
+    let s2 = held c.iterators.new.to in
+    let s3 = held c.condition.new.to in
+    let s4 = held c.expr-in-Former.new.to in
+    let s5 = held c.add_and_go_on.new.to in
+    let u = held c.next_here.new.self in
+    let at = c.in_ok-first-in-Former.first in
+    let a = c.in_ok-first-in-Former.innermost in
+    let o : opened line (plain_iterators is) s1 ≡ Some (at, s2, a) = ap (λ (r : List Iterator). opened line (plain_iterators r) s1) (sym c.as_slice-in-Former.ensures) ∙ c.in_ok-first-in-Former.ensures in
+    let e4 = got line c.get-in-Former.result.now x s3 s4 c.in_ok-expr-in-Former.ensures c.get-in-Former.ensures in
+    of_kind line c.args.e.now (plain.Former k (plain_expr x) (plain_iterators is) (condition_of (option_map plain_expr t))) s u (former_is c.args.e.now k x is t c.in-Former.is)
+    (former_made line k (plain_expr x) (plain_iterators is) (condition_of (option_map plain_expr t)) at a c.len.result s s1 s2 s3 s4 s5 u
+    c.in_ok-put-in-Former.ensures o c.in_ok-condition-in-Former.ensures e4 (c.len.ensures ∙ levels_is is) c.in_ok-add_and_go_on-in-Former.ensures c.in_ok-next_here-in-Former.ensures)
+
+pub expr-returns-in_ok-next_here-in-Selection : goal.expr-returns-in_ok-next_here-in-Selection
+expr-returns-in_ok-next_here-in-Selection t c =
+    let line = c.args.line in
+    let k = c.in-Selection.k in
+    let b = c.in-Selection.b in
+    let es = c.in-Selection.es in
+    let x = c.in-Selection.c in
+    let s = held c.args.to.now in
+    let s1 = held c.put-in-Selection.new.self in
+    let s2 = held c.exprs.new.to in
+    let s3 = held c.begin_selection.new.to in
+    let s4 = held c.expr-in-Selection.new.to in
+    let s5 = held c.keep_or_drop.new.to in
+    let u = held c.next_here-in-Selection.new.self in
+    let e2 = c.in_ok-exprs-in-Selection.ensures ∙ ap (λ (r : List Expr). after (code.exprs line (plain_exprs r)) s1) c.as_slice-in-Selection.ensures in
+    let e4 = got line c.get-in-Selection.result.now x s3 s4 c.in_ok-expr-in-Selection.ensures c.get-in-Selection.ensures in
+    of_kind line c.args.e.now (plain.Selection k (plain_binding b) (plain_exprs es) (plain_expr x)) s u (selection_is c.args.e.now k b es x c.in-Selection.is)
+    (selection_made line k (plain_binding b) (plain_exprs es) (plain_expr x) c.len-in-Selection.result c.in_ok-next-in-Selection.next s s1 s2 s3 s4 s5 u
+    c.in_ok-put-in-Selection.ensures e2 (c.len-in-Selection.ensures ∙ count_is es) c.in_ok-next-in-Selection.ensures.place c.in_ok-next-in-Selection.ensures.code e4 c.in_ok-keep_or_drop-in-Selection.ensures c.in_ok-next_here-in-Selection.ensures)
+
+pub expr-returns-in_ok-end_undecided-in-Quantified : goal.expr-returns-in_ok-end_undecided-in-Quantified
+expr-returns-in_ok-end_undecided-in-Quantified t c =
+    let line = c.args.line in
+    let q = c.in-Quantified.q in
+    let is = c.in-Quantified.is' in
+    let x = c.in-Quantified.c in
+    let outer = c.enter-outer.result in
+    let inner = c.leave-inner.result in
+    let s = held c.args.to.now in
+    let s1 = held c.enter-outer.new.self in
+    let s2 = held c.iterators-in-Quantified.new.to in
+    let s3 = held c.expr-in-Quantified.new.to in
+    let s4 = held c.leave_decided.new.to in
+    let s5 = held c.next_here-in-Quantified.new.self in
+    let s6 = held c.leave-inner.new.self in
+    let u = held c.end_undecided.new.to in
+    let at = c.in_ok-first-in-Quantified.first in
+    let a = c.in_ok-first-in-Quantified.innermost in
+    let o : opened line (plain_iterators is) s1 ≡ Some (at, s2, a) = ap (λ (r : List Iterator). opened line (plain_iterators r) s1) (sym c.as_slice-in-Quantified.ensures) ∙ c.in_ok-first-in-Quantified.ensures in
+    let e3 = got line c.get-in-Quantified.result.now x s2 s3 c.in_ok-expr-in-Quantified.ensures c.get-in-Quantified.ensures in
+    let e7 = c.in_ok-end_undecided-in-Quantified.ensures ∙ ap (λ (r : List Iterator). with_end_undecided line q (plain_iterators r) inner s6) c.as_slice-in-Quantified-2.ensures in
+    of_kind line c.args.e.now (plain.Quantified q (plain_iterators is) (plain_expr x)) s u (quantified_is c.args.e.now q is x c.in-Quantified.is)
+    (quantified_made line q (plain_iterators is) (plain_expr x) outer inner at a c.len-in-Quantified.result s s1 s2 s3 s4 s5 s6 u
+    c.enter-outer.ensures.outer c.enter-outer.ensures.rest o e3 (c.len-in-Quantified.ensures ∙ levels_is is) c.in_ok-leave_decided-in-Quantified.ensures c.in_ok-next_here-in-Quantified.ensures c.leave-inner.ensures.inner c.leave-inner.ensures.rest e7)
+
+pub head-returns-clause-place : goal.head-returns-clause-place
+head-returns-clause-place t c =
+    let s = held c.args.to.now in
+    let r = held c.begin.new.to in
+    let e = iterator_begun c.args.line c.in_ok-count.count c.args.i.now c.as_slice.result.now s (held c.exprs.new.to) r c.as_slice.ensures c.in_ok-exprs.ensures (c.in_ok-count.ensures ∙ c.len.ensures) c.in_ok-begin.ensures in
+    c.in_ok-at.ensures.place ∙ ap here e
+
+pub head-returns-clause-code : goal.head-returns-clause-code
+head-returns-clause-code t c =
+    let s = held c.args.to.now in
+    let r = held c.begin.new.to in
+    let e = iterator_begun c.args.line c.in_ok-count.count c.args.i.now c.as_slice.result.now s (held c.exprs.new.to) r c.as_slice.ensures c.in_ok-exprs.ensures (c.in_ok-count.ensures ∙ c.len.ensures) c.in_ok-begin.ensures in
+    iterator_headed c.args.line c.args.back c.args.i.now s r (held c.step.new.self) (held c.bind.new.to) e c.in_ok-at.ensures.code c.in_ok-bind.ensures

@@ -1,0 +1,8 @@
+use Rattle.std.proofs.Common.{◌≡◌, drop}
+use Rattle.setl_program.specs.Plain.{selectors_of}
+use Rattle.setl_code.specs.Generated.{selectors}
+use Rattle.setl_gen.specs.Emitted.{held, after}
+use Rattle.setl_gen.proofs.places.selectors.Given as goal
+
+abbrev pub invariant-loop-s : goal.invariant-loop-s
+invariant-loop-s l = after (selectors l.line (selectors_of (drop l.s-index l.ss))) (held l.to) ≡ after (selectors l.line (selectors_of l.ss)) (held l.initial.to)

@@ -1,0 +1,15 @@
+use Rattle.std.proofs.Common.{[], ◌∷◌, ◌∙◌, ap, sym, Some}
+use Rattle.setl_program.specs.Plain.{plain_variable, plain_slots, plain_expr, plain_exprs, selectors_of}
+use Rattle.setl_code.specs.Code.{Combining, TakingOut, DropTop, ReturnTop, PrintTop}
+use Rattle.setl_code.specs.Piece.{one}
+use Rattle.setl_code.specs.Generated as code
+use Rattle.setl_gen.specs.Emitted.{held, after}
+use Rattle.setl_gen.proofs.Emitting.{then_made}
+use Rattle.setl_gen.proofs.Rounds.{last, count_is, one_store}
+use Rattle.setl_gen.proofs.steps.print.Goals as goal
+
+pub returns : goal.returns
+returns c =
+    then_made (code.exprs c.args.line (plain_exprs c.args.es.now)) (one c.args.line (PrintTop (code.count (plain_exprs c.args.es.now)))) (held c.args.to.now) (held c.exprs.new.to) (held c.put.new.self)
+    c.in_ok-exprs.ensures
+    (c.in_ok-put.ensures ∙ ap (λ m. after (one c.args.line (PrintTop m)) (held c.exprs.new.to)) (c.in_ok-count.ensures ∙ count_is c.args.es.now))

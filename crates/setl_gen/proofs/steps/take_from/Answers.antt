@@ -1,0 +1,15 @@
+use Rattle.std.proofs.Common.{[], ◌∷◌, ◌∙◌, ap, sym, Some}
+use Rattle.setl_program.specs.Plain.{plain_variable, plain_slots, plain_expr, plain_exprs, selectors_of}
+use Rattle.setl_code.specs.Code.{Combining, TakingOut, DropTop, ReturnTop, PrintTop}
+use Rattle.setl_code.specs.Piece.{one}
+use Rattle.setl_code.specs.Generated as code
+use Rattle.setl_gen.specs.Emitted.{held, after}
+use Rattle.setl_gen.proofs.Emitting.{then_made}
+use Rattle.setl_gen.proofs.Rounds.{last, count_is, one_store}
+use Rattle.setl_gen.proofs.steps.take_from.Goals as goal
+
+pub returns : goal.returns
+returns c =
+    then_made (code.alter c.args.line (TakingOut c.args.k) (plain_variable c.args.p.now.variable) (selectors_of c.args.p.now.selectors)) (code.store_slots c.args.line (Some (plain_variable c.args.x.now) ∷ [])) (held c.args.to.now) (held c.alter.new.to) (held c.store.new.self)
+    c.in_ok-alter.ensures
+    (one_store c.args.line (plain_variable c.args.x.now) (held c.alter.new.to) (held c.store.new.self) c.in_ok-store.ensures)

@@ -1,0 +1,8 @@
+//! Jumps whose targets aren't known yet.
+
+/// A jump out of the innermost loop, at a place of the code, with its line.
+#[derive(Clone, Copy, Debug, PartialEq, Eq)]
+pub struct Hole {
+    pub place: u32,
+    pub line: u32,
+}

@@ -1,0 +1,101 @@
+//! Places that statements change.
+
+ghost use Rattle.std.specs.Prelude.{◌≡◌, OnOk, IfOk, map};
+ghost use Rattle.setl_program.specs.Plain.{plain_variable, selectors_of};
+ghost use Rattle.setl_code.specs.Code.{ReadOne, StoreIn};
+ghost use Rattle.setl_code.specs.Piece.{◌⨾◌, one};
+ghost use Rattle.setl_code.specs.Generated as code;
+ghost use Rattle.setl_code.specs.Plain.{plain_alteration, plain_bracket};
+ghost use Rattle.setl_gen.specs.Emitted.{held, after};
+ghost use Rattle.setl_gen.specs.StmtKinds.{selector_code, bracket_of};
+
+use crate::Memory;
+use crate::emitter::Emitter;
+use crate::exprs::expr;
+use setl_code::{Alteration, Bracket, Instr};
+use setl_program::{Place, Selector, Variable};
+use setl_tree::Items;
+use std::alloc::Global;
+
+/// A selector.
+fn selector<'p>(to: &mut Emitter<'p>, line: u32, s: &'p Selector) -> Result<(), Memory>
+    ensures { OnOk result (held to.new ≡ after (selector_code line s.now) (held to.old)) }
+{
+    match s {
+        Selector::Round(e) => expr(to, line, e),
+        Selector::Brace(e) => expr(to, line, e),
+    }
+}
+
+/// The selectors of a place.
+fn selectors<'p>(to: &mut Emitter<'p>, line: u32, ss: &'p [Selector]) -> Result<(), Memory>
+    ensures { OnOk result (held to.new ≡ after (code.selectors line (selectors_of ss.now)) (held to.old)) }
+{
+    for s in ss {
+        selector(to, line, s)?;
+    }
+    Ok(())
+}
+
+/// How a selector is written.
+fn bracket(s: &Selector) -> Bracket
+    ensures { plain_bracket result ≡ bracket_of s.now }
+{
+    match s {
+        Selector::Round(_) => Bracket::Round,
+        Selector::Brace(_) => Bracket::Brace,
+    }
+}
+
+/// How selectors are written.
+fn brackets(alloc: Global, ss: &[Selector]) -> Result<Items<Bracket>, Memory>
+    ensures { IfOk result (λ bs. map plain_bracket bs ≡ code.brackets (selectors_of ss.now)) }
+{
+    let mut bs = Items::new(alloc);
+    for s in ss {
+        bs.push(bracket(s))?;
+    }
+    Ok(bs)
+}
+
+/// The part at a place is changed.
+pub fn alter<'p>(to: &mut Emitter<'p>, line: u32, a: Alteration, p: &'p Place) -> Result<(), Memory>
+    ensures { OnOk result (held to.new ≡ after (code.alter line (plain_alteration a) (plain_variable p.now.variable) (selectors_of p.now.selectors)) (held to.old)) }
+{
+    selectors(to, line, p.selectors.as_slice())?;
+    let bs = brackets(to.alloc, p.selectors.as_slice())?;
+    let slot = to.names.slot(&p.variable)?;
+    to.put(line, Instr::Alter(a, slot, bs))?;
+    Ok(())
+}
+
+/// A right side is put into a place.
+pub fn put<'p>(to: &mut Emitter<'p>, line: u32, p: &'p Place) -> Result<(), Memory>
+    ensures { OnOk result (held to.new ≡ after (code.put line (plain_variable p.now.variable) (selectors_of p.now.selectors)) (held to.old)) }
+{
+    if p.selectors.is_empty() {
+        to.store(line, &p.variable)?;
+    } else {
+        alter(to, line, Alteration::Put, p)?;
+    }
+    Ok(())
+}
+
+/// A variable is read.
+fn read_one<'p>(to: &mut Emitter<'p>, line: u32, x: &'p Variable) -> Result<(), Memory>
+    ensures { OnOk result (held to.new ≡ after (one line ReadOne ⨾ one line (StoreIn (plain_variable x.now))) (held to.old)) }
+{
+    to.put(line, Instr::Read)?;
+    to.store(line, x)?;
+    Ok(())
+}
+
+/// Variables are read.
+pub fn read_all<'p>(to: &mut Emitter<'p>, line: u32, xs: &'p [Variable]) -> Result<(), Memory>
+    ensures { OnOk result (held to.new ≡ after (code.read_all line (map plain_variable xs.now)) (held to.old)) }
+{
+    for x in xs {
+        read_one(to, line, x)?;
+    }
+    Ok(())
+}
