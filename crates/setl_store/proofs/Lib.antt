@@ -1,0 +1,4 @@
+pub mod Lists
+pub mod OperandLists
+pub mod Bodies
+pub mod Slots

@@ -1,0 +1,27 @@
+use Rattle.std.proofs.Common.{◌∙◌, ◌<◌, length, sym, ap, subst, refl}
+use Rattle.setl_value.specs.DatumOf.{part}
+use Rattle.setl_code.specs.CodeCore.{There, Gone, write}
+use Rattle.setl_code.specs.Plain.{plain_slot}
+use Rattle.setl_store.specs.declared.cells.Held.TheVariants as held
+use Rattle.setl_store.specs.Flat.{held_of}
+use Rattle.setl_store.specs.Standing.{variables}
+use Rattle.setl_store.proofs.OperandLists.{Changed}
+use Rattle.setl_store.proofs.Slots.{place_within, slot_at, slot_stored}
+use Rattle.setl_store.proofs.store.Store.set_slot.Goals as goal
+use Rattle.setl_store.proofs.store.Store.set_slot.Goals.{In_ok-write_slot}
+
+pub place-at-requires-clause-there : goal.place-at-requires-clause-there
+place-at-requires-clause-there c = place_within c.self.inside.code.now c.self.inside.at c.self.inside.environment.now c.self.inside.environment.kept c.args.self.now c.args.slot c.self.invariant.1 c.self.view_is c.requires
+
+pub write_slot-requires : goal.write_slot-requires
+write_slot-requires c =
+    subst (λ n. n < length c.self.inside.environment.now.slots) (sym c.place-at.ensures)
+    (place_within c.self.inside.code.now c.self.inside.at c.self.inside.environment.now c.self.inside.environment.kept c.args.self.now c.args.slot c.self.invariant.1 c.self.view_is c.requires)
+
+done : (c : In_ok-write_slot) → Changed c.self.inside.code.now c.self.inside.at c.write_slot.new.environment.now c.write_slot.new.environment.kept c.args.self.now (write (plain_slot (variables c.args.self.now.core) c.args.slot) (There (part c.args.value)) c.args.self.now.core)
+done c =
+    slot_stored c.self.inside.code.now c.self.inside.at c.self.inside.environment.now c.write_slot.new.environment.now c.self.inside.environment.kept c.write_slot.new.environment.kept c.args.self.now c.args.slot c.place-at.result c.held.result (There (part c.args.value))
+    c.self.invariant c.self.view_is c.requires c.place-at.ensures c.in_ok-write_slot.ensures.now c.in_ok-write_slot.ensures.kept c.held.ensures
+
+pub returns : goal.returns
+returns c = (done c).stands

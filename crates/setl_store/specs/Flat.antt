@@ -1,0 +1,238 @@
+-- How the activations lie in flat lists of slots, operands and members. No public clause cites this module.
+use Rattle.std.specs.Prelude.{◌≡◌, false, ℕ, zero, suc, ◌+◌, ◌-◌, ◌<◌, ◌≤◌, List, [], ◌∷◌, ◌++◌, length, take, drop, map, reverse, Option, Some, None, slice_get, slice_set}
+use Rattle.setl_value.specs.Datum.{Datum, bool}
+use Rattle.setl_value.specs.DatumOf.{datum, part}
+use Rattle.setl_run.specs.Variable.{Variable}
+use Rattle.setl_program.specs.declared.kinds.Collection.{Collection}
+use Rattle.setl_model.specs.Core.{Item}
+use Rattle.setl_model.specs.Collections.{refusal}
+use Rattle.setl_iterator.specs.States.{IteratorState}
+use Rattle.setl_environment.specs.Environment.{Contents}
+use Rattle.setl_code.specs.declared.code.Body.{Body}
+use Rattle.setl_code.specs.declared.code.Code.{Code}
+use Rattle.setl_code.specs.declared.code.Step.{Step}
+use Rattle.setl_code.specs.declared.code.Slot.{Slot}
+use Rattle.setl_code.specs.declared.code.Slot.TheVariants as slot
+use Rattle.setl_code.specs.Code as plain
+use Rattle.setl_code.specs.Plain.{plain_code}
+use Rattle.setl_code.specs.CodeCore as core
+use Rattle.setl_code.specs.CodeCore.{Cells, variables_of, Activation, Copy, CodeCore}
+use Rattle.setl_store.specs.declared.cells.Held.{Held}
+use Rattle.setl_store.specs.declared.cells.Held.TheVariants as held
+use Rattle.setl_store.specs.declared.cells.Operand.{Operand}
+use Rattle.setl_store.specs.declared.cells.Operand.TheVariants as operand
+use Rattle.setl_store.specs.declared.cells.Frame.{Frame}
+use Rattle.setl_store.specs.declared.cells.Member.{Member}
+use Rattle.setl_store.specs.Standing.{Standing, no_world, iterator_by}
+
+-- ---- slots
+
+abbrev pub held_of : Held → core.Held
+held_of held.Om = core.There None
+held_of (held.Value v) = core.There (Some (datum v))
+held_of held.Taken = core.Gone
+
+-- variables with what their slots hold
+abbrev pub cells : List Variable → List core.Held → Cells
+cells [] hs = []
+cells (x ∷ xs) [] = []
+cells (x ∷ xs) (h ∷ hs) = (x, h) ∷ cells xs hs
+
+-- the variables of a body
+abbrev pub variables_by : ℕ → Option plain.Body → List Variable
+variables_by n None = []
+variables_by n (Some b) = variables_of n b
+
+abbrev pub names_of : plain.Code → ℕ → List Variable
+names_of c n = variables_by n (slice_get c.bodies n)
+
+-- a step of a body that may not exist
+abbrev pub step_of : Option Body → ℕ → Option Step
+step_of None at = None
+step_of (Some b) at = slice_get b.steps at
+
+-- how many own variables it has
+abbrev pub own_count_of : Option Body → ℕ
+own_count_of None = 0
+own_count_of (Some b) = length b.parameters + length b.names
+
+-- ---- operands
+
+abbrev pub member_of : Member → Option Datum
+member_of m = part m.value
+
+-- those of some members that are no `om`
+abbrev pub present : List (Option Datum) → List Datum
+present [] = []
+present (None ∷ vs) = present vs
+present (Some d ∷ vs) = d ∷ present vs
+
+-- what a collection has, the latest first
+abbrev pub got : List Member → (lowest count : ℕ) → List (Option Datum)
+got members lowest count = reverse (map member_of (take count (drop lowest members)))
+
+abbrev pub iterator_of : IteratorState → core.Operand
+iterator_of i = iterator_by i.pairs i.left
+
+abbrev pub operand_of : List Member → Operand → core.Operand
+operand_of members operand.Om = core.Result None
+operand_of members (operand.Value v) = core.Result (Some (datum v))
+operand_of members (operand.Iterator i) = iterator_of i
+operand_of members (operand.Collection what lowest count) = core.Collecting what (got members lowest count)
+
+-- it is a result and no collection
+abbrev pub IsPlain : Operand → Type 0
+IsPlain operand.Om = Unit {0}
+IsPlain (operand.Value v) = Unit {0}
+IsPlain (operand.Iterator i) = ⊥
+IsPlain (operand.Collection what lowest count) = ⊥
+
+-- no value that a collection has got is one that it refuses
+abbrev pub GotAll : Collection → List (Option Datum) → Type 0
+GotAll what [] = Unit {0}
+GotAll what (v ∷ vs) = (refusal what v ≡ None) × GotAll what vs
+
+-- it serves as a value, and its members are there
+abbrev pub Serves : List Member → Operand → Type 0
+Serves ms operand.Om = Unit {0}
+Serves ms (operand.Value v) = Unit {0}
+Serves ms (operand.Iterator i) = ⊥
+Serves ms (operand.Collection what lowest count) = (lowest + count ≤ length ms) × GotAll what (got ms lowest count)
+
+-- how many members are left without an operand
+abbrev pub members_below : Operand → ℕ → ℕ
+members_below operand.Om n = n
+members_below (operand.Value v) n = n
+members_below (operand.Iterator i) n = n
+members_below (operand.Collection what lowest count) n = lowest
+
+-- ---- activations
+
+-- Of the activations over these slots and operands, the innermost first, each has those from its lowest on.
+abbrev pub body_in : List Frame → ℕ
+body_in [] = 0
+body_in (f ∷ fs) = f.body
+
+abbrev pub own_in : plain.Code → List Frame → List core.Held → Cells
+own_in c [] hs = []
+own_in c (f ∷ fs) hs = cells (names_of c f.body) (drop f.slots hs)
+
+abbrev pub operands_in : List Frame → List core.Operand → List core.Operand
+operands_in [] os = []
+operands_in (f ∷ fs) os = reverse (drop f.operands os)
+
+-- the number of the lowest operand of the innermost one
+abbrev pub lowest_in : List Frame → ℕ
+lowest_in [] = 0
+lowest_in (f ∷ fs) = f.operands
+
+-- the place of a slot of the innermost one
+abbrev pub slots_in : List Frame → ℕ
+slots_in [] = 0
+slots_in (f ∷ fs) = f.slots
+
+abbrev pub place_in : List Frame → Slot → ℕ
+place_in fs (slot.Global k) = k
+place_in fs (slot.Own k) = slots_in fs + k
+
+-- the innermost one, at this place
+abbrev pub activation : plain.Code → ℕ → List Frame → List core.Held → List core.Operand → Activation
+activation c at fs hs os = record { body = body_in fs; at = at; own = own_in c fs hs; operands = operands_in fs os }
+
+-- those that wait for it
+abbrev pub callers : plain.Code → List Frame → List core.Held → List core.Operand → List Activation
+callers c [] hs os = []
+callers c (f ∷ []) hs os = []
+callers c (f ∷ g ∷ fs) hs os = activation c f.from (g ∷ fs) (take f.slots hs) (take f.operands os) ∷ callers c (g ∷ fs) (take f.slots hs) (take f.operands os)
+
+-- ---- the whole
+
+abbrev pub Here : Type 0
+Here = Contents Held Operand Frame Member
+
+abbrev pub helds : Here → List core.Held
+helds e = map held_of e.slots
+
+abbrev pub results : Here → List core.Operand
+results e = map (operand_of e.members) e.operands
+
+-- What `ok` keeps has its answer `false` on top, so that `fail` brings that back too; the copy lacks it.
+abbrev pub copy_of : plain.Code → Here × ℕ → Copy
+copy_of c k = record {
+  globals = cells c.vars (helds k.0);
+  now =
+      record {
+        body = body_in (reverse k.0.activations);
+        at = k.1;
+        own = own_in c (reverse k.0.activations) (helds k.0);
+        operands = drop 1 (operands_in (reverse k.0.activations) (results k.0));
+      };
+  callers = callers c (reverse k.0.activations) (helds k.0) (results k.0);
+}
+
+abbrev pub core_of : plain.Code → ℕ → Here → List (Here × ℕ) → CodeCore
+core_of c at e kept = record {
+  globals = cells c.vars (helds e);
+  now = activation c at (reverse e.activations) (helds e) (results e);
+  callers = callers c (reverse e.activations) (helds e) (results e);
+  kept = map (copy_of c) kept;
+  world = no_world;
+}
+
+-- what a store over this environment stands for
+abbrev pub stands : Code → ℕ → Here → List (Here × ℕ) → Standing
+stands code at e kept = record { code = code; core = core_of (plain_code code) at e kept }
+
+-- ---- what always holds
+
+-- The activations, the innermost first, lie behind the globals one behind the other, the main program's the lowest; each
+-- has a slot for each of its variables.
+abbrev pub IsShaped : plain.Code → List Frame → (slots operands : ℕ) → Type 0
+IsShaped c [] n m = ⊥
+IsShaped c (f ∷ []) n m = (f.body ≡ 0) × (f.slots ≡ length c.vars) × (f.operands ≡ 0) × (n ≡ f.slots + length (names_of c f.body))
+IsShaped c (f ∷ g ∷ fs) n m = (n ≡ f.slots + length (names_of c f.body)) × (f.operands ≤ m) × IsShaped c (g ∷ fs) f.slots f.operands
+
+-- the collections among these operands, the top first, have these members one behind the other
+abbrev pub HasMembers : List Operand → (members : ℕ) → Type 0
+HasMembers [] n = n ≡ 0
+HasMembers (operand.Om ∷ os) n = HasMembers os n
+HasMembers (operand.Value v ∷ os) n = HasMembers os n
+HasMembers (operand.Iterator i ∷ os) n = HasMembers os n
+HasMembers (operand.Collection what lowest count ∷ os) n = (n ≡ lowest + count) × HasMembers os lowest
+
+abbrev pub GotThese : core.Operand → Type 0
+GotThese (core.Collecting what vs) = GotAll what vs
+GotThese o = Unit {0}
+
+abbrev pub AllGot : List core.Operand → Type 0
+AllGot [] = Unit {0}
+AllGot (o ∷ os) = GotThese o × AllGot os
+
+pub record IsSound (c : plain.Code) (e : Here) : Type 0 where
+  pub some : 0 < length e.activations
+  pub shaped : IsShaped c (reverse e.activations) (length e.slots) (length e.operands)
+  pub members : HasMembers (reverse e.operands) (length e.members)
+  pub got : AllGot (results e)
+
+-- the operands of the body at work, the top first
+abbrev pub now_operands : Here → List core.Operand
+now_operands e = operands_in (reverse e.activations) (results e)
+
+-- each kept one has its answer on top
+abbrev pub AllSound : plain.Code → List (Here × ℕ) → Type 0
+AllSound c [] = Unit {0}
+AllSound c (k ∷ ks) = IsSound c k.0 × (now_operands k.0 ≡ core.Result (Some (bool false)) ∷ drop 1 (now_operands k.0)) × AllSound c ks
+
+-- ---- changes
+
+-- with one more operand
+abbrev pub with_operand : Here → Operand → Here
+with_operand e o = record e { operands = e.operands ++ o ∷ [] }
+
+-- with these lowest operands and members
+abbrev pub cut_to : Here → (operands members : ℕ) → Here
+cut_to e k m = record e { operands = take k e.operands; members = take m e.members }
+
+-- with this in a slot
+abbrev pub with_slot : Here → ℕ → Held → Here
+with_slot e n v = record e { slots = slice_set e.slots n v }

@@ -1,0 +1,98 @@
+-- What a store stands for: its code, and the core of the code's run but for the world, with all that is kept.
+use Rattle.std.specs.Prelude.{◌≡◌, ℕ, suc, Bool, true, false, List, [], ◌∷◌, map, Option, Some, None, slice_get}
+use Rattle.std.specs.Option.{option_map}
+use Rattle.setl_value.specs.Datum.{Datum, bool}
+use Rattle.setl_value.specs.DatumOf.{datum}
+use Rattle.setl_model.specs.Core.{Item}
+use Rattle.setl_model.specs.World.{World}
+use Rattle.setl_code.specs.declared.code.Code.{Code}
+use Rattle.setl_code.specs.Plain.{Variables, plain_code}
+use Rattle.setl_code.specs.CodeCore.{cleared, Copy, Held, There, Gone, Operand, Result as Holds, Iterator, PairIterator, Collecting, value_of, Popped, Pops, Lacks, CodeCore}
+use Rattle.setl_store.specs.declared.store.Content.{Content}
+use Rattle.setl_store.specs.declared.store.Content.TheVariants as content
+use Rattle.setl_store.specs.declared.store.Top.{Top}
+use Rattle.setl_store.specs.declared.store.Top.TheVariants as top
+use Rattle.setl_code.specs.CodeMeans.{main_slots}
+
+-- The core's world stays `no_world` here: it is the machine's.
+pub record Standing : Type 0 where
+  pub code : Code
+  pub core : CodeCore
+
+abbrev pub no_world : World
+no_world = record { input = []; eof = false; atom = 0; left = 0 }
+
+-- at the first step of the main body
+abbrev pub started : Code → Standing
+started c = record {
+  code = c;
+  core =
+      record {
+        globals = cleared (plain_code c).vars;
+        now = record { body = 0; at = 0; own = main_slots (slice_get (plain_code c).bodies 0); operands = [] };
+        callers = [];
+        kept = [];
+        world = no_world;
+      };
+}
+
+-- the variables in hand, by their slots
+abbrev pub variables : CodeCore → Variables
+variables k = record { global = map (λ c. c.0) k.globals; own = map (λ c. c.0) k.now.own }
+
+-- the same with these operands, the top first
+abbrev pub over : List Operand → CodeCore → CodeCore
+over xs k = record k { now = record k.now { operands = xs } }
+
+-- the same at this step
+abbrev pub at_place : ℕ → CodeCore → CodeCore
+at_place at k = record k { now = record k.now { at = at } }
+
+-- the same, kept by `ok`: fail goes on behind it, and what it pushes isn't kept
+abbrev pub kept : CodeCore → CodeCore
+kept k = record k {
+  now = record k.now { at = suc k.now.at; operands = Holds (Some (bool true)) ∷ k.now.operands };
+  kept = record { globals = k.globals; now = record k.now { at = suc k.now.at }; callers = k.callers } ∷ k.kept;
+}
+
+-- what `fail` brings back of the first of these
+abbrev pub restored : List Copy → CodeCore → Option CodeCore
+restored [] k = None
+restored (c ∷ older) k = Some (record k { globals = c.globals; now = record c.now { operands = Holds (Some (bool false)) ∷ c.now.operands }; callers = c.callers; kept = older })
+
+-- it is brought back, or nothing is kept and nothing changes
+abbrev pub Restored : Bool → CodeCore → CodeCore → Type 0
+Restored true old new = restored old.kept old ≡ Some new
+Restored false old new = (old.kept ≡ []) × (new ≡ old)
+
+-- the value that the top operand serves as, and the operands below it
+abbrev pub top_of : List Operand → Option (Option Datum × List Operand)
+top_of [] = None
+top_of (o ∷ xs) = option_map (λ v. (v, xs)) (value_of o)
+
+-- an iterator with these items left, over members or over pairs
+abbrev pub iterator_by : Bool → List Item → Operand
+iterator_by true left = PairIterator left
+iterator_by false left = Iterator left
+
+-- whether there are so many results
+abbrev pub pops : Popped → Bool
+pops (Pops vs xs) = true
+pops Lacks = false
+
+-- what a slot holds
+abbrev pub IsHeld : Held → Content → Type 0
+IsHeld Gone content.Taken = Unit {0}
+IsHeld (There None) content.Om = Unit {0}
+IsHeld (There (Some d)) (content.Value v) = datum v.now ≡ d
+IsHeld h c = ⊥
+
+-- what the top operand is; an iterator gives members or pairs
+abbrev pub Shows : List Operand → Top → Type 0
+Shows [] top.Nothing = Unit {0}
+Shows (Holds None ∷ xs) top.Om = Unit {0}
+Shows (Holds (Some d) ∷ xs) (top.Value v) = datum v.now ≡ d
+Shows (Iterator items ∷ xs) top.Iterator = Unit {0}
+Shows (PairIterator items ∷ xs) top.Iterator = Unit {0}
+Shows (Collecting what got ∷ xs) top.Collection = Unit {0}
+Shows xs t = ⊥

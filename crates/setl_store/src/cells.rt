@@ -1,0 +1,78 @@
+//! What slots and operands hold.
+
+use setl_environment::{Copied, Environment, Memory};
+use setl_iterator::Iterator;
+use setl_program::Collection;
+use setl_value::Value;
+
+/// What a slot holds.
+#[derive(Drop)]
+pub(crate) enum Held {
+    Om,
+    Value(Value),
+    /// Nothing: its value was taken, and it is stored before it is read again.
+    Taken,
+}
+
+/// An operand.
+#[derive(Drop)]
+pub(crate) enum Operand {
+    Om,
+    Value(Value),
+    Iterator(Iterator),
+    /// A collection that is being built: the place of its lowest member, and how many it has.
+    Collection(Collection, usize, usize),
+}
+
+/// A member of a collection that is being built.
+#[derive(Drop)]
+pub(crate) struct Member {
+    pub value: Option<Value>,
+}
+
+/// A body at work: its number, the place at which its caller goes on, and its lowest slot and operand.
+#[derive(Clone, Copy)]
+pub(crate) struct Frame {
+    pub body: u32,
+    pub from: usize,
+    pub slots: usize,
+    pub operands: usize,
+}
+
+/// The slots, the operands, the activations and the members of collections, and what `ok` kept, each with its place in
+/// the code.
+pub(crate) type Contents = Environment<Held, Operand, Frame, Member, usize>;
+
+impl Copied for Held {
+    fn copied(&self) -> Result<Held, Memory> {
+        match self {
+            Held::Om => Ok(Held::Om),
+            Held::Value(value) => Ok(Held::Value(value.copy()?)),
+            Held::Taken => Ok(Held::Taken),
+        }
+    }
+}
+
+impl Copied for Operand {
+    fn copied(&self) -> Result<Operand, Memory> {
+        match self {
+            Operand::Om => Ok(Operand::Om),
+            Operand::Value(value) => Ok(Operand::Value(value.copy()?)),
+            Operand::Iterator(iterator) => Ok(Operand::Iterator(iterator.copied()?)),
+            Operand::Collection(what, lowest, count) => {
+                Ok(Operand::Collection(*what, *lowest, *count))
+            }
+        }
+    }
+}
+
+impl Copied for Member {
+    fn copied(&self) -> Result<Member, Memory> {
+        match &self.value {
+            None => Ok(Member { value: None }),
+            Some(value) => Ok(Member {
+                value: Some(value.copy()?),
+            }),
+        }
+    }
+}

@@ -1,0 +1,100 @@
+//! Changes of the environment of a store, with the memory that they take.
+
+ghost use Rattle.std.specs.Prelude.{◌≡◌, ◌<◌, ◌-◌, ◌+◌, ◌≤◌, length, slice_get, drop, Some, IfOk, OnOk, OnErr};
+ghost use Rattle.setl_store.specs.Flat.{with_operand, with_slot, cut_to};
+
+use crate::cells::{Contents, Held, Member, Operand};
+use setl_environment::Memory;
+use std::alloc::AllocError;
+
+/// Adds an operand.
+pub(crate) fn add_operand(environment: &mut Contents, operand: Operand) -> Result<(), Memory>
+    ensures now { OnOk result (environment.new.now ≡ with_operand environment.old.now operand) }
+    ensures kept { environment.new.kept ≡ environment.old.kept }
+    ensures refused { OnErr result (environment.new.now ≡ environment.old.now) }
+{
+    environment.reserve(1)?;
+    environment.reserve_operands(1)?;
+    environment.push_operand(operand);
+    Ok(())
+}
+
+/// Takes off the last operand, and gives it.
+pub(crate) fn take_operand(environment: &mut Contents) -> Result<Operand, Memory>
+    requires { 0 < length environment.old.now.operands }
+    ensures value { IfOk result (λ operand. Some operand ≡ slice_get environment.old.now.operands (length environment.old.now.operands - 1)) }
+    ensures now { OnOk result (environment.new.now ≡ cut_to environment.old.now (length environment.old.now.operands - 1) (length environment.old.now.members)) }
+    ensures kept { environment.new.kept ≡ environment.old.kept }
+    ensures refused { OnErr result (environment.new.now ≡ environment.old.now) }
+{
+    environment.reserve(1)?;
+    environment.pop_operand()
+}
+
+/// Takes off the last operand and the members from this one on, and gives these.
+pub(crate) fn take_collection(
+    environment: &mut Contents,
+    lowest: usize,
+) -> Result<Vec<Member>, Memory>
+    requires some { 0 < length environment.old.now.operands }
+    requires fewer { lowest ≤ length environment.old.now.members }
+    ensures members { IfOk result (λ members. members.items ≡ drop lowest environment.old.now.members) }
+    ensures now { OnOk result (environment.new.now ≡ cut_to environment.old.now (length environment.old.now.operands - 1) lowest) }
+    ensures kept { environment.new.kept ≡ environment.old.kept }
+    ensures refused { OnErr result (environment.new.now ≡ environment.old.now) }
+{
+    reserve_one_more(environment, environment.members() - lowest)?;
+    let members = environment.pop_members(lowest)?;
+    environment.drop_operand();
+    Ok(members)
+}
+
+/// Drops the last operand and the members from this one on.
+pub(crate) fn drop_operand(environment: &mut Contents, lowest: usize) -> Result<(), Memory>
+    requires some { 0 < length environment.old.now.operands }
+    requires fewer { lowest ≤ length environment.old.now.members }
+    ensures now { OnOk result (environment.new.now ≡ cut_to environment.old.now (length environment.old.now.operands - 1) lowest) }
+    ensures kept { environment.new.kept ≡ environment.old.kept }
+    ensures refused { OnErr result (environment.new.now ≡ environment.old.now) }
+{
+    reserve_one_more(environment, environment.members() - lowest)?;
+    environment.cut_members(lowest);
+    environment.drop_operand();
+    Ok(())
+}
+
+// Makes so many changes and one more ready.
+fn reserve_one_more(environment: &mut Contents, count: usize) -> Result<(), Memory>
+    ensures now { environment.new.now ≡ environment.old.now }
+    ensures kept { environment.new.kept ≡ environment.old.kept }
+    ensures ready { OnOk result (count + 1 ≤ environment.new.ready) }
+{
+    let Some(all) = count.checked_add(1) else {
+        return Err(AllocError);
+    };
+    environment.reserve(all)
+}
+
+/// Puts this in the place of what a slot holds.
+pub(crate) fn write_slot(environment: &mut Contents, at: usize, value: Held) -> Result<(), Memory>
+    requires { at < length environment.old.now.slots }
+    ensures now { OnOk result (environment.new.now ≡ with_slot environment.old.now at value) }
+    ensures kept { environment.new.kept ≡ environment.old.kept }
+    ensures refused { OnErr result (environment.new.now ≡ environment.old.now) }
+{
+    environment.reserve(1)?;
+    environment.set_slot(at, value);
+    Ok(())
+}
+
+/// Puts nothing in the place of what a slot holds, and gives that.
+pub(crate) fn take_slot(environment: &mut Contents, at: usize) -> Result<Held, Memory>
+    requires { at < length environment.old.now.slots }
+    ensures value { IfOk result (λ value. Some value ≡ slice_get environment.old.now.slots at) }
+    ensures now { OnOk result (environment.new.now ≡ with_slot environment.old.now at Held.Taken) }
+    ensures kept { environment.new.kept ≡ environment.old.kept }
+    ensures refused { OnErr result (environment.new.now ≡ environment.old.now) }
+{
+    environment.reserve(1)?;
+    environment.replace_slot(at, Held::Taken)
+}

@@ -1,0 +1,204 @@
+//! What `fail` brings back.
+
+ghost use Rattle.std.specs.Prelude.{◌≡◌, ◌<◌, ◌≤◌, ◌-◌, ◌+◌, [], ◌∷◌, length, reverse, IfOk, OnOk};
+ghost use Rattle.setl_code.specs.CodeCore.{Result as Holds, Collecting, There, Gone, held, write};
+ghost use Rattle.setl_code.specs.MayRun.{HasSlot};
+ghost use Rattle.setl_code.specs.Plain.{plain_slot};
+ghost use Rattle.setl_value.specs.DatumOf.{part};
+ghost use Rattle.setl_store.specs.Flat.{operand_of, held_of, lowest_in, slots_in, place_in, HasMembers};
+ghost use Rattle.setl_store.specs.Standing.{over, at_place, iterator_by, variables, Shows, IsHeld};
+
+use crate::cells::{Contents, Held, Operand};
+use crate::changes::{add_operand, write_slot};
+use setl_code::{Code, Slot};
+use setl_environment::Memory;
+use setl_iterator::Iterator;
+use setl_program::Collection;
+use setl_value::Value;
+use std::alloc::Global;
+use std::marker::Model;
+
+/// The variables, operands and activations of a run of a code, its place in the code, and what `ok` kept of them.
+#[derive(Drop)]
+pub struct Store<'c> {
+    pub(crate) alloc: Global,
+    pub(crate) code: &'c Code,
+    pub(crate) at: usize,
+    pub(crate) environment: Contents,
+}
+
+impl<'c> Model for Store<'c> {
+    ghost use Rattle.std.specs.Coded.{codes};
+    ghost use Rattle.setl_value.specs.DatumCode.{coded_datum};
+    ghost use Rattle.setl_store.specs.Standing.{Standing};
+
+    ghost Value = { Standing };
+
+    ghost coded = { Prim.hlevel (codes, coded_datum) };
+
+    ghost use Rattle.setl_code.specs.MayRun.{MayRun};
+    ghost use Rattle.setl_code.specs.Plain.{plain_code};
+    ghost use Rattle.setl_store.specs.Flat.{stands, IsSound, AllSound};
+
+    ghost view = { λ s. stands s.code.now s.at s.environment.now s.environment.kept };
+
+    ghost invariant = { λ s. MayRun s.code.now × IsSound (plain_code s.code.now) s.environment.now × AllSound (plain_code s.code.now) s.environment.kept };
+}
+
+/// What a slot holds.
+pub enum Content<'a> {
+    /// Nothing: its value was taken.
+    Taken,
+    Om,
+    Value(&'a Value),
+}
+
+/// What the top operand is.
+pub enum Top<'a> {
+    /// There is none.
+    Nothing,
+    Iterator,
+    Collection,
+    Om,
+    Value(&'a Value),
+}
+
+impl<'c> Store<'c> {
+    /// The number of the step in hand.
+    pub fn at(&self) -> usize
+        ensures { result ≡ self.now.core.now.at }
+    {
+        self.at
+    }
+
+    /// Goes to a step of the body at work.
+    pub fn go_to(&mut self, to: usize)
+        ensures { self.new ≡ record self.old { core = at_place to self.old.core } }
+    {
+        self.at = to;
+    }
+
+    /// What a variable's slot holds. It takes no memory.
+    pub fn slot(&self, slot: Slot) -> Content<'_>
+        requires { HasSlot (length self.now.core.globals) (length self.now.core.now.own) slot }
+        ensures { IsHeld (held (plain_slot (variables self.now.core) slot) self.now.core) result }
+    {
+        match self.environment.slot(place(&self.environment, slot)) {
+            Held::Om => Content::Om,
+            Held::Value(value) => Content::Value(value),
+            Held::Taken => Content::Taken,
+        }
+    }
+
+    /// Stores a value, or `om`, in a variable's slot.
+    ///
+    /// The error is want of memory.
+    pub fn set_slot(&mut self, slot: Slot, value: Option<Value>) -> Result<(), Memory>
+        requires { HasSlot (length self.old.core.globals) (length self.old.core.now.own) slot }
+        ensures { OnOk result (self.new ≡ record self.old { core = write (plain_slot (variables self.old.core) slot) (There (part value)) self.old.core }) }
+    {
+        let at = place(&self.environment, slot);
+        write_slot(&mut self.environment, at, held(value))?;
+        Ok(())
+    }
+
+    /// What the top operand is. It takes no memory.
+    pub fn top(&self) -> Top<'_>
+        ensures { Shows self.now.core.now.operands result }
+    {
+        let count = self.environment.operands();
+        if count == lowest(&self.environment) {
+            return Top::Nothing;
+        }
+        match self.environment.operand(count - 1) {
+            Operand::Om => Top::Om,
+            Operand::Value(value) => Top::Value(value),
+            Operand::Iterator(_) => Top::Iterator,
+            Operand::Collection(_, _, _) => Top::Collection,
+        }
+    }
+
+    /// Pushes a value, or `om`.
+    ///
+    /// The error is want of memory.
+    pub fn push(&mut self, value: Option<Value>) -> Result<(), Memory>
+        ensures { OnOk result (self.new ≡ record self.old { core = over (Holds (part value) ∷ self.old.core.now.operands) self.old.core }) }
+    {
+        add_operand(&mut self.environment, operand(value))?;
+        Ok(())
+    }
+
+    /// Pushes an iterator.
+    ///
+    /// The error is want of memory.
+    pub fn push_iterator(&mut self, iterator: Iterator) -> Result<(), Memory>
+        ensures { OnOk result (self.new ≡ record self.old { core = over (iterator_by iterator.pairs iterator.left ∷ self.old.core.now.operands) self.old.core }) }
+    {
+        add_operand(&mut self.environment, Operand::Iterator(iterator))?;
+        Ok(())
+    }
+
+    /// Pushes an empty collection.
+    ///
+    /// The error is want of memory.
+    pub fn push_collection(&mut self, what: Collection) -> Result<(), Memory>
+        ensures { OnOk result (self.new ≡ record self.old { core = over (Collecting what [] ∷ self.old.core.now.operands) self.old.core }) }
+    {
+        let lowest = self.environment.members();
+        add_operand(&mut self.environment, Operand::Collection(what, lowest, 0))?;
+        Ok(())
+    }
+}
+
+/// An operand that is this value.
+fn operand(value: Option<Value>) -> Operand
+    ensures stands { (members : _) → operand_of members result ≡ Holds (part value) }
+    ensures alone { (os : _) (n : _) → HasMembers os n → HasMembers (result ∷ os) n }
+{
+    match value {
+        Some(value) => Operand::Value(value),
+        None => Operand::Om,
+    }
+}
+
+/// What a slot holds that holds this value.
+fn held(value: Option<Value>) -> Held
+    ensures { held_of result ≡ There (part value) }
+{
+    match value {
+        Some(value) => Held::Value(value),
+        None => Held::Om,
+    }
+}
+
+/// The number of the lowest operand of the body at work.
+pub(crate) fn lowest(environment: &Contents) -> usize
+    requires { 0 < length environment.now.now.activations }
+    ensures { result ≡ lowest_in (reverse environment.now.now.activations) }
+{
+    environment
+        .activation(environment.activations() - 1)
+        .operands
+}
+
+/// The place of a slot of the body at work.
+fn place(environment: &Contents, slot: Slot) -> usize
+    requires some { 0 < length environment.now.now.activations }
+    requires there { place_in (reverse environment.now.now.activations) slot < length environment.now.now.slots }
+    ensures { result ≡ place_in (reverse environment.now.now.activations) slot }
+{
+    match slot {
+        Slot::Global(k) => k as usize,
+        Slot::Own(k) => own_place(environment, k as usize),
+    }
+}
+
+/// The place of a slot of the body's own.
+fn own_place(environment: &Contents, k: usize) -> usize
+    requires some { 0 < length environment.now.now.activations }
+    requires there { slots_in (reverse environment.now.now.activations) + k < length environment.now.now.slots }
+    ensures { result ≡ slots_in (reverse environment.now.now.activations) + k }
+{
+    let _slots = environment.slots();
+    environment.activation(environment.activations() - 1).slots + k
+}
