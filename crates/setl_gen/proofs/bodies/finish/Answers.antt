@@ -1,5 +1,5 @@
 use Rattle.std.proofs.Common.{◌∙◌, map, ap, sym}
-use Rattle.std.specs.Prelude.{Vec}
+use Rattle.std.specs.Global.{Vec}
 use Rattle.setl_code.specs.declared.code.Step.{Step}
 use Rattle.setl_code.specs.Plain.{plain_step}
 use Rattle.setl_gen.specs.Table.{variables}
@@ -12,4 +12,4 @@ returns-clause-body c =
     let t = c.args.to.now.names in
     finished_is t c.args.name.now c.in_ok-name.name c.in_ok-parameters.parameters c.in_ok-names.names c.from_vec.result (held c.args.to.now)
     c.in_ok-name.ensures (c.in_ok-parameters.ensures ∙ c.parameters.ensures) c.in_ok-names.ensures
-    (ap (map (plain_step (variables t))) (sym (c.from_vec.ensures ∙ ap (λ (v : Vec Step). v.items) c.replace.ensures.value)))
+    (ap (map (plain_step (variables t))) (sym (c.from_vec.ensures ∙ ap (λ (v : Vec Step). v.items) c.replace-steps.ensures.value)))
