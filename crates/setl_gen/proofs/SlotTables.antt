@@ -4,14 +4,14 @@ use Rattle.std.proofs.Math.Numerals.{add-one}
 use Rattle.std.proofs.lemmas.Bool.{eq-eqb}
 use Rattle.std.proofs.lemmas.List.{append-nil, append_assoc, map-append, length-map}
 use Rattle.std.proofs.lemmas.Slice.Eq.{bytes_eq-Decides}
-use Rattle.std.proofs.Common.{◌≡◌, ℕ, zero, suc, ◌+◌, ◌&&◌, nat_eq, bytes_eq, Bool, true, false, cond, List, [], ◌∷◌, ◌++◌, ◌||◌, ◌<◌, map, take, length, refl, ap, sym, subst, ◌∙◌, Option, Some, None, arith}
+use Rattle.std.proofs.Common.{◌≡◌, ℕ, zero, suc, ◌+◌, ◌&&◌, nat_eq, bytes_eq, Bool, true, false, cond, List, [], ◌∷◌, ◌++◌, ◌||◌, map, take, length, refl, ap, sym, subst, ◌∙◌, Option, Some, None, arith}
 use Rattle.std.specs.Prelude.{slice_get, is_some, IfSome, Result, Ok, Err, OnOk, OnErr}
 use Rattle.std.specs.Borrow.{Bor}
 use Rattle.std.specs.Map.{lookup}
 use Rattle.indexmap.specs.IndexMap.{insert_entry}
 use Rattle.setl_tree.specs.declared.tree.Param.{Param}
 use Rattle.setl_run.specs.Variable.{Variable, Own, Bound, is_variable}
-use Rattle.setl_run.specs.VariableLaws.{same_variable, variable_itself}
+use Rattle.setl_run.specs.VariableLaws.{same_variable}
 use Rattle.setl_program.specs.ProgramOf.{parameter_of}
 use Rattle.setl_code.specs.Names.{is_among, is_own, is_parameter}
 use Rattle.setl_code.specs.declared.code.OwnName.{OwnName}

@@ -131,11 +131,10 @@ fn procedures<'p>(
     Ok(())
 }
 
-/// The code of a program.
+/// The code of a program: the plain code that it stands for is that of the plain program.
 ///
-/// The error is want of memory. A program in which a variable has no slot, or an iteration no iterator, has no code and
-/// is answered so too, and so is one whose code has 2^32 steps, names or bodies or more; a formed program has the former
-/// nowhere.
+/// The error is want of memory. It is also the answer where code would have 2^32 steps, slots or bodies or more, and where
+/// the program has a variable without a slot or an iteration without an iterator, which formed and placed programs don't.
 pub fn emit(alloc: Global, program: &Program) -> Result<Code, Memory>
     ensures { IfOk result (λ c. plain_code c ≡ code.code_of (plain_program program.now)) }
 {
