@@ -133,7 +133,7 @@ fn procedures<'p>(
 
 /// The code of a program: the plain code that it stands for is that of the plain program.
 ///
-/// The error is want of memory. It is also the answer where code would have 2^32 steps, slots or bodies or more, and where
+/// The error is want of memory. It is also the answer where a number in the code would be 2^32 or more, and where
 /// the program has a variable without a slot or an iteration without an iterator, which formed and placed programs don't.
 pub fn emit(alloc: Global, program: &Program) -> Result<Code, Memory>
     ensures { IfOk result (λ c. plain_code c ≡ code.code_of (plain_program program.now)) }
