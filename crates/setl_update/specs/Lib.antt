@@ -1,3 +1,4 @@
 pub mod Selectors
 pub mod Updates
 pub mod Takes
+pub mod Parts
