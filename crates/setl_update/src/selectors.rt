@@ -1,10 +1,10 @@
 //! Selectors, and the part at one.
 
-ghost use Rattle.std.specs.Prelude.{◌≡◌, ◌∷◌, [], Some, IfOk, OnErr};
+ghost use Rattle.std.specs.Prelude.{◌≡◌, ◌∷◌, [], Some, IfOk, OnErr, map};
 ghost use Rattle.setl_value.specs.DatumOf.{datum, lent, part};
 ghost use Rattle.setl_map.specs.declared.Operator.TheVariants.{Put, PutImages};
 ghost use Rattle.setl_map.specs.Operators.{op_of, operand_count};
-ghost use Rattle.setl_model.specs.Places.{part_of, with_part_at};
+ghost use Rattle.setl_model.specs.Places.{part_of, part_at_all, with_part_at};
 ghost use Rattle.setl_update.specs.Parts.{Reads};
 ghost use Rattle.setl_update.specs.Selectors.{selected};
 ghost use Rattle.setl_update.specs.Updates.{Updates};
@@ -46,6 +46,27 @@ pub(crate) fn part_at(
     }
 }
 
+/// The part at several selectors, the outermost first.
+pub(crate) fn part_at_all(
+    alloc: Global,
+    whole: &Option<Value>,
+    at: &[Selector],
+    turns: u64,
+) -> Result<Part, OpFault>
+    ensures { Reads (part_at_all (map selected at.now) (part whole.now) turns) turns result }
+{
+    match at {
+        [] => Ok(Part {
+            value: copied(whole)?,
+            left: turns,
+        }),
+        [first, inner @ ..] => {
+            let part = part_at(alloc, whole, first, turns)?;
+            part_at_all(alloc, &part.value, inner, part.left)
+        }
+    }
+}
+
 /// What a binary operator makes of two values.
 pub(crate) fn combined(
     alloc: Global,
@@ -74,8 +95,8 @@ fn lend(a: &Option<Value>) -> Option<&Value>
     }
 }
 
-/// The same value, which shares its body.
-pub(crate) fn copied(a: &Option<Value>) -> Result<Option<Value>, Memory>
+// The same value, which shares its body.
+fn copied(a: &Option<Value>) -> Result<Option<Value>, Memory>
     ensures { IfOk result (λ copy. part copy ≡ part a.now) }
 {
     match a {

@@ -2,12 +2,14 @@
 
 ghost use Rattle.std.specs.Prelude.{◌≡◌, ◌∷◌, [], Some, OnErr, map};
 ghost use Rattle.setl_value.specs.DatumOf.{part};
+ghost use Rattle.setl_map.specs.declared.Operator.TheVariants.{With, Less, Lessf};
 ghost use Rattle.setl_map.specs.Operators.{op_of, operand_count};
 ghost use Rattle.setl_model.specs.Places.{with_part_at_all, combined};
 ghost use Rattle.setl_update.specs.Selectors.{selected};
 ghost use Rattle.setl_update.specs.Updates.{Updates};
 
-use crate::selectors::Selector;
+use crate::selectors::{Selector, combined, part_at, put_part};
+use setl_collections::{less_in_place, lessf_in_place, with_in_place};
 use setl_map::{OpFault, Operator};
 use setl_value::Value;
 use std::alloc::Global;
@@ -18,6 +20,7 @@ use std::alloc::Global;
 /// The parts are read from the outermost inwards, and then put from the innermost outwards; the first fault on that way
 /// is told, of one step the first in the order Om, Kind, Range, Spent, Deep. NoMemory may come at any point. After a
 /// fault the whole is as before.
+
 pub fn put_at(
     alloc: Global,
     whole: &mut Option<Value>,
@@ -28,7 +31,18 @@ pub fn put_at(
     ensures updated { Updates (with_part_at_all (map selected at.now) (part whole.old) (part value) turns) turns (part whole.new) result }
     ensures refused { OnErr result (whole.new ≡ whole.old) }
 {
-    Err(OpFault::NoMemory)
+    match at {
+        [] => {
+            *whole = value;
+            Ok(turns)
+        }
+        [only] => put_part(alloc, whole, only, value, turns),
+        [first, inner @ ..] => {
+            let mut part = part_at(alloc, whole, first, turns)?;
+            let left = put_at(alloc, &mut part.value, inner, value, part.left)?;
+            put_part(alloc, whole, first, part.value, left)
+        }
+    }
 }
 
 /// Combines the part at some selectors, the outermost first, with a value by a binary operator: the part is its left
@@ -37,6 +51,7 @@ pub fn put_at(
 /// The parts are read from the outermost inwards, then comes the operator, and then the new parts are put from the
 /// innermost outwards; the first fault on that way is told, of one step the first in the order of `OpFault`'s page.
 /// NoMemory may come at any point. After a fault the whole is as before.
+
 pub fn combine_at(
     alloc: Global,
     what: Operator,
@@ -49,5 +64,91 @@ pub fn combine_at(
     ensures updated { Updates (combined (map selected at.now) (part whole.old) (λ p now. op_of what (p ∷ part value ∷ []) now) turns) turns (part whole.new) result }
     ensures refused { OnErr result (whole.new ≡ whole.old) }
 {
-    Err(OpFault::NoMemory)
+    match at {
+        [] => combine(alloc, what, whole, value, turns),
+        [first, inner @ ..] => {
+            let mut part = part_at(alloc, whole, first, turns)?;
+            let left = combine_at(alloc, what, &mut part.value, inner, value, part.left)?;
+            put_part(alloc, whole, first, part.value, left)
+        }
+    }
+}
+
+// Combines the whole with a value.
+fn combine(
+    alloc: Global,
+    what: Operator,
+    whole: &mut Option<Value>,
+    value: Option<Value>,
+    turns: u64,
+) -> Result<u64, OpFault>
+    requires { operand_count what ≡ Some 2 }
+    ensures updated { Updates (op_of what (part whole.old ∷ part value ∷ []) turns) turns (part whole.new) result }
+    ensures refused { OnErr result (whole.new ≡ whole.old) }
+{
+    match what {
+        Operator::With => add(alloc, whole, value, turns),
+        Operator::Less => remove(whole, value, turns),
+        Operator::Lessf => remove_point(alloc, whole, value, turns),
+        _ => {
+            let new = combined(alloc, what, whole, &value, turns)?;
+            *whole = new.value;
+            Ok(new.left)
+        }
+    }
+}
+
+// `whole with value`
+fn add(
+    alloc: Global,
+    whole: &mut Option<Value>,
+    value: Option<Value>,
+    turns: u64,
+) -> Result<u64, OpFault>
+    ensures updated { Updates (op_of With (part whole.old ∷ part value ∷ []) turns) turns (part whole.new) result }
+    ensures refused { OnErr result (whole.new ≡ whole.old) }
+{
+    let Some(whole) = whole else {
+        return Err(OpFault::Om);
+    };
+    let Some(value) = value else {
+        return Err(OpFault::Om);
+    };
+    let charged = with_in_place(alloc, whole, value)?;
+    Ok(turns.saturating_sub(charged))
+}
+
+// `whole less value`
+fn remove(whole: &mut Option<Value>, value: Option<Value>, turns: u64) -> Result<u64, OpFault>
+    ensures updated { Updates (op_of Less (part whole.old ∷ part value ∷ []) turns) turns (part whole.new) result }
+    ensures refused { OnErr result (whole.new ≡ whole.old) }
+{
+    let Some(whole) = whole else {
+        return Err(OpFault::Om);
+    };
+    let Some(value) = value else {
+        return Err(OpFault::Om);
+    };
+    let charged = less_in_place(whole, &value)?;
+    Ok(turns.saturating_sub(charged))
+}
+
+// `whole lessf value`
+fn remove_point(
+    alloc: Global,
+    whole: &mut Option<Value>,
+    value: Option<Value>,
+    turns: u64,
+) -> Result<u64, OpFault>
+    ensures updated { Updates (op_of Lessf (part whole.old ∷ part value ∷ []) turns) turns (part whole.new) result }
+    ensures refused { OnErr result (whole.new ≡ whole.old) }
+{
+    let Some(whole) = whole else {
+        return Err(OpFault::Om);
+    };
+    let Some(value) = value else {
+        return Err(OpFault::Om);
+    };
+    let charged = lessf_in_place(alloc, whole, &value)?;
+    Ok(turns.saturating_sub(charged))
 }
