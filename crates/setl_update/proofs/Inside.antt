@@ -7,7 +7,7 @@ use Rattle.setl_map.specs.declared.OpFault.{OpFault}
 use Rattle.setl_map.specs.Outcome.{Outcome, then_with}
 use Rattle.setl_map.specs.Answers.{Tells}
 use Rattle.setl_model.specs.Core.{Selected}
-use Rattle.setl_model.specs.Places.{part_of, with_part_at, with_part_at_all, combined}
+use Rattle.setl_model.specs.Places.{part_of, part_at_all, with_part_at, with_part_at_all, combined}
 use Rattle.setl_update.specs.declared.selectors.Selector.{Selector}
 use Rattle.setl_update.specs.Selectors.{selected}
 use Rattle.setl_update.specs.Updates.{Leaves, Updates}
@@ -39,18 +39,25 @@ combine_inside (x ∷ xs) s whole f left h e =
     ap (λ r. inside (selected s) whole (λ p now. combined (map selected r) p f now) left) (behind_is x xs)
     ∙ ap (λ r. combined (selected r ∷ map selected xs) whole f left) e
 
-module _ (s : Selected) (whole : Option Datum) (f : Option Datum → ℕ → Outcome) (turns : ℕ) (p : Option Datum) (left : ℕ) where
-  pub puts_back : (changed : Option Datum) (later : ℕ) (new : Option Datum) (r : Result ℕ OpFault)
+pub read_inside : (at : List Selector) (s : Selector) (whole : Option Datum) (left : ℕ) → 1 ≤ length at → s ≡ get_or at 0 s
+    → then_with (part_of (selected s) whole left) left (λ p now. part_at_all (map selected (behind at)) p now) ≡ part_at_all (map selected at) whole left
+read_inside [] s whole left h e = absurd (omega arith)
+read_inside (x ∷ xs) s whole left h e =
+    ap (λ r. then_with (part_of (selected s) whole left) left (λ p now. part_at_all (map selected r) p now)) (behind_is x xs)
+    ∙ ap (λ r. part_at_all (selected r ∷ map selected xs) whole left) e
+
+module _ (s : Selected) (whole : Option Datum) (f : Option Datum → ℕ → Outcome) (turns : ℕ) where
+  pub puts_back : (p changed : Option Datum) (left later : ℕ) (new : Option Datum) (r : Result ℕ OpFault)
       → Leaves (part_of s whole turns) turns p left → Leaves (f p left) left changed later → Updates (with_part_at s whole changed later) later new r
       → Updates (inside s whole f turns) turns new r
-  puts_back changed later new r h k l =
-      goes_on (part_of s whole turns) turns (λ q now. then_with (f q now) now (λ x y. with_part_at s whole x y)) p left new r h
-      (goes_on (f p left) left (λ x y. with_part_at s whole x y) changed later new r k l)
+  puts_back p changed left later new r h k l =
+      goes_on (λ q now. then_with (f q now) now (λ x y. with_part_at s whole x y)) turns p left (part_of s whole turns) new r h
+      (goes_on (λ x y. with_part_at s whole x y) left changed later (f p left) new r k l)
 
-  pub fails_inside : (e : OpFault) → Leaves (part_of s whole turns) turns p left → Tells (Err e) (f p left) → Tells (Err e) (inside s whole f turns)
-  fails_inside e h k =
-      goes_on (part_of s whole turns) turns (λ q now. then_with (f q now) now (λ x y. with_part_at s whole x y)) p left whole (Err e) h
+  pub fails_inside : (p : Option Datum) (left : ℕ) (e : OpFault) → Leaves (part_of s whole turns) turns p left → Tells (Err e) (f p left) → Tells (Err e) (inside s whole f turns)
+  fails_inside p left e h k =
+      goes_on (λ q now. then_with (f q now) now (λ x y. with_part_at s whole x y)) turns p left (part_of s whole turns) whole (Err e) h
       (stops (f p left) left (λ x y. with_part_at s whole x y) e k)
 
-pub fails_reading : (s : Selected) (whole : Option Datum) (f : Option Datum → ℕ → Outcome) (turns : ℕ) (e : OpFault) → Tells (Err e) (part_of s whole turns) → Tells (Err e) (inside s whole f turns)
-fails_reading s whole f turns e h = stops (part_of s whole turns) turns (λ q now. then_with (f q now) now (λ x y. with_part_at s whole x y)) e h
+  pub fails_reading : (e : OpFault) → Tells (Err e) (part_of s whole turns) → Tells (Err e) (inside s whole f turns)
+  fails_reading e h = stops (part_of s whole turns) turns (λ q now. then_with (f q now) now (λ x y. with_part_at s whole x y)) e h

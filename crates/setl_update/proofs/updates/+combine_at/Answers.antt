@@ -50,5 +50,5 @@ returns-in_ok-left-in-len1-up-clause-updated t c =
     let f : Option Datum → ℕ → Outcome = λ p now. combined (map selected (behind c.args.at.now)) p g now in
     let is = combine_inside c.args.at.now first whole g turns (omega arith) c.first-item.is in
     subst (λ o. Updates o turns new c.put_part.result) is
-    (puts_back (selected first) whole f turns (part read.value) read.left (part c.combine_at.new.whole) c.in_ok-left-in-len1-up.left new c.put_part.result
+    (puts_back (selected first) whole f turns (part read.value) (part c.combine_at.new.whole) read.left c.in_ok-left-in-len1-up.left new c.put_part.result
     c.in_ok-part-in-len1-up.ensures c.in_ok-left-in-len1-up.ensures.updated c.put_part.ensures.updated)

@@ -49,5 +49,5 @@ returns-in_ok-left-in-len1-up-clause-updated t c =
     let f : Option Datum → ℕ → Outcome = λ p now. with_part_at_all (map selected (behind c.args.at.now)) p v now in
     let is = put_inside c.args.at.now first whole v turns c.in-len1-up.len_at_least c.first-item.is in
     subst (λ o. Updates o turns new c.put_part-in-len1-up.result) is
-    (puts_back (selected first) whole f turns (part read.value) read.left (part c.put_at.new.whole) c.in_ok-left-in-len1-up.left new c.put_part-in-len1-up.result
+    (puts_back (selected first) whole f turns (part read.value) (part c.put_at.new.whole) read.left c.in_ok-left-in-len1-up.left new c.put_part-in-len1-up.result
     c.in_ok-part-in-len1-up.ensures c.in_ok-left-in-len1-up.ensures.updated c.put_part-in-len1-up.ensures.updated)
