@@ -1,5 +1,5 @@
 -- A change of the part at a selector.
-use Rattle.std.proofs.Common.{◌≡◌, ◌∙◌, ap, ℕ, ◌-◌, ◌≤◌, List, [], ◌∷◌, length, map, take, drop, get_or, Option, arith}
+use Rattle.std.proofs.Common.{◌≡◌, ◌∙◌, ap, sym, subst, ℕ, ◌-◌, ◌≤◌, List, [], ◌∷◌, length, map, take, drop, get_or, Option, arith}
 use Rattle.std.proofs.lemmas.List.{take_all}
 use Rattle.std.specs.Prelude.{Result, Err}
 use Rattle.setl_value.specs.Datum.{Datum}
@@ -46,18 +46,23 @@ read_inside (x ∷ xs) s whole left h e =
     ap (λ r. then_with (part_of (selected s) whole left) left (λ p now. part_at_all (map selected r) p now)) (behind_is x xs)
     ∙ ap (λ r. part_at_all (selected r ∷ map selected xs) whole left) e
 
-module _ (s : Selected) (whole : Option Datum) (f : Option Datum → ℕ → Outcome) (turns : ℕ) where
+-- what a change of the part at a selector tells, where o is its outcome
+module _ (s : Selected) (whole : Option Datum) (f : Option Datum → ℕ → Outcome) (turns : ℕ) (o : Outcome) (is : inside s whole f turns ≡ o) where
   pub puts_back : (p changed : Option Datum) (left later : ℕ) (new : Option Datum) (r : Result ℕ OpFault)
-      → Leaves (part_of s whole turns) turns p left → Leaves (f p left) left changed later → Updates (with_part_at s whole changed later) later new r
-      → Updates (inside s whole f turns) turns new r
+      → Leaves (part_of s whole turns) turns p left → Leaves (f p left) left changed later → Updates (with_part_at s whole changed later) later new r → Updates o turns new r
   puts_back p changed left later new r h k l =
-      goes_on (λ q now. then_with (f q now) now (λ x y. with_part_at s whole x y)) turns p left (part_of s whole turns) new r h
-      (goes_on (λ x y. with_part_at s whole x y) left changed later (f p left) new r k l)
+      subst (λ x. Updates x turns new r) is
+      (goes_on (λ q now. then_with (f q now) now (λ x y. with_part_at s whole x y)) turns p left (part_of s whole turns) new r h
+      (goes_on (λ x y. with_part_at s whole x y) left changed later (f p left) new r k l))
 
-  pub fails_inside : (p : Option Datum) (left : ℕ) (e : OpFault) → Leaves (part_of s whole turns) turns p left → Tells (Err e) (f p left) → Tells (Err e) (inside s whole f turns)
-  fails_inside p left e h k =
-      goes_on (λ q now. then_with (f q now) now (λ x y. with_part_at s whole x y)) turns p left (part_of s whole turns) whole (Err e) h
-      (stops (f p left) left (λ x y. with_part_at s whole x y) e k)
+  pub fails_inside : (p : Option Datum) (left : ℕ) (e : OpFault) (r : Result ℕ OpFault) → r ≡ Err e → Leaves (part_of s whole turns) turns p left → Tells (Err e) (f p left) → Updates o turns whole r
+  fails_inside p left e r same h k =
+      subst (λ x. Updates o turns whole x) (sym same)
+      (subst (λ x. Updates x turns whole (Err e)) is
+      (goes_on (λ q now. then_with (f q now) now (λ x y. with_part_at s whole x y)) turns p left (part_of s whole turns) whole (Err e) h
+      (stops (f p left) left (λ x y. with_part_at s whole x y) e k)))
 
-  pub fails_reading : (e : OpFault) → Tells (Err e) (part_of s whole turns) → Tells (Err e) (inside s whole f turns)
-  fails_reading e h = stops (part_of s whole turns) turns (λ q now. then_with (f q now) now (λ x y. with_part_at s whole x y)) e h
+  pub fails_reading : (e : OpFault) (r : Result ℕ OpFault) → r ≡ Err e → Tells (Err e) (part_of s whole turns) → Updates o turns whole r
+  fails_reading e r same h =
+      subst (λ x. Updates o turns whole x) (sym same)
+      (subst (λ x. Updates x turns whole (Err e)) is (stops (part_of s whole turns) turns (λ q now. then_with (f q now) now (λ x y. with_part_at s whole x y)) e h))

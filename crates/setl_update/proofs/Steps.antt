@@ -1,5 +1,5 @@
 -- One outcome after another.
-use Rattle.std.proofs.Common.{◌≡◌, sym, subst, ℕ, ◌-◌, Option, arith}
+use Rattle.std.proofs.Common.{sym, subst, ℕ, ◌-◌, Option, arith}
 use Rattle.std.specs.Prelude.{Result, Ok, Err}
 use Rattle.setl_value.specs.Datum.{Datum}
 use Rattle.setl_map.specs.declared.OpFault.{OpFault}

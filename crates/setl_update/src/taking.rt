@@ -30,9 +30,10 @@ pub struct TakenOut {
 /// Takes a value out of the set or tuple at some selectors, the outermost first: the least member of a set, or the first
 /// or the last component of a tuple.
 ///
-/// The part is read, then the value is taken out, and then the rest is put at the same selectors, as `put_at` does; the
-/// first fault on that way is told. Taking out charges nothing: Om for a part that is `om`, Kind for one of another kind.
-/// NoMemory may come at any point. After a fault the whole is as before.
+/// The part is read, the value is taken out of it, which charges no turn, and what is left of it is put at the same
+/// selectors; the first step that fails tells its fault: reading and putting as in `put_at`, and taking out with Om for a
+/// part that is `om` and Kind for one of another kind. NoMemory may come at any point. After a fault the whole is as
+/// before.
 pub fn take_at(
     alloc: Global,
     end: Taking,

@@ -14,13 +14,14 @@ use setl_map::{OpFault, Operator};
 use setl_value::Value;
 use std::alloc::Global;
 
-/// Puts a value, or `om` where it is None, at the part at some selectors, the outermost first. Without selectors it
-/// becomes the whole. Answers the turns that are then left.
+/// Puts a value, or `om` where it is None, at the part at some selectors, the outermost first; without selectors it
+/// becomes the whole. Answers the turns that are left.
 ///
-/// The parts are read from the outermost inwards, and then put from the innermost outwards; the first fault on that way
-/// is told, of one step the first in the order Om, Kind, Range, Spent, Deep. NoMemory may come at any point. After a
-/// fault the whole is as before.
-
+/// The outer parts are read from the outermost inwards, and put from the innermost outwards; the first step that fails
+/// tells its fault. Om where what the step selects from is `om`, or its selector's operand, or a new part at a brace;
+/// else Kind where what it selects from, the operand, or the new part at a brace is of another kind; else Range for a
+/// place of a tuple or string below 1; else Spent where a put charges more turns than are left; else Deep where the new
+/// whole would be more than 500 deep. NoMemory may come at any point. After a fault the whole is as before.
 pub fn put_at(
     alloc: Global,
     whole: &mut Option<Value>,
@@ -45,13 +46,12 @@ pub fn put_at(
     }
 }
 
-/// Combines the part at some selectors, the outermost first, with a value by a binary operator: the part is its left
-/// operand. Answers the turns that are then left.
+/// Combines the part at some selectors, the outermost first, with a value by a binary operator, of which the part is the
+/// left operand. Answers the turns that are left.
 ///
 /// The parts are read from the outermost inwards, then comes the operator, and then the new parts are put from the
-/// innermost outwards; the first fault on that way is told, of one step the first in the order of `OpFault`'s page.
-/// NoMemory may come at any point. After a fault the whole is as before.
-
+/// innermost outwards; the first step that fails tells its fault: reading and putting as in `put_at`, and the operator
+/// as in `op`. NoMemory may come at any point. After a fault the whole is as before.
 pub fn combine_at(
     alloc: Global,
     what: Operator,
