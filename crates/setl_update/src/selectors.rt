@@ -41,8 +41,8 @@ pub(crate) fn part_at(
     ensures { Reads (part_of (selected at.now) (part whole.now) turns) turns result }
 {
     match at {
-        Selector::Round(x) => combined(alloc, Operator::Get, whole, x, turns),
-        Selector::Brace(x) => combined(alloc, Operator::Images, whole, x, turns),
+        Selector::Round(x) => apply(alloc, Operator::Get, whole, x, turns),
+        Selector::Brace(x) => apply(alloc, Operator::Images, whole, x, turns),
     }
 }
 
@@ -68,7 +68,7 @@ pub(crate) fn part_at_all(
 }
 
 /// What a binary operator makes of two values.
-pub(crate) fn combined(
+pub(crate) fn apply(
     alloc: Global,
     what: Operator,
     a: &Option<Value>,
@@ -121,11 +121,11 @@ pub(crate) fn put_part(
     };
     match at {
         Selector::Round(x) => put_round(alloc, whole, x, new, turns),
-        Selector::Brace(x) => put_brace(alloc, whole, x, new, turns),
+        Selector::Brace(x) => put_brace(alloc, whole, x, &new, turns),
     }
 }
 
-// `whole(x) := new`
+// `whole(x) := new`, in place.
 fn put_round(
     alloc: Global,
     whole: &mut Value,
@@ -143,15 +143,15 @@ fn put_round(
     Ok(turns.saturating_sub(charged))
 }
 
-// `whole{x} := new`
+// `whole{x} := new`, in place.
 fn put_brace(
     alloc: Global,
     whole: &mut Value,
     x: &Option<Value>,
-    new: Option<Value>,
+    new: &Option<Value>,
     turns: u64,
 ) -> Result<u64, OpFault>
-    ensures updated { Updates (op_of PutImages (Some (datum whole.old) ∷ part x.now ∷ part new ∷ []) turns) turns (Some (datum whole.new)) result }
+    ensures updated { Updates (op_of PutImages (Some (datum whole.old) ∷ part x.now ∷ part new.now ∷ []) turns) turns (Some (datum whole.new)) result }
     ensures refused { OnErr result (whole.new ≡ whole.old) }
 {
     let Some(x) = x else {
@@ -160,6 +160,6 @@ fn put_brace(
     let Some(new) = new else {
         return Err(OpFault::Om);
     };
-    let charged = put_images_in_place(alloc, whole, x.copy()?, &new)?;
+    let charged = put_images_in_place(alloc, whole, x.copy()?, new)?;
     Ok(turns.saturating_sub(charged))
 }

@@ -78,7 +78,7 @@ fn take_inside(
     let taken = take_out(end, &mut read.value)?;
     if !taken.stored {
         return Ok(TakenOut {
-            value: None,
+            value: taken.value,
             stored: false,
             left: read.left,
         });
@@ -107,6 +107,7 @@ fn take_out(end: Taking, whole: &mut Option<Value>) -> Result<Taken, OpFault>
     }
 }
 
+// The least member of a set.
 fn take_member(whole: &mut Value) -> Result<Taken, OpFault>
     ensures taken { TakesOne (take_out TakeLeast (Some (datum whole.old))) (Some (datum whole.new)) result }
     ensures empty { IfOk result (λ t. t.stored ≡ false → whole.new ≡ whole.old) }
@@ -115,6 +116,7 @@ fn take_member(whole: &mut Value) -> Result<Taken, OpFault>
     take_least(whole)
 }
 
+// The first component of a tuple.
 fn take_front(whole: &mut Value) -> Result<Taken, OpFault>
     ensures taken { TakesOne (take_out TakeFirst (Some (datum whole.old))) (Some (datum whole.new)) result }
     ensures empty { IfOk result (λ t. t.stored ≡ false → whole.new ≡ whole.old) }
@@ -124,6 +126,7 @@ fn take_front(whole: &mut Value) -> Result<Taken, OpFault>
     take_first(whole)
 }
 
+// The last component of a tuple.
 fn take_back(whole: &mut Value) -> Result<Taken, OpFault>
     ensures taken { TakesOne (take_out TakeLast (Some (datum whole.old))) (Some (datum whole.new)) result }
     ensures empty { IfOk result (λ t. t.stored ≡ false → whole.new ≡ whole.old) }

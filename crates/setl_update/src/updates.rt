@@ -8,7 +8,7 @@ ghost use Rattle.setl_model.specs.Places.{with_part_at_all, combined};
 ghost use Rattle.setl_update.specs.Selectors.{selected};
 ghost use Rattle.setl_update.specs.Updates.{Updates};
 
-use crate::selectors::{Selector, combined, part_at, put_part};
+use crate::selectors::{Selector, apply, part_at, put_part};
 use setl_collections::{less_in_place, lessf_in_place, with_in_place};
 use setl_map::{OpFault, Operator};
 use setl_value::Value;
@@ -65,7 +65,7 @@ pub fn combine_at(
     ensures refused { OnErr result (whole.new ≡ whole.old) }
 {
     match at {
-        [] => combine(alloc, what, whole, value, turns),
+        [] => combine(alloc, what, whole, &value, turns),
         [first, inner @ ..] => {
             let mut part = part_at(alloc, whole, first, turns)?;
             let left = combine_at(alloc, what, &mut part.value, inner, value, part.left)?;
@@ -74,16 +74,16 @@ pub fn combine_at(
     }
 }
 
-// Combines the whole with a value.
+// Combines the whole with a value, in place where the operator has a call for that.
 fn combine(
     alloc: Global,
     what: Operator,
     whole: &mut Option<Value>,
-    value: Option<Value>,
+    value: &Option<Value>,
     turns: u64,
 ) -> Result<u64, OpFault>
     requires { operand_count what ≡ Some 2 }
-    ensures updated { Updates (op_of what (part whole.old ∷ part value ∷ []) turns) turns (part whole.new) result }
+    ensures updated { Updates (op_of what (part whole.old ∷ part value.now ∷ []) turns) turns (part whole.new) result }
     ensures refused { OnErr result (whole.new ≡ whole.old) }
 {
     match what {
@@ -91,21 +91,21 @@ fn combine(
         Operator::Less => remove(whole, value, turns),
         Operator::Lessf => remove_point(alloc, whole, value, turns),
         _ => {
-            let new = combined(alloc, what, whole, &value, turns)?;
+            let new = apply(alloc, what, whole, value, turns)?;
             *whole = new.value;
             Ok(new.left)
         }
     }
 }
 
-// `whole with value`
+// `whole with value`, in place.
 fn add(
     alloc: Global,
     whole: &mut Option<Value>,
-    value: Option<Value>,
+    value: &Option<Value>,
     turns: u64,
 ) -> Result<u64, OpFault>
-    ensures updated { Updates (op_of With (part whole.old ∷ part value ∷ []) turns) turns (part whole.new) result }
+    ensures updated { Updates (op_of With (part whole.old ∷ part value.now ∷ []) turns) turns (part whole.new) result }
     ensures refused { OnErr result (whole.new ≡ whole.old) }
 {
     let Some(whole) = whole else {
@@ -114,13 +114,13 @@ fn add(
     let Some(value) = value else {
         return Err(OpFault::Om);
     };
-    let charged = with_in_place(alloc, whole, value)?;
+    let charged = with_in_place(alloc, whole, value.copy()?)?;
     Ok(turns.saturating_sub(charged))
 }
 
-// `whole less value`
-fn remove(whole: &mut Option<Value>, value: Option<Value>, turns: u64) -> Result<u64, OpFault>
-    ensures updated { Updates (op_of Less (part whole.old ∷ part value ∷ []) turns) turns (part whole.new) result }
+// `whole less value`, in place.
+fn remove(whole: &mut Option<Value>, value: &Option<Value>, turns: u64) -> Result<u64, OpFault>
+    ensures updated { Updates (op_of Less (part whole.old ∷ part value.now ∷ []) turns) turns (part whole.new) result }
     ensures refused { OnErr result (whole.new ≡ whole.old) }
 {
     let Some(whole) = whole else {
@@ -129,18 +129,18 @@ fn remove(whole: &mut Option<Value>, value: Option<Value>, turns: u64) -> Result
     let Some(value) = value else {
         return Err(OpFault::Om);
     };
-    let charged = less_in_place(whole, &value)?;
+    let charged = less_in_place(whole, value)?;
     Ok(turns.saturating_sub(charged))
 }
 
-// `whole lessf value`
+// `whole lessf value`, in place.
 fn remove_point(
     alloc: Global,
     whole: &mut Option<Value>,
-    value: Option<Value>,
+    value: &Option<Value>,
     turns: u64,
 ) -> Result<u64, OpFault>
-    ensures updated { Updates (op_of Lessf (part whole.old ∷ part value ∷ []) turns) turns (part whole.new) result }
+    ensures updated { Updates (op_of Lessf (part whole.old ∷ part value.now ∷ []) turns) turns (part whole.new) result }
     ensures refused { OnErr result (whole.new ≡ whole.old) }
 {
     let Some(whole) = whole else {
@@ -149,6 +149,6 @@ fn remove_point(
     let Some(value) = value else {
         return Err(OpFault::Om);
     };
-    let charged = lessf_in_place(alloc, whole, &value)?;
+    let charged = lessf_in_place(alloc, whole, value)?;
     Ok(turns.saturating_sub(charged))
 }
