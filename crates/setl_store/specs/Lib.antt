@@ -1,2 +1,4 @@
 pub mod Standing
+pub mod Operands
+pub mod Bodies
 pub mod Flat

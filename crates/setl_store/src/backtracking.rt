@@ -1,11 +1,23 @@
 //! `ok` and `fail`.
 
-ghost use Rattle.std.specs.Prelude.{◌≡◌, length, nat_lt};
-ghost use Rattle.setl_store.specs.Standing.{Restored};
+ghost use Rattle.std.specs.Prelude.{◌≡◌, ◌<◌, ◌+◌, ◌^◌, length, nat_lt, OnOk};
+ghost use Rattle.setl_store.specs.Standing.{kept, Restored};
 
 use crate::store::Store;
+use setl_environment::Memory;
+use std::alloc::AllocError;
 
 impl<'c> Store<'c> {
+    /// Keeps all that there is, as `ok` does, and goes on behind the step in hand with `true` pushed.
+    ///
+    /// The error is want of memory.
+    pub fn keep(&mut self) -> Result<(), Memory>
+        requires { self.old.core.now.at + 1 < 2 ^ 64 }
+        ensures { OnOk result (self.new ≡ record self.old { core = kept self.old.core }) }
+    {
+        Err(AllocError)
+    }
+
     /// Brings back what was kept last, as `fail` does, and forgets it. Its answer is whether anything was kept, and else
     /// all is as before. It takes no memory.
     pub fn back(&mut self) -> bool

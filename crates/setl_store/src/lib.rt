@@ -2,9 +2,14 @@
 #![tactic(auto)]
 
 mod backtracking;
+mod calls;
 mod cells;
 mod changes;
+mod iterating;
+mod operands;
 mod store;
 
+pub use iterating::Ahead;
 pub use setl_environment::Memory;
+pub use setl_map::OpFault;
 pub use store::{Content, Store, Top};

@@ -6,6 +6,7 @@ ghost use Rattle.setl_code.specs.MayRun.{HasSlot};
 ghost use Rattle.setl_code.specs.Plain.{plain_slot};
 ghost use Rattle.setl_value.specs.DatumOf.{part};
 ghost use Rattle.setl_store.specs.Flat.{operand_of, held_of, lowest_in, slots_in, place_in, HasMembers};
+ghost use Rattle.setl_store.specs.Operands.{IsThere};
 ghost use Rattle.setl_store.specs.Standing.{over, at_place, iterator_by, variables, Shows, IsHeld};
 
 use crate::cells::{Contents, Held, Operand};
@@ -15,7 +16,7 @@ use setl_environment::Memory;
 use setl_iterator::Iterator;
 use setl_program::Collection;
 use setl_value::Value;
-use std::alloc::Global;
+use std::alloc::{AllocError, Global};
 use std::marker::Model;
 
 /// The variables, operands and activations of a run of a code, its place in the code, and what `ok` kept of them.
@@ -58,7 +59,8 @@ pub enum Top<'a> {
     /// There is none.
     Nothing,
     Iterator,
-    Collection,
+    /// A collection that is being built: of a set, or of a tuple.
+    Collection(Collection),
     Om,
     Value(&'a Value),
 }
@@ -102,6 +104,18 @@ impl<'c> Store<'c> {
         Ok(())
     }
 
+    /// Takes what a variable's slot holds, and leaves nothing there.
+    ///
+    /// The error is want of memory.
+    pub fn take_slot(&mut self, slot: Slot) -> Result<Option<Value>, Memory>
+        requires slot { HasSlot (length self.old.core.globals) (length self.old.core.now.own) slot }
+        requires there { IsThere (held (plain_slot (variables self.old.core) slot) self.old.core) }
+        ensures value { IfOk result (λ value. held (plain_slot (variables self.old.core) slot) self.old.core ≡ There (part value)) }
+        ensures taken { OnOk result (self.new ≡ record self.old { core = write (plain_slot (variables self.old.core) slot) Gone self.old.core }) }
+    {
+        Err(AllocError)
+    }
+
     /// What the top operand is. It takes no memory.
     pub fn top(&self) -> Top<'_>
         ensures { Shows self.now.core.now.operands result }
@@ -114,7 +128,7 @@ impl<'c> Store<'c> {
             Operand::Om => Top::Om,
             Operand::Value(value) => Top::Value(value),
             Operand::Iterator(_) => Top::Iterator,
-            Operand::Collection(_, _, _) => Top::Collection,
+            Operand::Collection(what, _, _) => Top::Collection(*what),
         }
     }
 

@@ -1,0 +1,70 @@
+//! The start of a code, its steps, and calls and returns of its bodies.
+
+ghost use Rattle.std.specs.Prelude.{◌≡◌, ◌<◌, ◌+◌, ◌^◌, Some, None, map, length, slice_get, IfSome, IfNone, IfOk, OnOk};
+ghost use Rattle.setl_code.specs.Machine.{fetch};
+ghost use Rattle.setl_code.specs.MayRun.{MayRun, InstrFits};
+ghost use Rattle.setl_code.specs.Plain.{plain_code, plain_step};
+ghost use Rattle.setl_value.specs.DatumOf.{part};
+ghost use Rattle.setl_store.specs.Bodies.{entered, left, Leaves};
+ghost use Rattle.setl_store.specs.Standing.{started, variables};
+
+use crate::store::Store;
+use setl_code::{Code, Step};
+use setl_environment::Memory;
+use setl_value::Value;
+use std::alloc::{AllocError, Global};
+
+impl<'c> Store<'c> {
+    /// At the first step of the main program of a code, with every variable `om`.
+    ///
+    /// The error is want of memory.
+    pub fn start(alloc: Global, code: &'c Code) -> Result<Store<'c>, Memory>
+        requires { MayRun code.now }
+        ensures { IfOk result (λ store. store ≡ started code.now) }
+    {
+        Err(AllocError)
+    }
+
+    /// The code.
+    pub fn code(&self) -> &'c Code
+        ensures { result.now ≡ self.now.code }
+    {
+        self.code
+    }
+
+    /// The step in hand, if there is one. It takes no memory.
+    pub fn step(&self) -> Option<&'c Step>
+        ensures some { IfSome result (λ step. fetch (plain_code self.now.code) self.now.core.now.body self.now.core.now.at ≡ Some (plain_step (variables self.now.core) step.now)) }
+        ensures none { IfNone result (fetch (plain_code self.now.code) self.now.core.now.body self.now.core.now.at ≡ None) }
+        ensures fits { IfSome result (λ step. InstrFits (length self.now.core.globals) (length self.now.core.now.own) step.now.what) }
+        ensures few { IfSome result (λ step. self.now.core.now.at + 1 < 2 ^ 64) }
+    {
+        let body = self.body()?;
+        body.steps.as_slice().get(self.at)
+    }
+
+    /// Has the body of this number at work, with these values in its parameters. The body that calls it goes on behind
+    /// the step in hand.
+    ///
+    /// The error is want of memory.
+    pub fn enter(&mut self, body: u32, values: Vec<Option<Value>>) -> Result<(), Memory>
+        requires there { body < length self.old.code.bodies }
+        requires each { IfSome (slice_get self.old.code.bodies body) (λ b. length values.items ≡ length b.parameters) }
+        requires few { self.old.core.now.at + 1 < 2 ^ 64 }
+        ensures { OnOk result (self.new ≡ record self.old { core = entered body (slice_get (plain_code self.old.code).bodies body) (map part values.items) self.old.core }) }
+    {
+        Err(AllocError)
+    }
+
+    /// Has the body at work again that called this one, with this result pushed, and on it what the `wr` and `rw`
+    /// parameters hold, the first on top. Its answer is false where there is no such body or one of the parameters was
+    /// taken, and then all is as before.
+    ///
+    /// The error is want of memory.
+    pub fn leave(&mut self, value: Option<Value>) -> Result<bool, Memory>
+        ensures code { self.new.code ≡ self.old.code }
+        ensures left { IfOk result (λ done. Leaves (left (slice_get (plain_code self.old.code).bodies self.old.core.now.body) (part value) self.old.core) done self.old.core self.new.core) }
+    {
+        Err(AllocError)
+    }
+}
