@@ -9,12 +9,14 @@ ghost use Rattle.setl_store.specs.Bodies.{entered, left, Leaves};
 ghost use Rattle.setl_store.specs.Flat.{body_in, step_of};
 ghost use Rattle.setl_store.specs.Standing.{started, variables};
 
-use crate::cells::Contents;
+use crate::activations::{add_activation, add_cleared, add_operands, drop_activation, innermost, members_of_lower};
+use crate::cells::{Contents, Frame};
+use crate::returning::handed_back;
 use crate::store::Store;
-use setl_code::{Code, Step};
-use setl_environment::Memory;
+use setl_code::{Body, Code, Step};
+use setl_environment::{Environment, Memory};
 use setl_value::Value;
-use std::alloc::{AllocError, Global};
+use std::alloc::Global;
 
 impl<'c> Store<'c> {
     /// At the first step of the main program of a code, with every variable `om`.
@@ -24,7 +26,24 @@ impl<'c> Store<'c> {
         requires { MayRun code.now }
         ensures { IfOk result (λ store. store ≡ started code.now) }
     {
-        Err(AllocError)
+        let mut environment: Contents = Environment::new(alloc)?;
+        let slots = code.vars.len();
+        let main = code.bodies.as_slice().get(0);
+        add_cleared(&mut environment, slots)?;
+        add_cleared(&mut environment, parameter_count(main))?;
+        let frame = Frame {
+            body: 0,
+            from: 0,
+            slots,
+            operands: 0,
+        };
+        add_activation(&mut environment, frame, Vec::new(alloc), name_count(main))?;
+        Ok(Store {
+            alloc,
+            code,
+            at: 0,
+            environment,
+        })
     }
 
     /// The code.
@@ -41,7 +60,7 @@ impl<'c> Store<'c> {
         ensures fits { IfSome result (λ step. InstrFits (length self.now.core.globals) (length self.now.core.now.own) step.now.what) }
         ensures few { IfSome result (λ step. self.now.core.now.at + 1 < 2 ^ 64) }
     {
-        step_at(self.code, body_number(&self.environment), self.at)
+        step_at(self.code, innermost(&self.environment).body, self.at)
     }
 
     /// Has the body of this number at work, with these values in its parameters. The body that calls it goes on behind
@@ -54,7 +73,16 @@ impl<'c> Store<'c> {
         requires few { self.old.core.now.at + 1 < 2 ^ 64 }
         ensures { OnOk result (self.new ≡ record self.old { core = entered body (slice_get (plain_code self.old.code).bodies body) (map part values.items) self.old.core }) }
     {
-        Err(AllocError)
+        let names = name_count(self.code.bodies.as_slice().get(body as usize));
+        let frame = Frame {
+            body,
+            from: self.at + 1,
+            slots: self.environment.slots(),
+            operands: self.environment.operands(),
+        };
+        add_activation(&mut self.environment, frame, values, names)?;
+        self.at = 0;
+        Ok(())
     }
 
     /// Has the body at work again that called this one, with this result pushed, and on it what the `wr` and `rw`
@@ -66,16 +94,16 @@ impl<'c> Store<'c> {
         ensures code { self.new.code ≡ self.old.code }
         ensures left { IfOk result (λ done. Leaves (left (slice_get (plain_code self.old.code).bodies self.old.core.now.body) (part value) self.old.core) done self.old.core self.new.core) }
     {
-        Err(AllocError)
+        let Some(values) = handed_back(self.alloc, self.code, &self.environment, value)? else {
+            return Ok(false);
+        };
+        let frame = innermost(&self.environment);
+        let members = members_of_lower(&self.environment, frame.operands);
+        drop_activation(&mut self.environment, frame, members)?;
+        self.at = frame.from;
+        add_operands(&mut self.environment, values)?;
+        Ok(true)
     }
-}
-
-/// The number of the body at work.
-fn body_number(environment: &Contents) -> u32
-    requires { 0 < length environment.now.now.activations }
-    ensures { result ≡ body_in (reverse environment.now.now.activations) }
-{
-    environment.activation(environment.activations() - 1).body
 }
 
 /// A step of the body of this number, if there is one.
@@ -88,4 +116,20 @@ fn step_at<'c>(code: &'c Code, body: u32, at: usize) -> Option<&'c Step>
     let steps = body.steps.as_slice();
     let _count = steps.len();
     steps.get(at)
+}
+
+/// How many parameters a body has.
+fn parameter_count(body: Option<&Body>) -> usize
+    ensures none { IfNone body (result ≡ 0) }
+    ensures some { IfSome body (λ b. result ≡ length b.now.parameters) }
+{
+    body.map_or(0, |b| b.parameters.len())
+}
+
+/// How many names a body has.
+fn name_count(body: Option<&Body>) -> usize
+    ensures none { IfNone body (result ≡ 0) }
+    ensures some { IfSome body (λ b. result ≡ length b.now.names) }
+{
+    body.map_or(0, |b| b.names.len())
 }
