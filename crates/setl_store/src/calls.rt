@@ -1,19 +1,20 @@
 //! The start of a code, its steps, and calls and returns of its bodies.
 
-ghost use Rattle.std.specs.Prelude.{◌≡◌, ◌<◌, ◌+◌, ◌^◌, Some, None, map, reverse, length, slice_get, IfSome, IfNone, IfOk, OnOk};
+ghost use Rattle.std.specs.Prelude.{◌≡◌, ◌<◌, ◌+◌, ◌^◌, Some, None, map, length, slice_get, IfSome, IfNone, IfOk, OnOk};
 ghost use Rattle.setl_code.specs.Machine.{fetch};
 ghost use Rattle.setl_code.specs.MayRun.{MayRun, InstrFits};
 ghost use Rattle.setl_code.specs.Plain.{plain_code, plain_step};
 ghost use Rattle.setl_value.specs.DatumOf.{part};
 ghost use Rattle.setl_store.specs.Bodies.{entered, left, Leaves};
-ghost use Rattle.setl_store.specs.Flat.{body_in, step_of};
+ghost use Rattle.setl_store.specs.Flat.{step_of};
+ghost use Rattle.setl_store.specs.Returning.{name_count_of, parameter_count_of};
 ghost use Rattle.setl_store.specs.Standing.{started, variables};
 
 use crate::activations::{add_activation, add_cleared, add_operands, drop_activation, innermost, members_of_lower};
 use crate::cells::{Contents, Frame};
 use crate::returning::handed_back;
 use crate::store::Store;
-use setl_code::{Body, Code, Step};
+use setl_code::{Code, Step};
 use setl_environment::{Environment, Memory};
 use setl_value::Value;
 use std::alloc::Global;
@@ -28,16 +29,15 @@ impl<'c> Store<'c> {
     {
         let mut environment: Contents = Environment::new(alloc)?;
         let slots = code.vars.len();
-        let main = code.bodies.as_slice().get(0);
         add_cleared(&mut environment, slots)?;
-        add_cleared(&mut environment, parameter_count(main))?;
+        add_cleared(&mut environment, parameter_count(code, 0))?;
         let frame = Frame {
             body: 0,
             from: 0,
             slots,
             operands: 0,
         };
-        add_activation(&mut environment, frame, Vec::new(alloc), name_count(main))?;
+        add_activation(&mut environment, frame, Vec::new(alloc), name_count(code, 0))?;
         Ok(Store {
             alloc,
             code,
@@ -73,7 +73,7 @@ impl<'c> Store<'c> {
         requires few { self.old.core.now.at + 1 < 2 ^ 64 }
         ensures { OnOk result (self.new ≡ record self.old { core = entered body (slice_get (plain_code self.old.code).bodies body) (map part values.items) self.old.core }) }
     {
-        let names = name_count(self.code.bodies.as_slice().get(body as usize));
+        let names = name_count(self.code, body);
         let frame = Frame {
             body,
             from: self.at + 1,
@@ -118,18 +118,18 @@ fn step_at<'c>(code: &'c Code, body: u32, at: usize) -> Option<&'c Step>
     steps.get(at)
 }
 
-/// How many parameters a body has.
-fn parameter_count(body: Option<&Body>) -> usize
-    ensures none { IfNone body (result ≡ 0) }
-    ensures some { IfSome body (λ b. result ≡ length b.now.parameters) }
+/// How many parameters the body of this number has.
+fn parameter_count(code: &Code, body: u32) -> usize
+    ensures { result ≡ parameter_count_of (slice_get code.now.bodies body) }
 {
+    let body = code.bodies.as_slice().get(body as usize);
     body.map_or(0, |b| b.parameters.len())
 }
 
-/// How many names a body has.
-fn name_count(body: Option<&Body>) -> usize
-    ensures none { IfNone body (result ≡ 0) }
-    ensures some { IfSome body (λ b. result ≡ length b.now.names) }
+/// How many names it has.
+fn name_count(code: &Code, body: u32) -> usize
+    ensures { result ≡ name_count_of (slice_get code.now.bodies body) }
 {
+    let body = code.bodies.as_slice().get(body as usize);
     body.map_or(0, |b| b.names.len())
 }

@@ -51,6 +51,7 @@ fn from_slots(
 {
     let mut all = Vec::new(alloc);
     all.push(value)?;
+    let _slots = environment.slots();
     let count = parameters.len();
     for i in 0..count {
         let at = count - 1 - i;
