@@ -115,7 +115,7 @@ opened vars n (Some b) vs m k there each names d =
     ap (λ ss. with_own_cells to ss) (sym (filled n ps all vs m d (each ∙ sym (length-map b.parameters parameter_of)) (names ∙ sym (length-map b.names (plain_name n)))))
     ∙ sym (bound n ps vs to)
 
-abbrev core_over : plain.Code → ℕ → List Frame → List Held → List core.Operand → List (Here × ℕ) → CodeCore
+abbrev pub core_over : plain.Code → ℕ → List Frame → List Held → List core.Operand → List (Here × ℕ) → CodeCore
 core_over c at fs hs os kept = record {
   globals = cells c.vars hs;
   now = activation c at fs hs os;
