@@ -249,16 +249,17 @@ starts code e v p m may vars ps ns filled_by now =
     let mine = ap (λ l. cells (names_of c 0) (drop v l)) hs ∙ ap (cells (names_of c 0)) behind ∙ both_cleared (names_of c 0) p m all ∙ sym (main_same (slice_get c.bodies 0)) in
     let long : length e.slots ≡ v + (p + m) =
     sym (length-map e.slots held_of) ∙ ap length hs ∙ length-append (replicate v (There None)) own
-    ∙ (λ i. length-replicate v (There None) i + (length-append (replicate p (There None)) (replicate m (There None)) ∙ (λ j. length-replicate p (There None) j + length-replicate m (There None) j)) i) in
-    (ap (λ x. stands code 0 x []) now
-    ∙ (λ i. record { code = code; core = record { globals = globals i; now = record { body = 0; at = 0; own = mine i; operands = [] }; callers = []; kept = []; world = no_world } }),
-    subst (IsSound c) (sym now)
-    (record {
-      some = omega arith;
-      shaped = (refl, front, refl, omega (arith, long, all));
-      members = refl;
-      got = tt;
-    }))
+    ∙ (λ i. length-replicate v (There None) i + (length-append (replicate p (There None)) (replicate m (There None)) ∙ (λ j. length-replicate p (There None) j + length-replicate m (There None) j)) i) in (
+      ap (λ x. stands code 0 x []) now
+          ∙ (λ i. record { code = code; core = record { globals = globals i; now = record { body = 0; at = 0; own = mine i; operands = [] }; callers = []; kept = []; world = no_world } }),
+      subst (IsSound c) (sym now)
+          (record {
+            some = omega arith;
+            shaped = (refl, front, refl, omega (arith, long, all));
+            members = refl;
+            got = tt;
+          }),
+    )
 
 abbrev nothing : Here
 nothing = record { slots = []; operands = []; activations = []; members = [] }

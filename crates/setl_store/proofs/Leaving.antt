@@ -51,9 +51,10 @@ pub one_lower : (os : List Operand) (k n less : ℕ) (o : Operand) (ms left : �
 one_lower os k n less o ms left more same is below h =
     let up : k ≡ suc n = omega (arith, more) in
     let apart = ap (λ m. reverse (take m os)) up ∙ ap reverse (take_one_more n os o is) ∙ reverse-append (take n os) (o ∷ []) in
-    let has = subst (λ l. HasMembers l ms) apart h in
-    (subst (λ m. HasMembers (reverse (take m os)) left) (sym same) (subst (HasMembers (reverse (take n os))) (sym below) (has_below o (reverse (take n os)) ms has)),
-     subst (λ m. m ≤ ms) (sym below) (below_within o (reverse (take n os)) ms has))
+    let has = subst (λ l. HasMembers l ms) apart h in (
+      subst (λ m. HasMembers (reverse (take m os)) left) (sym same) (subst (HasMembers (reverse (take n os))) (sym below) (has_below o (reverse (take n os)) ms has)),
+      subst (λ m. m ≤ ms) (sym below) (below_within o (reverse (take n os)) ms has),
+    )
 
 -- ---- values that are pushed
 
@@ -81,7 +82,7 @@ pushes_all (v ∷ vs) code at e e' kept kept' s h is now same =
     let o = operand_by v in
     let first = pushes code at e (with_operand e o) kept kept s o (core.Result (part v)) h is refl refl (alone v (reverse e.operands) (length e.members) h.1.members) tt (stands_for v e) in
     let rest = pushes_all vs code at (with_operand e o) e' kept kept' (record s { core = over (core.Result (part v) ∷ s.core.now.operands) s.core }) first.holds first.stands
-        (now ∙ ap (λ os. record e { operands = os }) (sym (append_assoc e.operands (o ∷ []) (map operand_by vs)))) same in
+    (now ∙ ap (λ os. record e { operands = os }) (sym (append_assoc e.operands (o ∷ []) (map operand_by vs)))) same in
     record { stands = rest.stands; holds = rest.holds }
 
 -- ---- values that are handed back
@@ -230,7 +231,7 @@ left_flat code at (f ∷ g ∷ fs) hs os kept v m may h =
     let within : parameter_count_of (slice_get code.bodies n) ≤ length (drop f.slots hs) = omega (arith, parameters_within code f (g ∷ fs) (length hs) m h, length-drop f.slots hs) in
     ap (λ b. left b v k) body
     ∙ left_by c.vars n (slice_get code.bodies n) (drop f.slots hs) v k (activation c f.from (g ∷ fs) (take f.slots hs) (take f.operands os)) (callers c (g ∷ fs) (take f.slots hs) (take f.operands os))
-      (subst (λ b. Differ (variables_by n b)) body (names_differ code n may)) within refl (ap (λ b. cells (variables_by n b) (drop f.slots hs)) body) refl
+    (subst (λ b. Differ (variables_by n b)) body (names_differ code n may)) within refl (ap (λ b. cells (variables_by n b) (drop f.slots hs)) body) refl
 
 -- ---- the store that is left
 
@@ -291,12 +292,13 @@ left_rest code at e kept f m v vs (g ∷ fs) h last rest has within back =
     let shaped : IsShaped c all (length e.slots) (length e.operands) = subst (λ l. IsShaped c l (length e.slots) (length e.operands)) last h.1.shaped in
     let shaped_hs : IsShaped c all (length hs) (length e.operands) = subst (λ n. IsShaped c all n (length e.operands)) (sym (length-map e.slots held_of)) shaped in
     let after = pushed_on (map part vs) (under all os) in
-    let to = dropped c at e kept f g fs m shaped rest has within in
-    (subst (λ l. left (slice_get c.bodies (body_in l)) v (core_over c at l hs os kept) ≡ Some (given_back c at all hs os kept after)) (sym last)
-     (left_flat code at all hs os kept v (length e.operands) h.0 shaped_hs
-     ∙ ap (option_map (given_back c at all hs os kept)) (subst (λ l. handed_in code.bodies l hs (core.Result v ∷ under all os) ≡ Some after) last (back (under all os))))
-     ∙ sym (ap (λ (k : CodeCore). Some (over (pushed_on (map part vs) k.now.operands) k)) to),
-     dropped_sound c e f g fs m h.1 shaped rest has within)
+    let to = dropped c at e kept f g fs m shaped rest has within in (
+      subst (λ l. left (slice_get c.bodies (body_in l)) v (core_over c at l hs os kept) ≡ Some (given_back c at all hs os kept after)) (sym last)
+          (left_flat code at all hs os kept v (length e.operands) h.0 shaped_hs
+          ∙ ap (option_map (given_back c at all hs os kept)) (subst (λ l. handed_in code.bodies l hs (core.Result v ∷ under all os) ≡ Some after) last (back (under all os))))
+          ∙ sym (ap (λ (k : CodeCore). Some (over (pushed_on (map part vs) k.now.operands) k)) to),
+      dropped_sound c e f g fs m h.1 shaped rest has within,
+    )
 
 pub leaves : (code : Code) (at : ℕ) (e e1 e2 : Here) (kept k1 k2 : List (Here × ℕ)) (s : Standing) (f : Frame) (m : ℕ) (v : Option Datum) (vs : List (Option Value)) →
     MayRun code × IsSound (plain_code code) e × AllSound (plain_code code) kept → stands code at e kept ≡ s → Drops e e1 e2 f m vs → k1 ≡ kept → k2 ≡ k1 →
@@ -308,11 +310,12 @@ leaves code at e e1 e2 kept k1 k2 s f m v vs h is drops same1 same2 back =
     let c = plain_code code in
     let r = left_rest code at e kept f m v vs (rest_of e) h drops.last refl drops.has drops.within back in
     let e0 = without e f m in
-    let p = pushes_all vs code f.from e0 e2 kept k2 (stands code f.from e0 kept) (h.0, r.1, h.2) refl (drops.pushed ∙ ap (λ (x : Here). record x { operands = x.operands ++ map operand_by vs }) drops.without_it) (same2 ∙ same1) in
-    (subst (λ (t : Standing). left (slice_get (plain_code t.code).bodies t.core.now.body) v t.core ≡ Some (stands code f.from e2 k2).core) is
-     (r.0 ∙ sym (ap (λ (x : Standing). Some x.core) p.stands)),
-     (h.0, subst (IsSound c) (sym drops.without_it) r.1, subst (AllSound c) (sym same1) h.2),
-     p.holds)
+    let p = pushes_all vs code f.from e0 e2 kept k2 (stands code f.from e0 kept) (h.0, r.1, h.2) refl (drops.pushed ∙ ap (λ (x : Here). record x { operands = x.operands ++ map operand_by vs }) drops.without_it) (same2 ∙ same1) in (
+      subst (λ (t : Standing). left (slice_get (plain_code t.code).bodies t.core.now.body) v t.core ≡ Some (stands code f.from e2 k2).core) is
+          (r.0 ∙ sym (ap (λ (x : Standing). Some x.core) p.stands)),
+      (h.0, subst (IsSound c) (sym drops.without_it) r.1, subst (AllSound c) (sym same1) h.2),
+      p.holds,
+    )
 
 -- where it can't be left
 pub stays : (code : Code) (at : ℕ) (e : Here) (kept : List (Here × ℕ)) (s : Standing) (v : Option Datum) → MayRun code × IsSound (plain_code code) e × AllSound (plain_code code) kept → stands code at e kept ≡ s →

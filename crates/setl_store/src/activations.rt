@@ -1,12 +1,13 @@
 //! Activations of an environment, with the memory that they take.
 
-ghost use Rattle.std.specs.Prelude.{◌≡◌, ◌<◌, ◌-◌, ◌+◌, ◌≤◌, [], ◌∷◌, ◌++◌, None, Some, map, length, take, reverse, replicate, IfSome, OnOk, OnErr};
+ghost use Rattle.std.specs.Prelude.{◌≡◌, ◌<◌, ◌-◌, ◌+◌, ◌≤◌, [], ◌∷◌, ◌++◌, None, map, length, take, reverse, replicate, IfSome, OnOk, OnErr};
 ghost use Rattle.setl_code.specs.CodeCore.{There};
 ghost use Rattle.setl_value.specs.DatumOf.{part};
 ghost use Rattle.setl_store.specs.Flat.{helds, HasMembers, members_below};
 ghost use Rattle.setl_store.specs.Returning.{operand_by};
 
 use crate::cells::{Contents, Frame, Held, Operand};
+use crate::changes::reserve_one_more;
 use crate::store::{held, operand};
 use setl_environment::Memory;
 use setl_value::Value;
@@ -62,7 +63,7 @@ fn reserve_activation(environment: &mut Contents, values: usize, names: usize) -
     let Some(slots) = values.checked_add(names) else {
         return Err(AllocError);
     };
-    reserve_sum(environment, slots, 0, 0)?;
+    reserve_one_more(environment, slots)?;
     environment.reserve_slots(slots)?;
     environment.reserve_activations(1)
 }
@@ -78,16 +79,16 @@ fn reserve_sum(
     ensures kept { environment.new.kept ≡ environment.old.kept }
     ensures ready { OnOk result (slots + operands + members + 1 ≤ environment.new.ready) }
 {
-    let Some(all) = sum_and_one(slots, operands, members) else {
+    let Some(all) = sum(slots, operands, members) else {
         return Err(AllocError);
     };
-    environment.reserve(all)
+    reserve_one_more(environment, all)
 }
 
-fn sum_and_one(a: usize, b: usize, c: usize) -> Option<usize>
-    ensures { IfSome result (λ sum. sum ≡ a + b + c + 1) }
+fn sum(a: usize, b: usize, c: usize) -> Option<usize>
+    ensures { IfSome result (λ all. all ≡ a + b + c) }
 {
-    a.checked_add(b)?.checked_add(c)?.checked_add(1)
+    a.checked_add(b)?.checked_add(c)
 }
 
 // Adds slots that hold these values, for which there is memory.

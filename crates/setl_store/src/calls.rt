@@ -10,7 +10,9 @@ ghost use Rattle.setl_store.specs.Flat.{step_of};
 ghost use Rattle.setl_store.specs.Returning.{name_count_of, parameter_count_of};
 ghost use Rattle.setl_store.specs.Standing.{started, variables};
 
-use crate::activations::{add_activation, add_cleared, add_operands, drop_activation, innermost, members_of_lower};
+use crate::activations::{
+    add_activation, add_cleared, add_operands, drop_activation, innermost, members_of_lower,
+};
 use crate::cells::{Contents, Frame};
 use crate::returning::handed_back;
 use crate::store::Store;
@@ -37,7 +39,12 @@ impl<'c> Store<'c> {
             slots,
             operands: 0,
         };
-        add_activation(&mut environment, frame, Vec::new(alloc), name_count(code, 0))?;
+        add_activation(
+            &mut environment,
+            frame,
+            Vec::new(alloc),
+            name_count(code, 0),
+        )?;
         Ok(Store {
             alloc,
             code,

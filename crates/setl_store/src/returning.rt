@@ -1,6 +1,6 @@
 //! What a return hands back.
 
-ghost use Rattle.std.specs.Prelude.{◌≡◌, ◌<◌, ◌+◌, ◌≤◌, [], ◌∷◌, Some, map, drop, length, reverse, slice_get, IfOk, IfSome};
+ghost use Rattle.std.specs.Prelude.{◌<◌, ◌+◌, ◌≤◌, ◌≡◌, ◌∷◌, Some, map, drop, length, reverse, slice_get, IfOk};
 ghost use Rattle.std.specs.Option.{option_map};
 ghost use Rattle.setl_code.specs.CodeCore.{Result as Holds};
 ghost use Rattle.setl_code.specs.Machine.{hand, push_held};
@@ -35,7 +35,13 @@ pub(crate) fn handed_back(
     let Some(body) = code.bodies.as_slice().get(frame.body as usize) else {
         return Ok(None);
     };
-    from_slots(alloc, body.parameters.as_slice(), environment, frame.slots, value)
+    from_slots(
+        alloc,
+        body.parameters.as_slice(),
+        environment,
+        frame.slots,
+        value,
+    )
 }
 
 // The same, where the parameters have the slots from this one on.
@@ -55,7 +61,11 @@ fn from_slots(
     let count = parameters.len();
     for i in 0..count {
         let at = count - 1 - i;
-        if !add_handed(parameters[at].passing, environment.slot(lowest + at), &mut all)? {
+        if !add_handed(
+            parameters[at].passing,
+            environment.slot(lowest + at),
+            &mut all,
+        )? {
             return Ok(None);
         }
     }
@@ -63,11 +73,7 @@ fn from_slots(
 }
 
 // Adds what a parameter's slot holds, where it is handed back. Its answer is false where that was taken.
-fn add_handed(
-    passing: Passing,
-    slot: &Held,
-    all: &mut Vec<Option<Value>>,
-) -> Result<bool, Memory>
+fn add_handed(passing: Passing, slot: &Held, all: &mut Vec<Option<Value>>) -> Result<bool, Memory>
     ensures { IfOk result (λ done. (xs : _) → Hands (hand passing (held_of slot.now) (Some (pushed_on (map part all.old.items) xs))) done (pushed_on (map part all.new.items) xs)) }
 {
     match passing {

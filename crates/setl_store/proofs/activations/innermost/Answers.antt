@@ -1,4 +1,4 @@
-use Rattle.std.proofs.Common.{◌≡◌, ◌∷◌, ◌-◌, length, refl, reverse, take}
+use Rattle.std.proofs.Common.{length, refl}
 use Rattle.setl_store.proofs.Lists.{innermost_is}
 use Rattle.setl_store.proofs.activations.innermost.Goals as goal
 

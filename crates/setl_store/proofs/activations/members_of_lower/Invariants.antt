@@ -1,4 +1,4 @@
-use Rattle.std.proofs.Common.{◌≡◌, ◌-◌, ◌≤◌, length, reverse, take}
+use Rattle.std.proofs.Common.{◌-◌, ◌≤◌, length, reverse, take}
 use Rattle.setl_store.specs.Flat.{HasMembers}
 use Rattle.setl_store.proofs.activations.members_of_lower.Given as goal
 

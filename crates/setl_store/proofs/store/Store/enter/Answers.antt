@@ -6,7 +6,7 @@ use Rattle.setl_code.specs.declared.code.Code.{Code}
 use Rattle.setl_code.specs.Plain.{plain_code}
 use Rattle.setl_store.specs.Bodies.{entered}
 use Rattle.setl_store.specs.Standing.{Standing}
-use Rattle.setl_store.proofs.Entering.{Calls, enters}
+use Rattle.setl_store.proofs.Entering.{enters}
 use Rattle.setl_store.proofs.OperandLists.{Changed}
 use Rattle.setl_store.proofs.store.Store.enter.Goals as goal
 use Rattle.setl_store.proofs.store.Store.enter.Goals.{In_ok-add_activation}

@@ -1,4 +1,4 @@
-use Rattle.std.proofs.Common.{◌≡◌, ◌+◌, ◌∙◌, false, true, ap, refl}
+use Rattle.std.proofs.Common.{◌≡◌, ◌+◌, ◌∙◌, false, ap, refl}
 use Rattle.setl_store.specs.Standing.{kept as with_kept}
 use Rattle.setl_store.specs.Flat.{with_operand}
 use Rattle.setl_store.proofs.OperandLists.{Changed}

@@ -1,4 +1,4 @@
-use Rattle.std.proofs.Common.{sym, ap, ◌≡◌, length, Some, None}
+use Rattle.std.proofs.Common.{sym, ap}
 use Rattle.std.proofs.lemmas.Option.{IfSome_then}
 use Rattle.setl_store.specs.Flat.{body_in}
 use Rattle.setl_store.proofs.Steps.{step_found, step_missing, step_fits}
