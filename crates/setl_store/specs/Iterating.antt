@@ -1,5 +1,5 @@
 -- Iterators at work, and what lies below them, in the flat lists. No public clause cites this module.
-use Rattle.std.specs.Prelude.{◌≡◌, ℕ, ◌<◌, List, [], ◌∷◌, length, drop, unwrap_or, Option, Some, None}
+use Rattle.std.specs.Prelude.{◌≡◌, ◌<◌, List, [], ◌∷◌, length, drop, Option, Some, None}
 use Rattle.setl_value.specs.declared.Value.{Value}
 use Rattle.setl_map.specs.Outcome.{Fault, OmFault, DeepFault}
 use Rattle.setl_map.specs.declared.OpFault.{OpFault}
@@ -8,8 +8,6 @@ use Rattle.setl_iterator.specs.States.{IteratorState}
 use Rattle.setl_iterator.specs.Items.{plain_item, is_pair}
 use Rattle.setl_iterator.specs.declared.iterator.Item.{Item}
 use Rattle.setl_iterator.specs.declared.iterator.Item.TheVariants as item
-use Rattle.setl_code.specs.CodeCore as core
-use Rattle.setl_code.specs.CodeCore.{without_iterators}
 use Rattle.setl_store.specs.declared.cells.Operand.{Operand}
 use Rattle.setl_store.specs.declared.cells.Operand.TheVariants as operand
 use Rattle.setl_store.specs.Flat.{Here, with_operand}
@@ -40,16 +38,12 @@ abbrev pub with_item : Here → Item → Here
 with_item e (item.One v) = with_operand e (operand_with v)
 with_item e (item.Two x y) = with_operand (with_operand e (operand_with y)) (operand_with x)
 
--- ---- what lies below iterators
+-- ---- collections below iterators
 
 abbrev pub AreIterators : List Operand → Type 0
 AreIterators [] = Unit {0}
 AreIterators (operand.Iterator i ∷ os) = AreIterators os
 AreIterators (o ∷ os) = ⊥
-
--- the operands below so many iterators, the top first; there are none where fewer are on top
-abbrev pub below_iterators : ℕ → List core.Operand → List core.Operand
-below_iterators n xs = unwrap_or (without_iterators n xs) []
 
 -- this fault is why a collection refuses a value
 abbrev pub Refuses : OpFault → Option Fault → Type 0

@@ -2,10 +2,10 @@
 
 ghost use Rattle.std.specs.Prelude.{◌≡◌, ◌<◌, ◌≤◌, ◌-◌, ◌+◌, ◌∷◌, ◌++◌, [], Some, None, length, drop, reverse, slice_get, slice_set, IfSome, IfNone, IfOk, IfErr, OnOk, OnErr, true, false};
 ghost use Rattle.setl_model.specs.Collections.{refusal};
-ghost use Rattle.setl_code.specs.Machine.{added};
+ghost use Rattle.setl_code.specs.Machine.{added, Nowhere};
 ghost use Rattle.setl_value.specs.DatumOf.{part};
 ghost use Rattle.setl_store.specs.Flat.{lowest_in, now_operands, operand_of};
-ghost use Rattle.setl_store.specs.Iterating.{IsAtItem, IsFirst, advanced, with_item, AreIterators, below_iterators as rest_below, Refuses};
+ghost use Rattle.setl_store.specs.Iterating.{IsAtItem, IsFirst, advanced, with_item, AreIterators, Refuses};
 ghost use Rattle.setl_store.specs.Operands.{IsAhead, Advances, TellsAdded};
 ghost use Rattle.setl_store.specs.Standing.{over};
 ghost use Rattle.setl_store.specs.declared.cells.Operand.TheVariants.{Iterator as at_work};
@@ -141,7 +141,7 @@ fn below_iterators(environment: &Contents, count: usize) -> Option<usize>
     requires low { lowest_in (reverse environment.now.now.activations) ≤ length environment.now.now.operands }
     ensures place { IfSome result (λ at. (at + count + 1 ≡ length environment.now.now.operands) × (lowest_in (reverse environment.now.now.activations) ≤ at)) }
     ensures above { IfSome result (λ at. AreIterators (drop (at + 1) environment.now.now.operands)) }
-    ensures nowhere { IfNone result (rest_below count (now_operands environment.now.now) ≡ []) }
+    ensures nowhere { IfNone result ((value : _) → added count value (now_operands environment.now.now) ≡ Nowhere) }
 {
     let all = environment.operands();
     if all - lowest(environment) <= count {
@@ -196,7 +196,7 @@ fn add_member(
 /// Whether an operand is an iterator.
 fn is_iterator(operand: &Operand) -> bool
     ensures is { result ≡ true → AreIterators (operand.now ∷ []) }
-    ensures is_not { result ≡ false → (members : _) (n : _) (xs : _) → rest_below (n + 1) (operand_of members operand.now ∷ xs) ≡ [] }
+    ensures is_not { result ≡ false → (n : _) (value : _) (members : _) (xs : _) → added (n + 1) value (operand_of members operand.now ∷ xs) ≡ Nowhere }
 {
     matches!(operand, Operand::Iterator(_))
 }
