@@ -1,5 +1,5 @@
 -- Values added to a collection below iterators.
-use Rattle.std.proofs.Common.{◌≡◌, ℕ, zero, suc, ◌+◌, ◌-◌, ◌<◌, ◌≤◌, Bool, true, false, List, [], ◌∷◌, ◌++◌, length, take, drop, map, reverse, set, refl, sym, ap, ◌∙◌, subst, arith, Option, Some, None}
+use Rattle.std.proofs.Common.{◌≡◌, ℕ, zero, suc, ◌+◌, ◌-◌, ◌<◌, ◌≤◌, Bool, true, false, List, [], ◌∷◌, ◌++◌, length, take, drop, map, reverse, set, refl, sym, ap, ◌∙◌, subst, arith, Option, Some, None, Err}
 use Rattle.std.specs.Prelude.{slice_get}
 use Rattle.std.specs.Option.{option_map}
 use Rattle.std.proofs.lemmas.List.{append_assoc, drop-append-le, drop-map, length-append, length-drop, length-map, length-reverse, length-set, length-take-le, map-append, map-set, reverse-append, reverse-reverse, set_split, take-append-drop, take-append-le, take-take, take_all, take_at, drop_at}
@@ -9,7 +9,9 @@ use Rattle.setl_value.specs.DatumOf.{part}
 use Rattle.setl_program.specs.declared.kinds.Collection.{Collection}
 use Rattle.setl_model.specs.Collections.{refusal}
 use Rattle.setl_model.specs.Core as model
-use Rattle.setl_map.specs.Outcome.{Fault}
+use Rattle.setl_map.specs.Outcome.{Fault, OmFault, DeepFault}
+use Rattle.setl_map.specs.declared.OpFault.{OpFault}
+use Rattle.setl_map.specs.declared.OpFault.TheVariants as fault
 use Rattle.setl_code.specs.declared.code.Code.{Code}
 use Rattle.setl_code.specs.CodeCore as core
 use Rattle.setl_code.specs.Machine.{Added, Adds, Refused, Nowhere, add_by, below, added}
@@ -21,8 +23,10 @@ use Rattle.setl_store.specs.declared.cells.Operand.{Operand}
 use Rattle.setl_store.specs.declared.cells.Operand.TheVariants as operand
 use Rattle.setl_store.specs.Standing.{Standing, iterator_by, over}
 use Rattle.setl_store.specs.Flat.{Here, member_of, got, operand_of, operands_in, lowest_in, now_operands, results, stands, AllGot, AllSound, GotThese, HasMembers, IsShaped, IsSound}
-use Rattle.setl_store.specs.Iterating.{AreIterators}
+use Rattle.setl_store.specs.Iterating.{AreIterators, Refuses}
+use Rattle.setl_store.specs.Operands.{TellsAdded}
 use Rattle.setl_store.proofs.Lists.{map_reverse}
+use Rattle.setl_store.proofs.NewOperands.{NowHas, now_has}
 use Rattle.setl_store.proofs.OperandLists.{Changed, above, agree_flat, changed, lowest_of, now_counted, now_is}
 
 -- ---- below iterators
@@ -58,6 +62,10 @@ added_past (operand.Iterator i ∷ its) ms (suc n) m v xs h long =
     added_below i.pairs i.left n v (map (operand_of ms) its ++ xs)
     ∙ ap (below (iterator_by i.pairs i.left)) (added_past its ms n m v xs h (omega (arith, long)))
     ∙ on_more (iterator_by i.pairs i.left) (map (operand_of ms) its) (added m v xs)
+
+iterator_adds : (pairs : Bool) (left : List model.Item) (v : Option Datum) (xs : List core.Operand) → added zero v (iterator_by pairs left ∷ xs) ≡ Nowhere
+iterator_adds true left v xs = refl
+iterator_adds false left v xs = refl
 
 -- too few
 added_few : (n : ℕ) (v : Option Datum) (xs : List core.Operand) → length xs ≤ n → added n v xs ≡ Nowhere
@@ -165,6 +173,32 @@ module _ (e : Here) (n : ℕ) (o : Operand) (some : 0 < length e.activations) (l
   pub nowhere_at : (k m : ℕ) (v : Option Datum) → AreIterators (drop (suc n) e.operands) → k + suc n ≡ length e.operands + m → added m v (operand_of e.members o ∷ lower e n) ≡ Nowhere → added k v (now_operands e) ≡ Nowhere
   nowhere_at k m v are long none = added_around k m v are long ∙ ap (on (higher e n)) none
 
+-- ---- where nothing is added
+
+none_added : (ms : List Member) (o : Operand) (v : Option Datum) (xs : List core.Operand) → ((what : Collection) (lowest count : ℕ) → o ≡ operand.Collection what lowest count → ⊥) → added zero v (operand_of ms o ∷ xs) ≡ Nowhere
+none_added ms operand.Om v xs h = refl
+none_added ms (operand.Value w) v xs h = refl
+none_added ms (operand.Iterator i) v xs h = iterator_adds i.pairs i.left v xs
+none_added ms (operand.Collection what lowest count) v xs h = absurd (h what lowest count refl)
+
+pub no_collection : (code : Code) (at : ℕ) (e : Here) (kept : List (Here × ℕ)) (s : Standing) (n k : ℕ) (o : Operand) (v : Option Datum) →
+    IsSound (plain_code code) e → stands code at e kept ≡ s → lowest_of e ≤ n → n + k + 1 ≡ length e.operands → Some o ≡ slice_get e.operands n → AreIterators (drop (n + 1) e.operands) →
+    ((what : Collection) (lowest count : ℕ) → o ≡ operand.Collection what lowest count → ⊥) → added k v s.core.now.operands ≡ Nowhere
+no_collection code at e kept s n k o v sound is low long last are none =
+    let same : n + 1 ≡ suc n = omega arith in
+    ap (added k v) (sym (now_is code at e kept s is))
+    ∙ nowhere_at e n o sound.some low last k 0 v (subst (λ j. AreIterators (drop j e.operands)) same are) (omega (arith, long)) (none_added e.members o v (lower e n) none)
+
+pub told_refused : (a : Added) (fault : OpFault) (why : Option Fault) (new : List core.Operand) → Refuses fault why → ((f : Fault) → why ≡ Some f → a ≡ Refused f) → TellsAdded a (Err fault) new
+told_refused a fault.Om why new h told = told OmFault h
+told_refused a fault.Deep why new h told = told DeepFault h
+told_refused a fault.NoMemory why new h told = tt
+told_refused a fault.Kind why new h told = absurd h
+told_refused a fault.Wide why new h told = absurd h
+told_refused a fault.Zero why new h told = absurd h
+told_refused a fault.Range why new h told = absurd h
+told_refused a fault.Spent why new h told = absurd h
+
 -- ---- adding a member
 
 iterators_have : (its os : List Operand) (n : ℕ) → AreIterators its → HasMembers (its ++ os) n → HasMembers os n
@@ -207,10 +241,6 @@ got_more ms m lowest count long =
 -- with one more member of the collection at a place
 abbrev pub with_member : Here → ℕ → Operand → Member → Here
 with_member e n o m = record e { operands = set e.operands n o; members = e.members ++ m ∷ [] }
-
--- the store once it has these operands
-pub data AddsMember (code : Code) (at : ℕ) (e : Here) (kept : List (Here × ℕ)) (s : Standing) (a : Added) : Type 0 where
-  adds_member : (xs : List core.Operand) → a ≡ Adds xs → Changed code at e kept s (over xs s.core) → AddsMember code at e kept s a
 
 -- a collection below iterators
 module _ (code : Code) (at : ℕ) (e : Here) (kept : List (Here × ℕ)) (s : Standing) (n k : ℕ) (what : Collection) (lowest count : ℕ)
@@ -281,8 +311,8 @@ module _ (code : Code) (at : ℕ) (e : Here) (kept : List (Here × ℕ)) (s : St
       subst (λ x. Changed code at x kept' s (over xs s.core)) (sym now)
       (changed code at at e (with_member e n more m) kept kept' s (λ c. over xs c) holds is same to (more_sound m free))
 
-  pub adds : (m : Member) (e' : Here) (kept' : List (Here × ℕ)) → refusal what (member_of m) ≡ None → e' ≡ with_member e n more m → kept' ≡ kept → AddsMember code at e' kept' s (added k (member_of m) s.core.now.operands)
+  pub adds : (m : Member) (e' : Here) (kept' : List (Here × ℕ)) → refusal what (member_of m) ≡ None → e' ≡ with_member e n more m → kept' ≡ kept → NowHas (λ xs. added k (member_of m) s.core.now.operands ≡ Adds xs) code at e' kept' s
   adds m e' kept' free now same =
-      adds_member (higher e n ++ core.Collecting what (member_of m ∷ got e.members lowest count) ∷ lower e n)
+      now_has (higher e n ++ core.Collecting what (member_of m ∷ got e.members lowest count) ∷ lower e n)
       (asked (member_of m) ∙ ap (λ f. on (higher e n) (add_by f (core.Collecting what (member_of m ∷ got e.members lowest count)) (lower e n))) free)
       (more_changed m free e' kept' now same)

@@ -20,9 +20,10 @@ use Rattle.setl_store.specs.declared.cells.Operand.{Operand}
 use Rattle.setl_store.specs.declared.cells.Operand.TheVariants as operand
 use Rattle.setl_store.specs.declared.iterating.Ahead.TheVariants as ahead
 use Rattle.setl_store.specs.Standing.{Standing, iterator_by, over}
-use Rattle.setl_store.specs.Flat.{Here, iterator_of, operand_of, stands, IsSound, AllSound, HasMembers, now_operands, with_operand, cut_to}
+use Rattle.setl_store.specs.Flat.{Here, iterator_of, operand_of, stands, IsSound, AllSound, HasMembers, with_operand, cut_to}
 use Rattle.setl_store.specs.Iterating.{IsAtItem, IsFirst, advanced, operand_with, with_item}
 use Rattle.setl_store.specs.Operands.{IsAhead, Advances}
+use Rattle.setl_store.proofs.NewOperands.{NowHas, now_has}
 use Rattle.setl_store.proofs.OperandLists.{Changed, top_is, some_below, lowest_of, lowest_below, pops, pushes, got_iterator}
 
 -- ---- what is ahead
@@ -127,23 +128,6 @@ item_pushed code at e kept s (item.Two x y) holds is =
     behind code at (with_item e (item.Two x y)) kept s k (over (item_on (item.Two x y) s.core.now.operands) s.core)
     (value_pushed code at (with_operand e (operand_with y)) kept (record s { core = k }) x one.holds one.stands)
 
--- the store once the first item was taken and pushed
-pub data Moved (code : Code) (at : ℕ) (e : Here) (kept : List (Here × ℕ)) (s : Standing) : Type 0 where
-  moved : (xs : List core.Operand) → Advances s.core.now.operands xs → Changed code at e kept s (over xs s.core) → Moved code at e kept s
-
--- the operands of a store over its own
-over_own : (new s : Standing) (xs : List core.Operand) → new ≡ record s { core = over xs s.core } → new ≡ record s { core = over new.core.now.operands s.core }
-over_own new s xs is = is ∙ ap (λ l. record s { core = over l s.core }) (sym (ap (λ (t : Standing). t.core.now.operands) is))
-
-pub moved_item : (code : Code) (at : ℕ) (e : Here) (kept : List (Here × ℕ)) (s : Standing) → Moved code at e kept s → Advances s.core.now.operands (now_operands e)
-moved_item code at e kept s (moved xs item to) = subst (Advances s.core.now.operands) (sym (ap (λ (t : Standing). t.core.now.operands) to.stands)) item
-
-pub moved_rest : (code : Code) (at : ℕ) (e : Here) (kept : List (Here × ℕ)) (s : Standing) → Moved code at e kept s → stands code at e kept ≡ record s { core = over (now_operands e) s.core }
-moved_rest code at e kept s (moved xs item to) = over_own (stands code at e kept) s xs to.stands
-
-pub moved_holds : (code : Code) (at : ℕ) (e : Here) (kept : List (Here × ℕ)) (s : Standing) → Moved code at e kept s → MayRun code × IsSound (plain_code code) e × AllSound (plain_code code) kept
-moved_holds code at e kept s (moved xs item to) = to.holds
-
 -- the iterator that is the last operand replaced
 module _ (code : Code) (at : ℕ) (e : Here) (kept : List (Here × ℕ)) (s : Standing)
   (holds : MayRun code × IsSound (plain_code code) e × AllSound (plain_code code) kept) (is : stands code at e kept ≡ s) where
@@ -174,7 +158,7 @@ module _ (code : Code) (at : ℕ) (e : Here) (kept : List (Here × ℕ)) (s : St
   -- its first item taken and pushed
   advanced_by : (o : Operand) (x : Item) (e₁ e₂ : Here) (kept' : List (Here × ℕ)) → length e.operands ≡ (length e.operands - 1) + 1 → lowest_of e < length e.operands → Some o ≡ slice_get e.operands (length e.operands - 1) →
       s.core.now.operands ≡ operand_of e.members o ∷ drop 1 s.core.now.operands → IsFirst (Some o) x →
-      e₁ ≡ record e { operands = set e.operands (length e.operands - 1) (advanced (Some o)) } → e₂ ≡ with_item e₁ x → kept' ≡ kept → Moved code at e₂ kept' s
+      e₁ ≡ record e { operands = set e.operands (length e.operands - 1) (advanced (Some o)) } → e₂ ≡ with_item e₁ x → kept' ≡ kept → NowHas (Advances s.core.now.operands) code at e₂ kept' s
   advanced_by operand.Om x e₁ e₂ kept' long some last top first now pushed same = absurd first
   advanced_by (operand.Value v) x e₁ e₂ kept' long some last top first now pushed same = absurd first
   advanced_by (operand.Collection what lowest count) x e₁ e₂ kept' long some last top first now pushed same = absurd first
@@ -188,13 +172,13 @@ module _ (code : Code) (at : ℕ) (e : Here) (kept : List (Here × ℕ)) (s : St
       let off : Advances (iterator_by i.pairs i.left ∷ xs) (item_on x (iterator_of j ∷ xs)) =
       subst (λ (l : List model.Item). Advances (iterator_by i.pairs l ∷ xs) (item_on x (iterator_of j ∷ xs))) (sym first.0)
       (subst (λ b. Advances (iterator_by b (plain_item x ∷ drop 1 i.left) ∷ xs) (item_on x (iterator_by b (drop 1 i.left) ∷ xs))) first.1 (item_off x (drop 1 i.left) xs)) in
-      moved (item_on x (iterator_of j ∷ xs))
+      now_has (item_on x (iterator_of j ∷ xs))
       (subst (λ l. Advances l (item_on x (iterator_of j ∷ xs))) (sym top) off)
       (subst (λ ks. Changed code at e₂ ks s (over (item_on x (iterator_of j ∷ xs)) s.core)) (sym same)
       (subst (λ y. Changed code at y kept s (over (item_on x (iterator_of j ∷ xs)) s.core)) (sym (pushed ∙ ap (λ y. with_item y x) now)) two))
 
   pub advances : (x : Item) (e₁ e₂ : Here) (kept' : List (Here × ℕ)) → IsAhead s.core.now.operands ahead.AtItem → IsFirst (slice_get e.operands (length e.operands - 1)) x →
-      e₁ ≡ record e { operands = set e.operands (length e.operands - 1) (advanced (slice_get e.operands (length e.operands - 1))) } → e₂ ≡ with_item e₁ x → kept' ≡ kept → Moved code at e₂ kept' s
+      e₁ ≡ record e { operands = set e.operands (length e.operands - 1) (advanced (slice_get e.operands (length e.operands - 1))) } → e₂ ≡ with_item e₁ x → kept' ≡ kept → NowHas (Advances s.core.now.operands) code at e₂ kept' s
   advances x e₁ e₂ kept' h first now pushed same =
       let some = some_below code at e kept s is (some_ahead s.core.now.operands h) in
       let last = last_of h in

@@ -2,5 +2,6 @@ pub mod Lists
 pub mod OperandLists
 pub mod Bodies
 pub mod Slots
+pub mod NewOperands
 pub mod IteratorSteps
 pub mod Adding
