@@ -2,10 +2,9 @@
 use Rattle.std.proofs.Common.{◌≡◌, ℕ, zero, suc, ◌+◌, ◌-◌, ◌<◌, ◌≤◌, Bool, true, false, List, [], ◌∷◌, ◌++◌, length, take, drop, map, reverse, set, refl, sym, ap, ◌∙◌, subst, arith, Option, Some, None, Err}
 use Rattle.std.specs.Prelude.{slice_get}
 use Rattle.std.specs.Option.{option_map}
-use Rattle.std.proofs.lemmas.List.{append_assoc, drop-append-le, drop-map, length-append, length-drop, length-map, length-reverse, length-set, length-take-le, map-append, map-set, reverse-append, reverse-reverse, set_split, take-append-drop, take-append-le, take-take, take_all, take_at, drop_at}
+use Rattle.std.proofs.lemmas.List.{append_assoc, drop-append-le, drop-map, length-append, length-drop, length-map, length-reverse, length-set, length-take-le, map-append, map-set, reverse-append, reverse-reverse, set_split, take-append-drop, take-take, take_all, take_at, drop_at}
 use Rattle.std.proofs.lemmas.Option.{slice_get-map}
 use Rattle.setl_value.specs.Datum.{Datum}
-use Rattle.setl_value.specs.DatumOf.{part}
 use Rattle.setl_program.specs.declared.kinds.Collection.{Collection}
 use Rattle.setl_model.specs.Collections.{refusal}
 use Rattle.setl_model.specs.Core as model

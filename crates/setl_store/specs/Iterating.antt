@@ -4,7 +4,6 @@ use Rattle.setl_value.specs.declared.Value.{Value}
 use Rattle.setl_map.specs.Outcome.{Fault, OmFault, DeepFault}
 use Rattle.setl_map.specs.declared.OpFault.{OpFault}
 use Rattle.setl_map.specs.declared.OpFault.TheVariants as fault
-use Rattle.setl_iterator.specs.States.{IteratorState}
 use Rattle.setl_iterator.specs.Items.{plain_item, is_pair}
 use Rattle.setl_iterator.specs.declared.iterator.Item.{Item}
 use Rattle.setl_iterator.specs.declared.iterator.Item.TheVariants as item

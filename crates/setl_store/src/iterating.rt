@@ -89,7 +89,9 @@ impl<'c> Store<'c> {
     }
 }
 
-/// Takes the first item of the iterator that is the last operand, with memory for two more.
+/// Takes the first item of the iterator that is the last operand, and makes two more operands ready.
+///
+/// The error is want of memory.
 fn take_item(alloc: Global, environment: &mut Contents) -> Result<Item, Memory>
     requires { IsAtItem (slice_get environment.old.now.operands (length environment.old.now.operands - 1)) }
     ensures first { IfOk result (λ item. IsFirst (slice_get environment.old.now.operands (length environment.old.now.operands - 1)) item) }
@@ -108,7 +110,9 @@ fn take_item(alloc: Global, environment: &mut Contents) -> Result<Item, Memory>
     Ok(item)
 }
 
-/// An equal of the iterator at a place of the operands, which shares its source.
+/// A copy of the iterator at a place of the operands.
+///
+/// The error is want of memory.
 fn iterator_at(environment: &Contents, at: usize) -> Result<Iterator, Memory>
     requires { IsAtItem (slice_get environment.now.now.operands at) }
     ensures { IfOk result (λ iterator. slice_get environment.now.now.operands at ≡ Some (at_work iterator)) }
@@ -156,7 +160,9 @@ fn below_iterators(environment: &Contents, count: usize) -> Option<usize>
     Some(above - 1)
 }
 
-/// Whether a collection takes a value. Else the error is `Om` for `om` and a set, and `Deep` for a value of depth 500.
+/// Whether a collection takes a value.
+///
+/// The error is `Om` for `om` and a set, and `Deep` for a value of depth 500.
 fn check_member(what: Collection, value: &Option<Value>) -> Result<(), OpFault>
     ensures taken { OnOk result (refusal what (part value.now) ≡ None) }
     ensures refused { IfErr result (λ fault. Refuses fault (refusal what (part value.now))) }
@@ -174,7 +180,9 @@ fn check_member(what: Collection, value: &Option<Value>) -> Result<(), OpFault>
     }
 }
 
-/// Adds a member, and puts this in the place of an operand.
+/// Adds a member, and puts its collection in the place of an operand.
+///
+/// The error is want of memory.
 fn add_member(
     environment: &mut Contents,
     member: Member,

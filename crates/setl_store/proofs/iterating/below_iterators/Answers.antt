@@ -1,5 +1,4 @@
-use Rattle.std.proofs.Common.{◌≡◌, ◌+◌, ◌-◌, suc, drop, length, subst, sym, arith}
-use Rattle.setl_store.specs.Flat.{lowest_in}
+use Rattle.std.proofs.Common.{◌≡◌, ◌+◌, ◌-◌, suc, drop, subst, arith}
 use Rattle.setl_store.specs.Iterating.{AreIterators}
 use Rattle.setl_store.proofs.Adding.{nowhere_few, nowhere_at, iterators_from, lower}
 use Rattle.setl_store.proofs.iterating.below_iterators.Goals as goal
