@@ -243,8 +243,8 @@ with_member e n o m = record e { operands = set e.operands n o; members = e.memb
 
 -- a collection below iterators
 module _ (code : Code) (at : ℕ) (e : Here) (kept : List (Here × ℕ)) (s : Standing) (n k : ℕ) (what : Collection) (lowest count : ℕ)
-  (holds : MayRun code × IsSound (plain_code code) e × AllSound (plain_code code) kept) (is : stands code at e kept ≡ s)
-  (low : lowest_of e ≤ n) (long : n + k + 1 ≡ length e.operands) (last : Some (operand.Collection what lowest count) ≡ slice_get e.operands n) (are : AreIterators (drop (n + 1) e.operands)) where
+    (holds : MayRun code × IsSound (plain_code code) e × AllSound (plain_code code) kept) (is : stands code at e kept ≡ s)
+    (low : lowest_of e ≤ n) (long : n + k + 1 ≡ length e.operands) (last : Some (operand.Collection what lowest count) ≡ slice_get e.operands n) (are : AreIterators (drop (n + 1) e.operands)) where
   are_above : AreIterators (drop (suc n) e.operands)
   are_above = let same : n + 1 ≡ suc n = omega arith in subst (λ j. AreIterators (drop j e.operands)) same are
 

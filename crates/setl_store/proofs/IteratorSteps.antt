@@ -21,7 +21,7 @@ use Rattle.setl_store.specs.declared.cells.Operand.TheVariants as operand
 use Rattle.setl_store.specs.declared.iterating.Ahead.TheVariants as ahead
 use Rattle.setl_store.specs.Standing.{Standing, iterator_by, over}
 use Rattle.setl_store.specs.Flat.{Here, iterator_of, operand_of, stands, IsSound, AllSound, HasMembers, with_operand, cut_to}
-use Rattle.setl_store.specs.Iterating.{IsAtItem, IsFirst, advanced, operand_with, with_item}
+use Rattle.setl_store.specs.Iterating.{IsAtItem, IsFirst, advanced, operand_by, with_item}
 use Rattle.setl_store.specs.Operands.{IsAhead, Advances}
 use Rattle.setl_store.proofs.NewOperands.{NowHas, now_has}
 use Rattle.setl_store.proofs.OperandLists.{Changed, top_is, some_below, lowest_of, lowest_below, pops, pushes, got_iterator}
@@ -48,8 +48,8 @@ none_ahead members (operand.Collection what lowest count) xs h = tt
 
 -- the operands of a store, where this is the last one and there are more than the lowest
 module _ (code : Code) (at : ℕ) (e : Here) (kept : List (Here × ℕ)) (s : Standing) (n m : ℕ) (o : Operand)
-  (holds : MayRun code × IsSound (plain_code code) e × AllSound (plain_code code) kept) (is : stands code at e kept ≡ s)
-  (count : n ≡ length e.operands) (low : m ≡ lowest_of e) (some : n ≡ m → ⊥) (last : Some o ≡ slice_get e.operands (n - 1)) where
+    (holds : MayRun code × IsSound (plain_code code) e × AllSound (plain_code code) kept) (is : stands code at e kept ≡ s)
+    (count : n ≡ length e.operands) (low : m ≡ lowest_of e) (some : n ≡ m → ⊥) (last : Some o ≡ slice_get e.operands (n - 1)) where
   top_here : s.core.now.operands ≡ operand_of e.members o ∷ drop 1 s.core.now.operands
   top_here = top_is code at e kept s (n - 1) o holds.1 is (omega (arith, lowest_below (plain_code code) e holds.1)) (omega arith) last
 
@@ -97,11 +97,11 @@ item_off (item.Two x y) rest xs = refl
 last_set : {A : Type 0} (xs : List A) (n : ℕ) (x : A) → length xs ≡ n + 1 → set xs n x ≡ take n xs ++ x ∷ []
 last_set xs n x long = sym (take_all (n + 1) (set xs n x) (omega (arith, length-set xs n x))) ∙ take_more_set xs n x (omega arith)
 
-value_members : (v : Option Value) (os : List Operand) (n : ℕ) → HasMembers os n → HasMembers (operand_with v ∷ os) n
+value_members : (v : Option Value) (os : List Operand) (n : ℕ) → HasMembers os n → HasMembers (operand_by v ∷ os) n
 value_members None os n h = h
 value_members (Some v) os n h = h
 
-value_stands : (v : Option Value) (members : List Member) → operand_of members (operand_with v) ≡ Holds (part v)
+value_stands : (v : Option Value) (members : List Member) → operand_of members (operand_by v) ≡ Holds (part v)
 value_stands None members = refl
 value_stands (Some v) members = refl
 
@@ -112,9 +112,9 @@ behind code at e kept s j k h = record { stands = h.stands; holds = h.holds }
 -- a value pushed
 value_pushed : (code : Code) (at : ℕ) (e : Here) (kept : List (Here × ℕ)) (s : Standing) (v : Option Value) →
     MayRun code × IsSound (plain_code code) e × AllSound (plain_code code) kept → stands code at e kept ≡ s →
-    Changed code at (with_operand e (operand_with v)) kept s (over (Holds (part v) ∷ s.core.now.operands) s.core)
+    Changed code at (with_operand e (operand_by v)) kept s (over (Holds (part v) ∷ s.core.now.operands) s.core)
 value_pushed code at e kept s v holds is =
-    pushes code at e (with_operand e (operand_with v)) kept kept s (operand_with v) (Holds (part v)) holds is refl refl
+    pushes code at e (with_operand e (operand_by v)) kept kept s (operand_by v) (Holds (part v)) holds is refl refl
     (value_members v (reverse e.operands) (length e.members) holds.1.members) tt (value_stands v e.members)
 
 -- an item pushed
@@ -126,11 +126,11 @@ item_pushed code at e kept s (item.Two x y) holds is =
     let one = value_pushed code at e kept s y holds is in
     let k = over (Holds (part y) ∷ s.core.now.operands) s.core in
     behind code at (with_item e (item.Two x y)) kept s k (over (item_on (item.Two x y) s.core.now.operands) s.core)
-    (value_pushed code at (with_operand e (operand_with y)) kept (record s { core = k }) x one.holds one.stands)
+    (value_pushed code at (with_operand e (operand_by y)) kept (record s { core = k }) x one.holds one.stands)
 
 -- the iterator that is the last operand replaced
 module _ (code : Code) (at : ℕ) (e : Here) (kept : List (Here × ℕ)) (s : Standing)
-  (holds : MayRun code × IsSound (plain_code code) e × AllSound (plain_code code) kept) (is : stands code at e kept ≡ s) where
+    (holds : MayRun code × IsSound (plain_code code) e × AllSound (plain_code code) kept) (is : stands code at e kept ≡ s) where
   iterator_set : (i j : IteratorState) (n : ℕ) → length e.operands ≡ n + 1 → lowest_of e < length e.operands → Some (operand.Iterator i) ≡ slice_get e.operands n →
       Changed code at (record e { operands = set e.operands n (operand.Iterator j) }) kept s (over (iterator_of j ∷ drop 1 s.core.now.operands) s.core)
   iterator_set i j n long some last =

@@ -28,14 +28,14 @@ IsFirst (Some (operand.Iterator i)) x = (i.left ≡ plain_item x ∷ drop 1 i.le
 IsFirst o x = ⊥
 
 -- the operand that is this value
-abbrev pub operand_with : Option Value → Operand
-operand_with None = operand.Om
-operand_with (Some v) = operand.Value v
+abbrev pub operand_by : Option Value → Operand
+operand_by None = operand.Om
+operand_by (Some v) = operand.Value v
 
 -- with an item pushed: a member, or an image and on it its argument
 abbrev pub with_item : Here → Item → Here
-with_item e (item.One v) = with_operand e (operand_with v)
-with_item e (item.Two x y) = with_operand (with_operand e (operand_with y)) (operand_with x)
+with_item e (item.One v) = with_operand e (operand_by v)
+with_item e (item.Two x y) = with_operand (with_operand e (operand_by y)) (operand_by x)
 
 -- ---- collections below iterators
 

@@ -19,9 +19,9 @@ returns-in_default-operand c = record {
 pub returns-in_err-check_member-clause-told : goal.returns-in_err-check_member-clause-told
 returns-in_err-check_member-clause-told c =
     let told =
-        told_refused (added c.args.count (part c.args.value) c.args.self.now.core.now.operands) c.in_err-check_member.field-0.0 (refusal c.in-Collection.what (part c.args.value)) c.args.self.now.core.now.operands c.in_err-check_member.ensures.refused
-        (refused_by c.self.inside.code.now c.self.inside.at c.self.inside.environment.now c.self.inside.environment.kept c.args.self.now c.in-Some.at c.args.count c.in-Collection.what c.in-Collection.lowest c.in-Collection.got
-        c.self.invariant c.self.view_is c.in-Some.ensures.place.1 c.in-Some.ensures.place.0 (ap Some (sym c.in-Collection.is) ∙ c.operand.ensures) c.in-Some.ensures.above (part c.args.value)) in
+    told_refused (added c.args.count (part c.args.value) c.args.self.now.core.now.operands) c.in_err-check_member.field-0.0 (refusal c.in-Collection.what (part c.args.value)) c.args.self.now.core.now.operands c.in_err-check_member.ensures.refused
+    (refused_by c.self.inside.code.now c.self.inside.at c.self.inside.environment.now c.self.inside.environment.kept c.args.self.now c.in-Some.at c.args.count c.in-Collection.what c.in-Collection.lowest c.in-Collection.got
+    c.self.invariant c.self.view_is c.in-Some.ensures.place.1 c.in-Some.ensures.place.0 (ap Some (sym c.in-Collection.is) ∙ c.operand.ensures) c.in-Some.ensures.above (part c.args.value)) in
     search rules
 
 abbrev Done : In_ok-add_member → Type 0
