@@ -5,3 +5,4 @@ pub mod Slots
 pub mod Collecting
 pub mod Popping
 pub mod HasValues
+pub mod Dropping
