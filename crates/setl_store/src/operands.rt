@@ -60,7 +60,8 @@ impl<'c> Store<'c> {
         ensures rest { OnOk result (self.new ≡ record self.old { core = over self.new.core.now.operands self.old.core }) }
     {
         for _i in 0..count {
-            if !self.drop_iterator()? {
+            let is_dropped = self.drop_iterator()?;
+            if !is_dropped {
                 return Ok(false);
             }
         }
