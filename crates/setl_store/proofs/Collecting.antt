@@ -1,5 +1,5 @@
 -- Sets and tuples of members of collections.
-use Rattle.std.proofs.Common.{◌≡◌, ◌<◌, Bool, true, false, List, [], ◌∷◌, ◌++◌, map, reverse, max, refl, sym, ap, ◌∙◌, subst, arith, Option, Some, None}
+use Rattle.std.proofs.Common.{◌≡◌, ◌<◌, Bool, true, false, List, [], ◌∷◌, ◌++◌, map, reverse, refl, sym, ap, ◌∙◌, subst, arith, Option, Some, None}
 use Rattle.std.specs.Prelude.{nat_le, if◌then◌else◌}
 use Rattle.std.proofs.lemmas.List.{map-append, reverse-append, reverse-reverse}
 use Rattle.std.proofs.lemmas.Bool.Decides.{nat_tests}
@@ -8,10 +8,10 @@ use Rattle.setl_value.specs.Datum.{Datum, depth, parts_depth, parts_of, elements
 use Rattle.setl_value.specs.DatumOf.{datum, part}
 use Rattle.setl_value.specs.WellFormed.{trim}
 use Rattle.setl_set.specs.Sets.{set_from}
-use Rattle.setl_map.specs.Outcome.{Fault, OmFault, DeepFault, all_values, one_more}
+use Rattle.setl_map.specs.Outcome.{OmFault, DeepFault, all_values, one_more}
 use Rattle.setl_program.specs.declared.kinds.Collection.{Collection}
 use Rattle.setl_program.specs.declared.kinds.Collection.TheVariants.{OfSet, OfTuple}
-use Rattle.setl_model.specs.Collections.{refusal, collected, collection}
+use Rattle.setl_model.specs.Collections.{collected, collection}
 use Rattle.setl_store.specs.declared.cells.Member.{Member}
 use Rattle.setl_store.specs.Flat.{GotAll, member_of, present}
 use Rattle.setl_store.proofs.Lists.{map_reverse}

@@ -1,5 +1,5 @@
 -- So many results taken off.
-use Rattle.std.proofs.Common.{◌≡◌, ℕ, zero, suc, ◌+◌, ◌-◌, ◌<◌, ◌≤◌, Bool, true, false, List, [], ◌∷◌, ◌++◌, length, take, drop, map, reverse, get_or, refl, sym, ap, ◌∙◌, subst, arith, Option, Some, None}
+use Rattle.std.proofs.Common.{◌≡◌, ℕ, zero, suc, ◌+◌, ◌-◌, ◌<◌, Bool, true, false, List, [], ◌∷◌, ◌++◌, length, drop, map, reverse, get_or, refl, sym, ap, ◌∙◌, subst, arith, Option, Some, None}
 use Rattle.std.specs.Prelude.{slice_get, is_some, IsSome, ◌&&◌}
 use Rattle.std.specs.Option.{option_map}
 use Rattle.std.proofs.Math.Seq.{drop-cons}
@@ -10,7 +10,7 @@ use Rattle.setl_value.specs.DatumOf.{part}
 use Rattle.setl_code.specs.declared.code.Code.{Code}
 use Rattle.setl_code.specs.Plain.{plain_code}
 use Rattle.setl_code.specs.CodeCore as core
-use Rattle.setl_code.specs.CodeCore.{Popped, Pops, Lacks, value_of, pop_before, popped}
+use Rattle.setl_code.specs.CodeCore.{Pops, Lacks, value_of, pop_before, popped}
 use Rattle.setl_store.specs.declared.cells.Frame.{Frame}
 use Rattle.setl_store.specs.declared.cells.Operand.{Operand}
 use Rattle.setl_store.specs.Standing.{Standing, top_of}

@@ -1,5 +1,5 @@
 -- The top operand taken off, and what it serves as.
-use Rattle.std.proofs.Common.{◌≡◌, ℕ, zero, suc, ◌+◌, ◌-◌, ◌<◌, ◌≤◌, Bool, true, false, List, [], ◌∷◌, ◌++◌, length, take, drop, map, reverse, refl, sym, ap, ◌∙◌, subst, arith, Option, Some, None}
+use Rattle.std.proofs.Common.{◌≡◌, ℕ, ◌+◌, ◌-◌, ◌<◌, ◌≤◌, Bool, true, false, List, [], ◌∷◌, length, take, drop, map, reverse, refl, sym, ap, ◌∙◌, subst, arith, Option, Some, None}
 use Rattle.std.specs.Prelude.{slice_get, IsSome}
 use Rattle.std.specs.Option.{option_map}
 use Rattle.std.proofs.lemmas.List.{take_all, length-drop, map-append}
@@ -17,7 +17,7 @@ use Rattle.setl_store.specs.declared.cells.Member.{Member}
 use Rattle.setl_store.specs.declared.cells.Operand.{Operand}
 use Rattle.setl_store.specs.declared.cells.Operand.TheVariants as operand
 use Rattle.setl_store.specs.Standing.{Standing, over, iterator_by, top_of}
-use Rattle.setl_store.specs.Flat.{Here, IsPlain, GotAll, GotThese, got, member_of, operand_of, stands, results, IsSound, AllGot, AllSound, members_below, cut_to}
+use Rattle.setl_store.specs.Flat.{Here, IsPlain, GotAll, GotThese, got, member_of, operand_of, stands, IsSound, AllGot, AllSound, members_below, cut_to}
 use Rattle.setl_store.proofs.Lists.{some_same}
 use Rattle.setl_store.proofs.OperandLists.{lowest_of, on_top, pops, some_below, top_is, got_right}
 
@@ -97,10 +97,9 @@ top_there (o ∷ xs) some = omega arith
 
 -- the last operand, where the body at work has one
 module _ (code : Code) (at : ℕ) (e : Here) (kept : List (Here × ℕ)) (s : Standing)
-  (h : MayRun code × IsSound (plain_code code) e × AllSound (plain_code code) kept) (is : stands code at e kept ≡ s)
-  (some : IsSome (top_of s.core.now.operands)) (size : ℕ) (long : size ≡ length e.operands)
-  (o : Operand) (there : Some o ≡ slice_get e.operands (size - 1)) where
-
+    (h : MayRun code × IsSound (plain_code code) e × AllSound (plain_code code) kept) (is : stands code at e kept ≡ s)
+    (some : IsSome (top_of s.core.now.operands)) (size : ℕ) (long : size ≡ length e.operands)
+    (o : Operand) (there : Some o ≡ slice_get e.operands (size - 1)) where
   above_lowest : lowest_of e < length e.operands
   above_lowest = some_below code at e kept s is (top_there s.core.now.operands some)
 

@@ -34,7 +34,8 @@ impl<'c> Store<'c> {
         }
     }
 
-    /// Takes so many results off, and gives them with the top last; or None where there are too few.
+    /// Takes so many results off, and gives them with the top last; or None where there are too few. Sets and tuples are
+    /// made of collections, as by `pop`.
     ///
     /// The error is want of memory.
     pub fn pop_values(&mut self, count: usize) -> Result<Option<Vec<Option<Value>>>, Memory>
@@ -52,7 +53,7 @@ impl<'c> Store<'c> {
         Ok(Some(values))
     }
 
-    /// Drops so many iterators. Its answer is whether so many are on top.
+    /// Drops so many iterators. Its answer is whether so many are on top, and else some may be dropped.
     ///
     /// The error is want of memory.
     pub fn drop_iterators(&mut self, count: usize) -> Result<bool, Memory>

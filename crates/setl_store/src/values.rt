@@ -92,5 +92,8 @@ fn push_present(member: Member, values: &mut Vec<Value>) -> Result<(), Memory>
 fn components(alloc: Global, members: Vec<Member>) -> Result<Vec<Option<Value>>, Memory>
     ensures { IfOk result (λ values. values.items ≡ map (λ member. member.value) members.items) }
 {
-    members.into_iter().map(|member| member.value).collect(alloc)
+    members
+        .into_iter()
+        .map(|member| member.value)
+        .collect(alloc)
 }

@@ -1,4 +1,5 @@
-use Rattle.std.proofs.Common.{◌∙◌, ◌+◌, ◌-◌, [], ap, sym, map, reverse, arith}
+use Rattle.std.proofs.Common.{◌∙◌, ◌+◌, ◌-◌, List, [], Option, ap, sym, map, reverse, arith}
+use Rattle.setl_value.specs.declared.Value.{Value}
 use Rattle.setl_value.specs.DatumOf.{part}
 use Rattle.setl_code.specs.CodeCore.{Pops, popped}
 use Rattle.setl_store.specs.Standing.{Standing, over}
@@ -21,7 +22,7 @@ loop-i-preserved c =
       off =
           c.loop-i.invariant.off
           ∙ popped_more c.args.count c.loop-i._i c.loop-i.values.items c.in_ok-pop.field-0 c.loop-i.self.core.now.operands now c.loop-i-test.true c.in_ok-pop.ensures.value
-          ∙ ap (λ l. popped (c.args.count - (c.loop-i._i + 1)) (reverse (map part l)) now) (sym c.in_ok-push.ensures.items);
+          ∙ ap (λ l. popped (c.args.count - (c.loop-i._i + 1)) (reverse (map part l)) now) (sym {A = List (Option Value)} c.in_ok-push.ensures.items);
       rest = c.in_ok-pop.ensures.rest ∙ ap (λ (s : Standing). record s { core = over now s.core }) c.loop-i.invariant.rest;
     }
 
