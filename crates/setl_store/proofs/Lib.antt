@@ -5,3 +5,7 @@ pub mod Slots
 pub mod NewOperands
 pub mod IteratorSteps
 pub mod Adding
+pub mod Collecting
+pub mod Popping
+pub mod HasValues
+pub mod Dropping

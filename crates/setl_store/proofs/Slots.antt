@@ -108,7 +108,7 @@ slice_get_drop zero xs k = let e : k ≡ zero + k = omega arith in ap (slice_get
 slice_get_drop (suc n) [] k = refl
 slice_get_drop (suc n) (x ∷ xs) k = let e : suc (n + k) ≡ suc n + k = omega arith in slice_get_drop n xs k ∙ ap (slice_get (x ∷ xs)) e
 
-slice_get_map : {A B : Type 0} (f : A → B) (xs : List A) (k : ℕ) (x : A) → Some x ≡ slice_get xs k → Some (f x) ≡ slice_get (map f xs) k
+pub slice_get_map : {A B : Type 0} (f : A → B) (xs : List A) (k : ℕ) (x : A) → Some x ≡ slice_get xs k → Some (f x) ≡ slice_get (map f xs) k
 slice_get_map f [] k x e = absurd (cc)
 slice_get_map f (y ∷ xs) zero x e = ap (option_map f) e
 slice_get_map f (y ∷ xs) (suc k) x e = slice_get_map f xs k x e

@@ -3,3 +3,4 @@ pub mod Operands
 pub mod Bodies
 pub mod Flat
 pub mod Iterating
+pub mod HasValues

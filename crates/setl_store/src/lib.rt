@@ -8,6 +8,7 @@ mod changes;
 mod iterating;
 mod operands;
 mod store;
+mod values;
 
 pub use iterating::Ahead;
 pub use setl_environment::Memory;
