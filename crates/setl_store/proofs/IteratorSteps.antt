@@ -21,7 +21,8 @@ use Rattle.setl_store.specs.declared.cells.Operand.TheVariants as operand
 use Rattle.setl_store.specs.declared.iterating.Ahead.TheVariants as ahead
 use Rattle.setl_store.specs.Standing.{Standing, iterator_by, over}
 use Rattle.setl_store.specs.Flat.{Here, iterator_of, operand_of, stands, IsSound, AllSound, HasMembers, with_operand, cut_to}
-use Rattle.setl_store.specs.Iterating.{IsAtItem, IsFirst, advanced, operand_by, with_item}
+use Rattle.setl_store.specs.Iterating.{IsAtItem, IsFirst, advanced, with_item}
+use Rattle.setl_store.specs.Returning.{operand_by}
 use Rattle.setl_store.specs.Operands.{IsAhead, Advances}
 use Rattle.setl_store.proofs.NewOperands.{NowHas, now_has}
 use Rattle.setl_store.proofs.OperandLists.{Changed, top_is, some_below, lowest_of, lowest_below, pops, pushes, got_iterator}

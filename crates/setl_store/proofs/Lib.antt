@@ -9,3 +9,7 @@ pub mod Collecting
 pub mod Popping
 pub mod HasValues
 pub mod Dropping
+pub mod Steps
+pub mod Keeping
+pub mod Entering
+pub mod Leaving

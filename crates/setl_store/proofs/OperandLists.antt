@@ -240,7 +240,7 @@ on_top c e n o h long low is =
 
 -- ---- popping
 
-cut_results : (e : Here) (n m : ℕ) → HasMembers (reverse (take n e.operands)) m → m ≤ length e.members → results (cut_to e n m) ≡ take n (results e)
+pub cut_results : (e : Here) (n m : ℕ) → HasMembers (reverse (take n e.operands)) m → m ≤ length e.members → results (cut_to e n m) ≡ take n (results e)
 cut_results e n m has within =
     agree_flat (take n e.operands) m (take m e.members) e.members has (take-take m m e.members (omega arith))
     ∙ sym (take-map (operand_of e.members) n e.operands)

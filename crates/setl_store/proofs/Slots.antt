@@ -28,7 +28,7 @@ names_in [] hs h = refl
 names_in (x ∷ xs) [] h = absurd (omega (arith, h))
 names_in (x ∷ xs) (v ∷ hs) h = ap (λ l. x ∷ l) (names_in xs hs (omega (arith, h)))
 
-or_false : (a b : Bool) → (a || b) ≡ false → (a ≡ false) × (b ≡ false)
+pub or_false : (a b : Bool) → (a || b) ≡ false → (a ≡ false) × (b ≡ false)
 or_false true b h = absurd (cc)
 or_false false b h = (refl, h)
 

@@ -10,6 +10,7 @@ use Rattle.setl_iterator.specs.declared.iterator.Item.TheVariants as item
 use Rattle.setl_store.specs.declared.cells.Operand.{Operand}
 use Rattle.setl_store.specs.declared.cells.Operand.TheVariants as operand
 use Rattle.setl_store.specs.Flat.{Here, with_operand}
+use Rattle.setl_store.specs.Returning.{operand_by}
 
 -- an iterator with an item left
 abbrev pub IsAtItem : Option Operand → Type 0
@@ -26,11 +27,6 @@ advanced None = operand.Om
 abbrev pub IsFirst : Option Operand → Item → Type 0
 IsFirst (Some (operand.Iterator i)) x = (i.left ≡ plain_item x ∷ drop 1 i.left) × (is_pair x ≡ i.pairs)
 IsFirst o x = ⊥
-
--- the operand that is this value
-abbrev pub operand_by : Option Value → Operand
-operand_by None = operand.Om
-operand_by (Some v) = operand.Value v
 
 -- with an item pushed: a member, or an image and on it its argument
 abbrev pub with_item : Here → Item → Here

@@ -4,3 +4,4 @@ pub mod Bodies
 pub mod Flat
 pub mod Iterating
 pub mod HasValues
+pub mod Returning

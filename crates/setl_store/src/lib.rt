@@ -1,12 +1,14 @@
 //! Variables, operands, calls and backtracking.
 #![tactic(auto)]
 
+mod activations;
 mod backtracking;
 mod calls;
 mod cells;
 mod changes;
 mod iterating;
 mod operands;
+mod returning;
 mod store;
 mod values;
 

@@ -6,8 +6,8 @@ ghost use Rattle.setl_code.specs.MayRun.{HasSlot};
 ghost use Rattle.setl_code.specs.Plain.{plain_slot};
 ghost use Rattle.setl_value.specs.DatumOf.{part};
 ghost use Rattle.setl_store.specs.Flat.{operand_of, held_of, lowest_in, slots_in, place_in, HasMembers};
-ghost use Rattle.setl_store.specs.Iterating.{operand_by};
 ghost use Rattle.setl_store.specs.Operands.{IsThere};
+ghost use Rattle.setl_store.specs.Returning.{operand_by};
 ghost use Rattle.setl_store.specs.Standing.{over, at_place, iterator_by, variables, Shows, IsHeld};
 
 use crate::cells::{Contents, Held, Operand};
@@ -180,7 +180,7 @@ pub(crate) fn operand(value: Option<Value>) -> Operand
 }
 
 /// What a slot holds that holds this value.
-fn held(value: Option<Value>) -> Held
+pub(crate) fn held(value: Option<Value>) -> Held
     ensures { held_of result ≡ There (part value) }
 {
     match value {
