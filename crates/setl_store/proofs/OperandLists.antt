@@ -172,7 +172,7 @@ pushes code at e e' kept kept' s o p h is now same has got stands_for =
 
 -- ---- the top
 
-now_counted : (fs : List Frame) (os : List core.Operand) → length (operands_in fs os) ≤ length os - lowest_in fs
+pub now_counted : (fs : List Frame) (os : List core.Operand) → length (operands_in fs os) ≤ length os - lowest_in fs
 now_counted [] os = omega arith
 now_counted (f ∷ fs) os = omega (arith, length-reverse (drop f.operands os), length-drop f.operands os)
 

@@ -10,6 +10,7 @@ mod iterating;
 mod operands;
 mod returning;
 mod store;
+mod values;
 
 pub use iterating::Ahead;
 pub use setl_environment::Memory;
