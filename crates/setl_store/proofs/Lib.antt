@@ -2,3 +2,14 @@ pub mod Lists
 pub mod OperandLists
 pub mod Bodies
 pub mod Slots
+pub mod NewOperands
+pub mod IteratorSteps
+pub mod Adding
+pub mod Collecting
+pub mod Popping
+pub mod HasValues
+pub mod Dropping
+pub mod Steps
+pub mod Keeping
+pub mod Entering
+pub mod Leaving

@@ -172,7 +172,7 @@ pushes code at e e' kept kept' s o p h is now same has got stands_for =
 
 -- ---- the top
 
-now_counted : (fs : List Frame) (os : List core.Operand) → length (operands_in fs os) ≤ length os - lowest_in fs
+pub now_counted : (fs : List Frame) (os : List core.Operand) → length (operands_in fs os) ≤ length os - lowest_in fs
 now_counted [] os = omega arith
 now_counted (f ∷ fs) os = omega (arith, length-reverse (drop f.operands os), length-drop f.operands os)
 
@@ -240,7 +240,7 @@ on_top c e n o h long low is =
 
 -- ---- popping
 
-cut_results : (e : Here) (n m : ℕ) → HasMembers (reverse (take n e.operands)) m → m ≤ length e.members → results (cut_to e n m) ≡ take n (results e)
+pub cut_results : (e : Here) (n m : ℕ) → HasMembers (reverse (take n e.operands)) m → m ≤ length e.members → results (cut_to e n m) ≡ take n (results e)
 cut_results e n m has within =
     agree_flat (take n e.operands) m (take m e.members) e.members has (take-take m m e.members (omega arith))
     ∙ sym (take-map (operand_of e.members) n e.operands)

@@ -28,7 +28,7 @@ names_in [] hs h = refl
 names_in (x ∷ xs) [] h = absurd (omega (arith, h))
 names_in (x ∷ xs) (v ∷ hs) h = ap (λ l. x ∷ l) (names_in xs hs (omega (arith, h)))
 
-or_false : (a b : Bool) → (a || b) ≡ false → (a ≡ false) × (b ≡ false)
+pub or_false : (a b : Bool) → (a || b) ≡ false → (a ≡ false) × (b ≡ false)
 or_false true b h = absurd (cc)
 or_false false b h = (refl, h)
 
@@ -103,12 +103,12 @@ core_flat c at fs hs os kept = record {
   world = no_world;
 }
 
-slice_get_drop : {A : Type 0} (n : ℕ) (xs : List A) (k : ℕ) → slice_get (drop n xs) k ≡ slice_get xs (n + k)
+pub slice_get_drop : {A : Type 0} (n : ℕ) (xs : List A) (k : ℕ) → slice_get (drop n xs) k ≡ slice_get xs (n + k)
 slice_get_drop zero xs k = let e : k ≡ zero + k = omega arith in ap (slice_get xs) e
 slice_get_drop (suc n) [] k = refl
 slice_get_drop (suc n) (x ∷ xs) k = let e : suc (n + k) ≡ suc n + k = omega arith in slice_get_drop n xs k ∙ ap (slice_get (x ∷ xs)) e
 
-slice_get_map : {A B : Type 0} (f : A → B) (xs : List A) (k : ℕ) (x : A) → Some x ≡ slice_get xs k → Some (f x) ≡ slice_get (map f xs) k
+pub slice_get_map : {A B : Type 0} (f : A → B) (xs : List A) (k : ℕ) (x : A) → Some x ≡ slice_get xs k → Some (f x) ≡ slice_get (map f xs) k
 slice_get_map f [] k x e = absurd (cc)
 slice_get_map f (y ∷ xs) zero x e = ap (option_map f) e
 slice_get_map f (y ∷ xs) (suc k) x e = slice_get_map f xs k x e

@@ -1,2 +1,7 @@
 pub mod Standing
+pub mod Operands
+pub mod Bodies
 pub mod Flat
+pub mod Iterating
+pub mod HasValues
+pub mod Returning

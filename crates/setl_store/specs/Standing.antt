@@ -7,7 +7,7 @@ use Rattle.setl_model.specs.Core.{Item}
 use Rattle.setl_model.specs.World.{World}
 use Rattle.setl_code.specs.declared.code.Code.{Code}
 use Rattle.setl_code.specs.Plain.{Variables, plain_code}
-use Rattle.setl_code.specs.CodeCore.{cleared, Copy, Held, There, Gone, Operand, Result as Holds, Iterator, PairIterator, Collecting, value_of, Popped, Pops, Lacks, CodeCore}
+use Rattle.setl_code.specs.CodeCore.{cleared, Copy, Held, There, Gone, Operand, Result as Holds, Iterator, PairIterator, Collecting, value_of, CodeCore}
 use Rattle.setl_store.specs.declared.store.Content.{Content}
 use Rattle.setl_store.specs.declared.store.Content.TheVariants as content
 use Rattle.setl_store.specs.declared.store.Top.{Top}
@@ -75,11 +75,6 @@ abbrev pub iterator_by : Bool → List Item → Operand
 iterator_by true left = PairIterator left
 iterator_by false left = Iterator left
 
--- whether there are so many results
-abbrev pub pops : Popped → Bool
-pops (Pops vs xs) = true
-pops Lacks = false
-
 -- what a slot holds
 abbrev pub IsHeld : Held → Content → Type 0
 IsHeld Gone content.Taken = Unit {0}
@@ -94,5 +89,5 @@ Shows (Holds None ∷ xs) top.Om = Unit {0}
 Shows (Holds (Some d) ∷ xs) (top.Value v) = datum v.now ≡ d
 Shows (Iterator items ∷ xs) top.Iterator = Unit {0}
 Shows (PairIterator items ∷ xs) top.Iterator = Unit {0}
-Shows (Collecting what got ∷ xs) top.Collection = Unit {0}
+Shows (Collecting what got ∷ xs) (top.Collection kind) = kind ≡ what
 Shows xs t = ⊥

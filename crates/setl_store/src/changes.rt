@@ -63,8 +63,8 @@ pub(crate) fn drop_operand(environment: &mut Contents, lowest: usize) -> Result<
     Ok(())
 }
 
-// Makes so many changes and one more ready.
-fn reserve_one_more(environment: &mut Contents, count: usize) -> Result<(), Memory>
+/// Makes so many changes and one more ready.
+pub(crate) fn reserve_one_more(environment: &mut Contents, count: usize) -> Result<(), Memory>
     ensures now { environment.new.now ≡ environment.old.now }
     ensures kept { environment.new.kept ≡ environment.old.kept }
     ensures ready { OnOk result (count + 1 ≤ environment.new.ready) }

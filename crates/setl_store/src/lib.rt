@@ -1,10 +1,18 @@
 //! Variables, operands, calls and backtracking.
 #![tactic(auto)]
 
+mod activations;
 mod backtracking;
+mod calls;
 mod cells;
 mod changes;
+mod iterating;
+mod operands;
+mod returning;
 mod store;
+mod values;
 
+pub use iterating::Ahead;
 pub use setl_environment::Memory;
+pub use setl_map::OpFault;
 pub use store::{Content, Store, Top};

@@ -6,10 +6,12 @@ ghost use Rattle.setl_code.specs.MayRun.{HasSlot};
 ghost use Rattle.setl_code.specs.Plain.{plain_slot};
 ghost use Rattle.setl_value.specs.DatumOf.{part};
 ghost use Rattle.setl_store.specs.Flat.{operand_of, held_of, lowest_in, slots_in, place_in, HasMembers};
+ghost use Rattle.setl_store.specs.Operands.{IsThere};
+ghost use Rattle.setl_store.specs.Returning.{operand_by};
 ghost use Rattle.setl_store.specs.Standing.{over, at_place, iterator_by, variables, Shows, IsHeld};
 
 use crate::cells::{Contents, Held, Operand};
-use crate::changes::{add_operand, write_slot};
+use crate::changes::{add_operand, take_slot, write_slot};
 use setl_code::{Code, Slot};
 use setl_environment::Memory;
 use setl_iterator::Iterator;
@@ -58,7 +60,8 @@ pub enum Top<'a> {
     /// There is none.
     Nothing,
     Iterator,
-    Collection,
+    /// A collection that is being built: of a set, or of a tuple.
+    Collection(Collection),
     Om,
     Value(&'a Value),
 }
@@ -102,6 +105,20 @@ impl<'c> Store<'c> {
         Ok(())
     }
 
+    /// Takes what a variable's slot holds, and leaves nothing there.
+    ///
+    /// The error is want of memory.
+    pub fn take_slot(&mut self, slot: Slot) -> Result<Option<Value>, Memory>
+        requires slot { HasSlot (length self.old.core.globals) (length self.old.core.now.own) slot }
+        requires there { IsThere (held (plain_slot (variables self.old.core) slot) self.old.core) }
+        ensures value { IfOk result (λ value. held (plain_slot (variables self.old.core) slot) self.old.core ≡ There (part value)) }
+        ensures taken { OnOk result (self.new ≡ record self.old { core = write (plain_slot (variables self.old.core) slot) Gone self.old.core }) }
+    {
+        let at = place(&self.environment, slot);
+        let before = take_slot(&mut self.environment, at)?;
+        Ok(held_value(before))
+    }
+
     /// What the top operand is. It takes no memory.
     pub fn top(&self) -> Top<'_>
         ensures { Shows self.now.core.now.operands result }
@@ -114,7 +131,7 @@ impl<'c> Store<'c> {
             Operand::Om => Top::Om,
             Operand::Value(value) => Top::Value(value),
             Operand::Iterator(_) => Top::Iterator,
-            Operand::Collection(_, _, _) => Top::Collection,
+            Operand::Collection(what, _, _) => Top::Collection(*what),
         }
     }
 
@@ -151,7 +168,8 @@ impl<'c> Store<'c> {
 }
 
 /// An operand that is this value.
-fn operand(value: Option<Value>) -> Operand
+pub(crate) fn operand(value: Option<Value>) -> Operand
+    ensures is { result ≡ operand_by value }
     ensures stands { (members : _) → operand_of members result ≡ Holds (part value) }
     ensures alone { (os : _) (n : _) → HasMembers os n → HasMembers (result ∷ os) n }
 {
@@ -162,12 +180,23 @@ fn operand(value: Option<Value>) -> Operand
 }
 
 /// What a slot holds that holds this value.
-fn held(value: Option<Value>) -> Held
+pub(crate) fn held(value: Option<Value>) -> Held
     ensures { held_of result ≡ There (part value) }
 {
     match value {
         Some(value) => Held::Value(value),
         None => Held::Om,
+    }
+}
+
+/// The value that a slot holds, which wasn't taken.
+fn held_value(held: Held) -> Option<Value>
+    requires { IsThere (held_of held) }
+    ensures { held_of held ≡ There (part result) }
+{
+    match held {
+        Held::Value(value) => Some(value),
+        Held::Om | Held::Taken => None,
     }
 }
 

@@ -1,0 +1,188 @@
+-- Steps of the iterator on top.
+use Rattle.std.proofs.Common.{◌≡◌, ℕ, ◌+◌, ◌-◌, ◌<◌, Bool, true, false, List, [], ◌∷◌, ◌++◌, length, take, drop, reverse, set, get_or, refl, sym, ap, ◌∙◌, subst, arith, eq-eqb, eqb-true, Option, Some, None}
+use Rattle.std.specs.Prelude.{slice_get, nat_eq}
+use Rattle.std.proofs.lemmas.List.{length-set, take_all, take_more_set}
+use Rattle.std.proofs.lemmas.Option.{slice_get-get_or}
+use Rattle.setl_value.specs.DatumOf.{part}
+use Rattle.setl_value.specs.declared.Value.{Value}
+use Rattle.setl_model.specs.Core as model
+use Rattle.setl_iterator.specs.States.{IteratorState}
+use Rattle.setl_iterator.specs.Items.{plain_item, is_pair}
+use Rattle.setl_iterator.specs.declared.iterator.Item.{Item}
+use Rattle.setl_iterator.specs.declared.iterator.Item.TheVariants as item
+use Rattle.setl_code.specs.declared.code.Code.{Code}
+use Rattle.setl_code.specs.CodeCore as core
+use Rattle.setl_code.specs.CodeCore.{CodeCore, Result as Holds}
+use Rattle.setl_code.specs.MayRun.{MayRun}
+use Rattle.setl_code.specs.Plain.{plain_code}
+use Rattle.setl_store.specs.declared.cells.Member.{Member}
+use Rattle.setl_store.specs.declared.cells.Operand.{Operand}
+use Rattle.setl_store.specs.declared.cells.Operand.TheVariants as operand
+use Rattle.setl_store.specs.declared.iterating.Ahead.TheVariants as ahead
+use Rattle.setl_store.specs.Standing.{Standing, iterator_by, over}
+use Rattle.setl_store.specs.Flat.{Here, iterator_of, operand_of, stands, IsSound, AllSound, HasMembers, with_operand, cut_to}
+use Rattle.setl_store.specs.Iterating.{IsAtItem, IsFirst, advanced, with_item}
+use Rattle.setl_store.specs.Returning.{operand_by}
+use Rattle.setl_store.specs.Operands.{IsAhead, Advances}
+use Rattle.setl_store.proofs.NewOperands.{NowHas, now_has}
+use Rattle.setl_store.proofs.OperandLists.{Changed, top_is, some_below, lowest_of, lowest_below, pops, pushes, got_iterator}
+
+-- ---- what is ahead
+
+end_ahead : (pairs : Bool) (left : List model.Item) (xs : List core.Operand) → nat_eq (length left) 0 ≡ true → IsAhead (iterator_by pairs left ∷ xs) ahead.AtEnd
+end_ahead true [] xs h = tt
+end_ahead true (x ∷ left) xs h = absurd (omega (arith, eqb-true (length (x ∷ left)) 0 h))
+end_ahead false [] xs h = tt
+end_ahead false (x ∷ left) xs h = absurd (omega (arith, eqb-true (length (x ∷ left)) 0 h))
+
+item_ahead : (pairs : Bool) (left : List model.Item) (xs : List core.Operand) → nat_eq (length left) 0 ≡ false → IsAhead (iterator_by pairs left ∷ xs) ahead.AtItem
+item_ahead true [] xs h = absurd (cc (eq-eqb 0 0 refl))
+item_ahead true (x ∷ left) xs h = tt
+item_ahead false [] xs h = absurd (cc (eq-eqb 0 0 refl))
+item_ahead false (x ∷ left) xs h = tt
+
+none_ahead : (members : List Member) (o : Operand) (xs : List core.Operand) → ((i : IteratorState) → o ≡ operand.Iterator i → ⊥) → IsAhead (operand_of members o ∷ xs) ahead.NoIterator
+none_ahead members operand.Om xs h = tt
+none_ahead members (operand.Value v) xs h = tt
+none_ahead members (operand.Iterator i) xs h = absurd (h i refl)
+none_ahead members (operand.Collection what lowest count) xs h = tt
+
+-- the operands of a store, where this is the last one and there are more than the lowest
+module _ (code : Code) (at : ℕ) (e : Here) (kept : List (Here × ℕ)) (s : Standing) (n m : ℕ) (o : Operand)
+    (holds : MayRun code × IsSound (plain_code code) e × AllSound (plain_code code) kept) (is : stands code at e kept ≡ s)
+    (count : n ≡ length e.operands) (low : m ≡ lowest_of e) (some : n ≡ m → ⊥) (last : Some o ≡ slice_get e.operands (n - 1)) where
+  top_here : s.core.now.operands ≡ operand_of e.members o ∷ drop 1 s.core.now.operands
+  top_here = top_is code at e kept s (n - 1) o holds.1 is (omega (arith, lowest_below (plain_code code) e holds.1)) (omega arith) last
+
+  pub end_on_top : (i : IteratorState) (b : Bool) → o ≡ operand.Iterator i → b ≡ nat_eq (length i.left) 0 → b ≡ true → IsAhead s.core.now.operands ahead.AtEnd
+  end_on_top i b at_work ends h =
+      subst (λ l. IsAhead l ahead.AtEnd) (sym (top_here ∙ ap (λ x. operand_of e.members x ∷ drop 1 s.core.now.operands) at_work))
+      (end_ahead i.pairs i.left (drop 1 s.core.now.operands) (sym ends ∙ h))
+
+  pub item_on_top : (i : IteratorState) (b : Bool) → o ≡ operand.Iterator i → b ≡ nat_eq (length i.left) 0 → b ≡ false → IsAhead s.core.now.operands ahead.AtItem
+  item_on_top i b at_work ends h =
+      subst (λ l. IsAhead l ahead.AtItem) (sym (top_here ∙ ap (λ x. operand_of e.members x ∷ drop 1 s.core.now.operands) at_work))
+      (item_ahead i.pairs i.left (drop 1 s.core.now.operands) (sym ends ∙ h))
+
+  pub no_iterator_on_top : ((i : IteratorState) → o ≡ operand.Iterator i → ⊥) → IsAhead s.core.now.operands ahead.NoIterator
+  no_iterator_on_top h = subst (λ l. IsAhead l ahead.NoIterator) (sym top_here) (none_ahead e.members o (drop 1 s.core.now.operands) h)
+
+-- ---- advancing
+
+some_ahead : (xs : List core.Operand) → IsAhead xs ahead.AtItem → 0 < length xs
+some_ahead [] h = absurd h
+some_ahead (x ∷ xs) h = omega arith
+
+item_left : (pairs : Bool) (left : List model.Item) (xs : List core.Operand) → IsAhead (iterator_by pairs left ∷ xs) ahead.AtItem → 0 < length left
+item_left true [] xs h = absurd h
+item_left true (x ∷ left) xs h = omega arith
+item_left false [] xs h = absurd h
+item_left false (x ∷ left) xs h = omega arith
+
+at_item : (members : List Member) (o : Operand) (xs : List core.Operand) → IsAhead (operand_of members o ∷ xs) ahead.AtItem → IsAtItem (Some o)
+at_item members operand.Om xs h = absurd h
+at_item members (operand.Value v) xs h = absurd h
+at_item members (operand.Iterator i) xs h = item_left i.pairs i.left xs h
+at_item members (operand.Collection what lowest count) xs h = absurd h
+
+-- an item on these operands
+abbrev pub item_on : Item → List core.Operand → List core.Operand
+item_on (item.One v) xs = Holds (part v) ∷ xs
+item_on (item.Two x y) xs = Holds (part x) ∷ Holds (part y) ∷ xs
+
+item_off : (x : Item) (rest : List model.Item) (xs : List core.Operand) → Advances (iterator_by (is_pair x) (plain_item x ∷ rest) ∷ xs) (item_on x (iterator_by (is_pair x) rest ∷ xs))
+item_off (item.One v) rest xs = refl
+item_off (item.Two x y) rest xs = refl
+
+-- a list with its last one replaced
+last_set : {A : Type 0} (xs : List A) (n : ℕ) (x : A) → length xs ≡ n + 1 → set xs n x ≡ take n xs ++ x ∷ []
+last_set xs n x long = sym (take_all (n + 1) (set xs n x) (omega (arith, length-set xs n x))) ∙ take_more_set xs n x (omega arith)
+
+value_members : (v : Option Value) (os : List Operand) (n : ℕ) → HasMembers os n → HasMembers (operand_by v ∷ os) n
+value_members None os n h = h
+value_members (Some v) os n h = h
+
+value_stands : (v : Option Value) (members : List Member) → operand_of members (operand_by v) ≡ Holds (part v)
+value_stands None members = refl
+value_stands (Some v) members = refl
+
+-- a change behind another
+behind : (code : Code) (at : ℕ) (e : Here) (kept : List (Here × ℕ)) (s : Standing) (j k : CodeCore) → Changed code at e kept (record s { core = j }) k → Changed code at e kept s k
+behind code at e kept s j k h = record { stands = h.stands; holds = h.holds }
+
+-- a value pushed
+value_pushed : (code : Code) (at : ℕ) (e : Here) (kept : List (Here × ℕ)) (s : Standing) (v : Option Value) →
+    MayRun code × IsSound (plain_code code) e × AllSound (plain_code code) kept → stands code at e kept ≡ s →
+    Changed code at (with_operand e (operand_by v)) kept s (over (Holds (part v) ∷ s.core.now.operands) s.core)
+value_pushed code at e kept s v holds is =
+    pushes code at e (with_operand e (operand_by v)) kept kept s (operand_by v) (Holds (part v)) holds is refl refl
+    (value_members v (reverse e.operands) (length e.members) holds.1.members) tt (value_stands v e.members)
+
+-- an item pushed
+item_pushed : (code : Code) (at : ℕ) (e : Here) (kept : List (Here × ℕ)) (s : Standing) (x : Item) →
+    MayRun code × IsSound (plain_code code) e × AllSound (plain_code code) kept → stands code at e kept ≡ s →
+    Changed code at (with_item e x) kept s (over (item_on x s.core.now.operands) s.core)
+item_pushed code at e kept s (item.One v) holds is = value_pushed code at e kept s v holds is
+item_pushed code at e kept s (item.Two x y) holds is =
+    let one = value_pushed code at e kept s y holds is in
+    let k = over (Holds (part y) ∷ s.core.now.operands) s.core in
+    behind code at (with_item e (item.Two x y)) kept s k (over (item_on (item.Two x y) s.core.now.operands) s.core)
+    (value_pushed code at (with_operand e (operand_by y)) kept (record s { core = k }) x one.holds one.stands)
+
+-- the iterator that is the last operand replaced
+module _ (code : Code) (at : ℕ) (e : Here) (kept : List (Here × ℕ)) (s : Standing)
+    (holds : MayRun code × IsSound (plain_code code) e × AllSound (plain_code code) kept) (is : stands code at e kept ≡ s) where
+  iterator_set : (i j : IteratorState) (n : ℕ) → length e.operands ≡ n + 1 → lowest_of e < length e.operands → Some (operand.Iterator i) ≡ slice_get e.operands n →
+      Changed code at (record e { operands = set e.operands n (operand.Iterator j) }) kept s (over (iterator_of j ∷ drop 1 s.core.now.operands) s.core)
+  iterator_set i j n long some last =
+      let cut = cut_to e n (length e.members) in
+      let below = pops code at e cut kept kept s n (operand.Iterator i) holds is long (omega arith) last refl refl in
+      let k = over (drop 1 s.core.now.operands) s.core in
+      let to = behind code at (with_operand cut (operand.Iterator j)) kept s k (over (iterator_of j ∷ drop 1 s.core.now.operands) s.core) (pushes code at cut (with_operand cut (operand.Iterator j)) kept kept (record s { core = k }) (operand.Iterator j) (iterator_of j) below.holds below.stands refl refl below.holds.1.members (got_iterator j.pairs j.left) refl) in
+      let members = take_all (length e.members) e.members (omega arith) in
+      let operands = last_set e.operands n (operand.Iterator j) long in
+      let same : with_operand cut (operand.Iterator j) ≡ record e { operands = set e.operands n (operand.Iterator j) } = λ k. record e { operands = sym operands k; members = members k } in
+      subst (λ x. Changed code at x kept s (over (iterator_of j ∷ drop 1 s.core.now.operands) s.core)) same to
+
+  last_of : IsAhead s.core.now.operands ahead.AtItem → Some (get_or e.operands (length e.operands - 1) operand.Om) ≡ slice_get e.operands (length e.operands - 1)
+  last_of h = sym (slice_get-get_or e.operands (length e.operands - 1) operand.Om (omega (arith, some_below code at e kept s is (some_ahead s.core.now.operands h))))
+
+  top_before : (h : IsAhead s.core.now.operands ahead.AtItem) → s.core.now.operands ≡ operand_of e.members (get_or e.operands (length e.operands - 1) operand.Om) ∷ drop 1 s.core.now.operands
+  top_before h = top_is code at e kept s (length e.operands - 1) (get_or e.operands (length e.operands - 1) operand.Om) holds.1 is (some_below code at e kept s is (some_ahead s.core.now.operands h)) refl (last_of h)
+
+  -- an iterator is the last operand where an item is ahead
+  pub item_there : IsAhead s.core.now.operands ahead.AtItem → IsAtItem (slice_get e.operands (length e.operands - 1))
+  item_there h =
+      let o = get_or e.operands (length e.operands - 1) operand.Om in
+      subst IsAtItem (last_of h) (at_item e.members o (drop 1 s.core.now.operands) (subst (λ l. IsAhead l ahead.AtItem) (top_before h) h))
+
+  -- its first item taken and pushed
+  advanced_by : (o : Operand) (x : Item) (e₁ e₂ : Here) (kept' : List (Here × ℕ)) → length e.operands ≡ (length e.operands - 1) + 1 → lowest_of e < length e.operands → Some o ≡ slice_get e.operands (length e.operands - 1) →
+      s.core.now.operands ≡ operand_of e.members o ∷ drop 1 s.core.now.operands → IsFirst (Some o) x →
+      e₁ ≡ record e { operands = set e.operands (length e.operands - 1) (advanced (Some o)) } → e₂ ≡ with_item e₁ x → kept' ≡ kept → NowHas (Advances s.core.now.operands) code at e₂ kept' s
+  advanced_by operand.Om x e₁ e₂ kept' long some last top first now pushed same = absurd first
+  advanced_by (operand.Value v) x e₁ e₂ kept' long some last top first now pushed same = absurd first
+  advanced_by (operand.Collection what lowest count) x e₁ e₂ kept' long some last top first now pushed same = absurd first
+  advanced_by (operand.Iterator i) x e₁ e₂ kept' long some last top first now pushed same =
+      let j : IteratorState = record i { left = drop 1 i.left } in
+      let xs = drop 1 s.core.now.operands in
+      let one = iterator_set i j (length e.operands - 1) long some last in
+      let k = over (iterator_of j ∷ xs) s.core in
+      let e' = record e { operands = set e.operands (length e.operands - 1) (operand.Iterator j) } in
+      let two = behind code at (with_item e' x) kept s k (over (item_on x (iterator_of j ∷ xs)) s.core) (item_pushed code at e' kept (record s { core = k }) x one.holds one.stands) in
+      let off : Advances (iterator_by i.pairs i.left ∷ xs) (item_on x (iterator_of j ∷ xs)) =
+      subst (λ (l : List model.Item). Advances (iterator_by i.pairs l ∷ xs) (item_on x (iterator_of j ∷ xs))) (sym first.0)
+      (subst (λ b. Advances (iterator_by b (plain_item x ∷ drop 1 i.left) ∷ xs) (item_on x (iterator_by b (drop 1 i.left) ∷ xs))) first.1 (item_off x (drop 1 i.left) xs)) in
+      now_has (item_on x (iterator_of j ∷ xs))
+      (subst (λ l. Advances l (item_on x (iterator_of j ∷ xs))) (sym top) off)
+      (subst (λ ks. Changed code at e₂ ks s (over (item_on x (iterator_of j ∷ xs)) s.core)) (sym same)
+      (subst (λ y. Changed code at y kept s (over (item_on x (iterator_of j ∷ xs)) s.core)) (sym (pushed ∙ ap (λ y. with_item y x) now)) two))
+
+  pub advances : (x : Item) (e₁ e₂ : Here) (kept' : List (Here × ℕ)) → IsAhead s.core.now.operands ahead.AtItem → IsFirst (slice_get e.operands (length e.operands - 1)) x →
+      e₁ ≡ record e { operands = set e.operands (length e.operands - 1) (advanced (slice_get e.operands (length e.operands - 1))) } → e₂ ≡ with_item e₁ x → kept' ≡ kept → NowHas (Advances s.core.now.operands) code at e₂ kept' s
+  advances x e₁ e₂ kept' h first now pushed same =
+      let some = some_below code at e kept s is (some_ahead s.core.now.operands h) in
+      let last = last_of h in
+      advanced_by (get_or e.operands (length e.operands - 1) operand.Om) x e₁ e₂ kept' (omega (arith, some)) some last (top_before h)
+      (subst (λ o. IsFirst o x) (sym last) first)
+      (now ∙ ap (λ o. record e { operands = set e.operands (length e.operands - 1) (advanced o) }) (sym last)) pushed same

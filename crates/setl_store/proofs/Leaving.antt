@@ -1,0 +1,328 @@
+-- What a return hands back, and what it leaves.
+use Rattle.std.proofs.Common.{◌≡◌, ℕ, zero, suc, ◌+◌, ◌-◌, ◌<◌, ◌≤◌, Bool, true, false, List, [], ◌∷◌, ◌++◌, length, take, drop, map, reverse, get_or, refl, sym, ap, ◌∙◌, subst, arith, Option, Some, None}
+use Rattle.std.specs.Prelude.{slice_get, cond, ◌||◌}
+use Rattle.std.specs.Option.{option_map}
+use Rattle.std.proofs.lemmas.List.{reverse-append, map-append, append_assoc, append-nil, length-map, length-reverse, length-take-le, length_push, take-map, take-take, length-drop, drop_all, drop-append-le}
+use Rattle.std.proofs.lemmas.Option.{same_Some, slice_get_read}
+use Rattle.setl_value.specs.Datum.{Datum}
+use Rattle.setl_value.specs.DatumOf.{part}
+use Rattle.setl_value.specs.declared.Value.{Value}
+use Rattle.setl_tree.specs.declared.tree.Param.{Param}
+use Rattle.setl_tree.specs.declared.tree.Passing.{Passing}
+use Rattle.setl_tree.specs.declared.tree.Passing.TheVariants.{Rd, Wr, Rw}
+use Rattle.setl_run.specs.Variable.{Variable, is_variable}
+use Rattle.setl_run.specs.VariableLaws.{variable_itself}
+use Rattle.setl_program.specs.Program.{Parameter}
+use Rattle.setl_program.specs.ProgramOf.{parameter_of}
+use Rattle.setl_model.specs.Calls.{parameter}
+use Rattle.setl_code.specs.declared.code.Body.{Body}
+use Rattle.setl_code.specs.declared.code.Code.{Code}
+use Rattle.setl_code.specs.Code as plain
+use Rattle.setl_code.specs.CodeCore as core
+use Rattle.setl_code.specs.CodeCore.{Held, There, Gone, Cells, held_in, CodeCore}
+use Rattle.setl_code.specs.Machine.{hand, push_held, handed_back}
+use Rattle.setl_code.specs.MayRun.{Differ, MayRun}
+use Rattle.setl_code.specs.Names.{is_among}
+use Rattle.setl_code.specs.Plain.{plain_body, plain_code, plain_name}
+use Rattle.setl_store.specs.declared.cells.Frame.{Frame}
+use Rattle.setl_store.specs.declared.cells.Held.{Held as Slot}
+use Rattle.setl_store.specs.declared.cells.Operand.{Operand}
+use Rattle.setl_store.specs.declared.cells.Operand.TheVariants as operand
+use Rattle.setl_store.specs.Bodies.{left, left_for}
+use Rattle.setl_store.specs.Flat.{Here, cells, variables_by, names_of, held_of, helds, operand_of, results, body_in, slots_in, lowest_in, own_in, operands_in, activation, callers, core_of, copy_of, stands, own_count_of, GotThese, AllGot, HasMembers, members_below, IsShaped, IsSound, AllSound, with_operand}
+use Rattle.setl_store.specs.Returning.{operand_by, pushed_on, handed, handed_by, handed_in, Hands, parameter_count_of}
+use Rattle.setl_store.specs.Standing.{Standing, no_world, over}
+use Rattle.setl_store.proofs.Bodies.{body_at, names_same, names_differ}
+use Rattle.setl_store.proofs.Entering.{among_left, core_over}
+use Rattle.setl_store.proofs.OperandLists.{has_below, below_within, cut_results, got_take, Changed, pushes}
+use Rattle.setl_store.proofs.Slots.{or_false, cells_agree, own_counted, globals_below, slice_get_map, slice_get_drop}
+use Rattle.setl_store.proofs.Steps.{counted}
+
+-- ---- the members of lower operands
+
+pub take_one_more : {A : Type 0} (n : ℕ) (xs : List A) (x : A) → Some x ≡ slice_get xs n → take (suc n) xs ≡ take n xs ++ x ∷ []
+take_one_more n [] x e = absurd (cc)
+take_one_more zero (y ∷ ys) x e = ap (λ z. z ∷ []) (sym (same_Some x y e))
+take_one_more (suc n) (y ∷ ys) x e = ap (λ l. y ∷ l) (take_one_more n ys x e)
+
+-- without the last of these operands
+pub one_lower : (os : List Operand) (k n less : ℕ) (o : Operand) (ms left : ℕ) → k ≡ n + 1 → less ≡ n → Some o ≡ slice_get os n → left ≡ members_below o ms → HasMembers (reverse (take k os)) ms →
+    HasMembers (reverse (take less os)) left × (left ≤ ms)
+one_lower os k n less o ms left more same is below h =
+    let up : k ≡ suc n = omega (arith, more) in
+    let apart = ap (λ m. reverse (take m os)) up ∙ ap reverse (take_one_more n os o is) ∙ reverse-append (take n os) (o ∷ []) in
+    let has = subst (λ l. HasMembers l ms) apart h in (
+      subst (λ m. HasMembers (reverse (take m os)) left) (sym same) (subst (HasMembers (reverse (take n os))) (sym below) (has_below o (reverse (take n os)) ms has)),
+      subst (λ m. m ≤ ms) (sym below) (below_within o (reverse (take n os)) ms has),
+    )
+
+-- ---- values that are pushed
+
+abbrev with_operands : Here → List Operand → Here
+with_operands e os = record e { operands = e.operands ++ os }
+
+alone : (v : Option Value) (os : List Operand) (n : ℕ) → HasMembers os n → HasMembers (operand_by v ∷ os) n
+alone None os n h = h
+alone (Some v) os n h = h
+
+stands_for : (v : Option Value) (e : Here) → operand_of e.members (operand_by v) ≡ core.Result (part v)
+stands_for None e = refl
+stands_for (Some v) e = refl
+
+pub pushes_all : (vs : List (Option Value)) (code : Code) (at : ℕ) (e e' : Here) (kept kept' : List (Here × ℕ)) (s : Standing) →
+    MayRun code × IsSound (plain_code code) e × AllSound (plain_code code) kept → stands code at e kept ≡ s →
+    e' ≡ record e { operands = e.operands ++ map operand_by vs } → kept' ≡ kept → Changed code at e' kept' s (over (pushed_on (map part vs) s.core.now.operands) s.core)
+pushes_all [] code at e e' kept kept' s h is now same =
+    let to : e' ≡ e = now ∙ ap (λ os. record e { operands = os }) (append-nil e.operands) in
+    record {
+      stands = (λ i. stands code at (to i) (same i)) ∙ is;
+      holds = (h.0, subst (IsSound (plain_code code)) (sym to) h.1, subst (AllSound (plain_code code)) (sym same) h.2);
+    }
+pushes_all (v ∷ vs) code at e e' kept kept' s h is now same =
+    let o = operand_by v in
+    let first = pushes code at e (with_operand e o) kept kept s o (core.Result (part v)) h is refl refl (alone v (reverse e.operands) (length e.members) h.1.members) tt (stands_for v e) in
+    let rest = pushes_all vs code at (with_operand e o) e' kept kept' (record s { core = over (core.Result (part v) ∷ s.core.now.operands) s.core }) first.holds first.stands
+    (now ∙ ap (λ os. record e { operands = os }) (sym (append_assoc e.operands (o ∷ []) (map operand_by vs)))) same in
+    record { stands = rest.stands; holds = rest.holds }
+
+-- ---- values that are handed back
+
+pub pushed_last : (vs : List (Option Datum)) (v : Option Datum) (xs : List core.Operand) → pushed_on (vs ++ v ∷ []) xs ≡ core.Result v ∷ pushed_on vs xs
+pushed_last [] v xs = refl
+pushed_last (w ∷ vs) v xs = pushed_last vs v (core.Result w ∷ xs)
+
+none_stays : (p : Passing) (h : Held) → hand p h None ≡ None
+none_stays Rd h = refl
+none_stays Wr Gone = refl
+none_stays Wr (There v) = refl
+none_stays Rw Gone = refl
+none_stays Rw (There v) = refl
+
+-- where one of the later parameters was taken, so it is with all
+pub lost : (k : ℕ) (ps : List Param) (hs : List Held) (xs : List core.Operand) → handed (drop k ps) (drop k hs) xs ≡ None → handed ps hs xs ≡ None
+lost zero ps hs xs e = e
+lost (suc k) [] hs xs e = e
+lost (suc k) (p ∷ ps) [] xs e = refl
+lost (suc k) (p ∷ ps) (h ∷ hs) xs e = ap (hand p.passing h) (lost k ps hs xs e) ∙ none_stays p.passing h
+
+pub drop_one_less : {A : Type 0} (n : ℕ) (xs : List A) (x : A) → Some x ≡ slice_get xs n → drop n xs ≡ x ∷ drop (suc n) xs
+drop_one_less n [] x e = absurd (cc)
+drop_one_less zero (y ∷ ys) x e = ap (λ z. z ∷ ys) (sym (same_Some x y e))
+drop_one_less (suc n) (y ∷ ys) x e = drop_one_less n ys x e
+
+pub handed_from : (n : ℕ) (ps : List Param) (hs : List Held) (xs : List core.Operand) (p : Param) (h : Held) → Some p ≡ slice_get ps n → Some h ≡ slice_get hs n →
+    handed (drop n ps) (drop n hs) xs ≡ hand p.passing h (handed (drop (suc n) ps) (drop (suc n) hs) xs)
+handed_from n ps hs xs p h pe he = λ i. handed (drop_one_less n ps p pe i) (drop_one_less n hs h he i) xs
+
+-- a slot's value that is added
+pub held_added : (h : Slot) (v : Option Value) (old new : List (Option Value)) → held_of h ≡ There (part v) → new ≡ old ++ v ∷ [] →
+    (xs : List core.Operand) → push_held (held_of h) (Some (pushed_on (map part old) xs)) ≡ Some (pushed_on (map part new) xs)
+held_added h v old new is added xs =
+    ap (λ x. push_held x (Some (pushed_on (map part old) xs))) is
+    ∙ ap (λ l. Some l) (sym (ap (λ l. pushed_on (map part l) xs) added ∙ ap (λ l. pushed_on l xs) (map-append part old (v ∷ [])) ∙ pushed_last (map part old) (part v) xs))
+
+pub handed_at_end : (n : ℕ) (ps : List Param) (hs : List Held) (xs : List core.Operand) → n ≡ length ps → handed (drop n ps) (drop n hs) xs ≡ Some xs
+handed_at_end n ps hs xs e = ap (λ l. handed l (drop n hs) xs) (drop_all n ps (omega (arith, e)))
+
+-- one parameter more
+handed_at : (ps : List Param) (slots : List Slot) (lowest at i : ℕ) (p : Param) (h : Slot) (old : List (Option Datum)) (xs ys : List core.Operand) → at ≡ length ps - 1 - i → i < length ps → p ≡ get_or ps at p → Some h ≡ slice_get slots (lowest + at) →
+    handed (drop (length ps - i) ps) (drop (length ps - i) (drop lowest (map held_of slots))) xs ≡ Some (pushed_on old ys) →
+    handed (drop at ps) (drop at (drop lowest (map held_of slots))) xs ≡ hand p.passing (held_of h) (Some (pushed_on old ys))
+handed_at ps slots lowest at i p h old xs ys place within is there before =
+    let hs = drop lowest (map held_of slots) in
+    let holds = slice_get_map held_of slots (lowest + at) h there ∙ sym (slice_get_drop lowest (map held_of slots) at) in
+    let next : suc at ≡ length ps - i = omega (arith, place, within) in
+    handed_from at ps hs xs p (held_of h) (sym (slice_get_read ps (length ps) at p refl (omega (arith, place, within)) is)) holds
+    ∙ ap (hand p.passing (held_of h)) (ap (λ m. handed (drop m ps) (drop m hs) xs) next ∙ before)
+
+pub handed_on : (ps : List Param) (slots : List Slot) (lowest at i : ℕ) (p : Param) (h : Slot) (old new : List (Option Datum)) (xs ys : List core.Operand) (done : Bool) → at ≡ length ps - 1 - i → i < length ps → p ≡ get_or ps at p → Some h ≡ slice_get slots (lowest + at) →
+    handed (drop (length ps - i) ps) (drop (length ps - i) (drop lowest (map held_of slots))) xs ≡ Some (pushed_on old ys) →
+    Hands (hand p.passing (held_of h) (Some (pushed_on old ys))) done (pushed_on new ys) → done ≡ true →
+    handed (drop (length ps - (i + 1)) ps) (drop (length ps - (i + 1)) (drop lowest (map held_of slots))) xs ≡ Some (pushed_on new ys)
+handed_on ps slots lowest at i p h old new xs ys done place within is there before after so =
+    let same : length ps - (i + 1) ≡ at = omega (arith, place, within) in
+    ap (λ m. handed (drop m ps) (drop m (drop lowest (map held_of slots))) xs) same
+    ∙ handed_at ps slots lowest at i p h old xs ys place within is there before
+    ∙ subst (λ b. Hands (hand p.passing (held_of h) (Some (pushed_on old ys))) b (pushed_on new ys)) so after
+
+pub handed_none : (ps : List Param) (slots : List Slot) (lowest at i : ℕ) (p : Param) (h : Slot) (old new : List (Option Datum)) (xs ys : List core.Operand) (done : Bool) → at ≡ length ps - 1 - i → i < length ps → p ≡ get_or ps at p → Some h ≡ slice_get slots (lowest + at) →
+    handed (drop (length ps - i) ps) (drop (length ps - i) (drop lowest (map held_of slots))) xs ≡ Some (pushed_on old ys) →
+    Hands (hand p.passing (held_of h) (Some (pushed_on old ys))) done (pushed_on new ys) → done ≡ false →
+    handed ps (drop lowest (map held_of slots)) xs ≡ None
+handed_none ps slots lowest at i p h old new xs ys done place within is there before after so =
+    lost at ps (drop lowest (map held_of slots)) xs
+    (handed_at ps slots lowest at i p h old xs ys place within is there before
+    ∙ subst (λ b. Hands (hand p.passing (held_of h) (Some (pushed_on old ys))) b (pushed_on new ys)) so after)
+
+-- ---- the same, by variables
+
+-- the slot of another variable doesn't matter
+skipped : (n : ℕ) (qs : List Parameter) (x : Variable) (h : Held) (ss : Cells) (xs : List core.Operand) → is_among (map (parameter n) qs) x ≡ false → handed_back n qs ((x, h) ∷ ss) xs ≡ handed_back n qs ss xs
+skipped n [] x h ss xs a = refl
+skipped n (q ∷ qs) x h ss xs a =
+    let parts = or_false (is_variable x (parameter n q)) (is_among (map (parameter n) qs) x) a in
+    let first = ap (λ b. cond b h (held_in ss (parameter n q))) parts.0 in
+    let rest = skipped n qs x h ss xs parts.1 in
+    λ i. hand q.passing (first i) (rest i)
+
+handed_same : (n : ℕ) (ps : List Param) (names : List Variable) (hs : List Held) (xs : List core.Operand) → Differ (map (parameter n) (map parameter_of ps) ++ names) → length ps ≤ length hs →
+    handed_back n (map parameter_of ps) (cells (map (parameter n) (map parameter_of ps) ++ names) hs) xs ≡ handed ps hs xs
+handed_same n [] names hs xs d l = refl
+handed_same n (p ∷ ps) names [] xs d l = absurd (omega (arith, l))
+handed_same n (p ∷ ps) names (h ∷ hs) xs d l =
+    let x = parameter n (parameter_of p) in
+    let others = map (parameter n) (map parameter_of ps) in
+    let first = ap (λ b. cond b h (held_in (cells (others ++ names) hs) x)) (variable_itself x) in
+    let rest = skipped n (map parameter_of ps) x h (cells (others ++ names) hs) xs (among_left others names x d.0) ∙ handed_same n ps names hs xs d.1 (omega (arith, l)) in
+    λ i. hand p.passing (first i) (rest i)
+
+abbrev caller_with : CodeCore → core.Activation → List core.Activation → List core.Operand → CodeCore
+caller_with k c cs xs = record k { now = record c { operands = xs }; callers = cs }
+
+left_by : (vars : List Variable) (n : ℕ) (b : Option Body) (hs : List Held) (v : Option Datum) (k : CodeCore) (c : core.Activation) (cs : List core.Activation) →
+    Differ (variables_by n (option_map (plain_body vars n) b)) → parameter_count_of b ≤ length hs → k.now.body ≡ n → k.now.own ≡ cells (variables_by n (option_map (plain_body vars n) b)) hs → k.callers ≡ c ∷ cs →
+    left (option_map (plain_body vars n) b) v k ≡ option_map (caller_with k c cs) (handed_by b hs (core.Result v ∷ c.operands))
+left_by vars n None hs v k c cs d l number own waits = refl
+left_by vars n (Some b) hs v k c cs d l number own waits =
+    let ps = map parameter_of b.parameters in
+    ap (left_for (plain_body vars n b) v k) waits
+    ∙ ap (option_map (caller_with k c cs)) ((λ i. handed_back (number i) ps (own i) (core.Result v ∷ c.operands)) ∙ handed_same n b.parameters (map (plain_name n) b.names) hs (core.Result v ∷ c.operands) d l)
+
+left_outermost : (b : Option plain.Body) (v : Option Datum) (k : CodeCore) → k.callers ≡ [] → left b v k ≡ None
+left_outermost None v k none = refl
+left_outermost (Some b) v k none = ap (left_for b v k) none
+
+-- the operands of the one that waits
+abbrev pub under : List Frame → List core.Operand → List core.Operand
+under [] os = []
+under (f ∷ []) os = []
+under (f ∷ g ∷ fs) os = operands_in (g ∷ fs) (take f.operands os)
+
+abbrev pub given_back : plain.Code → ℕ → List Frame → List Held → List core.Operand → List (Here × ℕ) → List core.Operand → CodeCore
+given_back c at [] hs os kept xs = core_over c at [] hs os kept
+given_back c at (f ∷ []) hs os kept xs = core_over c at (f ∷ []) hs os kept
+given_back c at (f ∷ g ∷ fs) hs os kept xs =
+    caller_with (core_over c at (f ∷ g ∷ fs) hs os kept) (activation c f.from (g ∷ fs) (take f.slots hs) (take f.operands os)) (callers c (g ∷ fs) (take f.slots hs) (take f.operands os)) xs
+
+counted_first : (b : Option Body) → parameter_count_of b ≤ own_count_of b
+counted_first None = omega arith
+counted_first (Some b) = omega arith
+
+pub parameters_within : (code : Code) (f : Frame) (fs : List Frame) (n m : ℕ) → IsShaped (plain_code code) (f ∷ fs) n m → f.slots + parameter_count_of (slice_get code.bodies f.body) ≤ n
+parameters_within code f fs n m h =
+    let own = own_counted (plain_code code) f fs n m h in
+    let all = ap length (names_same code f.body) ∙ counted f.body (slice_get code.bodies f.body) in
+    omega (arith, own, all, counted_first (slice_get code.bodies f.body))
+
+pub parameters_there : (code : Code) (fs : List Frame) (n m : ℕ) → IsShaped (plain_code code) fs n m → slots_in fs + parameter_count_of (slice_get code.bodies (body_in fs)) ≤ n
+parameters_there code [] n m h = absurd h
+parameters_there code (f ∷ fs) n m h = parameters_within code f fs n m h
+
+left_flat : (code : Code) (at : ℕ) (fs : List Frame) (hs : List Held) (os : List core.Operand) (kept : List (Here × ℕ)) (v : Option Datum) (m : ℕ) → MayRun code → IsShaped (plain_code code) fs (length hs) m →
+    left (slice_get (plain_code code).bodies (body_in fs)) v (core_over (plain_code code) at fs hs os kept)
+    ≡ option_map (given_back (plain_code code) at fs hs os kept) (handed_in code.bodies fs hs (core.Result v ∷ under fs os))
+left_flat code at [] hs os kept v m may h = absurd h
+left_flat code at (f ∷ []) hs os kept v m may h = left_outermost (slice_get (plain_code code).bodies f.body) v (core_over (plain_code code) at (f ∷ []) hs os kept) refl
+left_flat code at (f ∷ g ∷ fs) hs os kept v m may h =
+    let c = plain_code code in
+    let n = f.body in
+    let k = core_over c at (f ∷ g ∷ fs) hs os kept in
+    let body = body_at c.vars 0 code.bodies n n (omega arith) in
+    let within : parameter_count_of (slice_get code.bodies n) ≤ length (drop f.slots hs) = omega (arith, parameters_within code f (g ∷ fs) (length hs) m h, length-drop f.slots hs) in
+    ap (λ b. left b v k) body
+    ∙ left_by c.vars n (slice_get code.bodies n) (drop f.slots hs) v k (activation c f.from (g ∷ fs) (take f.slots hs) (take f.operands os)) (callers c (g ∷ fs) (take f.slots hs) (take f.operands os))
+    (subst (λ b. Differ (variables_by n b)) body (names_differ code n may)) within refl (ap (λ b. cells (variables_by n b) (drop f.slots hs)) body) refl
+
+-- ---- the store that is left
+
+abbrev pub without : Here → Frame → ℕ → Here
+without e f m = record { slots = take f.slots e.slots; operands = take f.operands e.operands; activations = take (length e.activations - 1) e.activations; members = take m e.members }
+
+abbrev rest_of : Here → List Frame
+rest_of e = reverse (take (length e.activations - 1) e.activations)
+
+dropped : (c : plain.Code) (at : ℕ) (e : Here) (kept : List (Here × ℕ)) (f g : Frame) (fs : List Frame) (m : ℕ) → IsShaped c (f ∷ g ∷ fs) (length e.slots) (length e.operands) → rest_of e ≡ g ∷ fs →
+    HasMembers (reverse (take f.operands e.operands)) m → m ≤ length e.members →
+    core_of c f.from (without e f m) kept ≡ given_back c at (f ∷ g ∷ fs) (helds e) (results e) kept (under (f ∷ g ∷ fs) (results e))
+dropped c at e kept f g fs m h rest has within =
+    let hs = helds e in
+    let os = results e in
+    let slots : map held_of (take f.slots e.slots) ≡ take f.slots hs = sym (take-map held_of f.slots e.slots) in
+    let operands : results (without e f m) ≡ take f.operands os = cut_results e f.operands m has within in
+    let globals = cells_agree c.vars (take f.slots hs) hs f.slots (globals_below c f (g ∷ fs) (length e.slots) (length e.operands) h) (take-take f.slots f.slots hs (omega arith)) in
+    (λ i. core_over c f.from (rest i) (slots i) (operands i) kept)
+    ∙ (λ i. record (core_over c f.from (g ∷ fs) (take f.slots hs) (take f.operands os) kept) { globals = globals i })
+
+dropped_sound : (c : plain.Code) (e : Here) (f g : Frame) (fs : List Frame) (m : ℕ) → IsSound c e → IsShaped c (f ∷ g ∷ fs) (length e.slots) (length e.operands) → rest_of e ≡ g ∷ fs →
+    HasMembers (reverse (take f.operands e.operands)) m → m ≤ length e.members → IsSound c (without e f m)
+dropped_sound c e f g fs m sound h rest has within =
+    let own = own_counted c f (g ∷ fs) (length e.slots) (length e.operands) h in
+    let slots : f.slots ≡ length (take f.slots e.slots) = sym (length-take-le f.slots e.slots (omega (arith, own))) in
+    let operands : f.operands ≡ length (take f.operands e.operands) = sym (length-take-le f.operands e.operands h.1) in
+    let left = take (length e.activations - 1) e.activations in
+    record {
+      some = omega (arith, length-reverse left, ap length rest);
+      shaped =
+          subst (λ l. IsShaped c l (length (take f.slots e.slots)) (length (take f.operands e.operands))) (sym rest)
+          (subst (λ n. IsShaped c (g ∷ fs) n (length (take f.operands e.operands))) slots (subst (λ n. IsShaped c (g ∷ fs) f.slots n) operands h.2));
+      members = subst (HasMembers (reverse (take f.operands e.operands))) (sym (length-take-le m e.members within)) has;
+      got = subst AllGot (sym (cut_results e f.operands m has within)) (got_take f.operands (results e) sound.got);
+    }
+
+-- what is known where the body at work is left
+pub record Drops (e e1 e2 : Here) (f : Frame) (m : ℕ) (vs : List (Option Value)) : Type 0 where
+  pub last : reverse e.activations ≡ f ∷ rest_of e
+  pub has : HasMembers (reverse (take f.operands e.operands)) m
+  pub within : m ≤ length e.members
+  pub without_it : e1 ≡ without e f m
+  pub pushed : e2 ≡ record e1 { operands = e1.operands ++ map operand_by vs }
+
+left_rest : (code : Code) (at : ℕ) (e : Here) (kept : List (Here × ℕ)) (f : Frame) (m : ℕ) (v : Option Datum) (vs : List (Option Value)) (gs : List Frame) → MayRun code × IsSound (plain_code code) e × AllSound (plain_code code) kept →
+    reverse e.activations ≡ f ∷ gs → rest_of e ≡ gs → HasMembers (reverse (take f.operands e.operands)) m → m ≤ length e.members →
+    ((xs : List core.Operand) → handed_in code.bodies (reverse e.activations) (helds e) (core.Result v ∷ xs) ≡ Some (pushed_on (map part vs) xs)) →
+    (left (slice_get (plain_code code).bodies (body_in (reverse e.activations))) v (core_of (plain_code code) at e kept) ≡ Some (over (pushed_on (map part vs) (core_of (plain_code code) f.from (without e f m) kept).now.operands) (core_of (plain_code code) f.from (without e f m) kept)))
+    × IsSound (plain_code code) (without e f m)
+left_rest code at e kept f m v vs [] h last rest has within back =
+    absurd (let e : None ≡ Some (pushed_on (map part vs) []) = subst (λ l. handed_in code.bodies l (helds e) (core.Result v ∷ []) ≡ Some (pushed_on (map part vs) [])) last (back []) in cc)
+left_rest code at e kept f m v vs (g ∷ fs) h last rest has within back =
+    let c = plain_code code in
+    let hs = helds e in
+    let os = results e in
+    let all = f ∷ g ∷ fs in
+    let shaped : IsShaped c all (length e.slots) (length e.operands) = subst (λ l. IsShaped c l (length e.slots) (length e.operands)) last h.1.shaped in
+    let shaped_hs : IsShaped c all (length hs) (length e.operands) = subst (λ n. IsShaped c all n (length e.operands)) (sym (length-map e.slots held_of)) shaped in
+    let after = pushed_on (map part vs) (under all os) in
+    let to = dropped c at e kept f g fs m shaped rest has within in (
+      subst (λ l. left (slice_get c.bodies (body_in l)) v (core_over c at l hs os kept) ≡ Some (given_back c at all hs os kept after)) (sym last)
+          (left_flat code at all hs os kept v (length e.operands) h.0 shaped_hs
+          ∙ ap (option_map (given_back c at all hs os kept)) (subst (λ l. handed_in code.bodies l hs (core.Result v ∷ under all os) ≡ Some after) last (back (under all os))))
+          ∙ sym (ap (λ (k : CodeCore). Some (over (pushed_on (map part vs) k.now.operands) k)) to),
+      dropped_sound c e f g fs m h.1 shaped rest has within,
+    )
+
+pub leaves : (code : Code) (at : ℕ) (e e1 e2 : Here) (kept k1 k2 : List (Here × ℕ)) (s : Standing) (f : Frame) (m : ℕ) (v : Option Datum) (vs : List (Option Value)) →
+    MayRun code × IsSound (plain_code code) e × AllSound (plain_code code) kept → stands code at e kept ≡ s → Drops e e1 e2 f m vs → k1 ≡ kept → k2 ≡ k1 →
+    ((xs : List core.Operand) → handed_in code.bodies (reverse e.activations) (helds e) (core.Result v ∷ xs) ≡ Some (pushed_on (map part vs) xs)) →
+    (left (slice_get (plain_code s.code).bodies s.core.now.body) v s.core ≡ Some (stands code f.from e2 k2).core)
+    × (MayRun code × IsSound (plain_code code) e1 × AllSound (plain_code code) k1)
+    × (MayRun code × IsSound (plain_code code) e2 × AllSound (plain_code code) k2)
+leaves code at e e1 e2 kept k1 k2 s f m v vs h is drops same1 same2 back =
+    let c = plain_code code in
+    let r = left_rest code at e kept f m v vs (rest_of e) h drops.last refl drops.has drops.within back in
+    let e0 = without e f m in
+    let p = pushes_all vs code f.from e0 e2 kept k2 (stands code f.from e0 kept) (h.0, r.1, h.2) refl (drops.pushed ∙ ap (λ (x : Here). record x { operands = x.operands ++ map operand_by vs }) drops.without_it) (same2 ∙ same1) in (
+      subst (λ (t : Standing). left (slice_get (plain_code t.code).bodies t.core.now.body) v t.core ≡ Some (stands code f.from e2 k2).core) is
+          (r.0 ∙ sym (ap (λ (x : Standing). Some x.core) p.stands)),
+      (h.0, subst (IsSound c) (sym drops.without_it) r.1, subst (AllSound c) (sym same1) h.2),
+      p.holds,
+    )
+
+-- where it can't be left
+pub stays : (code : Code) (at : ℕ) (e : Here) (kept : List (Here × ℕ)) (s : Standing) (v : Option Datum) → MayRun code × IsSound (plain_code code) e × AllSound (plain_code code) kept → stands code at e kept ≡ s →
+    handed_in code.bodies (reverse e.activations) (helds e) (core.Result v ∷ under (reverse e.activations) (results e)) ≡ None → left (slice_get (plain_code s.code).bodies s.core.now.body) v s.core ≡ None
+stays code at e kept s v h is none =
+    let c = plain_code code in
+    let fs = reverse e.activations in
+    let shaped = subst (λ n. IsShaped c fs n (length e.operands)) (sym (length-map e.slots held_of)) h.1.shaped in
+    subst (λ (t : Standing). left (slice_get (plain_code t.code).bodies t.core.now.body) v t.core ≡ None) is
+    (left_flat code at fs (helds e) (results e) kept v (length e.operands) h.0 shaped ∙ ap (option_map (given_back c at fs (helds e) (results e) kept)) none)

@@ -1,0 +1,142 @@
+//! The start of a code, its steps, and calls and returns of its bodies.
+
+ghost use Rattle.std.specs.Prelude.{◌≡◌, ◌<◌, ◌+◌, ◌^◌, Some, None, map, length, slice_get, IfSome, IfNone, IfOk, OnOk};
+ghost use Rattle.setl_code.specs.Machine.{fetch};
+ghost use Rattle.setl_code.specs.MayRun.{MayRun, InstrFits};
+ghost use Rattle.setl_code.specs.Plain.{plain_code, plain_step};
+ghost use Rattle.setl_value.specs.DatumOf.{part};
+ghost use Rattle.setl_store.specs.Bodies.{entered, left, Leaves};
+ghost use Rattle.setl_store.specs.Flat.{step_of};
+ghost use Rattle.setl_store.specs.Returning.{name_count_of, parameter_count_of};
+ghost use Rattle.setl_store.specs.Standing.{started, variables};
+
+use crate::activations::{
+    add_activation, add_cleared, add_operands, drop_activation, innermost, members_of_lower,
+};
+use crate::cells::{Contents, Frame};
+use crate::returning::handed_back;
+use crate::store::Store;
+use setl_code::{Code, Step};
+use setl_environment::{Environment, Memory};
+use setl_value::Value;
+use std::alloc::Global;
+
+impl<'c> Store<'c> {
+    /// At the first step of the main program of a code, with every variable `om`.
+    ///
+    /// The error is want of memory.
+    pub fn start(alloc: Global, code: &'c Code) -> Result<Store<'c>, Memory>
+        requires { MayRun code.now }
+        ensures { IfOk result (λ store. store ≡ started code.now) }
+    {
+        let mut environment: Contents = Environment::new(alloc)?;
+        let slots = code.vars.len();
+        add_cleared(&mut environment, slots)?;
+        add_cleared(&mut environment, parameter_count(code, 0))?;
+        let frame = Frame {
+            body: 0,
+            from: 0,
+            slots,
+            operands: 0,
+        };
+        add_activation(
+            &mut environment,
+            frame,
+            Vec::new(alloc),
+            name_count(code, 0),
+        )?;
+        Ok(Store {
+            alloc,
+            code,
+            at: 0,
+            environment,
+        })
+    }
+
+    /// The code.
+    pub fn code(&self) -> &'c Code
+        ensures { result.now ≡ self.now.code }
+    {
+        self.code
+    }
+
+    /// The step in hand, if there is one. It takes no memory.
+    pub fn step(&self) -> Option<&'c Step>
+        ensures some { IfSome result (λ step. fetch (plain_code self.now.code) self.now.core.now.body self.now.core.now.at ≡ Some (plain_step (variables self.now.core) step.now)) }
+        ensures none { IfNone result (fetch (plain_code self.now.code) self.now.core.now.body self.now.core.now.at ≡ None) }
+        ensures fits { IfSome result (λ step. InstrFits (length self.now.core.globals) (length self.now.core.now.own) step.now.what) }
+        ensures few { IfSome result (λ step. self.now.core.now.at + 1 < 2 ^ 64) }
+    {
+        step_at(self.code, innermost(&self.environment).body, self.at)
+    }
+
+    /// Has the body of this number at work, with these values in its parameters. The body that calls it goes on behind
+    /// the step in hand.
+    ///
+    /// The error is want of memory.
+    pub fn enter(&mut self, body: u32, values: Vec<Option<Value>>) -> Result<(), Memory>
+        requires there { body < length self.old.code.bodies }
+        requires each { IfSome (slice_get self.old.code.bodies body) (λ b. length values.items ≡ length b.parameters) }
+        requires few { self.old.core.now.at + 1 < 2 ^ 64 }
+        ensures { OnOk result (self.new ≡ record self.old { core = entered body (slice_get (plain_code self.old.code).bodies body) (map part values.items) self.old.core }) }
+    {
+        let names = name_count(self.code, body);
+        let frame = Frame {
+            body,
+            from: self.at + 1,
+            slots: self.environment.slots(),
+            operands: self.environment.operands(),
+        };
+        add_activation(&mut self.environment, frame, values, names)?;
+        self.at = 0;
+        Ok(())
+    }
+
+    /// Has the body at work again that called this one, with this result pushed, and on it what the `wr` and `rw`
+    /// parameters hold, the first on top. Its answer is false where there is no such body or one of the parameters was
+    /// taken, and then all is as before.
+    ///
+    /// The error is want of memory.
+    pub fn leave(&mut self, value: Option<Value>) -> Result<bool, Memory>
+        ensures code { self.new.code ≡ self.old.code }
+        ensures left { IfOk result (λ done. Leaves (left (slice_get (plain_code self.old.code).bodies self.old.core.now.body) (part value) self.old.core) done self.old.core self.new.core) }
+    {
+        let Some(values) = handed_back(self.alloc, self.code, &self.environment, value)? else {
+            return Ok(false);
+        };
+        let frame = innermost(&self.environment);
+        let members = members_of_lower(&self.environment, frame.operands);
+        drop_activation(&mut self.environment, frame, members)?;
+        self.at = frame.from;
+        add_operands(&mut self.environment, values)?;
+        Ok(true)
+    }
+}
+
+/// A step of the body of this number, if there is one.
+fn step_at<'c>(code: &'c Code, body: u32, at: usize) -> Option<&'c Step>
+    ensures some { IfSome result (λ step. step_of (slice_get code.now.bodies body) at ≡ Some step.now) }
+    ensures none { IfNone result (step_of (slice_get code.now.bodies body) at ≡ None) }
+    ensures few { IfSome result (λ step. at + 1 < 2 ^ 64) }
+{
+    let body = code.bodies.as_slice().get(body as usize)?;
+    let steps = body.steps.as_slice();
+    let _count = steps.len();
+    steps.get(at)
+}
+
+/// How many parameters the body of this number has.
+fn parameter_count(code: &Code, body: u32) -> usize
+    ensures { result ≡ parameter_count_of (slice_get code.now.bodies body) }
+{
+    let body = code.bodies.as_slice().get(body as usize);
+    body.map_or(0, |b| b.parameters.len())
+}
+
+/// How many names it has.
+fn name_count(code: &Code, body: u32) -> usize
+    ensures { result ≡ name_count_of (slice_get code.now.bodies body) }
+{
+    let body = code.bodies.as_slice().get(body as usize);
+    body.map_or(0, |b| b.names.len())
+}
