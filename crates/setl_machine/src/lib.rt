@@ -1,0 +1,10 @@
+//! The machine that runs the code of a program: by steps, over a store, a control, an input and an output.
+#![tactic(auto)]
+
+mod control;
+mod end;
+mod machine;
+
+pub use control::Control;
+pub use end::{End, StopKind};
+pub use machine::run;
