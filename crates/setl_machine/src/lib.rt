@@ -7,4 +7,4 @@ mod machine;
 
 pub use control::Control;
 pub use end::{End, StopKind};
-pub use machine::run;
+pub use machine::{run, run_whole};

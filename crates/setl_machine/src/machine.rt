@@ -1,6 +1,6 @@
 //! Runs of a code by steps.
 
-ghost use Rattle.std.specs.Prelude.{◌≡◌, ◌∷◌, List, ℕ, None};
+ghost use Rattle.std.specs.Prelude.{◌≡◌, ¬◌, List, ℕ, None};
 ghost use Rattle.setl_code.specs.Plain.{plain_code};
 ghost use Rattle.setl_text.specs.Reads.{ahead, StaysHonest, TakesOff};
 ghost use Rattle.setl_machine.specs.Control.{stood_for, IsRest};
@@ -32,6 +32,27 @@ pub fn run<I: Source, O: Sink>(
         × ReadsOnly (plain_code store.old.code) steps (stood_for store.old.core control.old rest) (I.left input.old) (I.left input.new) }
     ensures code { store.new.code ≡ store.old.code }
     ensures goes_on { result ≡ End.Paused → control.new.reader.fault ≡ None }
+    ensures took { TakesOff (I.left input.old) (I.left input.new) }
+    ensures honest { StaysHonest control.old.reader.ended (I.left input.old) control.new.reader.ended (I.left input.new) }
+{
+    todo!()
+}
+
+/// Does instructions up to the end of the run, in rounds of 1,000.
+///
+/// It is as `run`, but never answers `Paused`. A run that isn't at its end after 2^64 rounds is answered as `NoMemory`.
+pub fn run_whole<I: Source, O: Sink>(
+    store: &mut Store<'_>,
+    control: &mut Control,
+    input: &mut I,
+    out: &mut O,
+) -> End
+    requires { control.old.reader.fault ≡ None }
+    ensures ran { (rest' : List ℕ) → IsRest (ahead control.new.reader.ended (I.left input.new)) rest' →
+        (rest : List ℕ) × IsRest (ahead control.old.reader.ended (I.left input.old)) rest
+        × (n : ℕ) × Ran (plain_code store.old.code) n (stood_for store.old.core control.old rest) (seen (O.held out.old) (O.faults out.old) (I.faults input.old)) (seen (O.held out.new) (O.faults out.new) (I.faults input.new)) (stood_for store.new.core control.new rest') result
+        × ReadsOnly (plain_code store.old.code) n (stood_for store.old.core control.old rest) (I.left input.old) (I.left input.new) }
+    ensures whole { ¬ (result ≡ End.Paused) }
     ensures took { TakesOff (I.left input.old) (I.left input.new) }
     ensures honest { StaysHonest control.old.reader.ended (I.left input.old) control.new.reader.ended (I.left input.new) }
 {
