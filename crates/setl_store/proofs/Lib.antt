@@ -2,3 +2,4 @@ pub mod Lists
 pub mod OperandLists
 pub mod Bodies
 pub mod Slots
+pub mod IteratorSteps

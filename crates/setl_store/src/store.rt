@@ -6,6 +6,7 @@ ghost use Rattle.setl_code.specs.MayRun.{HasSlot};
 ghost use Rattle.setl_code.specs.Plain.{plain_slot};
 ghost use Rattle.setl_value.specs.DatumOf.{part};
 ghost use Rattle.setl_store.specs.Flat.{operand_of, held_of, lowest_in, slots_in, place_in, HasMembers};
+ghost use Rattle.setl_store.specs.Iterating.{operand_with};
 ghost use Rattle.setl_store.specs.Operands.{IsThere};
 ghost use Rattle.setl_store.specs.Standing.{over, at_place, iterator_by, variables, Shows, IsHeld};
 
@@ -167,7 +168,8 @@ impl<'c> Store<'c> {
 }
 
 /// An operand that is this value.
-fn operand(value: Option<Value>) -> Operand
+pub(crate) fn operand(value: Option<Value>) -> Operand
+    ensures is { result ≡ operand_with value }
     ensures stands { (members : _) → operand_of members result ≡ Holds (part value) }
     ensures alone { (os : _) (n : _) → HasMembers os n → HasMembers (result ∷ os) n }
 {
