@@ -3,3 +3,4 @@ pub mod OperandLists
 pub mod Bodies
 pub mod Slots
 pub mod IteratorSteps
+pub mod Steps
