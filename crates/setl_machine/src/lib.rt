@@ -4,6 +4,8 @@
 mod control;
 mod end;
 mod machine;
+mod operands;
+mod variables;
 
 pub use control::Control;
 pub use end::{End, StopKind};
