@@ -3,3 +3,4 @@ pub mod Stays
 pub mod RunLaws
 pub mod RanLaws
 pub mod Working
+pub mod Entering

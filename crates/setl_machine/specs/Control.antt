@@ -1,7 +1,8 @@
 -- What contracts see of a control.
-use Rattle.std.specs.Prelude.{◌≡◌, ℕ, Bool, List, [], ◌++◌, Option, Some, None, ⊤}
+use Rattle.std.specs.Prelude.{◌≡◌, ℕ, ◌+◌, Bool, true, false, List, [], ◌++◌, Option, Some, None, ⊤}
 use Rattle.setl_text.specs.Reads.{ReaderState}
 use Rattle.setl_text.specs.declared.ReadFault.{ReadFault}
+use Rattle.setl_run.specs.Turns.{left_after}
 use Rattle.setl_model.specs.World.{World}
 use Rattle.setl_code.specs.CodeCore.{CodeCore}
 
@@ -34,3 +35,13 @@ stood_for core control rest = in_world (world_of control rest) core
 abbrev pub IsRest : Option (List ℕ) → List ℕ → Type 0
 IsRest None rest = ⊤
 IsRest (Some left) rest = left ≡ rest
+
+-- one turn was taken, or none is left
+abbrev pub TakesTurn : ControlState → Bool → ControlState → Type 0
+TakesTurn old true new = (left_after 1 old.turns ≡ Some new.turns) × (new ≡ record old { turns = new.turns })
+TakesTurn old false new = (left_after 1 old.turns ≡ None) × (new ≡ old)
+
+-- the same for an atom, which is the next one
+abbrev pub TakesAtom : ControlState → Option ℕ → ControlState → Type 0
+TakesAtom old (Some n) new = (left_after 1 old.turns ≡ Some new.turns) × (n ≡ old.atom) × (new ≡ record old { turns = new.turns; atom = old.atom + 1 })
+TakesAtom old None new = (left_after 1 old.turns ≡ None) × (new ≡ old)

@@ -1,5 +1,5 @@
 -- What an instruction did.
-use Rattle.std.specs.Prelude.{◌≡◌, ℕ, Bool, true, false, List, [], ◌∷◌, Option, Some, None, Result, Ok, Err}
+use Rattle.std.specs.Prelude.{◌≡◌, ℕ, zero, suc, Bool, true, false, List, [], ◌∷◌, length, Option, Some, None, Result, Ok, Err}
 use Rattle.setl_value.specs.Datum.{Datum, bool}
 use Rattle.setl_value.specs.DatumOf.{part}
 use Rattle.setl_value.specs.declared.Value.{Value}
@@ -10,7 +10,7 @@ use Rattle.setl_program.specs.declared.kinds.Connective.TheVariants.{And, Or, Im
 use Rattle.setl_run.specs.Events as run
 use Rattle.setl_run.specs.Run.{Move, Moves, Halts}
 use Rattle.setl_model.specs.World.{World, branch}
-use Rattle.setl_code.specs.Code.{Instr}
+use Rattle.setl_code.specs.Code.{Body, Instr}
 use Rattle.setl_code.specs.Plain.{plain_code}
 use Rattle.setl_code.specs.CodeCore.{Operand, Result as Holds, CodeCore}
 use Rattle.setl_code.specs.Machine.{on_top}
@@ -66,3 +66,15 @@ EndsBy fault.Range line e = e ≡ end.Stopped kind.Range line
 EndsBy fault.Deep line e = e ≡ end.Stopped kind.Deep line
 EndsBy fault.Spent line e = e ≡ end.Spent
 EndsBy fault.NoMemory line e = ⊥
+
+-- a body has so many parameters, or there is no body
+abbrev pub HasParameters : Option Body → Option ℕ → Type 0
+HasParameters None None = Unit {0}
+HasParameters (Some b) (Some n) = length b.parameters ≡ n
+HasParameters b n = ⊥
+
+-- a component of a tuple, which has `om` behind its last one
+abbrev pub component_of : List (Option Datum) → ℕ → Option Datum
+component_of [] at = None
+component_of (p ∷ ps) zero = p
+component_of (p ∷ ps) (suc at) = component_of ps at

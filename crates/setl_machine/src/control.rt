@@ -1,7 +1,7 @@
 //! What `fail` doesn't take back.
 
-ghost use Rattle.std.specs.Prelude.{◌≡◌, ◌<◌, ◌^◌, ◌+◌, [], false, None, IfOk};
-ghost use Rattle.setl_machine.specs.Control.{ControlState};
+ghost use Rattle.std.specs.Prelude.{◌≡◌, ◌<◌, ◌^◌, ◌-◌, [], false, None, IfOk};
+ghost use Rattle.setl_machine.specs.Control.{TakesTurn, TakesAtom};
 
 use setl_environment::Memory;
 use setl_text::Reader;
@@ -45,5 +45,36 @@ impl Control {
             eof: false,
             reader: Reader::new(alloc)?,
         })
+    }
+
+    /// Takes one turn. Its answer is whether one was left.
+    pub(crate) fn turn(&mut self) -> bool
+        ensures { TakesTurn self.old result self.new }
+    {
+        if self.turns == 0 {
+            return false;
+        }
+        self.turns -= 1;
+        true
+    }
+
+    /// Takes so many turns, or all that are left.
+    pub(crate) fn charge(&mut self, turns: u64)
+        ensures { self.new ≡ record self.old { turns = self.old.turns - turns } }
+    {
+        self.turns = self.turns.saturating_sub(turns);
+    }
+
+    /// Takes one turn for the next atom, and gives its number; None where no turn is left.
+    pub(crate) fn new_atom(&mut self) -> Option<u64>
+        ensures { TakesAtom self.old result self.new }
+    {
+        if self.turns == 0 {
+            return None;
+        }
+        let atom = self.atom;
+        self.turns -= 1;
+        self.atom += 1;
+        Some(atom)
     }
 }

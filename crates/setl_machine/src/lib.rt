@@ -1,8 +1,11 @@
 //! The machine that runs the code of a program: by steps, over a store, a control, an input and an output.
 #![tactic(auto)]
 
+mod calling;
+mod conditions;
 mod control;
 mod end;
+mod iterating;
 mod machine;
 mod operands;
 mod variables;
