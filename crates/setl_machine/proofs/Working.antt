@@ -1,15 +1,16 @@
 -- How an instruction goes on, and how it ends a run.
-use Rattle.std.proofs.Common.{◌≡◌, ◌∙◌, ℕ, true, false, List, [], ◌∷◌, refl, sym, ap, subst, Some, Err}
-use Rattle.setl_value.specs.Datum.{bool}
+use Rattle.std.proofs.Common.{◌≡◌, ◌∙◌, ℕ, true, false, List, [], ◌∷◌, refl, sym, ap, subst, Option, None, Some, Err}
+use Rattle.std.specs.Option.{option_map}
+use Rattle.setl_value.specs.Datum.{Datum, bool}
 use Rattle.setl_program.specs.declared.kinds.Connective.{Connective}
 use Rattle.setl_program.specs.declared.kinds.Connective.TheVariants.{And, Or, Implies}
 use Rattle.setl_run.specs.Run.{Move, Moves, Halts, settle}
 use Rattle.setl_model.specs.World.{World}
 use Rattle.setl_code.specs.Code.{Code, Instr}
 use Rattle.setl_code.specs.Plain.{plain_code}
-use Rattle.setl_code.specs.CodeCore.{Operand, Result, CodeCore}
-use Rattle.setl_code.specs.Machine.{machine, do_instr, next, go_to, on_top, decides}
-use Rattle.setl_store.specs.Standing.{Standing, over}
+use Rattle.setl_code.specs.CodeCore.{Operand, Result, value_of, CodeCore}
+use Rattle.setl_code.specs.Machine.{machine, do_instr, next, go_to, on_value, on_top, decides}
+use Rattle.setl_store.specs.Standing.{Standing, over, at_place, top_of}
 use Rattle.setl_machine.specs.Control.{ControlState, world_of, in_world, stood_for}
 use Rattle.setl_machine.specs.Outcome.{always, start, IsLikely, Quiet}
 use Rattle.setl_machine.specs.Working.{Works, Does, Halted, Judges}
@@ -37,6 +38,14 @@ halted_quiet c k to (Moves said told d line xs) NoMemory l h = absurd h
 pub likely_over : (w : World) (k : CodeCore) (xs : List Operand) → IsLikely (in_world w k) (in_world w (over xs k))
 likely_over w k xs = ([], refl)
 
+-- it goes on at a step with these operands
+pub goes : (old new : Standing) (line : ℕ) (what : Instr) (at : ℕ) (xs : List Operand) → new ≡ record old { core = at_place at (over xs old.core) } → ((w : World) → do_instr (plain_code old.code) line what (in_world w old.core) ≡ go_to at xs (in_world w old.core)) → Works old line what new Paused
+goes old new line what at xs e f =
+    let c = plain_code old.code in
+    (ap (λ s. s.code) e, λ w.
+    let k = in_world w old.core in
+    subst (λ m. Quiet (settle (machine c) always (start k) m) (in_world w new.core) Paused) (sym (f w)) (sym (ap (λ s. in_world w s.core) e), refl))
+
 -- it ends the run, when some operands may be gone
 pub stops : (old new : Standing) (line : ℕ) (what : Instr) (xs : List Operand) (e : End) → new ≡ record old { core = over xs old.core } → ((w : World) → Halted (do_instr (plain_code old.code) line what (in_world w old.core)) e) → Works old line what new e
 stops old new line what xs e h f =
@@ -61,3 +70,15 @@ stops_with old new from to line what xs e h same f =
     let k = stood_for old.core from rest in
     let likely : IsLikely k (stood_for (over xs old.core) from rest) = likely_over (world_of from rest) old.core xs in
     halted_quiet c k (stood_for new.core to rest) (do_instr c line what k) e (subst (λ (s : Standing). IsLikely k (stood_for s.core to rest)) (sym h) (subst (λ d. IsLikely k (stood_for (over xs old.core) d rest)) (sym same) likely)) (f rest))
+
+-- ---- the top
+
+some_top : (o : Option (Option Datum)) (xs ys : List Operand) (v : Option Datum) (f : Option Datum → List Operand → Move CodeCore) → option_map {U = Option Datum × List Operand} (λ u. (u, xs)) o ≡ Some (v, ys) → on_value o (λ u. f u xs) ≡ f v ys
+some_top None xs ys v f h = absurd (cc)
+some_top (Some u) xs ys v f h =
+    let p : ◌≡◌ {A = Option Datum × List Operand} (u, xs) (v, ys) = cc in
+    ap (λ u. f u xs) (ap (λ q. q.0) p) ∙ ap (f v) (ap (λ q. q.1) p)
+
+pub top_taken : (xs ys : List Operand) (v : Option Datum) (f : Option Datum → List Operand → Move CodeCore) → top_of xs ≡ Some (v, ys) → on_top xs f ≡ f v ys
+top_taken [] ys v f h = absurd (cc)
+top_taken (o ∷ xs) ys v f h = some_top (value_of o) xs ys v f h
