@@ -5,3 +5,4 @@ pub mod RanLaws
 pub mod Working
 pub mod Entering
 pub mod Components
+pub mod Outcomes

@@ -1,10 +1,11 @@
 //! Instructions that push a value, and those on variables.
 
-ghost use Rattle.std.specs.Prelude.{ℕ, ◌<◌, ◌+◌, ◌^◌, length, IfOk};
+ghost use Rattle.std.specs.Prelude.{ℕ, ◌<◌, ◌+◌, ◌^◌, length, Some, IfOk};
 ghost use Rattle.setl_code.specs.Code.{Push, Load, Take, StoreIn};
 ghost use Rattle.setl_code.specs.MayRun.{HasSlot};
 ghost use Rattle.setl_code.specs.Plain.{plain_slot};
 ghost use Rattle.setl_store.specs.Standing.{variables};
+ghost use Rattle.setl_value.specs.Datum.{text};
 ghost use Rattle.setl_value.specs.DatumOf.{part};
 ghost use Rattle.setl_machine.specs.Working.{Works};
 
@@ -13,7 +14,9 @@ use crate::operands::{go_on, pop_top};
 use setl_code::Slot;
 use setl_environment::Memory;
 use setl_store::{Content, Store};
-use setl_value::Value;
+use setl_tree::Text as Name;
+use setl_value::{Text, Value};
+use std::alloc::Global;
 
 /// Pushes a value, or `om`.
 pub(crate) fn push(value: Option<Value>, store: &mut Store<'_>) -> Result<End, Memory>
@@ -21,6 +24,21 @@ pub(crate) fn push(value: Option<Value>, store: &mut Store<'_>) -> Result<End, M
     ensures { (line : ℕ) → IfOk result (λ end. Works store.old line (Push (part value)) store.new end) }
 {
     store.push(value)?;
+    go_on(store);
+    Ok(End::Paused)
+}
+
+/// Pushes a string.
+pub(crate) fn push_text(
+    alloc: Global,
+    bytes: &Name,
+    store: &mut Store<'_>,
+) -> Result<End, Memory>
+    requires { store.old.core.now.at + 1 < 2 ^ 64 }
+    ensures { (line : ℕ) → IfOk result (λ end. Works store.old line (Push (Some (text bytes.now))) store.new end) }
+{
+    let value = Text::of(alloc, bytes.bytes())?;
+    store.push(Some(Value::Text(value)))?;
     go_on(store);
     Ok(End::Paused)
 }
