@@ -6,3 +6,4 @@ pub mod Working
 pub mod Entering
 pub mod Components
 pub mod Outcomes
+pub mod Denotations

@@ -1,10 +1,13 @@
 -- What an instruction did.
-use Rattle.std.specs.Prelude.{◌≡◌, ℕ, zero, suc, Bool, true, false, List, [], ◌∷◌, length, Option, Some, None, Result, Ok, Err}
+use Rattle.std.specs.Prelude.{◌≡◌, ℕ, zero, suc, Bool, true, false, List, [], ◌∷◌, ◌++◌, length, Option, Some, None, Result, Ok, Err}
 use Rattle.setl_value.specs.Datum.{Datum, bool}
 use Rattle.setl_value.specs.DatumOf.{part}
 use Rattle.setl_value.specs.declared.Value.{Value}
 use Rattle.setl_map.specs.declared.OpFault.{OpFault}
 use Rattle.setl_map.specs.declared.OpFault.TheVariants as fault
+use Rattle.setl_text.specs.Reading.{NotForm, TooWide, TooDeep, read_denotation}
+use Rattle.setl_text.specs.declared.ReadFault.{ReadFault}
+use Rattle.setl_text.specs.declared.ReadFault.TheVariants as read
 use Rattle.setl_program.specs.declared.kinds.Connective.{Connective}
 use Rattle.setl_program.specs.declared.kinds.Connective.TheVariants.{And, Or, Implies}
 use Rattle.setl_run.specs.Events as run
@@ -13,7 +16,7 @@ use Rattle.setl_model.specs.World.{World, branch}
 use Rattle.setl_code.specs.Code.{Body, Instr}
 use Rattle.setl_code.specs.Plain.{plain_code}
 use Rattle.setl_code.specs.CodeCore.{Operand, Result as Holds, CodeCore}
-use Rattle.setl_code.specs.Machine.{on_top}
+use Rattle.setl_code.specs.Machine.{next, on_top, push_read}
 use Rattle.setl_store.specs.Standing.{Standing, over, top_of}
 use Rattle.setl_machine.specs.Control.{ControlState, in_world, stood_for}
 use Rattle.setl_machine.specs.Outcome.{next_of, kind_of, Quiet}
@@ -78,3 +81,27 @@ abbrev pub component_of : List (Option Datum) → ℕ → Option Datum
 component_of [] at = None
 component_of (p ∷ ps) zero = p
 component_of (p ∷ ps) (suc at) = component_of ps at
+
+-- ---- reading
+
+-- the same but for bytes of the input that were taken ahead
+abbrev pub IsBefore : World → World → Type 0
+IsBefore w v = (taken : List ℕ) × (w ≡ record v { input = taken ++ v.input })
+
+-- What a read makes of a world: a value is pushed, whatever the core is, or the bytes are at fault. Of a failed input and
+-- of want of memory nothing is told.
+abbrev pub TakesIn : World → World → Result (Option Value) ReadFault → Type 0
+TakesIn w v (Ok value) = (line : ℕ) (k : CodeCore) → push_read (read_denotation w.input) line (in_world w k) ≡ next (Holds (part value) ∷ k.now.operands) (in_world v k)
+TakesIn w v (Err read.Form) = (read_denotation w.input ≡ NotForm) × IsBefore w v
+TakesIn w v (Err read.Wide) = (read_denotation w.input ≡ TooWide) × IsBefore w v
+TakesIn w v (Err read.Deep) = (read_denotation w.input ≡ TooDeep) × IsBefore w v
+TakesIn w v (Err read.Source) = Unit {0}
+TakesIn w v (Err read.NoMemory) = Unit {0}
+
+-- how a fault of a read at a line ends the run
+abbrev pub EndsReading : ReadFault → ℕ → End → Type 0
+EndsReading read.Form line e = e ≡ end.Stopped kind.Form line
+EndsReading read.Wide line e = e ≡ end.Stopped kind.Wide line
+EndsReading read.Deep line e = e ≡ end.Stopped kind.Deep line
+EndsReading read.Source line e = e ≡ end.ReadFault
+EndsReading read.NoMemory line e = e ≡ end.NoMemory

@@ -9,6 +9,7 @@ mod iterating;
 mod machine;
 mod operands;
 mod operating;
+mod outside;
 mod variables;
 
 pub use control::Control;
