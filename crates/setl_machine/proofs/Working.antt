@@ -1,5 +1,7 @@
 -- How an instruction goes on, and how it ends a run.
-use Rattle.std.proofs.Common.{◌≡◌, ◌∙◌, ℕ, true, false, List, [], ◌∷◌, refl, sym, ap, subst, Option, None, Some, Err}
+use Rattle.std.proofs.Common.{◌≡◌, ◌∙◌, ℕ, true, false, List, [], ◌∷◌, refl, sym, ap, subst, Option, None, Some, Ok, Err}
+use Rattle.std.specs.Prelude as the
+use Rattle.std.specs.Prelude.{IfOk}
 use Rattle.std.specs.Option.{option_map}
 use Rattle.setl_value.specs.Datum.{Datum, bool}
 use Rattle.setl_program.specs.declared.kinds.Connective.{Connective}
@@ -11,6 +13,7 @@ use Rattle.setl_code.specs.Plain.{plain_code}
 use Rattle.setl_code.specs.CodeCore.{Operand, Result, value_of, CodeCore}
 use Rattle.setl_code.specs.Machine.{machine, do_instr, next, go_to, on_value, on_top, decides}
 use Rattle.setl_store.specs.Standing.{Standing, over, at_place, top_of}
+use Rattle.std.specs.declared.alloc.AllocError.{AllocError}
 use Rattle.setl_machine.specs.Control.{ControlState, world_of, in_world, stood_for}
 use Rattle.setl_machine.specs.Outcome.{always, start, IsLikely, Quiet}
 use Rattle.setl_machine.specs.Working.{Works, Does, Halted, Judges}
@@ -70,6 +73,11 @@ stops_with old new from to line what xs e h same f =
     let k = stood_for old.core from rest in
     let likely : IsLikely k (stood_for (over xs old.core) from rest) = likely_over (world_of from rest) old.core xs in
     halted_quiet c k (stood_for new.core to rest) (do_instr c line what k) e (subst (λ (s : Standing). IsLikely k (stood_for s.core to rest)) (sym h) (subst (λ d. IsLikely k (stood_for (over xs old.core) d rest)) (sym same) likely)) (f rest))
+
+-- what doesn't ask the control does the same with any
+pub works_alone : (old new : Standing) (from : ControlState) (line : ℕ) (what : Instr) (r : the.Result End AllocError) → IfOk r (λ e. Works old line what new e) → IfOk r (λ e. Does old from line what new from e)
+works_alone old new from line what (Ok e) h = (h.0, λ rest. h.1 (world_of from rest))
+works_alone old new from line what (Err e) h = tt
 
 -- ---- the top
 

@@ -13,6 +13,8 @@ use Rattle.setl_program.specs.declared.kinds.Connective.TheVariants.{And, Or, Im
 use Rattle.setl_run.specs.Events as run
 use Rattle.setl_run.specs.Run.{Move, Moves, Halts}
 use Rattle.setl_model.specs.World.{World, branch}
+use Rattle.setl_code.specs.declared.code.Instr as code
+use Rattle.setl_code.specs.declared.code.Instr.TheVariants as i
 use Rattle.setl_code.specs.Code.{Body, Instr}
 use Rattle.setl_code.specs.Plain.{plain_code}
 use Rattle.setl_code.specs.CodeCore.{Operand, Result as Holds, CodeCore}
@@ -105,3 +107,25 @@ EndsReading read.Wide line e = e ≡ end.Stopped kind.Wide line
 EndsReading read.Deep line e = e ≡ end.Stopped kind.Deep line
 EndsReading read.Source line e = e ≡ end.ReadFault
 EndsReading read.NoMemory line e = e ≡ end.NoMemory
+
+-- ---- kinds of instructions
+
+-- it neither reads nor writes
+abbrev pub IsQuiet : code.Instr → Type 0
+IsQuiet (i.Print n) = ⊥
+IsQuiet i.Read = ⊥
+IsQuiet what = Unit {0}
+
+-- it changes the store alone, and rests on nothing else
+abbrev pub IsAlone : code.Instr → Type 0
+IsAlone i.NewAtom = ⊥
+IsAlone i.Eof = ⊥
+IsAlone (i.Operate o n) = ⊥
+IsAlone (i.Alter a x bs) = ⊥
+IsAlone (i.Next to) = ⊥
+IsAlone i.Round = ⊥
+IsAlone (i.Call n) = ⊥
+IsAlone i.Back = ⊥
+IsAlone (i.Print n) = ⊥
+IsAlone i.Read = ⊥
+IsAlone what = Unit {0}

@@ -56,7 +56,7 @@ fn body_of(code: &Code, body: u32) -> Option<&Body>
 }
 
 /// Ends the activation, and pushes the result and what the `wr` and `rw` parameters hold.
-pub(crate) fn leave(store: &mut Store<'_>) -> Result<End, Memory>
+pub(crate) fn leave_body(store: &mut Store<'_>) -> Result<End, Memory>
     ensures { (line : ℕ) → IfOk result (λ end. Works store.old line ReturnTop store.new end) }
 {
     let Some(value) = pop_top(store)? else {

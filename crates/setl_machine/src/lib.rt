@@ -4,6 +4,7 @@
 mod calling;
 mod conditions;
 mod control;
+mod dispatch;
 mod end;
 mod iterating;
 mod machine;

@@ -5,7 +5,7 @@ ghost use Rattle.setl_code.specs.Code.{Push, Load, Take, StoreIn};
 ghost use Rattle.setl_code.specs.MayRun.{HasSlot};
 ghost use Rattle.setl_code.specs.Plain.{plain_slot};
 ghost use Rattle.setl_store.specs.Standing.{variables};
-ghost use Rattle.setl_value.specs.Datum.{text};
+ghost use Rattle.setl_value.specs.Datum.{int, text};
 ghost use Rattle.setl_value.specs.DatumOf.{part};
 ghost use Rattle.setl_machine.specs.Working.{Works};
 
@@ -24,6 +24,16 @@ pub(crate) fn push(value: Option<Value>, store: &mut Store<'_>) -> Result<End, M
     ensures { (line : ℕ) → IfOk result (λ end. Works store.old line (Push (part value)) store.new end) }
 {
     store.push(value)?;
+    go_on(store);
+    Ok(End::Paused)
+}
+
+/// Pushes an integer.
+pub(crate) fn push_integer(value: &i128, store: &mut Store<'_>) -> Result<End, Memory>
+    requires { store.old.core.now.at + 1 < 2 ^ 64 }
+    ensures { (line : ℕ) → IfOk result (λ end. Works store.old line (Push (Some (int value.now))) store.new end) }
+{
+    store.push(Some(Value::Int(*value)))?;
     go_on(store);
     Ok(End::Paused)
 }
