@@ -1,0 +1,9 @@
+pub mod Silence
+pub mod Stays
+pub mod RunLaws
+pub mod RanLaws
+pub mod Working
+pub mod Entering
+pub mod Components
+pub mod Outcomes
+pub mod Denotations

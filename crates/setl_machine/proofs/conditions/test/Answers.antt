@@ -1,0 +1,12 @@
+use Rattle.std.proofs.Common.{◌∷◌, suc, refl}
+use Rattle.setl_code.specs.Code.{TestBool}
+use Rattle.setl_code.specs.CodeCore.{Result as Holds}
+use Rattle.setl_code.specs.Machine.{next}
+use Rattle.setl_machine.specs.Control.{in_world}
+use Rattle.setl_machine.proofs.Working.{stops}
+use Rattle.setl_machine.proofs.conditions.test.Goals as goal
+
+pub returns-in-Err : goal.returns-in-Err
+returns-in-Err c =
+    let s = c.args.store.now in
+    stops s s c.args.line TestBool s.core.now.operands c.in-Err.end refl (λ w. c.in-Err.ensures (λ v ys. next (Holds v ∷ ys) (in_world w s.core)) (λ v ys. next (Holds v ∷ ys) (in_world w s.core)))

@@ -1,0 +1,97 @@
+//! Calls, returns and backtracking.
+
+ghost use Rattle.std.specs.Prelude.{◌≡◌, ℕ, ◌<◌, ◌+◌, ◌^◌, length, slice_get, Some, None, IfSome, IfNone, IfOk};
+ghost use Rattle.setl_code.specs.Code.{CallBody, ReturnTop, KeepAll, GoBack};
+ghost use Rattle.setl_code.specs.Plain.{plain_code};
+ghost use Rattle.setl_machine.specs.Working.{Works, Does, HasParameters};
+
+use crate::control::Control;
+use crate::end::{End, StopKind};
+use crate::operands::{go_on, pop_top};
+use setl_code::{Body, Code};
+use setl_environment::Memory;
+use setl_store::Store;
+
+/// Takes one turn and has the body of this number at work, with its arguments taken off the operands.
+pub(crate) fn call(
+    body: u32,
+    line: u32,
+    store: &mut Store<'_>,
+    control: &mut Control,
+) -> Result<End, Memory>
+    requires { store.old.core.now.at + 1 < 2 ^ 64 }
+    ensures did { IfOk result (λ end. Does store.old control.old line (CallBody body) store.new control.new end) }
+    ensures reader { control.new.reader ≡ control.old.reader }
+{
+    let Some(count) = parameter_count(store.code(), body) else {
+        return Ok(End::Stuck);
+    };
+    let Some(values) = store.pop_values(count)? else {
+        return Ok(End::Stuck);
+    };
+    if !control.turn() {
+        return Ok(End::Spent);
+    }
+    store.enter(body, values)?;
+    Ok(End::Paused)
+}
+
+/// How many parameters the body of this number has, if there is one.
+fn parameter_count(code: &Code, body: u32) -> Option<usize>
+    ensures there { IfSome result (λ count. body < length code.now.bodies) }
+    ensures count { IfSome result (λ count. IfSome (slice_get code.now.bodies body) (λ b. length b.parameters ≡ count)) }
+    ensures plain { HasParameters (slice_get (plain_code code.now).bodies body) result }
+{
+    match body_of(code, body) {
+        Some(body) => Some(body.parameters.len()),
+        None => None,
+    }
+}
+
+fn body_of(code: &Code, body: u32) -> Option<&Body>
+    ensures some { IfSome result (λ b. slice_get code.now.bodies body ≡ Some b.now) }
+    ensures none { IfNone result (slice_get code.now.bodies body ≡ None) }
+{
+    code.bodies.as_slice().get(body as usize)
+}
+
+/// Ends the activation, and pushes the result and what the `wr` and `rw` parameters hold.
+pub(crate) fn leave_body(store: &mut Store<'_>) -> Result<End, Memory>
+    ensures { (line : ℕ) → IfOk result (λ end. Works store.old line ReturnTop store.new end) }
+{
+    let Some(value) = pop_top(store)? else {
+        return Ok(End::Stuck);
+    };
+    if store.leave(value)? {
+        Ok(End::Paused)
+    } else {
+        Ok(End::Stuck)
+    }
+}
+
+/// `ok`
+pub(crate) fn keep(store: &mut Store<'_>) -> Result<End, Memory>
+    requires { store.old.core.now.at + 1 < 2 ^ 64 }
+    ensures { (line : ℕ) → IfOk result (λ end. Works store.old line KeepAll store.new end) }
+{
+    store.keep()?;
+    Ok(End::Paused)
+}
+
+/// `fail`
+pub(crate) fn back(line: u32, store: &mut Store<'_>, control: &mut Control) -> Result<End, Memory>
+    ensures did { IfOk result (λ end. Does store.old control.old line GoBack store.new control.new end) }
+    ensures reader { control.new.reader ≡ control.old.reader }
+{
+    if !store.is_kept() {
+        return Ok(End::Stopped(StopKind::Nothing, line));
+    }
+    if !control.turn() {
+        return Ok(End::Spent);
+    }
+    if store.back() {
+        Ok(End::Paused)
+    } else {
+        Ok(End::Stuck)
+    }
+}

@@ -1,0 +1,121 @@
+//! Conditions, jumps, and what is done to the top operand.
+
+ghost use Rattle.std.specs.Prelude.{◌≡◌, ℕ, ◌<◌, ◌+◌, ◌^◌, IfOk};
+ghost use Rattle.setl_code.specs.Code.{Decides, TestBool, Unless, Jump, DropTop, DupTop, StopRun};
+ghost use Rattle.setl_machine.specs.Working.{Works, decided};
+
+use crate::end::End;
+use crate::operands::{copied, go_on, pop_top, truth_on_top};
+use setl_environment::Memory;
+use setl_program::Connective;
+use setl_store::Store;
+use setl_value::Value;
+
+/// Goes to the target where the truth value on top decides, and leaves the answer there; else pops it.
+pub(crate) fn decide(
+    what: Connective,
+    to: u32,
+    line: u32,
+    store: &mut Store<'_>,
+) -> Result<End, Memory>
+    requires { store.old.core.now.at + 1 < 2 ^ 64 }
+    ensures { IfOk result (λ end. Works store.old line (Decides what to) store.new end) }
+{
+    let truth = match truth_on_top(store, line) {
+        Ok(truth) => truth,
+        Err(end) => return Ok(end),
+    };
+    store.pop()?;
+    let Some(answer) = answer(what, truth) else {
+        go_on(store);
+        return Ok(End::Paused);
+    };
+    store.push(Some(Value::Bool(answer)))?;
+    store.go_to(to as usize);
+    Ok(End::Paused)
+}
+
+/// The answer of a connective, where the left part decides it.
+fn answer(what: Connective, left: bool) -> Option<bool>
+    ensures { result ≡ decided what left }
+{
+    match (what, left) {
+        (Connective::And, false) => Some(false),
+        (Connective::Or, true) | (Connective::Implies, false) => Some(true),
+        _ => None,
+    }
+}
+
+/// Stops the run unless a truth value is on top.
+pub(crate) fn test(line: u32, store: &mut Store<'_>) -> Result<End, Memory>
+    requires { store.old.core.now.at + 1 < 2 ^ 64 }
+    ensures { IfOk result (λ end. Works store.old line TestBool store.new end) }
+{
+    match truth_on_top(store, line) {
+        Ok(_) => {
+            go_on(store);
+            Ok(End::Paused)
+        }
+        Err(end) => Ok(end),
+    }
+}
+
+/// Pops a truth value, and goes to the target if it is false.
+pub(crate) fn unless(to: u32, line: u32, store: &mut Store<'_>) -> Result<End, Memory>
+    requires { store.old.core.now.at + 1 < 2 ^ 64 }
+    ensures { IfOk result (λ end. Works store.old line (Unless to) store.new end) }
+{
+    let truth = match truth_on_top(store, line) {
+        Ok(truth) => truth,
+        Err(end) => return Ok(end),
+    };
+    store.pop()?;
+    if truth {
+        go_on(store);
+    } else {
+        store.go_to(to as usize);
+    }
+    Ok(End::Paused)
+}
+
+pub(crate) fn jump(to: u32, store: &mut Store<'_>) -> Result<End, Memory>
+    ensures { (line : ℕ) → IfOk result (λ end. Works store.old line (Jump to) store.new end) }
+{
+    store.go_to(to as usize);
+    Ok(End::Paused)
+}
+
+/// Pops the top.
+pub(crate) fn discard(store: &mut Store<'_>) -> Result<End, Memory>
+    requires { store.old.core.now.at + 1 < 2 ^ 64 }
+    ensures { (line : ℕ) → IfOk result (λ end. Works store.old line DropTop store.new end) }
+{
+    let Some(_value) = pop_top(store)? else {
+        return Ok(End::Stuck);
+    };
+    go_on(store);
+    Ok(End::Paused)
+}
+
+/// Pushes the top again.
+pub(crate) fn duplicate(store: &mut Store<'_>) -> Result<End, Memory>
+    requires { store.old.core.now.at + 1 < 2 ^ 64 }
+    ensures { (line : ℕ) → IfOk result (λ end. Works store.old line DupTop store.new end) }
+{
+    let Some(value) = pop_top(store)? else {
+        return Ok(End::Stuck);
+    };
+    let other = copied(&value)?;
+    store.push(value)?;
+    store.push(other)?;
+    go_on(store);
+    Ok(End::Paused)
+}
+
+/// Ends the run.
+pub(crate) fn stop(store: &Store<'_>) -> Result<End, Memory>
+    ensures { (line : ℕ) → IfOk result (λ end. Works store.now line StopRun store.now end) }
+{
+    let _ = store;
+    Ok(End::Done)
+}

@@ -1,0 +1,84 @@
+//! Which function does which instruction.
+
+ghost use Rattle.std.specs.Prelude.{◌≡◌, ◌<◌, ◌+◌, ◌^◌, length, IfOk};
+ghost use Rattle.setl_code.specs.MayRun.{InstrFits};
+ghost use Rattle.setl_code.specs.Plain.{plain_instr};
+ghost use Rattle.setl_store.specs.Standing.{variables};
+ghost use Rattle.setl_machine.specs.Working.{Works, Does, IsQuiet, IsAlone};
+
+use crate::calling::{back, call, keep, leave_body};
+use crate::conditions::{decide, discard, duplicate, jump, stop, test, unless};
+use crate::control::Control;
+use crate::end::End;
+use crate::iterating::{add, begin_over, collect, leave, next, take_apart};
+use crate::operating::{operate, push_atom, push_eof, round};
+use crate::variables::{load, push, push_integer, push_text, store_in, take};
+use setl_code::Instr;
+use setl_environment::Memory;
+use setl_store::Store;
+use setl_value::Value;
+use std::alloc::{AllocError, Global};
+
+/// Does an instruction that neither reads nor writes.
+pub(crate) fn do_quiet(
+    what: &Instr,
+    line: u32,
+    store: &mut Store<'_>,
+    control: &mut Control,
+) -> Result<End, Memory>
+    requires quiet { IsQuiet what.now }
+    requires few { store.old.core.now.at + 1 < 2 ^ 64 }
+    requires fits { InstrFits (length store.old.core.globals) (length store.old.core.now.own) what.now }
+    ensures did { IfOk result (λ end. Does store.old control.old line (plain_instr (variables store.old.core) what.now) store.new control.new end) }
+    ensures reader { control.new.reader ≡ control.old.reader }
+{
+    match what {
+        Instr::NewAtom => push_atom(store, control),
+        Instr::Eof => push_eof(store, control),
+        Instr::Operate(operator, count) => operate(*operator, *count, line, store, control),
+        Instr::Alter(_, _, _) => Err(AllocError),
+        Instr::Next(to) => next(*to, store, control),
+        Instr::Round => round(store, control),
+        Instr::Call(body) => call(*body, line, store, control),
+        Instr::Back => back(line, store, control),
+        _ => do_alone(what, line, store, control.alloc),
+    }
+}
+
+/// Does an instruction that changes the store alone.
+fn do_alone(
+    what: &Instr,
+    line: u32,
+    store: &mut Store<'_>,
+    alloc: Global,
+) -> Result<End, Memory>
+    requires alone { IsAlone what.now }
+    requires few { store.old.core.now.at + 1 < 2 ^ 64 }
+    requires fits { InstrFits (length store.old.core.globals) (length store.old.core.now.own) what.now }
+    ensures { IfOk result (λ end. Works store.old line (plain_instr (variables store.old.core) what.now) store.new end) }
+{
+    match what {
+        Instr::Integer(n) => push_integer(n, store),
+        Instr::Text(bytes) => push_text(alloc, bytes, store),
+        Instr::Truth(truth) => push(Some(Value::Bool(*truth)), store),
+        Instr::Undefined => push(None, store),
+        Instr::Load(slot) => load(*slot, store),
+        Instr::Take(slot) => take(*slot, store),
+        Instr::Store(slot) => store_in(*slot, line, store),
+        Instr::Decide(connective, to) => decide(*connective, *to, line, store),
+        Instr::TestTruth => test(line, store),
+        Instr::Unless(to) => unless(*to, line, store),
+        Instr::Jump(to) => jump(*to, store),
+        Instr::Discard => discard(store),
+        Instr::Duplicate => duplicate(store),
+        Instr::Parts(count) => take_apart(*count, line, store),
+        Instr::Begin(how, count) => begin_over(*how, *count, line, store),
+        Instr::Collect(what) => collect(*what, store),
+        Instr::Add(count) => add(*count, line, store),
+        Instr::Leave(count) => leave(*count, store),
+        Instr::Return => leave_body(store),
+        Instr::Keep => keep(store),
+        Instr::Stop => stop(store),
+        _ => unreachable!(),
+    }
+}

@@ -1,0 +1,34 @@
+//! How a call of the machine ends.
+
+/// Why a run stops: an operator's fault, an input without a denotation (`Form`), or `fail` with nothing kept.
+#[derive(Clone, Copy, Debug, PartialEq, Eq)]
+pub enum StopKind {
+    Om,
+    Kind,
+    Zero,
+    Range,
+    Wide,
+    Deep,
+    Form,
+    Nothing,
+}
+
+/// How a call of the machine, or one step of it, ended.
+#[derive(Clone, Copy, Debug, PartialEq, Eq)]
+pub enum End {
+    Done,
+    /// The run stops at a statement of this line.
+    Stopped(StopKind, u32),
+    /// No turn is left.
+    Spent,
+    /// All steps were done, and the run isn't at its end.
+    Paused,
+    /// The input failed and counted it.
+    ReadFault,
+    /// The output failed and counted it.
+    WriteFault,
+    /// Memory was refused.
+    NoMemory,
+    /// The code lacks an operand or reads a taken variable. No code of an accepted program does.
+    Stuck,
+}

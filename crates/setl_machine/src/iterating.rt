@@ -1,0 +1,150 @@
+//! Iterators, collections that are being built, and tuples that are taken apart.
+
+ghost use Rattle.std.specs.Prelude.{◌≡◌, ℕ, ◌<◌, ◌+◌, ◌^◌, IfOk, OnOk};
+ghost use Rattle.setl_code.specs.Code.{PartsOf, BeginOver, NextOr, BeginOf, AddBelow, LeaveAll};
+ghost use Rattle.setl_code.specs.Machine.{first_parts};
+ghost use Rattle.setl_code.specs.Plain.{plain_begin};
+ghost use Rattle.setl_store.specs.Standing.{over};
+ghost use Rattle.setl_value.specs.DatumOf.{part};
+ghost use Rattle.setl_machine.specs.Working.{Works, Does, component_of};
+
+use crate::control::Control;
+use crate::end::{End, StopKind};
+use crate::operands::{end_by, go_on, pop_top};
+use setl_code::Begin;
+use setl_environment::Memory;
+use setl_iterator::begin;
+use setl_program::Collection;
+use setl_store::{Ahead, Store};
+use setl_value::{TupleBody, Value};
+
+/// Pops a tuple and pushes its first components, so many, the first one on top.
+pub(crate) fn take_apart(count: u32, line: u32, store: &mut Store<'_>) -> Result<End, Memory>
+    requires { store.old.core.now.at + 1 < 2 ^ 64 }
+    ensures { IfOk result (λ end. Works store.old line (PartsOf count) store.new end) }
+{
+    match pop_top(store)? {
+        Some(Some(Value::Tuple(tuple))) => {
+            push_parts(&tuple, count as usize, store)?;
+            go_on(store);
+            Ok(End::Paused)
+        }
+        Some(Some(_)) => Ok(End::Stopped(StopKind::Kind, line)),
+        Some(None) => Ok(End::Stopped(StopKind::Om, line)),
+        None => Ok(End::Stuck),
+    }
+}
+
+/// Pushes the first components of a tuple, so many, the first one on top.
+fn push_parts(tuple: &TupleBody, count: usize, store: &mut Store<'_>) -> Result<(), Memory>
+    ensures { OnOk result (store.new ≡ record store.old { core = over (first_parts count tuple.now store.old.core.now.operands) store.old.core }) }
+{
+    for at in (0..count).rev() {
+        store.push(component(tuple, at)?)?;
+    }
+    Ok(())
+}
+
+/// An equal of a component of a tuple, where `om` stands behind the last one.
+fn component(tuple: &TupleBody, at: usize) -> Result<Option<Value>, Memory>
+    ensures { IfOk result (λ v. part v ≡ component_of tuple.now at) }
+{
+    match tuple.at(at) {
+        Some(value) => Ok(Some(value.copy()?)),
+        None => Ok(None),
+    }
+}
+
+/// Pops the parts of a source, so many, and pushes the iterator over its items.
+pub(crate) fn begin_over(
+    how: Begin,
+    count: u32,
+    line: u32,
+    store: &mut Store<'_>,
+) -> Result<End, Memory>
+    requires { store.old.core.now.at + 1 < 2 ^ 64 }
+    ensures { IfOk result (λ end. Works store.old line (BeginOver (plain_begin how) count) store.new end) }
+{
+    let Some(sources) = store.pop_values(count as usize)? else {
+        return Ok(End::Stuck);
+    };
+    match begin(how, &sources) {
+        Ok(iterator) => {
+            store.push_iterator(iterator)?;
+            go_on(store);
+            Ok(End::Paused)
+        }
+        Err(fault) => end_by(fault, line),
+    }
+}
+
+/// At the end of the iterator on top drops it and goes to the target; else takes one turn and pushes the next item.
+pub(crate) fn next(
+    to: u32,
+    store: &mut Store<'_>,
+    control: &mut Control,
+) -> Result<End, Memory>
+    requires { store.old.core.now.at + 1 < 2 ^ 64 }
+    ensures did { (line : ℕ) → IfOk result (λ end. Does store.old control.old line (NextOr to) store.new control.new end) }
+    ensures reader { control.new.reader ≡ control.old.reader }
+{
+    match store.ahead() {
+        Ahead::NoIterator => Ok(End::Stuck),
+        Ahead::AtEnd => {
+            if store.drop_iterators(1)? {
+                store.go_to(to as usize);
+                Ok(End::Paused)
+            } else {
+                Ok(End::Stuck)
+            }
+        }
+        Ahead::AtItem => {
+            store.advance()?;
+            if !control.turn() {
+                return Ok(End::Spent);
+            }
+            go_on(store);
+            Ok(End::Paused)
+        }
+    }
+}
+
+/// Pushes an empty collection.
+pub(crate) fn collect(what: Collection, store: &mut Store<'_>) -> Result<End, Memory>
+    requires { store.old.core.now.at + 1 < 2 ^ 64 }
+    ensures { (line : ℕ) → IfOk result (λ end. Works store.old line (BeginOf what) store.new end) }
+{
+    store.push_collection(what)?;
+    go_on(store);
+    Ok(End::Paused)
+}
+
+/// Pops a value, and adds it to the collection below so many iterators.
+pub(crate) fn add(count: u32, line: u32, store: &mut Store<'_>) -> Result<End, Memory>
+    requires { store.old.core.now.at + 1 < 2 ^ 64 }
+    ensures { IfOk result (λ end. Works store.old line (AddBelow count) store.new end) }
+{
+    let Some(value) = pop_top(store)? else {
+        return Ok(End::Stuck);
+    };
+    match store.add_below(count as usize, value) {
+        Ok(true) => {
+            go_on(store);
+            Ok(End::Paused)
+        }
+        Ok(false) => Ok(End::Stuck),
+        Err(fault) => end_by(fault, line),
+    }
+}
+
+/// Drops so many iterators.
+pub(crate) fn leave(count: u32, store: &mut Store<'_>) -> Result<End, Memory>
+    requires { store.old.core.now.at + 1 < 2 ^ 64 }
+    ensures { (line : ℕ) → IfOk result (λ end. Works store.old line (LeaveAll count) store.new end) }
+{
+    if !store.drop_iterators(count as usize)? {
+        return Ok(End::Stuck);
+    }
+    go_on(store);
+    Ok(End::Paused)
+}

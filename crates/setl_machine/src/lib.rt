@@ -1,0 +1,18 @@
+//! The machine that runs the code of a program: by steps, over a store, a control, an input and an output.
+#![tactic(auto)]
+
+mod calling;
+mod conditions;
+mod control;
+mod dispatch;
+mod end;
+mod iterating;
+mod machine;
+mod operands;
+mod operating;
+mod outside;
+mod variables;
+
+pub use control::Control;
+pub use end::{End, StopKind};
+pub use machine::{run, run_whole};

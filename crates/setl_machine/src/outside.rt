@@ -1,0 +1,126 @@
+//! `print` and `read`.
+
+ghost use Rattle.std.specs.Prelude.{◌≡◌, ◌<◌, ◌+◌, ◌^◌, ◌∷◌, List, ℕ, suc, None, IfOk, OnOk};
+ghost use Rattle.setl_value.specs.DatumOf.{part};
+ghost use Rattle.setl_code.specs.CodeCore.{Result as Holds};
+ghost use Rattle.setl_store.specs.Standing.{at_place, over};
+ghost use Rattle.setl_code.specs.Code.{PrintTop, ReadOne};
+ghost use Rattle.setl_code.specs.Plain.{plain_code};
+ghost use Rattle.setl_model.specs.World.{World};
+ghost use Rattle.setl_text.specs.Reads.{ahead, SourceCounts, StaysHonest, TakesOff};
+ghost use Rattle.setl_machine.specs.Control.{world_of, in_world, stood_for, IsRest};
+ghost use Rattle.setl_machine.specs.Outcome.{next_of, seen, Steps};
+ghost use Rattle.setl_machine.specs.Working.{TakesIn, EndsReading};
+ghost use Rattle.setl_machine.specs.declared.end.End.{End};
+
+use crate::control::Control;
+use crate::end::{End, StopKind};
+use crate::operands::go_on;
+use setl_environment::Memory;
+use setl_io::{Sink, Source, WriteFault, write_all};
+use setl_store::Store;
+use setl_text::{Got, ReadFault, line};
+use setl_value::Value;
+
+/// Writes the line of so many operands as one piece, and takes them off.
+pub(crate) fn print<O: Sink>(
+    count: u32,
+    store: &mut Store<'_>,
+    control: &Control,
+    out: &mut O,
+) -> End
+    requires { store.old.core.now.at + 1 < 2 ^ 64 }
+    ensures did { (line : ℕ) (w : World) (n : ℕ) → Steps (next_of (plain_code store.old.code) line (PrintTop count) (in_world w store.old.core)) (seen (O.held out.old) (O.faults out.old) n) (seen (O.held out.new) (O.faults out.new) n) (in_world w store.new.core) result }
+    ensures code { result ≡ End.Paused → store.new.code ≡ store.old.code }
+{
+    let values = match store.pop_values(count as usize) {
+        Ok(Some(values)) => values,
+        Ok(None) => return End::Stuck,
+        Err(_) => return End::NoMemory,
+    };
+    let Ok(line) = line(control.alloc, &values) else {
+        return End::NoMemory;
+    };
+    match write_all(out, &line) {
+        Ok(()) => {
+            go_on(store);
+            End::Paused
+        }
+        Err(WriteFault::Failed) => End::WriteFault,
+        Err(WriteFault::NoMemory) => End::NoMemory,
+    }
+}
+
+/// Pushes the value that the next denotation of the input denotes, or `om`.
+pub(crate) fn read<I: Source>(
+    line: u32,
+    store: &mut Store<'_>,
+    control: &mut Control,
+    input: &mut I,
+) -> End
+    requires few { store.old.core.now.at + 1 < 2 ^ 64 }
+    requires no_fault { control.old.reader.fault ≡ None }
+    ensures did { (held : _) (n : ℕ) (rest' : List ℕ) → IsRest (ahead control.new.reader.ended (I.left input.new)) rest' →
+        (rest : List ℕ) × IsRest (ahead control.old.reader.ended (I.left input.old)) rest
+        × Steps (next_of (plain_code store.old.code) line ReadOne (stood_for store.old.core control.old rest)) (seen held n (I.faults input.old)) (seen held n (I.faults input.new)) (stood_for store.new.core control.new rest') result }
+    ensures code { result ≡ End.Paused → store.new.code ≡ store.old.code }
+    ensures goes_on { result ≡ End.Paused → control.new.reader.fault ≡ None }
+    ensures took { TakesOff (I.left input.old) (I.left input.new) }
+    ensures honest { StaysHonest control.old.reader.ended (I.left input.old) control.new.reader.ended (I.left input.new) }
+{
+    match take_denotation(control, input) {
+        Ok(value) => match push_read(value, store) {
+            Ok(()) => End::Paused,
+            Err(_) => End::NoMemory,
+        },
+        Err(fault) => end_reading(fault, line),
+    }
+}
+
+/// The value that the next denotation of the input denotes, where None is `om`. At the end of the input it is `om`, and
+/// the control notes it.
+fn take_denotation<I: Source>(
+    control: &mut Control,
+    input: &mut I,
+) -> Result<Option<Value>, ReadFault>
+    requires { control.old.reader.fault ≡ None }
+    ensures took_in { (rest' : List ℕ) → IsRest (ahead control.new.reader.ended (I.left input.new)) rest' →
+        (rest : List ℕ) × IsRest (ahead control.old.reader.ended (I.left input.old)) rest × TakesIn (world_of control.old rest) (world_of control.new rest') result }
+    ensures fault { IfOk result (λ value. control.new.reader.fault ≡ None) }
+    ensures source { SourceCounts (I.faults input.old) (I.faults input.new) result }
+    ensures took { TakesOff (I.left input.old) (I.left input.new) }
+    ensures honest { StaysHonest control.old.reader.ended (I.left input.old) control.new.reader.ended (I.left input.new) }
+{
+    match control.reader.next(input) {
+        Ok(Got::Value(value)) => Ok(Some(value)),
+        Ok(Got::Om) => Ok(None),
+        Ok(Got::End) => {
+            control.eof = true;
+            Ok(None)
+        }
+        Err(fault) => Err(fault),
+    }
+}
+
+/// Pushes what was read, and goes on.
+fn push_read(value: Option<Value>, store: &mut Store<'_>) -> Result<(), Memory>
+    requires { store.old.core.now.at + 1 < 2 ^ 64 }
+    ensures { OnOk result (store.new ≡ record store.old { core = at_place (suc store.old.core.now.at) (over (Holds (part value) ∷ store.old.core.now.operands) store.old.core) }) }
+{
+    store.push(value)?;
+    go_on(store);
+    Ok(())
+}
+
+/// How a fault of a read ends the run at this line.
+fn end_reading(fault: ReadFault, line: u32) -> End
+    ensures { EndsReading fault line result }
+{
+    match fault {
+        ReadFault::Form => End::Stopped(StopKind::Form, line),
+        ReadFault::Wide => End::Stopped(StopKind::Wide, line),
+        ReadFault::Deep => End::Stopped(StopKind::Deep, line),
+        ReadFault::Source => End::ReadFault,
+        ReadFault::NoMemory => End::NoMemory,
+    }
+}

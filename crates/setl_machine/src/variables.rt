@@ -1,0 +1,100 @@
+//! Instructions that push a value, and those on variables.
+
+ghost use Rattle.std.specs.Prelude.{ℕ, ◌<◌, ◌+◌, ◌^◌, length, Some, IfOk};
+ghost use Rattle.setl_code.specs.Code.{Push, Load, Take, StoreIn};
+ghost use Rattle.setl_code.specs.MayRun.{HasSlot};
+ghost use Rattle.setl_code.specs.Plain.{plain_slot};
+ghost use Rattle.setl_store.specs.Standing.{variables};
+ghost use Rattle.setl_value.specs.Datum.{int, text};
+ghost use Rattle.setl_value.specs.DatumOf.{part};
+ghost use Rattle.setl_machine.specs.Working.{Works};
+
+use crate::end::End;
+use crate::operands::{go_on, pop_top};
+use setl_code::Slot;
+use setl_environment::Memory;
+use setl_store::{Content, Store};
+use setl_tree::Text as Name;
+use setl_value::{Text, Value};
+use std::alloc::Global;
+
+/// Pushes a value, or `om`.
+pub(crate) fn push(value: Option<Value>, store: &mut Store<'_>) -> Result<End, Memory>
+    requires { store.old.core.now.at + 1 < 2 ^ 64 }
+    ensures { (line : ℕ) → IfOk result (λ end. Works store.old line (Push (part value)) store.new end) }
+{
+    store.push(value)?;
+    go_on(store);
+    Ok(End::Paused)
+}
+
+/// Pushes an integer.
+pub(crate) fn push_integer(value: &i128, store: &mut Store<'_>) -> Result<End, Memory>
+    requires { store.old.core.now.at + 1 < 2 ^ 64 }
+    ensures { (line : ℕ) → IfOk result (λ end. Works store.old line (Push (Some (int value.now))) store.new end) }
+{
+    store.push(Some(Value::Int(*value)))?;
+    go_on(store);
+    Ok(End::Paused)
+}
+
+/// Pushes a string.
+pub(crate) fn push_text(
+    alloc: Global,
+    bytes: &Name,
+    store: &mut Store<'_>,
+) -> Result<End, Memory>
+    requires { store.old.core.now.at + 1 < 2 ^ 64 }
+    ensures { (line : ℕ) → IfOk result (λ end. Works store.old line (Push (Some (text bytes.now))) store.new end) }
+{
+    let value = Text::of(alloc, bytes.bytes())?;
+    store.push(Some(Value::Text(value)))?;
+    go_on(store);
+    Ok(End::Paused)
+}
+
+/// Pushes what a variable holds.
+pub(crate) fn load(slot: Slot, store: &mut Store<'_>) -> Result<End, Memory>
+    requires few { store.old.core.now.at + 1 < 2 ^ 64 }
+    requires there { HasSlot (length store.old.core.globals) (length store.old.core.now.own) slot }
+    ensures { (line : ℕ) → IfOk result (λ end. Works store.old line (Load (plain_slot (variables store.old.core) slot)) store.new end) }
+{
+    let value = match store.slot(slot) {
+        Content::Taken => return Ok(End::Stuck),
+        Content::Om => None,
+        Content::Value(value) => Some(value.copy()?),
+    };
+    store.push(value)?;
+    go_on(store);
+    Ok(End::Paused)
+}
+
+/// Pushes what a variable holds, and leaves nothing there.
+pub(crate) fn take(slot: Slot, store: &mut Store<'_>) -> Result<End, Memory>
+    requires few { store.old.core.now.at + 1 < 2 ^ 64 }
+    requires there { HasSlot (length store.old.core.globals) (length store.old.core.now.own) slot }
+    ensures { (line : ℕ) → IfOk result (λ end. Works store.old line (Take (plain_slot (variables store.old.core) slot)) store.new end) }
+{
+    match store.slot(slot) {
+        Content::Taken => return Ok(End::Stuck),
+        Content::Om | Content::Value(_) => {}
+    }
+    let value = store.take_slot(slot)?;
+    store.push(value)?;
+    go_on(store);
+    Ok(End::Paused)
+}
+
+/// Pops the top into a variable.
+pub(crate) fn store_in(slot: Slot, line: u32, store: &mut Store<'_>) -> Result<End, Memory>
+    requires few { store.old.core.now.at + 1 < 2 ^ 64 }
+    requires there { HasSlot (length store.old.core.globals) (length store.old.core.now.own) slot }
+    ensures { IfOk result (λ end. Works store.old line (StoreIn (plain_slot (variables store.old.core) slot)) store.new end) }
+{
+    let Some(value) = pop_top(store)? else {
+        return Ok(End::Stuck);
+    };
+    store.set_slot(slot, value)?;
+    go_on(store);
+    Ok(End::Paused)
+}
