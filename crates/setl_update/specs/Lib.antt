@@ -1,0 +1,4 @@
+pub mod Selectors
+pub mod Updates
+pub mod Takes
+pub mod Parts

@@ -1,0 +1,154 @@
+//! Putting a part, and combining it with a value.
+
+ghost use Rattle.std.specs.Prelude.{◌≡◌, ◌∷◌, [], Some, OnErr, map};
+ghost use Rattle.setl_value.specs.DatumOf.{part};
+ghost use Rattle.setl_map.specs.declared.Operator.TheVariants.{With, Less, Lessf};
+ghost use Rattle.setl_map.specs.Operators.{op_of, operand_count};
+ghost use Rattle.setl_model.specs.Places.{with_part_at_all, combined};
+ghost use Rattle.setl_update.specs.Selectors.{selected};
+ghost use Rattle.setl_update.specs.Updates.{Updates};
+
+use crate::selectors::{Selector, apply, part_at, put_part};
+use setl_collections::{less_in_place, lessf_in_place, with_in_place};
+use setl_map::{OpFault, Operator};
+use setl_value::Value;
+use std::alloc::Global;
+
+/// Puts a value, or `om` where it is None, at the part at some selectors, the outermost first; without selectors it
+/// becomes the whole. Answers the turns that are left.
+///
+/// The outer parts are read from the outermost inwards, and put from the innermost outwards; the first step that fails
+/// tells its fault. Om where what the step selects from is `om`, or its selector's operand, or a new part at a brace;
+/// else Kind where what it selects from, the operand, or the new part at a brace is of another kind; else Range for a
+/// place of a tuple or string below 1; else Spent where a put charges more turns than are left; else Deep where the new
+/// whole would be more than 500 deep. NoMemory may come at any point. After a fault the whole is as before.
+pub fn put_at(
+    alloc: Global,
+    whole: &mut Option<Value>,
+    at: &[Selector],
+    value: Option<Value>,
+    turns: u64,
+) -> Result<u64, OpFault>
+    ensures updated { Updates (with_part_at_all (map selected at.now) (part whole.old) (part value) turns) turns (part whole.new) result }
+    ensures refused { OnErr result (whole.new ≡ whole.old) }
+{
+    match at {
+        [] => {
+            *whole = value;
+            Ok(turns)
+        }
+        [only] => put_part(alloc, whole, only, value, turns),
+        [first, inner @ ..] => {
+            let mut part = part_at(alloc, whole, first, turns)?;
+            let left = put_at(alloc, &mut part.value, inner, value, part.left)?;
+            put_part(alloc, whole, first, part.value, left)
+        }
+    }
+}
+
+/// Combines the part at some selectors, the outermost first, with a value by a binary operator, of which the part is the
+/// left operand. Answers the turns that are left.
+///
+/// The parts are read from the outermost inwards, then comes the operator, and then the new parts are put from the
+/// innermost outwards; the first step that fails tells its fault: reading and putting as in `put_at`, and the operator
+/// as in `op`. NoMemory may come at any point. After a fault the whole is as before.
+pub fn combine_at(
+    alloc: Global,
+    what: Operator,
+    whole: &mut Option<Value>,
+    at: &[Selector],
+    value: Option<Value>,
+    turns: u64,
+) -> Result<u64, OpFault>
+    requires { operand_count what ≡ Some 2 }
+    ensures updated { Updates (combined (map selected at.now) (part whole.old) (λ p now. op_of what (p ∷ part value ∷ []) now) turns) turns (part whole.new) result }
+    ensures refused { OnErr result (whole.new ≡ whole.old) }
+{
+    match at {
+        [] => combine(alloc, what, whole, &value, turns),
+        [first, inner @ ..] => {
+            let mut part = part_at(alloc, whole, first, turns)?;
+            let left = combine_at(alloc, what, &mut part.value, inner, value, part.left)?;
+            put_part(alloc, whole, first, part.value, left)
+        }
+    }
+}
+
+// Combines the whole with a value, in place where the operator has a call for that.
+fn combine(
+    alloc: Global,
+    what: Operator,
+    whole: &mut Option<Value>,
+    value: &Option<Value>,
+    turns: u64,
+) -> Result<u64, OpFault>
+    requires { operand_count what ≡ Some 2 }
+    ensures updated { Updates (op_of what (part whole.old ∷ part value.now ∷ []) turns) turns (part whole.new) result }
+    ensures refused { OnErr result (whole.new ≡ whole.old) }
+{
+    match what {
+        Operator::With => add(alloc, whole, value, turns),
+        Operator::Less => remove(whole, value, turns),
+        Operator::Lessf => remove_point(alloc, whole, value, turns),
+        _ => {
+            let new = apply(alloc, what, whole, value, turns)?;
+            *whole = new.value;
+            Ok(new.left)
+        }
+    }
+}
+
+// `whole with value`, in place.
+fn add(
+    alloc: Global,
+    whole: &mut Option<Value>,
+    value: &Option<Value>,
+    turns: u64,
+) -> Result<u64, OpFault>
+    ensures updated { Updates (op_of With (part whole.old ∷ part value.now ∷ []) turns) turns (part whole.new) result }
+    ensures refused { OnErr result (whole.new ≡ whole.old) }
+{
+    let Some(whole) = whole else {
+        return Err(OpFault::Om);
+    };
+    let Some(value) = value else {
+        return Err(OpFault::Om);
+    };
+    let charged = with_in_place(alloc, whole, value.copy()?)?;
+    Ok(turns.saturating_sub(charged))
+}
+
+// `whole less value`, in place.
+fn remove(whole: &mut Option<Value>, value: &Option<Value>, turns: u64) -> Result<u64, OpFault>
+    ensures updated { Updates (op_of Less (part whole.old ∷ part value.now ∷ []) turns) turns (part whole.new) result }
+    ensures refused { OnErr result (whole.new ≡ whole.old) }
+{
+    let Some(whole) = whole else {
+        return Err(OpFault::Om);
+    };
+    let Some(value) = value else {
+        return Err(OpFault::Om);
+    };
+    let charged = less_in_place(whole, value)?;
+    Ok(turns.saturating_sub(charged))
+}
+
+// `whole lessf value`, in place.
+fn remove_point(
+    alloc: Global,
+    whole: &mut Option<Value>,
+    value: &Option<Value>,
+    turns: u64,
+) -> Result<u64, OpFault>
+    ensures updated { Updates (op_of Lessf (part whole.old ∷ part value.now ∷ []) turns) turns (part whole.new) result }
+    ensures refused { OnErr result (whole.new ≡ whole.old) }
+{
+    let Some(whole) = whole else {
+        return Err(OpFault::Om);
+    };
+    let Some(value) = value else {
+        return Err(OpFault::Om);
+    };
+    let charged = lessf_in_place(alloc, whole, value)?;
+    Ok(turns.saturating_sub(charged))
+}
