@@ -8,6 +8,7 @@ mod end;
 mod iterating;
 mod machine;
 mod operands;
+mod operating;
 mod variables;
 
 pub use control::Control;
