@@ -4,3 +4,4 @@ pub mod RunLaws
 pub mod RanLaws
 pub mod Working
 pub mod Entering
+pub mod Altered
