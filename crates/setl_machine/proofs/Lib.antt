@@ -7,3 +7,4 @@ pub mod Entering
 pub mod Components
 pub mod Outcomes
 pub mod Denotations
+pub mod Altered

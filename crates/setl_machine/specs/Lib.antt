@@ -1,3 +1,4 @@
 pub mod Control
 pub mod Outcome
 pub mod Working
+pub mod Altered

@@ -1,6 +1,7 @@
 //! The machine that runs the code of a program: by steps, over a store, a control, an input and an output.
 #![tactic(auto)]
 
+mod altering;
 mod calling;
 mod conditions;
 mod control;

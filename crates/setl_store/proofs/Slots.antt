@@ -286,3 +286,16 @@ pub slot_stored : (code : Code) (at : ℕ) (e e' : Here) (kept kept' : List (Her
 slot_stored code at e e' kept kept' s x n v h holds is has place now same stands_for =
     subst (λ w. Changed code at e' kept' s (write (plain_slot (variables s.core) x) w s.core)) stands_for
     (slot_written code at e e' kept kept' s x v holds is has (now ∙ ap (λ m. with_slot e m v) place) same)
+
+set_same : {A : Type 0} (xs : List A) (n : ℕ) (x : A) → Some x ≡ slice_get xs n → set xs n x ≡ xs
+set_same [] n x e = absurd (cc)
+set_same (y ∷ xs) zero x e = ap (λ z. z ∷ xs) (let same : x ≡ y = cc in same)
+set_same (y ∷ xs) (suc n) x e = ap (λ zs. y ∷ zs) (set_same xs n x e)
+
+-- what a slot holds, stored again, changes nothing
+pub slot_again : (code : Code) (at : ℕ) (e : Here) (kept : List (Here × ℕ)) (s : Standing) (x : Slot) (n : ℕ) (v : Held) (h : core.Held) →
+    MayRun code × IsSound (plain_code code) e × AllSound (plain_code code) kept → stands code at e kept ≡ s → Has s.core x → n ≡ place_in (reverse e.activations) x → Some v ≡ slice_get e.slots n → held_of v ≡ h →
+    write (plain_slot (variables s.core) x) h s.core ≡ s.core
+slot_again code at e kept s x n v h holds is has place there stands_for =
+    let same : e ≡ with_slot e n v = sym (ap (λ l. record e { slots = l }) (set_same e.slots n v there)) in
+    ap (λ t. t.core) (sym (slot_stored code at e e kept kept s x n v h holds is has place same refl stands_for).stands ∙ is)

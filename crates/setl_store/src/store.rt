@@ -105,13 +105,14 @@ impl<'c> Store<'c> {
         Ok(())
     }
 
-    /// Takes what a variable's slot holds, and leaves nothing there.
+    /// Takes what a variable's slot holds, and leaves nothing there. Stored again it leaves all as before.
     ///
     /// The error is want of memory.
     pub fn take_slot(&mut self, slot: Slot) -> Result<Option<Value>, Memory>
         requires slot { HasSlot (length self.old.core.globals) (length self.old.core.now.own) slot }
         requires there { IsThere (held (plain_slot (variables self.old.core) slot) self.old.core) }
         ensures value { IfOk result (λ value. held (plain_slot (variables self.old.core) slot) self.old.core ≡ There (part value)) }
+        ensures again { IfOk result (λ value. write (plain_slot (variables self.old.core) slot) (There (part value)) self.old.core ≡ self.old.core) }
         ensures taken { OnOk result (self.new ≡ record self.old { core = write (plain_slot (variables self.old.core) slot) Gone self.old.core }) }
     {
         let at = place(&self.environment, slot);
