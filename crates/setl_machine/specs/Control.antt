@@ -1,6 +1,8 @@
 -- What contracts see of a control.
-use Rattle.std.specs.Prelude.{◌≡◌, ℕ, Bool, List, ◌++◌, Option, Some, None, ⊤}
+use Rattle.std.specs.Prelude.{◌≡◌, ℕ, Bool, List, [], ◌++◌, Option, Some, None, ⊤}
 use Rattle.setl_text.specs.Reads.{ReaderState}
+use Rattle.setl_text.specs.declared.ReadFault.{ReadFault}
+use Rattle.setl_model.specs.World.{World}
 use Rattle.setl_code.specs.CodeCore.{CodeCore}
 
 -- the turns left, the next atom, whether a read met the end of the input, and the reader
@@ -10,10 +12,23 @@ pub record ControlState : Type 0 where
   pub eof : Bool
   pub reader : ReaderState
 
--- The core that a store's core and a control stand for, where these bytes are still to come from the input behind those
--- that the reader keeps.
+-- the bytes that are kept for the next read; behind a fault none is
+abbrev pub kept_for : Option ReadFault → List ℕ → List ℕ
+kept_for None kept = kept
+kept_for (Some fault) kept = []
+
+-- The world that a control stands for, where these bytes are still to come from the input behind those that the reader
+-- keeps.
+abbrev pub world_of : ControlState → List ℕ → World
+world_of control rest = record { input = kept_for control.reader.fault control.reader.kept ++ rest; eof = control.eof; atom = control.atom; left = control.turns }
+
+-- the same core in this world
+abbrev pub in_world : World → CodeCore → CodeCore
+in_world w k = record k { world = w }
+
+-- the core that a store's core and a control stand for
 abbrev pub stood_for : CodeCore → ControlState → List ℕ → CodeCore
-stood_for core control rest = record core { world = record { input = control.reader.kept ++ rest; eof = control.eof; atom = control.atom; left = control.turns } }
+stood_for core control rest = in_world (world_of control rest) core
 
 -- where the bytes that are still to come are told, they are these
 abbrev pub IsRest : Option (List ℕ) → List ℕ → Type 0

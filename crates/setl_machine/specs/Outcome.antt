@@ -1,5 +1,5 @@
 -- What a call of the machine did, seen from outside.
-use Rattle.std.specs.Prelude.{◌≡◌, ◌⊎◌, ℕ, ◌<◌, ◌≤◌, ◌-◌, List, [], length, take, false, slice_get, Option, Some, None}
+use Rattle.std.specs.Prelude.{◌≡◌, ◌⊎◌, ℕ, ◌<◌, ◌≤◌, ◌-◌, List, [], length, take, ◌++◌, false, slice_get, Option, Some, None}
 use Rattle.std.specs.Io.KnownBytes.{Appends, append_known}
 use Rattle.setl_io.specs.Faults.{Rose}
 use Rattle.setl_io.specs.Sink.{AppendsPart}
@@ -48,16 +48,16 @@ kind_of kind.Deep = run.Deep
 kind_of kind.Form = run.Form
 kind_of kind.Nothing = run.Nothing
 
--- the same but for the operands of the body at work
+-- The same but for the operands of the body at work, and for bytes of the input that were taken ahead for a read that
+-- stopped.
 abbrev pub IsLikely : CodeCore → CodeCore → Type 0
-IsLikely a b = over [] a ≡ over [] b
+IsLikely a b = (taken : List ℕ) × (over [] a ≡ over [] (record b { world = record b.world { input = taken ++ b.world.input } }))
 
--- The answer says how the code stands there, and the core now is the last state's: at an end but for the operands of the
--- body at work.
+-- The answer says how the code stands there, and the core now is the last state's, or likely so at an end.
 abbrev pub Answers : Next CodeCore → CodeCore → End → Type 0
 Answers (Goes s) k end.Paused = s.core ≡ k
 Answers (Ends e s) k end.Done = (e ≡ run.Done) × IsLikely s.core k
-Answers (Ends e s) k (end.Stopped kind line) = (e ≡ run.Stopped (kind_of kind) line) × IsLikely s.core k
+Answers (Ends e s) k (end.Stopped why line) = (e ≡ run.Stopped (kind_of why) line) × IsLikely s.core k
 Answers (Ends e s) k end.Spent = (e ≡ run.Spent) × IsLikely s.core k
 Answers (Ends e s) k end.Stuck = (e ≡ run.Stuck) × IsLikely s.core k
 Answers n k e = ⊥

@@ -1,13 +1,15 @@
 //! The start of a code, its steps, and calls and returns of its bodies.
 
-ghost use Rattle.std.specs.Prelude.{◌≡◌, ◌<◌, ◌+◌, ◌^◌, Some, None, map, length, slice_get, IfSome, IfNone, IfOk, OnOk};
+ghost use Rattle.std.specs.Prelude.{◌≡◌, ◌<◌, ◌+◌, ◌^◌, Some, None, map, reverse, length, slice_get, IfSome, IfNone, IfOk, OnOk};
 ghost use Rattle.setl_code.specs.Machine.{fetch};
 ghost use Rattle.setl_code.specs.MayRun.{MayRun, InstrFits};
 ghost use Rattle.setl_code.specs.Plain.{plain_code, plain_step};
 ghost use Rattle.setl_value.specs.DatumOf.{part};
 ghost use Rattle.setl_store.specs.Bodies.{entered, left, Leaves};
+ghost use Rattle.setl_store.specs.Flat.{body_in, step_of};
 ghost use Rattle.setl_store.specs.Standing.{started, variables};
 
+use crate::cells::Contents;
 use crate::store::Store;
 use setl_code::{Code, Step};
 use setl_environment::Memory;
@@ -39,8 +41,7 @@ impl<'c> Store<'c> {
         ensures fits { IfSome result (λ step. InstrFits (length self.now.core.globals) (length self.now.core.now.own) step.now.what) }
         ensures few { IfSome result (λ step. self.now.core.now.at + 1 < 2 ^ 64) }
     {
-        let body = self.body()?;
-        body.steps.as_slice().get(self.at)
+        step_at(self.code, body_number(&self.environment), self.at)
     }
 
     /// Has the body of this number at work, with these values in its parameters. The body that calls it goes on behind
@@ -67,4 +68,24 @@ impl<'c> Store<'c> {
     {
         Err(AllocError)
     }
+}
+
+/// The number of the body at work.
+fn body_number(environment: &Contents) -> u32
+    requires { 0 < length environment.now.now.activations }
+    ensures { result ≡ body_in (reverse environment.now.now.activations) }
+{
+    environment.activation(environment.activations() - 1).body
+}
+
+/// A step of the body of this number, if there is one.
+fn step_at<'c>(code: &'c Code, body: u32, at: usize) -> Option<&'c Step>
+    ensures some { IfSome result (λ step. step_of (slice_get code.now.bodies body) at ≡ Some step.now) }
+    ensures none { IfNone result (step_of (slice_get code.now.bodies body) at ≡ None) }
+    ensures few { IfSome result (λ step. at + 1 < 2 ^ 64) }
+{
+    let body = code.bodies.as_slice().get(body as usize)?;
+    let steps = body.steps.as_slice();
+    let _count = steps.len();
+    steps.get(at)
 }

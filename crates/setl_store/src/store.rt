@@ -6,17 +6,18 @@ ghost use Rattle.setl_code.specs.MayRun.{HasSlot};
 ghost use Rattle.setl_code.specs.Plain.{plain_slot};
 ghost use Rattle.setl_value.specs.DatumOf.{part};
 ghost use Rattle.setl_store.specs.Flat.{operand_of, held_of, lowest_in, slots_in, place_in, HasMembers};
+ghost use Rattle.setl_store.specs.Iterating.{operand_with};
 ghost use Rattle.setl_store.specs.Operands.{IsThere};
 ghost use Rattle.setl_store.specs.Standing.{over, at_place, iterator_by, variables, Shows, IsHeld};
 
 use crate::cells::{Contents, Held, Operand};
-use crate::changes::{add_operand, write_slot};
+use crate::changes::{add_operand, take_slot, write_slot};
 use setl_code::{Code, Slot};
 use setl_environment::Memory;
 use setl_iterator::Iterator;
 use setl_program::Collection;
 use setl_value::Value;
-use std::alloc::{AllocError, Global};
+use std::alloc::Global;
 use std::marker::Model;
 
 /// The variables, operands and activations of a run of a code, its place in the code, and what `ok` kept of them.
@@ -113,7 +114,9 @@ impl<'c> Store<'c> {
         ensures value { IfOk result (λ value. held (plain_slot (variables self.old.core) slot) self.old.core ≡ There (part value)) }
         ensures taken { OnOk result (self.new ≡ record self.old { core = write (plain_slot (variables self.old.core) slot) Gone self.old.core }) }
     {
-        Err(AllocError)
+        let at = place(&self.environment, slot);
+        let before = take_slot(&mut self.environment, at)?;
+        Ok(held_value(before))
     }
 
     /// What the top operand is. It takes no memory.
@@ -165,7 +168,8 @@ impl<'c> Store<'c> {
 }
 
 /// An operand that is this value.
-fn operand(value: Option<Value>) -> Operand
+pub(crate) fn operand(value: Option<Value>) -> Operand
+    ensures is { result ≡ operand_with value }
     ensures stands { (members : _) → operand_of members result ≡ Holds (part value) }
     ensures alone { (os : _) (n : _) → HasMembers os n → HasMembers (result ∷ os) n }
 {
@@ -182,6 +186,17 @@ fn held(value: Option<Value>) -> Held
     match value {
         Some(value) => Held::Value(value),
         None => Held::Om,
+    }
+}
+
+/// The value that a slot holds, which wasn't taken.
+fn held_value(held: Held) -> Option<Value>
+    requires { IsThere (held_of held) }
+    ensures { held_of held ≡ There (part result) }
+{
+    match held {
+        Held::Value(value) => Some(value),
+        Held::Om | Held::Taken => None,
     }
 }
 

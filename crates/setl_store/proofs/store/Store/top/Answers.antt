@@ -24,4 +24,4 @@ returns-in-Iterator c =
 pub returns-in-Collection : goal.returns-in-Collection
 returns-in-Collection c =
     let is = top_is c.self.inside.code.now c.self.inside.at c.self.inside.environment.now c.self.inside.environment.kept c.args.self.now (c.operands-count.result - 1) c.operand.result.now c.self.invariant.1 c.self.view_is (omega (arith, lowest_below (plain_code c.self.inside.code.now) c.self.inside.environment.now c.self.invariant.1, c.if-count-lowest.false, c.lowest.ensures, c.operands-count.ensures)) (omega (arith, c.operands-count.ensures)) c.operand.ensures in
-    subst (λ l. Shows l top.Collection) (sym (is ∙ ap (λ o. operand_of c.self.inside.environment.now.members o ∷ drop 1 c.args.self.now.core.now.operands) c.in-Collection.is)) tt
+    subst (λ l. Shows l (top.Collection c.in-Collection.what)) (sym (is ∙ ap (λ o. operand_of c.self.inside.environment.now.members o ∷ drop 1 c.args.self.now.core.now.operands) c.in-Collection.is)) refl

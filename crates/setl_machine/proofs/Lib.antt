@@ -1,0 +1,4 @@
+pub mod Silence
+pub mod Stays
+pub mod RunLaws
+pub mod RanLaws

@@ -1,0 +1,38 @@
+-- A call that does nothing to the outside.
+use Rattle.std.proofs.Common.{◌≡◌, ◌+◌, ◌<◌, ℕ, Bool, true, List, [], ◌++◌, length, take, Option, None, Some, refl, sym, ap, ◌∙◌, arith}
+use Rattle.std.specs.Prelude.{⊤}
+use Rattle.std.proofs.lemmas.List.{append-nil}
+use Rattle.std.specs.Io.KnownBytes.{Appends, append_known, IsAtEnd}
+use Rattle.setl_run.specs.Run.{step}
+use Rattle.setl_code.specs.Code.{Code}
+use Rattle.setl_code.specs.CodeCore.{CodeCore}
+use Rattle.setl_code.specs.Machine.{machine}
+use Rattle.setl_text.specs.Reads.{StaysHonest, TakesOff}
+use Rattle.setl_machine.specs.Outcome.{always, start, said, Seen, Ran}
+use Rattle.setl_machine.specs.declared.end.End.TheVariants.{Paused, NoMemory}
+use Rattle.setl_machine.proofs.Silence.{says_nothing}
+
+pub appends_same : (b : Option (List ℕ)) → Appends b b []
+appends_same None = tt
+appends_same (Some a) = sym (append-nil a)
+
+known_same : (b : Option (List ℕ)) → Appends (append_known b []) b []
+known_same None = tt
+known_same (Some a) = sym (append-nil (a ++ []) ∙ append-nil a)
+
+pub honest_same : (ended : Bool) (left : Option (List ℕ)) → StaysHonest ended left ended left
+honest_same ended None = tt
+honest_same ended (Some l) = λ h e. h e
+
+pub takes_none : (left : Option (List ℕ)) → TakesOff left left
+takes_none None = ([], tt)
+takes_none (Some l) = ([], refl)
+
+-- no step
+pub ran_none : (c : Code) (k : CodeCore) (seen : Seen) → Ran c 0 k seen seen k Paused
+ran_none c k seen = (refl, appends_same seen.held, (refl, refl))
+
+-- memory was refused at the first step
+pub ran_refused : (c : Code) (n : ℕ) (k to : CodeCore) (seen : Seen) → 0 < n → Ran c n k seen seen to NoMemory
+ran_refused c n k to seen h =
+    (start k, said (step (machine c) always (start k)), record { after = 0; fewer = h; reached = refl; says = refl }, says_nothing c k, (0, omega arith, known_same seen.held), (refl, refl))
