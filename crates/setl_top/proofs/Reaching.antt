@@ -34,11 +34,11 @@ module _ {C : Type 0} (m : Machine C) where
   -- a run ends at a state that it reaches
   pub ends_at : (n : ℕ) (s t : State C) (e : End) → run m always n s ≡ Ends e t → (k : ℕ) × (run m always k s ≡ Goes t)
   ends_at zero s t e h = absurd (cc)
-  ends_at (suc n) s t e h = go (step m always s) refl h
+  ends_at (suc n) s t e h = go (step m always s) refl h (λ d. ends_at n d t e)
     where
-      go : (y : Next C) → step m always s ≡ y → and_then y (run m always n) ≡ Ends e t → (k : ℕ) × (run m always k s ≡ Goes t)
-      go (Goes d) is h = let later = ends_at n d t e h in (suc later.0, ap (λ z. and_then z (run m always later.0)) is ∙ later.1)
-      go (Ends f d) is h = let same : d ≡ t = cc in (0, ap Goes (settled_at s t f (m.move s.core) (is ∙ ap (Ends f) same)))
+      go : (y : Next C) → step m always s ≡ y → and_then y (run m always n) ≡ Ends e t → ((d : State C) → run m always n d ≡ Ends e t → (k : ℕ) × (run m always k d ≡ Goes t)) → (k : ℕ) × (run m always k s ≡ Goes t)
+      go (Goes d) is h ih = let later = ih d h in (suc later.0, ap (λ z. and_then z (run m always later.0)) is ∙ later.1)
+      go (Ends f d) is h ih = let same : d ≡ t = cc in (0, ap Goes (settled_at s t f (m.move s.core) (is ∙ ap (Ends f) same)))
 
 -- what a `print` of these operands writes
 said_at_print : (c : Code) (k : CodeCore) (line n : ℕ) (vs : List (Option Datum)) (xs : List Operand) → fetch c k.now.body k.now.at ≡ Some (line, PrintTop n) → popped n [] k.now.operands ≡ Pops vs xs → said (step (machine c) always (start k)) ≡ print_line vs

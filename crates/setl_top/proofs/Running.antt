@@ -1,5 +1,5 @@
 -- A run of the code of a program as a run of the program.
-use Rattle.std.proofs.Common.{◌≡◌, ◌∙◌, ◌⊎◌, inl, inr, ℕ, zero, suc, Bool, true, false, List, [], ◌∷◌, ◌++◌, length, take, Option, None, Some, refl, sym, ap, subst, append_assoc, arith}
+use Rattle.std.proofs.Common.{◌≡◌, ◌∙◌, ◌⊎◌, inl, inr, ℕ, zero, suc, Bool, true, false, List, [], ◌∷◌, ◌++◌, length, take, Option, None, Some, refl, sym, ap, subst, true≢false, append_assoc, arith}
 use Rattle.std.proofs.lemmas.List.{append-nil}
 use Rattle.std.specs.Io.KnownBytes.{Appends, append_known, prepend_known}
 use Rattle.setl_io.specs.Sink.{AppendsPart}
@@ -8,21 +8,22 @@ use Rattle.setl_run.specs.Events as run
 use Rattle.setl_run.specs.Run.{State, Next, Goes, Ends}
 use Rattle.setl_program.specs.Program.{Program}
 use Rattle.setl_program.specs.Formed.{Formed}
-use Rattle.setl_model.specs.Means.{Means}
+use Rattle.setl_model.specs.Means.{Means, first}
 use Rattle.setl_code.specs.CodeCore.{CodeCore}
 use Rattle.setl_code.specs.CodeMeans.{CodeMeans, code_first}
 use Rattle.setl_code.specs.CodeOf.{code_of}
 use Rattle.setl_code.specs.Machine.{machine}
 use Rattle.setl_machine.specs.Control.{IsRest}
-use Rattle.setl_machine.specs.Outcome.{IsLikely, kind_of, said, AtPrint, Before, NoFault}
+use Rattle.setl_machine.specs.Outcome.{IsLikely, kind_of, said, AtPrint, AtRead, Before, NoFault}
 use Rattle.setl_machine.specs.Outcome as outcome
 use Rattle.setl_machine.specs.declared.end.End.{End}
 use Rattle.setl_machine.specs.declared.end.End.TheVariants as end
 use Rattle.setl_machine.specs.declared.end.StopKind.{StopKind}
 use Rattle.setl_top.specs.CodeRuns.{RunsCode, seen_before, seen_now}
 use Rattle.setl_top.specs.Headline.{IsInput, IsLeft}
+use Rattle.setl_top.specs.Moments as moments
 use Rattle.setl_top.specs.Runs.{Streams, turns, RunsTo, RunsInto, RunsToRead, RunsUpTo, Runs, TakesAtRead, TakesInput}
-use Rattle.setl_top.proofs.Fronts.{appends_then}
+use Rattle.setl_top.proofs.Fronts.{appends_none}
 use Rattle.setl_top.proofs.Reaching.{CodeLaws, coded, untested, Came, ends_at, came_at_state, came_at_read, came_at_print}
 
 -- ---- what is left of the input
@@ -88,11 +89,11 @@ pub kept_left : (kept : List ℕ) (ended : Bool) (input left : Option (List ℕ)
 kept_left kept ended None left took honest = tt
 kept_left kept ended (Some i) None took honest = absurd took.1
 kept_left kept false (Some i) (Some l) took honest = (kept, refl)
-kept_left kept true (Some i) (Some l) took honest = (kept, ap (λ xs. Some (kept ++ xs)) (honest (λ e. absurd (false≢true e)) refl))
+kept_left kept true (Some i) (Some l) took honest = (kept, ap (λ xs. Some (kept ++ xs)) (honest (λ e. absurd (true≢false (sym e))) refl))
 
 -- ---- gains
 
-take_none : (n : ℕ) → take n [] ≡ []
+take_none : (n : ℕ) → take {A = ℕ} n [] ≡ []
 take_none zero = refl
 take_none (suc n) = refl
 

@@ -1,5 +1,5 @@
 -- What a run of code does to its input and its output.
-use Rattle.std.specs.Prelude.{◌≡◌, ¬◌, ℕ, List, Option}
+use Rattle.std.specs.Prelude.{◌≡◌, ℕ, List, Option}
 use Rattle.setl_code.specs.Code.{Code}
 use Rattle.setl_code.specs.CodeCore.{CodeCore}
 use Rattle.setl_code.specs.CodeMeans.{code_first}
@@ -10,8 +10,11 @@ use Rattle.setl_machine.specs.declared.end.End.TheVariants as end
 use Rattle.setl_top.specs.Headline.{IsInput, IsLeft}
 use Rattle.setl_top.specs.Runs.{Streams, turns}
 
-abbrev pub seen_before seen_now : Streams → Seen
+-- what the machine's contract sees of the output and the input
+abbrev pub seen_before : Streams → Seen
 seen_before s = seen s.old s.out_before s.input_before
+
+abbrev pub seen_now : Streams → Seen
 seen_now s = seen s.new s.out_now s.input_now
 
 -- From its first state the machine did some steps of the code on this input, and ended so. What it left of the input and

@@ -56,14 +56,18 @@ pub fn load_program<F: Files, E: Sink>(
         Ok(source) => source,
         Err(status) => return Err(status),
     };
-    match read_program(alloc, &source) {
-        Ok(tree) if tree.modes.is_empty() => Ok(tree),
-        Ok(_) => Err(refuse(alloc, err, Reason::NotBuilt)),
-        Err(Unread::Refused(reason)) => Err(refuse(alloc, err, reason)),
+    let tree = match read_program(alloc, &source) {
+        Ok(tree) => tree,
+        Err(Unread::Refused(reason)) => return Err(refuse(alloc, err, reason)),
         Err(Unread::NoMemory) => {
             try_line(err, b"no memory\n");
-            Err(Status::NoMemory)
+            return Err(Status::NoMemory);
         }
+    };
+    if tree.modes.is_empty() {
+        Ok(tree)
+    } else {
+        Err(refuse(alloc, err, Reason::NotBuilt))
     }
 }
 
@@ -76,8 +80,9 @@ pub fn check_file<F: Files, E: Sink>(
 ) -> Status
     ensures { Checks (F.texts files.old) name.now (sides (F.faults files.old) (F.faults files.new) (E.held err.old) (E.held err.new) (E.faults err.old) (E.faults err.new)) result }
 {
-    match load_program(alloc, name, files, err) {
-        Ok(_) => Status::Done,
-        Err(status) => status,
-    }
+    let _tree = match load_program(alloc, name, files, err) {
+        Ok(tree) => tree,
+        Err(status) => return status,
+    };
+    Status::Done
 }

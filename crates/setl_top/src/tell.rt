@@ -1,5 +1,5 @@
 //! The last line of a call.
-ghost use Rattle.std.specs.Prelude.{◌≡◌, ¬◌, ◌∷◌, ◌++◌, List, ℕ, [], IfOk};
+ghost use Rattle.std.specs.Prelude.{◌≡◌, ◌∷◌, ◌++◌, List, ℕ, [], IfOk};
 ghost use Rattle.setl_top.specs.Reasons.{reason_line};
 ghost use Rattle.setl_top.specs.Tells.{Tells, TellsEnd};
 

@@ -57,8 +57,10 @@ fn run_file<F: Files, I: Source, O: Sink, E: Sink>(
     ensures input { let seen = moment F.texts F.faults I.left I.faults O.held O.faults E.held E.faults in
         (words : List (List ℕ)) → Spells words (Run name.now) → InputLeft words (seen files.old input.old out.old err.old) (seen files.new input.new out.new err.new) }
 {
-    match load_program(alloc, name, files, err) {
-        Ok(tree) => tell_end(alloc, err, run_program(alloc, &tree, input, out)),
-        Err(status) => status,
-    }
+    let tree = match load_program(alloc, name, files, err) {
+        Ok(tree) => tree,
+        Err(status) => return status,
+    };
+    let end = run_program(alloc, &tree, input, out);
+    tell_end(alloc, err, end)
 }
