@@ -1,6 +1,6 @@
 //! Runs of a code by steps.
 
-ghost use Rattle.std.specs.Prelude.{◌≡◌, ¬◌, List, ℕ, None};
+ghost use Rattle.std.specs.Prelude.{◌≡◌, List, ℕ, None};
 ghost use Rattle.setl_code.specs.Plain.{plain_code};
 ghost use Rattle.setl_text.specs.Reads.{ahead, StaysHonest, TakesOff};
 ghost use Rattle.setl_machine.specs.Control.{stood_for, IsRest};

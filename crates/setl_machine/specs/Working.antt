@@ -1,0 +1,68 @@
+-- What an instruction did.
+use Rattle.std.specs.Prelude.{◌≡◌, ℕ, Bool, true, false, List, [], ◌∷◌, Option, Some, None, Result, Ok, Err}
+use Rattle.setl_value.specs.Datum.{Datum, bool}
+use Rattle.setl_value.specs.DatumOf.{part}
+use Rattle.setl_value.specs.declared.Value.{Value}
+use Rattle.setl_map.specs.declared.OpFault.{OpFault}
+use Rattle.setl_map.specs.declared.OpFault.TheVariants as fault
+use Rattle.setl_program.specs.declared.kinds.Connective.{Connective}
+use Rattle.setl_program.specs.declared.kinds.Connective.TheVariants.{And, Or, Implies}
+use Rattle.setl_run.specs.Events as run
+use Rattle.setl_run.specs.Run.{Move, Moves, Halts}
+use Rattle.setl_model.specs.World.{World, branch}
+use Rattle.setl_code.specs.Code.{Instr}
+use Rattle.setl_code.specs.Plain.{plain_code}
+use Rattle.setl_code.specs.CodeCore.{Operand, Result as Holds, CodeCore}
+use Rattle.setl_code.specs.Machine.{on_top}
+use Rattle.setl_store.specs.Standing.{Standing, over, top_of}
+use Rattle.setl_machine.specs.Control.{ControlState, in_world, stood_for}
+use Rattle.setl_machine.specs.Outcome.{next_of, kind_of, Quiet}
+use Rattle.setl_machine.specs.declared.end.End.{End}
+use Rattle.setl_machine.specs.declared.end.End.TheVariants as end
+use Rattle.setl_machine.specs.declared.end.StopKind.TheVariants as kind
+
+-- one that neither reads nor writes nor changes the control: whatever the world is
+abbrev pub Works : Standing → ℕ → Instr → Standing → End → Type 0
+Works old line what new e = (new.code ≡ old.code) × ((w : World) → Quiet (next_of (plain_code old.code) line what (in_world w old.core)) (in_world w new.core) e)
+
+-- one that neither reads nor writes: whatever is still to come from the input
+abbrev pub Does : Standing → ControlState → ℕ → Instr → Standing → ControlState → End → Type 0
+Does old from line what new to e = (new.code ≡ old.code) × ((rest : List ℕ) → Quiet (next_of (plain_code old.code) line what (stood_for old.core from rest)) (stood_for new.core to rest) e)
+
+-- the code halts there, and the answer says how
+abbrev pub Halted : Move CodeCore → End → Type 0
+Halted (Halts e) end.Done = e ≡ run.Done
+Halted (Halts e) (end.Stopped why line) = e ≡ run.Stopped (kind_of why) line
+Halted (Halts e) end.Spent = e ≡ run.Spent
+Halted (Halts e) end.Stuck = e ≡ run.Stuck
+Halted m e = ⊥
+
+-- ---- operands
+
+-- the top was taken off, if it serves as a value
+abbrev pub PopsTop : Standing → Option (Option Value) → Standing → Type 0
+PopsTop old None new = (top_of old.core.now.operands ≡ None) × (new ≡ old)
+PopsTop old (Some v) new = (top_of old.core.now.operands ≡ Some (part v, new.core.now.operands)) × (new ≡ record old { core = over new.core.now.operands old.core })
+
+-- a truth value is on top, or the code halts there where it has to be one
+abbrev pub Judges : List Operand → ℕ → Result Bool End → Type 0
+Judges xs line (Ok t) = (ys : List Operand) × (xs ≡ Holds (Some (bool t)) ∷ ys)
+Judges xs line (Err e) = (f g : Option Datum → List Operand → Move CodeCore) → Halted (on_top xs (λ v ys. branch v line (f v ys) (g v ys))) e
+
+-- the answer of a connective, where the left part decides it
+abbrev pub decided : Connective → Bool → Option Bool
+decided And false = Some false
+decided Or true = Some true
+decided Implies false = Some true
+decided what left = None
+
+-- how a fault of an operator at a line ends the run; want of memory is no such end
+abbrev pub EndsBy : OpFault → ℕ → End → Type 0
+EndsBy fault.Kind line e = e ≡ end.Stopped kind.Kind line
+EndsBy fault.Om line e = e ≡ end.Stopped kind.Om line
+EndsBy fault.Wide line e = e ≡ end.Stopped kind.Wide line
+EndsBy fault.Zero line e = e ≡ end.Stopped kind.Zero line
+EndsBy fault.Range line e = e ≡ end.Stopped kind.Range line
+EndsBy fault.Deep line e = e ≡ end.Stopped kind.Deep line
+EndsBy fault.Spent line e = e ≡ end.Spent
+EndsBy fault.NoMemory line e = ⊥
