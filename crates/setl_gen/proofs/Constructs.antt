@@ -1,19 +1,17 @@
 -- One lemma for each construct of expressions, with what its function knows as premises.
-use Rattle.std.proofs.Common.{◌≡◌, ℕ, suc, ◌+◌, ◌<◌, List, [], ◌∷◌, drop, length, map, refl, ap, sym, ◌∙◌, Option, Some, None, arith}
-use Rattle.std.proofs.Math.ListN.{get_or}
-use Rattle.std.proofs.lemmas.List.{drop_more}
+use Rattle.std.proofs.Common.{◌≡◌, ℕ, suc, List, [], refl, ap, sym, ◌∙◌, Some}
 use Rattle.setl_value.specs.Datum.{bool}
 use Rattle.setl_map.specs.declared.Operator.{Operator}
 use Rattle.setl_program.specs.declared.kinds.Connective.{Connective}
 use Rattle.setl_program.specs.declared.kinds.Collection.{Collection}
 use Rattle.setl_program.specs.declared.kinds.Quantifier.{Quantifier}
 use Rattle.setl_program.specs.Program.{Binding, begin_of, Expr, Apply, Connect, Choose, Former, Selection, Quantified, Call, Exprs, Iterators, no_iterator, more_iterators, Condition, Arguments}
-use Rattle.setl_model.specs.Iterations.{decided, undecided, all_bound}
-use Rattle.setl_code.specs.Code.{Instr, Push, Operate, Decides, TestBool, Unless, Jump, DropTop, DupTop, BeginOver, NextOr, BeginOf, AddBelow, LeaveAll, CallBody}
-use Rattle.setl_code.specs.Piece.{Laid, ◌⨾◌, nothing, one, jumps_out, over, either, leaving, with_end, with_start}
-use Rattle.setl_code.specs.Generated.{store_slots, set_by, bind, clear, count, levels, negated, keep_or_drop, expr, exprs, iterators, condition, arguments}
+use Rattle.setl_model.specs.Iterations.{decided}
+use Rattle.setl_code.specs.Code.{Push, Operate, Decides, TestBool, Unless, Jump, DropTop, DupTop, BeginOver, NextOr, BeginOf, AddBelow, LeaveAll, CallBody}
+use Rattle.setl_code.specs.Piece.{Laid, ◌⨾◌, nothing, one, jumps_out, over, either, with_end, with_start}
+use Rattle.setl_code.specs.Generated.{store_slots, set_by, bind, count, levels, negated, keep_or_drop, expr, exprs, iterators, condition, arguments}
 use Rattle.setl_gen.specs.declared.hole.Hole.{Hole}
-use Rattle.setl_gen.specs.Emitted.{Emitted, here, after, with_step, all_filled, with_exits}
+use Rattle.setl_gen.specs.Emitted.{Emitted, here, after, with_step, with_exits}
 use Rattle.setl_gen.specs.Heads.{begun, next, headed, opened, undecided_code, with_end_undecided}
 use Rattle.setl_gen.proofs.Emitting.{after_then, after_nothing, then_made, then_two, over_made, either_made, leaving_made}
 

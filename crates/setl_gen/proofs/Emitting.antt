@@ -5,7 +5,7 @@ use Rattle.std.specs.Prelude.{slice_set}
 use Rattle.setl_code.specs.Code.{Instr, Unless, Jump, Step}
 use Rattle.setl_code.specs.Piece.{Piece, empty, step, jump_out, jump_on, join, ending_at, going_on_at, past, Labels, steps_of, Laid, ◌⨾◌, nothing, one, over, either, ending, going_on, leaving}
 use Rattle.setl_gen.specs.declared.hole.Hole.{Hole}
-use Rattle.setl_gen.specs.Emitted.{Emitted, here, hole, exits_of, labels, after, with_step, filled, all_filled, with_exits, with_again}
+use Rattle.setl_gen.specs.Emitted.{Emitted, here, exits_of, labels, after, with_step, filled, all_filled, with_exits, with_again}
 
 length_append : {X : Type 0} (xs ys : List X) → length (xs ++ ys) ≡ length xs + length ys
 length_append [] ys = omega arith

@@ -1,3 +1,4 @@
+pub mod BodyLemmas
 pub mod Constructs
 pub mod Emitting
 pub mod ExprKinds

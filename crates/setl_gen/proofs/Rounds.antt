@@ -1,5 +1,5 @@
 -- A round of each loop over a list, and how many a list has.
-use Rattle.std.proofs.Common.{◌≡◌, ℕ, suc, ◌+◌, ◌<◌, ◌≤◌, List, [], ◌∷◌, ◌++◌, drop, length, map, refl, ap, sym, ◌∙◌, Option, Some, None, arith}
+use Rattle.std.proofs.Common.{◌≡◌, ℕ, suc, ◌+◌, ◌<◌, ◌≤◌, List, [], ◌∷◌, ◌++◌, drop, length, refl, ap, sym, ◌∙◌, Option, Some, None, arith}
 use Rattle.std.proofs.Math.ListN.{get_or}
 use Rattle.std.proofs.lemmas.List.{drop_more, drop_all, length-map}
 use Rattle.setl_run.specs.Variable.{Variable}
@@ -17,12 +17,12 @@ use Rattle.setl_program.specs.declared.expr.Argument.TheVariants as an
 use Rattle.setl_program.specs.declared.expr.Iterator.{out-Iterator, fold_out-Iterator}
 use Rattle.setl_program.specs.declared.expr.Argument.TheOpen.{Argument-F}
 use Rattle.std.specs.Option.{option_map}
-use Rattle.setl_program.specs.Program.{Slots, Binding, begin_of, Expr, Exprs, Arguments, no_argument, rd_argument, wr_argument, rw_argument}
+use Rattle.setl_program.specs.Program.{Slots, Binding, begin_of, Expr, Exprs, Arguments, no_argument, rd_argument}
 use Rattle.setl_program.specs.Plain.{plain_variable, plain_slots, plain_binding, plain_expr, plain_exprs, plain_iterator, plain_iterators, plain_argument, plain_arguments, argument_step, expr_step, iterator_step}
 use Rattle.setl_code.specs.Code.{Push, Load, DropTop, StoreIn, PartsOf, BeginOver, NextOr}
 use Rattle.setl_code.specs.Piece.{Laid, ◌⨾◌, nothing, one}
 use Rattle.setl_code.specs.Generated.{store_slots, parts, bind, set_by, arguments, clear, count_from, count, levels, expr, exprs}
-use Rattle.setl_gen.specs.Emitted.{Emitted, here, after}
+use Rattle.setl_gen.specs.Emitted.{Emitted, after}
 use Rattle.setl_gen.specs.Heads.{begun, next, slot_code, clear_code, argument_code, set_code}
 use Rattle.setl_gen.proofs.Emitting.{after_then, after_nothing}
 use Rattle.setl_gen.proofs.Constructs.{begun_made, head_made}

@@ -1,3 +1,4 @@
+pub mod Bodies
 pub mod Emitted
 pub mod Found
 pub mod Heads

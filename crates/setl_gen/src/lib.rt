@@ -1,9 +1,11 @@
-//! The code of statements, in one pass over them: `block` puts it down over a table of slots, and `variables` tells the
-//! variables of statements in the order in which they stand. What makes the tables, and with them the code of a whole
-//! program, isn't here yet.
+//! The code of programs: `emit` makes it, in one pass over the statements of each body.
+//!
+//! What stands in a body is looked through first, so that each of its variables has a slot. Then its steps are put down,
+//! with the targets of jumps filled in where they are known.
 #![tactic(auto)]
 
 mod binds;
+mod bodies;
 mod emitter;
 mod exprs;
 mod found;
@@ -14,9 +16,5 @@ mod simple;
 mod steps;
 mod stmts;
 
-pub use emitter::Emitter;
-pub use found::{Found, block as variables};
-pub use hole::Hole;
-pub use names::Names;
+pub use bodies::emit;
 pub use std::alloc::AllocError as Memory;
-pub use stmts::block;

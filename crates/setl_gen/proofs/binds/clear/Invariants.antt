@@ -1,8 +1,7 @@
 use Rattle.std.proofs.Common.{◌≡◌, drop}
 use Rattle.setl_program.specs.Plain.{plain_slots}
 use Rattle.setl_model.specs.Slots.{variables_in}
-use Rattle.setl_model.specs.Iterations.{all_bound}
-use Rattle.setl_code.specs.Generated.{store_slots, set_by, clear}
+use Rattle.setl_code.specs.Generated.{clear}
 use Rattle.setl_gen.specs.Emitted.{held, after}
 use Rattle.setl_gen.proofs.binds.clear.Given as goal
 

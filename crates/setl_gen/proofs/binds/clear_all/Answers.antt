@@ -1,9 +1,8 @@
-use Rattle.std.proofs.Common.{◌∙◌, List, Option}
+use Rattle.std.proofs.Common.{◌∙◌, List}
 use Rattle.setl_program.specs.declared.expr.Iterator.{Iterator}
-use Rattle.setl_program.specs.Plain.{plain_slots, plain_arguments, plain_iterators}
-use Rattle.setl_model.specs.Slots.{variables_in}
+use Rattle.setl_program.specs.Plain.{plain_iterators}
 use Rattle.setl_model.specs.Iterations.{all_bound}
-use Rattle.setl_code.specs.Generated.{store_slots, set_by, clear}
+use Rattle.setl_code.specs.Generated.{clear}
 use Rattle.setl_gen.specs.Emitted.{held, after}
 use Rattle.setl_gen.proofs.Emitting.{after_nothing}
 use Rattle.setl_gen.proofs.Rounds.{done_made, bounds_round}

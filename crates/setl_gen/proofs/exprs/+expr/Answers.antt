@@ -1,15 +1,14 @@
 use Rattle.std.proofs.Common.{◌≡◌, ◌∙◌, List, ap, refl, sym, arith, Some}
-use Rattle.std.proofs.lemmas.Grind.{common_steps}
 use Rattle.std.specs.Option.{option_map}
 use Rattle.setl_program.specs.declared.expr.Expr.{Expr}
 use Rattle.setl_program.specs.declared.expr.Iterator.{Iterator}
 use Rattle.setl_program.specs.declared.expr.Argument.{Argument}
 use Rattle.setl_program.specs.Program as plain
-use Rattle.setl_program.specs.Plain.{plain_expr, plain_exprs, plain_iterator, plain_iterators, plain_binding, plain_arguments, condition_of}
+use Rattle.setl_program.specs.Plain.{plain_expr, plain_exprs, plain_iterators, plain_binding, plain_arguments, condition_of}
 use Rattle.setl_code.specs.Code.{Unless}
 use Rattle.setl_code.specs.Piece.{one}
 use Rattle.setl_code.specs.Generated as code
-use Rattle.setl_gen.specs.Emitted.{Emitted, held, here, after}
+use Rattle.setl_gen.specs.Emitted.{held, here, after}
 use Rattle.setl_gen.specs.Heads.{opened, with_end_undecided}
 use Rattle.setl_gen.proofs.Emitting.{after_nothing, then_made}
 use Rattle.setl_gen.proofs.Rounds.{done_made, exprs_round, arguments_round, count_is, levels_is, iterator_begun, iterator_headed}

@@ -5,7 +5,7 @@ use Rattle.setl_code.specs.Code.{Push, Unless, LeaveAll}
 use Rattle.setl_code.specs.Piece.{◌⨾◌, one, jumps_out}
 use Rattle.setl_code.specs.Generated.{negated}
 use Rattle.setl_gen.specs.Emitted.{held, after}
-use Rattle.setl_gen.proofs.Emitting.{then_made, then_two}
+use Rattle.setl_gen.proofs.Emitting.{then_two}
 use Rattle.setl_gen.proofs.simple.leave_decided.Goals as goal
 
 pub returns : goal.returns

@@ -1,11 +1,11 @@
-use Rattle.std.proofs.Common.{[], ◌∷◌, ◌∙◌, ap, sym, Some}
-use Rattle.setl_program.specs.Plain.{plain_variable, plain_slots, plain_expr, plain_exprs, selectors_of}
-use Rattle.setl_code.specs.Code.{Combining, TakingOut, DropTop, ReturnTop, PrintTop}
+use Rattle.std.proofs.Common.{◌∙◌, ap}
+use Rattle.setl_program.specs.Plain.{plain_exprs}
+use Rattle.setl_code.specs.Code.{PrintTop}
 use Rattle.setl_code.specs.Piece.{one}
 use Rattle.setl_code.specs.Generated as code
 use Rattle.setl_gen.specs.Emitted.{held, after}
 use Rattle.setl_gen.proofs.Emitting.{then_made}
-use Rattle.setl_gen.proofs.Rounds.{last, count_is, one_store}
+use Rattle.setl_gen.proofs.Rounds.{count_is}
 use Rattle.setl_gen.proofs.steps.print.Goals as goal
 
 pub returns : goal.returns

@@ -1,11 +1,8 @@
-use Rattle.std.proofs.Common.{[], ◌∷◌, ◌∙◌, ap, sym, Some}
-use Rattle.setl_program.specs.Plain.{plain_variable, plain_slots, plain_expr, plain_exprs, selectors_of}
-use Rattle.setl_code.specs.Code.{Combining, TakingOut, DropTop, ReturnTop, PrintTop}
-use Rattle.setl_code.specs.Piece.{one}
+use Rattle.setl_program.specs.Plain.{plain_variable, plain_expr, selectors_of}
+use Rattle.setl_code.specs.Code.{Combining}
 use Rattle.setl_code.specs.Generated as code
-use Rattle.setl_gen.specs.Emitted.{held, after}
+use Rattle.setl_gen.specs.Emitted.{held}
 use Rattle.setl_gen.proofs.Emitting.{then_made}
-use Rattle.setl_gen.proofs.Rounds.{last, count_is, one_store}
 use Rattle.setl_gen.proofs.steps.update.Goals as goal
 
 pub returns : goal.returns

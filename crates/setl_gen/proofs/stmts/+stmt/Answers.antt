@@ -1,4 +1,4 @@
-use Rattle.std.proofs.Common.{◌∙◌, List, map, refl}
+use Rattle.std.proofs.Common.{◌∙◌, List, map}
 use Rattle.std.specs.Option.{option_map}
 use Rattle.setl_program.specs.declared.stmt.Stmt.{Stmt}
 use Rattle.setl_program.specs.Plain.{plain_expr, plain_iterators, plain_block, plain_branch, otherwise, condition_of}

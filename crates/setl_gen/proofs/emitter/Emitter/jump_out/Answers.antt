@@ -1,6 +1,5 @@
 use Rattle.std.proofs.Common.{arith}
 use Rattle.std.proofs.lemmas.Grind.{common_steps}
-use Rattle.setl_gen.specs.Emitted.{held}
 use Rattle.setl_gen.proofs.Stepping.{jump_made}
 use Rattle.setl_gen.proofs.emitter.Emitter.jump_out.Goals as goal
 

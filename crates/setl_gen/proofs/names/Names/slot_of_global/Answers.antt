@@ -1,4 +1,4 @@
-use Rattle.std.proofs.Common.{◌∙◌, ℕ, List, map, ap, sym}
+use Rattle.std.proofs.Common.{◌∙◌, map, ap, sym}
 use Rattle.setl_run.specs.Variable as run
 use Rattle.setl_code.specs.Plain.{variable_at}
 use Rattle.setl_gen.specs.Table.{Table}

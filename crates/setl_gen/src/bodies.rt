@@ -1,0 +1,155 @@
+//! Bodies, and the code of a program.
+
+ghost use Rattle.std.specs.Prelude.{◌≡◌, ◌++◌, IfOk, OnOk, map};
+ghost use Rattle.setl_run.specs.Variable as run;
+ghost use Rattle.setl_program.specs.Plain.{plain_block, plain_procedure, plain_program};
+ghost use Rattle.setl_code.specs.CodeOf as code;
+ghost use Rattle.setl_code.specs.Plain.{plain_body, plain_bodies, plain_code};
+ghost use Rattle.setl_gen.specs.Emitted.{held};
+ghost use Rattle.setl_gen.specs.Bodies.{table_of, blank, finished};
+
+use crate::emitter::{Emitter, number};
+use crate::found::{self, Found};
+use crate::names::Names;
+use crate::{Memory, stmts};
+use setl_code::{Body, Code, Instr};
+use setl_program::{Procedure, Program, Stmt};
+use setl_tree::{Items, Param, Text};
+use std::alloc::Global;
+use std::mem;
+
+/// The same texts again.
+fn copied_texts(alloc: Global, texts: &[Text]) -> Result<Items<Text>, Memory>
+    ensures { IfOk result (λ all. all ≡ texts.now) }
+{
+    let mut all = Items::new(alloc);
+    for text in texts {
+        let copy = text.copy()?;
+        all.push(copy)?;
+    }
+    Ok(all)
+}
+
+/// The same parameters again.
+fn copied_params(alloc: Global, params: &[Param]) -> Result<Items<Param>, Memory>
+    ensures { IfOk result (λ all. all ≡ params.now) }
+{
+    let mut all = Items::new(alloc);
+    for param in params {
+        let copy = copied_param(param)?;
+        all.push(copy)?;
+    }
+    Ok(all)
+}
+
+/// The same parameter again.
+fn copied_param(param: &Param) -> Result<Param, Memory>
+    ensures { IfOk result (λ copy. copy ≡ param.now) }
+{
+    let name = param.name.copy()?;
+    Ok(Param {
+        passing: param.passing,
+        name,
+        line: param.line,
+    })
+}
+
+/// Begins the body of a number: it has these parameters, and the names in these statements.
+fn begin<'p>(
+    to: &mut Emitter<'p>,
+    body: u32,
+    parameters: &'p [Param],
+    statements: &'p [Stmt],
+) -> Result<(), Memory>
+    ensures { OnOk result (held to.new ≡ blank (table_of to.old.names.vars body parameters.now (plain_block statements.now))) }
+{
+    to.names.begin(body, parameters)?;
+    let mut all = Found::new(to.alloc);
+    found::block(statements, &mut all)?;
+    to.names.note_all(all.as_slice())?;
+    to.steps = Vec::new(to.alloc);
+    to.exits = Items::new(to.alloc);
+    to.again = 0;
+    Ok(())
+}
+
+/// The body that was emitted.
+fn finish(to: &mut Emitter<'_>, name: &Text) -> Result<Body, Memory>
+    ensures body { IfOk result (λ b. plain_body (map run.Global to.old.names.vars) to.old.names.body b ≡ finished name.now to.old.names (held to.old)) }
+    ensures vars { to.new.names ≡ to.old.names }
+{
+    let parameters = copied_params(to.alloc, to.names.parameters())?;
+    let name = name.copy()?;
+    let names = to.names.names()?;
+    let steps = mem::replace(&mut to.steps, Vec::new(to.alloc));
+    Ok(Body {
+        name,
+        parameters,
+        names,
+        steps: Items::from_vec(steps),
+    })
+}
+
+/// The body of the main program.
+fn main_body<'p>(to: &mut Emitter<'p>, p: &'p Program) -> Result<Body, Memory>
+    ensures body { IfOk result (λ b. plain_body (map run.Global to.old.names.vars) 0 b ≡ code.main_body (plain_program p.now)) }
+    ensures vars { OnOk result (to.new.names.vars ≡ to.old.names.vars) }
+{
+    let statements = p.main.as_slice();
+    begin(to, 0, &[], statements)?;
+    stmts::block(to, 0, statements)?;
+    to.put(p.end_line, Instr::Stop)?;
+    finish(to, &p.name)
+}
+
+/// The body of a procedure, by its number.
+fn procedure_body<'p>(to: &mut Emitter<'p>, n: u32, p: &'p Procedure) -> Result<Body, Memory>
+    ensures body { IfOk result (λ b. plain_body (map run.Global to.old.names.vars) n b ≡ code.procedure_body (plain_procedure p.now)) }
+    ensures vars { OnOk result (to.new.names.vars ≡ to.old.names.vars) }
+{
+    let statements = p.body.as_slice();
+    begin(to, n, p.parameters.as_slice(), statements)?;
+    stmts::block(to, 0, statements)?;
+    to.put(p.end_line, Instr::Undefined)?;
+    to.put(p.end_line, Instr::Return)?;
+    finish(to, &p.name)
+}
+
+/// The bodies of procedures, behind the bodies that are there.
+fn procedures<'p>(
+    to: &mut Emitter<'p>,
+    ps: &'p [Procedure],
+    bodies: &mut Items<Body>,
+) -> Result<(), Memory>
+    ensures { OnOk result (plain_bodies (map run.Global to.old.names.vars) 0 bodies.new ≡ plain_bodies (map run.Global to.old.names.vars) 0 bodies.old ++ map code.procedure_body (map plain_procedure ps.now)) }
+{
+    for p in ps {
+        let n = number(bodies.len())?;
+        let body = procedure_body(to, n, p)?;
+        bodies.push(body)?;
+    }
+    Ok(())
+}
+
+/// The code of a program: the plain code that it stands for is that of the plain program.
+///
+/// The error is want of memory. It is also the answer where a number in the code would be 2^32 or more, and where
+/// the program has a variable without a slot or an iteration without an iterator, which formed and placed programs don't.
+pub fn emit(alloc: Global, program: &Program) -> Result<Code, Memory>
+    ensures { IfOk result (λ c. plain_code c ≡ code.code_of (plain_program program.now)) }
+{
+    let names = Names::new(alloc, program.vars.as_slice())?;
+    let mut to = Emitter {
+        alloc,
+        names,
+        steps: Vec::new(alloc),
+        exits: Items::new(alloc),
+        again: 0,
+    };
+    let mut bodies = Items::new(alloc);
+    let body = main_body(&mut to, program)?;
+    bodies.push(body)?;
+    procedures(&mut to, program.procedures.as_slice(), &mut bodies)?;
+    let vars = copied_texts(alloc, program.vars.as_slice())?;
+    Ok(Code { vars, bodies })
+}
