@@ -176,7 +176,7 @@ module _ (words : List (List ℕ)) (before after : Moment) (name : List ℕ) (tr
   -- the run of a program, and the line that tells its end
   pub run_ends : (e : End) → Runs (program_of tree) Seen e → after.files_faults ≤ before.files_faults → (r : Status) → TellsEnd e before.err after.err before.err_faults after.err_faults r → Headline words before after r
   run_ends end.Done x f r t = run_told run.Done IsDone refl x (λ y. y) f r t
-  run_ends (end.Stopped kind line) x f r t = run_told (run.Stopped (kind_of kind) line) IsStopped refl x (λ y. y) f r t
+  run_ends (end.Stopped why line) x f r t = run_told (run.Stopped (kind_of why) line) IsStopped refl x (λ y. y) f r t
   run_ends end.Spent x f r t = run_told run.Spent IsSpent refl x (λ y. y) f r t
   run_ends end.ReadFault x f r t = subst (Headline words before after) (sym t.0) (run_unread x.0 x.1 t.1)
   run_ends end.WriteFault x f r t = subst (Headline words before after) (sym t.0) (run_unwritten x.0 x.1 t.1)
