@@ -1,18 +1,21 @@
 -- How the parts of a call make its headline.
-use Rattle.std.proofs.Common.{◌≡◌, ◌⊎◌, inl, inr, ◌≤◌, ◌^◌, ◌-◌, ℕ, true, List, [], ◌∷◌, ◌++◌, take, Option, None, Some, refl, sym, ap, subst, arith, codes}
+use Rattle.std.proofs.Common.{◌≡◌, ◌⊎◌, inl, inr, ◌≤◌, ℕ, true, List, [], ◌∷◌, ◌++◌, take, Option, Some, refl, sym, subst, arith, codes}
 use Rattle.std.specs.Io.KnownBytes.{Appends}
 use Rattle.setl_io.specs.Faults.{Rose}
-use Rattle.setl_model.specs.Answers.{IsDone}
-use Rattle.setl_run.specs.Events.{Done as DoneEnd}
-use Rattle.setl_top.specs.Accepted.{program_of}
+use Rattle.setl_run.specs.Events as run
+use Rattle.setl_model.specs.Answers.{RunStatus, IsDone, IsStopped, IsSpent, status_of, error_line}
+use Rattle.setl_program.specs.ProgramOf.{program_of}
+use Rattle.setl_tree.specs.declared.tree.Tree.{Tree}
+use Rattle.setl_machine.specs.Outcome.{kind_of}
+use Rattle.setl_machine.specs.declared.end.End.{End}
+use Rattle.setl_machine.specs.declared.end.End.TheVariants as end
 use Rattle.setl_top.specs.Lines.{AppendsFront, AppendsFronts}
-use Rattle.setl_top.specs.Loads.{LoadedSmall, NotLoaded, not_accepted, not_read, no_room, sides, Checks, checked_so, not_checked}
+use Rattle.setl_top.specs.Loads.{Loaded, NotLoaded, not_accepted, not_read, no_room, sides, Checks, checked_so, not_checked}
 use Rattle.setl_top.specs.Reasons.{reason_line}
-use Rattle.setl_top.specs.Runs.{RunsTo, RunsInto, RunsUpTo}
-use Rattle.setl_top.specs.Tells.{Tells, whole, failed, no_memory}
-use Rattle.setl_top.specs.Tree.{Tree}
+use Rattle.setl_top.specs.Runs.{Streams, streams, turns, RunsTo, RunsInto, RunsToRead, RunsUpTo, Runs, TakesInput}
+use Rattle.setl_top.specs.Tells.{Tells, whole, failed, no_memory, TellsEnd}
 use Rattle.setl_top.specs.Words.{IsFaulty, Spells, HasFile, Command, Run, Check}
-use Rattle.setl_top.specs.Headline.{Moment, Job, IsInput, IsLeft, IsToRun, Answers, faulty_words, refused, checked, run_ended, no_program, at_state, in_print, at_print, load_failed, TellsFault, IsQuiet, LeavesRest, Ended, WriteFailed, MemoryFailed, out_failed, err_failed, Headline}
+use Rattle.setl_top.specs.Headline.{Moment, Job, IsInput, IsToRun, status_for, Answers, faulty_words, refused, checked, run_ended, UpToPrint, UpToAny, no_program, at_state, in_print, at_print, load_failed, read_failed, TellsFault, IsQuiet, LeavesRest, Ended, ReadFailed, WriteFailed, MemoryFailed, out_failed, err_failed, InputLeft, untouched, read_from, Headline}
 use Rattle.setl_top.specs.declared.status.Status.{Status}
 use Rattle.setl_top.specs.declared.status.Status.TheVariants.{Done, Refused, Words}
 use Rattle.setl_top.proofs.Fronts.{appends_none, front_none}
@@ -58,27 +61,29 @@ fault_after words before line old new status out err left a h = record {
   gained = h.4;
 }
 
--- a refusal whose last line was told, or not
-pub told : (words : List (List ℕ)) (before after : Moment) (err : List ℕ) → Answers words before Refused [] err after.input → Appends before.out after.out [] → after.files_faults ≤ before.files_faults → after.input_faults ≤ before.input_faults → after.out_faults ≤ before.out_faults → (r : Status) → Tells Refused err before.err after.err before.err_faults after.err_faults r → Headline words before after r
-told words before after err a o f i u _ (whole h k) = record {
-  out = [];
-  err = err;
-  answer = a;
+-- the last line of an end was told, or not
+pub told : (words : List (List ℕ)) (before after : Moment) (status : Status) (out err : List ℕ) → (Ended words before after status → Headline words before after status) → Answers words before status out err after.input → UpToAny words before out → Appends before.out after.out out → after.files_faults ≤ before.files_faults → after.input_faults ≤ before.input_faults → after.out_faults ≤ before.out_faults → (r : Status) → Tells status err before.err after.err before.err_faults after.err_faults r → Headline words before after r
+told words before after status out err ends a so_far o f i u _ (whole h k) =
+    ends
+    (record {
+      out = out;
+      err = err;
+      answer = a;
+      out_gained = o;
+      err_gained = h;
+      quiet = record { files = f; input = i; out = u; err = omega arith };
+    })
+told words before after status out err ends a so_far o f i u _ (failed rose h) = record {
+  out = out;
+  cause = err_failed status err rose a;
   out_gained = o;
-  err_gained = h;
-  quiet = record { files = f; input = i; out = u; err = omega arith };
+  err_gained = fault_after words before (codes "write fault") before.err after.err status out err after.input a h;
 }
-told words before after err a o f i u _ (failed rose h) = record {
-  out = [];
-  cause = err_failed Refused err rose a;
+told words before after status out err ends a so_far o f i u _ (no_memory h) = record {
+  out = out;
+  so_far = so_far;
   out_gained = o;
-  err_gained = fault_after words before (codes "write fault") before.err after.err Refused [] err after.input a h;
-}
-told words before after err a o f i u _ (no_memory h) = record {
-  out = [];
-  so_far = no_program;
-  out_gained = o;
-  err_gained = fault_after words before (codes "no memory") before.err after.err Refused [] err after.input a h;
+  err_gained = fault_after words before (codes "no memory") before.err after.err status out err after.input a h;
 }
 
 -- a source wasn't loaded
@@ -86,7 +91,7 @@ pub not_loaded : (words : List (List ℕ)) (before after : Moment) (command : Co
 not_loaded words before after command name s f o l i u _ (not_accepted source reason r t why e h) =
     let line : List ℕ = reason_line reason in
     let answer : Answers words before Refused [] (line ++ 10 ∷ []) before.input = refused command name source line s f t (record { reason = reason; refused = why; tells = refl }) in
-    told words before after (line ++ 10 ∷ []) (subst (Answers words before Refused [] (line ++ 10 ∷ [])) (sym l) answer) o (omega arith) i u r h
+    told words before after Refused [] (line ++ 10 ∷ []) (λ e. e) (subst (Answers words before Refused [] (line ++ 10 ∷ [])) (sym l) answer) no_program o (omega arith) i u r h
 not_loaded words before after command name s f o l i u _ (not_read rose h) = record {
   out = [];
   cause = load_failed command name s f rose h;
@@ -100,81 +105,89 @@ not_loaded words before after command name s f o l i u _ (no_room h) = record {
   err_gained = fault_alone words before (codes "no memory") before.err after.err h;
 }
 
--- the bytes of an input, or none where they aren't told
-abbrev input_of : Option (List ℕ) → List ℕ
-input_of None = []
-input_of (Some left) = left
+-- what is seen of the input and of the output
+abbrev pub streams_of : Moment → Moment → Streams
+streams_of before after = streams before.input after.input before.input_faults after.input_faults before.out after.out before.out_faults after.out_faults
 
-is_input : (a : Option (List ℕ)) → IsInput a (input_of a)
-is_input None = tt
-is_input (Some left) = refl
-
--- no byte was taken
-is_left : (a : Option (List ℕ)) (bytes : List ℕ) → bytes ≡ input_of a → IsLeft a a bytes
-is_left None bytes e = tt
-is_left (Some left) bytes e = ([], ap Some (sym e))
-
-abbrev pub job_of : Moment → Tree → Job
-job_of before tree = record { program = program_of tree; input = input_of before.input; turns = 2 ^ 63 - 1; based = true }
+abbrev pub job_of : Tree → List ℕ → Job
+job_of tree input = record { program = program_of tree; input = input; turns = turns; based = true }
 
 -- a program that was loaded is to be run
-pub to_run : (words : List (List ℕ)) (before : Moment) (name : List ℕ) (tree : Tree) → Spells words (Run name) → LoadedSmall before.texts name tree → IsToRun words before (job_of before tree)
-to_run words before name tree s l = record {
+pub to_run : (words : List (List ℕ)) (before : Moment) (name : List ℕ) (tree : Tree) (input : List ℕ) → Spells words (Run name) → Loaded before.texts name tree → IsInput before.input input → IsToRun words before (job_of tree input)
+to_run words before name tree input s l known = record {
   command = Run name;
   name = name;
-  source = l.loaded.source;
+  source = l.source;
   spelled = s;
   runs = (refl, refl, refl);
-  text = l.loaded.text;
-  accepted = record { tree = l.tree; is_program = l.loaded.is_program; small_tree = tree; is_small = l.is_small; meaning = refl };
-  input = is_input before.input;
+  text = l.text;
+  accepted = record { tree = tree; is_program = l.is_program; no_modes = l.no_modes; meaning = refl };
+  input = known;
 }
 
--- a run came to its end
-pub run_done : (words : List (List ℕ)) (before after : Moment) (tree : Tree) → IsToRun words before (job_of before tree) → RunsTo (program_of tree) before.out after.out → Appends before.err after.err [] → after.input ≡ before.input → IsQuiet before after → Ended words before after Done
-run_done words before after tree a r e l q =
-    let job = job_of before tree in
-    let ends = r.ends job.input job.turns job.based in
-    let left = is_left before.input ends.means.last.core.shared.world.input ends.unread in
-    let answer : Answers words before Done r.out [] before.input = run_ended job r.out DoneEnd IsDone before.input a ends.means refl left in
-    record {
-      out = r.out;
-      err = [];
-      answer = subst (Answers words before Done r.out []) (sym l) answer;
-      out_gained = r.gained;
-      err_gained = e;
-      quiet = q;
-    }
+module _ (words : List (List ℕ)) (before after : Moment) (name : List ℕ) (tree : Tree) (s : Spells words (Run name)) (l : Loaded before.texts name tree) where
+  abbrev Seen : Streams
+  Seen = streams_of before after
 
--- a print failed
-pub run_failed : (words : List (List ℕ)) (before after : Moment) (tree : Tree) → IsToRun words before (job_of before tree) → RunsInto (program_of tree) before.out after.out → Rose before.out_faults after.out_faults → AppendsFront before.err after.err (codes "write fault" ++ 10 ∷ []) → WriteFailed words before after
-run_failed words before after tree a r rose h =
-    let job = job_of before tree in
-    record {
-      out = r.out ++ take r.n r.line;
-      cause = out_failed rose (at_print job r.out r.line r.n a (r.at job.input job.turns job.based) r.part);
-      out_gained = r.gained;
-      err_gained = fault_alone words before (codes "write fault") before.err after.err h;
-    }
+  asked : (input : List ℕ) → IsInput before.input input → IsToRun words before (job_of tree input)
+  asked input known = to_run words before name tree input s l known
 
--- memory was refused in a run
-pub run_starved : (words : List (List ℕ)) (before after : Moment) (tree : Tree) → IsToRun words before (job_of before tree) → RunsInto (program_of tree) before.out after.out ⊎ RunsUpTo (program_of tree) before.out after.out → AppendsFront before.err after.err (codes "no memory" ++ 10 ∷ []) → MemoryFailed words before after
-run_starved words before after tree a (inl r) h =
-    let job = job_of before tree in
-    record {
-      out = r.out ++ take r.n r.line;
-      so_far = in_print (r.out ++ take r.n r.line) (at_print job r.out r.line r.n a (r.at job.input job.turns job.based) r.part);
-      out_gained = r.gained;
-      err_gained = fault_alone words before (codes "no memory") before.err after.err h;
-    }
-run_starved words before after tree a (inr r) h =
-    let job = job_of before tree in
-    record {
-      out = r.out;
-      so_far = at_state job r.out a (r.at job.input job.turns job.based);
-      out_gained = r.gained;
-      err_gained = fault_alone words before (codes "no memory") before.err after.err h;
-    }
+  -- a run came to its end
+  run_told : (end : run.End) (ending : RunStatus) → status_of end ≡ Some ending → RunsTo (program_of tree) Seen end → (Ended words before after (status_for ending) → Headline words before after (status_for ending)) → after.files_faults ≤ before.files_faults → (r : Status) → Tells (status_for ending) (error_line end) before.err after.err before.err_faults after.err_faults r → Headline words before after r
+  run_told end ending how x ends f r t =
+      let job = job_of tree x.input in
+      let a = asked x.input x.known in
+      told words before after (status_for ending) x.out (error_line end) ends (run_ended job x.out end ending after.input a x.means how x.left) (at_state job x.out a x.at_end) x.gained f (omega (arith, x.input_count)) (omega (arith, x.out_count)) r t
+
+  -- it was broken off
+  run_unread : RunsToRead (program_of tree) Seen → Rose before.input_faults after.input_faults → AppendsFront before.err after.err (codes "read fault" ++ 10 ∷ []) → ReadFailed words before after
+  run_unread x rose h = record {
+    out = x.out;
+    cause = read_failed (job_of tree x.input) x.out rose (asked x.input x.known) x.at;
+    out_gained = x.gained;
+    err_gained = fault_alone words before (codes "read fault") before.err after.err h;
+  }
+
+  in_line : (x : RunsInto (program_of tree) Seen) → UpToPrint words before (x.out ++ take x.n x.line)
+  in_line x = at_print (job_of tree x.input) x.out x.line x.n (asked x.input x.known) x.at x.part
+
+  run_unwritten : RunsInto (program_of tree) Seen → Rose before.out_faults after.out_faults → AppendsFront before.err after.err (codes "write fault" ++ 10 ∷ []) → WriteFailed words before after
+  run_unwritten x rose h = record {
+    out = x.out ++ take x.n x.line;
+    cause = out_failed rose (in_line x);
+    out_gained = x.gained;
+    err_gained = fault_alone words before (codes "write fault") before.err after.err h;
+  }
+
+  run_starved : RunsInto (program_of tree) Seen ⊎ RunsUpTo (program_of tree) Seen → AppendsFront before.err after.err (codes "no memory" ++ 10 ∷ []) → MemoryFailed words before after
+  run_starved (inl x) h = record {
+    out = x.out ++ take x.n x.line;
+    so_far = in_print (x.out ++ take x.n x.line) (in_line x);
+    out_gained = x.gained;
+    err_gained = fault_alone words before (codes "no memory") before.err after.err h;
+  }
+  run_starved (inr x) h = record {
+    out = x.out;
+    so_far = at_state (job_of tree x.input) x.out (asked x.input x.known) x.at;
+    out_gained = x.gained;
+    err_gained = fault_alone words before (codes "no memory") before.err after.err h;
+  }
+
+  -- the run of a program, and the line that tells its end
+  pub run_ends : (e : End) → Runs (program_of tree) Seen e → after.files_faults ≤ before.files_faults → (r : Status) → TellsEnd e before.err after.err before.err_faults after.err_faults r → Headline words before after r
+  run_ends end.Done x f r t = run_told run.Done IsDone refl x (λ y. y) f r t
+  run_ends (end.Stopped why line) x f r t = run_told (run.Stopped (kind_of why) line) IsStopped refl x (λ y. y) f r t
+  run_ends end.Spent x f r t = run_told run.Spent IsSpent refl x (λ y. y) f r t
+  run_ends end.ReadFault x f r t = subst (Headline words before after) (sym t.0) (run_unread x.0 x.1 t.1)
+  run_ends end.WriteFault x f r t = subst (Headline words before after) (sym t.0) (run_unwritten x.0 x.1 t.1)
+  run_ends end.NoMemory x f r t = subst (Headline words before after) (sym t.0) (run_starved x t.1)
+  run_ends end.Paused x f r t = absurd x
+  run_ends end.Stuck x f r t = absurd x
+
+  -- what it took of the input
+  pub run_takes : TakesInput (program_of tree) Seen → InputLeft words before after
+  run_takes (inl same) = untouched same
+  run_takes (inr x) = read_from (job_of tree x.input) x.out x.taken (asked x.input x.known) x.at x.consumed
 
 -- nothing was added, where nothing changed
 pub appends_same : (a b : Option (List ℕ)) → b ≡ a → Appends a b []
@@ -182,10 +195,10 @@ appends_same a b e = subst (λ c. Appends a c []) (sym e) (appends_none a)
 
 -- a check of a file, which leaves the input and the output alone
 pub check_ends : (words : List (List ℕ)) (before after : Moment) (name : List ℕ) → Spells words (Check name) → LeavesRest before after → (r : Status) → Checks before.texts name (sides before.files_faults after.files_faults before.err after.err before.err_faults after.err_faults) r → Headline words before after r
-check_ends words before after name s rest _ (checked_so tree l built still) = record {
+check_ends words before after name s rest _ (checked_so tree l still) = record {
   out = [];
   err = [];
-  answer = subst (Answers words before Done [] []) (sym rest.input) (checked name l.source tree s l.text l.is_program built);
+  answer = subst (Answers words before Done [] []) (sym rest.input) (checked name l.source tree s l.text l.is_program l.no_modes);
   out_gained = appends_same before.out after.out rest.out;
   err_gained = appends_same before.err after.err still.held;
   quiet = record { files = omega (arith, still.files); input = omega (arith, rest.input_faults); out = omega (arith, rest.out_faults); err = omega (arith, still.err) };

@@ -6,11 +6,11 @@ use Rattle.setl_run.specs.Events.{End}
 use Rattle.setl_model.specs.Laws.{OneMeaning}
 use Rattle.setl_model.specs.Means.{Means}
 use Rattle.setl_program.specs.Program.{Program}
-use Rattle.setl_top.specs.Accepted.{IsProgram, IsBuilt, Accepted, Refusal, IsRefusedFor, program_of}
+use Rattle.setl_program.specs.ProgramOf.{program_of}
+use Rattle.setl_top.specs.Accepted.{IsProgram, IsBuilt, Accepted, Refusal, IsRefusedFor}
 use Rattle.setl_top.specs.Headline.{Moment, AnyRose, ReadCause, load_failed, read_failed, InputLeft, untouched, read_from, WriteCause, out_failed, err_failed, faulty_words, refused, checked, run_ended, Job, IsInput, IsToRun, status_for}
 use Rattle.setl_top.specs.Laws.{IsComplete, FaultyWordsReadNothing, RefusesExactly, ChecksExactly, EndsExactly, TellsTexts}
 use Rattle.setl_top.specs.Reasons.{reason_line}
-use Rattle.setl_top.specs.Small.{small_of}
 use Rattle.setl_top.specs.Words.{Command, Run, Check, Spells, HasFile, RunsFile, IsFaulty}
 use Rattle.setl_top.specs.declared.status.Status.TheVariants.{Done, Refused, Words, Stopped, Spent, ReadFault, WriteFault, NoMemory}
 use Rattle.setl_top.proofs.OneReason.{FrontLaws, one_reason, one_program_tree, not_refused}
@@ -98,7 +98,7 @@ one_source words before texts t c d n m a b s f h s' f' h' =
 
 -- a run's program can be run
 can_run : (c : Command) (n : List ℕ) (turns : ℕ) (based : Bool) (source : List ℕ) (program : Program) → RunsFile c n turns based → (a : Accepted source program) → IsBuilt c a.tree
-can_run (Run x) n turns based source program h a = (a.small_tree, a.is_small)
+can_run (Run x) n turns based source program h a = a.no_modes
 can_run (Check x) n turns based source program h a = absurd h
 
 -- a source that is refused isn't run
@@ -147,12 +147,7 @@ checks_only laws words before texts name source _ _ _ _ t s h (run_ended job out
 -- a source has one program
 pub one_program : FrontLaws → (source : List ℕ) (p q : Program) → Accepted source p → Accepted source q → p ≡ q
 one_program laws source p q a b =
-    let trees = one_program_tree laws source a.tree b.tree a.is_program b.is_program in
-    let x = a.is_small.same in
-    let y = b.is_small.same in
-    let z = ap small_of trees in
-    let same : a.small_tree ≡ b.small_tree = cc in
-    a.meaning ∙ ap program_of same ∙ sym b.meaning
+    a.meaning ∙ ap program_of (one_program_tree laws source a.tree b.tree a.is_program b.is_program) ∙ sym b.meaning
 
 one_input : (before : Moment) (input : List ℕ) → before.input ≡ Some input → (a b : List ℕ) → IsInput before.input a → IsInput before.input b → a ≡ b
 one_input before input t a b h k =

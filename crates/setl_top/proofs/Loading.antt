@@ -1,12 +1,13 @@
 -- What was told after a load that told nothing.
-use Rattle.std.proofs.Common.{ℕ, List, [], ◌∷◌, ◌++◌, Option, subst, codes}
+use Rattle.std.proofs.Common.{◌≡◌, ℕ, List, [], ◌∷◌, ◌++◌, Option, subst, codes}
 use Rattle.setl_io.specs.Files.{Texts, IsText}
-use Rattle.setl_top.specs.Accepted.{IsRefusedFor}
+use Rattle.setl_tree.specs.declared.tree.Tree.{Tree}
+use Rattle.setl_top.specs.Accepted.{IsProgram, IsRefusedFor, IsUnbuilt}
 use Rattle.setl_top.specs.Lines.{AppendsFront}
 use Rattle.setl_top.specs.Loads.{Sides, sides, IsStill, NotLoaded, not_accepted, no_room}
 use Rattle.setl_top.specs.Reasons.{reason_line}
 use Rattle.setl_top.specs.Tells.{Tells}
-use Rattle.setl_top.specs.Words.{Command}
+use Rattle.setl_top.specs.Words.{Command, Run, Check}
 use Rattle.setl_top.specs.declared.reason.Reason.{Reason}
 use Rattle.setl_top.specs.declared.status.Status.{Status}
 use Rattle.setl_top.specs.declared.status.Status.TheVariants as status
@@ -21,3 +22,8 @@ not_accepted_then command texts name s still new err_now source reason ends text
 -- want of memory that was told then
 pub no_room_then : (command : Command) (texts : Texts) (name : List ℕ) (s : Sides) → IsStill s → (new : Option (List ℕ)) (err_now : ℕ) → AppendsFront s.new new (codes "no memory" ++ 10 ∷ []) → NotLoaded command texts name (sides s.files_before s.files_now s.old new s.err_before err_now) status.NoMemory
 no_room_then command texts name s still new err_now told = no_room (subst (λ (o : Option (List ℕ)). AppendsFront o new (codes "no memory" ++ 10 ∷ [])) still.held told)
+
+-- a program with `repr` lines is one that no command can work on so far
+pub is_unbuilt : (command : Command) (source : List ℕ) (tree : Tree) → IsProgram source tree → (tree.modes ≡ [] → ⊥) → IsUnbuilt command source
+is_unbuilt (Run name) source tree p h = record { tree = tree; is_program = p; other = h }
+is_unbuilt (Check name) source tree p h = record { tree = tree; is_program = p; other = h }

@@ -1,148 +1,265 @@
--- A run of a small program in its course.
-use Rattle.std.proofs.Common.{◌≡◌, ◌∙◌, ◌⊎◌, inl, inr, ℕ, Bool, true, List, [], ◌∷◌, ◌++◌, take, Option, None, refl, subst}
+-- A run of the code of a program as a run of the program.
+use Rattle.std.proofs.Common.{◌≡◌, ◌∙◌, ◌⊎◌, inl, inr, ℕ, zero, suc, Bool, true, false, List, [], ◌∷◌, ◌++◌, length, take, Option, None, Some, Result, Ok, Err, IfOk, OnErr, refl, sym, ap, subst, true≢false, append_assoc, arith}
 use Rattle.std.proofs.lemmas.List.{append-nil}
-use Rattle.std.specs.Io.KnownBytes.{Appends}
+use Rattle.std.specs.Result.{result_unwrap_or}
+use Rattle.std.specs.Io.KnownBytes.{Appends, append_known, prepend_known}
 use Rattle.setl_io.specs.Sink.{AppendsPart}
-use Rattle.setl_model.specs.Core.{Core, Execute}
-use Rattle.setl_run.specs.Events.{Done}
+use Rattle.setl_text.specs.Reads.{TakesOff, StaysHonest, ahead}
+use Rattle.setl_run.specs.Events as run
+use Rattle.setl_run.specs.Run.{State, Next, Goes, Ends}
+use Rattle.setl_program.specs.Program.{Program}
+use Rattle.setl_program.specs.Formed.{Formed}
 use Rattle.setl_model.specs.Means.{Means, first}
-use Rattle.setl_run.specs.Run.{Ends}
-use Rattle.setl_run.specs.RunLaws.{runs_join}
-use Rattle.setl_model.specs.Step.{language, test_of}
-use Rattle.setl_top.specs.Accepted.{program_of, plain_block}
-use Rattle.setl_top.specs.Conditions.{Kinds, no_kinds, meets}
-use Rattle.setl_top.specs.Moments.{AtState, AtPrint}
-use Rattle.setl_top.specs.Breaks.{Breaks}
-use Rattle.setl_top.specs.Runs.{EndsUnread, RunsTo, RunsInto, RunsUpTo}
-use Rattle.setl_top.specs.Tree.{Action, Assign, With, Print, Stmt, Tree, Expr}
-use Rattle.setl_top.specs.declared.small.run.Broken.TheVariants as broken
-use Rattle.setl_top.specs.Values.{Values, values_after, said_by, CanPerform}
-use Rattle.setl_top.proofs.Evaluating.{IsEnvironment, at}
-use Rattle.setl_top.proofs.Fitting.{Fits, fits_none, admitted, next_meets}
-use Rattle.setl_top.proofs.Fronts.{appends_none, appends_then}
-use Rattle.setl_top.proofs.Leading.{Comes, state, comes_none, comes_then}
-use Rattle.setl_top.proofs.Performing.{performs, takes_all, print_leads}
+use Rattle.setl_code.specs.declared.code.Code.{Code as RustCode}
+use Rattle.setl_code.specs.Plain.{plain_code}
+use Rattle.setl_code.specs.Code.{Code}
+use Rattle.setl_code.specs.CodeCore.{CodeCore}
+use Rattle.setl_code.specs.CodeMeans.{CodeMeans, code_first}
+use Rattle.setl_code.specs.CodeOf.{code_of}
+use Rattle.setl_code.specs.Machine.{machine}
+use Rattle.setl_store.specs.Standing.{Standing, started}
+use Rattle.setl_machine.specs.Control.{ControlState, IsRest, kept_for, stood_for}
+use Rattle.setl_machine.specs.Outcome.{IsLikely, kind_of, said, AtPrint, AtRead, Before, NoFault}
+use Rattle.setl_machine.specs.Outcome as outcome
+use Rattle.setl_machine.specs.declared.end.End.{End}
+use Rattle.setl_machine.specs.declared.end.End.TheVariants as end
+use Rattle.setl_machine.specs.declared.end.StopKind.{StopKind}
+use Rattle.setl_top.specs.CodeRuns.{RunsCode, seen_before, seen_now}
+use Rattle.setl_top.specs.Headline.{IsInput, IsLeft}
+use Rattle.setl_top.specs.Moments as moments
+use Rattle.setl_top.specs.Runs.{Streams, turns, RunsTo, RunsInto, RunsToRead, RunsUpTo, Runs, TakesAtRead, TakesInput}
+use Rattle.setl_top.proofs.Fronts.{appends_none}
+use Rattle.setl_top.proofs.Reaching.{CodeLaws, coded, untested, Came, ends_at, came_at_state, came_at_read, came_at_print}
 
--- the run has come to these statements, with these values, and has written this
-pub record Reached (tree rest : Tree) (values : Values) (said : List ℕ) (input : List ℕ) (turns : ℕ) (based : Bool) : Type 0 where
-  pub core : Core
-  pub agrees : IsEnvironment core.shared.own values
-  pub unread : core.shared.world.input ≡ input
-  pub comes : Comes (program_of tree) based (first (program_of tree) input turns) (at core (Execute (plain_block rest)) []) said
+-- ---- what is left of the input
 
-abbrev pub Running : Tree → Tree → Values → List ℕ → Type 0
-Running tree rest values said = (input : List ℕ) (turns : ℕ) (based : Bool) → Reached tree rest values said input turns based
+-- bytes that were taken ahead
+taken_ahead : (taken bytes : List ℕ) (input left : Option (List ℕ)) → IsLeft input left bytes → IsLeft input left (taken ++ bytes)
+taken_ahead taken bytes None left h = tt
+taken_ahead taken bytes (Some i) None h = absurd (cc)
+taken_ahead taken bytes (Some i) (Some l) h =
+    let same : h.0 ++ l ≡ bytes = cc in
+    (taken ++ h.0, ap Some (append_assoc taken h.0 l ∙ ap (λ xs. taken ++ xs) same))
 
-pub running_none : (tree : Tree) → Running tree tree (λ _. None) []
-running_none tree input turns based =
-    let start = first (program_of tree) input turns in
-    record { core = start.core; agrees = λ name. refl; unread = refl; comes = comes_none (program_of tree) based start.core [] [] }
+-- what the code has of its input at an end is what the machine has, behind some bytes
+left_of : (a k : CodeCore) (input left : Option (List ℕ)) → IsLikely a k → IsLeft input left k.world.input → IsLeft input left a.world.input
+left_of a k input left same h =
+    subst (IsLeft input left) (sym (ap (λ c. c.world.input) same.1)) (taken_ahead same.0 k.world.input input left h)
 
-pub running_more : (tree rest : Tree) (s : Stmt) (values : Values) (said : List ℕ) → Running tree (s ∷ rest) values said → CanPerform values s.action → Running tree rest (values_after values s.action) (said ++ said_by values s.action)
-running_more tree rest s values said run_ can input turns based =
-    let r = run_ input turns based in
-    let d = performs (program_of tree) based r.core said values r.agrees (takes_all tree based) s.line s.action (plain_block rest) can in
+-- ---- ends
+
+-- a run of the code ended so
+record EndsAs (x : Next CodeCore) (k : CodeCore) (e : run.End) : Type 0 where
+  pub state : State CodeCore
+  pub is : x ≡ Ends e state
+  pub likely : IsLikely state.core k
+
+done : (x : Next CodeCore) (k : CodeCore) → outcome.Answers x k end.Done → EndsAs x k run.Done
+done (Goes s) k h = absurd h
+done (Ends e s) k h = record { state = s; is = ap (λ f. Ends f s) h.0; likely = h.1 }
+
+stopped : (x : Next CodeCore) (k : CodeCore) (why : StopKind) (line : ℕ) → outcome.Answers x k (end.Stopped why line) → EndsAs x k (run.Stopped (kind_of why) line)
+stopped (Goes s) k why line h = absurd h
+stopped (Ends e s) k why line h = record { state = s; is = ap (λ f. Ends f s) h.0; likely = h.1 }
+
+spent : (x : Next CodeCore) (k : CodeCore) → outcome.Answers x k end.Spent → EndsAs x k run.Spent
+spent (Goes s) k h = absurd h
+spent (Ends e s) k h = record { state = s; is = ap (λ f. Ends f s) h.0; likely = h.1 }
+
+stuck : (x : Next CodeCore) (k : CodeCore) → outcome.Answers x k end.Stuck → EndsAs x k run.Stuck
+stuck (Goes s) k h = absurd h
+stuck (Ends e s) k h = record { state = s; is = ap (λ f. Ends f s) h.0; likely = h.1 }
+
+-- ---- the input
+
+-- the bytes of an input, or none where they aren't told
+abbrev pub input_of : Option (List ℕ) → List ℕ
+input_of None = []
+input_of (Some left) = left
+
+pub is_input : (a : Option (List ℕ)) → IsInput a (input_of a)
+is_input None = tt
+is_input (Some left) = refl
+
+pub is_rest : (a : Option (List ℕ)) → IsRest a (input_of a)
+is_rest None = tt
+is_rest (Some left) = refl
+
+pub input_of_rest : (a : Option (List ℕ)) (bytes : List ℕ) → IsRest a bytes → IsInput a bytes
+input_of_rest None bytes h = tt
+input_of_rest (Some left) bytes h = h
+
+-- what a reader keeps, and what it has still to come
+pub kept_left : (kept : List ℕ) (ended : Bool) (input left : Option (List ℕ)) → TakesOff input left → StaysHonest false input ended left → IsLeft input left (kept ++ input_of (ahead ended left))
+kept_left kept ended None left took honest = tt
+kept_left kept ended (Some i) None took honest = absurd took.1
+kept_left kept false (Some i) (Some l) took honest = (kept, refl)
+kept_left kept true (Some i) (Some l) took honest = (kept, ap (λ xs. Some (kept ++ xs)) (honest (λ e. absurd (true≢false (sym e))) refl))
+
+-- ---- gains
+
+take_none : (n : ℕ) → take {A = ℕ} n [] ≡ []
+take_none zero = refl
+take_none (suc n) = refl
+
+-- a part of a line behind what was written before
+behind : (old new : Option (List ℕ)) (out more : List ℕ) → Appends (append_known old out) new more → Appends old new (out ++ more)
+behind None new out more h = tt
+behind (Some xs) None out more h = absurd h
+behind (Some xs) (Some ys) out more h = h ∙ append_assoc xs out more
+
+module _ (laws : CodeLaws) (p : Program) (formed : Formed p) (no_modes : p.modes ≡ []) (s : Streams) (input : List ℕ) (known : IsInput s.input input) where
+  abbrev from : CodeCore
+  from = (code_first (code_of p) input turns).core
+
+  -- a state before which fewer steps were done
+  abbrev Early : ℕ → State CodeCore → List ℕ → Type 0
+  Early n t line = Before (code_of p) n from t line
+
+  came : (n : ℕ) (t : State CodeCore) (line : List ℕ) → Early n t line → Came p no_modes input turns t
+  came n t line b = (b.after, b.reached)
+
+  -- the run ended in the meaning's sense
+  coming_to : (n : ℕ) (last : CodeCore) (e : run.End) → EndsAs (coded p no_modes input turns n) last e → IsLeft s.input s.left last.world.input → Appends s.old s.new (said (coded p no_modes input turns n)) → NoFault (seen_before s) (seen_now s) → RunsTo p s e
+  coming_to n last e x left gained count =
+      let out : List ℕ = x.state.out in
+      let code : CodeMeans (code_of p) p.modes input turns true out e = record { steps = n; last = x.state; ends = untested p no_modes input turns n (Ends e x.state) x.is; written = refl } in
+      let means : Means p input turns true out e = (laws.means p formed input turns true out e).1 code in
+      let same = laws.last p formed input turns true out out e e means code in
+      record {
+        input = input;
+        known = known;
+        out = out;
+        means = means;
+        at_end = came_at_state p no_modes input turns laws formed x.state (ends_at (machine (code_of p)) n (code_first (code_of p) input turns) x.state e x.is);
+        left = subst (λ w. IsLeft s.input s.left w.input) same.core.world (left_of x.state.core last s.input s.left x.likely left);
+        gained = subst (Appends s.old s.new) (ap said x.is) gained;
+        input_count = count.1;
+        out_count = count.0;
+      }
+
+  -- no run is stuck
+  not_stuck : (n : ℕ) (last : CodeCore) → EndsAs (coded p no_modes input turns n) last run.Stuck → ⊥
+  not_stuck n last x =
+      let out : List ℕ = x.state.out in
+      let code : CodeMeans (code_of p) p.modes input turns true out run.Stuck = record { steps = n; last = x.state; ends = untested p no_modes input turns n (Ends run.Stuck x.state) x.is; written = refl } in
+      laws.not_stuck p formed input turns true out ((laws.means p formed input turns true out run.Stuck).1 code)
+
+  -- some of the line in hand was written
+  breaking : (n : ℕ) (t : State CodeCore) (line : List ℕ) → Early n t line → AtPrint (code_of p) t.core → AppendsPart (append_known s.old t.out) s.new line → RunsInto p s
+  breaking n t line b next part = record {
+    input = input;
+    known = known;
+    out = t.out;
+    line = line;
+    n = part.0;
+    at = subst (moments.AtPrint p input turns true t.out) (sym b.says) (came_at_print p no_modes input turns laws formed t (came n t line b) next);
+    part = part.1;
+    gained = behind s.old s.new t.out (take part.0 line) part.2;
+  }
+
+  -- a `read` was in hand
+  reading : (n : ℕ) (t : State CodeCore) (line : List ℕ) → Early n t line → AtRead (code_of p) t.core → Appends s.old s.new t.out → RunsToRead p s
+  reading n t line b next gained = record { input = input; known = known; out = t.out; at = came_at_read p no_modes input turns laws formed t (came n t line b) next; gained = gained }
+
+  -- nothing was written of what is in hand
+  halting : (n : ℕ) (t : State CodeCore) (line : List ℕ) → Early n t line → Appends s.old s.new t.out → RunsUpTo p s
+  halting n t line b gained = record { input = input; known = known; out = t.out; at = came_at_state p no_modes input turns laws formed t (came n t line b); gained = gained }
+
+  -- at want of memory
+  starving : (n : ℕ) (t : State CodeCore) (line : List ℕ) → Early n t line → (length line ≡ 0) ⊎ AtPrint (code_of p) t.core → outcome.AppendsFront (append_known s.old t.out) s.new line → RunsInto p s ⊎ RunsUpTo p s
+  starving n t [] b h front =
+      let none : take front.0 [] ≡ [] = take_none front.0 in
+      inr (halting n t [] b (subst (Appends s.old s.new) (ap (λ xs. t.out ++ xs) none ∙ append-nil t.out) (behind s.old s.new t.out (take front.0 []) front.2)))
+  starving n t (c ∷ line) b (inl none) front = absurd (omega (arith, none))
+  starving n t (c ∷ line) b (inr next) front = inl (breaking n t (c ∷ line) b next (front.0, omega (arith, front.1), front.2))
+
+-- the machine's run is one of the program
+runs : (laws : CodeLaws) (p : Program) (formed : Formed p) (no_modes : p.modes ≡ []) (s : Streams) (e : End) → RunsCode (code_of p) s e → Runs p s e
+runs laws p formed no_modes s end.Done r =
+    coming_to laws p formed no_modes s r.input r.known r.steps r.last run.Done (done (coded p no_modes r.input turns r.steps) r.last r.ran.0) r.left r.ran.1 r.ran.2
+runs laws p formed no_modes s (end.Stopped why line) r =
+    coming_to laws p formed no_modes s r.input r.known r.steps r.last (run.Stopped (kind_of why) line) (stopped (coded p no_modes r.input turns r.steps) r.last why line r.ran.0) r.left r.ran.1 r.ran.2
+runs laws p formed no_modes s end.Spent r =
+    coming_to laws p formed no_modes s r.input r.known r.steps r.last run.Spent (spent (coded p no_modes r.input turns r.steps) r.last r.ran.0) r.left r.ran.1 r.ran.2
+runs laws p formed no_modes s end.ReadFault r = (reading laws p formed no_modes s r.input r.known r.steps r.ran.0 r.ran.1 r.ran.2 r.ran.3 r.ran.4, r.ran.5)
+runs laws p formed no_modes s end.WriteFault r = (breaking laws p formed no_modes s r.input r.known r.steps r.ran.0 r.ran.1 r.ran.2 r.ran.3 r.ran.4, r.ran.5)
+runs laws p formed no_modes s end.NoMemory r = starving laws p formed no_modes s r.input r.known r.steps r.ran.0 r.ran.1 r.ran.2 r.ran.3 r.ran.4
+runs laws p formed no_modes s end.Paused r = r.whole refl
+runs laws p formed no_modes s end.Stuck r = not_stuck laws p formed no_modes s r.input r.known r.steps r.last (stuck (coded p no_modes r.input turns r.steps) r.last r.ran.0)
+
+-- it takes nothing of its input, or takes it at a `read`
+takes : (laws : CodeLaws) (p : Program) (formed : Formed p) (no_modes : p.modes ≡ []) (s : Streams) (e : End) → RunsCode (code_of p) s e → TakesInput p s
+takes laws p formed no_modes s e r =
+    elim r.reads [
+      inl same ↦ inl same
+    | inr b ↦ inr (record { input = r.input; known = r.known; out = b.0.out; taken = r.took.0; at = came_at_read p no_modes r.input turns laws formed b.0 (b.2.after, b.2.reached) b.3; consumed = r.took.1 })
+    ]
+
+-- nothing was done
+not_begun : (p : Program) (s : Streams) → s.new ≡ s.old → RunsInto p s ⊎ RunsUpTo p s
+not_begun p s same = inr (record {
+  input = input_of s.input;
+  known = is_input s.input;
+  out = [];
+  at = record { state = first p (input_of s.input) turns; reached = (0, refl); printed = refl };
+  gained = subst (λ o. Appends s.old o []) (sym same) (appends_none s.old);
+})
+
+-- ---- where memory may have been refused first
+
+module _ (laws : CodeLaws) (p : Program) (formed : Formed p) (no_modes : p.modes ≡ []) (s : Streams) {F : Type 0} where
+  pub all_runs : (c : Code) → c ≡ code_of p → (r : Result End F) → IfOk r (RunsCode c s) → IfOk r (Runs p s)
+  all_runs c is (Ok e) h = runs laws p formed no_modes s e (subst (λ k. RunsCode k s e) is h)
+  all_runs c is (Err e) h = h
+
+  pub all_takes : (c : Code) → c ≡ code_of p → (r : Result End F) → IfOk r (RunsCode c s) → OnErr r (s.left ≡ s.input) → TakesInput p s
+  all_takes c is (Ok e) h same = takes laws p formed no_modes s e (subst (λ k. RunsCode k s e) is h)
+  all_takes c is (Err e) h same = inl same
+
+-- a run that wasn't begun is one that was broken off at its first state
+pub runs_or : {F : Type 0} (p : Program) (s : Streams) (r : Result End F) (e : End) → e ≡ result_unwrap_or r end.NoMemory → IfOk r (Runs p s) → OnErr r (s.new ≡ s.old) → Runs p s e
+runs_or p s (Ok d) e is h same = subst (Runs p s) (sym is) h
+runs_or p s (Err d) e is h same = subst (Runs p s) (sym is) (not_begun p s same)
+
+-- so it is neither paused nor stuck
+pub not_paused : (p : Program) (s : Streams) (e : End) → Runs p s e → e ≡ end.Paused → ⊥
+not_paused p s e h is = subst (Runs p s) is h
+
+pub not_at_stuck : (p : Program) (s : Streams) (e : End) → Runs p s e → e ≡ end.Stuck → ⊥
+not_at_stuck p s e h is = subst (Runs p s) is h
+
+-- ---- from what the machine tells
+
+-- a control that read nothing yet
+abbrev fresh : ControlState
+fresh = record { turns = turns; atom = 1; eof = false; reader = record { kept = []; ended = false; fault = None } }
+
+-- what the machine tells of a run, whatever is still to come of the input behind it
+abbrev pub Told : Standing → ControlState → Streams → CodeCore → ControlState → End → Type 0
+Told store first s core control e = (rest' : List ℕ) → IsRest (ahead control.reader.ended s.left) rest' →
+    (rest : List ℕ) × IsRest (ahead first.reader.ended s.input) rest
+    × (n : ℕ) × outcome.Ran (plain_code store.code) n (stood_for store.core first rest) (seen_before s) (seen_now s) (stood_for core control rest') e
+    × outcome.ReadsOnly (plain_code store.code) n (stood_for store.core first rest) s.input s.left
+
+told_fresh : (code : RustCode) (s : Streams) (core : CodeCore) (control : ControlState) (e : End) → Told (started code) fresh s core control e → (e ≡ end.Paused → ⊥) → TakesOff s.input s.left → StaysHonest false s.input control.reader.ended s.left → RunsCode (plain_code code) s e
+told_fresh code s core control e told whole took honest =
+    let rest : List ℕ = input_of (ahead control.reader.ended s.left) in
+    let r = told rest (is_rest (ahead control.reader.ended s.left)) in
     record {
-      core = d.core;
-      agrees = d.agrees;
-      unread = d.unread ∙ r.unread;
-      comes = comes_then (program_of tree) based (first (program_of tree) input turns) (at r.core (Execute (plain_block (s ∷ rest))) []) (at d.core (Execute (plain_block rest)) []) said (said ++ said_by values s.action) r.comes d.comes;
+      input = r.0;
+      known = input_of_rest s.input r.0 r.1;
+      steps = r.2;
+      last = stood_for core control rest;
+      ran = r.3;
+      reads = r.4;
+      left = kept_left (kept_for control.reader.fault control.reader.kept) control.reader.ended s.input s.left took honest;
+      took = took;
+      whole = whole;
     }
 
--- the state to which the run has come
-pub running_at : (tree rest : Tree) (values : Values) (said : List ℕ) → Running tree rest values said → (input : List ℕ) (turns : ℕ) (based : Bool) → AtState (program_of tree) input turns based said
-running_at tree rest values said run_ input turns based =
-    let r = run_ input turns based in
-    record { state = state (at r.core (Execute (plain_block rest)) []) said r.comes.events; reached = (r.comes.steps, r.comes.led); printed = refl }
-
--- nothing is left to do
-pub running_done : (tree : Tree) (values : Values) (said : List ℕ) → Running tree [] values said → (input : List ℕ) (turns : ℕ) (based : Bool) → EndsUnread (program_of tree) said input turns based
-running_done tree values said run_ input turns based =
-    let p = program_of tree in
-    let r = run_ input turns based in
-    let last = state (at r.core (Execute (plain_block [])) []) said r.comes.events in
-    let all = runs_join (language p) (test_of p.modes based) r.comes.steps 1 (first p input turns) last (Ends Done last) r.comes.led refl in
-    record { means = record { steps = all.0; last = last; ends = all.1; written = refl }; unread = r.unread }
-
--- a print is next
-pub running_print : (tree rest : Tree) (line : ℕ) (es : List Expr) (values : Values) (said : List ℕ) → Running tree (record { line = line; action = Print es } ∷ rest) values said → (input : List ℕ) (turns : ℕ) (based : Bool) → AtPrint (program_of tree) input turns based said (said_by values (Print es))
-running_print tree rest line es values said run_ input turns based =
-    let p = program_of tree in
-    let r = run_ input turns based in
-    let printing = print_leads p based r.core said values r.agrees line es (plain_block rest) in
-    let c = comes_then p based (first p input turns) (at r.core (Execute (plain_block (record { line = line; action = Print es } ∷ rest))) []) printing.core said said r.comes printing.comes in
-    record { state = state printing.core said c.events; reached = (c.steps, c.led); printed = refl; in_hand = record { to = _; writes = printing.writes } }
-
--- what is left of a run to be done
-pub finishes : (tree rest : Tree) (kinds : Kinds) (values : Values) (said : List ℕ) → Fits kinds values → meets kinds rest ≡ true → Running tree rest values said → (out : List ℕ) × ((input : List ℕ) (turns : ℕ) (based : Bool) → Means (program_of tree) input turns based out Done)
-finishes tree [] kinds values said fits h run_ = (said, λ input turns based. (running_done tree values said run_ input turns based).means)
-finishes tree (s ∷ rest) kinds values said fits h run_ =
-    let next = next_meets kinds s rest h in
-    let more = admitted kinds values fits s.action next.0 next.1 in
-    finishes tree rest next.0 (values_after values s.action) (said ++ said_by values s.action) more.fits next.2 (running_more tree rest s values said run_ more.can)
-
--- a program that meets the conditions is done
-pub small_is_done : (tree : Tree) → meets no_kinds tree ≡ true → (out : List ℕ) × ((input : List ℕ) (turns : ℕ) (based : Bool) → Means (program_of tree) input turns based out Done)
-small_is_done tree h = finishes tree tree no_kinds (λ _. None) [] fits_none h (running_none tree)
-
--- a run with its output in its course
-pub record InRun (tree rest : Tree) (values : Values) (old now : Option (List ℕ)) : Type 0 where
-  pub kinds : Kinds
-  pub fits : Fits kinds values
-  pub conditions : meets kinds rest ≡ true
-  pub said : List ℕ
-  pub running : Running tree rest values said
-  pub gained : Appends old now said
-
-pub in_run_none : (tree : Tree) (a : Option (List ℕ)) → meets no_kinds tree ≡ true → InRun tree tree (λ _. None) a a
-in_run_none tree a h = record { kinds = no_kinds; fits = fits_none; conditions = h; said = []; running = running_none tree; gained = appends_none a }
-
-pub in_run_can : (tree rest : Tree) (s : Stmt) (values : Values) (old now : Option (List ℕ)) → InRun tree (s ∷ rest) values old now → CanPerform values s.action
-in_run_can tree rest s values old now r =
-    let next = next_meets r.kinds s rest r.conditions in
-    (admitted r.kinds values r.fits s.action next.0 next.1).can
-
-pub in_run_more : (tree rest : Tree) (s : Stmt) (values : Values) (old mid now : Option (List ℕ)) → InRun tree (s ∷ rest) values old mid → Appends mid now (said_by values s.action) → InRun tree rest (values_after values s.action) old now
-in_run_more tree rest s values old mid now r h =
-    let next = next_meets r.kinds s rest r.conditions in
-    let more = admitted r.kinds values r.fits s.action next.0 next.1 in
-    record {
-      kinds = next.0;
-      fits = more.fits;
-      conditions = next.2;
-      said = r.said ++ said_by values s.action;
-      running = running_more tree rest s values r.said r.running more.can;
-      gained = appends_then old mid now r.said (said_by values s.action) r.gained h;
-    }
-
-pub in_run_done : (tree : Tree) (values : Values) (old now : Option (List ℕ)) → InRun tree [] values old now → RunsTo (program_of tree) old now
-in_run_done tree values old now r = record { out = r.said; ends = running_done tree values r.said r.running; gained = r.gained }
-
-into_print : (tree rest : Tree) (line : ℕ) (es : List Expr) (values : Values) (old mid now : Option (List ℕ)) → InRun tree (record { line = line; action = Print es } ∷ rest) values old mid → AppendsPart mid now (said_by values (Print es)) → RunsInto (program_of tree) old now
-into_print tree rest line es values old mid now r h = record {
-  out = r.said;
-  line = said_by values (Print es);
-  n = h.0;
-  at = running_print tree rest line es values r.said r.running;
-  part = h.1;
-  gained = appends_then old mid now r.said (take h.0 (said_by values (Print es))) r.gained h.2;
-}
-
-up_to : (tree rest : Tree) (values : Values) (old mid now : Option (List ℕ)) → InRun tree rest values old mid → Appends mid now [] → RunsUpTo (program_of tree) old now
-up_to tree rest values old mid now r h = record {
-  out = r.said;
-  at = running_at tree rest values r.said r.running;
-  gained = subst (λ xs. Appends old now xs) (append-nil r.said) (appends_then old mid now r.said [] r.gained h);
-}
-
--- the output failed, which it does in a print alone
-pub in_run_failed : (tree rest : Tree) (line : ℕ) (a : Action) (values : Values) (old mid now : Option (List ℕ)) → InRun tree (record { line = line; action = a } ∷ rest) values old mid → Breaks values a mid now broken.Failed → RunsInto (program_of tree) old now
-in_run_failed tree rest line (Print es) values old mid now r h = into_print tree rest line es values old mid now r h
-in_run_failed tree rest line (Assign name e) values old mid now r h = let b = h.1 in absurd (cc)
-in_run_failed tree rest line (With name z) values old mid now r h = let b = h.1 in absurd (cc)
-
--- memory was refused
-pub in_run_starved : (tree rest : Tree) (line : ℕ) (a : Action) (values : Values) (old mid now : Option (List ℕ)) → InRun tree (record { line = line; action = a } ∷ rest) values old mid → Breaks values a mid now broken.NoMemory → RunsInto (program_of tree) old now ⊎ RunsUpTo (program_of tree) old now
-in_run_starved tree rest line (Print es) values old mid now r h = inl (into_print tree rest line es values old mid now r h)
-in_run_starved tree rest line (Assign name e) values old mid now r h = inr (up_to tree (record { line = line; action = Assign name e } ∷ rest) values old mid now r h.0)
-in_run_starved tree rest line (With name z) values old mid now r h = inr (up_to tree (record { line = line; action = With name z } ∷ rest) values old mid now r h.0)
+-- a whole run of the machine from a store that was started and a new control
+pub code_ran : (code : RustCode) (store : Standing) (first : ControlState) (s : Streams) (core : CodeCore) (control : ControlState) (e : End) → store ≡ started code → first ≡ fresh → Told store first s core control e → (e ≡ end.Paused → ⊥) → TakesOff s.input s.left → StaysHonest first.reader.ended s.input control.reader.ended s.left → RunsCode (plain_code code) s e
+code_ran code store first s core control e begun new told whole took honest =
+    told_fresh code s core control e (subst (λ c. Told (started code) c s core control e) new (subst (λ t. Told t first s core control e) begun told)) whole took
+    (subst (λ c. StaysHonest c.reader.ended s.input control.reader.ended s.left) new honest)

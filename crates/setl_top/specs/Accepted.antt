@@ -1,6 +1,5 @@
 -- Which sources are programs, and which line tells that one isn't.
-use Rattle.std.specs.Prelude.{◌≡◌, ◌<◌, ◌≤◌, ◌^◌, true, ℕ, ℤ, List, [], ◌∷◌, length, Some, None, Err}
-use Rattle.setl_value.specs.Datum.{int}
+use Rattle.std.specs.Prelude.{◌≡◌, ◌<◌, ◌≤◌, ◌^◌, ℕ, List, [], length, Some, None, Err}
 use Rattle.setl_token.specs.Lex.{Spelled, LexFails}
 use Rattle.setl_token.specs.Text.{Lexed}
 use Rattle.setl_token.specs.declared.Cause.{Cause}
@@ -15,48 +14,12 @@ use Rattle.setl_parse.specs.declared.fault.ParseFault.{ParseFault}
 use Rattle.setl_parse.specs.declared.fault.ParseFault.TheVariants as fault
 use Rattle.setl_names.specs.Breaks.{breaks, first_break, break_at}
 use Rattle.setl_names.specs.declared.broken.Break.{Break}
-use Rattle.setl_map.specs.declared.Operator.TheVariants as operator
-use Rattle.setl_program.specs.Program.{Program, Place, no_selector, Exprs, no_expr, more_exprs, Block, no_stmt, more_stmts}
-use Rattle.setl_program.specs.Program as plain
-use Rattle.setl_run.specs.Variable.{Own}
-use Rattle.setl_top.specs.Conditions.{meets, no_kinds}
+use Rattle.setl_program.specs.Program.{Program}
+use Rattle.setl_program.specs.ProgramOf.{program_of}
 use Rattle.setl_top.specs.Reasons.{reason_line}
-use Rattle.setl_top.specs.Small.{small_of}
-use Rattle.setl_top.specs.Tree.{Expr, Variable, Integer, SetOf, Action, Assign, With, Print, Stmt}
-use Rattle.setl_top.specs.Tree as small
 use Rattle.setl_top.specs.Words.{Command, Run, Check}
 use Rattle.setl_top.specs.declared.reason.Reason.{Reason}
 use Rattle.setl_top.specs.declared.reason.Reason.TheVariants as reason
-
--- the variable of a name as a place
-abbrev pub place_of : List ℕ → Place
-place_of name = record { variable = Own 0 name; selectors = no_selector }
-
-abbrev pub literals : List ℤ → Exprs
-literals [] = no_expr
-literals (z ∷ zs) = more_exprs (plain.Literal (int z)) (literals zs)
-
--- a tree of the small language as a plain tree of the whole language
-abbrev pub plain_value : Expr → plain.Expr
-plain_value (Variable name) = plain.Name (Own 0 name)
-plain_value (Integer value) = plain.Literal (int value)
-plain_value (SetOf members) = plain.Apply operator.SetOf (literals members)
-
-abbrev pub plain_values : List Expr → Exprs
-plain_values [] = no_expr
-plain_values (e ∷ es) = more_exprs (plain_value e) (plain_values es)
-
-abbrev pub plain_action : Action → plain.Stmt
-plain_action (Assign name value) = plain.Assign (place_of name) (plain_value value)
-plain_action (With name member) = plain.Update operator.With (place_of name) (plain.Literal (int member))
-plain_action (Print values) = plain.Print (plain_values values)
-
-abbrev pub plain_block : small.Tree → Block
-plain_block [] = no_stmt
-plain_block (s ∷ ss) = more_stmts s.line (plain_action s.action) (plain_block ss)
-
-abbrev pub program_of : small.Tree → Program
-program_of tree = record { name = []; vars = []; main = plain_block tree; end_line = 0; procedures = []; modes = [] }
 
 -- ---- programs
 
@@ -76,26 +39,17 @@ pub record IsProgram (source : List ℕ) (tree : Tree) : Type 0 where
   pub parsed : IsParsed source tree
   pub sound : first_break (breaks tree) ≡ None
 
--- the tree is this program of the small language, which meets the two conditions
-pub record IsSmall (tree : Tree) (program : small.Tree) : Type 0 where
-  pub same : small_of tree ≡ Some program
-  pub conditions : meets no_kinds program ≡ true
-
-abbrev pub IsNotSmall : Tree → Type 0
-IsNotSmall tree = (program : small.Tree) → IsSmall tree program → ⊥
-
--- what a command can do so far: it runs small programs, and checks programs without `repr` lines
+-- what a command can do so far: it runs and checks programs without `repr` lines
 abbrev pub IsBuilt : Command → Tree → Type 0
-IsBuilt (Run name) tree = (program : small.Tree) × IsSmall tree program
+IsBuilt (Run name) tree = tree.modes ≡ []
 IsBuilt (Check name) tree = tree.modes ≡ []
 
 -- the source is accepted for a run, and this is its program
 pub record Accepted (source : List ℕ) (program : Program) : Type 0 where
   pub tree : Tree
   pub is_program : IsProgram source tree
-  pub small_tree : small.Tree
-  pub is_small : IsSmall tree small_tree
-  pub meaning : program ≡ program_of small_tree
+  pub no_modes : tree.modes ≡ []
+  pub meaning : program ≡ program_of tree
 
 -- ---- refusals
 

@@ -1,7 +1,8 @@
 -- Laws over the headline and the definitions under it.
 use Rattle.std.specs.Prelude.{◌≡◌, ◌↔◌, ◌⊎◌, ℕ, Bool, List, [], ◌∷◌, ◌++◌, Option, Some}
 use Rattle.setl_model.specs.Answers.{RunStatus, status_of, error_line}
-use Rattle.setl_run.specs.Events.{End, Done}
+use Rattle.setl_model.specs.Ending.{Ending}
+use Rattle.setl_run.specs.Events.{End, Stuck}
 use Rattle.setl_model.specs.Means.{Means}
 use Rattle.setl_program.specs.Program.{Program}
 use Rattle.setl_tree.specs.declared.tree.Tree.{Tree}
@@ -42,6 +43,12 @@ EndsExactly = (words : List (List ℕ)) (before : Moment) (texts : List ℕ → 
     TellsTexts before texts → before.input ≡ Some input → IsToRun words before job → Means job.program job.input job.turns job.based said end → status_of end ≡ Some ending → Answers words before status out err left →
     (status ≡ status_for ending) × (out ≡ said) × (err ≡ error_line end)
 
-abbrev pub SmallProgramsEnd : Type 0
-SmallProgramsEnd = (source : List ℕ) (program : Program) → Accepted source program →
-    (out : List ℕ) × ((input : List ℕ) (turns : ℕ) (based : Bool) → Means program input turns based out Done)
+-- every run of an accepted program ends, for every input and bound on turns, whether declarations count or not
+abbrev pub AcceptedRunsEnd : Type 0
+AcceptedRunsEnd = (source : List ℕ) (program : Program) → Accepted source program →
+    (input : List ℕ) (turns : ℕ) (based : Bool) → Ending program input turns based
+
+-- and none is stuck
+abbrev pub NoAcceptedRunIsStuck : Type 0
+NoAcceptedRunIsStuck = (source : List ℕ) (program : Program) → Accepted source program →
+    (input : List ℕ) (turns : ℕ) (based : Bool) (out : List ℕ) → Means program input turns based out Stuck → ⊥

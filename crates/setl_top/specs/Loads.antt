@@ -3,11 +3,10 @@ use Rattle.std.specs.Prelude.{◌≡◌, ◌≤◌, ◌^◌, ℕ, List, length, 
 use Rattle.setl_io.specs.Faults.{Rose}
 use Rattle.setl_io.specs.Files.{Texts, IsText}
 use Rattle.setl_tree.specs.declared.tree.Tree.{Tree}
-use Rattle.setl_top.specs.Accepted.{IsProgram, IsBuilt, IsSmall, IsRefusedFor}
+use Rattle.setl_top.specs.Accepted.{IsProgram, IsRefusedFor}
 use Rattle.setl_top.specs.Lines.{AppendsFront}
 use Rattle.setl_top.specs.Reasons.{reason_line}
 use Rattle.setl_top.specs.Tells.{Tells}
-use Rattle.setl_top.specs.Tree as small
 use Rattle.setl_top.specs.Words.{Command, Check}
 use Rattle.setl_top.specs.declared.front.Unread.{Unread}
 use Rattle.setl_top.specs.declared.front.Unread.TheVariants as unread
@@ -25,17 +24,12 @@ pub record HasText (texts : Texts) (name source : List ℕ) : Type 0 where
   pub text : IsText texts name source
   pub short : length source ≤ 2 ^ 24
 
--- the program of a file that was loaded
+-- the program of a file that was loaded, which has no `repr` lines
 pub record Loaded (texts : Texts) (name : List ℕ) (tree : Tree) : Type 0 where
   pub source : List ℕ
   pub text : IsText texts name source
   pub is_program : IsProgram source tree
-
--- the small program of a file that was loaded
-pub record LoadedSmall (texts : Texts) (name : List ℕ) (program : small.Tree) : Type 0 where
-  pub tree : Tree
-  pub loaded : Loaded texts name tree
-  pub is_small : IsSmall tree program
+  pub no_modes : tree.modes ≡ []
 
 -- what is seen of the files and of the error output before and after
 pub record Sides : Type 0 where
@@ -64,5 +58,5 @@ pub data NotLoaded (command : Command) (texts : Texts) (name : List ℕ) (s : Si
 
 -- what a check of a file does
 pub data Checks (texts : Texts) (name : List ℕ) (s : Sides) : Status → Type 0 where
-  checked_so : (tree : Tree) → Loaded texts name tree → IsBuilt (Check name) tree → IsStill s → Checks texts name s status.Done
+  checked_so : (tree : Tree) → Loaded texts name tree → IsStill s → Checks texts name s status.Done
   not_checked : (ends : Status) → NotLoaded (Check name) texts name s ends → Checks texts name s ends

@@ -1,9 +1,14 @@
 -- What becomes of the last line of a call.
-use Rattle.std.specs.Prelude.{◌≡◌, ℕ, List, Option}
+use Rattle.std.specs.Prelude.{◌≡◌, ℕ, List, [], ◌∷◌, ◌++◌, Option, codes}
 use Rattle.std.specs.Io.KnownBytes.{Appends}
 use Rattle.setl_io.specs.Faults.{Rose}
 use Rattle.setl_io.specs.declared.whole.WriteFault.TheVariants.{Failed, NoMemory}
-use Rattle.setl_top.specs.Lines.{AppendsFronts, fault_line}
+use Rattle.setl_run.specs.Events as run
+use Rattle.setl_model.specs.Answers.{error_line}
+use Rattle.setl_machine.specs.Outcome.{kind_of}
+use Rattle.setl_machine.specs.declared.end.End.{End}
+use Rattle.setl_machine.specs.declared.end.End.TheVariants as end
+use Rattle.setl_top.specs.Lines.{AppendsFront, AppendsFronts, fault_line}
 use Rattle.setl_top.specs.declared.status.Status.{Status}
 use Rattle.setl_top.specs.declared.status.Status.TheVariants as status
 
@@ -12,3 +17,18 @@ pub data Tells (ends : Status) (line : List ℕ) (old new : Option (List ℕ)) (
   whole : Appends old new line → now ≡ before → Tells ends line old new before now ends
   failed : Rose before now → AppendsFronts old new line (fault_line Failed) → Tells ends line old new before now status.WriteFault
   no_memory : AppendsFronts old new line (fault_line NoMemory) → Tells ends line old new before now status.NoMemory
+
+-- the status stands, and the line was tried
+abbrev pub Tries : Status → List ℕ → Option (List ℕ) → Option (List ℕ) → Status → Type 0
+Tries ends line old new status = (status ≡ ends) × AppendsFront old new (line ++ 10 ∷ [])
+
+-- the line of an end of the machine was told, with its status, or tried at a fault
+abbrev pub TellsEnd : End → Option (List ℕ) → Option (List ℕ) → ℕ → ℕ → Status → Type 0
+TellsEnd end.Done old new before now r = Tells status.Done (error_line run.Done) old new before now r
+TellsEnd (end.Stopped why line) old new before now r = Tells status.Stopped (error_line (run.Stopped (kind_of why) line)) old new before now r
+TellsEnd end.Spent old new before now r = Tells status.Spent (error_line run.Spent) old new before now r
+TellsEnd end.ReadFault old new before now r = Tries status.ReadFault (codes "read fault") old new r
+TellsEnd end.WriteFault old new before now r = Tries status.WriteFault (codes "write fault") old new r
+TellsEnd end.NoMemory old new before now r = Tries status.NoMemory (codes "no memory") old new r
+TellsEnd end.Paused old new before now r = ⊥
+TellsEnd end.Stuck old new before now r = ⊥

@@ -1,5 +1,5 @@
 //! What follows from the headline and the definitions alone. The functions have no effect: each states a law.
-ghost use Rattle.setl_top.specs.Laws.{IsComplete, FaultyWordsReadNothing, RefusesExactly, ChecksExactly, EndsExactly, SmallProgramsEnd};
+ghost use Rattle.setl_top.specs.Laws.{IsComplete, FaultyWordsReadNothing, RefusesExactly, ChecksExactly, EndsExactly, AcceptedRunsEnd, NoAcceptedRunIsStuck};
 
 /// Where no count of faults rose and memory was found, the call came to its end.
 pub fn completeness()
@@ -38,7 +38,12 @@ pub fn ends_exactly()
     setl_model::one_meaning();
 }
 
-/// An accepted program is done, for every input and bound on turns, and whether declarations count or not.
-pub fn small_programs_end()
-    ensures { SmallProgramsEnd }
-{}
+/// Every run of an accepted program ends, for every input and bound on turns, whether declarations count or not, and none
+/// is stuck.
+pub fn every_accepted_run_ends()
+    ensures ends { AcceptedRunsEnd }
+    ensures not_stuck { NoAcceptedRunIsStuck }
+{
+    setl_acceptance::accepted_is_formed();
+    setl_simulation::every_run_ends();
+}

@@ -1,8 +1,7 @@
 //! The program as one call: `setl` does what the words of the command line ask for.
 //!
-//! `setl run FILE` runs a program of the small language, whose statements assign integers and sets of integers to
-//! names, add members to sets, and print values. `setl check FILE` checks any program that has no `repr` lines. Every
-//! other source is refused, with the first reason by length, tokens, syntax and nesting, and rules.
+//! `setl run FILE` runs a program that has no `repr` lines, and `setl check FILE` checks it. Every other source is
+//! refused, with the first reason by length, tokens, syntax and nesting, rules, and `repr` lines.
 #![tactic(auto)]
 
 mod front;
@@ -10,14 +9,16 @@ mod laws;
 mod lines;
 mod load;
 mod reason;
-mod small;
+mod run;
 mod status;
+mod stop;
+mod tell;
 mod top;
 mod words;
 
 pub use laws::{
-    checks_exactly, completeness, ends_exactly, faulty_words_read_nothing, refused_exactly,
-    small_programs_end,
+    checks_exactly, completeness, ends_exactly, every_accepted_run_ends, faulty_words_read_nothing,
+    refused_exactly,
 };
 pub use status::Status;
 pub use top::setl;

@@ -1,5 +1,5 @@
 //! Why a source is refused, and the line that tells it.
-ghost use Rattle.std.specs.Prelude.{◌≡◌, ◌∷◌, ◌++◌, [], OnOk, IfOk, decimal};
+ghost use Rattle.std.specs.Prelude.{◌≡◌, ◌∷◌, ◌++◌, [], OnOk, IfOk, codes, decimal};
 ghost use Rattle.setl_top.specs.Reasons.{at_place, reason_line};
 
 use itoa::Buffer;
@@ -46,13 +46,22 @@ fn at_place(alloc: Global, at: u32, what: &[u8]) -> Result<Vec<u8>, AllocError>
     Ok(line)
 }
 
-/// The line that tells a broken rule.
-fn at_line(alloc: Global, line: u32, rule: u8) -> Result<Vec<u8>, AllocError>
-    ensures { IfOk result (λ told. told.items ≡ reason_line (Reason.Broken rule line) ++ 10 ∷ []) }
+/// The begin of a line that tells what is so at a line of the source.
+pub fn at_line(alloc: Global, line: u32) -> Result<Vec<u8>, AllocError>
+    ensures { IfOk result (λ told. told.items ≡ codes "line " ++ decimal line ++ codes ": ") }
 {
     let mut told = Vec::from_slice(alloc, b"line ")?;
     push_number(&mut told, line)?;
-    told.extend_from_slice(b": rule ")?;
+    told.extend_from_slice(b": ")?;
+    Ok(told)
+}
+
+/// The line that tells a broken rule.
+fn rule_line(alloc: Global, line: u32, rule: u8) -> Result<Vec<u8>, AllocError>
+    ensures { IfOk result (λ told. told.items ≡ reason_line (Reason.Broken rule line) ++ 10 ∷ []) }
+{
+    let mut told = at_line(alloc, line)?;
+    told.extend_from_slice(b"rule ")?;
     push_number(&mut told, u32::from(rule))?;
     told.push(b'\n')?;
     Ok(told)
@@ -69,7 +78,7 @@ pub fn reason_line(alloc: Global, reason: Reason) -> Result<Vec<u8>, AllocError>
         Reason::WideNumber { at } => at_place(alloc, at, b"wide number"),
         Reason::Syntax { at } => at_place(alloc, at, b"syntax"),
         Reason::Nesting { at } => at_place(alloc, at, b"nesting"),
-        Reason::Broken { rule, line } => at_line(alloc, line, rule),
+        Reason::Broken { rule, line } => rule_line(alloc, line, rule),
         Reason::NotBuilt => Vec::from_slice(alloc, b"not built\n"),
     }
 }

@@ -4,11 +4,12 @@ ghost use Rattle.setl_top.specs.Headline.{Headline, InputLeft, CheckLeavesRest, 
 ghost use Rattle.setl_top.specs.Words.{Run, Spells};
 
 use crate::Status;
-use crate::lines::try_line;
-use crate::load::{check_file, load_small};
-use crate::small::{Ran, run_program};
+use crate::load::{check_file, load_program};
+use crate::run::run_program;
+use crate::tell::tell_end;
 use crate::words::{Command, read_words};
 use setl_io::{Files, Sink, Source};
+use setl_machine::End;
 use std::alloc::Global;
 
 /// Does what the words of the command line ask for, and tells how that ended.
@@ -48,28 +49,19 @@ fn run_file<F: Files, I: Source, O: Sink, E: Sink>(
     alloc: Global,
     name: &str,
     files: &mut F,
-    _input: &mut I,
+    input: &mut I,
     out: &mut O,
     err: &mut E,
 ) -> Status
     ensures headline { let seen = moment F.texts F.faults I.left I.faults O.held O.faults E.held E.faults in
-        (words : List (List ℕ)) → Spells words (Run name.now) → Headline words (seen files.old _input.old out.old err.old) (seen files.new _input.new out.new err.new) result }
+        (words : List (List ℕ)) → Spells words (Run name.now) → Headline words (seen files.old input.old out.old err.old) (seen files.new input.new out.new err.new) result }
     ensures input { let seen = moment F.texts F.faults I.left I.faults O.held O.faults E.held E.faults in
-        (words : List (List ℕ)) → Spells words (Run name.now) → InputLeft words (seen files.old _input.old out.old err.old) (seen files.new _input.new out.new err.new) }
+        (words : List (List ℕ)) → Spells words (Run name.now) → InputLeft words (seen files.old input.old out.old err.old) (seen files.new input.new out.new err.new) }
 {
-    let program = match load_small(alloc, name, files, err) {
-        Ok(program) => program,
+    let tree = match load_program(alloc, name, files, err) {
+        Ok(tree) => tree,
         Err(status) => return status,
     };
-    match run_program(alloc, &program, out) {
-        Ran::Done => Status::Done,
-        Ran::Failed => {
-            try_line(err, b"write fault\n");
-            Status::WriteFault
-        }
-        Ran::NoMemory => {
-            try_line(err, b"no memory\n");
-            Status::NoMemory
-        }
-    }
+    let end = run_program(alloc, &tree, input, out).unwrap_or(End::NoMemory);
+    tell_end(alloc, err, end)
 }

@@ -1,0 +1,69 @@
+//! The last line of a call.
+ghost use Rattle.std.specs.Prelude.{◌≡◌, ◌∷◌, ◌++◌, List, ℕ, [], IfOk};
+ghost use Rattle.setl_top.specs.Reasons.{reason_line};
+ghost use Rattle.setl_top.specs.Tells.{Tells, TellsEnd};
+
+use crate::Status;
+use crate::lines::{try_line, write_line};
+use crate::reason::{Reason, reason_line};
+use crate::stop::stop_line;
+use setl_io::{Sink, WriteFault};
+use setl_machine::End;
+use std::alloc::{AllocError, Global};
+
+/// Writes the last line of an end.
+fn tell<E: Sink>(err: &mut E, line: &[u8], status: Status) -> Status
+    ensures told { Tells status line.now (E.held err.old) (E.held err.new) (E.faults err.old) (E.faults err.new) result }
+{
+    match write_line(err, line) {
+        Ok(()) => status,
+        Err(WriteFault::Failed) => Status::WriteFault,
+        Err(WriteFault::NoMemory) => Status::NoMemory,
+    }
+}
+
+/// Writes the last line of an end, for which memory may have been refused.
+fn tell_made<E: Sink>(err: &mut E, line: Result<Vec<u8>, AllocError>, status: Status) -> Status
+    ensures told { (bytes : List ℕ) → IfOk line (λ l. l.items ≡ bytes) → Tells status bytes (E.held err.old) (E.held err.new) (E.faults err.old) (E.faults err.new) result }
+{
+    match line {
+        Ok(line) => tell(err, &line, status),
+        Err(_) => {
+            try_line(err, b"no memory\n");
+            Status::NoMemory
+        }
+    }
+}
+
+/// Tells why a source is refused.
+pub fn refuse<E: Sink>(alloc: Global, err: &mut E, reason: Reason) -> Status
+    ensures told { Tells Status.Refused (reason_line reason ++ 10 ∷ []) (E.held err.old) (E.held err.new) (E.faults err.old) (E.faults err.new) result }
+{
+    tell_made(err, reason_line(alloc, reason), Status::Refused)
+}
+
+/// Tells how a run of the machine ended, which is neither paused nor stuck.
+pub fn tell_end<E: Sink>(alloc: Global, err: &mut E, end: End) -> Status
+    requires paused { ¬ (end ≡ End.Paused) }
+    requires stuck { ¬ (end ≡ End.Stuck) }
+    ensures told { TellsEnd end (E.held err.old) (E.held err.new) (E.faults err.old) (E.faults err.new) result }
+{
+    match end {
+        End::Done => Status::Done,
+        End::Stopped(kind, line) => tell_made(err, stop_line(alloc, kind, line), Status::Stopped),
+        End::Spent => tell(err, b"out of turns\n", Status::Spent),
+        End::ReadFault => {
+            try_line(err, b"read fault\n");
+            Status::ReadFault
+        }
+        End::WriteFault => {
+            try_line(err, b"write fault\n");
+            Status::WriteFault
+        }
+        End::NoMemory => {
+            try_line(err, b"no memory\n");
+            Status::NoMemory
+        }
+        End::Paused | End::Stuck => unreachable!(),
+    }
+}
