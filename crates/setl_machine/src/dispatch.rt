@@ -1,11 +1,15 @@
 //! Which function does which instruction.
 
-ghost use Rattle.std.specs.Prelude.{◌≡◌, ◌<◌, ◌+◌, ◌^◌, length, IfOk};
+ghost use Rattle.std.specs.Prelude.{◌≡◌, ◌<◌, ◌+◌, ◌^◌, ℕ, List, length, IfOk};
 ghost use Rattle.setl_code.specs.MayRun.{InstrFits};
-ghost use Rattle.setl_code.specs.Plain.{plain_instr};
+ghost use Rattle.setl_code.specs.Plain.{plain_code, plain_instr};
 ghost use Rattle.setl_store.specs.Standing.{variables};
+ghost use Rattle.setl_machine.specs.Control.{stood_for};
+ghost use Rattle.setl_machine.specs.Outcome.{next_of, Quiet};
+ghost use Rattle.setl_machine.specs.declared.end.End.{End};
 ghost use Rattle.setl_machine.specs.Working.{Works, Does, IsQuiet, IsAlone};
 
+use crate::altering::alter;
 use crate::calling::{back, call, keep, leave_body};
 use crate::conditions::{decide, discard, duplicate, jump, stop, test, unless};
 use crate::control::Control;
@@ -19,8 +23,28 @@ use setl_store::Store;
 use setl_value::Value;
 use std::alloc::{AllocError, Global};
 
-/// Does an instruction that neither reads nor writes.
-pub(crate) fn do_quiet(
+/// Does an instruction that neither reads nor writes, and says how the run stands then.
+pub(crate) fn quiet_step(
+    what: &Instr,
+    line: u32,
+    store: &mut Store<'_>,
+    control: &mut Control,
+) -> End
+    requires quiet { IsQuiet what.now }
+    requires few { store.old.core.now.at + 1 < 2 ^ 64 }
+    requires fits { InstrFits (length store.old.core.globals) (length store.old.core.now.own) what.now }
+    ensures did { (rest : List ℕ) → Quiet (next_of (plain_code store.old.code) line (plain_instr (variables store.old.core) what.now) (stood_for store.old.core control.old rest)) (stood_for store.new.core control.new rest) result }
+    ensures code { result ≡ End.Paused → store.new.code ≡ store.old.code }
+    ensures reader { control.new.reader ≡ control.old.reader }
+{
+    match do_quiet(what, line, store, control) {
+        Ok(end) => end,
+        Err(_) => End::NoMemory,
+    }
+}
+
+/// Does an instruction that neither reads nor writes. The error is want of memory.
+fn do_quiet(
     what: &Instr,
     line: u32,
     store: &mut Store<'_>,
@@ -36,7 +60,7 @@ pub(crate) fn do_quiet(
         Instr::NewAtom => push_atom(store, control),
         Instr::Eof => push_eof(store, control),
         Instr::Operate(operator, count) => operate(*operator, *count, line, store, control),
-        Instr::Alter(_, _, _) => Err(AllocError),
+        Instr::Alter(what, slot, brackets) => alter(*what, *slot, brackets.as_slice(), line, store, control),
         Instr::Next(to) => next(*to, store, control),
         Instr::Round => round(store, control),
         Instr::Call(body) => call(*body, line, store, control),
@@ -45,7 +69,7 @@ pub(crate) fn do_quiet(
     }
 }
 
-/// Does an instruction that changes the store alone.
+/// Does an instruction that changes the store alone. The error is want of memory.
 fn do_alone(
     what: &Instr,
     line: u32,

@@ -1,14 +1,19 @@
 //! Runs of a code by steps.
 
-ghost use Rattle.std.specs.Prelude.{◌≡◌, List, ℕ, None};
+ghost use Rattle.std.specs.Prelude.{◌≡◌, ◌⊎◌, List, ℕ, None};
+ghost use Rattle.setl_run.specs.Run.{step};
+ghost use Rattle.setl_code.specs.Machine.{machine};
 ghost use Rattle.setl_code.specs.Plain.{plain_code};
 ghost use Rattle.setl_text.specs.Reads.{ahead, StaysHonest, TakesOff};
 ghost use Rattle.setl_machine.specs.Control.{stood_for, IsRest};
-ghost use Rattle.setl_machine.specs.Outcome.{Ran, ReadsOnly, seen};
+ghost use Rattle.setl_machine.specs.Outcome.{always, start, seen, Steps, AtPrint, AtRead, Ran, ReadsOnly};
 ghost use Rattle.setl_machine.specs.declared.end.End.{End};
 
 use crate::control::Control;
+use crate::dispatch::quiet_step;
 use crate::end::End;
+use crate::outside::{print, read};
+use setl_code::Instr;
 use setl_io::{Sink, Source};
 use setl_store::Store;
 
@@ -35,10 +40,14 @@ pub fn run<I: Source, O: Sink>(
     ensures took { TakesOff (I.left input.old) (I.left input.new) }
     ensures honest { StaysHonest control.old.reader.ended (I.left input.old) control.new.reader.ended (I.left input.new) }
 {
-    if steps == 0 {
-        return End::Paused;
+    let mut done = 0;
+    while done < steps {
+        match step(store, control, input, out) {
+            End::Paused => done += 1,
+            end => return end,
+        }
     }
-    End::NoMemory
+    End::Paused
 }
 
 /// Does instructions up to the end of the run, in rounds of 1,000.
@@ -59,5 +68,40 @@ pub fn run_whole<I: Source, O: Sink>(
     ensures took { TakesOff (I.left input.old) (I.left input.new) }
     ensures honest { StaysHonest control.old.reader.ended (I.left input.old) control.new.reader.ended (I.left input.new) }
 {
+    for rounds in 0..u64::MAX {
+        match run(store, control, 1000, input, out) {
+            End::Paused => {}
+            end => return end,
+        }
+    }
     End::NoMemory
+}
+
+/// One step.
+fn step<I: Source, O: Sink>(
+    store: &mut Store<'_>,
+    control: &mut Control,
+    input: &mut I,
+    out: &mut O,
+) -> End
+    requires { control.old.reader.fault ≡ None }
+    ensures did { (rest' : List ℕ) → IsRest (ahead control.new.reader.ended (I.left input.new)) rest' →
+        (rest : List ℕ) × IsRest (ahead control.old.reader.ended (I.left input.old)) rest
+        × Steps (step (machine (plain_code store.old.code)) always (start (stood_for store.old.core control.old rest))) (seen (O.held out.old) (O.faults out.old) (I.faults input.old)) (seen (O.held out.new) (O.faults out.new) (I.faults input.new)) (stood_for store.new.core control.new rest') result }
+    ensures prints { result ≡ End.WriteFault → AtPrint (plain_code store.old.code) store.old.core }
+    ensures reads { result ≡ End.ReadFault → AtRead (plain_code store.old.code) store.old.core }
+    ensures reads_only { (I.left input.new ≡ I.left input.old) ⊎ AtRead (plain_code store.old.code) store.old.core }
+    ensures code { result ≡ End.Paused → store.new.code ≡ store.old.code }
+    ensures goes_on { result ≡ End.Paused → control.new.reader.fault ≡ None }
+    ensures took { TakesOff (I.left input.old) (I.left input.new) }
+    ensures honest { StaysHonest control.old.reader.ended (I.left input.old) control.new.reader.ended (I.left input.new) }
+{
+    let Some(step) = store.step() else {
+        return End::Stuck;
+    };
+    match &step.what {
+        Instr::Print(count) => print(*count, store, control, out),
+        Instr::Read => read(step.line, store, control, input),
+        what => quiet_step(what, step.line, store, control),
+    }
 }

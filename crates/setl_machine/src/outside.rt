@@ -32,6 +32,7 @@ pub(crate) fn print<O: Sink>(
     requires { store.old.core.now.at + 1 < 2 ^ 64 }
     ensures did { (line : ℕ) (w : World) (n : ℕ) → Steps (next_of (plain_code store.old.code) line (PrintTop count) (in_world w store.old.core)) (seen (O.held out.old) (O.faults out.old) n) (seen (O.held out.new) (O.faults out.new) n) (in_world w store.new.core) result }
     ensures code { result ≡ End.Paused → store.new.code ≡ store.old.code }
+    ensures no_read { result ≡ End.ReadFault → ⊥ }
 {
     let values = match store.pop_values(count as usize) {
         Ok(Some(values)) => values,
@@ -64,6 +65,7 @@ pub(crate) fn read<I: Source>(
         (rest : List ℕ) × IsRest (ahead control.old.reader.ended (I.left input.old)) rest
         × Steps (next_of (plain_code store.old.code) line ReadOne (stood_for store.old.core control.old rest)) (seen held n (I.faults input.old)) (seen held n (I.faults input.new)) (stood_for store.new.core control.new rest') result }
     ensures code { result ≡ End.Paused → store.new.code ≡ store.old.code }
+    ensures no_write { result ≡ End.WriteFault → ⊥ }
     ensures goes_on { result ≡ End.Paused → control.new.reader.fault ≡ None }
     ensures took { TakesOff (I.left input.old) (I.left input.new) }
     ensures honest { StaysHonest control.old.reader.ended (I.left input.old) control.new.reader.ended (I.left input.new) }
