@@ -37,9 +37,8 @@ impl Left {
 
     /// The same for an output as bytes.
     pub fn has(&self, status: Status, out: &[u8], err: &str) -> bool {
-        self.status == status
-            && self.out.as_slice() == out
-            && self.err.as_slice() == err.as_bytes()
+        let told = self.err.as_slice() == err.as_bytes();
+        self.status == status && self.out.as_slice() == out && told
     }
 }
 

@@ -221,7 +221,7 @@ const STATEMENTS: [(&str, &str); 23] = [
         "2\n",
     ),
     (
-        "n := 5; x := f(n, m, 9); print(x, n, m); proc f(rw a, wr b, c); a +:= 1; b := [a, b]; c := 0; return c; end proc;",
+        "n := 5; x := f(n, m, 9); print(x, n, m); proc f(rw a, wr b, rd c); a +:= 1; b := [a, b]; c := 0; return c; end proc;",
         "0 6 [6]\n",
     ),
     (
