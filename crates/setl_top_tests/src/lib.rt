@@ -1,4 +1,5 @@
-//! Tests of the program as one call: sources, words and faults of the outside, and what a call answers and writes then.
+//! Tests of the program as one call: sources, words, inputs and faults of the outside, and what a call answers and writes
+//! then.
 //!
 //! Nothing stands on this crate. Each call is made over an outside in memory, and its answer is compared with worked
 //! rows.
@@ -9,8 +10,16 @@ mod calls;
 #[cfg(test)]
 mod faults;
 #[cfg(test)]
+mod inputs;
+#[cfg(test)]
+mod limits;
+#[cfg(test)]
 mod pieces;
 #[cfg(test)]
 mod programs;
 #[cfg(test)]
 mod refusals;
+#[cfg(test)]
+mod searches;
+#[cfg(test)]
+mod stops;

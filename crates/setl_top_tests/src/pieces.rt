@@ -41,8 +41,9 @@ fn lengths_of(alloc: Global, source: &str) -> Result<Vec<usize>, Memory> {
 
 #[test]
 fn each_print_is_one_piece(rt: HostRuntime) -> Result<(), Fail> {
-    let source = "program p; print(1, {2, 3}); print(); print(100); end program;";
+    let source =
+        "program p; print(1, {2, 3}); print(); (for x in {10, 200}) print(x); end for; fail; end program;";
     let lengths = lengths_of(rt.alloc(), source)?;
-    assert_eq!(rt; lengths.as_slice(), [8, 1, 4].as_slice());
+    assert_eq!(rt; lengths.as_slice(), [8, 1, 3, 4].as_slice());
     Ok(())
 }

@@ -7,35 +7,7 @@ use std::alloc::Global;
 use std::test::Fail;
 
 /// Words, sources that are refused, and the first reason that is told.
-const REFUSED: [(&str, &str, &str); 20] = [
-    ("run a", "program p; print(x); end program;", "not built\n"),
-    (
-        "run a",
-        "program p; x := 1; x with:= 2; end program;",
-        "not built\n",
-    ),
-    (
-        "run a",
-        "program p; x with:= 2; end program;",
-        "not built\n",
-    ),
-    (
-        "run a",
-        "program p; print(x); x := 1; end program;",
-        "not built\n",
-    ),
-    ("run a", "program p; x := -1; end program;", "not built\n"),
-    (
-        "run a",
-        "program p; print('a'); end program;",
-        "not built\n",
-    ),
-    ("run a", "program p; end program p;", "not built\n"),
-    (
-        "run a",
-        "program p; var x; x := 1; end program;",
-        "not built\n",
-    ),
+const REFUSED: [(&str, &str, &str); 14] = [
     ("run a", "program p; end program", "at 22: syntax\n"),
     ("run a", "program p; end program; x", "at 24: syntax\n"),
     ("run a", "program print; end program;", "at 8: syntax\n"),
@@ -52,12 +24,12 @@ const REFUSED: [(&str, &str, &str); 20] = [
         "at 0: wide number\n",
     ),
     (
-        "check a",
+        "run a",
         "program p; print({3,1,2,1}, [1,om,2], 'it''s');",
         "at 47: syntax\n",
     ),
     (
-        "check a",
+        "run a",
         "program p; print('it''s); end program;",
         "at 17: open string\n",
     ),
@@ -67,13 +39,23 @@ const REFUSED: [(&str, &str, &str); 20] = [
         "at 22: syntax\n",
     ),
     (
-        "check a",
-        "program p;\nquit;\nend program;",
+        "run a",
+        "program p; print(1);\nquit;\nend program;",
+        "line 2: rule 13\n",
+    ),
+    (
+        "run a",
+        "program p; repr base b; end repr;\nquit;\nend program;",
         "line 2: rule 13\n",
     ),
     (
         "check a",
         "program p;\nrepr base n: int; s: sparse set(elmt n); end repr;\ns := {1}; print(s);\ns with:= 'a'; print(s);\nend program;",
+        "not built\n",
+    ),
+    (
+        "run a",
+        "program p; repr base b; end repr; print(1); end program;",
         "not built\n",
     ),
 ];
@@ -198,12 +180,13 @@ fn each_rule_is_told_and_a_neighbour_keeps_it(rt: HostRuntime) -> Result<(), Fai
 }
 
 /// Words of no plain form.
-const OTHER_WORDS: [&str; 9] = [
+const OTHER_WORDS: [&str; 10] = [
     "",
     "run",
     "check",
     "run x y",
     "check x y",
+    "run --turns 07 x",
     "run -x",
     "check -x",
     "checks a",
