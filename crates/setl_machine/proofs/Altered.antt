@@ -1,8 +1,9 @@
 -- Updates of variables.
 use Rattle.std.proofs.Common.{◌≡◌, ◌∙◌, ◌⊎◌, inl, inr, ◌++◌, append_assoc, ℕ, zero, suc, ◌-◌, ◌≤◌, Bool, true, false, List, [], ◌∷◌, length, map, Option, Some, None, Result, Ok, Err, refl, sym, ap, subst, arith}
-use Rattle.std.specs.Prelude.{cond, OnErr}
-use Rattle.std.proofs.lemmas.List.{map-append}
-use Rattle.std.specs.Option.{option_map}
+use Rattle.std.specs.Prelude.{cond, IfOk, OnErr}
+use Rattle.std.proofs.lemmas.List.{map-append, length-map}
+use Rattle.std.proofs.lemmas.Result.{IfOk-weaker}
+use Rattle.std.specs.Option.{option_map, unwrap_or}
 use Rattle.setl_value.specs.Datum.{Datum}
 use Rattle.setl_value.specs.DatumOf.{part}
 use Rattle.setl_value.specs.declared.Value.{Value}
@@ -15,23 +16,30 @@ use Rattle.setl_run.specs.Events.{Stuck}
 use Rattle.setl_run.specs.Variable.{Variable, Global, Own, Bound, is_variable}
 use Rattle.setl_run.specs.VariableLaws.{variable_itself}
 use Rattle.setl_model.specs.Core.{Selected, Round, Brace}
+use Rattle.setl_model.specs.Places.{Taken, TakesOut, IsEmpty, CannotTake, part_at_all, with_part_at_all, take_out}
+use Rattle.setl_model.specs.World.{World}
+use Rattle.setl_program.specs.declared.kinds.Taking.{Taking}
+use Rattle.setl_code.specs.declared.code.Alteration as declared
 use Rattle.setl_code.specs.declared.code.Bracket.{Bracket}
 use Rattle.setl_code.specs.declared.code.Bracket.TheVariants as bracket
 use Rattle.setl_code.specs.declared.code.Slot.{Slot}
+use Rattle.setl_code.specs.declared.code.Slot.TheVariants as slot
 use Rattle.setl_code.specs.Code as plain
-use Rattle.setl_code.specs.Code.{Code}
-use Rattle.setl_code.specs.Plain.{plain_code, plain_slot, plain_bracket}
+use Rattle.setl_code.specs.Code.{Alteration, TakingOut, Code, Alter}
+use Rattle.setl_code.specs.Plain.{plain_code, plain_slot, plain_bracket, plain_alteration}
 use Rattle.setl_code.specs.MayRun.{HasSlot}
-use Rattle.setl_code.specs.CodeCore.{Held, There, Gone, Cells, held, with_held, write, Operand, value_of, CodeCore}
-use Rattle.setl_code.specs.Machine.{machine, on_top, on_held, with_outcome, store_in, store_whole, selected_by}
+use Rattle.setl_code.specs.CodeCore.{Held, There, Gone, Cells, held, with_held, write, Operand, Result as Holds, value_of, Pops, popped, CodeCore}
+use Rattle.setl_code.specs.Machine.{machine, next, on_value, on_top, on_popped, on_held, with_outcome, store_in, store_whole, take_from, alter, selected_by}
 use Rattle.setl_store.specs.Standing.{Standing, over, at_place, top_of, variables}
 use Rattle.setl_update.specs.Selectors.{selected}
-use Rattle.setl_update.specs.Updates.{Updates}
+use Rattle.setl_update.specs.Takes.{TakesPart, TakesFrom, Takes}
+use Rattle.setl_update.specs.Updates.{Leaves, Updates}
 use Rattle.setl_update.specs.declared.selectors.Selector.{Selector}
-use Rattle.setl_machine.specs.Altered.{TakesHeld, EndsUpdate}
+use Rattle.setl_update.specs.declared.taking.TakenOut.{TakenOut}
+use Rattle.setl_machine.specs.Altered.{Alters, TakesHeld, EndsUpdate}
 use Rattle.setl_machine.specs.Control.{ControlState, world_of, in_world, stood_for}
-use Rattle.setl_machine.specs.Outcome.{always, start, Quiet}
-use Rattle.setl_machine.specs.Working.{PopsTop, EndsBy, Halted}
+use Rattle.setl_machine.specs.Outcome.{always, start, IsLikely, Quiet}
+use Rattle.setl_machine.specs.Working.{Does, PopsTop, EndsBy, Halted}
 use Rattle.setl_machine.specs.declared.end.End.{End}
 use Rattle.setl_machine.specs.declared.end.End.TheVariants as end
 use Rattle.setl_machine.proofs.Working.{halted_quiet, likely_over}
@@ -89,3 +97,308 @@ variables_alike : (x : Variable) (h h' : Held) (k : CodeCore) → variables (wri
 variables_alike (Global name) h h' k = λ i. record { global = names_alike k.globals (Global name) h h' i; own = map (λ c. c.0) k.now.own }
 variables_alike (Own body name) h h' k = λ i. record { global = map (λ c. c.0) k.globals; own = names_alike k.now.own (Own body name) h h' i }
 variables_alike (Bound former name) h h' k = λ i. record { global = map (λ c. c.0) k.globals; own = names_alike k.now.own (Bound former name) h h' i }
+
+pub variables_kept : (x : Variable) (h h' : Held) (k : CodeCore) → write x h k ≡ k → variables (write x h' k) ≡ variables k
+variables_kept x h h' k again = variables_alike x h' h k ∙ ap variables again
+
+at_written : (x : Variable) (h : Held) (k : CodeCore) → (write x h k).now.at ≡ k.now.at
+at_written (Global name) h k = refl
+at_written (Own body name) h k = refl
+at_written (Bound former name) h k = refl
+
+over_written : (x : Variable) (h : Held) (xs : List Operand) (k : CodeCore) → over xs (write x h k) ≡ write x h (over xs k)
+over_written (Global name) h xs k = refl
+over_written (Own body name) h xs k = refl
+over_written (Bound former name) h xs k = refl
+
+written_in_world : (x : Variable) (h : Held) (w : World) (k : CodeCore) → write x h (in_world w k) ≡ in_world w (write x h k)
+written_in_world (Global name) h w k = refl
+written_in_world (Own body name) h w k = refl
+written_in_world (Bound former name) h w k = refl
+
+held_in_world : (x : Variable) (w : World) (xs : List Operand) (k : CodeCore) → held x (in_world w (over xs k)) ≡ held x k
+held_in_world (Global name) w xs k = refl
+held_in_world (Own body name) w xs k = refl
+held_in_world (Bound former name) w xs k = refl
+
+-- the slot is there where the variables are the same
+has_same : (k k' : CodeCore) (x : Slot) → variables k' ≡ variables k → HasSlot (length k.globals) (length k.now.own) x → HasSlot (length k'.globals) (length k'.now.own) x
+has_same k k' (slot.Global n) e h = let m = ap (λ vs. length vs.global) e in omega (arith, h, m, length-map k.globals (λ c. c.0), length-map k'.globals (λ c. c.0))
+has_same k k' (slot.Own n) e h = let m = ap (λ vs. length vs.own) e in omega (arith, h, m, length-map k.now.own (λ c. c.0), length-map k'.now.own (λ c. c.0))
+
+-- ---- a value in hand
+
+-- A store whose variable's value is in hand, beside the same store with the value in its slot and these operands.
+pub record InHand (old : Standing) (slot : Slot) (xs : List Operand) (v : Option Datum) (gone : Standing) : Type 0 where
+  pub was : held (plain_slot (variables old.core) slot) old.core ≡ There v
+  pub again : write (plain_slot (variables old.core) slot) (There v) (over xs old.core) ≡ over xs old.core
+  pub is : gone ≡ record old { core = write (plain_slot (variables old.core) slot) Gone (over xs old.core) }
+
+abbrev pub Has : Standing → Slot → Type 0
+Has s x = HasSlot (length s.core.globals) (length s.core.now.own) x
+
+same_variables : (old : Standing) (x : Slot) (xs : List Operand) (v : Option Datum) (gone : Standing) → InHand old x xs v gone → variables gone.core ≡ variables old.core
+same_variables old x xs v gone h = ap (λ (s : Standing). variables s.core) h.is ∙ variables_kept (plain_slot (variables old.core) x) (There v) Gone (over xs old.core) h.again
+
+pub still_there : (old : Standing) (x : Slot) (xs : List Operand) (v : Option Datum) (gone : Standing) → InHand old x xs v gone → Has old x → Has gone x
+still_there old x xs v gone h has = has_same old.core gone.core x (same_variables old x xs v gone h) has
+
+pub taken_held : (old mid : Standing) (x : Slot) (w : Option Value) (gone : Standing) → mid ≡ record old { core = over mid.core.now.operands old.core } → TakesHeld (plain_slot (variables mid.core) x) mid (Some w) gone → InHand old x mid.core.now.operands (part w) gone
+taken_held old mid x w gone m h =
+    let xs = mid.core.now.operands in
+    let y = plain_slot (variables old.core) x in
+    let there : TakesHeld y (record old { core = over xs old.core }) (Some w) gone = subst (λ (s : Standing). TakesHeld (plain_slot (variables s.core) x) s (Some w) gone) m h in
+    record { was = sym (held_in_world y old.core.world xs old.core) ∙ there.0; again = there.1; is = there.2 }
+
+pub pushed : (old : Standing) (x : Slot) (xs ys : List Operand) (v : Option Datum) (gone new : Standing) → InHand old x xs v gone → new ≡ record gone { core = over ys gone.core } → InHand old x ys v new
+pushed old x xs ys v gone new h n =
+    let y = plain_slot (variables old.core) x in record {
+      was = h.was;
+      again = sym (over_written y (There v) ys (over xs old.core)) ∙ ap (over ys) h.again;
+      is = n ∙ ap (λ (s : Standing). record s { core = over ys s.core }) h.is ∙ ap (λ k. record old { core = k }) (over_written y Gone ys (over xs old.core));
+    }
+
+-- ---- the end of an update
+
+-- the new whole is stored, and so many turns are left
+goes_stored : (c : Code) (line : ℕ) (x : Variable) (v : Option Datum) (xs : List Operand) (k d to : CodeCore) → to ≡ at_place (suc d.now.at) (write x (There v) (over xs d)) → Quiet (settle (machine c) always (start k) (store_in x line v xs d)) to end.Paused
+goes_stored c line (Global name) v xs k d to e = (sym e, refl)
+goes_stored c line (Own body name) v xs k d to e = (sym e, refl)
+goes_stored c line (Bound former name) v xs k d to e = (sym e, refl)
+
+stored_again : (old : Standing) (x : Slot) (xs : List Operand) (w v : Option Datum) (gone : Standing) → InHand old x xs w gone → write (plain_slot (variables gone.core) x) (There v) gone.core ≡ write (plain_slot (variables old.core) x) (There v) (over xs old.core)
+stored_again old x xs w v gone h =
+    let y = plain_slot (variables old.core) x in
+    ap (λ vs. write (plain_slot vs x) (There v) gone.core) (same_variables old x xs w gone h)
+    ∙ ap (λ (s : Standing). write y (There v) s.core) h.is
+    ∙ written_twice y Gone (There v) (over xs old.core)
+
+place_of : (old : Standing) (x : Slot) (xs : List Operand) (w : Option Datum) (gone : Standing) → InHand old x xs w gone → gone.core.now.at ≡ old.core.now.at
+place_of old x xs w gone h = ap (λ (s : Standing). s.core.now.at) h.is ∙ at_written (plain_slot (variables old.core) x) Gone (over xs old.core)
+
+-- where an update that left so many turns comes to
+ended_at : (old : Standing) (slot : Slot) (xs : List Operand) (w v : Option Datum) (gone new : Standing) (from to : ControlState) (line left : ℕ) (e : End) (rest : List ℕ) → InHand old slot xs w gone → EndsUpdate (Ok left) line (plain_slot (variables gone.core) slot) v gone from new to e → left ≤ from.turns →
+    stood_for new.core to rest ≡ in_world (record (world_of from rest) { left = left }) (at_place (suc old.core.now.at) (write (plain_slot (variables old.core) slot) (There v) (over xs old.core)))
+ended_at old slot xs w v gone new from to line left e rest h f few =
+    let turns : from.turns - (from.turns - left) ≡ left = omega (arith, few) in
+    ap (λ t. stood_for new.core t rest) (f.2 ∙ ap (λ n. record from { turns = n }) turns)
+    ∙ ap (in_world (record (world_of from rest) { left = left })) (ap (λ (s : Standing). s.core) f.1 ∙ (λ i. at_place (suc (place_of old slot xs w gone h i)) (stored_again old slot xs w v gone h i)))
+
+update_goes : (old : Standing) (slot : Slot) (xs before : List Operand) (w v : Option Datum) (gone new : Standing) (from to : ControlState) (line left : ℕ) (e : End) (k : CodeCore) (rest : List ℕ) → InHand old slot xs w gone → EndsUpdate (Ok left) line (plain_slot (variables gone.core) slot) v gone from new to e → left ≤ from.turns →
+    Quiet (settle (machine (plain_code old.code)) always (start k) (store_in (plain_slot (variables old.core) slot) line v xs (in_world (record (world_of from rest) { left = left }) (over before old.core)))) (stood_for new.core to rest) e
+update_goes old slot xs before w v gone new from to line left e k rest h f few =
+    let c = plain_code old.code in
+    let x = plain_slot (variables old.core) slot in
+    let world = record (world_of from rest) { left = left } in
+    let d = in_world world (over before old.core) in
+    let there = ended_at old slot xs w v gone new from to line left e rest h f few ∙ ap (at_place (suc old.core.now.at)) (sym (written_in_world x (There v) world (over xs old.core))) in
+    subst (λ a. Quiet (settle (machine c) always (start k) (store_in x line v xs d)) (stood_for new.core to rest) a) (sym f.0) (goes_stored c line x v xs k d (stood_for new.core to rest) there)
+
+-- where the variable holds what it held, nothing need be stored
+update_skips : (old : Standing) (slot : Slot) (xs before : List Operand) (w : Option Datum) (gone new : Standing) (from to : ControlState) (line left : ℕ) (e : End) (k : CodeCore) (rest : List ℕ) → InHand old slot xs w gone → EndsUpdate (Ok left) line (plain_slot (variables gone.core) slot) w gone from new to e → left ≤ from.turns →
+    Quiet (settle (machine (plain_code old.code)) always (start k) (next xs (in_world (record (world_of from rest) { left = left }) (over before old.core)))) (stood_for new.core to rest) e
+update_skips old slot xs before w gone new from to line left e k rest h f few =
+    let c = plain_code old.code in
+    let world = record (world_of from rest) { left = left } in
+    let there = ended_at old slot xs w w gone new from to line left e rest h f few ∙ ap (λ d. in_world world (at_place (suc old.core.now.at) d)) h.again in
+    subst (λ a. Quiet (settle (machine c) always (start k) (next xs (in_world world (over before old.core)))) (stood_for new.core to rest) a) (sym f.0) (sym there, refl)
+
+-- a fault leaves the variable as it was
+pub update_stops : (old : Standing) (slot : Slot) (xs before : List Operand) (w : Option Datum) (gone new : Standing) (from to : ControlState) (line : ℕ) (f : OpFault) (e : End) (rest : List ℕ) (m : Move CodeCore) → InHand old slot xs w gone → EndsUpdate (Err f) line (plain_slot (variables gone.core) slot) w gone from new to e → Halted m e →
+    Quiet (settle (machine (plain_code old.code)) always (start (stood_for (over before old.core) from rest)) m) (stood_for new.core to rest) e
+update_stops old slot xs before w gone new from to line f e rest m h g halts =
+    let c = plain_code old.code in
+    let k = stood_for (over before old.core) from rest in
+    let core : new.core ≡ over xs old.core = ap (λ (s : Standing). s.core) g.1 ∙ stored_again old slot xs w w gone h ∙ h.again in
+    let there : stood_for new.core to rest ≡ stood_for (over xs old.core) from rest = λ i. stood_for (core i) (g.2 i) rest in
+    halted_quiet c k (stood_for new.core to rest) m e (subst (λ d. IsLikely k d) (sym there) (likely_over (world_of from rest) (over before old.core) xs)) halts
+
+-- a fault that is told ends the run so
+pub halts_by : (f : OpFault) (o : Outcome) (line : ℕ) (k : CodeCore) (then_does : Option Datum → CodeCore → Move CodeCore) (e : End) → Tells (Err f) o → EndsBy f line e → Halted (with_outcome o line k then_does) e
+halts_by fault.Kind o line k then_does e t h = rw (t, h) refl
+halts_by fault.Om o line k then_does e t h = rw (t, h) refl
+halts_by fault.Wide o line k then_does e t h = rw (t, h) refl
+halts_by fault.Zero o line k then_does e t h = rw (t, h) refl
+halts_by fault.Range o line k then_does e t h = rw (t, h) refl
+halts_by fault.Deep o line k then_does e t h = rw (t, h) refl
+halts_by fault.Spent o line k then_does e t h = rw (t, h) refl
+halts_by fault.NoMemory o line k then_does e t h = absurd h
+
+-- ---- putting and combining
+
+parts_refused : (r : Result ℕ OpFault) (w' w : Option Value) → OnErr r (w' ≡ w) → OnErr r (part w' ≡ part w)
+parts_refused (Ok left) w' w h = h
+parts_refused (Err f) w' w h = ap part h
+
+update_ends : (old : Standing) (slot : Slot) (xs before : List Operand) (w v : Option Datum) (gone new : Standing) (from to : ControlState) (line : ℕ) (o : Outcome) (r : Result ℕ OpFault) (e : End) (rest : List ℕ) →
+    InHand old slot xs w gone → Updates o from.turns v r → OnErr r (v ≡ w) → EndsUpdate r line (plain_slot (variables gone.core) slot) v gone from new to e →
+    Quiet (settle (machine (plain_code old.code)) always (start (stood_for (over before old.core) from rest)) (store_whole o line (plain_slot (variables old.core) slot) xs (stood_for (over before old.core) from rest))) (stood_for new.core to rest) e
+update_ends old slot xs before w v gone new from to line (Gives z n) (Ok left) e rest h u refused f =
+    let few : left ≤ from.turns = omega (arith, u.1) in
+    let k = stood_for (over before old.core) from rest in
+    let x = plain_slot (variables old.core) slot in
+    subst (λ y. Quiet (settle (machine (plain_code old.code)) always (start k) (store_in x line y xs (in_world (record (world_of from rest) { left = from.turns - n }) (over before old.core)))) (stood_for new.core to rest) e) (sym u.0)
+    (subst (λ m. Quiet (settle (machine (plain_code old.code)) always (start k) (store_in x line v xs (in_world (record (world_of from rest) { left = m }) (over before old.core)))) (stood_for new.core to rest) e) u.1
+    (update_goes old slot xs before w v gone new from to line left e k rest h f few))
+update_ends old slot xs before w v gone new from to line (Fails g) (Ok left) e rest h u refused f = absurd u
+update_ends old slot xs before w v gone new from to line Overspends (Ok left) e rest h u refused f = absurd u
+update_ends old slot xs before w v gone new from to line o (Err g) e rest h u refused f =
+    let k = stood_for (over before old.core) from rest in
+    let x = plain_slot (variables old.core) slot in
+    let same : EndsUpdate (Err g) line (plain_slot (variables gone.core) slot) w gone from new to e = subst (λ y. EndsUpdate (Err g) line (plain_slot (variables gone.core) slot) y gone from new to e) refused f in
+    update_stops old slot xs before w gone new from to line g e rest (store_whole o line x xs k) h same (halts_by g o line k (λ y d. store_in x line y xs d) e u f.0)
+
+code_kept : (old : Standing) (slot : Slot) (xs : List Operand) (w v : Option Datum) (gone new : Standing) (from to : ControlState) (line : ℕ) (r : Result ℕ OpFault) (e : End) → InHand old slot xs w gone → EndsUpdate r line (plain_slot (variables gone.core) slot) v gone from new to e → new.code ≡ old.code
+code_kept old slot xs w v gone new from to line (Ok left) e h f = ap (λ s. s.code) f.1 ∙ ap (λ s. s.code) h.is
+code_kept old slot xs w v gone new from to line (Err g) e h f = ap (λ s. s.code) f.1 ∙ ap (λ s. s.code) h.is
+
+on_top_of : (xs ys : List Operand) (v : Option Datum) (f : Option Datum → List Operand → Move CodeCore) → top_of xs ≡ Some (v, ys) → on_top xs f ≡ f v ys
+on_top_of [] ys v f h = absurd (cc)
+on_top_of (o ∷ xs) ys v f h = go (value_of o) h
+  where
+    go : (u : Option (Option Datum)) → option_map {U = Option Datum × List Operand} (λ v. (v, xs)) u ≡ Some (v, ys) → on_value u (λ v. f v xs) ≡ f v ys
+    go None h = absurd (cc)
+    go (Some u) h = let here : Option Datum × List Operand = (u, xs) in let same = ap (λ o. unwrap_or o here) h in λ i. f (same i).0 (same i).1
+
+-- the whole becomes what an outcome gives, by the value on top
+pub changed : (old mid gone new : Standing) (from to : ControlState) (line : ℕ) (slot : Slot) (outcome : Option Datum → Option Datum → ℕ → Outcome) (v w w' : Option Value) (r : Result ℕ OpFault) (e : End) →
+    PopsTop old (Some v) mid → TakesHeld (plain_slot (variables mid.core) slot) mid (Some w) gone → Updates (outcome (part w) (part v) from.turns) from.turns (part w') r → OnErr r (w' ≡ w) → EndsUpdate r line (plain_slot (variables gone.core) slot) (part w') gone from new to e →
+    (new.code ≡ old.code)
+    × ((before : List Operand) (rest : List ℕ) →
+    let k = stood_for (over before old.core) from rest in
+    Quiet (settle (machine (plain_code old.code)) always (start k) (on_held (held (plain_slot (variables old.core) slot) k) (λ whole. on_top old.core.now.operands (λ u xs. store_whole (outcome whole u k.world.left) line (plain_slot (variables old.core) slot) xs k)))) (stood_for new.core to rest) e)
+changed old mid gone new from to line slot outcome v w w' r e pops takes u refused f =
+    let xs = mid.core.now.operands in
+    let x = plain_slot (variables old.core) slot in
+    let h : InHand old slot xs (part w) gone = taken_held old mid slot w gone pops.1 takes in
+    (code_kept old slot xs (part w) (part w') gone new from to line r e h f, λ before rest.
+    let k = stood_for (over before old.core) from rest in
+    let P : Move CodeCore → Type 0 = λ move. Quiet (settle (machine (plain_code old.code)) always (start k) move) (stood_for new.core to rest) e in
+    let f_of : Option Datum → Move CodeCore = λ whole. on_top old.core.now.operands (λ u xs. store_whole (outcome whole u k.world.left) line x xs k) in
+    subst (λ a. P (on_held a f_of)) (sym (held_in_world x (world_of from rest) before old.core ∙ h.was))
+    (subst P (sym (on_top_of old.core.now.operands xs (part v) (λ u xs. store_whole (outcome (part w) u k.world.left) line x xs k) pops.0))
+    (update_ends old slot xs before (part w) (part w') gone new from to line (outcome (part w) (part v) from.turns) r e rest h u (parts_refused r w' w refused) f)))
+
+-- ---- taking out
+
+operands_written : (x : Variable) (h : Held) (k : CodeCore) → (write x h k).now.operands ≡ k.now.operands
+operands_written (Global name) h k = refl
+operands_written (Own body name) h k = refl
+operands_written (Bound former name) h k = refl
+
+-- what was taken out is pushed
+pub taken_pushed : (old : Standing) (slot : Slot) (w u : Option Value) (gone put : Standing) → TakesHeld (plain_slot (variables old.core) slot) old (Some w) gone → put ≡ record gone { core = over (Holds (part u) ∷ gone.core.now.operands) gone.core } → InHand old slot (Holds (part u) ∷ old.core.now.operands) (part w) put
+taken_pushed old slot w u gone put h n =
+    let x = plain_slot (variables old.core) slot in
+    let xs = old.core.now.operands in
+    let same : gone.core.now.operands ≡ xs = ap (λ (s : Standing). s.core.now.operands) h.2 ∙ operands_written x Gone old.core in
+    pushed old slot xs (Holds (part u) ∷ xs) (part w) gone put (taken_held old old slot w gone refl h) (n ∙ ap (λ ys. record gone { core = over (Holds (part u) ∷ ys) gone.core }) same)
+
+-- what is left over is stored, or nothing is
+taking_goes : (old : Standing) (slot : Slot) (before : List Operand) (w w' : Option Datum) (put new : Standing) (from to : ControlState) (line turns : ℕ) (at : List Selected) (taken : Taken) (t : TakenOut) (e : End) (k : CodeCore) (rest : List ℕ) →
+    InHand old slot (Holds (part t.value) ∷ old.core.now.operands) w put → turns ≤ from.turns → TakesPart taken at w turns w' (Ok t) → EndsUpdate (Ok t.left) line (plain_slot (variables put.core) slot) w' put from new to e →
+    Quiet (settle (machine (plain_code old.code)) always (start k) (take_from taken line (plain_slot (variables old.core) slot) w at old.core.now.operands (in_world (record (world_of from rest) { left = turns }) (over before old.core)))) (stood_for new.core to rest) e
+taking_goes old slot before w w' put new from to line turns at (TakesOut small v) t e k rest h few told f = go (with_part_at_all at w (Some small) turns) told.2
+  where
+    x : Variable
+    x = plain_slot (variables old.core) slot
+
+    d : CodeCore
+    d = in_world (record (world_of from rest) { left = turns }) (over before old.core)
+
+    go : (o : Outcome) → Leaves o turns w' t.left → Quiet (settle (machine (plain_code old.code)) always (start k) (store_whole o line x (Holds v ∷ old.core.now.operands) d)) (stood_for new.core to rest) e
+    go (Gives z n) u =
+        let left_few : t.left ≤ from.turns = omega (arith, u.1, few) in
+        let P : Option Datum → Option Datum → ℕ → Type 0 = λ y v m. Quiet (settle (machine (plain_code old.code)) always (start k) (store_in x line y (Holds v ∷ old.core.now.operands) (in_world (record (world_of from rest) { left = m }) (over before old.core)))) (stood_for new.core to rest) e in
+        subst (λ y. P y v (turns - n)) (sym u.0) (subst (λ b. P w' b (turns - n)) told.1 (subst (P w' (part t.value)) u.1
+        (update_goes old slot (Holds (part t.value) ∷ old.core.now.operands) before w w' put new from to line t.left e k rest h f left_few)))
+    go (Fails g) u = absurd u
+    go Overspends u = absurd u
+taking_goes old slot before w w' put new from to line turns at IsEmpty t e k rest h few told f =
+    let x = plain_slot (variables old.core) slot in
+    let left_few : t.left ≤ from.turns = omega (arith, told.3, few) in
+    let nothing : part t.value ≡ None = ap part told.1 in
+    let P : Option Datum → ℕ → Type 0 = λ v m. Quiet (settle (machine (plain_code old.code)) always (start k) (next (Holds v ∷ old.core.now.operands) (in_world (record (world_of from rest) { left = m }) (over before old.core)))) (stood_for new.core to rest) e in
+    subst (λ v. P v turns) nothing (subst (P (part t.value)) told.3
+    (update_skips old slot (Holds (part t.value) ∷ old.core.now.operands) before w put new from to line t.left e k rest h (subst (λ y. EndsUpdate (Ok t.left) line (plain_slot (variables put.core) slot) y put from new to e) told.2 f) left_few))
+taking_goes old slot before w w' put new from to line turns at (CannotTake g) t e k rest h few told f = absurd told
+
+-- the part that a move takes a value out of
+abbrev taking : Outcome → Taking → ℕ → Variable → Option Datum → List Selected → List Operand → CodeCore → Move CodeCore
+taking o end line x whole at xs k = with_outcome o line k (λ p d. take_from (take_out end p) line x whole at xs d)
+
+reading_goes : (old : Standing) (slot : Slot) (before : List Operand) (w w' : Option Datum) (put new : Standing) (from to : ControlState) (line : ℕ) (at : List Selected) (end : Taking) (o : Outcome) (t : TakenOut) (e : End) (rest : List ℕ) →
+    InHand old slot (Holds (part t.value) ∷ old.core.now.operands) w put → TakesFrom o end at w from.turns w' (Ok t) → EndsUpdate (Ok t.left) line (plain_slot (variables put.core) slot) w' put from new to e →
+    Quiet (settle (machine (plain_code old.code)) always (start (stood_for (over before old.core) from rest)) (taking o end line (plain_slot (variables old.core) slot) w at old.core.now.operands (stood_for (over before old.core) from rest))) (stood_for new.core to rest) e
+reading_goes old slot before w w' put new from to line at end (Gives p n) t e rest h told f =
+    taking_goes old slot before w w' put new from to line (from.turns - n) at (take_out end p) t e (stood_for (over before old.core) from rest) rest h (omega arith) told f
+reading_goes old slot before w w' put new from to line at end (Fails g) t e rest h told f = absurd told
+reading_goes old slot before w w' put new from to line at end Overspends t e rest h told f = absurd told
+
+taking_halts : (taken : Taken) (line : ℕ) (x : Variable) (w w' : Option Datum) (at : List Selected) (xs : List Operand) (k : CodeCore) (f : OpFault) (e : End) → TakesPart taken at w k.world.left w' (Err f) → EndsBy f line e → Halted (take_from taken line x w at xs k) e
+taking_halts (TakesOut small v) line x w w' at xs k f e told b = halts_by f (with_part_at_all at w (Some small) k.world.left) line k (λ y d. store_in x line y (Holds v ∷ xs) d) e told b
+taking_halts IsEmpty line x w w' at xs k f e told b = absurd (subst (λ g. EndsBy g line e) told b)
+taking_halts (CannotTake g) line x w w' at xs k f e told b = halts_by f (Fails g) line k (λ y d. next xs d) e told b
+
+reading_halts : (o : Outcome) (end : Taking) (line : ℕ) (x : Variable) (w w' : Option Datum) (at : List Selected) (xs : List Operand) (k : CodeCore) (f : OpFault) (e : End) → TakesFrom o end at w k.world.left w' (Err f) → EndsBy f line e → Halted (taking o end line x w at xs k) e
+reading_halts (Gives p n) end line x w w' at xs k f e told b = taking_halts (take_out end p) line x w w' at xs (record k { world = record k.world { left = k.world.left - n } }) f e told b
+reading_halts (Fails g) end line x w w' at xs k f e told b = halts_by f (Fails g) line k (λ y d. next xs d) e told b
+reading_halts Overspends end line x w w' at xs k f e told b = halts_by f Overspends line k (λ y d. next xs d) e told b
+
+pub took_out : (old gone put new : Standing) (from to : ControlState) (line : ℕ) (slot : Slot) (at : List Selected) (end : Taking) (w w' : Option Value) (t : TakenOut) (e : End) →
+    TakesHeld (plain_slot (variables old.core) slot) old (Some w) gone → Takes end at (part w) from.turns (part w') (Ok t) → put ≡ record gone { core = over (Holds (part t.value) ∷ gone.core.now.operands) gone.core } → EndsUpdate (Ok t.left) line (plain_slot (variables put.core) slot) (part w') put from new to e →
+    Alters old from line (TakingOut end) (plain_slot (variables old.core) slot) at new to e
+took_out old gone put new from to line slot at end w w' t e takes told n f =
+    let xs = Holds (part t.value) ∷ old.core.now.operands in
+    let x = plain_slot (variables old.core) slot in
+    let h : InHand old slot xs (part w) put = taken_pushed old slot w t.value gone put takes n in
+    (code_kept old slot xs (part w) (part w') put new from to line (Ok t.left) e h f, λ before rest.
+    let k = stood_for (over before old.core) from rest in
+    subst (λ a. Quiet (settle (machine (plain_code old.code)) always (start k) (on_held a (λ whole. taking (part_at_all at whole from.turns) end line x whole at old.core.now.operands k))) (stood_for new.core to rest) e) (sym (held_in_world x (world_of from rest) before old.core ∙ h.was))
+    (reading_goes old slot before (part w) (part w') put new from to line at end (part_at_all at (part w) from.turns) t e rest h told f))
+
+pub takes_not : (old gone new : Standing) (from to : ControlState) (line : ℕ) (slot : Slot) (at : List Selected) (end : Taking) (w w' : Option Value) (g : OpFault) (e : End) →
+    TakesHeld (plain_slot (variables old.core) slot) old (Some w) gone → Takes end at (part w) from.turns (part w') (Err g) → w' ≡ w → EndsUpdate (Err g) line (plain_slot (variables gone.core) slot) (part w') gone from new to e →
+    Alters old from line (TakingOut end) (plain_slot (variables old.core) slot) at new to e
+takes_not old gone new from to line slot at end w w' g e takes told refused f =
+    let xs = old.core.now.operands in
+    let x = plain_slot (variables old.core) slot in
+    let h : InHand old slot xs (part w) gone = taken_held old old slot w gone refl takes in
+    let same : EndsUpdate (Err g) line (plain_slot (variables gone.core) slot) (part w) gone from new to e = subst (λ y. EndsUpdate (Err g) line (plain_slot (variables gone.core) slot) (part y) gone from new to e) refused f in
+    (code_kept old slot xs (part w) (part w') gone new from to line (Err g) e h f, λ before rest.
+    let k = stood_for (over before old.core) from rest in
+    subst (λ a. Quiet (settle (machine (plain_code old.code)) always (start k) (on_held a (λ whole. taking (part_at_all at whole from.turns) end line x whole at xs k))) (stood_for new.core to rest) e) (sym (held_in_world x (world_of from rest) before old.core ∙ h.was))
+    (update_stops old slot xs before (part w) gone new from to line g e rest (taking (part_at_all at (part w) from.turns) end line x (part w) at xs k) h same (reading_halts (part_at_all at (part w) from.turns) end line x (part w) (part w') at xs k g e told f.0)))
+
+-- ---- the whole instruction
+
+altered : (old mid new : Standing) (from to : ControlState) (line : ℕ) (what : Alteration) (slot : Slot) (bs : List Bracket) (vs : List (Option Datum)) (e : End) →
+    popped (length bs) [] old.core.now.operands ≡ Pops vs mid.core.now.operands → mid ≡ record old { core = over mid.core.now.operands old.core } → Alters mid from line what (plain_slot (variables mid.core) slot) (selected_by (map plain_bracket bs) vs) new to e →
+    Does old from line (Alter what (plain_slot (variables old.core) slot) (map plain_bracket bs)) new to e
+altered old mid new from to line what slot bs vs e p m a =
+    let xs = mid.core.now.operands in
+    let x = plain_slot (variables old.core) slot in
+    let at = selected_by (map plain_bracket bs) vs in
+    let b : Alters (record old { core = over xs old.core }) from line what x at new to e = subst (λ (t : Standing). Alters t from line what (plain_slot (variables t.core) slot) at new to e) m a in
+    (b.0, λ rest.
+    let k = stood_for old.core from rest in
+    subst (λ q. Quiet (settle (machine (plain_code old.code)) always (start k) (on_popped q (λ us ys. on_held (held x k) (λ whole. alter what line x whole (selected_by (map plain_bracket bs) us) ys k)))) (stood_for new.core to rest) e) (sym (ap (λ j. popped j [] old.core.now.operands) (length-map bs plain_bracket) ∙ p))
+    (b.1 old.core.now.operands rest))
+
+-- the same of a call that may want memory
+pub altered_by : {E : Type 0} (old mid new : Standing) (from to : ControlState) (line : ℕ) (declared : declared.Alteration) (what : Alteration) (slot : Slot) (bs : List Bracket) (vs : List (Option Datum)) (at : List Selected) (r : Result End E) →
+    popped (length bs) [] old.core.now.operands ≡ Pops vs mid.core.now.operands → mid ≡ record old { core = over mid.core.now.operands old.core } → at ≡ selected_by (map plain_bracket bs) vs → plain_alteration declared ≡ what → IfOk r (λ e. Alters mid from line what (plain_slot (variables mid.core) slot) at new to e) →
+    IfOk r (λ e. Does old from line (Alter (plain_alteration declared) (plain_slot (variables old.core) slot) (map plain_bracket bs)) new to e)
+altered_by old mid new from to line declared what slot bs vs at r p m s is h =
+    IfOk-weaker r (λ e. Alters mid from line what (plain_slot (variables mid.core) slot) at new to e) (λ e. Does old from line (Alter (plain_alteration declared) (plain_slot (variables old.core) slot) (map plain_bracket bs)) new to e)
+    (λ e a. subst (λ w. Does old from line (Alter w (plain_slot (variables old.core) slot) (map plain_bracket bs)) new to e) (sym is)
+    (altered old mid new from to line what slot bs vs e p m (subst (λ ss. Alters mid from line what (plain_slot (variables mid.core) slot) ss new to e) s a))) h
+
+pub held_slot : (old mid gone : Standing) (x : Slot) (v w : Option Value) → PopsTop old (Some v) mid → TakesHeld (plain_slot (variables mid.core) x) mid (Some w) gone → Has old x → Has gone x
+held_slot old mid gone x v w pops takes has = still_there old x mid.core.now.operands (part w) gone (taken_held old mid x w gone pops.1 takes) has
+
+pub held_slot_of : (old gone : Standing) (x : Slot) (w : Option Value) → TakesHeld (plain_slot (variables old.core) x) old (Some w) gone → Has old x → Has gone x
+held_slot_of old gone x w takes has = still_there old x old.core.now.operands (part w) gone (taken_held old old x w gone refl takes) has
+
+pub pushed_slot : (old gone put : Standing) (x : Slot) (w u : Option Value) → TakesHeld (plain_slot (variables old.core) x) old (Some w) gone → put ≡ record gone { core = over (Holds (part u) ∷ gone.core.now.operands) gone.core } → Has old x → Has put x
+pushed_slot old gone put x w u takes n has = still_there old x (Holds (part u) ∷ old.core.now.operands) (part w) put (taken_pushed old x w u gone put takes n) has

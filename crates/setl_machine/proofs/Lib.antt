@@ -7,4 +7,6 @@ pub mod Entering
 pub mod Components
 pub mod Outcomes
 pub mod Denotations
+pub mod Stepping
+pub mod Rounds
 pub mod Altered

@@ -181,6 +181,18 @@ ran_longer c n k from to old new e ne le p = go e ne p
     go WriteFault ne p = (p.0, p.1, before_longer c n k from p.0 p.1 le p.2, p.3, p.4, p.5, p.6)
     go NoMemory ne p = (p.0, p.1, before_longer c n k from p.0 p.1 le p.2, p.3, p.4, p.5)
 
+-- A call that gives up where another one came to is one of a step more.
+known_appended : (old new : Option (List ℕ)) (xs : List ℕ) → Appends old new xs → Appends (append_known old xs) new []
+known_appended None new xs h = tt
+known_appended (Some a) None xs h = absurd h
+known_appended (Some a) (Some b) xs h = h ∙ sym (append-nil (a ++ xs))
+
+pub ran_gives_up : (c : Code) (n : ℕ) (from mid to : CodeCore) (old new : Seen) → Ran c n from old new mid Paused → Ran c (n + 1) from old new to NoMemory
+ran_gives_up c n from mid to old new p =
+    let w : Came (run (machine c) always n (start from)) old new mid = came (run (machine c) always n (start from)) old new mid p in
+    let line = said (step (machine c) always (start w.state.core)) in
+    (w.state, line, record { after = n; fewer = omega arith; reached = w.goes; says = refl }, says_nothing c w.state.core, (0, omega arith, known_appended old.held new.held w.state.out w.bytes), w.count)
+
 -- ---- reads
 
 -- the bytes taken of the input by two calls in a row

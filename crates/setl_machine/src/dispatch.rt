@@ -21,7 +21,7 @@ use setl_code::Instr;
 use setl_environment::Memory;
 use setl_store::Store;
 use setl_value::Value;
-use std::alloc::{AllocError, Global};
+use std::alloc::Global;
 
 /// Does an instruction that neither reads nor writes, and says how the run stands then.
 pub(crate) fn quiet_step(
@@ -60,7 +60,9 @@ fn do_quiet(
         Instr::NewAtom => push_atom(store, control),
         Instr::Eof => push_eof(store, control),
         Instr::Operate(operator, count) => operate(*operator, *count, line, store, control),
-        Instr::Alter(what, slot, brackets) => alter(*what, *slot, brackets.as_slice(), line, store, control),
+        Instr::Alter(what, slot, brackets) => {
+            alter(*what, *slot, brackets.as_slice(), line, store, control)
+        }
         Instr::Next(to) => next(*to, store, control),
         Instr::Round => round(store, control),
         Instr::Call(body) => call(*body, line, store, control),

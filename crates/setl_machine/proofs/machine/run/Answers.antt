@@ -1,24 +1,53 @@
-use Rattle.std.proofs.Common.{◌<◌, inl, refl, subst, sym, arith}
+use Rattle.std.proofs.Common.{◌≡◌, ◌∙◌, ◌+◌, refl, ap, subst, arith}
 use Rattle.setl_code.specs.Plain.{plain_code}
-use Rattle.setl_machine.specs.Control.{stood_for}
-use Rattle.setl_machine.specs.Outcome.{seen, Ran}
+use Rattle.setl_machine.specs.Outcome.{seen}
 use Rattle.setl_machine.specs.declared.end.End.TheVariants.{Paused}
-use Rattle.setl_machine.proofs.Stays.{ran_none, ran_refused}
+use Rattle.setl_machine.proofs.Rounds.{Moment, Runs, runs_on, runs_longer, takes_then, honest_then}
 use Rattle.setl_machine.proofs.machine.run.Goals as goal
 
-pub returns-then-steps-eq0-clause-ran : goal.returns-then-steps-eq0-clause-ran
-returns-then-steps-eq0-clause-ran g c =
-    let m = plain_code c.args.store.now.code in
-    let now = seen (g.O.Sink.held c.args.out.now) (g.O.Sink.faults c.args.out.now) (g.I.Source.faults c.args.input.now) in
-    λ rest h.
-    let k = stood_for c.args.store.now.core c.args.control.now rest in
-    (rest, h, subst (λ n. Ran m n k now now k Paused) (sym c.if-steps-eq0.true) (ran_none m k now), inl refl)
+pub loop-done-preserved : goal.loop-done-preserved
+loop-done-preserved g c =
+    let s = c.args.store.now in
+    let l = c.loop-done in
+    let n = c.step.new in
+    let i = l.invariant in
+    let a = c.in-Paused.ensures in
+    let old : Moment = record { core = s.core; control = c.args.control.now; outside = seen (g.O.Sink.held c.args.out.now) (g.O.Sink.faults c.args.out.now) (g.I.Source.faults c.args.input.now); left = g.I.Source.left c.args.input.now } in
+    let mid : Moment = record { core = l.store.core; control = l.control; outside = seen (g.O.Sink.held l.out) (g.O.Sink.faults l.out) (g.I.Source.faults l.input); left = g.I.Source.left l.input } in
+    let new : Moment = record { core = n.store.core; control = n.control; outside = seen (g.O.Sink.held n.out) (g.O.Sink.faults n.out) (g.I.Source.faults n.input); left = g.I.Source.left n.input } in
+    record {
+      ran = runs_on (plain_code s.code) (plain_code l.store.code) l.done old mid new Paused (ap plain_code i.code) i.ran a.did a.reads a.prints a.reads_only;
+      code = a.code refl ∙ i.code;
+      no_fault = a.goes_on refl;
+      took = takes_then old.left mid.left new.left i.took a.took;
+      honest = honest_then old.control.reader.ended mid.control.reader.ended new.control.reader.ended old.left mid.left new.left i.took i.honest a.honest;
+      within = omega arith;
+    }
+
+pub returns-in_default : goal.returns-in_default
+returns-in_default g c =
+    let s = c.args.store.now in
+    let l = c.loop-done in
+    let n = c.step.new in
+    let i = l.invariant in
+    let a = c.step.ensures in
+    let old : Moment = record { core = s.core; control = c.args.control.now; outside = seen (g.O.Sink.held c.args.out.now) (g.O.Sink.faults c.args.out.now) (g.I.Source.faults c.args.input.now); left = g.I.Source.left c.args.input.now } in
+    let mid : Moment = record { core = l.store.core; control = l.control; outside = seen (g.O.Sink.held l.out) (g.O.Sink.faults l.out) (g.I.Source.faults l.input); left = g.I.Source.left l.input } in
+    let new : Moment = record { core = n.store.core; control = n.control; outside = seen (g.O.Sink.held n.out) (g.O.Sink.faults n.out) (g.I.Source.faults n.input); left = g.I.Source.left n.input } in
+    let ne = c.in_default.not-Paused in
+    record {
+      ran = runs_longer (plain_code s.code) (l.done + 1) c.args.steps old new c.step.result ne (omega arith) (runs_on (plain_code s.code) (plain_code l.store.code) l.done old mid new c.step.result (ap plain_code i.code) i.ran a.did a.reads a.prints a.reads_only);
+      code = λ e. absurd (ne e);
+      goes_on = λ e. absurd (ne e);
+      took = takes_then old.left mid.left new.left i.took a.took;
+      honest = honest_then old.control.reader.ended mid.control.reader.ended new.control.reader.ended old.left mid.left new.left i.took i.honest a.honest;
+    }
 
 pub returns-clause-ran : goal.returns-clause-ran
 returns-clause-ran g c =
-    let m = plain_code c.args.store.now.code in
-    let now = seen (g.O.Sink.held c.args.out.now) (g.O.Sink.faults c.args.out.now) (g.I.Source.faults c.args.input.now) in
-    let some : 0 < c.args.steps = omega arith in
-    λ rest h.
-    let k = stood_for c.args.store.now.core c.args.control.now rest in
-    (rest, h, ran_refused m c.args.steps k k now some, inl refl)
+    let s = c.args.store.now in
+    let l = c.loop-done in
+    let old : Moment = record { core = s.core; control = c.args.control.now; outside = seen (g.O.Sink.held c.args.out.now) (g.O.Sink.faults c.args.out.now) (g.I.Source.faults c.args.input.now); left = g.I.Source.left c.args.input.now } in
+    let now : Moment = record { core = l.store.core; control = l.control; outside = seen (g.O.Sink.held l.out) (g.O.Sink.faults l.out) (g.I.Source.faults l.input); left = g.I.Source.left l.input } in
+    let all : l.done ≡ c.args.steps = omega arith in
+    subst (λ n. Runs (plain_code s.code) n old now Paused) all l.invariant.ran

@@ -1,0 +1,89 @@
+-- Calls in a row, with what they take of an input.
+use Rattle.std.proofs.Common.{◌≡◌, ◌∙◌, ◌⊎◌, inl, inr, ◌+◌, ◌≤◌, ℕ, Bool, List, [], ◌++◌, Option, None, Some, refl, sym, ap, subst, append_assoc, arith}
+use Rattle.setl_run.specs.Run.{step}
+use Rattle.setl_code.specs.Code.{Code}
+use Rattle.setl_code.specs.CodeCore.{CodeCore}
+use Rattle.setl_code.specs.Machine.{machine}
+use Rattle.setl_text.specs.Reads.{ahead, StaysHonest, TakesOff}
+use Rattle.setl_machine.specs.Control.{ControlState, stood_for, IsRest}
+use Rattle.setl_machine.specs.Outcome.{always, start, Seen, Steps, AtPrint, AtRead, Ran, ReadsOnly}
+use Rattle.setl_machine.specs.declared.end.End.{End}
+use Rattle.setl_machine.specs.declared.end.End.TheVariants.{Paused, ReadFault, WriteFault, NoMemory}
+use Rattle.setl_machine.proofs.RanLaws.{ran_join, ran_one, ran_longer, ran_gives_up, reads_join, reads_longer}
+
+-- a core with a control, the outside, and what is left of the input
+pub record Moment : Type 0 where
+  pub core : CodeCore
+  pub control : ControlState
+  pub outside : Seen
+  pub left : Option (List ℕ)
+
+-- what a call of at most so many steps did, whatever is left to come then
+abbrev pub Runs : Code → ℕ → Moment → Moment → End → Type 0
+Runs c n old new e = (rest' : List ℕ) → IsRest (ahead new.control.reader.ended new.left) rest' →
+    (rest : List ℕ) × IsRest (ahead old.control.reader.ended old.left) rest
+    × Ran c n (stood_for old.core old.control rest) old.outside new.outside (stood_for new.core new.control rest') e
+    × ReadsOnly c n (stood_for old.core old.control rest) old.left new.left
+
+pub runs_join : (c : Code) (n j : ℕ) (old mid new : Moment) (e : End) → Runs c n old mid Paused → Runs c j mid new e → Runs c (n + j) old new e
+runs_join c n j old mid new e p q = λ rest' h.
+    let b = q rest' h in
+    let a = p b.0 b.1 in
+    let from = stood_for old.core old.control a.0 in
+    let there = stood_for mid.core mid.control b.0 in
+    (a.0, a.1,
+    ran_join c n j from there (stood_for new.core new.control rest') old.outside mid.outside new.outside e a.2 b.2,
+    reads_join c n j from there old.outside mid.outside old.left mid.left new.left a.2 a.3 b.3)
+
+pub runs_longer : (c : Code) (n k : ℕ) (old new : Moment) (e : End) → (e ≡ Paused → ⊥) → n ≤ k → Runs c n old new e → Runs c k old new e
+runs_longer c n k old new e ne le p = λ rest' h.
+    let a = p rest' h in
+    let from = stood_for old.core old.control a.0 in
+    (a.0, a.1, ran_longer c n k from (stood_for new.core new.control rest') old.outside new.outside e ne le a.2, reads_longer c n k from old.left new.left le a.3)
+
+-- a step is a call of one step
+pub runs_one : (c : Code) (old new : Moment) (e : End) → ((rest' : List ℕ) → IsRest (ahead new.control.reader.ended new.left) rest' → (rest : List ℕ) × IsRest (ahead old.control.reader.ended old.left) rest × Steps (step (machine c) always (start (stood_for old.core old.control rest))) old.outside new.outside (stood_for new.core new.control rest') e) → (e ≡ ReadFault → AtRead c old.core) → (e ≡ WriteFault → AtPrint c old.core) → ((new.left ≡ old.left) ⊎ AtRead c old.core) → Runs c 1 old new e
+runs_one c old new e did reads writes only = λ rest' h.
+    let a = did rest' h in
+    let from = stood_for old.core old.control a.0 in
+    (a.0, a.1, ran_one c from (stood_for new.core new.control rest') old.outside new.outside e reads writes a.2, go from only)
+  where
+    go : (from : CodeCore) → ((new.left ≡ old.left) ⊎ AtRead c from) → ReadsOnly c 1 from old.left new.left
+    go from (inl h) = inl h
+    go from (inr h) = inr (start from, _, record { after = 0; fewer = omega arith; reached = refl; says = refl }, h)
+
+-- one step more, of the same code
+pub runs_on : (c d : Code) (n : ℕ) (old mid new : Moment) (e : End) → d ≡ c → Runs c n old mid Paused → ((rest' : List ℕ) → IsRest (ahead new.control.reader.ended new.left) rest' → (rest : List ℕ) × IsRest (ahead mid.control.reader.ended mid.left) rest × Steps (step (machine d) always (start (stood_for mid.core mid.control rest))) mid.outside new.outside (stood_for new.core new.control rest') e) → (e ≡ ReadFault → AtRead d mid.core) → (e ≡ WriteFault → AtPrint d mid.core) → ((new.left ≡ mid.left) ⊎ AtRead d mid.core) → Runs c (n + 1) old new e
+runs_on c d n old mid new e same p did reads writes only = runs_join c n 1 old mid new e p (subst (λ x. Runs x 1 mid new e) same (runs_one d mid new e did reads writes only))
+
+-- a call more, of the same code
+pub runs_then : (c d : Code) (n j k : ℕ) (old mid new : Moment) (e : End) → d ≡ c → n + j ≡ k → Runs c n old mid Paused → Runs d j mid new e → Runs c k old new e
+runs_then c d n j k old mid new e same sum p q = subst (λ m. Runs c m old new e) sum (runs_join c n j old mid new e p (subst (λ x. Runs x j mid new e) same q))
+
+-- a call of some number of steps
+pub some_runs : (c : Code) (n : ℕ) (old new : Moment) (e : End) → Runs c n old new e → (rest' : List ℕ) → IsRest (ahead new.control.reader.ended new.left) rest' →
+    (rest : List ℕ) × IsRest (ahead old.control.reader.ended old.left) rest
+    × (n : ℕ) × Ran c n (stood_for old.core old.control rest) old.outside new.outside (stood_for new.core new.control rest') e
+    × ReadsOnly c n (stood_for old.core old.control rest) old.left new.left
+some_runs c n old new e p = λ rest' h. let a = p rest' h in (a.0, a.1, n, a.2, a.3)
+
+-- a call that gives up where another one came to
+pub runs_give_up : (c : Code) (n : ℕ) (old new : Moment) → Runs c n old new Paused → Runs c (n + 1) old new NoMemory
+runs_give_up c n old new p = λ rest' h.
+    let a = p rest' h in
+    let from = stood_for old.core old.control a.0 in
+    let there = stood_for new.core new.control rest' in
+    (a.0, a.1, ran_gives_up c n from there there old.outside new.outside a.2, reads_longer c n (n + 1) from old.left new.left (omega arith) a.3)
+
+-- ---- the input
+
+pub takes_then : (left mid new : Option (List ℕ)) → TakesOff left mid → TakesOff mid new → TakesOff left new
+takes_then None mid new h k = ([], tt)
+takes_then (Some a) None new h k = absurd h.1
+takes_then (Some a) (Some b) None h k = absurd k.1
+takes_then (Some a) (Some b) (Some c) h k = (h.0 ++ k.0, h.1 ∙ ap (λ l. h.0 ++ l) k.1 ∙ sym (append_assoc h.0 k.0 c))
+
+pub honest_then : (ended mid_ended new_ended : Bool) (left mid new : Option (List ℕ)) → TakesOff left mid → StaysHonest ended left mid_ended mid → StaysHonest mid_ended mid new_ended new → StaysHonest ended left new_ended new
+honest_then ended mid_ended new_ended None mid new t h k = tt
+honest_then ended mid_ended new_ended (Some a) None new t h k = absurd t.1
+honest_then ended mid_ended new_ended (Some a) (Some b) new t h k = λ e f. k (λ g. h e g) f

@@ -1,0 +1,54 @@
+-- A step does what its instruction does.
+use Rattle.std.proofs.Common.{◌≡◌, ◌⊎◌, inl, ℕ, List, [], Option, None, Some, refl, sym, ap, subst, arith}
+use Rattle.std.specs.Io.KnownBytes.{Appends}
+use Rattle.setl_run.specs.Run.{Next, Goes, Ends, settle, step}
+use Rattle.setl_code.specs.Code.{Code, Instr}
+use Rattle.setl_code.specs.CodeCore.{CodeCore}
+use Rattle.setl_code.specs.Machine.{do_step, fetch, machine}
+use Rattle.setl_text.specs.Reads.{ReaderState, StaysHonest}
+use Rattle.setl_machine.specs.Outcome.{always, start, next_of, said, Quiet, Seen, Steps}
+use Rattle.setl_machine.specs.declared.end.End.{End}
+use Rattle.setl_machine.specs.declared.end.End.TheVariants.{Done, Stopped, Spent, Paused, ReadFault, WriteFault, NoMemory, Stuck}
+use Rattle.setl_machine.proofs.Stays.{appends_same, honest_same}
+
+step_is : (c : Code) (k : CodeCore) (line : ℕ) (i : Instr) → fetch c k.now.body k.now.at ≡ Some (line, i) → step (machine c) always (start k) ≡ next_of c line i k
+step_is c k line i h = ap (λ o. settle (machine c) always (start k) (do_step c o k)) h
+
+pub by_step : (c : Code) (k to : CodeCore) (line : ℕ) (i : Instr) (old new : Seen) (e : End) → fetch c k.now.body k.now.at ≡ Some (line, i) → Steps (next_of c line i k) old new to e → Steps (step (machine c) always (start k)) old new to e
+by_step c k to line i old new e h s = subst (λ x. Steps x old new to e) (sym (step_is c k line i h)) s
+
+-- no step is in hand
+pub no_step : (c : Code) (k : CodeCore) (now : Seen) → fetch c k.now.body k.now.at ≡ None → Steps (step (machine c) always (start k)) now now k Stuck
+no_step c k now h =
+    subst (λ x. Steps x now now k Stuck) (sym (ap (λ o. settle (machine c) always (start k) (do_step c o k)) h)) ((refl, ([], refl)), appends_same now.held, (refl, refl))
+
+-- what neither reads nor writes does nothing to the outside
+pub quiet_steps : (x : Next CodeCore) (to : CodeCore) (now : Seen) (e : End) → Quiet x to e → Steps x now now to e
+quiet_steps x to now Done q = (q.0, subst (Appends now.held now.held) (sym q.1) (appends_same now.held), (refl, refl))
+quiet_steps x to now (Stopped why line) q = (q.0, subst (Appends now.held now.held) (sym q.1) (appends_same now.held), (refl, refl))
+quiet_steps x to now Spent q = (q.0, subst (Appends now.held now.held) (sym q.1) (appends_same now.held), (refl, refl))
+quiet_steps x to now Paused q = (q.0, subst (Appends now.held now.held) (sym q.1) (appends_same now.held), (refl, refl))
+quiet_steps x to now Stuck q = (q.0, subst (Appends now.held now.held) (sym q.1) (appends_same now.held), (refl, refl))
+quiet_steps x to now NoMemory q = ((0, omega arith, appends_same now.held), (refl, refl))
+quiet_steps (Goes s) to now ReadFault q = absurd q.0
+quiet_steps (Ends d s) to now ReadFault q = absurd q.0
+quiet_steps (Goes s) to now WriteFault q = absurd q.0
+quiet_steps (Ends d s) to now WriteFault q = absurd q.0
+
+no_write : (x : Next CodeCore) (to : CodeCore) → Quiet x to WriteFault → ⊥
+no_write (Goes s) to q = q.0
+no_write (Ends d s) to q = q.0
+
+no_read : (x : Next CodeCore) (to : CodeCore) → Quiet x to ReadFault → ⊥
+no_read (Goes s) to q = q.0
+no_read (Ends d s) to q = q.0
+
+pub quiet_no_write : (x : Next CodeCore) (to : CodeCore) (e : End) → Quiet x to e → e ≡ WriteFault → ⊥
+quiet_no_write x to e q h = no_write x to (subst (Quiet x to) h q)
+
+pub quiet_no_read : (x : Next CodeCore) (to : CodeCore) (e : End) → Quiet x to e → e ≡ ReadFault → ⊥
+quiet_no_read x to e q h = no_read x to (subst (Quiet x to) h q)
+
+-- where the reader and the input stay
+pub stays_honest : (old new : ReaderState) (left : Option (List ℕ)) → new ≡ old → StaysHonest old.ended left new.ended left
+stays_honest old new left e = subst (λ (r : ReaderState). StaysHonest old.ended left r.ended left) (sym e) (honest_same old.ended left)

@@ -1,0 +1,63 @@
+use Rattle.std.proofs.Common.{◌≡◌, ◌∙◌, [], inl, Some, refl, ap, subst}
+use Rattle.setl_code.specs.declared.code.Instr.{Instr}
+use Rattle.setl_code.specs.Code.{PrintTop, ReadOne}
+use Rattle.setl_code.specs.Machine.{fetch}
+use Rattle.setl_code.specs.Plain.{plain_code, plain_instr}
+use Rattle.setl_store.specs.Standing.{variables}
+use Rattle.setl_text.specs.Reads.{ReaderState, ahead}
+use Rattle.setl_machine.specs.Control.{world_of, stood_for, IsRest}
+use Rattle.setl_machine.specs.Outcome.{seen, next_of}
+use Rattle.setl_machine.proofs.Stays.{takes_none}
+use Rattle.setl_machine.proofs.Stepping.{by_step, quiet_steps, quiet_no_write, quiet_no_read, stays_honest}
+use Rattle.setl_machine.proofs.machine.step.Goals as goal
+
+pub returns-in-Print-clause-did : goal.returns-in-Print-clause-did
+returns-in-Print-clause-did g c =
+    let s = c.args.store.now in
+    let m = plain_code s.code in
+    let line = c.in-Some.step.now.line in
+    let here : fetch m s.core.now.body s.core.now.at ≡ Some (line, PrintTop c.in-Print.count) = c.in-Some.ensures.some ∙ ap (λ (what : Instr). Some (line, plain_instr (variables s.core) what)) c.in-Print.is in
+    let faults = g.I.Source.faults c.args.input.now in
+    let old = seen (g.O.Sink.held c.args.out.now) (g.O.Sink.faults c.args.out.now) faults in
+    let new = seen (g.O.Sink.held c.print.new.out) (g.O.Sink.faults c.print.new.out) faults in
+    λ rest h.
+    let w = world_of c.args.control.now rest in
+    (rest, h, by_step m (stood_for s.core c.args.control.now rest) (stood_for c.print.new.store.core c.args.control.now rest) line (PrintTop c.in-Print.count) old new c.print.result here (c.print.ensures.did line w faults))
+
+pub returns-in-Read-clause-did : goal.returns-in-Read-clause-did
+returns-in-Read-clause-did g c =
+    let s = c.args.store.now in
+    let m = plain_code s.code in
+    let line = c.in-Some.step.now.line in
+    let here : fetch m s.core.now.body s.core.now.at ≡ Some (line, ReadOne) = c.in-Some.ensures.some ∙ ap (λ (what : Instr). Some (line, plain_instr (variables s.core) what)) c.in-Read.is in
+    let held = g.O.Sink.held c.args.out.now in
+    let faults = g.O.Sink.faults c.args.out.now in
+    let old = seen held faults (g.I.Source.faults c.args.input.now) in
+    let new = seen held faults (g.I.Source.faults c.read.new.input) in
+    λ rest h.
+    let did = c.read.ensures.did held faults rest h in
+    (did.0, did.1, by_step m (stood_for s.core c.args.control.now did.0) (stood_for c.read.new.store.core c.read.new.control rest) line ReadOne old new c.read.result here did.2)
+
+pub returns-in_default-what : goal.returns-in_default-what
+returns-in_default-what g c =
+    let s = c.args.store.now in
+    let m = plain_code s.code in
+    let line = c.in-Some.step.now.line in
+    let what = plain_instr (variables s.core) c.in-Some.step.now.what in
+    let left = g.I.Source.left c.args.input.now in
+    let now = seen (g.O.Sink.held c.args.out.now) (g.O.Sink.faults c.args.out.now) (g.I.Source.faults c.args.input.now) in
+    let reader = c.quiet_step.ensures.reader in
+    record {
+      did = λ rest h.
+          let k = stood_for s.core c.args.control.now rest in
+          let to = stood_for c.quiet_step.new.store.core c.quiet_step.new.control rest in
+          (rest, subst (λ (r : ReaderState). IsRest (ahead r.ended left) rest) reader h,
+          by_step m k to line what now now c.quiet_step.result c.in-Some.ensures.some (quiet_steps (next_of m line what k) to now c.quiet_step.result (c.quiet_step.ensures.did rest)));
+      prints = λ e. absurd (quiet_no_write _ _ _ (c.quiet_step.ensures.did []) e);
+      reads = λ e. absurd (quiet_no_read _ _ _ (c.quiet_step.ensures.did []) e);
+      reads_only = inl refl;
+      code = c.quiet_step.ensures.code;
+      goes_on = λ e. ap (λ (r : ReaderState). r.fault) reader ∙ c.requires;
+      took = takes_none left;
+      honest = stays_honest c.args.control.now.reader c.quiet_step.new.control.reader left reader;
+    }
