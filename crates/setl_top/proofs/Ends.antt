@@ -105,6 +105,11 @@ not_loaded words before after command name s f o l i u _ (no_room h) = record {
   err_gained = fault_alone words before (codes "no memory") before.err after.err h;
 }
 
+-- the line of an end, behind a load that told nothing
+pub tells_then : (e : End) (old mid new : Option (List ℕ)) (before then_ now : ℕ) (r : Status) → mid ≡ old → then_ ≡ before → TellsEnd e mid new then_ now r → TellsEnd e old new before now r
+tells_then e old mid new before then_ now r held count told =
+    subst (λ (n : ℕ). TellsEnd e old new n now r) count (subst (λ (o : Option (List ℕ)). TellsEnd e o new then_ now r) held told)
+
 -- what is seen of the input and of the output
 abbrev pub streams_of : Moment → Moment → Streams
 streams_of before after = streams before.input after.input before.input_faults after.input_faults before.out after.out before.out_faults after.out_faults
