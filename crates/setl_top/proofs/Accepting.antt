@@ -1,10 +1,12 @@
 -- What accepted sources have by the laws.
-use Rattle.std.proofs.Common.{◌≡◌, ℕ, List, subst, sym}
+use Rattle.std.proofs.Common.{◌≡◌, ℕ, List, [], map, ap, subst, sym}
 use Rattle.setl_acceptance.specs.Claims.{IsAccepted, AcceptedIsFormed}
 use Rattle.setl_expressions.specs.Plain.{plain_tokens}
 use Rattle.setl_model.specs.Ending.{EveryRunEnds, NoneIsStuck}
 use Rattle.setl_program.specs.Formed.{Formed}
+use Rattle.setl_modes.specs.Declarations.{variables_of}
 use Rattle.setl_program.specs.Program.{Program}
+use Rattle.setl_program.specs.ProgramOf.{main_scope, declaration_of, program_of}
 use Rattle.setl_tree.specs.declared.tree.Tree.{Tree}
 use Rattle.setl_top.specs.Accepted.{lexed, IsProgram, Accepted}
 use Rattle.setl_top.specs.Laws.{AcceptedRunsEnd, NoAcceptedRunIsStuck}
@@ -25,3 +27,7 @@ runs_end law ends source program a = ends program (formed law source program a)
 
 pub never_stuck : AcceptedIsFormed → NoneIsStuck → NoAcceptedRunIsStuck
 never_stuck law stuck source program a = stuck program (formed law source program a)
+
+-- without `repr` lines no variable is declared
+pub undeclared : (tree : Tree) → tree.modes ≡ [] → (program_of tree).modes ≡ []
+undeclared tree h = ap (λ lines. map (declaration_of (main_scope tree)) (variables_of lines)) h

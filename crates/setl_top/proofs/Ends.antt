@@ -107,6 +107,11 @@ not_loaded words before after command name s f o l i u _ (no_room h) = record {
   err_gained = fault_alone words before (codes "no memory") before.err after.err h;
 }
 
+-- the line of an end, behind a load that told nothing
+pub tells_then : (e : End) (old mid new : Option (List ℕ)) (before then_ now : ℕ) (r : Status) → mid ≡ old → then_ ≡ before → TellsEnd e mid new then_ now r → TellsEnd e old new before now r
+tells_then e old mid new before then_ now r held count told =
+    subst (λ (n : ℕ). TellsEnd e old new n now r) count (subst (λ (o : Option (List ℕ)). TellsEnd e o new then_ now r) held told)
+
 -- what is seen of the input and of the output
 abbrev pub streams_of : Moment → Moment → Streams
 streams_of before after = streams before.input after.input before.input_faults after.input_faults before.out after.out before.out_faults after.out_faults
@@ -178,7 +183,7 @@ module _ (words : List (List ℕ)) (before after : Moment) (name : List ℕ) (tr
   -- the run of a program, and the line that tells its end
   pub run_ends : (e : End) → Runs (program_of tree) Seen e → after.files_faults ≤ before.files_faults → (r : Status) → TellsEnd e before.err after.err before.err_faults after.err_faults r → Headline words before after r
   run_ends end.Done x f r t = run_told run.Done IsDone refl x (λ y. y) f r t
-  run_ends (end.Stopped kind line) x f r t = run_told (run.Stopped (kind_of kind) line) IsStopped refl x (λ y. y) f r t
+  run_ends (end.Stopped why line) x f r t = run_told (run.Stopped (kind_of why) line) IsStopped refl x (λ y. y) f r t
   run_ends end.Spent x f r t = run_told run.Spent IsSpent refl x (λ y. y) f r t
   run_ends end.ReadFault x f r t = subst (Headline words before after) (sym t.0) (run_unread x.0 x.1 t.1)
   run_ends end.WriteFault x f r t = subst (Headline words before after) (sym t.0) (run_unwritten x.0 x.1 t.1)

@@ -1,6 +1,7 @@
 -- A run of the code of a program as a run of the program.
-use Rattle.std.proofs.Common.{◌≡◌, ◌∙◌, ◌⊎◌, inl, inr, ℕ, zero, suc, Bool, true, false, List, [], ◌∷◌, ◌++◌, length, take, Option, None, Some, refl, sym, ap, subst, true≢false, append_assoc, arith}
+use Rattle.std.proofs.Common.{◌≡◌, ◌∙◌, ◌⊎◌, inl, inr, ℕ, zero, suc, Bool, true, false, List, [], ◌∷◌, ◌++◌, length, take, Option, None, Some, Result, Ok, Err, IfOk, OnErr, refl, sym, ap, subst, true≢false, append_assoc, arith}
 use Rattle.std.proofs.lemmas.List.{append-nil}
+use Rattle.std.specs.Result.{result_unwrap_or}
 use Rattle.std.specs.Io.KnownBytes.{Appends, append_known, prepend_known}
 use Rattle.setl_io.specs.Sink.{AppendsPart}
 use Rattle.setl_text.specs.Reads.{TakesOff, StaysHonest, ahead}
@@ -9,11 +10,15 @@ use Rattle.setl_run.specs.Run.{State, Next, Goes, Ends}
 use Rattle.setl_program.specs.Program.{Program}
 use Rattle.setl_program.specs.Formed.{Formed}
 use Rattle.setl_model.specs.Means.{Means, first}
+use Rattle.setl_code.specs.declared.code.Code.{Code as RustCode}
+use Rattle.setl_code.specs.Plain.{plain_code}
+use Rattle.setl_code.specs.Code.{Code}
 use Rattle.setl_code.specs.CodeCore.{CodeCore}
 use Rattle.setl_code.specs.CodeMeans.{CodeMeans, code_first}
 use Rattle.setl_code.specs.CodeOf.{code_of}
 use Rattle.setl_code.specs.Machine.{machine}
-use Rattle.setl_machine.specs.Control.{IsRest}
+use Rattle.setl_store.specs.Standing.{Standing, started}
+use Rattle.setl_machine.specs.Control.{ControlState, IsRest, kept_for, stood_for}
 use Rattle.setl_machine.specs.Outcome.{IsLikely, kind_of, said, AtPrint, AtRead, Before, NoFault}
 use Rattle.setl_machine.specs.Outcome as outcome
 use Rattle.setl_machine.specs.declared.end.End.{End}
@@ -53,9 +58,9 @@ done : (x : Next CodeCore) (k : CodeCore) → outcome.Answers x k end.Done → E
 done (Goes s) k h = absurd h
 done (Ends e s) k h = record { state = s; is = ap (λ f. Ends f s) h.0; likely = h.1 }
 
-stopped : (x : Next CodeCore) (k : CodeCore) (kind : StopKind) (line : ℕ) → outcome.Answers x k (end.Stopped kind line) → EndsAs x k (run.Stopped (kind_of kind) line)
-stopped (Goes s) k kind line h = absurd h
-stopped (Ends e s) k kind line h = record { state = s; is = ap (λ f. Ends f s) h.0; likely = h.1 }
+stopped : (x : Next CodeCore) (k : CodeCore) (why : StopKind) (line : ℕ) → outcome.Answers x k (end.Stopped why line) → EndsAs x k (run.Stopped (kind_of why) line)
+stopped (Goes s) k why line h = absurd h
+stopped (Ends e s) k why line h = record { state = s; is = ap (λ f. Ends f s) h.0; likely = h.1 }
 
 spent : (x : Next CodeCore) (k : CodeCore) → outcome.Answers x k end.Spent → EndsAs x k run.Spent
 spent (Goes s) k h = absurd h
@@ -170,11 +175,11 @@ module _ (laws : CodeLaws) (p : Program) (formed : Formed p) (no_modes : p.modes
   starving n t (c ∷ line) b (inr next) front = inl (breaking n t (c ∷ line) b next (front.0, omega (arith, front.1), front.2))
 
 -- the machine's run is one of the program
-pub runs : (laws : CodeLaws) (p : Program) (formed : Formed p) (no_modes : p.modes ≡ []) (s : Streams) (e : End) → RunsCode (code_of p) s e → Runs p s e
+runs : (laws : CodeLaws) (p : Program) (formed : Formed p) (no_modes : p.modes ≡ []) (s : Streams) (e : End) → RunsCode (code_of p) s e → Runs p s e
 runs laws p formed no_modes s end.Done r =
     coming_to laws p formed no_modes s r.input r.known r.steps r.last run.Done (done (coded p no_modes r.input turns r.steps) r.last r.ran.0) r.left r.ran.1 r.ran.2
-runs laws p formed no_modes s (end.Stopped kind line) r =
-    coming_to laws p formed no_modes s r.input r.known r.steps r.last (run.Stopped (kind_of kind) line) (stopped (coded p no_modes r.input turns r.steps) r.last kind line r.ran.0) r.left r.ran.1 r.ran.2
+runs laws p formed no_modes s (end.Stopped why line) r =
+    coming_to laws p formed no_modes s r.input r.known r.steps r.last (run.Stopped (kind_of why) line) (stopped (coded p no_modes r.input turns r.steps) r.last why line r.ran.0) r.left r.ran.1 r.ran.2
 runs laws p formed no_modes s end.Spent r =
     coming_to laws p formed no_modes s r.input r.known r.steps r.last run.Spent (spent (coded p no_modes r.input turns r.steps) r.last r.ran.0) r.left r.ran.1 r.ran.2
 runs laws p formed no_modes s end.ReadFault r = (reading laws p formed no_modes s r.input r.known r.steps r.ran.0 r.ran.1 r.ran.2 r.ran.3 r.ran.4, r.ran.5)
@@ -184,15 +189,15 @@ runs laws p formed no_modes s end.Paused r = r.whole refl
 runs laws p formed no_modes s end.Stuck r = not_stuck laws p formed no_modes s r.input r.known r.steps r.last (stuck (coded p no_modes r.input turns r.steps) r.last r.ran.0)
 
 -- it takes nothing of its input, or takes it at a `read`
-pub takes : (laws : CodeLaws) (p : Program) (formed : Formed p) (no_modes : p.modes ≡ []) (s : Streams) (e : End) → RunsCode (code_of p) s e → TakesInput p s
+takes : (laws : CodeLaws) (p : Program) (formed : Formed p) (no_modes : p.modes ≡ []) (s : Streams) (e : End) → RunsCode (code_of p) s e → TakesInput p s
 takes laws p formed no_modes s e r =
     elim r.reads [
-      inl same ↦ inl same
-    | inr b ↦ inr (record { input = r.input; known = r.known; out = b.0.out; taken = r.took.0; at = came_at_read p no_modes r.input turns laws formed b.0 (b.2.after, b.2.reached) b.3; consumed = r.took.1 })
+      | inl same ↦ inl same
+      | inr b ↦ inr (record { input = r.input; known = r.known; out = b.0.out; taken = r.took.0; at = came_at_read p no_modes r.input turns laws formed b.0 (b.2.after, b.2.reached) b.3; consumed = r.took.1 })
     ]
 
 -- nothing was done
-pub not_begun : (p : Program) (s : Streams) → s.new ≡ s.old → RunsInto p s ⊎ RunsUpTo p s
+not_begun : (p : Program) (s : Streams) → s.new ≡ s.old → RunsInto p s ⊎ RunsUpTo p s
 not_begun p s same = inr (record {
   input = input_of s.input;
   known = is_input s.input;
@@ -200,3 +205,61 @@ not_begun p s same = inr (record {
   at = record { state = first p (input_of s.input) turns; reached = (0, refl); printed = refl };
   gained = subst (λ o. Appends s.old o []) (sym same) (appends_none s.old);
 })
+
+-- ---- where memory may have been refused first
+
+module _ (laws : CodeLaws) (p : Program) (formed : Formed p) (no_modes : p.modes ≡ []) (s : Streams) {F : Type 0} where
+  pub all_runs : (c : Code) → c ≡ code_of p → (r : Result End F) → IfOk r (RunsCode c s) → IfOk r (Runs p s)
+  all_runs c is (Ok e) h = runs laws p formed no_modes s e (subst (λ k. RunsCode k s e) is h)
+  all_runs c is (Err e) h = h
+
+  pub all_takes : (c : Code) → c ≡ code_of p → (r : Result End F) → IfOk r (RunsCode c s) → OnErr r (s.left ≡ s.input) → TakesInput p s
+  all_takes c is (Ok e) h same = takes laws p formed no_modes s e (subst (λ k. RunsCode k s e) is h)
+  all_takes c is (Err e) h same = inl same
+
+-- a run that wasn't begun is one that was broken off at its first state
+pub runs_or : {F : Type 0} (p : Program) (s : Streams) (r : Result End F) (e : End) → e ≡ result_unwrap_or r end.NoMemory → IfOk r (Runs p s) → OnErr r (s.new ≡ s.old) → Runs p s e
+runs_or p s (Ok d) e is h same = subst (Runs p s) (sym is) h
+runs_or p s (Err d) e is h same = subst (Runs p s) (sym is) (not_begun p s same)
+
+-- so it is neither paused nor stuck
+pub not_paused : (p : Program) (s : Streams) (e : End) → Runs p s e → e ≡ end.Paused → ⊥
+not_paused p s e h is = subst (Runs p s) is h
+
+pub not_at_stuck : (p : Program) (s : Streams) (e : End) → Runs p s e → e ≡ end.Stuck → ⊥
+not_at_stuck p s e h is = subst (Runs p s) is h
+
+-- ---- from what the machine tells
+
+-- a control that read nothing yet
+abbrev fresh : ControlState
+fresh = record { turns = turns; atom = 1; eof = false; reader = record { kept = []; ended = false; fault = None } }
+
+-- what the machine tells of a run, whatever is still to come of the input behind it
+abbrev pub Told : Standing → ControlState → Streams → CodeCore → ControlState → End → Type 0
+Told store first s core control e = (rest' : List ℕ) → IsRest (ahead control.reader.ended s.left) rest' →
+    (rest : List ℕ) × IsRest (ahead first.reader.ended s.input) rest
+    × (n : ℕ) × outcome.Ran (plain_code store.code) n (stood_for store.core first rest) (seen_before s) (seen_now s) (stood_for core control rest') e
+    × outcome.ReadsOnly (plain_code store.code) n (stood_for store.core first rest) s.input s.left
+
+told_fresh : (code : RustCode) (s : Streams) (core : CodeCore) (control : ControlState) (e : End) → Told (started code) fresh s core control e → (e ≡ end.Paused → ⊥) → TakesOff s.input s.left → StaysHonest false s.input control.reader.ended s.left → RunsCode (plain_code code) s e
+told_fresh code s core control e told whole took honest =
+    let rest : List ℕ = input_of (ahead control.reader.ended s.left) in
+    let r = told rest (is_rest (ahead control.reader.ended s.left)) in
+    record {
+      input = r.0;
+      known = input_of_rest s.input r.0 r.1;
+      steps = r.2;
+      last = stood_for core control rest;
+      ran = r.3;
+      reads = r.4;
+      left = kept_left (kept_for control.reader.fault control.reader.kept) control.reader.ended s.input s.left took honest;
+      took = took;
+      whole = whole;
+    }
+
+-- a whole run of the machine from a store that was started and a new control
+pub code_ran : (code : RustCode) (store : Standing) (first : ControlState) (s : Streams) (core : CodeCore) (control : ControlState) (e : End) → store ≡ started code → first ≡ fresh → Told store first s core control e → (e ≡ end.Paused → ⊥) → TakesOff s.input s.left → StaysHonest first.reader.ended s.input control.reader.ended s.left → RunsCode (plain_code code) s e
+code_ran code store first s core control e begun new told whole took honest =
+    told_fresh code s core control e (subst (λ c. Told (started code) c s core control e) new (subst (λ t. Told t first s core control e) begun told)) whole took
+    (subst (λ c. StaysHonest c.reader.ended s.input control.reader.ended s.left) new honest)

@@ -80,7 +80,7 @@ pub record RunsUpTo (program : Program) (s : Streams) : Type 0 where
 -- the machine ended so
 abbrev pub Runs : Program → Streams → End → Type 0
 Runs program s end.Done = RunsTo program s run.Done
-Runs program s (end.Stopped kind line) = RunsTo program s (run.Stopped (kind_of kind) line)
+Runs program s (end.Stopped why line) = RunsTo program s (run.Stopped (kind_of why) line)
 Runs program s end.Spent = RunsTo program s run.Spent
 Runs program s end.ReadFault = RunsToRead program s × Rose s.input_before s.input_now
 Runs program s end.WriteFault = RunsInto program s × Rose s.out_before s.out_now

@@ -25,7 +25,7 @@ Tries ends line old new status = (status ≡ ends) × AppendsFront old new (line
 -- the line of an end of the machine was told, with its status, or tried at a fault
 abbrev pub TellsEnd : End → Option (List ℕ) → Option (List ℕ) → ℕ → ℕ → Status → Type 0
 TellsEnd end.Done old new before now r = Tells status.Done (error_line run.Done) old new before now r
-TellsEnd (end.Stopped kind line) old new before now r = Tells status.Stopped (error_line (run.Stopped (kind_of kind) line)) old new before now r
+TellsEnd (end.Stopped why line) old new before now r = Tells status.Stopped (error_line (run.Stopped (kind_of why) line)) old new before now r
 TellsEnd end.Spent old new before now r = Tells status.Spent (error_line run.Spent) old new before now r
 TellsEnd end.ReadFault old new before now r = Tries status.ReadFault (codes "read fault") old new r
 TellsEnd end.WriteFault old new before now r = Tries status.WriteFault (codes "write fault") old new r

@@ -46,17 +46,18 @@ fn run_code<I: Source, O: Sink>(
     Ok(run_whole(&mut store, &mut control, input, out))
 }
 
-/// Runs an accepted program without `repr` lines.
+/// Runs an accepted program without `repr` lines. The error is want of memory, and then nothing was done.
 pub fn run_program<I: Source, O: Sink>(
     alloc: Global,
     tree: &Tree,
     input: &mut I,
     out: &mut O,
-) -> End
+) -> Result<End, AllocError>
     requires accepted { IsAccepted tree.now }
     requires no_modes { tree.now.modes ≡ [] }
-    ensures ran { Runs (program_of tree.now) (streams (I.left input.old) (I.left input.new) (I.faults input.old) (I.faults input.new) (O.held out.old) (O.held out.new) (O.faults out.old) (O.faults out.new)) result }
+    ensures ran { IfOk result (Runs (program_of tree.now) (streams (I.left input.old) (I.left input.new) (I.faults input.old) (I.faults input.new) (O.held out.old) (O.held out.new) (O.faults out.old) (O.faults out.new))) }
     ensures input { TakesInput (program_of tree.now) (streams (I.left input.old) (I.left input.new) (I.faults input.old) (I.faults input.new) (O.held out.old) (O.held out.new) (O.faults out.old) (O.faults out.new)) }
+    ensures out { OnErr result (O.held out.new ≡ O.held out.old) }
 {
     setl_acceptance::accepted_is_formed();
     setl_slots::code_may_run();
@@ -64,8 +65,6 @@ pub fn run_program<I: Source, O: Sink>(
     setl_simulation::code_ends_in_the_same_state();
     setl_simulation::code_reaches_the_same_states();
     setl_simulation::every_run_ends();
-    let Ok(code) = code_of_tree(alloc, tree) else {
-        return End::NoMemory;
-    };
-    run_code(alloc, &code, input, out).unwrap_or(End::NoMemory)
+    let code = code_of_tree(alloc, tree)?;
+    run_code(alloc, &code, input, out)
 }

@@ -10,6 +10,7 @@ use crate::run::run_program;
 use crate::tell::tell_end;
 use crate::words::{Command, read_words};
 use setl_io::{Files, Sink, Source};
+use setl_machine::End;
 use std::alloc::Global;
 
 /// Does what the words of the command line ask for, and tells how that ended.
@@ -66,6 +67,6 @@ fn run_file<F: Files, I: Source, O: Sink, E: Sink>(
         Ok(tree) => tree,
         Err(status) => return status,
     };
-    let end = run_program(alloc, &tree, input, out);
+    let end = run_program(alloc, &tree, input, out).unwrap_or(End::NoMemory);
     tell_end(alloc, err, end)
 }

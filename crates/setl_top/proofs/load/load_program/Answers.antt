@@ -16,5 +16,4 @@ pub returns-clause-not_loaded : goal.returns-clause-not_loaded
 returns-clause-not_loaded g c =
     let known = c.in-Ok.ensures in
     let program = rw c.deref.ensures.value at c.in-Ok-read_program.ensures.read in
-    let other = λ none. true≢false (sym (c.is_empty.ensures.1 none) ∙ c.if-is_empty.false) in
-    λ command. not_accepted_then command _ _ _ known.still _ _ c.in-Ok.source.items reason.NotBuilt _ known.loaded.text (is_unbuilt command c.in-Ok.source.items c.in-Ok-read_program.tree program other) c.refuse-else-is_empty.ensures.told
+    λ command. not_accepted_then command _ _ _ known.still _ _ c.in-Ok.source.items reason.NotBuilt _ known.loaded.text (is_unbuilt command c.in-Ok.source.items c.in-Ok-read_program.tree program (λ none. true≢false (sym (c.is_empty.ensures.1 none) ∙ c.if-is_empty.false))) c.refuse-else-is_empty.ensures.told
