@@ -9,6 +9,8 @@ mod calls;
 #[cfg(test)]
 mod faults;
 #[cfg(test)]
+mod listings;
+#[cfg(test)]
 mod pieces;
 #[cfg(test)]
 mod programs;
