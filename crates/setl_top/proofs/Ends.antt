@@ -10,12 +10,14 @@ use Rattle.setl_machine.specs.Outcome.{kind_of}
 use Rattle.setl_machine.specs.declared.end.End.{End}
 use Rattle.setl_machine.specs.declared.end.End.TheVariants as end
 use Rattle.setl_top.specs.Lines.{AppendsFront, AppendsFronts}
+use Rattle.setl_top.specs.Listings.{listing_of}
+use Rattle.setl_top.specs.Lists.{gain, Written, all_written, write_failed, write_starved, no_text, Lists, listed_so, not_listed}
 use Rattle.setl_top.specs.Loads.{Loaded, NotLoaded, not_accepted, not_read, no_room, sides, Checks, checked_so, not_checked}
 use Rattle.setl_top.specs.Reasons.{reason_line}
 use Rattle.setl_top.specs.Runs.{Streams, streams, turns, RunsTo, RunsInto, RunsToRead, RunsUpTo, Runs, TakesInput}
 use Rattle.setl_top.specs.Tells.{Tells, whole, failed, no_memory, TellsEnd}
-use Rattle.setl_top.specs.Words.{IsFaulty, Spells, HasFile, Command, Run, Check}
-use Rattle.setl_top.specs.Headline.{Moment, Job, IsInput, IsToRun, status_for, Answers, faulty_words, refused, checked, run_ended, UpToPrint, UpToAny, no_program, at_state, in_print, at_print, load_failed, read_failed, TellsFault, IsQuiet, LeavesRest, Ended, ReadFailed, WriteFailed, MemoryFailed, out_failed, err_failed, InputLeft, untouched, read_from, Headline}
+use Rattle.setl_top.specs.Words.{IsFaulty, Spells, HasFile, Command, Run, Check, Code}
+use Rattle.setl_top.specs.Headline.{Moment, Job, IsInput, IsToRun, IsToList, status_for, Answers, faulty_words, refused, checked, listed, run_ended, UpToWrite, UpToAny, no_program, at_state, in_write, at_print, in_listing, load_failed, read_failed, TellsFault, IsQuiet, LeavesRest, LeavesInput, Ended, ReadFailed, WriteFailed, MemoryFailed, out_failed, err_failed, InputLeft, untouched, read_from, Headline}
 use Rattle.setl_top.specs.declared.status.Status.{Status}
 use Rattle.setl_top.specs.declared.status.Status.TheVariants.{Done, Refused, Words}
 use Rattle.setl_top.proofs.Fronts.{appends_none, front_none}
@@ -105,6 +107,11 @@ not_loaded words before after command name s f o l i u _ (no_room h) = record {
   err_gained = fault_alone words before (codes "no memory") before.err after.err h;
 }
 
+-- the line of an end, behind a load that told nothing
+pub tells_then : (e : End) (old mid new : Option (List ℕ)) (before then_ now : ℕ) (r : Status) → mid ≡ old → then_ ≡ before → TellsEnd e mid new then_ now r → TellsEnd e old new before now r
+tells_then e old mid new before then_ now r held count told =
+    subst (λ (n : ℕ). TellsEnd e old new n now r) count (subst (λ (o : Option (List ℕ)). TellsEnd e o new then_ now r) held told)
+
 -- what is seen of the input and of the output
 abbrev pub streams_of : Moment → Moment → Streams
 streams_of before after = streams before.input after.input before.input_faults after.input_faults before.out after.out before.out_faults after.out_faults
@@ -148,7 +155,7 @@ module _ (words : List (List ℕ)) (before after : Moment) (name : List ℕ) (tr
     err_gained = fault_alone words before (codes "read fault") before.err after.err h;
   }
 
-  in_line : (x : RunsInto (program_of tree) Seen) → UpToPrint words before (x.out ++ take x.n x.line)
+  in_line : (x : RunsInto (program_of tree) Seen) → UpToWrite words before (x.out ++ take x.n x.line)
   in_line x = at_print (job_of tree x.input) x.out x.line x.n (asked x.input x.known) x.at x.part
 
   run_unwritten : RunsInto (program_of tree) Seen → Rose before.out_faults after.out_faults → AppendsFront before.err after.err (codes "write fault" ++ 10 ∷ []) → WriteFailed words before after
@@ -162,7 +169,7 @@ module _ (words : List (List ℕ)) (before after : Moment) (name : List ℕ) (tr
   run_starved : RunsInto (program_of tree) Seen ⊎ RunsUpTo (program_of tree) Seen → AppendsFront before.err after.err (codes "no memory" ++ 10 ∷ []) → MemoryFailed words before after
   run_starved (inl x) h = record {
     out = x.out ++ take x.n x.line;
-    so_far = in_print (x.out ++ take x.n x.line) (in_line x);
+    so_far = in_write (x.out ++ take x.n x.line) (in_line x);
     out_gained = x.gained;
     err_gained = fault_alone words before (codes "no memory") before.err after.err h;
   }
@@ -205,6 +212,45 @@ check_ends words before after name s rest _ (checked_so tree l still) = record {
 }
 check_ends words before after name s rest r (not_checked _ h) =
     not_loaded words before after (Check name) name s refl (appends_same before.out after.out rest.out) rest.input (omega (arith, rest.input_faults)) (omega (arith, rest.out_faults)) r h
+
+-- the program of a file is to be listed
+to_list : (words : List (List ℕ)) (before : Moment) (name : List ℕ) (tree : Tree) → Spells words (Code name) → Loaded before.texts name tree → IsToList words before (listing_of tree)
+to_list words before name tree s l = record { name = name; source = l.source; tree = tree; spelled = s; text = l.text; is_program = l.is_program; built = l.no_modes; is_listing = refl }
+
+-- a listing was written, or not
+written_ends : (words : List (List ℕ)) (before after : Moment) (text : List ℕ) → IsToList words before text → LeavesInput before after → after.files_faults ≡ before.files_faults → (r : Status) → Written text (gain before.out after.out before.out_faults after.out_faults) before.err after.err before.err_faults after.err_faults r → Headline words before after r
+written_ends words before after text a rest files _ (all_written gained count held err) = record {
+  out = text;
+  err = [];
+  answer = subst (Answers words before Done text []) (sym rest.input) (listed text a);
+  out_gained = gained;
+  err_gained = appends_same before.err after.err held;
+  quiet = record { files = omega (arith, files); input = omega (arith, rest.input_faults); out = omega (arith, count); err = omega (arith, err) };
+}
+written_ends words before after text a rest files _ (write_failed part rose h) = record {
+  out = take part.0 text;
+  cause = out_failed rose (in_listing text part.0 a part.1);
+  out_gained = part.2;
+  err_gained = fault_alone words before (codes "write fault") before.err after.err h;
+}
+written_ends words before after text a rest files _ (write_starved part h) = record {
+  out = take part.0 text;
+  so_far = in_write (take part.0 text) (in_listing text part.0 a part.1);
+  out_gained = part.2;
+  err_gained = fault_alone words before (codes "no memory") before.err after.err h;
+}
+written_ends words before after text a rest files _ (no_text same h) = record {
+  out = [];
+  so_far = no_program;
+  out_gained = appends_same before.out after.out same;
+  err_gained = fault_alone words before (codes "no memory") before.err after.err h;
+}
+
+-- a listing of a file, which leaves the input alone
+pub list_ends : (words : List (List ℕ)) (before after : Moment) (name : List ℕ) → Spells words (Code name) → LeavesInput before after → (r : Status) → Lists before.texts name (sides before.files_faults after.files_faults before.err after.err before.err_faults after.err_faults) (gain before.out after.out before.out_faults after.out_faults) r → Headline words before after r
+list_ends words before after name s rest r (listed_so tree _ l files w) = written_ends words before after (listing_of tree) (to_list words before name tree s l) rest files r w
+list_ends words before after name s rest r (not_listed _ h same count) =
+    not_loaded words before after (Code name) name s refl (appends_same before.out after.out same) rest.input (omega (arith, rest.input_faults)) (omega (arith, count)) r h
 
 -- nothing but the files and the error output changes
 pub rest_same : (before : Moment) (after : Moment) → after.input ≡ before.input → after.input_faults ≡ before.input_faults → after.out ≡ before.out → after.out_faults ≡ before.out_faults → LeavesRest before after

@@ -1,5 +1,5 @@
 -- Which answers exclude which.
-use Rattle.std.proofs.Common.{◌≡◌, ◌∙◌, inl, inr, ℕ, Bool, List, [], ◌∷◌, ◌++◌, Option, Some, refl, sym, ap, subst, arith}
+use Rattle.std.proofs.Common.{◌≡◌, ◌∙◌, ◌==◌, inl, inr, ℕ, Bool, cond, List, [], ◌∷◌, ◌++◌, Option, None, Some, refl, sym, ap, subst, arith}
 use Rattle.setl_io.specs.Files.{IsText}
 use Rattle.setl_model.specs.Answers.{RunStatus, status_of, error_line}
 use Rattle.setl_run.specs.Events.{End}
@@ -8,10 +8,11 @@ use Rattle.setl_model.specs.Means.{Means}
 use Rattle.setl_program.specs.Program.{Program}
 use Rattle.setl_program.specs.ProgramOf.{program_of}
 use Rattle.setl_top.specs.Accepted.{IsProgram, IsBuilt, Accepted, Refusal, IsRefusedFor}
-use Rattle.setl_top.specs.Headline.{Moment, AnyRose, ReadCause, load_failed, read_failed, InputLeft, untouched, read_from, WriteCause, out_failed, err_failed, faulty_words, refused, checked, run_ended, Job, IsInput, IsToRun, status_for}
-use Rattle.setl_top.specs.Laws.{IsComplete, FaultyWordsReadNothing, RefusesExactly, ChecksExactly, EndsExactly, TellsTexts}
+use Rattle.setl_top.specs.Headline.{Moment, AnyRose, ReadCause, load_failed, read_failed, InputLeft, untouched, read_from, WriteCause, out_failed, err_failed, faulty_words, refused, checked, listed, run_ended, Job, IsInput, IsToRun, status_for}
+use Rattle.setl_top.specs.Laws.{IsComplete, FaultyWordsReadNothing, RefusesExactly, ChecksExactly, ListsExactly, EndsExactly, TellsTexts}
+use Rattle.setl_top.specs.Listings.{listing_of}
 use Rattle.setl_top.specs.Reasons.{reason_line}
-use Rattle.setl_top.specs.Words.{Command, Run, Check, Spells, HasFile, RunsFile, IsFaulty}
+use Rattle.setl_top.specs.Words.{Command, Run, Check, Code, Spells, HasFile, RunsFile, IsFaulty}
 use Rattle.setl_top.specs.declared.status.Status.TheVariants.{Done, Refused, Words, Stopped, Spent, ReadFault, WriteFault, NoMemory}
 use Rattle.setl_top.proofs.OneReason.{FrontLaws, one_reason, one_program_tree, not_refused}
 
@@ -46,37 +47,44 @@ no_input words before after faulty (read_from job out taken a h k) = absurd (fau
 pub faulty_reads_nothing : FaultyWordsReadNothing
 faulty_reads_nothing words before after faulty = ((λ h. no_read words before after h.out faulty h.cause), no_input words before after faulty)
 
-first_byte : List (List ℕ) → ℕ
-first_byte [] = 0
-first_byte ([] ∷ words) = 0
-first_byte ((c ∷ word) ∷ words) = c
+abbrev second_byte : List ℕ → ℕ
+second_byte [] = 0
+second_byte (b ∷ []) = 0
+second_byte (b ∷ c ∷ word) = c
 
-run_not_check : (words : List (List ℕ)) (a b : List ℕ) → Spells words (Run a) → Spells words (Check b) → ⊥
-unfolding first_byte
-run_not_check words a b s t =
-    let bytes : 114 ≡ 99 = sym (ap first_byte s.0) ∙ ap first_byte t.0 in
-    omega (arith, bytes)
+-- the command of words that spell one: the second byte of its word tells it
+abbrev command_in : List (List ℕ) → Option Command
+command_in [] = None
+command_in (word ∷ []) = None
+command_in (word ∷ name ∷ words) = cond (second_byte word == 117) (Some (Run name)) (cond (second_byte word == 104) (Some (Check name)) (Some (Code name)))
+
+is_command : (words : List (List ℕ)) (c : Command) → Spells words c → command_in words ≡ Some c
+is_command words (Run name) s = ap command_in s.0
+is_command words (Check name) s = ap command_in s.0
+is_command words (Code name) s = ap command_in s.0
 
 -- words spell one command
 pub one_command : (words : List (List ℕ)) (c d : Command) → Spells words c → Spells words d → c ≡ d
-one_command words (Run a) (Run b) s t = let x = s.0 in let y = t.0 in let same : a ≡ b = cc in ap Run same
-one_command words (Run a) (Check b) s t = absurd (run_not_check words a b s t)
-one_command words (Check a) (Run b) s t = absurd (run_not_check words b a t s)
-one_command words (Check a) (Check b) s t = let x = s.0 in let y = t.0 in let same : a ≡ b = cc in ap Check same
+one_command words c d s t =
+    let x = is_command words c s in
+    let y = is_command words d t in
+    cc
 
 one_file : (c : Command) (n m : List ℕ) → HasFile c n → HasFile c m → n ≡ m
 one_file (Run a) n m f g = f ∙ sym g
 one_file (Check a) n m f g = f ∙ sym g
+one_file (Code a) n m f g = f ∙ sym g
 
 -- a run's file is its command's
 run_file : (c : Command) (n : List ℕ) (turns : ℕ) (based : Bool) → RunsFile c n turns based → HasFile c n
 run_file (Run a) n turns based h = h.0
 run_file (Check a) n turns based h = absurd h
+run_file (Code a) n turns based h = absurd h
 
--- a check runs nothing
-check_runs_not : (words : List (List ℕ)) (before : Moment) (job : Job) (name : List ℕ) → IsToRun words before job → Spells words (Check name) → ⊥
-check_runs_not words before job name a s =
-    subst (λ c. RunsFile c a.name job.turns job.based) (one_command words a.command (Check name) a.spelled s) a.runs
+-- what is to be run is what the command runs
+runs_so : (words : List (List ℕ)) (before : Moment) (job : Job) (c : Command) (a : IsToRun words before job) → Spells words c → RunsFile c a.name job.turns job.based
+runs_so words before job c a s =
+    subst (λ d. RunsFile d a.name job.turns job.based) (one_command words a.command c a.spelled s) a.runs
 
 -- two texts of one name are one
 one_text : (before : Moment) (texts : List ℕ → Option (List ℕ)) → TellsTexts before texts → (n m a b : List ℕ) → n ≡ m → IsText before.texts n a → IsText before.texts m b → a ≡ b
@@ -100,6 +108,7 @@ one_source words before texts t c d n m a b s f h s' f' h' =
 can_run : (c : Command) (n : List ℕ) (turns : ℕ) (based : Bool) (source : List ℕ) (program : Program) → RunsFile c n turns based → (a : Accepted source program) → IsBuilt c a.tree
 can_run (Run x) n turns based source program h a = a.no_modes
 can_run (Check x) n turns based source program h a = absurd h
+can_run (Code x) n turns based source program h a = absurd h
 
 -- a source that is refused isn't run
 refused_not_run : FrontLaws → (words : List (List ℕ)) (before : Moment) (texts : List ℕ → Option (List ℕ)) → TellsTexts before texts → (job : Job) → IsToRun words before job → (c : Command) (name source line : List ℕ) → Spells words c → HasFile c name → IsText before.texts name source → Refusal c source line → ⊥
@@ -126,6 +135,9 @@ refused_only laws words before texts c name source line _ _ _ _ t s f h r (refus
 refused_only laws words before texts c name source line _ _ _ _ t s f h r (checked n x tree s' t' p b) =
     let sources = one_source words before texts t (Check n) c n name x source s' refl t' s f (told_text before texts t name source h) in
     absurd (not_refused laws c source r.reason r.refused tree (subst (λ y. IsProgram y tree) sources p) (subst (λ y. IsBuilt y tree) (one_command words (Check n) c s' s) b))
+refused_only laws words before texts c name source line _ _ _ _ t s f h r (listed text a) =
+    let sources = one_source words before texts t (Code a.name) c a.name name a.source source a.spelled refl a.text s f (told_text before texts t name source h) in
+    absurd (not_refused laws c source r.reason r.refused a.tree (subst (λ y. IsProgram y a.tree) sources a.is_program) (subst (λ y. IsBuilt y a.tree) (one_command words (Code a.name) c a.spelled s) a.built))
 refused_only laws words before texts c name source line _ _ _ _ t s f h r (run_ended job out end ending left a m e k) =
     absurd (refused_not_run laws words before texts t job a c name source line s f (told_text before texts t name source h) r)
 
@@ -140,7 +152,23 @@ checks_only laws words before texts name source _ _ _ _ t s h (refused d n x l s
 checks_only laws words before texts name source _ _ _ _ t s h (checked n x tree s' t' p b) =
     let sources = one_source words before texts t (Check n) (Check name) n name x source s' refl t' s refl (told_text before texts t name source h) in
     (((λ _. (tree, subst (λ y. IsProgram y tree) sources p, b)), (λ _. refl)), refl, (λ _. refl), refl)
-checks_only laws words before texts name source _ _ _ _ t s h (run_ended job out end ending left a m e k) = absurd (check_runs_not words before job name a s)
+checks_only laws words before texts name source _ _ _ _ t s h (listed text a) = let same = one_command words (Code a.name) (Check name) a.spelled s in absurd (cc)
+checks_only laws words before texts name source _ _ _ _ t s h (run_ended job out end ending left a m e k) = absurd (runs_so words before job (Check name) a s)
+
+-- ---- listings
+
+pub lists_only : FrontLaws → ListsExactly
+lists_only laws words before texts name source _ _ _ _ t s h (faulty_words n) = absurd (n (Code name) s)
+lists_only laws words before texts name source _ _ _ _ t s h (refused d n x l s' f' t' r) =
+    let sources = one_source words before texts t d (Code name) n name x source s' f' t' s refl (told_text before texts t name source h) in
+    let moved = subst (λ y. IsRefusedFor y source r.reason) (one_command words d (Code name) s' s) (subst (λ y. IsRefusedFor d y r.reason) sources r.refused) in
+    (((λ (e : Refused ≡ Done). absurd (cc)), λ p. absurd (not_refused laws (Code name) source r.reason moved p.0 p.1 p.2)), (λ tree p b. absurd (not_refused laws (Code name) source r.reason moved tree p b)), inr (refl, refl), refl)
+lists_only laws words before texts name source _ _ _ _ t s h (checked n x tree s' t' p b) = let same = one_command words (Check n) (Code name) s' s in absurd (cc)
+lists_only laws words before texts name source _ _ _ _ t s h (listed text a) =
+    let sources = one_source words before texts t (Code a.name) (Code name) a.name name a.source source a.spelled refl a.text s refl (told_text before texts t name source h) in
+    let program = subst (λ y. IsProgram y a.tree) sources a.is_program in
+    (((λ _. (a.tree, program, a.built)), (λ _. refl)), (λ tree p b. (a.is_listing ∙ ap listing_of (one_program_tree laws source a.tree tree program p), refl)), inl refl, refl)
+lists_only laws words before texts name source _ _ _ _ t s h (run_ended job out end ending left a m e k) = absurd (runs_so words before job (Code name) a s)
 
 -- ---- runs
 
@@ -158,6 +186,7 @@ one_input before input t a b h k =
 one_turns : (c : Command) (n m : List ℕ) (s t : ℕ) (a b : Bool) → RunsFile c n s a → RunsFile c m t b → (s ≡ t) × (a ≡ b)
 one_turns (Run x) n m s t a b h k = (h.1 ∙ sym k.1, h.2 ∙ sym k.2)
 one_turns (Check x) n m s t a b h k = absurd h
+one_turns (Code x) n m s t a b h k = absurd h
 
 -- the words ask for one run
 one_job : FrontLaws → (words : List (List ℕ)) (before : Moment) (texts : List ℕ → Option (List ℕ)) (input : List ℕ) → TellsTexts before texts → before.input ≡ Some input → (j k : Job) → IsToRun words before j → IsToRun words before k → j ≡ k
@@ -177,7 +206,8 @@ one_ending e d a b h p q = let r = ap status_of h in cc
 pub ends_only : FrontLaws → OneMeaning → EndsExactly
 ends_only laws meaning words before texts input job said end ending _ _ _ _ t i a m s (faulty_words n) = absurd (n a.command a.spelled)
 ends_only laws meaning words before texts input job said end ending _ _ _ _ t i a m s (refused c name source line s' f h r) = absurd (refused_not_run laws words before texts t job a c name source line s' f h r)
-ends_only laws meaning words before texts input job said end ending _ _ _ _ t i a m s (checked n x tree s' t' p b) = absurd (check_runs_not words before job n a s')
+ends_only laws meaning words before texts input job said end ending _ _ _ _ t i a m s (checked n x tree s' t' p b) = absurd (runs_so words before job (Check n) a s')
+ends_only laws meaning words before texts input job said end ending _ _ _ _ t i a m s (listed text l) = absurd (runs_so words before job (Code l.name) a l.spelled)
 ends_only laws meaning words before texts input job said end ending _ _ _ _ t i a m s (run_ended other out last how left b n u k) =
     let same = one_job laws words before texts input t i other job b a in
     let moved = subst (λ (j : Job). Means j.program j.input j.turns j.based out last) same n in

@@ -4,10 +4,12 @@ use Rattle.setl_io.specs.Files.{Texts, IsText}
 use Rattle.setl_tree.specs.declared.tree.Tree.{Tree}
 use Rattle.setl_top.specs.Accepted.{IsProgram, IsRefusedFor, IsUnbuilt}
 use Rattle.setl_top.specs.Lines.{AppendsFront}
-use Rattle.setl_top.specs.Loads.{Sides, sides, IsStill, NotLoaded, not_accepted, no_room}
+use Rattle.setl_top.specs.Listings.{listing_of}
+use Rattle.setl_top.specs.Lists.{Gain, Written, Lists, listed_so}
+use Rattle.setl_top.specs.Loads.{Loaded, Sides, sides, IsStill, NotLoaded, not_accepted, no_room}
 use Rattle.setl_top.specs.Reasons.{reason_line}
 use Rattle.setl_top.specs.Tells.{Tells}
-use Rattle.setl_top.specs.Words.{Command, Run, Check}
+use Rattle.setl_top.specs.Words.{Command, Run, Check, Code}
 use Rattle.setl_top.specs.declared.reason.Reason.{Reason}
 use Rattle.setl_top.specs.declared.status.Status.{Status}
 use Rattle.setl_top.specs.declared.status.Status.TheVariants as status
@@ -23,7 +25,14 @@ not_accepted_then command texts name s still new err_now source reason ends text
 pub no_room_then : (command : Command) (texts : Texts) (name : List ℕ) (s : Sides) → IsStill s → (new : Option (List ℕ)) (err_now : ℕ) → AppendsFront s.new new (codes "no memory" ++ 10 ∷ []) → NotLoaded command texts name (sides s.files_before s.files_now s.old new s.err_before err_now) status.NoMemory
 no_room_then command texts name s still new err_now told = no_room (subst (λ (o : Option (List ℕ)). AppendsFront o new (codes "no memory" ++ 10 ∷ [])) still.held told)
 
+-- a listing that was written then, or not
+pub listed_then : (texts : Texts) (name : List ℕ) (tree : Tree) (s : Sides) (o : Gain) → Loaded texts name tree → IsStill s → (new : Option (List ℕ)) (err_now : ℕ) (ends : Status) → Written (listing_of tree) o s.new new s.err_now err_now ends → Lists texts name (sides s.files_before s.files_now s.old new s.err_before err_now) o ends
+listed_then texts name tree s o loaded still new err_now ends w =
+    let held = subst (λ (x : Option (List ℕ)). Written (listing_of tree) o x new s.err_now err_now ends) still.held w in
+    listed_so tree ends loaded still.files (subst (λ (n : ℕ). Written (listing_of tree) o s.old new n err_now ends) still.err held)
+
 -- a program with `repr` lines is one that no command can work on so far
 pub is_unbuilt : (command : Command) (source : List ℕ) (tree : Tree) → IsProgram source tree → (tree.modes ≡ [] → ⊥) → IsUnbuilt command source
 is_unbuilt (Run name) source tree p h = record { tree = tree; is_program = p; other = h }
 is_unbuilt (Check name) source tree p h = record { tree = tree; is_program = p; other = h }
+is_unbuilt (Code name) source tree p h = record { tree = tree; is_program = p; other = h }

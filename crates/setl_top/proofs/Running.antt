@@ -192,8 +192,8 @@ runs laws p formed no_modes s end.Stuck r = not_stuck laws p formed no_modes s r
 takes : (laws : CodeLaws) (p : Program) (formed : Formed p) (no_modes : p.modes ≡ []) (s : Streams) (e : End) → RunsCode (code_of p) s e → TakesInput p s
 takes laws p formed no_modes s e r =
     elim r.reads [
-      inl same ↦ inl same
-    | inr b ↦ inr (record { input = r.input; known = r.known; out = b.0.out; taken = r.took.0; at = came_at_read p no_modes r.input turns laws formed b.0 (b.2.after, b.2.reached) b.3; consumed = r.took.1 })
+      | inl same ↦ inl same
+      | inr b ↦ inr (record { input = r.input; known = r.known; out = b.0.out; taken = r.took.0; at = came_at_read p no_modes r.input turns laws formed b.0 (b.2.after, b.2.reached) b.3; consumed = r.took.1 })
     ]
 
 -- nothing was done

@@ -17,7 +17,7 @@ use Rattle.setl_names.specs.declared.broken.Break.{Break}
 use Rattle.setl_program.specs.Program.{Program}
 use Rattle.setl_program.specs.ProgramOf.{program_of}
 use Rattle.setl_top.specs.Reasons.{reason_line}
-use Rattle.setl_top.specs.Words.{Command, Run, Check}
+use Rattle.setl_top.specs.Words.{Command, Run, Check, Code}
 use Rattle.setl_top.specs.declared.reason.Reason.{Reason}
 use Rattle.setl_top.specs.declared.reason.Reason.TheVariants as reason
 
@@ -39,10 +39,11 @@ pub record IsProgram (source : List ℕ) (tree : Tree) : Type 0 where
   pub parsed : IsParsed source tree
   pub sound : first_break (breaks tree) ≡ None
 
--- what a command can do so far: it runs and checks programs without `repr` lines
+-- what a command can do so far: it runs, checks and lists programs without `repr` lines
 abbrev pub IsBuilt : Command → Tree → Type 0
 IsBuilt (Run name) tree = tree.modes ≡ []
 IsBuilt (Check name) tree = tree.modes ≡ []
+IsBuilt (Code name) tree = tree.modes ≡ []
 
 -- the source is accepted for a run, and this is its program
 pub record Accepted (source : List ℕ) (program : Program) : Type 0 where

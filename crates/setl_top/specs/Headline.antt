@@ -11,8 +11,9 @@ use Rattle.setl_tree.specs.declared.tree.Tree.{Tree}
 use Rattle.setl_top.specs.Accepted.{IsProgram, IsBuilt, Accepted, Refusal}
 use Rattle.setl_top.specs.Fronts.{IsFront}
 use Rattle.setl_top.specs.Lines.{AppendsFront}
+use Rattle.setl_top.specs.Listings.{listing_of}
 use Rattle.setl_top.specs.Moments.{AtState, AtPrint, AtRead}
-use Rattle.setl_top.specs.Words.{Command, Check, Spells, HasFile, RunsFile, IsFaulty}
+use Rattle.setl_top.specs.Words.{Command, Check, Code, Spells, HasFile, RunsFile, IsFaulty}
 use Rattle.setl_top.specs.declared.status.Status.{Status}
 use Rattle.setl_top.specs.declared.status.Status.TheVariants.{Done, Refused, Words, Stopped, Spent, ReadFault, WriteFault, NoMemory}
 
@@ -63,6 +64,17 @@ pub record IsToRun (words : List (List ℕ)) (before : Moment) (job : Job) : Typ
   pub accepted : Accepted source job.program
   pub input : IsInput before.input job.input
 
+-- the words ask for the code of a program, and this is its listing
+pub record IsToList (words : List (List ℕ)) (before : Moment) (listed : List ℕ) : Type 0 where
+  pub name : List ℕ
+  pub source : List ℕ
+  pub tree : Tree
+  pub spelled : Spells words (Code name)
+  pub text : IsText before.texts name source
+  pub is_program : IsProgram source tree
+  pub built : IsBuilt (Code name) tree
+  pub is_listing : listed ≡ listing_of tree
+
 -- the status of a run's end
 abbrev pub status_for : RunStatus → Status
 status_for IsDone = Done
@@ -80,17 +92,19 @@ pub data Answers (words : List (List ℕ)) (before : Moment) : Status → List �
   faulty_words : IsFaulty words → Answers words before Words [] [] before.input
   refused : (command : Command) (name source line : List ℕ) → Spells words command → HasFile command name → IsText before.texts name source → Refusal command source line → Answers words before Refused [] (line ++ 10 ∷ []) before.input
   checked : (name source : List ℕ) (tree : Tree) → Spells words (Check name) → IsText before.texts name source → IsProgram source tree → IsBuilt (Check name) tree → Answers words before Done [] [] before.input
+  listed : (text : List ℕ) → IsToList words before text → Answers words before Done text [] before.input
   run_ended : (job : Job) (out : List ℕ) (end : End) (ending : RunStatus) (left : Option (List ℕ)) → IsToRun words before job → (means : Means job.program job.input job.turns job.based out end) → status_of end ≡ Some ending → IsLeft before.input left means.last.core.shared.world.input → Answers words before (status_for ending) out (error_line end) left
 
--- at a print: the output up to it, and some of its line, and not all of it
-pub data UpToPrint (words : List (List ℕ)) (before : Moment) : List ℕ → Type 0 where
-  at_print : (job : Job) (out line : List ℕ) (n : ℕ) → IsToRun words before job → AtPrint job.program job.input job.turns job.based out line → n < length line → UpToPrint words before (out ++ take n line)
+-- at a print: the output up to it, and some of its line, and not all of it; or some of a listing, and not all of it
+pub data UpToWrite (words : List (List ℕ)) (before : Moment) : List ℕ → Type 0 where
+  at_print : (job : Job) (out line : List ℕ) (n : ℕ) → IsToRun words before job → AtPrint job.program job.input job.turns job.based out line → n < length line → UpToWrite words before (out ++ take n line)
+  in_listing : (text : List ℕ) (n : ℕ) → IsToList words before text → n < length text → UpToWrite words before (take n text)
 
--- anywhere: nothing, the output of a state, or that and some of the line of the print in hand
+-- anywhere: nothing, the output of a state, or what stands where a line or a listing is being written
 pub data UpToAny (words : List (List ℕ)) (before : Moment) : List ℕ → Type 0 where
   no_program : UpToAny words before []
   at_state : (job : Job) (out : List ℕ) → IsToRun words before job → AtState job.program job.input job.turns job.based out → UpToAny words before out
-  in_print : (out : List ℕ) → UpToPrint words before out → UpToAny words before out
+  in_write : (out : List ℕ) → UpToWrite words before out → UpToAny words before out
 
 -- What the error output gains when a call is broken off: a front of what it would hold otherwise, and then a front of
 -- the error line.
@@ -134,9 +148,9 @@ pub record ReadFailed (words : List (List ℕ)) (before after : Moment) : Type 0
   pub out_gained : Appends before.out after.out out
   pub err_gained : TellsFault words before (codes "read fault") before.err after.err
 
--- the output failed in a print, or the error output failed after the whole output
+-- the output failed in a print or in a listing, or the error output failed after the whole output
 pub data WriteCause (words : List (List ℕ)) (before after : Moment) (out : List ℕ) : Type 0 where
-  out_failed : Rose before.out_faults after.out_faults → UpToPrint words before out → WriteCause words before after out
+  out_failed : Rose before.out_faults after.out_faults → UpToWrite words before out → WriteCause words before after out
   err_failed : (status : Status) (err : List ℕ) → Rose before.err_faults after.err_faults → Answers words before status out err after.input → WriteCause words before after out
 
 pub record WriteFailed (words : List (List ℕ)) (before after : Moment) : Type 0 where
@@ -178,6 +192,14 @@ pub record LeavesRest (before after : Moment) : Type 0 where
 
 abbrev pub CheckLeavesRest : List (List ℕ) → Moment → Moment → Type 0
 CheckLeavesRest words before after = (name : List ℕ) → Spells words (Check name) → LeavesRest before after
+
+-- a listing leaves the input as it was, however it ends
+pub record LeavesInput (before after : Moment) : Type 0 where
+  pub input : after.input ≡ before.input
+  pub input_faults : after.input_faults ≡ before.input_faults
+
+abbrev pub ListingLeavesInput : List (List ℕ) → Moment → Moment → Type 0
+ListingLeavesInput words before after = (name : List ℕ) → Spells words (Code name) → LeavesInput before after
 
 -- some count rose
 abbrev pub AnyRose : Moment → Moment → Type 0

@@ -1,5 +1,5 @@
 //! What follows from the headline and the definitions alone. The functions have no effect: each states a law.
-ghost use Rattle.setl_top.specs.Laws.{IsComplete, FaultyWordsReadNothing, RefusesExactly, ChecksExactly, EndsExactly, AcceptedRunsEnd, NoAcceptedRunIsStuck};
+ghost use Rattle.setl_top.specs.Laws.{IsComplete, FaultyWordsReadNothing, RefusesExactly, ChecksExactly, ListsExactly, EndsExactly, AcceptedRunsEnd, NoAcceptedRunIsStuck};
 
 /// Where no count of faults rose and memory was found, the call came to its end.
 pub fn completeness()
@@ -23,6 +23,16 @@ pub fn refused_exactly()
 /// lines; the output gains nothing, and at `Done` the error output neither.
 pub fn checks_exactly()
     ensures { ChecksExactly }
+{
+    setl_token::lexing_is_determined();
+    setl_reading::tree_is_unique();
+}
+
+/// Where the texts are told, a listing that came to its end is done exactly where the source is a program without `repr`
+/// lines; the output has then gained the listing of that program's code, and otherwise nothing. The input is left as it
+/// was.
+pub fn lists_exactly()
+    ensures { ListsExactly }
 {
     setl_token::lexing_is_determined();
     setl_reading::tree_is_unique();

@@ -1,12 +1,15 @@
 //! The program as one call: `setl` does what the words of the command line ask for.
 //!
-//! `setl run FILE` runs a program that has no `repr` lines, and `setl check FILE` checks it. Every other source is
-//! refused, with the first reason by length, tokens, syntax and nesting, rules, and `repr` lines.
+//! `setl run FILE` runs a program that has no `repr` lines, `setl check FILE` checks it, and `setl code FILE` writes the
+//! listing of its code. Every other source is refused, with the first reason by length, tokens, syntax and nesting,
+//! rules, and `repr` lines.
 #![tactic(auto)]
 
+mod coding;
 mod front;
 mod laws;
 mod lines;
+mod listing;
 mod load;
 mod reason;
 mod run;
@@ -18,7 +21,7 @@ mod words;
 
 pub use laws::{
     checks_exactly, completeness, ends_exactly, every_accepted_run_ends, faulty_words_read_nothing,
-    refused_exactly,
+    lists_exactly, refused_exactly,
 };
 pub use status::Status;
 pub use top::setl;

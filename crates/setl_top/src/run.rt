@@ -1,33 +1,22 @@
 //! Runs of programs.
 ghost use Rattle.std.specs.Prelude.{◌≡◌, [], IfOk, OnErr};
 ghost use Rattle.setl_acceptance.specs.Claims.{IsAccepted};
-ghost use Rattle.setl_code.specs.CodeOf.{code_of};
 ghost use Rattle.setl_code.specs.MayRun.{MayRun};
 ghost use Rattle.setl_code.specs.Plain.{plain_code};
 ghost use Rattle.setl_program.specs.ProgramOf.{program_of};
 ghost use Rattle.setl_top.specs.CodeRuns.{RunsCode};
 ghost use Rattle.setl_top.specs.Runs.{Runs, TakesInput, streams};
 
+use crate::coding::code_of_tree;
 use setl_code::Code;
-use setl_elaborate::elaborate;
-use setl_gen::emit;
 use setl_io::{Sink, Source};
 use setl_machine::{Control, End, run_whole};
 use setl_store::Store;
-use setl_tree::{Items, Tree};
+use setl_tree::Tree;
 use std::alloc::{AllocError, Global};
 
 /// The bound on the turns of a run.
 const MAX_TURNS: u64 = (1 << 63) - 1;
-
-/// The code of a program without `repr` lines. The error is want of memory.
-fn code_of_tree(alloc: Global, tree: &Tree) -> Result<Code, AllocError>
-    requires { tree.now.modes ≡ [] }
-    ensures { IfOk result (λ code. plain_code code ≡ code_of (program_of tree.now)) }
-{
-    let program = elaborate(alloc, tree, Items::new(alloc))?;
-    emit(alloc, &program)
-}
 
 /// Runs a code from its first step. The error is want of memory, and then nothing was done.
 fn run_code<I: Source, O: Sink>(

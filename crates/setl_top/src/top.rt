@@ -1,9 +1,10 @@
 //! The program as one call.
 ghost use Rattle.std.specs.Prelude.{ℕ, List, map, string_bytes};
-ghost use Rattle.setl_top.specs.Headline.{Headline, InputLeft, CheckLeavesRest, moment};
+ghost use Rattle.setl_top.specs.Headline.{Headline, InputLeft, CheckLeavesRest, ListingLeavesInput, moment};
 ghost use Rattle.setl_top.specs.Words.{Run, Spells};
 
 use crate::Status;
+use crate::listing::list_file;
 use crate::load::{check_file, load_program};
 use crate::run::run_program;
 use crate::tell::tell_end;
@@ -14,10 +15,11 @@ use std::alloc::Global;
 
 /// Does what the words of the command line ask for, and tells how that ended.
 ///
-/// `words` are those after the program's own name: `run FILE` or `check FILE`. `files` has the sources by name, and
-/// `input` is what a program reads. `out` gains what the program prints, each line at its `print`; `err` gains the last
-/// line of a call that wasn't done, if it has one. Bytes are taken off the front of `input` only by a run that comes to a
-/// `read`. A check leaves `input` and `out` as they were, however it ends.
+/// `words` are those after the program's own name: `run FILE`, `check FILE` or `code FILE`. `files` has the sources by
+/// name, and `input` is what a program reads. `out` gains what the program prints, each line at its `print`, or the
+/// listing of its code for `code FILE`; `err` gains the last line of a call that wasn't done, if it has one. Bytes are
+/// taken off the front of `input` only by a run that comes to a `read`. A check leaves `input` and `out` as they were,
+/// however it ends, and a listing leaves `input` as it was.
 ///
 /// `ReadFault` comes only where the words name a file and the count of faults of `files` rose in the call, or that of
 /// `input` at a `read`, `WriteFault` only where the count of `out` or `err` rose, and `NoMemory` only where memory was
@@ -36,10 +38,13 @@ pub fn setl<F: Files, I: Source, O: Sink, E: Sink>(
         InputLeft (map string_bytes words.now) (seen files.old input.old out.old err.old) (seen files.new input.new out.new err.new) }
     ensures rest { let seen = moment F.texts F.faults I.left I.faults O.held O.faults E.held E.faults in
         CheckLeavesRest (map string_bytes words.now) (seen files.old input.old out.old err.old) (seen files.new input.new out.new err.new) }
+    ensures listing { let seen = moment F.texts F.faults I.left I.faults O.held O.faults E.held E.faults in
+        ListingLeavesInput (map string_bytes words.now) (seen files.old input.old out.old err.old) (seen files.new input.new out.new err.new) }
 {
     match read_words(words) {
         Some(Command::Run(name)) => run_file(alloc, name, files, input, out, err),
         Some(Command::Check(name)) => check_file(alloc, name, files, err),
+        Some(Command::Code(name)) => list_file(alloc, name, files, out, err),
         None => Status::Words,
     }
 }

@@ -10,6 +10,8 @@ pub enum Command<'a> {
     Run(&'a str),
     /// The source in the file is to be checked.
     Check(&'a str),
+    /// The code of the program of the file is to be listed.
+    Code(&'a str),
 }
 
 /// Reads the words. `None` comes exactly where they are of no plain form.
@@ -22,6 +24,9 @@ pub fn read_words(words: &[String]) -> Option<Command<'_>>
             name.as_str(),
         )),
         [word, name] if is_check(word.as_str()) && is_file(name.as_str()) => Some(Command::Check(
+            name.as_str(),
+        )),
+        [word, name] if is_code(word.as_str()) && is_file(name.as_str()) => Some(Command::Code(
             name.as_str(),
         )),
         _ => None,
@@ -40,6 +45,13 @@ fn is_check(word: &str) -> bool
     ensures { IsTrue result ↔ (word.now ≡ codes "check") }
 {
     word == "check"
+}
+
+/// Whether a word is that of a listing.
+fn is_code(word: &str) -> bool
+    ensures { IsTrue result ↔ (word.now ≡ codes "code") }
+{
+    word == "code"
 }
 
 /// Whether a file may have that name in the words.

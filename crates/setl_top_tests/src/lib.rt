@@ -14,6 +14,8 @@ mod inputs;
 #[cfg(test)]
 mod limits;
 #[cfg(test)]
+mod listings;
+#[cfg(test)]
 mod pieces;
 #[cfg(test)]
 mod programs;

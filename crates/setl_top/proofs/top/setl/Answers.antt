@@ -1,6 +1,6 @@
 use Rattle.std.proofs.Common.{refl}
 use Rattle.setl_top.specs.Headline.{untouched}
-use Rattle.setl_top.proofs.Ends.{faulty_ends, check_ends, rest_same}
+use Rattle.setl_top.proofs.Ends.{faulty_ends, check_ends, list_ends, rest_same}
 use Rattle.setl_top.proofs.top.setl.Goals as goal
 
 pub returns-in-None-clause-headline : goal.returns-in-None-clause-headline
@@ -13,6 +13,10 @@ pub returns-in-Some-Check-clause-headline : goal.returns-in-Some-Check-clause-he
 returns-in-Some-Check-clause-headline g c =
     check_ends _ _ _ _ (rw c.in-Some-Check.field-0-is at c.in-Some-Check.ensures.plain) (rest_same _ _ refl refl refl refl) _ c.check_file.ensures
 
+pub returns-in-Some-Code-clause-headline : goal.returns-in-Some-Code-clause-headline
+returns-in-Some-Code-clause-headline g c =
+    list_ends _ _ _ _ (rw c.in-Some-Code.field-0-is at c.in-Some-Code.ensures.plain) (record { input = refl; input_faults = refl }) _ c.list_file.ensures
+
 pub returns-in-None-clause-input : goal.returns-in-None-clause-input
 returns-in-None-clause-input g c = untouched refl
 
@@ -21,3 +25,6 @@ returns-in-Some-Run-clause-input g c = c.run_file.ensures.input _ (rw c.in-Some-
 
 pub returns-in-Some-Check-clause-input : goal.returns-in-Some-Check-clause-input
 returns-in-Some-Check-clause-input g c = untouched refl
+
+pub returns-in-Some-Code-clause-input : goal.returns-in-Some-Code-clause-input
+returns-in-Some-Code-clause-input g c = untouched refl

@@ -1,0 +1,6 @@
+use Rattle.setl_top.specs.Lists.{no_text}
+use Rattle.std.proofs.Common.{refl}
+use Rattle.setl_top.proofs.listing.write_listing.Goals as goal
+
+pub returns-in_default : goal.returns-in_default
+returns-in_default g c = no_text refl c.try_line.ensures.front

@@ -1,0 +1,75 @@
+//! Listings of programs.
+ghost use Rattle.std.specs.Prelude.{◌≡◌, [], IfOk};
+ghost use Rattle.setl_top.specs.Listings.{listing_of};
+ghost use Rattle.setl_top.specs.Lists.{Lists, Written, gain};
+ghost use Rattle.setl_top.specs.Loads.{sides};
+
+use crate::Status;
+use crate::coding::code_of_tree;
+use crate::lines::try_line;
+use crate::load::load_program;
+use setl_io::{Files, Sink, WriteFault, write_all};
+use setl_listing::listing;
+use setl_tree::Tree;
+use std::alloc::{AllocError, Global};
+
+/// The listing of the code of a program without `repr` lines. The error is want of memory.
+fn listed(alloc: Global, tree: &Tree) -> Result<Vec<u8>, AllocError>
+    requires { tree.now.modes ≡ [] }
+    ensures { IfOk result (λ text. text.items ≡ listing_of tree.now) }
+{
+    let code = code_of_tree(alloc, tree)?;
+    listing(alloc, &code)
+}
+
+/// Writes a text to the output. Where that fails, the fault's line was tried.
+fn write_text<O: Sink, E: Sink>(text: &[u8], out: &mut O, err: &mut E) -> Status
+    ensures { Written text.now (gain (O.held out.old) (O.held out.new) (O.faults out.old) (O.faults out.new)) (E.held err.old) (E.held err.new) (E.faults err.old) (E.faults err.new) result }
+{
+    match write_all(out, text) {
+        Ok(()) => Status::Done,
+        Err(WriteFault::Failed) => {
+            try_line(err, b"write fault\n");
+            Status::WriteFault
+        }
+        Err(WriteFault::NoMemory) => {
+            try_line(err, b"no memory\n");
+            Status::NoMemory
+        }
+    }
+}
+
+/// Writes the listing of the code of a program without `repr` lines. Where that fails, the fault's line was tried.
+fn write_listing<O: Sink, E: Sink>(
+    alloc: Global,
+    tree: &Tree,
+    out: &mut O,
+    err: &mut E,
+) -> Status
+    requires { tree.now.modes ≡ [] }
+    ensures { Written (listing_of tree.now) (gain (O.held out.old) (O.held out.new) (O.faults out.old) (O.faults out.new)) (E.held err.old) (E.held err.new) (E.faults err.old) (E.faults err.new) result }
+{
+    let Ok(text) = listed(alloc, tree) else {
+        try_line(err, b"no memory\n");
+        return Status::NoMemory;
+    };
+    write_text(&text, out, err)
+}
+
+/// Writes the listing of the code of the program of a file: done where the source is a program without `repr` lines.
+/// Otherwise the last line was told.
+pub fn list_file<F: Files, O: Sink, E: Sink>(
+    alloc: Global,
+    name: &str,
+    files: &mut F,
+    out: &mut O,
+    err: &mut E,
+) -> Status
+    ensures { Lists (F.texts files.old) name.now (sides (F.faults files.old) (F.faults files.new) (E.held err.old) (E.held err.new) (E.faults err.old) (E.faults err.new)) (gain (O.held out.old) (O.held out.new) (O.faults out.old) (O.faults out.new)) result }
+{
+    let tree = match load_program(alloc, name, files, err) {
+        Ok(tree) => tree,
+        Err(status) => return status,
+    };
+    write_listing(alloc, &tree, out, err)
+}

@@ -1,0 +1,172 @@
+//! Listings of programs, and what stands in the outputs where a listing isn't written whole.
+
+use crate::calls::{Faults, NO_FAULTS, answer, call};
+use setl_top::Status;
+use std::test::Fail;
+
+/// A program with a statement of each kind.
+const EACH: &str = "program each;
+read(n);
+[a, -] := s;
+g(1){2} := n;
+g with:= a;
+x frome g(1);
+p();
+if ok then pass; else fail; end if;
+(for i in [1..n] | i /= 3) if i = 2 then continue; end if; quit; end for;
+(while n > 0) n -:= 1; end while;
+print(n, om);
+stop;
+proc p(); return 1; end proc;
+end program;";
+
+/// Its listing, worked out by hand from the definition of the code of a program.
+const LISTED: &str = "main:
+0 read
+1 store n
+2 load s
+3 parts 2
+4 store a
+5 drop
+6 load n
+7 int 1
+8 int 2
+9 put g () {}
+10 load a
+11 with g
+12 int 1
+13 frome g ()
+14 store x
+15 call p
+16 drop
+17 ok
+18 unless 20
+19 jump 21
+20 fail
+21 int 1
+22 load n
+23 begin range
+24 next 39
+25 store i
+26 load i
+27 int 3
+28 /=
+29 unless 24
+30 load i
+31 int 2
+32 =
+33 unless 36
+34 jump 24
+35 jump 36
+36 leave 1
+37 jump 39
+38 jump 24
+39 load n
+40 int 0
+41 >
+42 unless 47
+43 round
+44 int 1
+45 - n
+46 jump 39
+47 load n
+48 om
+49 print 2
+50 stop
+51 stop
+proc p:
+0 int 1
+1 return
+2 om
+3 return
+";
+
+#[test]
+fn each_kind_of_statement_is_listed(rt: HostRuntime) -> Result<(), Fail> {
+    let left = answer(rt.alloc(), "code a", EACH)?;
+    assert!(rt; left.is(Status::Done, LISTED, ""));
+    Ok(())
+}
+
+#[test]
+fn an_output_may_take_a_byte_a_call(rt: HostRuntime) -> Result<(), Fail> {
+    let alloc = rt.alloc();
+    let faults = Faults { most: 1, ..NO_FAULTS };
+    let left = call(alloc, "code a", EACH.as_bytes().to_vec(alloc)?, faults)?;
+    assert!(rt; left.is(Status::Done, LISTED, ""));
+    Ok(())
+}
+
+/// Faults, words and a source, and what the call answers, writes and tells.
+const BROKEN_OFF: [(Faults, &str, &str, Status, &str, &str); 6] = [
+    (
+        Faults {
+            write: 1,
+            ..NO_FAULTS
+        },
+        "code a",
+        EACH,
+        Status::WriteFault,
+        "",
+        "write fault\n",
+    ),
+    (
+        Faults {
+            write: 3,
+            most: 7,
+            ..NO_FAULTS
+        },
+        "code a",
+        EACH,
+        Status::WriteFault,
+        "main:\n0 read\n1",
+        "write fault\n",
+    ),
+    (
+        Faults {
+            write: 3,
+            most: 7,
+            tell: 1,
+            ..NO_FAULTS
+        },
+        "code a",
+        EACH,
+        Status::WriteFault,
+        "main:\n0 read\n1",
+        "",
+    ),
+    (
+        NO_FAULTS,
+        "code b",
+        EACH,
+        Status::ReadFault,
+        "",
+        "read fault\n",
+    ),
+    (
+        NO_FAULTS,
+        "code a",
+        "program p;\nquit;\nend program;",
+        Status::Refused,
+        "",
+        "line 2: rule 13\n",
+    ),
+    (
+        NO_FAULTS,
+        "code a",
+        "program p;\nrepr base n: int; end repr;\nend program;",
+        Status::Refused,
+        "",
+        "not built\n",
+    ),
+];
+
+#[test]
+fn listings_that_are_not_written_whole(rt: HostRuntime) -> Result<(), Fail> {
+    let alloc = rt.alloc();
+    for (faults, line, source, status, out, err) in BROKEN_OFF {
+        let left = call(alloc, line, source.as_bytes().to_vec(alloc)?, faults)?;
+        assert!(rt; left.is(status, out, err), "at {line} {source}");
+    }
+    Ok(())
+}
