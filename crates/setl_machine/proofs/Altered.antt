@@ -1,5 +1,5 @@
 -- Updates of variables.
-use Rattle.std.proofs.Common.{◌≡◌, ◌∙◌, ◌⊎◌, inl, inr, ◌++◌, append_assoc, ℕ, zero, suc, ◌-◌, ◌≤◌, Bool, true, false, List, [], ◌∷◌, length, map, Option, Some, None, Result, Ok, Err, refl, sym, ap, subst, arith}
+use Rattle.std.proofs.Common.{◌≡◌, ◌∙◌, ◌⊎◌, inl, inr, ◌++◌, append_assoc, ℕ, suc, ◌-◌, ◌≤◌, Bool, true, false, List, [], ◌∷◌, length, map, Option, Some, None, Result, Ok, Err, refl, sym, ap, subst, arith}
 use Rattle.std.specs.Prelude.{cond, IfOk, OnErr}
 use Rattle.std.proofs.lemmas.List.{map-append, length-map}
 use Rattle.std.proofs.lemmas.Result.{IfOk-weaker}
@@ -11,11 +11,10 @@ use Rattle.setl_map.specs.declared.OpFault.{OpFault}
 use Rattle.setl_map.specs.declared.OpFault.TheVariants as fault
 use Rattle.setl_map.specs.Answers.{Tells}
 use Rattle.setl_map.specs.Outcome.{Outcome, Gives, Fails, Overspends}
-use Rattle.setl_run.specs.Run.{Move, Halts, settle}
-use Rattle.setl_run.specs.Events.{Stuck}
+use Rattle.setl_run.specs.Run.{Move, settle}
 use Rattle.setl_run.specs.Variable.{Variable, Global, Own, Bound, is_variable}
 use Rattle.setl_run.specs.VariableLaws.{variable_itself}
-use Rattle.setl_model.specs.Core.{Selected, Round, Brace}
+use Rattle.setl_model.specs.Core.{Selected}
 use Rattle.setl_model.specs.Places.{Taken, TakesOut, IsEmpty, CannotTake, part_at_all, with_part_at_all, take_out}
 use Rattle.setl_model.specs.World.{World}
 use Rattle.setl_program.specs.declared.kinds.Taking.{Taking}
@@ -150,6 +149,12 @@ taken_held old mid x w gone m h =
     let there : TakesHeld y (record old { core = over xs old.core }) (Some w) gone = subst (λ (s : Standing). TakesHeld (plain_slot (variables s.core) x) s (Some w) gone) m h in
     record { was = sym (held_in_world y old.core.world xs old.core) ∙ there.0; again = there.1; is = there.2 }
 
+pub held_slot : (old mid gone : Standing) (x : Slot) (v w : Option Value) → PopsTop old (Some v) mid → TakesHeld (plain_slot (variables mid.core) x) mid (Some w) gone → Has old x → Has gone x
+held_slot old mid gone x v w pops takes has = still_there old x mid.core.now.operands (part w) gone (taken_held old mid x w gone pops.1 takes) has
+
+pub held_slot_of : (old gone : Standing) (x : Slot) (w : Option Value) → TakesHeld (plain_slot (variables old.core) x) old (Some w) gone → Has old x → Has gone x
+held_slot_of old gone x w takes has = still_there old x old.core.now.operands (part w) gone (taken_held old old x w gone refl takes) has
+
 pub pushed : (old : Standing) (x : Slot) (xs ys : List Operand) (v : Option Datum) (gone new : Standing) → InHand old x xs v gone → new ≡ record gone { core = over ys gone.core } → InHand old x ys v new
 pushed old x xs ys v gone new h n =
     let y = plain_slot (variables old.core) x in record {
@@ -270,14 +275,16 @@ pub changed : (old mid gone new : Standing) (from to : ControlState) (line : ℕ
 changed old mid gone new from to line slot outcome v w w' r e pops takes u refused f =
     let xs = mid.core.now.operands in
     let x = plain_slot (variables old.core) slot in
-    let h : InHand old slot xs (part w) gone = taken_held old mid slot w gone pops.1 takes in
-    (code_kept old slot xs (part w) (part w') gone new from to line r e h f, λ before rest.
-    let k = stood_for (over before old.core) from rest in
-    let P : Move CodeCore → Type 0 = λ move. Quiet (settle (machine (plain_code old.code)) always (start k) move) (stood_for new.core to rest) e in
-    let f_of : Option Datum → Move CodeCore = λ whole. on_top old.core.now.operands (λ u xs. store_whole (outcome whole u k.world.left) line x xs k) in
-    subst (λ a. P (on_held a f_of)) (sym (held_in_world x (world_of from rest) before old.core ∙ h.was))
-    (subst P (sym (on_top_of old.core.now.operands xs (part v) (λ u xs. store_whole (outcome (part w) u k.world.left) line x xs k) pops.0))
-    (update_ends old slot xs before (part w) (part w') gone new from to line (outcome (part w) (part v) from.turns) r e rest h u (parts_refused r w' w refused) f)))
+    let h : InHand old slot xs (part w) gone = taken_held old mid slot w gone pops.1 takes in (
+      code_kept old slot xs (part w) (part w') gone new from to line r e h f,
+      λ before rest.
+          let k = stood_for (over before old.core) from rest in
+          let P : Move CodeCore → Type 0 = λ move. Quiet (settle (machine (plain_code old.code)) always (start k) move) (stood_for new.core to rest) e in
+          let f_of : Option Datum → Move CodeCore = λ whole. on_top old.core.now.operands (λ u xs. store_whole (outcome whole u k.world.left) line x xs k) in
+          subst (λ a. P (on_held a f_of)) (sym (held_in_world x (world_of from rest) before old.core ∙ h.was))
+          (subst P (sym (on_top_of old.core.now.operands xs (part v) (λ u xs. store_whole (outcome (part w) u k.world.left) line x xs k) pops.0))
+          (update_ends old slot xs before (part w) (part w') gone new from to line (outcome (part w) (part v) from.turns) r e rest h u (parts_refused r w' w refused) f)),
+    )
 
 -- ---- taking out
 
@@ -293,6 +300,9 @@ taken_pushed old slot w u gone put h n =
     let xs = old.core.now.operands in
     let same : gone.core.now.operands ≡ xs = ap (λ (s : Standing). s.core.now.operands) h.2 ∙ operands_written x Gone old.core in
     pushed old slot xs (Holds (part u) ∷ xs) (part w) gone put (taken_held old old slot w gone refl h) (n ∙ ap (λ ys. record gone { core = over (Holds (part u) ∷ ys) gone.core }) same)
+
+pub pushed_slot : (old gone put : Standing) (x : Slot) (w u : Option Value) → TakesHeld (plain_slot (variables old.core) x) old (Some w) gone → put ≡ record gone { core = over (Holds (part u) ∷ gone.core.now.operands) gone.core } → Has old x → Has put x
+pushed_slot old gone put x w u takes n has = still_there old x (Holds (part u) ∷ old.core.now.operands) (part w) put (taken_pushed old x w u gone put takes n) has
 
 -- what is left over is stored, or nothing is
 taking_goes : (old : Standing) (slot : Slot) (before : List Operand) (w w' : Option Datum) (put new : Standing) (from to : ControlState) (line turns : ℕ) (at : List Selected) (taken : Taken) (t : TakenOut) (e : End) (k : CodeCore) (rest : List ℕ) →
@@ -351,11 +361,13 @@ pub took_out : (old gone put new : Standing) (from to : ControlState) (line : �
 took_out old gone put new from to line slot at end w w' t e takes told n f =
     let xs = Holds (part t.value) ∷ old.core.now.operands in
     let x = plain_slot (variables old.core) slot in
-    let h : InHand old slot xs (part w) put = taken_pushed old slot w t.value gone put takes n in
-    (code_kept old slot xs (part w) (part w') put new from to line (Ok t.left) e h f, λ before rest.
-    let k = stood_for (over before old.core) from rest in
-    subst (λ a. Quiet (settle (machine (plain_code old.code)) always (start k) (on_held a (λ whole. taking (part_at_all at whole from.turns) end line x whole at old.core.now.operands k))) (stood_for new.core to rest) e) (sym (held_in_world x (world_of from rest) before old.core ∙ h.was))
-    (reading_goes old slot before (part w) (part w') put new from to line at end (part_at_all at (part w) from.turns) t e rest h told f))
+    let h : InHand old slot xs (part w) put = taken_pushed old slot w t.value gone put takes n in (
+      code_kept old slot xs (part w) (part w') put new from to line (Ok t.left) e h f,
+      λ before rest.
+          let k = stood_for (over before old.core) from rest in
+          subst (λ a. Quiet (settle (machine (plain_code old.code)) always (start k) (on_held a (λ whole. taking (part_at_all at whole from.turns) end line x whole at old.core.now.operands k))) (stood_for new.core to rest) e) (sym (held_in_world x (world_of from rest) before old.core ∙ h.was))
+          (reading_goes old slot before (part w) (part w') put new from to line at end (part_at_all at (part w) from.turns) t e rest h told f),
+    )
 
 pub takes_not : (old gone new : Standing) (from to : ControlState) (line : ℕ) (slot : Slot) (at : List Selected) (end : Taking) (w w' : Option Value) (g : OpFault) (e : End) →
     TakesHeld (plain_slot (variables old.core) slot) old (Some w) gone → Takes end at (part w) from.turns (part w') (Err g) → w' ≡ w → EndsUpdate (Err g) line (plain_slot (variables gone.core) slot) (part w') gone from new to e →
@@ -364,11 +376,13 @@ takes_not old gone new from to line slot at end w w' g e takes told refused f =
     let xs = old.core.now.operands in
     let x = plain_slot (variables old.core) slot in
     let h : InHand old slot xs (part w) gone = taken_held old old slot w gone refl takes in
-    let same : EndsUpdate (Err g) line (plain_slot (variables gone.core) slot) (part w) gone from new to e = subst (λ y. EndsUpdate (Err g) line (plain_slot (variables gone.core) slot) (part y) gone from new to e) refused f in
-    (code_kept old slot xs (part w) (part w') gone new from to line (Err g) e h f, λ before rest.
-    let k = stood_for (over before old.core) from rest in
-    subst (λ a. Quiet (settle (machine (plain_code old.code)) always (start k) (on_held a (λ whole. taking (part_at_all at whole from.turns) end line x whole at xs k))) (stood_for new.core to rest) e) (sym (held_in_world x (world_of from rest) before old.core ∙ h.was))
-    (update_stops old slot xs before (part w) gone new from to line g e rest (taking (part_at_all at (part w) from.turns) end line x (part w) at xs k) h same (reading_halts (part_at_all at (part w) from.turns) end line x (part w) (part w') at xs k g e told f.0)))
+    let same : EndsUpdate (Err g) line (plain_slot (variables gone.core) slot) (part w) gone from new to e = subst (λ y. EndsUpdate (Err g) line (plain_slot (variables gone.core) slot) (part y) gone from new to e) refused f in (
+      code_kept old slot xs (part w) (part w') gone new from to line (Err g) e h f,
+      λ before rest.
+          let k = stood_for (over before old.core) from rest in
+          subst (λ a. Quiet (settle (machine (plain_code old.code)) always (start k) (on_held a (λ whole. taking (part_at_all at whole from.turns) end line x whole at xs k))) (stood_for new.core to rest) e) (sym (held_in_world x (world_of from rest) before old.core ∙ h.was))
+          (update_stops old slot xs before (part w) gone new from to line g e rest (taking (part_at_all at (part w) from.turns) end line x (part w) at xs k) h same (reading_halts (part_at_all at (part w) from.turns) end line x (part w) (part w') at xs k g e told f.0)),
+    )
 
 -- ---- the whole instruction
 
@@ -379,11 +393,13 @@ altered old mid new from to line what slot bs vs e p m a =
     let xs = mid.core.now.operands in
     let x = plain_slot (variables old.core) slot in
     let at = selected_by (map plain_bracket bs) vs in
-    let b : Alters (record old { core = over xs old.core }) from line what x at new to e = subst (λ (t : Standing). Alters t from line what (plain_slot (variables t.core) slot) at new to e) m a in
-    (b.0, λ rest.
-    let k = stood_for old.core from rest in
-    subst (λ q. Quiet (settle (machine (plain_code old.code)) always (start k) (on_popped q (λ us ys. on_held (held x k) (λ whole. alter what line x whole (selected_by (map plain_bracket bs) us) ys k)))) (stood_for new.core to rest) e) (sym (ap (λ j. popped j [] old.core.now.operands) (length-map bs plain_bracket) ∙ p))
-    (b.1 old.core.now.operands rest))
+    let b : Alters (record old { core = over xs old.core }) from line what x at new to e = subst (λ (t : Standing). Alters t from line what (plain_slot (variables t.core) slot) at new to e) m a in (
+      b.0,
+      λ rest.
+          let k = stood_for old.core from rest in
+          subst (λ q. Quiet (settle (machine (plain_code old.code)) always (start k) (on_popped q (λ us ys. on_held (held x k) (λ whole. alter what line x whole (selected_by (map plain_bracket bs) us) ys k)))) (stood_for new.core to rest) e) (sym (ap (λ j. popped j [] old.core.now.operands) (length-map bs plain_bracket) ∙ p))
+          (b.1 old.core.now.operands rest),
+    )
 
 -- the same of a call that may want memory
 pub altered_by : {E : Type 0} (old mid new : Standing) (from to : ControlState) (line : ℕ) (declared : declared.Alteration) (what : Alteration) (slot : Slot) (bs : List Bracket) (vs : List (Option Datum)) (at : List Selected) (r : Result End E) →
@@ -393,12 +409,3 @@ altered_by old mid new from to line declared what slot bs vs at r p m s is h =
     IfOk-weaker r (λ e. Alters mid from line what (plain_slot (variables mid.core) slot) at new to e) (λ e. Does old from line (Alter (plain_alteration declared) (plain_slot (variables old.core) slot) (map plain_bracket bs)) new to e)
     (λ e a. subst (λ w. Does old from line (Alter w (plain_slot (variables old.core) slot) (map plain_bracket bs)) new to e) (sym is)
     (altered old mid new from to line what slot bs vs e p m (subst (λ ss. Alters mid from line what (plain_slot (variables mid.core) slot) ss new to e) s a))) h
-
-pub held_slot : (old mid gone : Standing) (x : Slot) (v w : Option Value) → PopsTop old (Some v) mid → TakesHeld (plain_slot (variables mid.core) x) mid (Some w) gone → Has old x → Has gone x
-held_slot old mid gone x v w pops takes has = still_there old x mid.core.now.operands (part w) gone (taken_held old mid x w gone pops.1 takes) has
-
-pub held_slot_of : (old gone : Standing) (x : Slot) (w : Option Value) → TakesHeld (plain_slot (variables old.core) x) old (Some w) gone → Has old x → Has gone x
-held_slot_of old gone x w takes has = still_there old x old.core.now.operands (part w) gone (taken_held old old x w gone refl takes) has
-
-pub pushed_slot : (old gone put : Standing) (x : Slot) (w u : Option Value) → TakesHeld (plain_slot (variables old.core) x) old (Some w) gone → put ≡ record gone { core = over (Holds (part u) ∷ gone.core.now.operands) gone.core } → Has old x → Has put x
-pushed_slot old gone put x w u takes n has = still_there old x (Holds (part u) ∷ old.core.now.operands) (part w) put (taken_pushed old x w u gone put takes n) has

@@ -5,7 +5,6 @@ pub mod RanLaws
 pub mod Working
 pub mod Entering
 pub mod Components
-pub mod Outcomes
 pub mod Denotations
 pub mod Stepping
 pub mod Rounds

@@ -60,9 +60,14 @@ fn do_quiet(
         Instr::NewAtom => push_atom(store, control),
         Instr::Eof => push_eof(store, control),
         Instr::Operate(operator, count) => operate(*operator, *count, line, store, control),
-        Instr::Alter(what, slot, brackets) => {
-            alter(*what, *slot, brackets.as_slice(), line, store, control)
-        }
+        Instr::Alter(what, slot, brackets) => alter(
+            *what,
+            *slot,
+            brackets.as_slice(),
+            line,
+            store,
+            control,
+        ),
         Instr::Next(to) => next(*to, store, control),
         Instr::Round => round(store, control),
         Instr::Call(body) => call(*body, line, store, control),

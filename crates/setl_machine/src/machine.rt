@@ -52,7 +52,7 @@ pub fn run<I: Source, O: Sink>(
 
 /// Does instructions up to the end of the run, in rounds of 1,000.
 ///
-/// It is as `run`, but never answers `Paused`. A run that isn't at its end after 2^64 rounds is answered as `NoMemory`.
+/// It is as `run`, but never answers `Paused`. A run that isn't at its end after 2^64 - 1 rounds is answered as `NoMemory`.
 pub fn run_whole<I: Source, O: Sink>(
     store: &mut Store<'_>,
     control: &mut Control,

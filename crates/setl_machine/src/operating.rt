@@ -9,8 +9,7 @@ use crate::control::Control;
 use crate::end::End;
 use crate::operands::{end_by, go_on};
 use setl_environment::Memory;
-use setl_map::{Answer, Operator};
-use setl_operators::op;
+use setl_operators::{Operator, op};
 use setl_store::Store;
 use setl_value::Value;
 
@@ -31,13 +30,13 @@ pub(crate) fn operate(
         return Ok(End::Stuck);
     };
     match op(control.alloc, what, values, control.turns) {
-        Ok(Answer { value, charged }) => {
-            store.push(value)?;
-            control.charge(charged);
+        Ok(answer) => {
+            control.charge(answer.charged);
+            store.push(answer.value)?;
             go_on(store);
             Ok(End::Paused)
         }
-        Err(fault) => Ok(end_by(fault, line)?),
+        Err(fault) => end_by(fault, line),
     }
 }
 

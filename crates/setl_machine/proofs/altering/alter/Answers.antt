@@ -1,4 +1,4 @@
-use Rattle.std.proofs.Common.{◌≡◌, ◌∙◌, [], map, length, ap, subst, sym}
+use Rattle.std.proofs.Common.{◌≡◌, ◌∙◌, [], map, length, ap}
 use Rattle.setl_value.specs.DatumOf.{part}
 use Rattle.setl_code.specs.Code.{Putting, Combining, TakingOut}
 use Rattle.setl_code.specs.CodeCore.{popped, Pops}

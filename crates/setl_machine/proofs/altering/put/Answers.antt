@@ -1,4 +1,4 @@
-use Rattle.std.proofs.Common.{◌≡◌, ap, sym, subst, Ok, Some}
+use Rattle.std.proofs.Common.{subst, Some}
 use Rattle.std.proofs.lemmas.Result.{IfOk-weaker}
 use Rattle.setl_value.specs.DatumOf.{part}
 use Rattle.setl_model.specs.Places.{with_part_at_all}
@@ -11,7 +11,7 @@ use Rattle.setl_update.specs.Updates.{Updates}
 use Rattle.setl_machine.specs.Control.{ControlState}
 use Rattle.setl_machine.specs.Altered.{Alters, TakesHeld, EndsUpdate}
 use Rattle.setl_machine.specs.Working.{PopsTop}
-use Rattle.setl_machine.proofs.Altered.{Has, changed, held_slot}
+use Rattle.setl_machine.proofs.Altered.{changed, held_slot}
 use Rattle.setl_machine.proofs.altering.put.Goals as goal
 
 pub end_update-requires-clause-there : goal.end_update-requires-clause-there

@@ -1,4 +1,4 @@
-use Rattle.std.proofs.Common.{◌≡◌, ◌∙◌, ◌⊎◌, inl, inr, ◌++◌, map, length, ap, sym}
+use Rattle.std.proofs.Common.{◌∙◌, ◌++◌, map, length, ap, sym}
 use Rattle.std.proofs.lemmas.List.{append-nil}
 use Rattle.setl_value.specs.DatumOf.{part}
 use Rattle.setl_code.specs.Machine.{selected_by}

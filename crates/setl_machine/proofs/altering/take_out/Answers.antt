@@ -1,16 +1,15 @@
-use Rattle.std.proofs.Common.{◌≡◌, ◌∷◌, ap, sym, subst, refl, Ok, Err, Some}
+use Rattle.std.proofs.Common.{subst, Ok, Err, Some}
 use Rattle.std.specs.Prelude.{map}
 use Rattle.std.proofs.lemmas.Result.{IfOk-weaker}
 use Rattle.setl_value.specs.DatumOf.{part}
 use Rattle.setl_code.specs.Code.{TakingOut}
-use Rattle.setl_code.specs.CodeCore.{Result as Holds}
 use Rattle.setl_code.specs.Plain.{plain_slot}
-use Rattle.setl_store.specs.Standing.{Standing, over, variables}
+use Rattle.setl_store.specs.Standing.{variables}
 use Rattle.setl_update.specs.Selectors.{selected}
 use Rattle.setl_update.specs.Takes.{Takes}
 use Rattle.setl_machine.specs.Control.{ControlState}
 use Rattle.setl_machine.specs.Altered.{Alters, TakesHeld, EndsUpdate}
-use Rattle.setl_machine.proofs.Altered.{Has, pushed_slot, held_slot_of, took_out, takes_not}
+use Rattle.setl_machine.proofs.Altered.{pushed_slot, held_slot_of, took_out, takes_not}
 use Rattle.setl_machine.proofs.altering.take_out.Goals as goal
 
 pub end_update-requires-clause-there : goal.end_update-requires-clause-there

@@ -1,15 +1,10 @@
-use Rattle.std.proofs.Common.{◌≡◌, ◌∙◌, ◌<◌, length, sym, ap, subst, refl}
+use Rattle.std.proofs.Common.{◌∙◌, ◌<◌, length, sym, subst, refl}
 use Rattle.setl_value.specs.DatumOf.{part}
-use Rattle.setl_code.specs.CodeCore.{There, Gone, held, write}
-use Rattle.setl_code.specs.Plain.{plain_slot}
+use Rattle.setl_code.specs.CodeCore.{There, Gone}
 use Rattle.setl_store.specs.declared.cells.Held.TheVariants as held
-use Rattle.setl_store.specs.Flat.{held_of}
 use Rattle.setl_store.specs.Operands.{IsThere}
-use Rattle.setl_store.specs.Standing.{variables}
-use Rattle.setl_store.proofs.OperandLists.{Changed}
 use Rattle.setl_store.proofs.Slots.{place_within, slot_at, slot_again, slot_stored}
 use Rattle.setl_store.proofs.store.Store.take_slot.Goals as goal
-use Rattle.setl_store.proofs.store.Store.take_slot.Goals.{In_ok-before}
 
 pub place-at-requires-clause-there : goal.place-at-requires-clause-there
 place-at-requires-clause-there c = place_within c.self.inside.code.now c.self.inside.at c.self.inside.environment.now c.self.inside.environment.kept c.args.self.now c.args.slot c.self.invariant.1 c.self.view_is c.requires.slot
