@@ -41,7 +41,7 @@ use Rattle.setl_machine.specs.Outcome.{always, start, IsLikely, Quiet}
 use Rattle.setl_machine.specs.Working.{Does, PopsTop, EndsBy, Halted}
 use Rattle.setl_machine.specs.declared.end.End.{End}
 use Rattle.setl_machine.specs.declared.end.End.TheVariants as end
-use Rattle.setl_machine.proofs.Working.{halted_quiet, likely_over}
+use Rattle.setl_machine.proofs.Working.{halted_quiet, likely_over, write_in_world}
 
 -- ---- selectors
 
@@ -109,11 +109,6 @@ over_written : (x : Variable) (h : Held) (xs : List Operand) (k : CodeCore) → 
 over_written (Global name) h xs k = refl
 over_written (Own body name) h xs k = refl
 over_written (Bound former name) h xs k = refl
-
-written_in_world : (x : Variable) (h : Held) (w : World) (k : CodeCore) → write x h (in_world w k) ≡ in_world w (write x h k)
-written_in_world (Global name) h w k = refl
-written_in_world (Own body name) h w k = refl
-written_in_world (Bound former name) h w k = refl
 
 held_in_world : (x : Variable) (w : World) (xs : List Operand) (k : CodeCore) → held x (in_world w (over xs k)) ≡ held x k
 held_in_world (Global name) w xs k = refl
@@ -196,7 +191,7 @@ update_goes old slot xs before w v gone new from to line left e k rest h f few =
     let x = plain_slot (variables old.core) slot in
     let world = record (world_of from rest) { left = left } in
     let d = in_world world (over before old.core) in
-    let there = ended_at old slot xs w v gone new from to line left e rest h f few ∙ ap (at_place (suc old.core.now.at)) (sym (written_in_world x (There v) world (over xs old.core))) in
+    let there = ended_at old slot xs w v gone new from to line left e rest h f few ∙ ap (at_place (suc old.core.now.at)) (sym (write_in_world x (There v) world (over xs old.core))) in
     subst (λ a. Quiet (settle (machine c) always (start k) (store_in x line v xs d)) (stood_for new.core to rest) a) (sym f.0) (goes_stored c line x v xs k d (stood_for new.core to rest) there)
 
 -- where the variable holds what it held, nothing need be stored

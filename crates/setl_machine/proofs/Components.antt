@@ -1,9 +1,9 @@
 -- The components of a tuple.
 use Rattle.std.proofs.Common.{◌≡◌, ◌∙◌, ℕ, zero, suc, ◌-◌, ◌<◌, ◌≤◌, List, [], ◌∷◌, drop, Option, None, Some, refl, sym, ap, arith}
 use Rattle.std.specs.Prelude.{slice_get}
-use Rattle.setl_value.specs.Datum.{Datum, tuple_of, parts_of, part_list-parts_of}
+use Rattle.setl_value.specs.Datum.{Datum, tuple_of, part_list-parts_of}
 use Rattle.setl_code.specs.Code.{PartsOf}
-use Rattle.setl_code.specs.CodeCore.{Operand, Result, CodeCore}
+use Rattle.setl_code.specs.CodeCore.{Operand, Result}
 use Rattle.setl_code.specs.Machine.{next, first_parts, take_apart}
 use Rattle.setl_store.specs.Standing.{Standing, over, at_place, top_of}
 use Rattle.setl_machine.specs.Control.{in_world}
@@ -50,9 +50,9 @@ pub apart_goes : (old pop mid new : Standing) (line count : ℕ) (ps : List (Opt
 apart_goes old pop mid new line count ps t p m n =
     let ys = pop.core.now.operands in
     let there : new ≡ record old { core = at_place (suc old.core.now.at) (over (first_parts count ps ys) old.core) } =
-        n
-        ∙ ap (λ (s : Standing). record s { core = at_place (suc s.core.now.at) s.core }) m
-        ∙ ap (λ (s : Standing). record s { core = at_place (suc s.core.now.at) (over (first_parts count ps ys) s.core) }) p in
+    n
+    ∙ ap (λ (s : Standing). record s { core = at_place (suc s.core.now.at) s.core }) m
+    ∙ ap (λ (s : Standing). record s { core = at_place (suc s.core.now.at) (over (first_parts count ps ys) s.core) }) p in
     goes old new line (PartsOf count) (suc old.core.now.at) (first_parts count ps ys) there (λ w.
     let k = in_world w old.core in
     top_taken old.core.now.operands ys (Some (tuple_of ps)) (λ v xs. take_apart count v line xs k) t

@@ -1,5 +1,5 @@
 -- What a call of the reader makes of the bytes that are still to come.
-use Rattle.std.proofs.Common.{◌≡◌, ◌∙◌, inl, inr, ℕ, Bool, true, List, [], ◌∷◌, ◌++◌, Option, None, Some, Ok, Err, refl, sym, ap, subst, append_assoc}
+use Rattle.std.proofs.Common.{◌≡◌, ◌∙◌, inl, inr, ℕ, Bool, true, List, [], ◌∷◌, ◌++◌, Option, None, Some, Ok, Err, sym, ap, subst, append_assoc}
 use Rattle.std.specs.Prelude.{Result, MatchOption}
 use Rattle.std.specs.Io.KnownBytes.{Consumes}
 use Rattle.std.proofs.lemmas.List.{append-nil}
@@ -93,10 +93,12 @@ ended from to before rest n a t none line k =
 
 -- bytes at fault were taken
 ahead_of : (from to : ControlState) (before rest : List ℕ) → from.reader.fault ≡ None → to ≡ record from { reader = to.reader } → (taken : List ℕ) × (from.reader.kept ++ before ≡ taken ++ (kept_for to.reader.fault to.reader.kept ++ rest)) → IsBefore (world_of from before) (world_of to rest)
-ahead_of from to before rest n a t =
-    (t.0, ap (λ f. record (world_of from before) { input = kept_for f from.reader.kept ++ before }) n
-    ∙ ap (λ bs. record (world_of from before) { input = bs }) t.1
-    ∙ ap (λ (s : ControlState). record { input = t.0 ++ (kept_for to.reader.fault to.reader.kept ++ rest); eof = s.eof; atom = s.atom; left = s.turns }) (sym a))
+ahead_of from to before rest n a t = (
+  t.0,
+  ap (λ f. record (world_of from before) { input = kept_for f from.reader.kept ++ before }) n
+      ∙ ap (λ bs. record (world_of from before) { input = bs }) t.1
+      ∙ ap (λ (s : ControlState). record { input = t.0 ++ (kept_for to.reader.fault to.reader.kept ++ rest); eof = s.eof; atom = s.atom; left = s.turns }) (sym a),
+)
 
 read_as : (from : ControlState) (before : List ℕ) (r : Reading) → from.reader.fault ≡ None → read_denotation (from.reader.kept ++ before) ≡ r → read_denotation (world_of from before).input ≡ r
 read_as from before r n t = ap (λ f. read_denotation (kept_for f from.reader.kept ++ before)) n ∙ t

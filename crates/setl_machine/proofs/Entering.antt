@@ -1,5 +1,5 @@
 -- What a call of a body does.
-use Rattle.std.proofs.Common.{◌≡◌, ◌∙◌, ℕ, zero, suc, ◌+◌, List, [], ◌∷◌, length, map, Option, None, Some, refl, sym, ap, subst, arith}
+use Rattle.std.proofs.Common.{◌≡◌, ◌∙◌, ℕ, zero, suc, ◌+◌, List, [], ◌∷◌, length, Option, None, Some, refl, sym, ap, subst, arith}
 use Rattle.std.specs.Prelude.{slice_get, IfSome}
 use Rattle.std.specs.Option.{option_map}
 use Rattle.std.proofs.lemmas.List.{length-map}
@@ -8,13 +8,13 @@ use Rattle.setl_program.specs.ProgramOf.{parameter_of}
 use Rattle.setl_run.specs.Events.{Called}
 use Rattle.setl_run.specs.Turns.{left_after}
 use Rattle.setl_run.specs.Run.{Store, State, Move, Moves, store_all, stored, settle}
-use Rattle.setl_run.specs.Variable.{Variable, Global, Own, Bound}
+use Rattle.setl_run.specs.Variable.{Variable}
 use Rattle.setl_model.specs.Calls.{bindings}
 use Rattle.setl_model.specs.World.{World, go_with}
 use Rattle.setl_code.specs.declared.code.Body as declared
 use Rattle.setl_code.specs.Code.{Body, Code, CallBody}
 use Rattle.setl_code.specs.Plain.{plain_body, plain_bodies, plain_code}
-use Rattle.setl_code.specs.CodeCore.{Held, There, Operand, value_of, Pops, pop_before, popped, CodeCore, holding, cleared, variables_of, write}
+use Rattle.setl_code.specs.CodeCore.{There, Operand, value_of, Pops, pop_before, popped, CodeCore, holding, cleared, variables_of, write}
 use Rattle.setl_code.specs.Machine.{machine, turn, call_body, on_popped}
 use Rattle.setl_store.specs.Bodies.{with_stores, entered}
 use Rattle.setl_store.specs.Standing.{Standing, over}
@@ -22,6 +22,7 @@ use Rattle.setl_machine.specs.Control.{ControlState, world_of, in_world, stood_f
 use Rattle.setl_machine.specs.Outcome.{always, start, next_of, Quiet}
 use Rattle.setl_machine.specs.Working.{Does, HasParameters}
 use Rattle.setl_machine.specs.declared.end.End.TheVariants as end
+use Rattle.setl_machine.proofs.Working.{write_in_world}
 
 -- ---- bodies
 
@@ -51,11 +52,6 @@ popped_count (suc n) us vs (o ∷ xs) ys h = go (value_of o) (λ u. popped_count
 
 -- ---- stores
 
-write_in_world : (x : Variable) (h : Held) (w : World) (k : CodeCore) → write x h (in_world w k) ≡ in_world w (write x h k)
-write_in_world (Global name) h w k = refl
-write_in_world (Own body name) h w k = refl
-write_in_world (Bound former name) h w k = refl
-
 stores_in_world : (xs : List Store) (w : World) (k : CodeCore) → with_stores xs (in_world w k) ≡ in_world w (with_stores xs k)
 stores_in_world [] w k = refl
 stores_in_world (x ∷ xs) w k = ap (with_stores xs) (write_in_world x.0 (There x.1) w k) ∙ stores_in_world xs w (write x.0 (There x.1) k)
@@ -78,8 +74,8 @@ call_goes c n line count m (Some b) k to w vs ys h e s t =
     let P : Move CodeCore → Type 0 = λ move. Quiet (settle (machine c) always (start here) move) then_there end.Paused in
     let K = record (over ys k) { now = record { body = n; at = 0; own = cleared (variables_of n b); operands = [] }; callers = record (over ys k).now { at = suc (over ys k).now.at } ∷ k.callers } in
     let base : P (enter_move n b line vs ys (in_world (record w { left = m }) k)) =
-        stores_go c line (bindings n b.parameters vs) (record { core = in_world (record w { left = m }) K; out = []; events = Called line b.name ∷ [] }) then_there
-        (stores_in_world (bindings n b.parameters vs) (record w { left = m }) K ∙ ap (in_world (record w { left = m })) (sym t)) refl in
+    stores_go c line (bindings n b.parameters vs) (record { core = in_world (record w { left = m }) K; out = []; events = Called line b.name ∷ [] }) then_there
+    (stores_in_world (bindings n b.parameters vs) (record w { left = m }) K ∙ ap (in_world (record w { left = m })) (sym t)) refl in
     subst (λ p. P (on_popped p (λ us zs. turn here (λ d. enter_move n b line us zs d)))) (sym (ap (λ j. popped j [] k.now.operands) h ∙ e))
     (subst (λ l. P (go_with holding l here (λ d. enter_move n b line vs ys d))) (sym s) base)
 
@@ -88,10 +84,12 @@ called old mid new from to body line count vs h e m s t n =
     let ys = mid.core.now.operands in
     let c = plain_code old.code in
     let b = slice_get c.bodies body in
-    let there : new ≡ record old { core = entered body b vs (over ys old.core) } = n ∙ ap (λ (s : Standing). record s { core = entered body (slice_get (plain_code s.code).bodies body) vs s.core }) m in
-    (ap (λ s. s.code) there, λ rest.
-    subst (λ d. Quiet (next_of c line (CallBody body) (stood_for old.core from rest)) (stood_for new.core d rest) end.Paused) (sym t)
-    (call_goes c body line count to.turns b old.core new.core (world_of from rest) vs ys h e s (ap (λ s. s.core) there)))
+    let there : new ≡ record old { core = entered body b vs (over ys old.core) } = n ∙ ap (λ (s : Standing). record s { core = entered body (slice_get (plain_code s.code).bodies body) vs s.core }) m in (
+      ap (λ s. s.code) there,
+      λ rest.
+          subst (λ d. Quiet (next_of c line (CallBody body) (stood_for old.core from rest)) (stood_for new.core d rest) end.Paused) (sym t)
+          (call_goes c body line count to.turns b old.core new.core (world_of from rest) vs ys h e s (ap (λ s. s.core) there)),
+    )
 
 -- each parameter has its value
 pub each_value : (b : Option declared.Body) (n count : ℕ) → IfSome b (λ b. length b.parameters ≡ count) → n ≡ count → IfSome b (λ b. n ≡ length b.parameters)

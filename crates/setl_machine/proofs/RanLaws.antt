@@ -1,14 +1,13 @@
 -- Calls in a row are a call.
-use Rattle.std.proofs.Common.{◌≡◌, ◌∙◌, ◌⊎◌, inl, inr, ◌+◌, ◌-◌, ◌<◌, ◌≤◌, ℕ, List, [], ◌++◌, length, take, Option, None, Some, refl, sym, ap, subst, append_assoc, arith}
+use Rattle.std.proofs.Common.{◌≡◌, ◌∙◌, inl, inr, ◌+◌, ◌-◌, ◌≤◌, ℕ, List, [], ◌++◌, take, Option, None, Some, refl, sym, ap, subst, append_assoc, arith}
 use Rattle.std.proofs.lemmas.List.{append-nil}
 use Rattle.std.specs.Io.KnownBytes.{Appends, append_known}
 use Rattle.setl_io.specs.Faults.{Rose}
-use Rattle.setl_io.specs.Sink.{AppendsPart}
 use Rattle.setl_run.specs.Run.{State, Next, Goes, Ends, step, run}
 use Rattle.setl_code.specs.Code.{Code}
 use Rattle.setl_code.specs.CodeCore.{CodeCore}
 use Rattle.setl_code.specs.Machine.{machine}
-use Rattle.setl_machine.specs.Outcome.{always, start, said, Answers, Seen, NoFault, AppendsFront, Steps, AtPrint, AtRead, Before, Ran, ReadsOnly}
+use Rattle.setl_machine.specs.Outcome.{always, start, said, Answers, Seen, NoFault, Steps, AtPrint, AtRead, Before, Ran, ReadsOnly}
 use Rattle.setl_machine.specs.declared.end.End.{End}
 use Rattle.setl_machine.specs.declared.end.End.TheVariants.{Done, Stopped, Spent, Paused, ReadFault, WriteFault, NoMemory, Stuck}
 use Rattle.setl_machine.proofs.RunLaws.{behind, all_behind, run_joined, run_ended, run_one}

@@ -6,7 +6,7 @@ use Rattle.setl_code.specs.CodeCore.{CodeCore}
 use Rattle.setl_code.specs.Machine.{machine}
 use Rattle.setl_text.specs.Reads.{ahead, StaysHonest, TakesOff}
 use Rattle.setl_machine.specs.Control.{ControlState, stood_for, IsRest}
-use Rattle.setl_machine.specs.Outcome.{always, start, Seen, Steps, AtPrint, AtRead, Ran, ReadsOnly}
+use Rattle.setl_machine.specs.Outcome.{always, start, Seen, seen, Steps, AtPrint, AtRead, Ran, ReadsOnly}
 use Rattle.setl_machine.specs.declared.end.End.{End}
 use Rattle.setl_machine.specs.declared.end.End.TheVariants.{Paused, ReadFault, WriteFault, NoMemory}
 use Rattle.setl_machine.proofs.RanLaws.{ran_join, ran_one, ran_longer, ran_gives_up, reads_join, reads_longer}
@@ -17,6 +17,9 @@ pub record Moment : Type 0 where
   pub control : ControlState
   pub outside : Seen
   pub left : Option (List ℕ)
+
+abbrev pub moment : CodeCore → ControlState → (held : Option (List ℕ)) → (faults input_faults : ℕ) → (left : Option (List ℕ)) → Moment
+moment core control held faults input_faults left = record { core = core; control = control; outside = seen held faults input_faults; left = left }
 
 -- what a call of at most so many steps did, whatever is left to come then
 abbrev pub Runs : Code → ℕ → Moment → Moment → End → Type 0
@@ -30,10 +33,12 @@ runs_join c n j old mid new e p q = λ rest' h.
     let b = q rest' h in
     let a = p b.0 b.1 in
     let from = stood_for old.core old.control a.0 in
-    let there = stood_for mid.core mid.control b.0 in
-    (a.0, a.1,
-    ran_join c n j from there (stood_for new.core new.control rest') old.outside mid.outside new.outside e a.2 b.2,
-    reads_join c n j from there old.outside mid.outside old.left mid.left new.left a.2 a.3 b.3)
+    let there = stood_for mid.core mid.control b.0 in (
+      a.0,
+      a.1,
+      ran_join c n j from there (stood_for new.core new.control rest') old.outside mid.outside new.outside e a.2 b.2,
+      reads_join c n j from there old.outside mid.outside old.left mid.left new.left a.2 a.3 b.3,
+    )
 
 pub runs_longer : (c : Code) (n k : ℕ) (old new : Moment) (e : End) → (e ≡ Paused → ⊥) → n ≤ k → Runs c n old new e → Runs c k old new e
 runs_longer c n k old new e ne le p = λ rest' h.

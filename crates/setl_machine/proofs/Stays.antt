@@ -1,8 +1,7 @@
 -- A call that does nothing to the outside.
-use Rattle.std.proofs.Common.{◌≡◌, ◌+◌, ◌<◌, ℕ, Bool, true, List, [], ◌++◌, length, take, Option, None, Some, refl, sym, ap, ◌∙◌, arith}
-use Rattle.std.specs.Prelude.{⊤}
+use Rattle.std.proofs.Common.{◌<◌, ℕ, Bool, List, [], ◌++◌, Option, None, Some, refl, sym, ◌∙◌, arith}
 use Rattle.std.proofs.lemmas.List.{append-nil}
-use Rattle.std.specs.Io.KnownBytes.{Appends, append_known, IsAtEnd}
+use Rattle.std.specs.Io.KnownBytes.{Appends, append_known}
 use Rattle.setl_run.specs.Run.{step}
 use Rattle.setl_code.specs.Code.{Code}
 use Rattle.setl_code.specs.CodeCore.{CodeCore}

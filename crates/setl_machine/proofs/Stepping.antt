@@ -1,15 +1,21 @@
 -- A step does what its instruction does.
-use Rattle.std.proofs.Common.{◌≡◌, ◌⊎◌, inl, ℕ, List, [], Option, None, Some, refl, sym, ap, subst, arith}
+use Rattle.std.proofs.Common.{◌≡◌, ◌∙◌, ℕ, List, [], Option, None, Some, refl, sym, ap, subst, arith}
 use Rattle.std.specs.Io.KnownBytes.{Appends}
 use Rattle.setl_run.specs.Run.{Next, Goes, Ends, settle, step}
+use Rattle.setl_code.specs.declared.code.Instr as declared_instr
+use Rattle.setl_code.specs.declared.code.Step as declared
 use Rattle.setl_code.specs.Code.{Code, Instr}
+use Rattle.setl_code.specs.Plain.{Variables, plain_instr, plain_step}
 use Rattle.setl_code.specs.CodeCore.{CodeCore}
 use Rattle.setl_code.specs.Machine.{do_step, fetch, machine}
 use Rattle.setl_text.specs.Reads.{ReaderState, StaysHonest}
-use Rattle.setl_machine.specs.Outcome.{always, start, next_of, said, Quiet, Seen, Steps}
+use Rattle.setl_machine.specs.Outcome.{always, start, next_of, Quiet, Seen, Steps}
 use Rattle.setl_machine.specs.declared.end.End.{End}
 use Rattle.setl_machine.specs.declared.end.End.TheVariants.{Done, Stopped, Spent, Paused, ReadFault, WriteFault, NoMemory, Stuck}
 use Rattle.setl_machine.proofs.Stays.{appends_same, honest_same}
+
+pub in_hand : (c : Code) (k : CodeCore) (xs : Variables) (s : declared.Step) (what : declared_instr.Instr) → fetch c k.now.body k.now.at ≡ Some (plain_step xs s) → s.what ≡ what → fetch c k.now.body k.now.at ≡ Some (s.line, plain_instr xs what)
+in_hand c k xs s what h e = h ∙ ap (λ w. Some (s.line, plain_instr xs w)) e
 
 step_is : (c : Code) (k : CodeCore) (line : ℕ) (i : Instr) → fetch c k.now.body k.now.at ≡ Some (line, i) → step (machine c) always (start k) ≡ next_of c line i k
 step_is c k line i h = ap (λ o. settle (machine c) always (start k) (do_step c o k)) h

@@ -1,19 +1,19 @@
 -- How an instruction goes on, and how it ends a run.
 use Rattle.std.proofs.Common.{◌≡◌, ◌∙◌, ℕ, true, false, List, [], ◌∷◌, refl, sym, ap, subst, Option, None, Some, Ok, Err}
-use Rattle.std.specs.Prelude as the
-use Rattle.std.specs.Prelude.{IfOk}
+use Rattle.std.specs.Prelude.{Result, IfOk}
 use Rattle.std.specs.Option.{option_map}
+use Rattle.std.specs.declared.alloc.AllocError.{AllocError}
 use Rattle.setl_value.specs.Datum.{Datum, bool}
 use Rattle.setl_program.specs.declared.kinds.Connective.{Connective}
 use Rattle.setl_program.specs.declared.kinds.Connective.TheVariants.{And, Or, Implies}
 use Rattle.setl_run.specs.Run.{Move, Moves, Halts, settle}
+use Rattle.setl_run.specs.Variable.{Variable, Global, Own, Bound}
 use Rattle.setl_model.specs.World.{World}
 use Rattle.setl_code.specs.Code.{Code, Instr}
 use Rattle.setl_code.specs.Plain.{plain_code}
-use Rattle.setl_code.specs.CodeCore.{Operand, Result, value_of, CodeCore}
+use Rattle.setl_code.specs.CodeCore.{Held, Operand, Result as Holds, value_of, CodeCore, write}
 use Rattle.setl_code.specs.Machine.{machine, do_instr, next, go_to, on_value, on_top, decides}
 use Rattle.setl_store.specs.Standing.{Standing, over, at_place, top_of}
-use Rattle.std.specs.declared.alloc.AllocError.{AllocError}
 use Rattle.setl_machine.specs.Control.{ControlState, world_of, in_world, stood_for}
 use Rattle.setl_machine.specs.Outcome.{always, start, IsLikely, Quiet}
 use Rattle.setl_machine.specs.Working.{Works, Does, Halted, Judges}
@@ -44,10 +44,12 @@ likely_over w k xs = ([], refl)
 -- it goes on at a step with these operands
 pub goes : (old new : Standing) (line : ℕ) (what : Instr) (at : ℕ) (xs : List Operand) → new ≡ record old { core = at_place at (over xs old.core) } → ((w : World) → do_instr (plain_code old.code) line what (in_world w old.core) ≡ go_to at xs (in_world w old.core)) → Works old line what new Paused
 goes old new line what at xs e f =
-    let c = plain_code old.code in
-    (ap (λ s. s.code) e, λ w.
-    let k = in_world w old.core in
-    subst (λ m. Quiet (settle (machine c) always (start k) m) (in_world w new.core) Paused) (sym (f w)) (sym (ap (λ s. in_world w s.core) e), refl))
+    let c = plain_code old.code in (
+      ap (λ s. s.code) e,
+      λ w.
+          let k = in_world w old.core in
+          subst (λ m. Quiet (settle (machine c) always (start k) m) (in_world w new.core) Paused) (sym (f w)) (sym (ap (λ s. in_world w s.core) e), refl),
+    )
 
 -- it ends the run, when some operands may be gone
 pub stops : (old new : Standing) (line : ℕ) (what : Instr) (xs : List Operand) (e : End) → new ≡ record old { core = over xs old.core } → ((w : World) → Halted (do_instr (plain_code old.code) line what (in_world w old.core)) e) → Works old line what new e
@@ -61,23 +63,31 @@ stops old new line what xs e h f =
 
 -- where no connective is decided, none goes on
 pub halts_deciding : (o : Connective) (to line : ℕ) (xs : List Operand) (k : CodeCore) (e : End) → Judges xs line (Err e) → Halted (on_top xs (λ v ys. decides o to v line ys k)) e
-halts_deciding And to line xs k e h = h (λ v ys. next ys k) (λ v ys. go_to to (Result (Some (bool false)) ∷ ys) k)
-halts_deciding Or to line xs k e h = h (λ v ys. go_to to (Result (Some (bool true)) ∷ ys) k) (λ v ys. next ys k)
-halts_deciding Implies to line xs k e h = h (λ v ys. next ys k) (λ v ys. go_to to (Result (Some (bool true)) ∷ ys) k)
+halts_deciding And to line xs k e h = h (λ v ys. next ys k) (λ v ys. go_to to (Holds (Some (bool false)) ∷ ys) k)
+halts_deciding Or to line xs k e h = h (λ v ys. go_to to (Holds (Some (bool true)) ∷ ys) k) (λ v ys. next ys k)
+halts_deciding Implies to line xs k e h = h (λ v ys. next ys k) (λ v ys. go_to to (Holds (Some (bool true)) ∷ ys) k)
 
 -- the same where a control is asked
 pub stops_with : (old new : Standing) (from to : ControlState) (line : ℕ) (what : Instr) (xs : List Operand) (e : End) → new ≡ record old { core = over xs old.core } → to ≡ from → ((rest : List ℕ) → Halted (do_instr (plain_code old.code) line what (stood_for old.core from rest)) e) → Does old from line what new to e
 stops_with old new from to line what xs e h same f =
-    let c = plain_code old.code in
-    (ap (λ s. s.code) h, λ rest.
-    let k = stood_for old.core from rest in
-    let likely : IsLikely k (stood_for (over xs old.core) from rest) = likely_over (world_of from rest) old.core xs in
-    halted_quiet c k (stood_for new.core to rest) (do_instr c line what k) e (subst (λ (s : Standing). IsLikely k (stood_for s.core to rest)) (sym h) (subst (λ d. IsLikely k (stood_for (over xs old.core) d rest)) (sym same) likely)) (f rest))
+    let c = plain_code old.code in (
+      ap (λ s. s.code) h,
+      λ rest.
+          let k = stood_for old.core from rest in
+          let likely : IsLikely k (stood_for (over xs old.core) from rest) = likely_over (world_of from rest) old.core xs in
+          halted_quiet c k (stood_for new.core to rest) (do_instr c line what k) e (subst (λ (s : Standing). IsLikely k (stood_for s.core to rest)) (sym h) (subst (λ d. IsLikely k (stood_for (over xs old.core) d rest)) (sym same) likely)) (f rest),
+    )
 
 -- what doesn't ask the control does the same with any
-pub works_alone : (old new : Standing) (from : ControlState) (line : ℕ) (what : Instr) (r : the.Result End AllocError) → IfOk r (λ e. Works old line what new e) → IfOk r (λ e. Does old from line what new from e)
+pub works_alone : (old new : Standing) (from : ControlState) (line : ℕ) (what : Instr) (r : Result End AllocError) → IfOk r (λ e. Works old line what new e) → IfOk r (λ e. Does old from line what new from e)
 works_alone old new from line what (Ok e) h = (h.0, λ rest. h.1 (world_of from rest))
 works_alone old new from line what (Err e) h = tt
+
+-- no write sees the world
+pub write_in_world : (x : Variable) (h : Held) (w : World) (k : CodeCore) → write x h (in_world w k) ≡ in_world w (write x h k)
+write_in_world (Global name) h w k = refl
+write_in_world (Own body name) h w k = refl
+write_in_world (Bound former name) h w k = refl
 
 -- ---- the top
 

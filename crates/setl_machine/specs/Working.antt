@@ -11,7 +11,7 @@ use Rattle.setl_text.specs.declared.ReadFault.TheVariants as read
 use Rattle.setl_program.specs.declared.kinds.Connective.{Connective}
 use Rattle.setl_program.specs.declared.kinds.Connective.TheVariants.{And, Or, Implies}
 use Rattle.setl_run.specs.Events as run
-use Rattle.setl_run.specs.Run.{Move, Moves, Halts}
+use Rattle.setl_run.specs.Run.{Move, Halts}
 use Rattle.setl_model.specs.World.{World, branch}
 use Rattle.setl_code.specs.declared.code.Instr as code
 use Rattle.setl_code.specs.declared.code.Instr.TheVariants as i

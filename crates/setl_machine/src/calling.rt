@@ -48,6 +48,7 @@ fn parameter_count(code: &Code, body: u32) -> Option<usize>
     }
 }
 
+/// The body of this number, if there is one.
 fn body_of(code: &Code, body: u32) -> Option<&Body>
     ensures some { IfSome result (λ b. slice_get code.now.bodies body ≡ Some b.now) }
     ensures none { IfNone result (slice_get code.now.bodies body ≡ None) }

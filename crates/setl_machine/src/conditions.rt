@@ -1,7 +1,7 @@
 //! Conditions, jumps, and what is done to the top operand.
 
 ghost use Rattle.std.specs.Prelude.{◌≡◌, ℕ, ◌<◌, ◌+◌, ◌^◌, IfOk};
-ghost use Rattle.setl_code.specs.Code.{Decides, TestBool, Unless, Jump, DropTop, DupTop, StopRun};
+ghost use Rattle.setl_code.specs.Code.{Decides, TestBool, Unless, Jump, DropTop, DupTop};
 ghost use Rattle.setl_machine.specs.Working.{Works, decided};
 
 use crate::end::End;
@@ -78,6 +78,7 @@ pub(crate) fn unless(to: u32, line: u32, store: &mut Store<'_>) -> Result<End, M
     Ok(End::Paused)
 }
 
+/// Goes to the target.
 pub(crate) fn jump(to: u32, store: &mut Store<'_>) -> Result<End, Memory>
     ensures { (line : ℕ) → IfOk result (λ end. Works store.old line (Jump to) store.new end) }
 {
@@ -110,12 +111,4 @@ pub(crate) fn duplicate(store: &mut Store<'_>) -> Result<End, Memory>
     store.push(other)?;
     go_on(store);
     Ok(End::Paused)
-}
-
-/// Ends the run.
-pub(crate) fn stop(store: &Store<'_>) -> Result<End, Memory>
-    ensures { (line : ℕ) → IfOk result (λ end. Works store.now line StopRun store.now end) }
-{
-    let _ = store;
-    Ok(End::Done)
 }

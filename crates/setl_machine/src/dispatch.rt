@@ -11,7 +11,7 @@ ghost use Rattle.setl_machine.specs.Working.{Works, Does, IsQuiet, IsAlone};
 
 use crate::altering::alter;
 use crate::calling::{back, call, keep, leave_body};
-use crate::conditions::{decide, discard, duplicate, jump, stop, test, unless};
+use crate::conditions::{decide, discard, duplicate, jump, test, unless};
 use crate::control::Control;
 use crate::end::End;
 use crate::iterating::{add, begin_over, collect, leave, next, take_apart};
@@ -77,12 +77,7 @@ fn do_quiet(
 }
 
 /// Does an instruction that changes the store alone. The error is want of memory.
-fn do_alone(
-    what: &Instr,
-    line: u32,
-    store: &mut Store<'_>,
-    alloc: Global,
-) -> Result<End, Memory>
+fn do_alone(what: &Instr, line: u32, store: &mut Store<'_>, alloc: Global) -> Result<End, Memory>
     requires alone { IsAlone what.now }
     requires few { store.old.core.now.at + 1 < 2 ^ 64 }
     requires fits { InstrFits (length store.old.core.globals) (length store.old.core.now.own) what.now }
@@ -109,7 +104,7 @@ fn do_alone(
         Instr::Leave(count) => leave(*count, store),
         Instr::Return => leave_body(store),
         Instr::Keep => keep(store),
-        Instr::Stop => stop(store),
+        Instr::Stop => Ok(End::Done),
         _ => unreachable!(),
     }
 }

@@ -39,11 +39,7 @@ pub(crate) fn push_integer(value: &i128, store: &mut Store<'_>) -> Result<End, M
 }
 
 /// Pushes a string.
-pub(crate) fn push_text(
-    alloc: Global,
-    bytes: &Name,
-    store: &mut Store<'_>,
-) -> Result<End, Memory>
+pub(crate) fn push_text(alloc: Global, bytes: &Name, store: &mut Store<'_>) -> Result<End, Memory>
     requires { store.old.core.now.at + 1 < 2 ^ 64 }
     ensures { (line : ℕ) → IfOk result (λ end. Works store.old line (Push (Some (text bytes.now))) store.new end) }
 {

@@ -40,12 +40,7 @@ fn write_text<O: Sink, E: Sink>(text: &[u8], out: &mut O, err: &mut E) -> Status
 }
 
 /// Writes the listing of the code of a program without `repr` lines. Where that fails, the fault's line was tried.
-fn write_listing<O: Sink, E: Sink>(
-    alloc: Global,
-    tree: &Tree,
-    out: &mut O,
-    err: &mut E,
-) -> Status
+fn write_listing<O: Sink, E: Sink>(alloc: Global, tree: &Tree, out: &mut O, err: &mut E) -> Status
     requires { tree.now.modes ≡ [] }
     ensures { Written (listing_of tree.now) (gain (O.held out.old) (O.held out.new) (O.faults out.old) (O.faults out.new)) (E.held err.old) (E.held err.new) (E.faults err.old) (E.faults err.new) result }
 {

@@ -6,6 +6,7 @@ use setl_top::Status;
 use std::test::Fail;
 
 const TWO: &str = "program p; print(1); print(22); end program;";
+
 const FIVE: &str = "program p; (for i in [1..5]) print(i); end for; end program;";
 
 /// Faults, words and a source, and what the call answers, prints and tells.

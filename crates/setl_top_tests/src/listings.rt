@@ -91,7 +91,10 @@ fn each_kind_of_statement_is_listed(rt: HostRuntime) -> Result<(), Fail> {
 #[test]
 fn an_output_may_take_a_byte_a_call(rt: HostRuntime) -> Result<(), Fail> {
     let alloc = rt.alloc();
-    let faults = Faults { most: 1, ..NO_FAULTS };
+    let faults = Faults {
+        most: 1,
+        ..NO_FAULTS
+    };
     let left = call(alloc, "code a", EACH.as_bytes().to_vec(alloc)?, faults)?;
     assert!(rt; left.is(Status::Done, LISTED, ""));
     Ok(())

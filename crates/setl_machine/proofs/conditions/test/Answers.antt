@@ -1,4 +1,4 @@
-use Rattle.std.proofs.Common.{◌∷◌, suc, refl}
+use Rattle.std.proofs.Common.{◌∷◌, refl}
 use Rattle.setl_code.specs.Code.{TestBool}
 use Rattle.setl_code.specs.CodeCore.{Result as Holds}
 use Rattle.setl_code.specs.Machine.{next}

@@ -1,8 +1,7 @@
 use Rattle.std.proofs.Common.{◌≡◌, ◌∙◌, ◌+◌, refl, ap, subst, arith}
 use Rattle.setl_code.specs.Plain.{plain_code}
-use Rattle.setl_machine.specs.Outcome.{seen}
 use Rattle.setl_machine.specs.declared.end.End.TheVariants.{Paused}
-use Rattle.setl_machine.proofs.Rounds.{Moment, Runs, runs_on, runs_longer, takes_then, honest_then}
+use Rattle.setl_machine.proofs.Rounds.{moment, Runs, runs_on, runs_longer, takes_then, honest_then}
 use Rattle.setl_machine.proofs.machine.run.Goals as goal
 
 pub loop-done-preserved : goal.loop-done-preserved
@@ -12,9 +11,9 @@ loop-done-preserved g c =
     let n = c.step.new in
     let i = l.invariant in
     let a = c.in-Paused.ensures in
-    let old : Moment = record { core = s.core; control = c.args.control.now; outside = seen (g.O.Sink.held c.args.out.now) (g.O.Sink.faults c.args.out.now) (g.I.Source.faults c.args.input.now); left = g.I.Source.left c.args.input.now } in
-    let mid : Moment = record { core = l.store.core; control = l.control; outside = seen (g.O.Sink.held l.out) (g.O.Sink.faults l.out) (g.I.Source.faults l.input); left = g.I.Source.left l.input } in
-    let new : Moment = record { core = n.store.core; control = n.control; outside = seen (g.O.Sink.held n.out) (g.O.Sink.faults n.out) (g.I.Source.faults n.input); left = g.I.Source.left n.input } in
+    let old = moment s.core c.args.control.now (g.O.Sink.held c.args.out.now) (g.O.Sink.faults c.args.out.now) (g.I.Source.faults c.args.input.now) (g.I.Source.left c.args.input.now) in
+    let mid = moment l.store.core l.control (g.O.Sink.held l.out) (g.O.Sink.faults l.out) (g.I.Source.faults l.input) (g.I.Source.left l.input) in
+    let new = moment n.store.core n.control (g.O.Sink.held n.out) (g.O.Sink.faults n.out) (g.I.Source.faults n.input) (g.I.Source.left n.input) in
     record {
       ran = runs_on (plain_code s.code) (plain_code l.store.code) l.done old mid new Paused (ap plain_code i.code) i.ran a.did a.reads a.prints a.reads_only;
       code = a.code refl ∙ i.code;
@@ -31,9 +30,9 @@ returns-in_default g c =
     let n = c.step.new in
     let i = l.invariant in
     let a = c.step.ensures in
-    let old : Moment = record { core = s.core; control = c.args.control.now; outside = seen (g.O.Sink.held c.args.out.now) (g.O.Sink.faults c.args.out.now) (g.I.Source.faults c.args.input.now); left = g.I.Source.left c.args.input.now } in
-    let mid : Moment = record { core = l.store.core; control = l.control; outside = seen (g.O.Sink.held l.out) (g.O.Sink.faults l.out) (g.I.Source.faults l.input); left = g.I.Source.left l.input } in
-    let new : Moment = record { core = n.store.core; control = n.control; outside = seen (g.O.Sink.held n.out) (g.O.Sink.faults n.out) (g.I.Source.faults n.input); left = g.I.Source.left n.input } in
+    let old = moment s.core c.args.control.now (g.O.Sink.held c.args.out.now) (g.O.Sink.faults c.args.out.now) (g.I.Source.faults c.args.input.now) (g.I.Source.left c.args.input.now) in
+    let mid = moment l.store.core l.control (g.O.Sink.held l.out) (g.O.Sink.faults l.out) (g.I.Source.faults l.input) (g.I.Source.left l.input) in
+    let new = moment n.store.core n.control (g.O.Sink.held n.out) (g.O.Sink.faults n.out) (g.I.Source.faults n.input) (g.I.Source.left n.input) in
     let ne = c.in_default.not-Paused in
     record {
       ran = runs_longer (plain_code s.code) (l.done + 1) c.args.steps old new c.step.result ne (omega arith) (runs_on (plain_code s.code) (plain_code l.store.code) l.done old mid new c.step.result (ap plain_code i.code) i.ran a.did a.reads a.prints a.reads_only);
@@ -47,7 +46,7 @@ pub returns-clause-ran : goal.returns-clause-ran
 returns-clause-ran g c =
     let s = c.args.store.now in
     let l = c.loop-done in
-    let old : Moment = record { core = s.core; control = c.args.control.now; outside = seen (g.O.Sink.held c.args.out.now) (g.O.Sink.faults c.args.out.now) (g.I.Source.faults c.args.input.now); left = g.I.Source.left c.args.input.now } in
-    let now : Moment = record { core = l.store.core; control = l.control; outside = seen (g.O.Sink.held l.out) (g.O.Sink.faults l.out) (g.I.Source.faults l.input); left = g.I.Source.left l.input } in
+    let old = moment s.core c.args.control.now (g.O.Sink.held c.args.out.now) (g.O.Sink.faults c.args.out.now) (g.I.Source.faults c.args.input.now) (g.I.Source.left c.args.input.now) in
+    let now = moment l.store.core l.control (g.O.Sink.held l.out) (g.O.Sink.faults l.out) (g.I.Source.faults l.input) (g.I.Source.left l.input) in
     let all : l.done ≡ c.args.steps = omega arith in
     subst (λ n. Runs (plain_code s.code) n old now Paused) all l.invariant.ran

@@ -1,16 +1,14 @@
 use Rattle.std.proofs.Common.{◌≡◌, ◌-◌, ◌≤◌, None}
 use Rattle.setl_code.specs.Plain.{plain_code}
 use Rattle.setl_text.specs.Reads.{StaysHonest, TakesOff}
-use Rattle.setl_machine.specs.Outcome.{seen}
 use Rattle.setl_machine.specs.declared.end.End.TheVariants.{Paused}
-use Rattle.setl_machine.proofs.Rounds.{Moment, Runs}
+use Rattle.setl_machine.proofs.Rounds.{moment, Runs}
 use Rattle.setl_machine.proofs.machine.run.Given as goal
 
 abbrev pub invariant-loop-done : goal.invariant-loop-done
 invariant-loop-done g l =
-    let left = g.I.Source.left in
-    let old : Moment = record { core = l.fn.store.core; control = l.fn.control; outside = seen (g.O.Sink.held l.fn.out) (g.O.Sink.faults l.fn.out) (g.I.Source.faults l.fn.input); left = left l.fn.input } in
-    let now : Moment = record { core = l.store.core; control = l.control; outside = seen (g.O.Sink.held l.out) (g.O.Sink.faults l.out) (g.I.Source.faults l.input); left = left l.input } in
+    let old = moment l.fn.store.core l.fn.control (g.O.Sink.held l.fn.out) (g.O.Sink.faults l.fn.out) (g.I.Source.faults l.fn.input) (g.I.Source.left l.fn.input) in
+    let now = moment l.store.core l.control (g.O.Sink.held l.out) (g.O.Sink.faults l.out) (g.I.Source.faults l.input) (g.I.Source.left l.input) in
     record {
       ran : Runs (plain_code l.fn.store.code) l.done old now Paused;
       code : l.store.code ≡ l.fn.store.code;

@@ -1,8 +1,7 @@
 use Rattle.std.proofs.Common.{◌≡◌, ◌∙◌, ◌+◌, ◌*◌, refl, ap, arith}
 use Rattle.setl_code.specs.Plain.{plain_code}
-use Rattle.setl_machine.specs.Outcome.{seen}
 use Rattle.setl_machine.specs.declared.end.End.TheVariants.{Paused, NoMemory}
-use Rattle.setl_machine.proofs.Rounds.{Moment, Runs, runs_then, runs_give_up, some_runs, takes_then, honest_then}
+use Rattle.setl_machine.proofs.Rounds.{moment, runs_then, runs_give_up, some_runs, takes_then, honest_then}
 use Rattle.setl_machine.proofs.machine.run_whole.Goals as goal
 
 pub loop-rounds-preserved : goal.loop-rounds-preserved
@@ -12,9 +11,9 @@ loop-rounds-preserved g c =
     let n = c.run.new in
     let i = l.invariant in
     let a = c.in-Paused.ensures in
-    let old : Moment = record { core = s.core; control = c.args.control.now; outside = seen (g.O.Sink.held c.args.out.now) (g.O.Sink.faults c.args.out.now) (g.I.Source.faults c.args.input.now); left = g.I.Source.left c.args.input.now } in
-    let mid : Moment = record { core = l.store.core; control = l.control; outside = seen (g.O.Sink.held l.out) (g.O.Sink.faults l.out) (g.I.Source.faults l.input); left = g.I.Source.left l.input } in
-    let new : Moment = record { core = n.store.core; control = n.control; outside = seen (g.O.Sink.held n.out) (g.O.Sink.faults n.out) (g.I.Source.faults n.input); left = g.I.Source.left n.input } in
+    let old = moment s.core c.args.control.now (g.O.Sink.held c.args.out.now) (g.O.Sink.faults c.args.out.now) (g.I.Source.faults c.args.input.now) (g.I.Source.left c.args.input.now) in
+    let mid = moment l.store.core l.control (g.O.Sink.held l.out) (g.O.Sink.faults l.out) (g.I.Source.faults l.input) (g.I.Source.left l.input) in
+    let new = moment n.store.core n.control (g.O.Sink.held n.out) (g.O.Sink.faults n.out) (g.I.Source.faults n.input) (g.I.Source.left n.input) in
     let all : l.rounds * 1000 + 1000 ≡ (l.rounds + 1) * 1000 = omega arith in
     record {
       ran = runs_then (plain_code s.code) (plain_code l.store.code) (l.rounds * 1000) 1000 ((l.rounds + 1) * 1000) old mid new Paused (ap plain_code i.code) all i.ran a.ran;
@@ -31,9 +30,9 @@ returns-in_default g c =
     let n = c.run.new in
     let i = l.invariant in
     let a = c.run.ensures in
-    let old : Moment = record { core = s.core; control = c.args.control.now; outside = seen (g.O.Sink.held c.args.out.now) (g.O.Sink.faults c.args.out.now) (g.I.Source.faults c.args.input.now); left = g.I.Source.left c.args.input.now } in
-    let mid : Moment = record { core = l.store.core; control = l.control; outside = seen (g.O.Sink.held l.out) (g.O.Sink.faults l.out) (g.I.Source.faults l.input); left = g.I.Source.left l.input } in
-    let new : Moment = record { core = n.store.core; control = n.control; outside = seen (g.O.Sink.held n.out) (g.O.Sink.faults n.out) (g.I.Source.faults n.input); left = g.I.Source.left n.input } in
+    let old = moment s.core c.args.control.now (g.O.Sink.held c.args.out.now) (g.O.Sink.faults c.args.out.now) (g.I.Source.faults c.args.input.now) (g.I.Source.left c.args.input.now) in
+    let mid = moment l.store.core l.control (g.O.Sink.held l.out) (g.O.Sink.faults l.out) (g.I.Source.faults l.input) (g.I.Source.left l.input) in
+    let new = moment n.store.core n.control (g.O.Sink.held n.out) (g.O.Sink.faults n.out) (g.I.Source.faults n.input) (g.I.Source.left n.input) in
     let all : l.rounds * 1000 + 1000 ≡ (l.rounds + 1) * 1000 = omega arith in
     record {
       ran = some_runs (plain_code s.code) ((l.rounds + 1) * 1000) old new c.run.result (runs_then (plain_code s.code) (plain_code l.store.code) (l.rounds * 1000) 1000 ((l.rounds + 1) * 1000) old mid new c.run.result (ap plain_code i.code) all i.ran a.ran);
@@ -46,6 +45,6 @@ pub returns-clause-ran : goal.returns-clause-ran
 returns-clause-ran g c =
     let s = c.args.store.now in
     let l = c.loop-rounds in
-    let old : Moment = record { core = s.core; control = c.args.control.now; outside = seen (g.O.Sink.held c.args.out.now) (g.O.Sink.faults c.args.out.now) (g.I.Source.faults c.args.input.now); left = g.I.Source.left c.args.input.now } in
-    let now : Moment = record { core = l.store.core; control = l.control; outside = seen (g.O.Sink.held l.out) (g.O.Sink.faults l.out) (g.I.Source.faults l.input); left = g.I.Source.left l.input } in
+    let old = moment s.core c.args.control.now (g.O.Sink.held c.args.out.now) (g.O.Sink.faults c.args.out.now) (g.I.Source.faults c.args.input.now) (g.I.Source.left c.args.input.now) in
+    let now = moment l.store.core l.control (g.O.Sink.held l.out) (g.O.Sink.faults l.out) (g.I.Source.faults l.input) (g.I.Source.left l.input) in
     some_runs (plain_code s.code) (l.rounds * 1000 + 1) old now NoMemory (runs_give_up (plain_code s.code) (l.rounds * 1000) old now l.invariant.ran)

@@ -1,5 +1,5 @@
 use Rattle.std.proofs.Common.{◌≡◌, ◌∙◌, [], inl, Some, refl, ap, subst}
-use Rattle.setl_code.specs.declared.code.Instr.{Instr}
+use Rattle.setl_code.specs.declared.code.Instr.TheVariants.{Print, Read}
 use Rattle.setl_code.specs.Code.{PrintTop, ReadOne}
 use Rattle.setl_code.specs.Machine.{fetch}
 use Rattle.setl_code.specs.Plain.{plain_code, plain_instr}
@@ -8,7 +8,7 @@ use Rattle.setl_text.specs.Reads.{ReaderState, ahead}
 use Rattle.setl_machine.specs.Control.{world_of, stood_for, IsRest}
 use Rattle.setl_machine.specs.Outcome.{seen, next_of}
 use Rattle.setl_machine.proofs.Stays.{takes_none}
-use Rattle.setl_machine.proofs.Stepping.{by_step, quiet_steps, quiet_no_write, quiet_no_read, stays_honest}
+use Rattle.setl_machine.proofs.Stepping.{in_hand, by_step, quiet_steps, quiet_no_write, quiet_no_read, stays_honest}
 use Rattle.setl_machine.proofs.machine.step.Goals as goal
 
 pub returns-in-Print-clause-did : goal.returns-in-Print-clause-did
@@ -16,7 +16,7 @@ returns-in-Print-clause-did g c =
     let s = c.args.store.now in
     let m = plain_code s.code in
     let line = c.in-Some.step.now.line in
-    let here : fetch m s.core.now.body s.core.now.at ≡ Some (line, PrintTop c.in-Print.count) = c.in-Some.ensures.some ∙ ap (λ (what : Instr). Some (line, plain_instr (variables s.core) what)) c.in-Print.is in
+    let here : fetch m s.core.now.body s.core.now.at ≡ Some (line, PrintTop c.in-Print.count) = in_hand m s.core (variables s.core) c.in-Some.step.now (Print c.in-Print.count) c.in-Some.ensures.some c.in-Print.is in
     let faults = g.I.Source.faults c.args.input.now in
     let old = seen (g.O.Sink.held c.args.out.now) (g.O.Sink.faults c.args.out.now) faults in
     let new = seen (g.O.Sink.held c.print.new.out) (g.O.Sink.faults c.print.new.out) faults in
@@ -29,7 +29,7 @@ returns-in-Read-clause-did g c =
     let s = c.args.store.now in
     let m = plain_code s.code in
     let line = c.in-Some.step.now.line in
-    let here : fetch m s.core.now.body s.core.now.at ≡ Some (line, ReadOne) = c.in-Some.ensures.some ∙ ap (λ (what : Instr). Some (line, plain_instr (variables s.core) what)) c.in-Read.is in
+    let here : fetch m s.core.now.body s.core.now.at ≡ Some (line, ReadOne) = in_hand m s.core (variables s.core) c.in-Some.step.now Read c.in-Some.ensures.some c.in-Read.is in
     let held = g.O.Sink.held c.args.out.now in
     let faults = g.O.Sink.faults c.args.out.now in
     let old = seen held faults (g.I.Source.faults c.args.input.now) in
@@ -50,11 +50,13 @@ returns-in_default-what g c =
     record {
       did = λ rest h.
           let k = stood_for s.core c.args.control.now rest in
-          let to = stood_for c.quiet_step.new.store.core c.quiet_step.new.control rest in
-          (rest, subst (λ (r : ReaderState). IsRest (ahead r.ended left) rest) reader h,
-          by_step m k to line what now now c.quiet_step.result c.in-Some.ensures.some (quiet_steps (next_of m line what k) to now c.quiet_step.result (c.quiet_step.ensures.did rest)));
-      prints = λ e. absurd (quiet_no_write _ _ _ (c.quiet_step.ensures.did []) e);
-      reads = λ e. absurd (quiet_no_read _ _ _ (c.quiet_step.ensures.did []) e);
+          let to = stood_for c.quiet_step.new.store.core c.quiet_step.new.control rest in (
+            rest,
+            subst (λ (r : ReaderState). IsRest (ahead r.ended left) rest) reader h,
+            by_step m k to line what now now c.quiet_step.result c.in-Some.ensures.some (quiet_steps (next_of m line what k) to now c.quiet_step.result (c.quiet_step.ensures.did rest)),
+          );
+      prints = λ e. absurd (quiet_no_write (next_of m line what (stood_for s.core c.args.control.now [])) (stood_for c.quiet_step.new.store.core c.quiet_step.new.control []) c.quiet_step.result (c.quiet_step.ensures.did []) e);
+      reads = λ e. absurd (quiet_no_read (next_of m line what (stood_for s.core c.args.control.now [])) (stood_for c.quiet_step.new.store.core c.quiet_step.new.control []) c.quiet_step.result (c.quiet_step.ensures.did []) e);
       reads_only = inl refl;
       code = c.quiet_step.ensures.code;
       goes_on = λ e. ap (λ (r : ReaderState). r.fault) reader ∙ c.requires;
