@@ -17,7 +17,7 @@ use Rattle.setl_top.specs.Reasons.{reason_line}
 use Rattle.setl_top.specs.Runs.{Streams, streams, turns, RunsTo, RunsInto, RunsToRead, RunsUpTo, Runs, TakesInput}
 use Rattle.setl_top.specs.Tells.{Tells, whole, failed, no_memory, TellsEnd}
 use Rattle.setl_top.specs.Words.{IsFaulty, Spells, HasFile, Command, Run, Check, Code}
-use Rattle.setl_top.specs.Headline.{Moment, Job, IsInput, IsToRun, IsToList, status_for, Answers, faulty_words, refused, checked, listed, run_ended, UpToWrite, UpToAny, no_program, at_state, in_write, at_print, in_listing, load_failed, read_failed, TellsFault, IsQuiet, LeavesRest, LeavesInput, Ended, ReadFailed, WriteFailed, MemoryFailed, out_failed, err_failed, InputLeft, untouched, read_from, Headline}
+use Rattle.setl_top.specs.Headline.{Moment, Job, IsInput, IsToRun, IsToList, status_for, Answers, faulty_words, refused, checked, listed, run_ended, UpToWrite, UpToAny, no_program, at_state, in_write, at_print, in_listing, load_failed, read_failed, TellsFault, LeavesRest, LeavesInput, Ended, ReadFailed, WriteFailed, MemoryFailed, out_failed, err_failed, InputLeft, untouched, read_from, Headline}
 use Rattle.setl_top.specs.declared.status.Status.{Status}
 use Rattle.setl_top.specs.declared.status.Status.TheVariants.{Done, Refused, Words}
 use Rattle.setl_top.proofs.Fronts.{appends_none, front_none}

@@ -2,7 +2,7 @@
 use Rattle.std.proofs.Common.{◌≡◌, ◌∙◌, ◌⊎◌, inl, inr, ℕ, zero, suc, Bool, true, false, List, [], ◌∷◌, ◌++◌, length, take, Option, None, Some, Result, Ok, Err, IfOk, OnErr, refl, sym, ap, subst, true≢false, append_assoc, arith}
 use Rattle.std.proofs.lemmas.List.{append-nil}
 use Rattle.std.specs.Result.{result_unwrap_or}
-use Rattle.std.specs.Io.KnownBytes.{Appends, append_known, prepend_known}
+use Rattle.std.specs.Io.KnownBytes.{Appends, append_known}
 use Rattle.setl_io.specs.Sink.{AppendsPart}
 use Rattle.setl_text.specs.Reads.{TakesOff, StaysHonest, ahead}
 use Rattle.setl_run.specs.Events as run
@@ -27,7 +27,7 @@ use Rattle.setl_machine.specs.declared.end.StopKind.{StopKind}
 use Rattle.setl_top.specs.CodeRuns.{RunsCode, seen_before, seen_now}
 use Rattle.setl_top.specs.Headline.{IsInput, IsLeft}
 use Rattle.setl_top.specs.Moments as moments
-use Rattle.setl_top.specs.Runs.{Streams, turns, RunsTo, RunsInto, RunsToRead, RunsUpTo, Runs, TakesAtRead, TakesInput}
+use Rattle.setl_top.specs.Runs.{Streams, turns, RunsTo, RunsInto, RunsToRead, RunsUpTo, Runs, TakesInput}
 use Rattle.setl_top.proofs.Fronts.{appends_none}
 use Rattle.setl_top.proofs.Reaching.{CodeLaws, coded, untested, Came, ends_at, came_at_state, came_at_read, came_at_print}
 

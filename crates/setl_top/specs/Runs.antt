@@ -38,7 +38,8 @@ streams input left input_before input_now old new out_before out_now = record {
 abbrev pub turns : ℕ
 turns = 2 ^ 63 - 1
 
--- the run came to this end of the meaning, whose output is added, and left what the meaning left of the input
+-- the run came to this end of the meaning, whose output is added, and left what the meaning's last state has of the
+-- input, which is a state that it reaches
 pub record RunsTo (program : Program) (s : Streams) (end : run.End) : Type 0 where
   pub input : List ℕ
   pub known : IsInput s.input input
