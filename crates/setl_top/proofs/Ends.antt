@@ -1,11 +1,12 @@
 -- How the parts of a call make its headline.
-use Rattle.std.proofs.Common.{◌≡◌, ◌⊎◌, inl, inr, ◌≤◌, ℕ, true, List, [], ◌∷◌, ◌++◌, take, Option, Some, refl, sym, subst, arith, codes}
+use Rattle.std.proofs.Common.{◌≡◌, ◌⊎◌, inl, inr, ◌≤◌, ℕ, List, [], ◌∷◌, ◌++◌, take, Option, Some, refl, sym, subst, arith, codes}
 use Rattle.std.specs.Io.KnownBytes.{Appends}
 use Rattle.setl_io.specs.Faults.{Rose}
 use Rattle.setl_run.specs.Events as run
 use Rattle.setl_model.specs.Answers.{RunStatus, IsDone, IsStopped, IsSpent, status_of, error_line}
 use Rattle.setl_program.specs.ProgramOf.{program_of}
 use Rattle.setl_tree.specs.declared.tree.Tree.{Tree}
+use Rattle.setl_machine.specs.Declaring.{Modes}
 use Rattle.setl_machine.specs.Outcome.{kind_of}
 use Rattle.setl_machine.specs.declared.end.End.{End}
 use Rattle.setl_machine.specs.declared.end.End.TheVariants as end
@@ -14,24 +15,14 @@ use Rattle.setl_top.specs.Listings.{listing_of}
 use Rattle.setl_top.specs.Lists.{gain, Written, all_written, write_failed, write_starved, no_text, Lists, listed_so, not_listed}
 use Rattle.setl_top.specs.Loads.{Loaded, NotLoaded, not_accepted, not_read, no_room, sides, Checks, checked_so, not_checked}
 use Rattle.setl_top.specs.Reasons.{reason_line}
-use Rattle.setl_top.specs.Runs.{Streams, streams, turns, RunsTo, RunsInto, RunsToRead, RunsUpTo, Runs, TakesInput}
+use Rattle.setl_top.specs.Runs.{Streams, streams, counted, RunsTo, RunsInto, RunsToRead, RunsUpTo, Runs, TakesInput}
 use Rattle.setl_top.specs.Tells.{Tells, whole, failed, no_memory, TellsEnd}
-use Rattle.setl_top.specs.Words.{IsFaulty, Spells, HasFile, Command, Run, Check, Code}
 use Rattle.setl_top.specs.Headline.{Moment, Job, IsInput, IsToRun, IsToList, status_for, Answers, faulty_words, refused, checked, listed, run_ended, UpToWrite, UpToAny, no_program, at_state, in_write, at_print, in_listing, load_failed, read_failed, TellsFault, LeavesRest, LeavesInput, Ended, ReadFailed, WriteFailed, MemoryFailed, out_failed, err_failed, InputLeft, untouched, read_from, Headline}
 use Rattle.setl_top.specs.declared.status.Status.{Status}
 use Rattle.setl_top.specs.declared.status.Status.TheVariants.{Done, Refused, Words}
+use Rattle.setl_words.specs.Words.{Options, IsFaulty, Spells, HasFile, Command, Run, Check, Code}
+use Rattle.setl_words.specs.Told.{IsToldOf}
 use Rattle.setl_top.proofs.Fronts.{appends_none, front_none}
-
--- faulty words change nothing
-pub faulty_ends : (words : List (List ℕ)) (m : Moment) → IsFaulty words → Ended words m m Words
-faulty_ends words m h = record {
-  out = [];
-  err = [];
-  answer = faulty_words h;
-  out_gained = appends_none m.out;
-  err_gained = appends_none m.err;
-  quiet = record { files = omega arith; input = omega arith; out = omega arith; err = omega arith };
-}
 
 -- a fault's own line, and nothing before it
 pub fault_alone : (words : List (List ℕ)) (before : Moment) (line : List ℕ) (old new : Option (List ℕ)) → AppendsFront old new (line ++ 10 ∷ []) → TellsFault words before line old new
@@ -88,8 +79,13 @@ told words before after status out err ends a so_far o f i u _ (no_memory h) = r
   err_gained = fault_after words before (codes "no memory") before.err after.err status out err after.input a h;
 }
 
+-- what is told of faulty words was told, or not
+pub faulty_ends : (words : List (List ℕ)) (before after : Moment) (text : List ℕ) → IsFaulty words → IsToldOf words text → Appends before.out after.out [] → after.input ≡ before.input → after.files_faults ≤ before.files_faults → after.input_faults ≤ before.input_faults → after.out_faults ≤ before.out_faults → (r : Status) → Tells Words text before.err after.err before.err_faults after.err_faults r → Headline words before after r
+faulty_ends words before after text h tells o l f i u r t =
+    told words before after Words [] text (λ e. e) (subst (Answers words before Words [] text) (sym l) (faulty_words text h tells)) no_program o f i u r t
+
 -- a source wasn't loaded
-pub not_loaded : (words : List (List ℕ)) (before after : Moment) (command : Command) (name : List ℕ) → Spells words command → HasFile command name → Appends before.out after.out [] → after.input ≡ before.input → after.input_faults ≤ before.input_faults → after.out_faults ≤ before.out_faults → (r : Status) → NotLoaded command before.texts name (sides before.files_faults after.files_faults before.err after.err before.err_faults after.err_faults) r → Headline words before after r
+pub not_loaded : (words : List (List ℕ)) (before after : Moment) (command : Command) (name : List ℕ) → Spells words command → HasFile command name → Appends before.out after.out [] → after.input ≡ before.input → after.input_faults ≤ before.input_faults → after.out_faults ≤ before.out_faults → (r : Status) → NotLoaded before.texts name (sides before.files_faults after.files_faults before.err after.err before.err_faults after.err_faults) r → Headline words before after r
 not_loaded words before after command name s f o l i u _ (not_accepted source reason r t why e h) =
     let line : List ℕ = reason_line reason in
     let answer : Answers words before Refused [] (line ++ 10 ∷ []) before.input = refused command name source line s f t (record { reason = reason; refused = why; tells = refl }) in
@@ -108,57 +104,57 @@ not_loaded words before after command name s f o l i u _ (no_room h) = record {
 }
 
 -- the line of an end, behind a load that told nothing
-pub tells_then : (e : End) (old mid new : Option (List ℕ)) (before then_ now : ℕ) (r : Status) → mid ≡ old → then_ ≡ before → TellsEnd e mid new then_ now r → TellsEnd e old new before now r
-tells_then e old mid new before then_ now r held count told =
-    subst (λ (n : ℕ). TellsEnd e old new n now r) count (subst (λ (o : Option (List ℕ)). TellsEnd e o new then_ now r) held told)
+pub tells_then : (modes : Modes) (e : End) (old mid new : Option (List ℕ)) (before then_ now : ℕ) (r : Status) → mid ≡ old → then_ ≡ before → TellsEnd modes e mid new then_ now r → TellsEnd modes e old new before now r
+tells_then modes e old mid new before then_ now r held count told =
+    subst (λ (n : ℕ). TellsEnd modes e old new n now r) count (subst (λ (o : Option (List ℕ)). TellsEnd modes e o new then_ now r) held told)
 
 -- what is seen of the input and of the output
 abbrev pub streams_of : Moment → Moment → Streams
 streams_of before after = streams before.input after.input before.input_faults after.input_faults before.out after.out before.out_faults after.out_faults
 
-abbrev pub job_of : Tree → List ℕ → Job
-job_of tree input = record { program = program_of tree; input = input; turns = turns; based = true }
+abbrev pub job_of : Options → Tree → List ℕ → Job
+job_of asked tree input = record { program = program_of tree; input = input; turns = asked.turns; based = asked.based }
 
 -- a program that was loaded is to be run
-pub to_run : (words : List (List ℕ)) (before : Moment) (name : List ℕ) (tree : Tree) (input : List ℕ) → Spells words (Run name) → Loaded before.texts name tree → IsInput before.input input → IsToRun words before (job_of tree input)
-to_run words before name tree input s l known = record {
-  command = Run name;
+pub to_run : (words : List (List ℕ)) (before : Moment) (asked : Options) (name : List ℕ) (tree : Tree) (input : List ℕ) → Spells words (Run asked name) → Loaded before.texts name tree → IsInput before.input input → IsToRun words before (job_of asked tree input)
+to_run words before asked name tree input s l known = record {
+  command = Run asked name;
   name = name;
   source = l.source;
   spelled = s;
   runs = (refl, refl, refl);
   text = l.text;
-  accepted = record { tree = tree; is_program = l.is_program; no_modes = l.no_modes; meaning = refl };
+  accepted = record { tree = tree; is_program = l.is_program; meaning = refl };
   input = known;
 }
 
-module _ (words : List (List ℕ)) (before after : Moment) (name : List ℕ) (tree : Tree) (s : Spells words (Run name)) (l : Loaded before.texts name tree) where
+module _ (words : List (List ℕ)) (before after : Moment) (asked : Options) (name : List ℕ) (tree : Tree) (s : Spells words (Run asked name)) (l : Loaded before.texts name tree) where
   abbrev Seen : Streams
   Seen = streams_of before after
 
-  asked : (input : List ℕ) → IsInput before.input input → IsToRun words before (job_of tree input)
-  asked input known = to_run words before name tree input s l known
+  to_be_run : (input : List ℕ) → IsInput before.input input → IsToRun words before (job_of asked tree input)
+  to_be_run input known = to_run words before asked name tree input s l known
 
   -- a run came to its end
-  run_told : (end : run.End) (ending : RunStatus) → status_of end ≡ Some ending → RunsTo (program_of tree) Seen end → (Ended words before after (status_for ending) → Headline words before after (status_for ending)) → after.files_faults ≤ before.files_faults → (r : Status) → Tells (status_for ending) (error_line end) before.err after.err before.err_faults after.err_faults r → Headline words before after r
+  run_told : (end : run.End) (ending : RunStatus) → status_of end ≡ Some ending → RunsTo (program_of tree) asked Seen end → (Ended words before after (status_for ending) → Headline words before after (status_for ending)) → after.files_faults ≤ before.files_faults → (r : Status) → Tells (status_for ending) (error_line end) before.err after.err before.err_faults after.err_faults r → Headline words before after r
   run_told end ending how x ends f r t =
-      let job = job_of tree x.input in
-      let a = asked x.input x.known in
+      let job = job_of asked tree x.input in
+      let a = to_be_run x.input x.known in
       told words before after (status_for ending) x.out (error_line end) ends (run_ended job x.out end ending after.input a x.means how x.left) (at_state job x.out a x.at_end) x.gained f (omega (arith, x.input_count)) (omega (arith, x.out_count)) r t
 
   -- it was broken off
-  run_unread : RunsToRead (program_of tree) Seen → Rose before.input_faults after.input_faults → AppendsFront before.err after.err (codes "read fault" ++ 10 ∷ []) → ReadFailed words before after
+  run_unread : RunsToRead (program_of tree) asked Seen → Rose before.input_faults after.input_faults → AppendsFront before.err after.err (codes "read fault" ++ 10 ∷ []) → ReadFailed words before after
   run_unread x rose h = record {
     out = x.out;
-    cause = read_failed (job_of tree x.input) x.out rose (asked x.input x.known) x.at;
+    cause = read_failed (job_of asked tree x.input) x.out rose (to_be_run x.input x.known) x.at;
     out_gained = x.gained;
     err_gained = fault_alone words before (codes "read fault") before.err after.err h;
   }
 
-  in_line : (x : RunsInto (program_of tree) Seen) → UpToWrite words before (x.out ++ take x.n x.line)
-  in_line x = at_print (job_of tree x.input) x.out x.line x.n (asked x.input x.known) x.at x.part
+  in_line : (x : RunsInto (program_of tree) asked Seen) → UpToWrite words before (x.out ++ take x.n x.line)
+  in_line x = at_print (job_of asked tree x.input) x.out x.line x.n (to_be_run x.input x.known) x.at x.part
 
-  run_unwritten : RunsInto (program_of tree) Seen → Rose before.out_faults after.out_faults → AppendsFront before.err after.err (codes "write fault" ++ 10 ∷ []) → WriteFailed words before after
+  run_unwritten : RunsInto (program_of tree) asked Seen → Rose before.out_faults after.out_faults → AppendsFront before.err after.err (codes "write fault" ++ 10 ∷ []) → WriteFailed words before after
   run_unwritten x rose h = record {
     out = x.out ++ take x.n x.line;
     cause = out_failed rose (in_line x);
@@ -166,7 +162,7 @@ module _ (words : List (List ℕ)) (before after : Moment) (name : List ℕ) (tr
     err_gained = fault_alone words before (codes "write fault") before.err after.err h;
   }
 
-  run_starved : RunsInto (program_of tree) Seen ⊎ RunsUpTo (program_of tree) Seen → AppendsFront before.err after.err (codes "no memory" ++ 10 ∷ []) → MemoryFailed words before after
+  run_starved : RunsInto (program_of tree) asked Seen ⊎ RunsUpTo (program_of tree) asked Seen → AppendsFront before.err after.err (codes "no memory" ++ 10 ∷ []) → MemoryFailed words before after
   run_starved (inl x) h = record {
     out = x.out ++ take x.n x.line;
     so_far = in_write (x.out ++ take x.n x.line) (in_line x);
@@ -175,15 +171,15 @@ module _ (words : List (List ℕ)) (before after : Moment) (name : List ℕ) (tr
   }
   run_starved (inr x) h = record {
     out = x.out;
-    so_far = at_state (job_of tree x.input) x.out (asked x.input x.known) x.at;
+    so_far = at_state (job_of asked tree x.input) x.out (to_be_run x.input x.known) x.at;
     out_gained = x.gained;
     err_gained = fault_alone words before (codes "no memory") before.err after.err h;
   }
 
   -- the run of a program, and the line that tells its end
-  pub run_ends : (e : End) → Runs (program_of tree) Seen e → after.files_faults ≤ before.files_faults → (r : Status) → TellsEnd e before.err after.err before.err_faults after.err_faults r → Headline words before after r
+  pub run_ends : (e : End) → Runs (program_of tree) asked Seen e → after.files_faults ≤ before.files_faults → (r : Status) → TellsEnd (counted asked (program_of tree)) e before.err after.err before.err_faults after.err_faults r → Headline words before after r
   run_ends end.Done x f r t = run_told run.Done IsDone refl x (λ y. y) f r t
-  run_ends (end.Stopped why line) x f r t = run_told (run.Stopped (kind_of why) line) IsStopped refl x (λ y. y) f r t
+  run_ends (end.Stopped why line) x f r t = run_told (run.Stopped (kind_of (counted asked (program_of tree)) why) line) IsStopped refl x (λ y. y) f r t
   run_ends end.Spent x f r t = run_told run.Spent IsSpent refl x (λ y. y) f r t
   run_ends end.ReadFault x f r t = subst (Headline words before after) (sym t.0) (run_unread x.0 x.1 t.1)
   run_ends end.WriteFault x f r t = subst (Headline words before after) (sym t.0) (run_unwritten x.0 x.1 t.1)
@@ -192,9 +188,9 @@ module _ (words : List (List ℕ)) (before after : Moment) (name : List ℕ) (tr
   run_ends end.Stuck x f r t = absurd x
 
   -- what it took of the input
-  pub run_takes : TakesInput (program_of tree) Seen → InputLeft words before after
+  pub run_takes : TakesInput (program_of tree) asked Seen → InputLeft words before after
   run_takes (inl same) = untouched same
-  run_takes (inr x) = read_from (job_of tree x.input) x.out x.taken (asked x.input x.known) x.at x.consumed
+  run_takes (inr x) = read_from (job_of asked tree x.input) x.out x.taken (to_be_run x.input x.known) x.at x.consumed
 
 -- nothing was added, where nothing changed
 pub appends_same : (a b : Option (List ℕ)) → b ≡ a → Appends a b []
@@ -205,7 +201,7 @@ pub check_ends : (words : List (List ℕ)) (before after : Moment) (name : List 
 check_ends words before after name s rest _ (checked_so tree l still) = record {
   out = [];
   err = [];
-  answer = subst (Answers words before Done [] []) (sym rest.input) (checked name l.source tree s l.text l.is_program l.no_modes);
+  answer = subst (Answers words before Done [] []) (sym rest.input) (checked name l.source tree s l.text l.is_program);
   out_gained = appends_same before.out after.out rest.out;
   err_gained = appends_same before.err after.err still.held;
   quiet = record { files = omega (arith, still.files); input = omega (arith, rest.input_faults); out = omega (arith, rest.out_faults); err = omega (arith, still.err) };
@@ -215,7 +211,7 @@ check_ends words before after name s rest r (not_checked _ h) =
 
 -- the program of a file is to be listed
 to_list : (words : List (List ℕ)) (before : Moment) (name : List ℕ) (tree : Tree) → Spells words (Code name) → Loaded before.texts name tree → IsToList words before (listing_of tree)
-to_list words before name tree s l = record { name = name; source = l.source; tree = tree; spelled = s; text = l.text; is_program = l.is_program; built = l.no_modes; is_listing = refl }
+to_list words before name tree s l = record { name = name; source = l.source; tree = tree; spelled = s; text = l.text; is_program = l.is_program; is_listing = refl }
 
 -- a listing was written, or not
 written_ends : (words : List (List ℕ)) (before after : Moment) (text : List ℕ) → IsToList words before text → LeavesInput before after → after.files_faults ≡ before.files_faults → (r : Status) → Written text (gain before.out after.out before.out_faults after.out_faults) before.err after.err before.err_faults after.err_faults r → Headline words before after r

@@ -3,6 +3,7 @@ pub mod Loading
 pub mod Ends
 pub mod OneReason
 pub mod Exclude
+pub mod Breaking
 pub mod Accepting
 pub mod Reaching
 pub mod Running

@@ -2,37 +2,30 @@
 use Rattle.std.proofs.Common.{◌≡◌, ℕ, List, [], ◌∷◌, ◌++◌, Option, subst, codes}
 use Rattle.setl_io.specs.Files.{Texts, IsText}
 use Rattle.setl_tree.specs.declared.tree.Tree.{Tree}
-use Rattle.setl_top.specs.Accepted.{IsProgram, IsRefusedFor, IsUnbuilt}
+use Rattle.setl_top.specs.Accepted.{IsRefusedFor}
 use Rattle.setl_top.specs.Lines.{AppendsFront}
 use Rattle.setl_top.specs.Listings.{listing_of}
 use Rattle.setl_top.specs.Lists.{Gain, Written, Lists, listed_so}
 use Rattle.setl_top.specs.Loads.{Loaded, Sides, sides, IsStill, NotLoaded, not_accepted, no_room}
 use Rattle.setl_top.specs.Reasons.{reason_line}
 use Rattle.setl_top.specs.Tells.{Tells}
-use Rattle.setl_top.specs.Words.{Command, Run, Check, Code}
 use Rattle.setl_top.specs.declared.reason.Reason.{Reason}
 use Rattle.setl_top.specs.declared.status.Status.{Status}
 use Rattle.setl_top.specs.declared.status.Status.TheVariants as status
 
 -- a refusal that was told then
-pub not_accepted_then : (command : Command) (texts : Texts) (name : List ℕ) (s : Sides) → IsStill s → (new : Option (List ℕ)) (err_now : ℕ) (source : List ℕ) (reason : Reason) (ends : Status) → IsText texts name source → IsRefusedFor command source reason → Tells status.Refused (reason_line reason ++ 10 ∷ []) s.new new s.err_now err_now ends → NotLoaded command texts name (sides s.files_before s.files_now s.old new s.err_before err_now) ends
-not_accepted_then command texts name s still new err_now source reason ends text why told =
+pub not_accepted_then : (texts : Texts) (name : List ℕ) (s : Sides) → IsStill s → (new : Option (List ℕ)) (err_now : ℕ) (source : List ℕ) (reason : Reason) (ends : Status) → IsText texts name source → IsRefusedFor source reason → Tells status.Refused (reason_line reason ++ 10 ∷ []) s.new new s.err_now err_now ends → NotLoaded texts name (sides s.files_before s.files_now s.old new s.err_before err_now) ends
+not_accepted_then texts name s still new err_now source reason ends text why told =
     let line : List ℕ = reason_line reason ++ 10 ∷ [] in
     let held = subst (λ (o : Option (List ℕ)). Tells status.Refused line o new s.err_now err_now ends) still.held told in
     not_accepted source reason ends text why still.files (subst (λ (n : ℕ). Tells status.Refused line s.old new n err_now ends) still.err held)
 
 -- want of memory that was told then
-pub no_room_then : (command : Command) (texts : Texts) (name : List ℕ) (s : Sides) → IsStill s → (new : Option (List ℕ)) (err_now : ℕ) → AppendsFront s.new new (codes "no memory" ++ 10 ∷ []) → NotLoaded command texts name (sides s.files_before s.files_now s.old new s.err_before err_now) status.NoMemory
-no_room_then command texts name s still new err_now told = no_room (subst (λ (o : Option (List ℕ)). AppendsFront o new (codes "no memory" ++ 10 ∷ [])) still.held told)
+pub no_room_then : (texts : Texts) (name : List ℕ) (s : Sides) → IsStill s → (new : Option (List ℕ)) (err_now : ℕ) → AppendsFront s.new new (codes "no memory" ++ 10 ∷ []) → NotLoaded texts name (sides s.files_before s.files_now s.old new s.err_before err_now) status.NoMemory
+no_room_then texts name s still new err_now told = no_room (subst (λ (o : Option (List ℕ)). AppendsFront o new (codes "no memory" ++ 10 ∷ [])) still.held told)
 
 -- a listing that was written then, or not
 pub listed_then : (texts : Texts) (name : List ℕ) (tree : Tree) (s : Sides) (o : Gain) → Loaded texts name tree → IsStill s → (new : Option (List ℕ)) (err_now : ℕ) (ends : Status) → Written (listing_of tree) o s.new new s.err_now err_now ends → Lists texts name (sides s.files_before s.files_now s.old new s.err_before err_now) o ends
 listed_then texts name tree s o loaded still new err_now ends w =
     let held = subst (λ (x : Option (List ℕ)). Written (listing_of tree) o x new s.err_now err_now ends) still.held w in
     listed_so tree ends loaded still.files (subst (λ (n : ℕ). Written (listing_of tree) o s.old new n err_now ends) still.err held)
-
--- a program with `repr` lines is one that no command can work on so far
-pub is_unbuilt : (command : Command) (source : List ℕ) (tree : Tree) → IsProgram source tree → (tree.modes ≡ [] → ⊥) → IsUnbuilt command source
-is_unbuilt (Run name) source tree p h = record { tree = tree; is_program = p; other = h }
-is_unbuilt (Check name) source tree p h = record { tree = tree; is_program = p; other = h }
-is_unbuilt (Code name) source tree p h = record { tree = tree; is_program = p; other = h }

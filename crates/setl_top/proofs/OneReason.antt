@@ -1,4 +1,4 @@
--- A source is refused for one reason, or it is a program that the command can work on, and not both.
+-- A source is refused for one reason, or it is a program, and not both.
 use Rattle.std.proofs.Common.{◌≡◌, ◌<◌, ◌≤◌, ◌^◌, ℕ, List, length, Err, refl, ap, subst, arith}
 use Rattle.setl_token.specs.Lex.{Spelled, LexFails}
 use Rattle.setl_token.specs.declared.Cause.{Cause}
@@ -12,10 +12,10 @@ use Rattle.setl_expressions.specs.Plain.{plain_tokens}
 use Rattle.setl_parse.specs.Places.{outcome_of}
 use Rattle.setl_parse.specs.declared.fault.ParseFault.{ParseFault}
 use Rattle.setl_parse.specs.declared.fault.ParseFault.TheVariants as fault
-use Rattle.setl_names.specs.Breaks.{breaks, first_break, break_at}
+use Rattle.setl_names.specs.Breaks.{first_break, break_at}
 use Rattle.setl_names.specs.declared.broken.Break.{Break}
-use Rattle.setl_top.specs.Accepted.{lexed, IsParsed, IsProgram, IsBuilt, IsUnspelled, IsUnparsed, IsUnsound, IsUnbuilt, IsRefusedFor}
-use Rattle.setl_top.specs.Words.{Command}
+use Rattle.setl_top.specs.Accepted.{lexed, IsParsed, IsProgram, IsUnspelled, IsUnparsed, IsUnsound, IsRefusedFor}
+use Rattle.setl_top.specs.Rules.{all_breaks}
 use Rattle.setl_top.specs.declared.reason.Reason.{Reason}
 use Rattle.setl_top.specs.declared.reason.Reason.TheVariants as reason
 
@@ -49,25 +49,23 @@ lex_reason cause.WideNumber place = reason.WideNumber place
 abbrev stop_reason : ParseFault → Reason
 stop_reason (fault.Syntax place) = reason.Syntax place
 stop_reason (fault.Nesting place) = reason.Nesting place
-stop_reason fault.NoMemory = reason.NotBuilt
+stop_reason fault.NoMemory = reason.TooLong
 
 -- the stage at which a source is refused
-data Stage (command : Command) (source : List ℕ) : Reason → Type 0 where
-  long : 2 ^ 24 < length source → Stage command source reason.TooLong
-  lexing : (why : Cause) (place : ℕ) → IsUnspelled source why place → Stage command source (lex_reason why place)
-  parsing : (stop : ParseFault) → IsUnparsed source stop → Stage command source (stop_reason stop)
-  resolving : (broken : Break) → IsUnsound source broken → Stage command source (reason.Broken broken.rule broken.line)
-  building : IsUnbuilt command source → Stage command source reason.NotBuilt
+data Stage (source : List ℕ) : Reason → Type 0 where
+  long : 2 ^ 24 < length source → Stage source reason.TooLong
+  lexing : (why : Cause) (place : ℕ) → IsUnspelled source why place → Stage source (lex_reason why place)
+  parsing : (stop : ParseFault) → IsUnparsed source stop → Stage source (stop_reason stop)
+  resolving : (broken : Break) → IsUnsound source broken → Stage source (reason.Broken broken.rule broken.line)
 
-stage : (command : Command) (source : List ℕ) (r : Reason) → IsRefusedFor command source r → Stage command source r
-stage command source reason.TooLong h = long h
-stage command source (reason.Byte place) h = lexing cause.Byte place h
-stage command source (reason.OpenString place) h = lexing cause.OpenString place h
-stage command source (reason.WideNumber place) h = lexing cause.WideNumber place h
-stage command source (reason.Syntax place) h = parsing (fault.Syntax place) h
-stage command source (reason.Nesting place) h = parsing (fault.Nesting place) h
-stage command source (reason.Broken rule line) h = resolving (break_at line rule) h
-stage command source reason.NotBuilt h = building h
+stage : (source : List ℕ) (r : Reason) → IsRefusedFor source r → Stage source r
+stage source reason.TooLong h = long h
+stage source (reason.Byte place) h = lexing cause.Byte place h
+stage source (reason.OpenString place) h = lexing cause.OpenString place h
+stage source (reason.WideNumber place) h = lexing cause.WideNumber place h
+stage source (reason.Syntax place) h = parsing (fault.Syntax place) h
+stage source (reason.Nesting place) h = parsing (fault.Nesting place) h
+stage source (reason.Broken rule line) h = resolving (break_at line rule) h
 
 -- ---- what excludes what
 
@@ -83,24 +81,20 @@ not_unparsed laws source tree stop p u =
 
 not_unsound : FrontLaws → (source : List ℕ) (tree : Tree) (broken : Break) → IsProgram source tree → IsUnsound source broken → ⊥
 not_unsound laws source tree broken p u =
-    let same = ap (λ t. first_break (breaks t)) (one_parsed laws source tree u.tree p.parsed u.parsed) in
+    let same = ap (λ t. first_break (all_breaks t)) (one_parsed laws source tree u.tree p.parsed u.parsed) in
     let x = p.sound in
     let y = u.first in
     cc
 
-not_unbuilt : FrontLaws → (command : Command) (source : List ℕ) (tree : Tree) → IsProgram source tree → IsBuilt command tree → IsUnbuilt command source → ⊥
-not_unbuilt laws command source tree p b u = u.other (subst (λ t. IsBuilt command t) (one_program_tree laws source tree u.tree p u.is_program) b)
+-- a program isn't refused
+not_at_stage : FrontLaws → (source : List ℕ) (r : Reason) → Stage source r → (tree : Tree) → IsProgram source tree → ⊥
+not_at_stage laws source _ (long h) tree p = not_long source h p.parsed.short
+not_at_stage laws source _ (lexing why place u) tree p = not_unspelled laws source p.parsed.tokens why place p.parsed.spelled u
+not_at_stage laws source _ (parsing stop u) tree p = not_unparsed laws source tree stop p.parsed u
+not_at_stage laws source _ (resolving broken u) tree p = not_unsound laws source tree broken p u
 
--- a program that the command can work on isn't refused
-not_at_stage : FrontLaws → (command : Command) (source : List ℕ) (r : Reason) → Stage command source r → (tree : Tree) → IsProgram source tree → IsBuilt command tree → ⊥
-not_at_stage laws command source _ (long h) tree p b = not_long source h p.parsed.short
-not_at_stage laws command source _ (lexing why place u) tree p b = not_unspelled laws source p.parsed.tokens why place p.parsed.spelled u
-not_at_stage laws command source _ (parsing stop u) tree p b = not_unparsed laws source tree stop p.parsed u
-not_at_stage laws command source _ (resolving broken u) tree p b = not_unsound laws source tree broken p u
-not_at_stage laws command source _ (building u) tree p b = not_unbuilt laws command source tree p b u
-
-pub not_refused : FrontLaws → (command : Command) (source : List ℕ) (r : Reason) → IsRefusedFor command source r → (tree : Tree) → IsProgram source tree → IsBuilt command tree → ⊥
-not_refused laws command source r h = not_at_stage laws command source r (stage command source r h)
+pub not_refused : FrontLaws → (source : List ℕ) (r : Reason) → IsRefusedFor source r → (tree : Tree) → IsProgram source tree → ⊥
+not_refused laws source r h = not_at_stage laws source r (stage source r h)
 
 -- ---- one reason
 
@@ -113,39 +107,30 @@ one_stop laws source s t a b =
 
 one_break : FrontLaws → (source : List ℕ) (s t : Break) → IsUnsound source s → IsUnsound source t → s ≡ t
 one_break laws source s t a b =
-    let same = ap (λ x. first_break (breaks x)) (one_parsed laws source a.tree b.tree a.parsed b.parsed) in
+    let same = ap (λ x. first_break (all_breaks x)) (one_parsed laws source a.tree b.tree a.parsed b.parsed) in
     let x = a.first in
     let y = b.first in
     cc
 
-one_stage : FrontLaws → (command : Command) (source : List ℕ) (a b : Reason) → Stage command source a → Stage command source b → a ≡ b
-one_stage laws command source _ _ (long h) (long k) = refl
-one_stage laws command source _ _ (long h) (lexing c i u) = absurd (not_long source h u.short)
-one_stage laws command source _ _ (long h) (parsing s u) = absurd (not_long source h u.short)
-one_stage laws command source _ _ (long h) (resolving x u) = absurd (not_long source h u.parsed.short)
-one_stage laws command source _ _ (long h) (building u) = absurd (not_long source h u.is_program.parsed.short)
-one_stage laws command source _ _ (lexing c i u) (long k) = absurd (not_long source k u.short)
-one_stage laws command source _ _ (lexing c i u) (lexing d j v) =
+one_stage : FrontLaws → (source : List ℕ) (a b : Reason) → Stage source a → Stage source b → a ≡ b
+one_stage laws source _ _ (long h) (long k) = refl
+one_stage laws source _ _ (long h) (lexing c i u) = absurd (not_long source h u.short)
+one_stage laws source _ _ (long h) (parsing s u) = absurd (not_long source h u.short)
+one_stage laws source _ _ (long h) (resolving x u) = absurd (not_long source h u.parsed.short)
+one_stage laws source _ _ (lexing c i u) (long k) = absurd (not_long source k u.short)
+one_stage laws source _ _ (lexing c i u) (lexing d j v) =
     let same = laws.one_fault source c d i j u.fails v.fails in
     λ x. lex_reason (same.0 x) (same.1 x)
-one_stage laws command source _ _ (lexing c i u) (parsing s v) = absurd (not_unspelled laws source v.tokens c i v.spelled u)
-one_stage laws command source _ _ (lexing c i u) (resolving x v) = absurd (not_unspelled laws source v.parsed.tokens c i v.parsed.spelled u)
-one_stage laws command source _ _ (lexing c i u) (building v) = absurd (not_unspelled laws source v.is_program.parsed.tokens c i v.is_program.parsed.spelled u)
-one_stage laws command source _ _ (parsing s u) (long k) = absurd (not_long source k u.short)
-one_stage laws command source _ _ (parsing s u) (lexing c i v) = absurd (not_unspelled laws source u.tokens c i u.spelled v)
-one_stage laws command source _ _ (parsing s u) (parsing t v) = ap stop_reason (one_stop laws source s t u v)
-one_stage laws command source _ _ (parsing s u) (resolving x v) = absurd (not_unparsed laws source v.tree s v.parsed u)
-one_stage laws command source _ _ (parsing s u) (building v) = absurd (not_unparsed laws source v.tree s v.is_program.parsed u)
-one_stage laws command source _ _ (resolving x u) (long k) = absurd (not_long source k u.parsed.short)
-one_stage laws command source _ _ (resolving x u) (lexing c i v) = absurd (not_unspelled laws source u.parsed.tokens c i u.parsed.spelled v)
-one_stage laws command source _ _ (resolving x u) (parsing s v) = absurd (not_unparsed laws source u.tree s u.parsed v)
-one_stage laws command source _ _ (resolving x u) (resolving y v) = ap (λ (z : Break). reason.Broken z.rule z.line) (one_break laws source x y u v)
-one_stage laws command source _ _ (resolving x u) (building v) = absurd (not_unsound laws source v.tree x v.is_program u)
-one_stage laws command source _ _ (building u) (long k) = absurd (not_long source k u.is_program.parsed.short)
-one_stage laws command source _ _ (building u) (lexing c i v) = absurd (not_unspelled laws source u.is_program.parsed.tokens c i u.is_program.parsed.spelled v)
-one_stage laws command source _ _ (building u) (parsing s v) = absurd (not_unparsed laws source u.tree s u.is_program.parsed v)
-one_stage laws command source _ _ (building u) (resolving x v) = absurd (not_unsound laws source u.tree x u.is_program v)
-one_stage laws command source _ _ (building u) (building v) = refl
+one_stage laws source _ _ (lexing c i u) (parsing s v) = absurd (not_unspelled laws source v.tokens c i v.spelled u)
+one_stage laws source _ _ (lexing c i u) (resolving x v) = absurd (not_unspelled laws source v.parsed.tokens c i v.parsed.spelled u)
+one_stage laws source _ _ (parsing s u) (long k) = absurd (not_long source k u.short)
+one_stage laws source _ _ (parsing s u) (lexing c i v) = absurd (not_unspelled laws source u.tokens c i u.spelled v)
+one_stage laws source _ _ (parsing s u) (parsing t v) = ap stop_reason (one_stop laws source s t u v)
+one_stage laws source _ _ (parsing s u) (resolving x v) = absurd (not_unparsed laws source v.tree s v.parsed u)
+one_stage laws source _ _ (resolving x u) (long k) = absurd (not_long source k u.parsed.short)
+one_stage laws source _ _ (resolving x u) (lexing c i v) = absurd (not_unspelled laws source u.parsed.tokens c i u.parsed.spelled v)
+one_stage laws source _ _ (resolving x u) (parsing s v) = absurd (not_unparsed laws source u.tree s u.parsed v)
+one_stage laws source _ _ (resolving x u) (resolving y v) = ap (λ (z : Break). reason.Broken z.rule z.line) (one_break laws source x y u v)
 
-pub one_reason : FrontLaws → (command : Command) (source : List ℕ) (a b : Reason) → IsRefusedFor command source a → IsRefusedFor command source b → a ≡ b
-one_reason laws command source a b h k = one_stage laws command source a b (stage command source a h) (stage command source b k)
+pub one_reason : FrontLaws → (source : List ℕ) (a b : Reason) → IsRefusedFor source a → IsRefusedFor source b → a ≡ b
+one_reason laws source a b h k = one_stage laws source a b (stage source a h) (stage source b k)

@@ -1,9 +1,10 @@
 -- States that the code of a program reaches, and what the program has written there.
-use Rattle.std.proofs.Common.{◌≡◌, ◌∙◌, ℕ, zero, suc, true, List, [], ◌∷◌, ◌++◌, Option, Some, refl, sym, ap, subst}
+use Rattle.std.proofs.Common.{◌≡◌, ◌∙◌, ℕ, zero, suc, Bool, true, false, List, [], ◌∷◌, ◌++◌, Option, Some, if◌then◌else◌, refl, sym, ap, subst}
+use Rattle.std.proofs.lemmas.List.{append-nil}
 use Rattle.setl_value.specs.Datum.{Datum}
 use Rattle.setl_text.specs.Texts.{print_line}
-use Rattle.setl_run.specs.Events.{End}
-use Rattle.setl_run.specs.Run.{Store, Move, Moves, Halts, State, Next, Goes, Ends, Machine, store_all, stored, settle, step, and_then, run}
+use Rattle.setl_run.specs.Events.{End, Stopped, Unfit}
+use Rattle.setl_run.specs.Run.{Store, Move, Moves, Halts, State, Next, Goes, Ends, Machine, Test, if_fits, store_all, stored, settle, step, and_then, run}
 use Rattle.setl_program.specs.Program.{Program}
 use Rattle.setl_program.specs.Formed.{Formed}
 use Rattle.setl_model.specs.Ending.{NoneIsStuck}
@@ -14,37 +15,60 @@ use Rattle.setl_code.specs.CodeCore.{Operand, Pops, popped, CodeCore}
 use Rattle.setl_code.specs.CodeMeans.{code_first}
 use Rattle.setl_code.specs.CodeOf.{code_of}
 use Rattle.setl_code.specs.Machine.{machine, fetch, do_step, on_popped, print_values}
-use Rattle.setl_machine.specs.Outcome.{always, said, start, AtPrint, AtRead}
+use Rattle.setl_machine.specs.Declaring.{tested}
+use Rattle.setl_machine.specs.Outcome.{said, start, AtPrint, AtRead, EndsWriteNothing}
 use Rattle.setl_simulation.specs.Claims.{CodeMeansAlike, CodeEndsInTheSameState, CodeReachesTheSameStates, CodeReadsWhereMeant, CodePrintsWhereMeant}
 use Rattle.setl_simulation.specs.States.{CodeReaches}
 use Rattle.setl_top.specs.Moments.{AtState}
 use Rattle.setl_top.specs.Moments as moments
+use Rattle.setl_top.specs.Runs.{counted}
+use Rattle.setl_words.specs.Words.{Options}
 
--- ---- runs in which every value is taken
+-- ---- the end of a run
 
-module _ {C : Type 0} (m : Machine C) where
-  stores_go_on : (line : ℕ) (xs : List Store) (s t : State C) (e : End) → store_all m always line xs s ≡ Ends e t → ⊥
-  stores_go_on line [] s t e h = cc
-  stores_go_on line (x ∷ xs) s t e h = stores_go_on line xs (stored m line x s) t e h
-
-  settled_at : (s t : State C) (e : End) (how : Move C) → settle m always s how ≡ Ends e t → s ≡ t
-  settled_at s t e (Moves words told to line xs) h = absurd (stores_go_on line xs (record { core = to; out = s.out ++ words; events = s.events ++ told }) t e h)
-  settled_at s t e (Halts f) h = cc
-
-  -- a run ends at a state that it reaches
-  pub ends_at : (n : ℕ) (s t : State C) (e : End) → run m always n s ≡ Ends e t → (k : ℕ) × (run m always k s ≡ Goes t)
-  ends_at zero s t e h = absurd (cc)
-  ends_at (suc n) s t e h = go (step m always s) refl h (λ d. ends_at n d t e)
+module _ (m : Machine CodeCore) (test : Test) where
+  -- whether values fit doesn't hang on what was written and told
+  fits_alike : (line : ℕ) (xs : List Store) (s t d : State CodeCore) (e : End) → store_all m test line xs s ≡ Ends e d → (f : State CodeCore) × (store_all m test line xs t ≡ Ends e f) × (d.out ≡ s.out) × (f.out ≡ t.out)
+  fits_alike line [] s t d e h = absurd (cc)
+  fits_alike line (x ∷ xs) s t d e h = go (test x.0 x.1) h
     where
-      go : (y : Next C) → step m always s ≡ y → and_then y (run m always n) ≡ Ends e t → ((d : State C) → run m always n d ≡ Ends e t → (k : ℕ) × (run m always k d ≡ Goes t)) → (k : ℕ) × (run m always k s ≡ Goes t)
-      go (Goes d) is h ih = let later = ih d h in (suc later.0, ap (λ z. and_then z (run m always later.0)) is ∙ later.1)
-      go (Ends f d) is h ih = let same : d ≡ t = cc in (0, ap Goes (settled_at s t f (m.move s.core) (is ∙ ap (Ends f) same)))
+      go : (b : Bool) → if_fits b (store_all m test line xs (stored m line x s)) (Stopped (Unfit x.0) line) s ≡ Ends e d → (f : State CodeCore) × (if_fits b (store_all m test line xs (stored m line x t)) (Stopped (Unfit x.0) line) t ≡ Ends e f) × (d.out ≡ s.out) × (f.out ≡ t.out)
+      go true h = fits_alike line xs (stored m line x s) (stored m line x t) d e h
+      go false h =
+          let ends : Stopped (Unfit x.0) line ≡ e = cc in
+          let same : s ≡ d = cc in
+          (t, ap (λ f. Ends f t) ends, ap (λ (z : State CodeCore). z.out) (sym same), refl)
+
+  module _ (silent : (k : CodeCore) (e : End) (d : State CodeCore) → step m test (start k) ≡ Ends e d → d.out ≡ []) where
+    -- a step that ends the run leaves the output as it was
+    leaves_output : (s d : State CodeCore) (e : End) → step m test s ≡ Ends e d → d.out ≡ s.out
+    leaves_output s d e h = go (m.move s.core) h (silent s.core)
+      where
+        go : (how : Move CodeCore) → settle m test s how ≡ Ends e d → ((f : End) (z : State CodeCore) → settle m test (start s.core) how ≡ Ends f z → z.out ≡ []) → d.out ≡ s.out
+        go (Moves words told to line xs) h mute =
+            let there = record { core = to; out = words; events = told } in
+            let r = fits_alike line xs (record { core = to; out = s.out ++ words; events = s.events ++ told }) there d e h in
+            let none : words ≡ [] = sym r.3 ∙ mute e r.0 r.1 in
+            r.2 ∙ ap (λ ws. s.out ++ ws) none ∙ append-nil s.out
+        go (Halts f) h mute = let same : s ≡ d = cc in ap (λ (z : State CodeCore). z.out) (sym same)
+
+    -- a run ends with the output of a state that it reaches
+    pub ends_at : (n : ℕ) (s t : State CodeCore) (e : End) → run m test n s ≡ Ends e t → (k : ℕ) × (d : State CodeCore) × (run m test k s ≡ Goes d) × (d.out ≡ t.out)
+    ends_at zero s t e h = absurd (cc)
+    ends_at (suc n) s t e h = go (step m test s) refl h (λ d. ends_at n d t e)
+      where
+        go : (y : Next CodeCore) → step m test s ≡ y → and_then y (run m test n) ≡ Ends e t → ((d : State CodeCore) → run m test n d ≡ Ends e t → (k : ℕ) × (f : State CodeCore) × (run m test k d ≡ Goes f) × (f.out ≡ t.out)) → (k : ℕ) × (d : State CodeCore) × (run m test k s ≡ Goes d) × (d.out ≡ t.out)
+        go (Goes d) is h ih = let later = ih d h in (suc later.0, later.1, ap (λ z. and_then z (run m test later.0)) is ∙ later.2, later.3)
+        go (Ends f d) is h ih =
+            let same : Ends {CodeCore} f d ≡ Ends e t = h in
+            let state : d ≡ t = cc in
+            (0, s, refl, sym (leaves_output s d f is) ∙ ap (λ (z : State CodeCore). z.out) state)
 
 -- what a `print` of these operands writes
-said_at_print : (c : Code) (k : CodeCore) (line n : ℕ) (vs : List (Option Datum)) (xs : List Operand) → fetch c k.now.body k.now.at ≡ Some (line, PrintTop n) → popped n [] k.now.operands ≡ Pops vs xs → said (step (machine c) always (start k)) ≡ print_line vs
-said_at_print c k line n vs xs next ops =
-    ap (λ f. said (settle (machine c) always (start k) (do_step c f k))) next
-    ∙ ap (λ f. said (settle (machine c) always (start k) (on_popped f (λ us ys. print_values us ys k)))) ops
+said_at_print : (c : Code) (test : Test) (k : CodeCore) (line n : ℕ) (vs : List (Option Datum)) (xs : List Operand) → fetch c k.now.body k.now.at ≡ Some (line, PrintTop n) → popped n [] k.now.operands ≡ Pops vs xs → said (step (machine c) test (start k)) ≡ print_line vs
+said_at_print c test k line n vs xs next ops =
+    ap (λ f. said (settle (machine c) test (start k) (do_step c f k))) next
+    ∙ ap (λ f. said (settle (machine c) test (start k) (on_popped f (λ us ys. print_values us ys k)))) ops
 
 -- ---- the laws
 
@@ -56,37 +80,50 @@ pub record CodeLaws : Type 0 where
   pub reads : CodeReadsWhereMeant
   pub prints : CodePrintsWhereMeant
   pub not_stuck : NoneIsStuck
+  pub silent : EndsWriteNothing
 
-module _ (p : Program) (no_modes : p.modes ≡ []) (input : List ℕ) (turns : ℕ) where
+-- the declarations that count make the test of the meaning
+counts : (asked : Options) (p : Program) → tested (counted asked p) ≡ test_of p.modes asked.based
+counts asked p = go asked.based
+  where
+    go : (b : Bool) → tested (if b then p.modes else []) ≡ test_of p.modes b
+    go true = refl
+    go false = refl
+
+module _ (p : Program) (asked : Options) (input : List ℕ) where
+  -- which values each variable takes
+  abbrev pub Taken : Test
+  Taken = tested (counted asked p)
+
   -- the code's run so far
   abbrev pub coded : ℕ → Next CodeCore
-  coded n = run (machine (code_of p)) always n (code_first (code_of p) input turns)
+  coded n = run (machine (code_of p)) Taken n (code_first (code_of p) input asked.turns)
 
-  -- without declarations nothing is tested
-  pub untested : (n : ℕ) (x : Next CodeCore) → coded n ≡ x → run (machine (code_of p)) (test_of p.modes true) n (code_first (code_of p) input turns) ≡ x
-  untested n x h = subst (λ ms. run (machine (code_of p)) (test_of ms true) n (code_first (code_of p) input turns) ≡ x) (sym no_modes) h
+  -- it tests as the meaning does
+  pub as_meant : (n : ℕ) (x : Next CodeCore) → coded n ≡ x → run (machine (code_of p)) (test_of p.modes asked.based) n (code_first (code_of p) input asked.turns) ≡ x
+  as_meant n x h = subst (λ t. run (machine (code_of p)) t n (code_first (code_of p) input asked.turns) ≡ x) (counts asked p) h
 
   abbrev pub Came : State CodeCore → Type 0
   Came s = (n : ℕ) × (coded n ≡ Goes s)
 
-  comes : (s : State CodeCore) → Came s → CodeReaches p input turns true s
-  comes s h = (h.0, untested h.0 (Goes s) h.1)
+  comes : (s : State CodeCore) → Came s → CodeReaches p input asked.turns asked.based s
+  comes s h = (h.0, as_meant h.0 (Goes s) h.1)
 
   module _ (laws : CodeLaws) (formed : Formed p) (s : State CodeCore) (came : Came s) where
-    pub came_at_state : AtState p input turns true s.out
+    pub came_at_state : AtState p input asked.turns asked.based s.out
     came_at_state =
-        let r = laws.reached p formed input turns true s (comes s came) in
+        let r = laws.reached p formed input asked.turns asked.based s (comes s came) in
         record { state = r.state; reached = r.reached; printed = r.same.out }
 
-    pub came_at_read : AtRead (code_of p) s.core → moments.AtRead p input turns true s.out
+    pub came_at_read : AtRead (code_of p) s.core → moments.AtRead p input asked.turns asked.based s.out
     came_at_read next =
-        let r = laws.reads p formed input turns true s next.0 (comes s came) next.1 in
+        let r = laws.reads p formed input asked.turns asked.based s next.0 (comes s came) next.1 in
         record { state = r.there.state; reached = r.there.reached; printed = r.there.same.out; in_hand = r.in_hand }
 
-    pub came_at_print : AtPrint (code_of p) s.core → moments.AtPrint p input turns true s.out (said (step (machine (code_of p)) always (start s.core)))
+    pub came_at_print : AtPrint (code_of p) s.core → moments.AtPrint p input asked.turns asked.based s.out (said (step (machine (code_of p)) Taken (start s.core)))
     came_at_print next =
-        let r = laws.prints p formed input turns true s next.0 next.1 (comes s came) next.2 in
-        let line = said_at_print (code_of p) s.core next.0 next.1 r.values r.others next.2 r.operands in
+        let r = laws.prints p formed input asked.turns asked.based s next.0 next.1 (comes s came) next.2 in
+        let line = said_at_print (code_of p) Taken s.core next.0 next.1 r.values r.others next.2 r.operands in
         record {
           state = r.there.state;
           reached = r.there.reached;

@@ -19,6 +19,7 @@ use Rattle.setl_code.specs.CodeOf.{code_of}
 use Rattle.setl_code.specs.Machine.{machine}
 use Rattle.setl_store.specs.Standing.{Standing, started}
 use Rattle.setl_machine.specs.Control.{ControlState, IsRest, kept_for, stood_for}
+use Rattle.setl_machine.specs.Declaring.{Modes}
 use Rattle.setl_machine.specs.Outcome.{IsLikely, kind_of, said, AtPrint, AtRead, Before, NoFault}
 use Rattle.setl_machine.specs.Outcome as outcome
 use Rattle.setl_machine.specs.declared.end.End.{End}
@@ -27,9 +28,11 @@ use Rattle.setl_machine.specs.declared.end.StopKind.{StopKind}
 use Rattle.setl_top.specs.CodeRuns.{RunsCode, seen_before, seen_now}
 use Rattle.setl_top.specs.Headline.{IsInput, IsLeft}
 use Rattle.setl_top.specs.Moments as moments
-use Rattle.setl_top.specs.Runs.{Streams, turns, RunsTo, RunsInto, RunsToRead, RunsUpTo, Runs, TakesInput}
+use Rattle.setl_top.specs.Moments.{AtState}
+use Rattle.setl_top.specs.Runs.{Streams, counted, RunsTo, RunsInto, RunsToRead, RunsUpTo, Runs, TakesInput}
+use Rattle.setl_words.specs.Words.{Options}
 use Rattle.setl_top.proofs.Fronts.{appends_none}
-use Rattle.setl_top.proofs.Reaching.{CodeLaws, coded, untested, Came, ends_at, came_at_state, came_at_read, came_at_print}
+use Rattle.setl_top.proofs.Reaching.{CodeLaws, Taken, coded, as_meant, Came, ends_at, came_at_state, came_at_read, came_at_print}
 
 -- ---- what is left of the input
 
@@ -54,21 +57,21 @@ record EndsAs (x : Next CodeCore) (k : CodeCore) (e : run.End) : Type 0 where
   pub is : x ≡ Ends e state
   pub likely : IsLikely state.core k
 
-done : (x : Next CodeCore) (k : CodeCore) → outcome.Answers x k end.Done → EndsAs x k run.Done
-done (Goes s) k h = absurd h
-done (Ends e s) k h = record { state = s; is = ap (λ f. Ends f s) h.0; likely = h.1 }
+done : (modes : Modes) (x : Next CodeCore) (k : CodeCore) → outcome.Answers modes x k end.Done → EndsAs x k run.Done
+done modes (Goes s) k h = absurd h
+done modes (Ends e s) k h = record { state = s; is = ap (λ f. Ends f s) h.0; likely = h.1 }
 
-stopped : (x : Next CodeCore) (k : CodeCore) (why : StopKind) (line : ℕ) → outcome.Answers x k (end.Stopped why line) → EndsAs x k (run.Stopped (kind_of why) line)
-stopped (Goes s) k why line h = absurd h
-stopped (Ends e s) k why line h = record { state = s; is = ap (λ f. Ends f s) h.0; likely = h.1 }
+stopped : (modes : Modes) (x : Next CodeCore) (k : CodeCore) (why : StopKind) (line : ℕ) → outcome.Answers modes x k (end.Stopped why line) → EndsAs x k (run.Stopped (kind_of modes why) line)
+stopped modes (Goes s) k why line h = absurd h
+stopped modes (Ends e s) k why line h = record { state = s; is = ap (λ f. Ends f s) h.0; likely = h.1 }
 
-spent : (x : Next CodeCore) (k : CodeCore) → outcome.Answers x k end.Spent → EndsAs x k run.Spent
-spent (Goes s) k h = absurd h
-spent (Ends e s) k h = record { state = s; is = ap (λ f. Ends f s) h.0; likely = h.1 }
+spent : (modes : Modes) (x : Next CodeCore) (k : CodeCore) → outcome.Answers modes x k end.Spent → EndsAs x k run.Spent
+spent modes (Goes s) k h = absurd h
+spent modes (Ends e s) k h = record { state = s; is = ap (λ f. Ends f s) h.0; likely = h.1 }
 
-stuck : (x : Next CodeCore) (k : CodeCore) → outcome.Answers x k end.Stuck → EndsAs x k run.Stuck
-stuck (Goes s) k h = absurd h
-stuck (Ends e s) k h = record { state = s; is = ap (λ f. Ends f s) h.0; likely = h.1 }
+stuck : (modes : Modes) (x : Next CodeCore) (k : CodeCore) → outcome.Answers modes x k end.Stuck → EndsAs x k run.Stuck
+stuck modes (Goes s) k h = absurd h
+stuck modes (Ends e s) k h = record { state = s; is = ap (λ f. Ends f s) h.0; likely = h.1 }
 
 -- ---- the input
 
@@ -108,30 +111,31 @@ behind None new out more h = tt
 behind (Some xs) None out more h = absurd h
 behind (Some xs) (Some ys) out more h = h ∙ append_assoc xs out more
 
-module _ (laws : CodeLaws) (p : Program) (formed : Formed p) (no_modes : p.modes ≡ []) (s : Streams) (input : List ℕ) (known : IsInput s.input input) where
+module _ (laws : CodeLaws) (p : Program) (formed : Formed p) (asked : Options) (s : Streams) (input : List ℕ) (known : IsInput s.input input) where
   abbrev from : CodeCore
-  from = (code_first (code_of p) input turns).core
+  from = (code_first (code_of p) input asked.turns).core
 
   -- a state before which fewer steps were done
   abbrev Early : ℕ → State CodeCore → List ℕ → Type 0
-  Early n t line = Before (code_of p) n from t line
+  Early n t line = Before (counted asked p) (code_of p) n from t line
 
-  came : (n : ℕ) (t : State CodeCore) (line : List ℕ) → Early n t line → Came p no_modes input turns t
+  came : (n : ℕ) (t : State CodeCore) (line : List ℕ) → Early n t line → Came p asked input t
   came n t line b = (b.after, b.reached)
 
   -- the run ended in the meaning's sense
-  coming_to : (n : ℕ) (last : CodeCore) (e : run.End) → EndsAs (coded p no_modes input turns n) last e → IsLeft s.input s.left last.world.input → Appends s.old s.new (said (coded p no_modes input turns n)) → NoFault (seen_before s) (seen_now s) → RunsTo p s e
+  coming_to : (n : ℕ) (last : CodeCore) (e : run.End) → EndsAs (coded p asked input n) last e → IsLeft s.input s.left last.world.input → Appends s.old s.new (said (coded p asked input n)) → NoFault (seen_before s) (seen_now s) → RunsTo p asked s e
   coming_to n last e x left gained count =
       let out : List ℕ = x.state.out in
-      let code : CodeMeans (code_of p) p.modes input turns true out e = record { steps = n; last = x.state; ends = untested p no_modes input turns n (Ends e x.state) x.is; written = refl } in
-      let means : Means p input turns true out e = (laws.means p formed input turns true out e).1 code in
-      let same = laws.last p formed input turns true out out e e means code in
+      let code : CodeMeans (code_of p) p.modes input asked.turns asked.based out e = record { steps = n; last = x.state; ends = as_meant p asked input n (Ends e x.state) x.is; written = refl } in
+      let means : Means p input asked.turns asked.based out e = (laws.means p formed input asked.turns asked.based out e).1 code in
+      let reach = ends_at (machine (code_of p)) (Taken p asked input) (laws.silent (code_of p) (counted asked p)) n (code_first (code_of p) input asked.turns) x.state e x.is in
+      let same = laws.last p formed input asked.turns asked.based out out e e means code in
       record {
         input = input;
         known = known;
         out = out;
         means = means;
-        at_end = came_at_state p no_modes input turns laws formed x.state (ends_at (machine (code_of p)) n (code_first (code_of p) input turns) x.state e x.is);
+        at_end = subst (AtState p input asked.turns asked.based) reach.3 (came_at_state p asked input laws formed reach.1 (reach.0, reach.2));
         left = subst (λ w. IsLeft s.input s.left w.input) same.core.world (left_of x.state.core last s.input s.left x.likely left);
         gained = subst (Appends s.old s.new) (ap said x.is) gained;
         input_count = count.1;
@@ -139,35 +143,35 @@ module _ (laws : CodeLaws) (p : Program) (formed : Formed p) (no_modes : p.modes
       }
 
   -- no run is stuck
-  not_stuck : (n : ℕ) (last : CodeCore) → EndsAs (coded p no_modes input turns n) last run.Stuck → ⊥
+  not_stuck : (n : ℕ) (last : CodeCore) → EndsAs (coded p asked input n) last run.Stuck → ⊥
   not_stuck n last x =
       let out : List ℕ = x.state.out in
-      let code : CodeMeans (code_of p) p.modes input turns true out run.Stuck = record { steps = n; last = x.state; ends = untested p no_modes input turns n (Ends run.Stuck x.state) x.is; written = refl } in
-      laws.not_stuck p formed input turns true out ((laws.means p formed input turns true out run.Stuck).1 code)
+      let code : CodeMeans (code_of p) p.modes input asked.turns asked.based out run.Stuck = record { steps = n; last = x.state; ends = as_meant p asked input n (Ends run.Stuck x.state) x.is; written = refl } in
+      laws.not_stuck p formed input asked.turns asked.based out ((laws.means p formed input asked.turns asked.based out run.Stuck).1 code)
 
   -- some of the line in hand was written
-  breaking : (n : ℕ) (t : State CodeCore) (line : List ℕ) → Early n t line → AtPrint (code_of p) t.core → AppendsPart (append_known s.old t.out) s.new line → RunsInto p s
+  breaking : (n : ℕ) (t : State CodeCore) (line : List ℕ) → Early n t line → AtPrint (code_of p) t.core → AppendsPart (append_known s.old t.out) s.new line → RunsInto p asked s
   breaking n t line b next part = record {
     input = input;
     known = known;
     out = t.out;
     line = line;
     n = part.0;
-    at = subst (moments.AtPrint p input turns true t.out) (sym b.says) (came_at_print p no_modes input turns laws formed t (came n t line b) next);
+    at = subst (moments.AtPrint p input asked.turns asked.based t.out) (sym b.says) (came_at_print p asked input laws formed t (came n t line b) next);
     part = part.1;
     gained = behind s.old s.new t.out (take part.0 line) part.2;
   }
 
   -- a `read` was in hand
-  reading : (n : ℕ) (t : State CodeCore) (line : List ℕ) → Early n t line → AtRead (code_of p) t.core → Appends s.old s.new t.out → RunsToRead p s
-  reading n t line b next gained = record { input = input; known = known; out = t.out; at = came_at_read p no_modes input turns laws formed t (came n t line b) next; gained = gained }
+  reading : (n : ℕ) (t : State CodeCore) (line : List ℕ) → Early n t line → AtRead (code_of p) t.core → Appends s.old s.new t.out → RunsToRead p asked s
+  reading n t line b next gained = record { input = input; known = known; out = t.out; at = came_at_read p asked input laws formed t (came n t line b) next; gained = gained }
 
   -- nothing was written of what is in hand
-  halting : (n : ℕ) (t : State CodeCore) (line : List ℕ) → Early n t line → Appends s.old s.new t.out → RunsUpTo p s
-  halting n t line b gained = record { input = input; known = known; out = t.out; at = came_at_state p no_modes input turns laws formed t (came n t line b); gained = gained }
+  halting : (n : ℕ) (t : State CodeCore) (line : List ℕ) → Early n t line → Appends s.old s.new t.out → RunsUpTo p asked s
+  halting n t line b gained = record { input = input; known = known; out = t.out; at = came_at_state p asked input laws formed t (came n t line b); gained = gained }
 
   -- at want of memory
-  starving : (n : ℕ) (t : State CodeCore) (line : List ℕ) → Early n t line → (length line ≡ 0) ⊎ AtPrint (code_of p) t.core → outcome.AppendsFront (append_known s.old t.out) s.new line → RunsInto p s ⊎ RunsUpTo p s
+  starving : (n : ℕ) (t : State CodeCore) (line : List ℕ) → Early n t line → (length line ≡ 0) ⊎ AtPrint (code_of p) t.core → outcome.AppendsFront (append_known s.old t.out) s.new line → RunsInto p asked s ⊎ RunsUpTo p asked s
   starving n t [] b h front =
       let none : take front.0 [] ≡ [] = take_none front.0 in
       inr (halting n t [] b (subst (Appends s.old s.new) (ap (λ xs. t.out ++ xs) none ∙ append-nil t.out) (behind s.old s.new t.out (take front.0 []) front.2)))
@@ -175,91 +179,92 @@ module _ (laws : CodeLaws) (p : Program) (formed : Formed p) (no_modes : p.modes
   starving n t (c ∷ line) b (inr next) front = inl (breaking n t (c ∷ line) b next (front.0, omega (arith, front.1), front.2))
 
 -- the machine's run is one of the program
-runs : (laws : CodeLaws) (p : Program) (formed : Formed p) (no_modes : p.modes ≡ []) (s : Streams) (e : End) → RunsCode (code_of p) s e → Runs p s e
-runs laws p formed no_modes s end.Done r =
-    coming_to laws p formed no_modes s r.input r.known r.steps r.last run.Done (done (coded p no_modes r.input turns r.steps) r.last r.ran.0) r.left r.ran.1 r.ran.2
-runs laws p formed no_modes s (end.Stopped why line) r =
-    coming_to laws p formed no_modes s r.input r.known r.steps r.last (run.Stopped (kind_of why) line) (stopped (coded p no_modes r.input turns r.steps) r.last why line r.ran.0) r.left r.ran.1 r.ran.2
-runs laws p formed no_modes s end.Spent r =
-    coming_to laws p formed no_modes s r.input r.known r.steps r.last run.Spent (spent (coded p no_modes r.input turns r.steps) r.last r.ran.0) r.left r.ran.1 r.ran.2
-runs laws p formed no_modes s end.ReadFault r = (reading laws p formed no_modes s r.input r.known r.steps r.ran.0 r.ran.1 r.ran.2 r.ran.3 r.ran.4, r.ran.5)
-runs laws p formed no_modes s end.WriteFault r = (breaking laws p formed no_modes s r.input r.known r.steps r.ran.0 r.ran.1 r.ran.2 r.ran.3 r.ran.4, r.ran.5)
-runs laws p formed no_modes s end.NoMemory r = starving laws p formed no_modes s r.input r.known r.steps r.ran.0 r.ran.1 r.ran.2 r.ran.3 r.ran.4
-runs laws p formed no_modes s end.Paused r = r.whole refl
-runs laws p formed no_modes s end.Stuck r = not_stuck laws p formed no_modes s r.input r.known r.steps r.last (stuck (coded p no_modes r.input turns r.steps) r.last r.ran.0)
+runs : (laws : CodeLaws) (p : Program) (formed : Formed p) (asked : Options) (s : Streams) (e : End) → RunsCode (code_of p) (counted asked p) asked.turns s e → Runs p asked s e
+runs laws p formed asked s end.Done r =
+    coming_to laws p formed asked s r.input r.known r.steps r.last run.Done (done (counted asked p) (coded p asked r.input r.steps) r.last r.ran.0) r.left r.ran.1 r.ran.2
+runs laws p formed asked s (end.Stopped why line) r =
+    coming_to laws p formed asked s r.input r.known r.steps r.last (run.Stopped (kind_of (counted asked p) why) line) (stopped (counted asked p) (coded p asked r.input r.steps) r.last why line r.ran.0) r.left r.ran.1 r.ran.2
+runs laws p formed asked s end.Spent r =
+    coming_to laws p formed asked s r.input r.known r.steps r.last run.Spent (spent (counted asked p) (coded p asked r.input r.steps) r.last r.ran.0) r.left r.ran.1 r.ran.2
+runs laws p formed asked s end.ReadFault r = (reading laws p formed asked s r.input r.known r.steps r.ran.0 r.ran.1 r.ran.2 r.ran.3 r.ran.4, r.ran.5)
+runs laws p formed asked s end.WriteFault r = (breaking laws p formed asked s r.input r.known r.steps r.ran.0 r.ran.1 r.ran.2 r.ran.3 r.ran.4, r.ran.5)
+runs laws p formed asked s end.NoMemory r = starving laws p formed asked s r.input r.known r.steps r.ran.0 r.ran.1 r.ran.2 r.ran.3 r.ran.4
+runs laws p formed asked s end.Paused r = r.whole refl
+runs laws p formed asked s end.Stuck r = not_stuck laws p formed asked s r.input r.known r.steps r.last (stuck (counted asked p) (coded p asked r.input r.steps) r.last r.ran.0)
 
 -- it takes nothing of its input, or takes it at a `read`
-takes : (laws : CodeLaws) (p : Program) (formed : Formed p) (no_modes : p.modes ≡ []) (s : Streams) (e : End) → RunsCode (code_of p) s e → TakesInput p s
-takes laws p formed no_modes s e r =
+takes : (laws : CodeLaws) (p : Program) (formed : Formed p) (asked : Options) (s : Streams) (e : End) → RunsCode (code_of p) (counted asked p) asked.turns s e → TakesInput p asked s
+takes laws p formed asked s e r =
     elim r.reads [
       | inl same ↦ inl same
-      | inr b ↦ inr (record { input = r.input; known = r.known; out = b.0.out; taken = r.took.0; at = came_at_read p no_modes r.input turns laws formed b.0 (b.2.after, b.2.reached) b.3; consumed = r.took.1 })
+      | inr b ↦ inr (record { input = r.input; known = r.known; out = b.0.out; taken = r.took.0; at = came_at_read p asked r.input laws formed b.0 (b.2.after, b.2.reached) b.3; consumed = r.took.1 })
     ]
 
 -- nothing was done
-not_begun : (p : Program) (s : Streams) → s.new ≡ s.old → RunsInto p s ⊎ RunsUpTo p s
-not_begun p s same = inr (record {
+pub not_begun : (p : Program) (asked : Options) (s : Streams) → s.new ≡ s.old → RunsInto p asked s ⊎ RunsUpTo p asked s
+not_begun p asked s same = inr (record {
   input = input_of s.input;
   known = is_input s.input;
   out = [];
-  at = record { state = first p (input_of s.input) turns; reached = (0, refl); printed = refl };
+  at = record { state = first p (input_of s.input) asked.turns; reached = (0, refl); printed = refl };
   gained = subst (λ o. Appends s.old o []) (sym same) (appends_none s.old);
 })
 
 -- ---- where memory may have been refused first
 
-module _ (laws : CodeLaws) (p : Program) (formed : Formed p) (no_modes : p.modes ≡ []) (s : Streams) {F : Type 0} where
-  pub all_runs : (c : Code) → c ≡ code_of p → (r : Result End F) → IfOk r (RunsCode c s) → IfOk r (Runs p s)
-  all_runs c is (Ok e) h = runs laws p formed no_modes s e (subst (λ k. RunsCode k s e) is h)
+module _ (laws : CodeLaws) (p : Program) (formed : Formed p) (asked : Options) (s : Streams) {F : Type 0} where
+  pub all_runs : (c : Code) → c ≡ code_of p → (r : Result End F) → IfOk r (RunsCode c (counted asked p) asked.turns s) → IfOk r (Runs p asked s)
+  all_runs c is (Ok e) h = runs laws p formed asked s e (subst (λ k. RunsCode k (counted asked p) asked.turns s e) is h)
   all_runs c is (Err e) h = h
 
-  pub all_takes : (c : Code) → c ≡ code_of p → (r : Result End F) → IfOk r (RunsCode c s) → OnErr r (s.left ≡ s.input) → TakesInput p s
-  all_takes c is (Ok e) h same = takes laws p formed no_modes s e (subst (λ k. RunsCode k s e) is h)
+  pub all_takes : (c : Code) → c ≡ code_of p → (r : Result End F) → IfOk r (RunsCode c (counted asked p) asked.turns s) → OnErr r (s.left ≡ s.input) → TakesInput p asked s
+  all_takes c is (Ok e) h same = takes laws p formed asked s e (subst (λ k. RunsCode k (counted asked p) asked.turns s e) is h)
   all_takes c is (Err e) h same = inl same
 
 -- a run that wasn't begun is one that was broken off at its first state
-pub runs_or : {F : Type 0} (p : Program) (s : Streams) (r : Result End F) (e : End) → e ≡ result_unwrap_or r end.NoMemory → IfOk r (Runs p s) → OnErr r (s.new ≡ s.old) → Runs p s e
-runs_or p s (Ok d) e is h same = subst (Runs p s) (sym is) h
-runs_or p s (Err d) e is h same = subst (Runs p s) (sym is) (not_begun p s same)
+pub runs_or : {F : Type 0} (p : Program) (asked : Options) (s : Streams) (r : Result End F) (e : End) → e ≡ result_unwrap_or r end.NoMemory → IfOk r (Runs p asked s) → OnErr r (s.new ≡ s.old) → Runs p asked s e
+runs_or p asked s (Ok d) e is h same = subst (Runs p asked s) (sym is) h
+runs_or p asked s (Err d) e is h same = subst (Runs p asked s) (sym is) (not_begun p asked s same)
 
 -- so it is neither paused nor stuck
-pub not_paused : (p : Program) (s : Streams) (e : End) → Runs p s e → e ≡ end.Paused → ⊥
-not_paused p s e h is = subst (Runs p s) is h
+pub not_paused : (p : Program) (asked : Options) (s : Streams) (e : End) → Runs p asked s e → e ≡ end.Paused → ⊥
+not_paused p asked s e h is = subst (Runs p asked s) is h
 
-pub not_at_stuck : (p : Program) (s : Streams) (e : End) → Runs p s e → e ≡ end.Stuck → ⊥
-not_at_stuck p s e h is = subst (Runs p s) is h
+pub not_at_stuck : (p : Program) (asked : Options) (s : Streams) (e : End) → Runs p asked s e → e ≡ end.Stuck → ⊥
+not_at_stuck p asked s e h is = subst (Runs p asked s) is h
 
 -- ---- from what the machine tells
 
--- a control that read nothing yet
-abbrev fresh : ControlState
-fresh = record { turns = turns; atom = 1; eof = false; reader = record { kept = []; ended = false; fault = None } }
+module _ (modes : Modes) (turns : ℕ) where
+  -- a control that read nothing yet
+  abbrev fresh : ControlState
+  fresh = record { turns = turns; atom = 1; eof = false; reader = record { kept = []; ended = false; fault = None } }
 
--- what the machine tells of a run, whatever is still to come of the input behind it
-abbrev pub Told : Standing → ControlState → Streams → CodeCore → ControlState → End → Type 0
-Told store first s core control e = (rest' : List ℕ) → IsRest (ahead control.reader.ended s.left) rest' →
-    (rest : List ℕ) × IsRest (ahead first.reader.ended s.input) rest
-    × (n : ℕ) × outcome.Ran (plain_code store.code) n (stood_for store.core first rest) (seen_before s) (seen_now s) (stood_for core control rest') e
-    × outcome.ReadsOnly (plain_code store.code) n (stood_for store.core first rest) s.input s.left
+  -- what the machine tells of a run, whatever is still to come of the input behind it
+  abbrev pub Told : Standing → ControlState → Streams → CodeCore → ControlState → End → Type 0
+  Told store first s core control e = (rest' : List ℕ) → IsRest (ahead control.reader.ended s.left) rest' →
+      (rest : List ℕ) × IsRest (ahead first.reader.ended s.input) rest
+      × (n : ℕ) × outcome.Ran modes (plain_code store.code) n (stood_for store.core first rest) (seen_before s) (seen_now s) (stood_for core control rest') e
+      × outcome.ReadsOnly modes (plain_code store.code) n (stood_for store.core first rest) s.input s.left
 
-told_fresh : (code : RustCode) (s : Streams) (core : CodeCore) (control : ControlState) (e : End) → Told (started code) fresh s core control e → (e ≡ end.Paused → ⊥) → TakesOff s.input s.left → StaysHonest false s.input control.reader.ended s.left → RunsCode (plain_code code) s e
-told_fresh code s core control e told whole took honest =
-    let rest : List ℕ = input_of (ahead control.reader.ended s.left) in
-    let r = told rest (is_rest (ahead control.reader.ended s.left)) in
-    record {
-      input = r.0;
-      known = input_of_rest s.input r.0 r.1;
-      steps = r.2;
-      last = stood_for core control rest;
-      ran = r.3;
-      reads = r.4;
-      left = kept_left (kept_for control.reader.fault control.reader.kept) control.reader.ended s.input s.left took honest;
-      took = took;
-      whole = whole;
-    }
+  told_fresh : (code : RustCode) (s : Streams) (core : CodeCore) (control : ControlState) (e : End) → Told (started code) fresh s core control e → (e ≡ end.Paused → ⊥) → TakesOff s.input s.left → StaysHonest false s.input control.reader.ended s.left → RunsCode (plain_code code) modes turns s e
+  told_fresh code s core control e told whole took honest =
+      let rest : List ℕ = input_of (ahead control.reader.ended s.left) in
+      let r = told rest (is_rest (ahead control.reader.ended s.left)) in
+      record {
+        input = r.0;
+        known = input_of_rest s.input r.0 r.1;
+        steps = r.2;
+        last = stood_for core control rest;
+        ran = r.3;
+        reads = r.4;
+        left = kept_left (kept_for control.reader.fault control.reader.kept) control.reader.ended s.input s.left took honest;
+        took = took;
+        whole = whole;
+      }
 
--- a whole run of the machine from a store that was started and a new control
-pub code_ran : (code : RustCode) (store : Standing) (first : ControlState) (s : Streams) (core : CodeCore) (control : ControlState) (e : End) → store ≡ started code → first ≡ fresh → Told store first s core control e → (e ≡ end.Paused → ⊥) → TakesOff s.input s.left → StaysHonest first.reader.ended s.input control.reader.ended s.left → RunsCode (plain_code code) s e
-code_ran code store first s core control e begun new told whole took honest =
-    told_fresh code s core control e (subst (λ c. Told (started code) c s core control e) new (subst (λ t. Told t first s core control e) begun told)) whole took
-    (subst (λ c. StaysHonest c.reader.ended s.input control.reader.ended s.left) new honest)
+  -- a whole run of the machine from a store that was started and a new control
+  pub code_ran : (code : RustCode) (store : Standing) (first : ControlState) (s : Streams) (core : CodeCore) (control : ControlState) (e : End) → store ≡ started code → first ≡ fresh → Told store first s core control e → (e ≡ end.Paused → ⊥) → TakesOff s.input s.left → StaysHonest first.reader.ended s.input control.reader.ended s.left → RunsCode (plain_code code) modes turns s e
+  code_ran code store first s core control e begun new told whole took honest =
+      told_fresh code s core control e (subst (λ c. Told (started code) c s core control e) new (subst (λ t. Told t first s core control e) begun told)) whole took
+      (subst (λ c. StaysHonest c.reader.ended s.input control.reader.ended s.left) new honest)

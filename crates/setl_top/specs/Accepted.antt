@@ -1,5 +1,5 @@
 -- Which sources are programs, and which line tells that one isn't.
-use Rattle.std.specs.Prelude.{◌≡◌, ◌<◌, ◌≤◌, ◌^◌, ℕ, List, [], length, Some, None, Err}
+use Rattle.std.specs.Prelude.{◌≡◌, ◌<◌, ◌≤◌, ◌^◌, ℕ, List, length, Some, None, Err}
 use Rattle.setl_token.specs.Lex.{Spelled, LexFails}
 use Rattle.setl_token.specs.Text.{Lexed}
 use Rattle.setl_token.specs.declared.Cause.{Cause}
@@ -12,12 +12,12 @@ use Rattle.setl_expressions.specs.Plain.{plain_tokens}
 use Rattle.setl_parse.specs.Places.{outcome_of}
 use Rattle.setl_parse.specs.declared.fault.ParseFault.{ParseFault}
 use Rattle.setl_parse.specs.declared.fault.ParseFault.TheVariants as fault
-use Rattle.setl_names.specs.Breaks.{breaks, first_break, break_at}
+use Rattle.setl_names.specs.Breaks.{first_break, break_at}
 use Rattle.setl_names.specs.declared.broken.Break.{Break}
 use Rattle.setl_program.specs.Program.{Program}
 use Rattle.setl_program.specs.ProgramOf.{program_of}
 use Rattle.setl_top.specs.Reasons.{reason_line}
-use Rattle.setl_top.specs.Words.{Command, Run, Check, Code}
+use Rattle.setl_top.specs.Rules.{all_breaks}
 use Rattle.setl_top.specs.declared.reason.Reason.{Reason}
 use Rattle.setl_top.specs.declared.reason.Reason.TheVariants as reason
 
@@ -37,19 +37,12 @@ pub record IsParsed (source : List ℕ) (tree : Tree) : Type 0 where
 -- and no rule is broken
 pub record IsProgram (source : List ℕ) (tree : Tree) : Type 0 where
   pub parsed : IsParsed source tree
-  pub sound : first_break (breaks tree) ≡ None
+  pub sound : first_break (all_breaks tree) ≡ None
 
--- what a command can do so far: it runs, checks and lists programs without `repr` lines
-abbrev pub IsBuilt : Command → Tree → Type 0
-IsBuilt (Run name) tree = tree.modes ≡ []
-IsBuilt (Check name) tree = tree.modes ≡ []
-IsBuilt (Code name) tree = tree.modes ≡ []
-
--- the source is accepted for a run, and this is its program
+-- the source is accepted, and this is its program
 pub record Accepted (source : List ℕ) (program : Program) : Type 0 where
   pub tree : Tree
   pub is_program : IsProgram source tree
-  pub no_modes : tree.modes ≡ []
   pub meaning : program ≡ program_of tree
 
 -- ---- refusals
@@ -72,27 +65,20 @@ pub record IsUnparsed (source : List ℕ) (stop : ParseFault) : Type 0 where
 pub record IsUnsound (source : List ℕ) (broken : Break) : Type 0 where
   pub tree : Tree
   pub parsed : IsParsed source tree
-  pub first : first_break (breaks tree) ≡ Some broken
+  pub first : first_break (all_breaks tree) ≡ Some broken
 
--- the source is a program that the command can do nothing with so far
-pub record IsUnbuilt (command : Command) (source : List ℕ) : Type 0 where
-  pub tree : Tree
-  pub is_program : IsProgram source tree
-  pub other : IsBuilt command tree → ⊥
+-- why a source is refused; each reason leaves out those before it
+abbrev pub IsRefusedFor : List ℕ → Reason → Type 0
+IsRefusedFor source reason.TooLong = 2 ^ 24 < length source
+IsRefusedFor source (reason.Byte place) = IsUnspelled source cause.Byte place
+IsRefusedFor source (reason.OpenString place) = IsUnspelled source cause.OpenString place
+IsRefusedFor source (reason.WideNumber place) = IsUnspelled source cause.WideNumber place
+IsRefusedFor source (reason.Syntax place) = IsUnparsed source (fault.Syntax place)
+IsRefusedFor source (reason.Nesting place) = IsUnparsed source (fault.Nesting place)
+IsRefusedFor source (reason.Broken rule line) = IsUnsound source (break_at line rule)
 
--- why a command refuses a source; each reason leaves out those before it
-abbrev pub IsRefusedFor : Command → List ℕ → Reason → Type 0
-IsRefusedFor command source reason.TooLong = 2 ^ 24 < length source
-IsRefusedFor command source (reason.Byte place) = IsUnspelled source cause.Byte place
-IsRefusedFor command source (reason.OpenString place) = IsUnspelled source cause.OpenString place
-IsRefusedFor command source (reason.WideNumber place) = IsUnspelled source cause.WideNumber place
-IsRefusedFor command source (reason.Syntax place) = IsUnparsed source (fault.Syntax place)
-IsRefusedFor command source (reason.Nesting place) = IsUnparsed source (fault.Nesting place)
-IsRefusedFor command source (reason.Broken rule line) = IsUnsound source (break_at line rule)
-IsRefusedFor command source reason.NotBuilt = IsUnbuilt command source
-
--- the error line with which a command refuses a source
-pub record Refusal (command : Command) (source line : List ℕ) : Type 0 where
+-- the error line with which a source is refused
+pub record Refusal (source line : List ℕ) : Type 0 where
   pub reason : Reason
-  pub refused : IsRefusedFor command source reason
+  pub refused : IsRefusedFor source reason
   pub tells : line ≡ reason_line reason

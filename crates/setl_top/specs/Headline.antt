@@ -8,14 +8,15 @@ use Rattle.setl_run.specs.Events.{End}
 use Rattle.setl_model.specs.Means.{Means}
 use Rattle.setl_program.specs.Program.{Program}
 use Rattle.setl_tree.specs.declared.tree.Tree.{Tree}
-use Rattle.setl_top.specs.Accepted.{IsProgram, IsBuilt, Accepted, Refusal}
+use Rattle.setl_top.specs.Accepted.{IsProgram, Accepted, Refusal}
 use Rattle.setl_top.specs.Fronts.{IsFront}
 use Rattle.setl_top.specs.Lines.{AppendsFront}
 use Rattle.setl_top.specs.Listings.{listing_of}
 use Rattle.setl_top.specs.Moments.{AtState, AtPrint, AtRead}
-use Rattle.setl_top.specs.Words.{Command, Check, Code, Spells, HasFile, RunsFile, IsFaulty}
 use Rattle.setl_top.specs.declared.status.Status.{Status}
 use Rattle.setl_top.specs.declared.status.Status.TheVariants.{Done, Refused, Words, Stopped, Spent, ReadFault, WriteFault, NoMemory}
+use Rattle.setl_words.specs.Words.{Command, Check, Code, Spells, HasFile, RunsFile, IsFaulty}
+use Rattle.setl_words.specs.Told.{IsToldOf}
 
 -- What is seen of the outside at one moment: the contents, where they are told, and the counts of faults.
 pub record Moment : Type 0 where
@@ -72,7 +73,6 @@ pub record IsToList (words : List (List ℕ)) (before : Moment) (listed : List �
   pub spelled : Spells words (Code name)
   pub text : IsText before.texts name source
   pub is_program : IsProgram source tree
-  pub built : IsBuilt (Code name) tree
   pub is_listing : listed ≡ listing_of tree
 
 -- the status of a run's end
@@ -89,9 +89,9 @@ IsLeft (Some input) left bytes = (kept : List ℕ) × (prepend_known kept left �
 -- Where nothing fails: the status, what is added to the output and to the error output, and what is left of the input.
 -- A run leaves what its last state has of the input, but for bytes that were taken ahead.
 pub data Answers (words : List (List ℕ)) (before : Moment) : Status → List ℕ → List ℕ → Option (List ℕ) → Type 0 where
-  faulty_words : IsFaulty words → Answers words before Words [] [] before.input
-  refused : (command : Command) (name source line : List ℕ) → Spells words command → HasFile command name → IsText before.texts name source → Refusal command source line → Answers words before Refused [] (line ++ 10 ∷ []) before.input
-  checked : (name source : List ℕ) (tree : Tree) → Spells words (Check name) → IsText before.texts name source → IsProgram source tree → IsBuilt (Check name) tree → Answers words before Done [] [] before.input
+  faulty_words : (told : List ℕ) → IsFaulty words → IsToldOf words told → Answers words before Words [] told before.input
+  refused : (command : Command) (name source line : List ℕ) → Spells words command → HasFile command name → IsText before.texts name source → Refusal source line → Answers words before Refused [] (line ++ 10 ∷ []) before.input
+  checked : (name source : List ℕ) (tree : Tree) → Spells words (Check name) → IsText before.texts name source → IsProgram source tree → Answers words before Done [] [] before.input
   listed : (text : List ℕ) → IsToList words before text → Answers words before Done text [] before.input
   run_ended : (job : Job) (out : List ℕ) (end : End) (ending : RunStatus) (left : Option (List ℕ)) → IsToRun words before job → (means : Means job.program job.input job.turns job.based out end) → status_of end ≡ Some ending → IsLeft before.input left means.last.core.shared.world.input → Answers words before (status_for ending) out (error_line end) left
 

@@ -6,13 +6,13 @@ use Rattle.setl_run.specs.Events.{End, Stuck}
 use Rattle.setl_model.specs.Means.{Means}
 use Rattle.setl_program.specs.Program.{Program}
 use Rattle.setl_tree.specs.declared.tree.Tree.{Tree}
-use Rattle.setl_top.specs.Accepted.{IsProgram, IsBuilt, Accepted, Refusal}
+use Rattle.setl_top.specs.Accepted.{IsProgram, Accepted, Refusal}
 use Rattle.setl_top.specs.Headline.{Moment, Headline, InputLeft, Ended, AnyRose, Answers, Job, IsToRun, status_for}
 use Rattle.setl_top.specs.Listings.{listing_of}
-use Rattle.setl_top.specs.Words.{Command, Check, Code, Spells, HasFile, IsFaulty}
 use Rattle.setl_top.specs.declared.status.Status.{Status}
 use Rattle.setl_top.specs.declared.status.Status.TheVariants.{NoMemory, ReadFault, Refused}
 use Rattle.setl_top.specs.declared.status.Status.TheVariants as ended
+use Rattle.setl_words.specs.Words.{Command, Check, Code, Spells, HasFile, IsFaulty}
 
 -- the call failed in none of the three ways only where it came to its end
 abbrev pub IsComplete : Type 0
@@ -30,21 +30,21 @@ TellsTexts before texts = before.texts ≡ Some texts
 
 abbrev pub RefusesExactly : Type 0
 RefusesExactly = (words : List (List ℕ)) (before : Moment) (texts : List ℕ → Option (List ℕ)) (command : Command) (name source line : List ℕ) (status : Status) (out err : List ℕ) (left : Option (List ℕ)) →
-    TellsTexts before texts → Spells words command → HasFile command name → texts name ≡ Some source → Refusal command source line → Answers words before status out err left →
+    TellsTexts before texts → Spells words command → HasFile command name → texts name ≡ Some source → Refusal source line → Answers words before status out err left →
     (status ≡ Refused) × (out ≡ []) × (err ≡ line ++ 10 ∷ []) × (left ≡ before.input)
 
--- a check is done exactly where the source is a program that can be checked so far, and then nothing is told
+-- a check is done exactly where the source is a program, and then nothing is told
 abbrev pub ChecksExactly : Type 0
 ChecksExactly = (words : List (List ℕ)) (before : Moment) (texts : List ℕ → Option (List ℕ)) (name source : List ℕ) (status : Status) (out err : List ℕ) (left : Option (List ℕ)) →
     TellsTexts before texts → Spells words (Check name) → texts name ≡ Some source → Answers words before status out err left →
-    ((status ≡ ended.Done) ↔ ((tree : Tree) × IsProgram source tree × IsBuilt (Check name) tree)) × (out ≡ []) × (status ≡ ended.Done → err ≡ []) × (left ≡ before.input)
+    ((status ≡ ended.Done) ↔ ((tree : Tree) × IsProgram source tree)) × (out ≡ []) × (status ≡ ended.Done → err ≡ []) × (left ≡ before.input)
 
--- A listing is done exactly where the source is a program that can be listed so far, and what is written is the listing
+-- A listing is done exactly where the source is a program, and what is written is the listing
 -- of that program; otherwise it is refused and writes nothing.
 abbrev pub ListsExactly : Type 0
 ListsExactly = (words : List (List ℕ)) (before : Moment) (texts : List ℕ → Option (List ℕ)) (name source : List ℕ) (status : Status) (out err : List ℕ) (left : Option (List ℕ)) →
     TellsTexts before texts → Spells words (Code name) → texts name ≡ Some source → Answers words before status out err left →
-    ((status ≡ ended.Done) ↔ ((tree : Tree) × IsProgram source tree × IsBuilt (Code name) tree)) × ((tree : Tree) → IsProgram source tree → IsBuilt (Code name) tree → (out ≡ listing_of tree) × (err ≡ [])) × ((status ≡ ended.Done) ⊎ ((status ≡ ended.Refused) × (out ≡ []))) × (left ≡ before.input)
+    ((status ≡ ended.Done) ↔ ((tree : Tree) × IsProgram source tree)) × ((tree : Tree) → IsProgram source tree → (out ≡ listing_of tree) × (err ≡ [])) × ((status ≡ ended.Done) ⊎ ((status ≡ ended.Refused) × (out ≡ []))) × (left ≡ before.input)
 
 abbrev pub EndsExactly : Type 0
 EndsExactly = (words : List (List ℕ)) (before : Moment) (texts : List ℕ → Option (List ℕ)) (input : List ℕ) (job : Job) (said : List ℕ) (end : End) (ending : RunStatus) (status : Status) (out err : List ℕ) (left : Option (List ℕ)) →

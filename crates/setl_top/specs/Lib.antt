@@ -1,5 +1,3 @@
-pub mod Words
-pub mod Commands
 pub mod Status
 pub mod Fronts
 pub mod Lines

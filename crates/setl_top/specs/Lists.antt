@@ -8,7 +8,6 @@ use Rattle.setl_tree.specs.declared.tree.Tree.{Tree}
 use Rattle.setl_top.specs.Lines.{AppendsFront}
 use Rattle.setl_top.specs.Listings.{listing_of}
 use Rattle.setl_top.specs.Loads.{Loaded, NotLoaded, Sides}
-use Rattle.setl_top.specs.Words.{Code}
 use Rattle.setl_top.specs.declared.status.Status.{Status}
 use Rattle.setl_top.specs.declared.status.Status.TheVariants as status
 
@@ -34,4 +33,4 @@ pub data Written (text : List ℕ) (o : Gain) (old new : Option (List ℕ)) (err
 -- what a listing of a file does
 pub data Lists (texts : Texts) (name : List ℕ) (s : Sides) (o : Gain) : Status → Type 0 where
   listed_so : (tree : Tree) (ends : Status) → Loaded texts name tree → s.files_now ≡ s.files_before → Written (listing_of tree) o s.old s.new s.err_before s.err_now ends → Lists texts name s o ends
-  not_listed : (ends : Status) → NotLoaded (Code name) texts name s ends → o.now ≡ o.before → o.faults_now ≡ o.faults_before → Lists texts name s o ends
+  not_listed : (ends : Status) → NotLoaded texts name s ends → o.now ≡ o.before → o.faults_now ≡ o.faults_before → Lists texts name s o ends

@@ -15,4 +15,3 @@ reason_line (reason.WideNumber place) = at_place place (codes "wide number")
 reason_line (reason.Syntax place) = at_place place (codes "syntax")
 reason_line (reason.Nesting place) = at_place place (codes "nesting")
 reason_line (reason.Broken rule line) = codes "line " ++ decimal line ++ codes ": rule " ++ decimal rule
-reason_line reason.NotBuilt = codes "not built"

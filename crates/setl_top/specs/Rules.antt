@@ -1,11 +1,27 @@
--- The answer of a test whether a program keeps the rules.
-use Rattle.std.specs.Prelude.{◌≡◌, Some, None, Result, Ok, Err}
+-- The rules that a program keeps, and the answer of a test of them.
+use Rattle.std.specs.Prelude.{◌≡◌, List, ◌++◌, map, Some, None, Result, Ok, Err}
 use Rattle.setl_tree.specs.declared.tree.Tree.{Tree}
-use Rattle.setl_names.specs.Breaks.{breaks, first_break, break_at}
+use Rattle.setl_modes.specs.Declarations.{variables_of}
+use Rattle.setl_modes.specs.Modes.{mode_of}
+use Rattle.setl_modes.specs.declared.mode.NamedMode.{NamedMode}
+use Rattle.setl_names.specs.Breaks as names
+use Rattle.setl_names.specs.Breaks.{first_break, break_at}
+use Rattle.setl_names.specs.declared.broken.Break.{Break}
 use Rattle.setl_names.specs.declared.broken.RuleFault.{RuleFault}
 use Rattle.setl_names.specs.declared.broken.RuleFault.TheVariants as fault
+use Rattle.setl_declarations.specs.Declares as declarations
 
-abbrev pub KeepsRules : Tree → Result (Unit {0}) RuleFault → Type 0
-KeepsRules tree (Ok x) = first_break (breaks tree) ≡ None
-KeepsRules tree (Err (fault.Broken rule line)) = first_break (breaks tree) ≡ Some (break_at line rule)
+-- all breaks: of the rules of names, and of those of declarations
+abbrev pub all_breaks : Tree → List Break
+all_breaks t = names.breaks t ++ declarations.breaks t
+
+-- the modes of the declared variables of a tree, in the order of their declarations
+abbrev pub AreModes : Tree → List NamedMode → Type 0
+AreModes tree modes = map (λ d. (d.name, mode_of d.mode)) modes ≡ variables_of tree.modes
+
+-- No rule is broken, and these are the modes of the declared variables; or this is the first break by line, and then by
+-- rule.
+abbrev pub KeepsRules : Tree → Result (List NamedMode) RuleFault → Type 0
+KeepsRules tree (Ok modes) = (first_break (all_breaks tree) ≡ None) × AreModes tree modes
+KeepsRules tree (Err (fault.Broken rule line)) = first_break (all_breaks tree) ≡ Some (break_at line rule)
 KeepsRules tree (Err fault.NoMemory) = Unit {0}

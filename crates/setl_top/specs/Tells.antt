@@ -5,6 +5,7 @@ use Rattle.setl_io.specs.Faults.{Rose}
 use Rattle.setl_io.specs.declared.whole.WriteFault.TheVariants.{Failed, NoMemory}
 use Rattle.setl_run.specs.Events as run
 use Rattle.setl_model.specs.Answers.{error_line}
+use Rattle.setl_machine.specs.Declaring.{Modes}
 use Rattle.setl_machine.specs.Outcome.{kind_of}
 use Rattle.setl_machine.specs.declared.end.End.{End}
 use Rattle.setl_machine.specs.declared.end.End.TheVariants as end
@@ -22,13 +23,13 @@ pub data Tells (ends : Status) (line : List ℕ) (old new : Option (List ℕ)) (
 abbrev pub Tries : Status → List ℕ → Option (List ℕ) → Option (List ℕ) → Status → Type 0
 Tries ends line old new status = (status ≡ ends) × AppendsFront old new (line ++ 10 ∷ [])
 
--- the line of an end of the machine was told, with its status, or tried at a fault
-abbrev pub TellsEnd : End → Option (List ℕ) → Option (List ℕ) → ℕ → ℕ → Status → Type 0
-TellsEnd end.Done old new before now r = Tells status.Done (error_line run.Done) old new before now r
-TellsEnd (end.Stopped why line) old new before now r = Tells status.Stopped (error_line (run.Stopped (kind_of why) line)) old new before now r
-TellsEnd end.Spent old new before now r = Tells status.Spent (error_line run.Spent) old new before now r
-TellsEnd end.ReadFault old new before now r = Tries status.ReadFault (codes "read fault") old new r
-TellsEnd end.WriteFault old new before now r = Tries status.WriteFault (codes "write fault") old new r
-TellsEnd end.NoMemory old new before now r = Tries status.NoMemory (codes "no memory") old new r
-TellsEnd end.Paused old new before now r = ⊥
-TellsEnd end.Stuck old new before now r = ⊥
+-- the line of an end of the machine, where these variables are declared, was told with its status, or tried at a fault
+abbrev pub TellsEnd : Modes → End → Option (List ℕ) → Option (List ℕ) → ℕ → ℕ → Status → Type 0
+TellsEnd modes end.Done old new before now r = Tells status.Done (error_line run.Done) old new before now r
+TellsEnd modes (end.Stopped why line) old new before now r = Tells status.Stopped (error_line (run.Stopped (kind_of modes why) line)) old new before now r
+TellsEnd modes end.Spent old new before now r = Tells status.Spent (error_line run.Spent) old new before now r
+TellsEnd modes end.ReadFault old new before now r = Tries status.ReadFault (codes "read fault") old new r
+TellsEnd modes end.WriteFault old new before now r = Tries status.WriteFault (codes "write fault") old new r
+TellsEnd modes end.NoMemory old new before now r = Tries status.NoMemory (codes "no memory") old new r
+TellsEnd modes end.Paused old new before now r = ⊥
+TellsEnd modes end.Stuck old new before now r = ⊥

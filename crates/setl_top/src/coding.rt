@@ -1,20 +1,31 @@
-//! The code of a program.
-ghost use Rattle.std.specs.Prelude.{◌≡◌, [], IfOk};
+//! The program of a source, and its code.
+ghost use Rattle.std.specs.Prelude.{◌≡◌, IfOk};
 ghost use Rattle.setl_code.specs.CodeOf.{code_of};
 ghost use Rattle.setl_code.specs.Plain.{plain_code};
+ghost use Rattle.setl_program.specs.Plain.{plain_program};
 ghost use Rattle.setl_program.specs.ProgramOf.{program_of};
+ghost use Rattle.setl_top.specs.Rules.{AreModes};
 
+use crate::front::Checked;
 use setl_code::Code;
 use setl_elaborate::elaborate;
 use setl_gen::emit;
-use setl_tree::{Items, Tree};
+use setl_program::Program;
 use std::alloc::{AllocError, Global};
 
-/// The code of a program without `repr` lines. The error is want of memory.
-pub fn code_of_tree(alloc: Global, tree: &Tree) -> Result<Code, AllocError>
-    requires { tree.now.modes ≡ [] }
-    ensures { IfOk result (λ code. plain_code code ≡ code_of (program_of tree.now)) }
+/// The program of a source. The error is want of memory.
+pub fn program_of_source(alloc: Global, source: Checked) -> Result<Program, AllocError>
+    requires { AreModes source.tree source.modes }
+    ensures { IfOk result (λ program. plain_program program ≡ program_of source.tree) }
 {
-    let program = elaborate(alloc, tree, Items::new(alloc))?;
+    elaborate(alloc, &source.tree, source.modes)
+}
+
+/// The code of the program of a source. The error is want of memory.
+pub fn code_of_source(alloc: Global, source: Checked) -> Result<Code, AllocError>
+    requires { AreModes source.tree source.modes }
+    ensures { IfOk result (λ code. plain_code code ≡ code_of (program_of source.tree)) }
+{
+    let program = program_of_source(alloc, source)?;
     emit(alloc, &program)
 }

@@ -1,16 +1,28 @@
 //! Sources read as programs: tokens, then a tree, then the rules.
-ghost use Rattle.std.specs.Prelude.{◌≡◌, ◌≤◌, ◌^◌, length, None, OnOk, IfOk, IfErr};
+ghost use Rattle.std.specs.Prelude.{◌≡◌, ◌≤◌, ◌^◌, length, Some, IfOk, IfErr};
+ghost use Rattle.setl_names.specs.Breaks.{first_break};
+ghost use Rattle.setl_names.specs.Breaks as names;
 ghost use Rattle.setl_token.specs.Lex.{Spelled};
+ghost use Rattle.setl_top.specs.Accepted.{IsParsed};
+ghost use Rattle.setl_top.specs.Loads.{IsChecked, TellsWhy};
 ghost use Rattle.setl_top.specs.Rules.{KeepsRules};
-ghost use Rattle.setl_top.specs.Accepted.{IsParsed, IsProgram};
-ghost use Rattle.setl_top.specs.Loads.{TellsWhy};
 
 use crate::reason::Reason;
-use setl_names::{RuleFault, resolve};
+use setl_declarations::modes;
+use setl_modes::NamedMode;
+use setl_names::{Break, Memory, RuleFault, noted, resolve};
 use setl_parse::{ParseFault, parse};
 use setl_token::{LexFault, TokenList, tokens};
-use setl_tree::Tree;
+use setl_tree::{Items, Tree};
 use std::alloc::Global;
+
+/// A source that is a program: its tree, and its declared variables with their modes, in the order of their
+/// declarations.
+#[derive(Drop)]
+pub struct Checked {
+    pub tree: Tree,
+    pub modes: Items<NamedMode>,
+}
 
 /// Why no program was read.
 #[derive(Clone, Copy)]
@@ -52,26 +64,54 @@ fn parsed(alloc: Global, list: &TokenList) -> Result<Tree, Unread>
     }
 }
 
-/// Whether a program keeps the rules.
-fn sound(alloc: Global, tree: &Tree) -> Result<(), RuleFault>
-    ensures { KeepsRules tree.now result }
+/// The first break of the rules of names, if there is one. The error is want of memory.
+fn first_of_names(alloc: Global, tree: &Tree) -> Result<Option<Break>, Memory>
+    ensures { IfOk result (λ first. first ≡ first_break (names.breaks tree.now)) }
 {
     match resolve(alloc, tree) {
-        Ok(_) => Ok(()),
-        Err(fault) => Err(fault),
+        Ok(_) => Ok(None),
+        Err(RuleFault::Broken { rule, line }) => Ok(Some(Break { line, rule })),
+        Err(RuleFault::NoMemory) => Err(Memory),
     }
 }
 
+/// The declared variables of a program that keeps the rules, with their modes. A break is the first by line, and then by
+/// rule, of the rules of names and of those of declarations.
+fn sound(alloc: Global, tree: &Tree) -> Result<Items<NamedMode>, RuleFault>
+    ensures { KeepsRules tree.now result }
+{
+    let first = first_of_names(alloc, tree)?;
+    let first = match modes(alloc, tree) {
+        Ok(table) => match first {
+            None => return Ok(table.vars),
+            Some(first) => first,
+        },
+        Err(RuleFault::Broken { rule, line }) => earlier(first, Break { line, rule }),
+        Err(RuleFault::NoMemory) => return Err(RuleFault::NoMemory),
+    };
+    Err(RuleFault::Broken {
+        rule: first.rule,
+        line: first.line,
+    })
+}
+
+/// The earlier of two breaks, of which the first may not be there.
+fn earlier(first: Option<Break>, found: Break) -> Break
+    ensures { Some result ≡ names.earlier first found }
+{
+    noted(first, found.line, found.rule).unwrap_or(found)
+}
+
 /// The program of a source. A refusal is the first by length, tokens, syntax and nesting, and rules.
-pub fn read_program(alloc: Global, source: &[u8]) -> Result<Tree, Unread>
+pub fn read_program(alloc: Global, source: &[u8]) -> Result<Checked, Unread>
     requires { length source.now ≤ 2 ^ 24 }
-    ensures read { IfOk result (IsProgram source.now) }
+    ensures read { IfOk result (IsChecked source.now) }
     ensures why { IfErr result (TellsWhy source.now) }
 {
     let list = lexed(alloc, source)?;
     let tree = parsed(alloc, &list)?;
     match sound(alloc, &tree) {
-        Ok(()) => Ok(tree),
+        Ok(modes) => Ok(Checked { tree, modes }),
         Err(RuleFault::Broken { rule, line }) => Err(Unread::Refused(Reason::Broken {
             rule,
             line,

@@ -15,25 +15,28 @@ pub fn faulty_words_read_nothing()
 pub fn refused_exactly()
     ensures { RefusesExactly }
 {
+    setl_words::one_command();
     setl_token::lexing_is_determined();
     setl_reading::tree_is_unique();
 }
 
-/// Where the texts are told, a check that came to its end is done exactly where the source is a program without `repr`
-/// lines; the output gains nothing, and at `Done` the error output neither.
+/// Where the texts are told, a check that came to its end is done exactly where the source is a program; the
+/// output gains nothing, and at `Done` the error output neither.
 pub fn checks_exactly()
     ensures { ChecksExactly }
 {
+    setl_words::one_command();
     setl_token::lexing_is_determined();
     setl_reading::tree_is_unique();
 }
 
-/// Where the texts are told, a listing that came to its end is done exactly where the source is a program without `repr`
-/// lines; the output has then gained the listing of that program's code, and otherwise nothing. The input is left as it
+/// Where the texts are told, a listing that came to its end is done exactly where the source is a program; the
+/// output has then gained the listing of that program's code, and otherwise nothing. The input is left as it
 /// was.
 pub fn lists_exactly()
     ensures { ListsExactly }
 {
+    setl_words::one_command();
     setl_token::lexing_is_determined();
     setl_reading::tree_is_unique();
 }
@@ -43,6 +46,7 @@ pub fn lists_exactly()
 pub fn ends_exactly()
     ensures { EndsExactly }
 {
+    setl_words::one_command();
     setl_token::lexing_is_determined();
     setl_reading::tree_is_unique();
     setl_model::one_meaning();

@@ -1,8 +1,7 @@
 //! The program as one call: `setl` does what the words of the command line ask for.
 //!
-//! `setl run FILE` runs a program that has no `repr` lines, `setl check FILE` checks it, and `setl code FILE` writes the
-//! listing of its code. Every other source is refused, with the first reason by length, tokens, syntax and nesting,
-//! rules, and `repr` lines.
+//! `setl run FILE` runs a program, `setl check FILE` checks it, and `setl code FILE` writes the listing of its code. A
+//! source that is no program is refused, with the first reason by length, tokens, syntax and nesting, and rules.
 #![tactic(auto)]
 
 mod coding;
@@ -17,7 +16,6 @@ mod status;
 mod stop;
 mod tell;
 mod top;
-mod words;
 
 pub use laws::{
     checks_exactly, completeness, ends_exactly, every_accepted_run_ends, faulty_words_read_nothing,

@@ -1,24 +1,25 @@
 //! Listings of programs.
-ghost use Rattle.std.specs.Prelude.{◌≡◌, [], IfOk};
+ghost use Rattle.std.specs.Prelude.{◌≡◌, IfOk};
 ghost use Rattle.setl_top.specs.Listings.{listing_of};
 ghost use Rattle.setl_top.specs.Lists.{Lists, Written, gain};
 ghost use Rattle.setl_top.specs.Loads.{sides};
+ghost use Rattle.setl_top.specs.Rules.{AreModes};
 
 use crate::Status;
-use crate::coding::code_of_tree;
+use crate::coding::code_of_source;
+use crate::front::Checked;
 use crate::lines::try_line;
 use crate::load::load_program;
 use setl_io::{Files, Sink, WriteFault, write_all};
 use setl_listing::listing;
-use setl_tree::Tree;
 use std::alloc::{AllocError, Global};
 
-/// The listing of the code of a program without `repr` lines. The error is want of memory.
-fn listed(alloc: Global, tree: &Tree) -> Result<Vec<u8>, AllocError>
-    requires { tree.now.modes ≡ [] }
-    ensures { IfOk result (λ text. text.items ≡ listing_of tree.now) }
+/// The listing of the code of the program of a source. The error is want of memory.
+fn listed(alloc: Global, source: Checked) -> Result<Vec<u8>, AllocError>
+    requires { AreModes source.tree source.modes }
+    ensures { IfOk result (λ text. text.items ≡ listing_of source.tree) }
 {
-    let code = code_of_tree(alloc, tree)?;
+    let code = code_of_source(alloc, source)?;
     listing(alloc, &code)
 }
 
@@ -39,20 +40,24 @@ fn write_text<O: Sink, E: Sink>(text: &[u8], out: &mut O, err: &mut E) -> Status
     }
 }
 
-/// Writes the listing of the code of a program without `repr` lines. Where that fails, the fault's line was tried.
-fn write_listing<O: Sink, E: Sink>(alloc: Global, tree: &Tree, out: &mut O, err: &mut E) -> Status
-    requires { tree.now.modes ≡ [] }
-    ensures { Written (listing_of tree.now) (gain (O.held out.old) (O.held out.new) (O.faults out.old) (O.faults out.new)) (E.held err.old) (E.held err.new) (E.faults err.old) (E.faults err.new) result }
+/// Writes the listing of the code of the program of a source. Where that fails, the fault's line was tried.
+fn write_listing<O: Sink, E: Sink>(
+    alloc: Global,
+    source: Checked,
+    out: &mut O,
+    err: &mut E,
+) -> Status
+    requires { AreModes source.tree source.modes }
+    ensures { Written (listing_of source.tree) (gain (O.held out.old) (O.held out.new) (O.faults out.old) (O.faults out.new)) (E.held err.old) (E.held err.new) (E.faults err.old) (E.faults err.new) result }
 {
-    let Ok(text) = listed(alloc, tree) else {
+    let Ok(text) = listed(alloc, source) else {
         try_line(err, b"no memory\n");
         return Status::NoMemory;
     };
     write_text(&text, out, err)
 }
 
-/// Writes the listing of the code of the program of a file: done where the source is a program without `repr` lines.
-/// Otherwise the last line was told.
+/// Writes the listing of the code of the program of a file: done where the source is a program. Otherwise the last line was told.
 pub fn list_file<F: Files, O: Sink, E: Sink>(
     alloc: Global,
     name: &str,
@@ -62,9 +67,9 @@ pub fn list_file<F: Files, O: Sink, E: Sink>(
 ) -> Status
     ensures { Lists (F.texts files.old) name.now (sides (F.faults files.old) (F.faults files.new) (E.held err.old) (E.held err.new) (E.faults err.old) (E.faults err.new)) (gain (O.held out.old) (O.held out.new) (O.faults out.old) (O.faults out.new)) result }
 {
-    let tree = match load_program(alloc, name, files, err) {
-        Ok(tree) => tree,
+    let source = match load_program(alloc, name, files, err) {
+        Ok(source) => source,
         Err(status) => return status,
     };
-    write_listing(alloc, &tree, out, err)
+    write_listing(alloc, source, out, err)
 }

@@ -1,15 +1,14 @@
 //! Sources that are loaded and read.
 ghost use Rattle.std.specs.Prelude.{IfOk, IfErr, OnOk};
 ghost use Rattle.setl_top.specs.Loads.{HasText, Loaded, NotLoaded, Checks, IsStill, sides};
-ghost use Rattle.setl_top.specs.Words.{Command};
+ghost use Rattle.setl_top.specs.Rules.{AreModes};
 
 use crate::Status;
-use crate::front::{Unread, read_program};
+use crate::front::{Checked, Unread, read_program};
 use crate::lines::try_line;
 use crate::reason::Reason;
 use crate::tell::refuse;
 use setl_io::{Files, Load, Sink};
-use setl_tree::Tree;
 use std::alloc::Global;
 
 /// The greatest length of a source.
@@ -24,7 +23,7 @@ fn load_source<F: Files, E: Sink>(
 ) -> Result<Vec<u8>, Status>
     ensures loaded { IfOk result (λ source. HasText (F.texts files.old) name.now source.items) }
     ensures still { OnOk result (IsStill (sides (F.faults files.old) (F.faults files.new) (E.held err.old) (E.held err.new) (E.faults err.old) (E.faults err.new))) }
-    ensures not_loaded { (command : Command) → IfErr result (NotLoaded command (F.texts files.old) name.now (sides (F.faults files.old) (F.faults files.new) (E.held err.old) (E.held err.new) (E.faults err.old) (E.faults err.new))) }
+    ensures not_loaded { IfErr result (NotLoaded (F.texts files.old) name.now (sides (F.faults files.old) (F.faults files.new) (E.held err.old) (E.held err.new) (E.faults err.old) (E.faults err.new))) }
 {
     let mut source = Vec::new(alloc);
     match files.load(name, MAX_SOURCE, &mut source) {
@@ -41,37 +40,33 @@ fn load_source<F: Files, E: Sink>(
     }
 }
 
-/// Loads the program of a file, which has no `repr` lines. At `Err` the last line was told.
+/// Loads the program of a file. At `Err` the last line was told.
 pub fn load_program<F: Files, E: Sink>(
     alloc: Global,
     name: &str,
     files: &mut F,
     err: &mut E,
-) -> Result<Tree, Status>
-    ensures loaded { IfOk result (Loaded (F.texts files.old) name.now) }
+) -> Result<Checked, Status>
+    ensures loaded { IfOk result (λ checked. Loaded (F.texts files.old) name.now checked.tree) }
+    ensures modes { IfOk result (λ checked. AreModes checked.tree checked.modes) }
     ensures still { OnOk result (IsStill (sides (F.faults files.old) (F.faults files.new) (E.held err.old) (E.held err.new) (E.faults err.old) (E.faults err.new))) }
-    ensures not_loaded { (command : Command) → IfErr result (NotLoaded command (F.texts files.old) name.now (sides (F.faults files.old) (F.faults files.new) (E.held err.old) (E.held err.new) (E.faults err.old) (E.faults err.new))) }
+    ensures not_loaded { IfErr result (NotLoaded (F.texts files.old) name.now (sides (F.faults files.old) (F.faults files.new) (E.held err.old) (E.held err.new) (E.faults err.old) (E.faults err.new))) }
 {
     let source = match load_source(alloc, name, files, err) {
         Ok(source) => source,
         Err(status) => return Err(status),
     };
-    let tree = match read_program(alloc, &source) {
-        Ok(tree) => tree,
-        Err(Unread::Refused(reason)) => return Err(refuse(alloc, err, reason)),
+    match read_program(alloc, &source) {
+        Ok(checked) => Ok(checked),
+        Err(Unread::Refused(reason)) => Err(refuse(alloc, err, reason)),
         Err(Unread::NoMemory) => {
             try_line(err, b"no memory\n");
-            return Err(Status::NoMemory);
+            Err(Status::NoMemory)
         }
-    };
-    if tree.modes.is_empty() {
-        Ok(tree)
-    } else {
-        Err(refuse(alloc, err, Reason::NotBuilt))
     }
 }
 
-/// Checks the source in a file: done where it is a program without `repr` lines. Otherwise the last line was told.
+/// Checks the source in a file: done where it is a program. Otherwise the last line was told.
 pub fn check_file<F: Files, E: Sink>(
     alloc: Global,
     name: &str,
@@ -80,9 +75,8 @@ pub fn check_file<F: Files, E: Sink>(
 ) -> Status
     ensures { Checks (F.texts files.old) name.now (sides (F.faults files.old) (F.faults files.new) (E.held err.old) (E.held err.new) (E.faults err.old) (E.faults err.new)) result }
 {
-    let _tree = match load_program(alloc, name, files, err) {
-        Ok(tree) => tree,
-        Err(status) => return status,
-    };
-    Status::Done
+    match load_program(alloc, name, files, err) {
+        Ok(_) => Status::Done,
+        Err(status) => status,
+    }
 }

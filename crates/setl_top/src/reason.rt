@@ -22,8 +22,6 @@ pub enum Reason {
     Nesting { at: u32 },
     /// The rule of this number is broken at this line.
     Broken { rule: u8, line: u32 },
-    /// It is a program that the command can do nothing with so far.
-    NotBuilt,
 }
 
 /// Adds a number in decimal digits.
@@ -79,6 +77,5 @@ pub fn reason_line(alloc: Global, reason: Reason) -> Result<Vec<u8>, AllocError>
         Reason::Syntax { at } => at_place(alloc, at, b"syntax"),
         Reason::Nesting { at } => at_place(alloc, at, b"nesting"),
         Reason::Broken { rule, line } => rule_line(alloc, line, rule),
-        Reason::NotBuilt => Vec::from_slice(alloc, b"not built\n"),
     }
 }

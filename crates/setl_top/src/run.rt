@@ -1,51 +1,69 @@
 //! Runs of programs.
-ghost use Rattle.std.specs.Prelude.{◌≡◌, [], IfOk, OnErr};
-ghost use Rattle.setl_acceptance.specs.Claims.{IsAccepted};
+ghost use Rattle.std.specs.Prelude.{◌≡◌, ◌<◌, ◌^◌, map, IfOk, OnErr};
 ghost use Rattle.setl_code.specs.MayRun.{MayRun};
 ghost use Rattle.setl_code.specs.Plain.{plain_code};
-ghost use Rattle.setl_program.specs.ProgramOf.{program_of};
+ghost use Rattle.setl_machine.specs.Declaring.{IsBare, AreOfMain};
+ghost use Rattle.setl_program.specs.Plain.{plain_declared, plain_program};
 ghost use Rattle.setl_top.specs.CodeRuns.{RunsCode};
-ghost use Rattle.setl_top.specs.Runs.{Runs, TakesInput, streams};
+ghost use Rattle.setl_top.specs.Runs.{IsMeant, Runs, TakesInput, counted, streams};
+ghost use Rattle.setl_words.specs.Reading.{options_now};
 
-use crate::coding::code_of_tree;
 use setl_code::Code;
+use setl_gen::emit;
 use setl_io::{Sink, Source};
-use setl_machine::{Control, End, run_whole};
+use setl_machine::{Control, Declarations, End, run_whole};
+use setl_program::{Declared, Program};
 use setl_store::Store;
-use setl_tree::Tree;
+use setl_words::Options;
 use std::alloc::{AllocError, Global};
 
-/// The bound on the turns of a run.
-const MAX_TURNS: u64 = (1 << 63) - 1;
+/// The declarations of a program that count in a run.
+pub fn counted(asked: Options, program: &Program) -> &[Declared]
+    ensures { map plain_declared result.now ≡ counted (options_now asked) (plain_program program.now) }
+{
+    if asked.based {
+        program.declared.as_slice()
+    } else {
+        &[]
+    }
+}
 
-/// Runs a code from its first step. The error is want of memory, and then nothing was done.
+/// Runs a code from its first step, with so many turns, where these variables are declared. The error is want of memory,
+/// and then nothing was done.
 fn run_code<I: Source, O: Sink>(
     alloc: Global,
     code: &Code,
+    declared: &[Declared],
+    turns: u64,
     input: &mut I,
     out: &mut O,
 ) -> Result<End, AllocError>
-    requires { MayRun code.now }
-    ensures ran { IfOk result (RunsCode (plain_code code.now) (streams (I.left input.old) (I.left input.new) (I.faults input.old) (I.faults input.new) (O.held out.old) (O.held out.new) (O.faults out.old) (O.faults out.new))) }
+    requires may_run { MayRun code.now }
+    requires bare { IsBare (plain_code code.now) }
+    requires main { AreOfMain (map plain_declared declared.now) }
+    requires turns { turns < 2 ^ 63 }
+    ensures ran { IfOk result (RunsCode (plain_code code.now) (map plain_declared declared.now) turns (streams (I.left input.old) (I.left input.new) (I.faults input.old) (I.faults input.new) (O.held out.old) (O.held out.new) (O.faults out.old) (O.faults out.new))) }
     ensures input { OnErr result (I.left input.new ≡ I.left input.old) }
     ensures out { OnErr result (O.held out.new ≡ O.held out.old) }
 {
+    let declarations = Declarations::new(alloc, code, declared)?;
     let mut store = Store::start(alloc, code)?;
-    let mut control = Control::new(alloc, MAX_TURNS)?;
-    Ok(run_whole(&mut store, &mut control, input, out))
+    let mut control = Control::new(alloc, turns)?;
+    Ok(run_whole(&declarations, &mut store, &mut control, input, out))
 }
 
-/// Runs an accepted program without `repr` lines. The error is want of memory, and then nothing was done.
+/// Runs the program of an accepted tree. The error is want of memory, and then nothing was done.
 pub fn run_program<I: Source, O: Sink>(
     alloc: Global,
-    tree: &Tree,
+    program: &Program,
+    asked: Options,
     input: &mut I,
     out: &mut O,
 ) -> Result<End, AllocError>
-    requires accepted { IsAccepted tree.now }
-    requires no_modes { tree.now.modes ≡ [] }
-    ensures ran { IfOk result (Runs (program_of tree.now) (streams (I.left input.old) (I.left input.new) (I.faults input.old) (I.faults input.new) (O.held out.old) (O.held out.new) (O.faults out.old) (O.faults out.new))) }
-    ensures input { TakesInput (program_of tree.now) (streams (I.left input.old) (I.left input.new) (I.faults input.old) (I.faults input.new) (O.held out.old) (O.held out.new) (O.faults out.old) (O.faults out.new)) }
+    requires meant { IsMeant (plain_program program.now) }
+    requires turns { asked.turns < 2 ^ 63 }
+    ensures ran { IfOk result (Runs (plain_program program.now) (options_now asked) (streams (I.left input.old) (I.left input.new) (I.faults input.old) (I.faults input.new) (O.held out.old) (O.held out.new) (O.faults out.old) (O.faults out.new))) }
+    ensures input { TakesInput (plain_program program.now) (options_now asked) (streams (I.left input.old) (I.left input.new) (I.faults input.old) (I.faults input.new) (O.held out.old) (O.held out.new) (O.faults out.old) (O.faults out.new)) }
     ensures out { OnErr result (O.held out.new ≡ O.held out.old) }
 {
     setl_acceptance::accepted_is_formed();
@@ -54,6 +72,7 @@ pub fn run_program<I: Source, O: Sink>(
     setl_simulation::code_ends_in_the_same_state();
     setl_simulation::code_reaches_the_same_states();
     setl_simulation::every_run_ends();
-    let code = code_of_tree(alloc, tree)?;
-    run_code(alloc, &code, input, out)
+    setl_machine::ends_write_nothing();
+    let code = emit(alloc, program)?;
+    run_code(alloc, &code, counted(asked, program), asked.turns, input, out)
 }

@@ -5,7 +5,7 @@
 pub enum Status {
     /// The command did all of its work.
     Done,
-    /// The source is too long or isn't a program of the language as far as it is built.
+    /// The source is too long or isn't a program.
     Refused,
     /// The words aren't of the plain form of a command.
     Words,

@@ -1,16 +1,18 @@
 //! Why a run stops, and the line that tells it.
-ghost use Rattle.std.specs.Prelude.{◌≡◌, IfOk};
+ghost use Rattle.std.specs.Prelude.{◌≡◌, ◌++◌, [], map, IfOk};
 ghost use Rattle.setl_run.specs.Events.{Stopped};
 ghost use Rattle.setl_model.specs.Answers.{stop_text, error_line};
 ghost use Rattle.setl_machine.specs.Outcome.{kind_of};
+ghost use Rattle.setl_program.specs.Plain.{plain_declared};
 
 use crate::reason::at_line;
 use setl_machine::StopKind;
+use setl_program::{Declared, Variable};
 use std::alloc::{AllocError, Global};
 
-/// The words for a stop.
+/// The words for a stop, before the name of the variable if one is told.
 fn stop_text(kind: StopKind) -> &'static [u8]
-    ensures { result.now ≡ stop_text (kind_of kind) }
+    ensures { result.now ≡ stop_text (kind_of [] kind) }
 {
     match kind {
         StopKind::Om => b"om",
@@ -21,15 +23,46 @@ fn stop_text(kind: StopKind) -> &'static [u8]
         StopKind::Deep => b"deep",
         StopKind::Form => b"form",
         StopKind::Nothing => b"nothing to go back to",
+        StopKind::Unfit(_) => b"value does not fit ",
     }
 }
 
-/// The line that tells why a run stopped at a statement of this line.
-pub fn stop_line(alloc: Global, kind: StopKind, line: u32) -> Result<Vec<u8>, AllocError>
-    ensures { IfOk result (λ told. told.items ≡ error_line (Stopped (kind_of kind) line)) }
+/// The name of a variable.
+fn name_of(variable: &Variable) -> &[u8]
+    ensures { result.now ≡ name_of (plain_variable variable.now) }
+{
+    match variable {
+        Variable::Global(name) => name.bytes(),
+        Variable::Own(_, name) => name.bytes(),
+        Variable::Former(_, name) => name.bytes(),
+    }
+}
+
+/// The name of the declared variable that a stop tells, if it tells one; else no bytes.
+fn stop_name(declared: &[Declared], kind: StopKind) -> &[u8]
+    ensures { stop_text (kind_of [] kind) ++ result.now ≡ stop_text (kind_of (map plain_declared declared.now) kind) }
+{
+    match kind {
+        StopKind::Unfit(at) => match declared.get(at as usize) {
+            Some(declared) => name_of(&declared.variable),
+            None => &[],
+        },
+        _ => &[],
+    }
+}
+
+/// The line that tells why a run stopped at a statement of this line, where these variables are declared.
+pub fn stop_line(
+    alloc: Global,
+    declared: &[Declared],
+    kind: StopKind,
+    line: u32,
+) -> Result<Vec<u8>, AllocError>
+    ensures { IfOk result (λ told. told.items ≡ error_line (Stopped (kind_of (map plain_declared declared.now) kind) line)) }
 {
     let mut told = at_line(alloc, line)?;
     told.extend_from_slice(stop_text(kind))?;
+    told.extend_from_slice(stop_name(declared, kind))?;
     told.push(b'\n')?;
     Ok(told)
 }

@@ -1,7 +1,9 @@
 //! The last line of a call.
-ghost use Rattle.std.specs.Prelude.{◌≡◌, ◌∷◌, ◌++◌, List, ℕ, [], IfOk};
+ghost use Rattle.std.specs.Prelude.{◌≡◌, ◌∷◌, ◌++◌, List, ℕ, [], map, string_bytes, IfOk};
+ghost use Rattle.setl_program.specs.Plain.{plain_declared};
 ghost use Rattle.setl_top.specs.Reasons.{reason_line};
 ghost use Rattle.setl_top.specs.Tells.{Tells, TellsEnd};
+ghost use Rattle.setl_words.specs.Told.{IsToldOf};
 
 use crate::Status;
 use crate::lines::{try_line, write_line};
@@ -9,6 +11,8 @@ use crate::reason::{Reason, reason_line};
 use crate::stop::stop_line;
 use setl_io::{Sink, WriteFault};
 use setl_machine::End;
+use setl_program::Declared;
+use setl_words::fault_text;
 use std::alloc::{AllocError, Global};
 
 /// Writes the last line of an end.
@@ -42,15 +46,15 @@ pub fn refuse<E: Sink>(alloc: Global, err: &mut E, reason: Reason) -> Status
     tell_made(err, reason_line(alloc, reason), Status::Refused)
 }
 
-/// Tells how a run of the machine ended, which is neither paused nor stuck.
-pub fn tell_end<E: Sink>(alloc: Global, err: &mut E, end: End) -> Status
+/// Tells how a run of the machine ended, in which these variables were declared. It is neither paused nor stuck.
+pub fn tell_end<E: Sink>(alloc: Global, err: &mut E, declared: &[Declared], end: End) -> Status
     requires paused { ¬ (end ≡ End.Paused) }
     requires stuck { ¬ (end ≡ End.Stuck) }
-    ensures told { TellsEnd end (E.held err.old) (E.held err.new) (E.faults err.old) (E.faults err.new) result }
+    ensures told { TellsEnd (map plain_declared declared.now) end (E.held err.old) (E.held err.new) (E.faults err.old) (E.faults err.new) result }
 {
     match end {
         End::Done => Status::Done,
-        End::Stopped(kind, line) => tell_made(err, stop_line(alloc, kind, line), Status::Stopped),
+        End::Stopped(kind, line) => tell_made(err, stop_line(alloc, declared, kind, line), Status::Stopped),
         End::Spent => tell(err, b"out of turns\n", Status::Spent),
         End::ReadFault => {
             try_line(err, b"read fault\n");
@@ -65,5 +69,18 @@ pub fn tell_end<E: Sink>(alloc: Global, err: &mut E, end: End) -> Status
             Status::NoMemory
         }
         End::Paused | End::Stuck => unreachable!(),
+    }
+}
+
+/// Tells what is to be told of words that are of no plain form.
+pub fn tell_faulty<E: Sink>(alloc: Global, words: &[String], err: &mut E) -> Status
+    ensures told { (text : List ℕ) × IsToldOf (map string_bytes words.now) text × Tells Status.Words text (E.held err.old) (E.held err.new) (E.faults err.old) (E.faults err.new) result }
+{
+    match fault_text(alloc, words) {
+        Ok(text) => tell(err, text.as_bytes(), Status::Words),
+        Err(_) => {
+            try_line(err, b"no memory\n");
+            Status::NoMemory
+        }
     }
 }

@@ -1,24 +1,28 @@
 //! The program as one call.
-ghost use Rattle.std.specs.Prelude.{ℕ, List, map, string_bytes};
+ghost use Rattle.std.specs.Prelude.{ℕ, ◌<◌, ◌^◌, List, map, string_bytes};
 ghost use Rattle.setl_top.specs.Headline.{Headline, InputLeft, CheckLeavesRest, ListingLeavesInput, moment};
-ghost use Rattle.setl_top.specs.Words.{Run, Spells};
+ghost use Rattle.setl_words.specs.Reading.{options_now};
+ghost use Rattle.setl_words.specs.Words.{Run, Spells};
 
 use crate::Status;
+use crate::coding::program_of_source;
 use crate::listing::list_file;
 use crate::load::{check_file, load_program};
-use crate::run::run_program;
-use crate::tell::tell_end;
-use crate::words::{Command, read_words};
+use crate::run::{counted, run_program};
+use crate::tell::{tell_end, tell_faulty};
 use setl_io::{Files, Sink, Source};
 use setl_machine::End;
+use setl_words::{Command, Options, read_words};
 use std::alloc::Global;
 
 /// Does what the words of the command line ask for, and tells how that ended.
 ///
-/// `words` are those after the program's own name: `run FILE`, `check FILE` or `code FILE`. `files` has the sources by
-/// name, and `input` is what a program reads. `out` gains what the program prints, each line at its `print`, or the
-/// listing of its code for `code FILE`; `err` gains the last line of a call that wasn't done, if it has one. Bytes are
-/// taken off the front of `input` only by a run that comes to a `read`. A check leaves `input` and `out` as they were,
+/// `words` are those after the program's own name: `run [--unbased] [--turns N] FILE`, `check FILE` or `code FILE`. With
+/// `--unbased` the program's declarations don't count, and N from 0 to 2^63 - 1 bounds its turns, which are 2^63 - 1
+/// otherwise. `files` has the sources by name, and `input` is what a program reads. `out` gains what the program prints,
+/// each line at its `print`, or the listing of its code for `code FILE`; `err` gains the last line of a call that wasn't
+/// done, if it has one, or what is told of words that are of no such form. Bytes are taken off the front of `input` only
+/// by a run that comes to a `read`. A check leaves `input` and `out` as they were,
 /// however it ends, and a listing leaves `input` as it was.
 ///
 /// `ReadFault` comes only where the words name a file and the count of faults of `files` rose in the call, or that of
@@ -42,31 +46,36 @@ pub fn setl<F: Files, I: Source, O: Sink, E: Sink>(
         ListingLeavesInput (map string_bytes words.now) (seen files.old input.old out.old err.old) (seen files.new input.new out.new err.new) }
 {
     match read_words(words) {
-        Some(Command::Run(name)) => run_file(alloc, name, files, input, out, err),
+        Some(Command::Run(asked, name)) => run_file(alloc, asked, name, files, input, out, err),
         Some(Command::Check(name)) => check_file(alloc, name, files, err),
         Some(Command::Code(name)) => list_file(alloc, name, files, out, err),
-        None => Status::Words,
+        None => tell_faulty(alloc, words, err),
     }
 }
 
 /// Runs the program of a file.
 fn run_file<F: Files, I: Source, O: Sink, E: Sink>(
     alloc: Global,
+    asked: Options,
     name: &str,
     files: &mut F,
     input: &mut I,
     out: &mut O,
     err: &mut E,
 ) -> Status
+    requires { asked.turns < 2 ^ 63 }
     ensures headline { let seen = moment F.texts F.faults I.left I.faults O.held O.faults E.held E.faults in
-        (words : List (List ℕ)) → Spells words (Run name.now) → Headline words (seen files.old input.old out.old err.old) (seen files.new input.new out.new err.new) result }
+        (words : List (List ℕ)) → Spells words (Run (options_now asked) name.now) → Headline words (seen files.old input.old out.old err.old) (seen files.new input.new out.new err.new) result }
     ensures input { let seen = moment F.texts F.faults I.left I.faults O.held O.faults E.held E.faults in
-        (words : List (List ℕ)) → Spells words (Run name.now) → InputLeft words (seen files.old input.old out.old err.old) (seen files.new input.new out.new err.new) }
+        (words : List (List ℕ)) → Spells words (Run (options_now asked) name.now) → InputLeft words (seen files.old input.old out.old err.old) (seen files.new input.new out.new err.new) }
 {
-    let tree = match load_program(alloc, name, files, err) {
-        Ok(tree) => tree,
+    let source = match load_program(alloc, name, files, err) {
+        Ok(source) => source,
         Err(status) => return status,
     };
-    let end = run_program(alloc, &tree, input, out).unwrap_or(End::NoMemory);
-    tell_end(alloc, err, end)
+    let Ok(program) = program_of_source(alloc, source) else {
+        return tell_end(alloc, err, &[], End::NoMemory);
+    };
+    let end = run_program(alloc, &program, asked, input, out).unwrap_or(End::NoMemory);
+    tell_end(alloc, err, counted(asked, &program), end)
 }

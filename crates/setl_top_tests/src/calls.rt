@@ -91,9 +91,15 @@ fn program(alloc: Global, body: &str) -> Result<Vec<u8>, Memory> {
     Ok(source)
 }
 
-/// A run of a program with this body over an outside that doesn't fail. A byte of the input comes a call.
-pub fn run(alloc: Global, body: &str, input: &[u8]) -> Result<Left, Memory> {
+/// A call with these words and a program with this body over an outside that doesn't fail. A byte of the input comes a
+/// call.
+pub fn run_with(alloc: Global, line: &str, body: &str, input: &[u8]) -> Result<Left, Memory> {
     let source = program(alloc, body)?;
     let mut input = MemSource::new(input.to_vec(alloc)?, 1, Vec::new(alloc));
-    call_with(alloc, "run a", source, &mut input, NO_FAULTS)
+    call_with(alloc, line, source, &mut input, NO_FAULTS)
+}
+
+/// A run of a program with this body.
+pub fn run(alloc: Global, body: &str, input: &[u8]) -> Result<Left, Memory> {
+    run_with(alloc, "run a", body, input)
 }

@@ -8,6 +8,8 @@
 #[cfg(test)]
 mod calls;
 #[cfg(test)]
+mod declarations;
+#[cfg(test)]
 mod faults;
 #[cfg(test)]
 mod inputs;

@@ -157,10 +157,10 @@ const BROKEN_OFF: [(Faults, &str, &str, Status, &str, &str); 6] = [
     (
         NO_FAULTS,
         "code a",
-        "program p;\nrepr base n: int; end repr;\nend program;",
+        "program p;\nrepr base n: elmt m; end repr;\nend program;",
         Status::Refused,
         "",
-        "not built\n",
+        "line 2: rule 21\n",
     ),
 ];
 

@@ -7,7 +7,7 @@ use std::alloc::Global;
 use std::test::Fail;
 
 /// Words, sources that are refused, and the first reason that is told.
-const REFUSED: [(&str, &str, &str); 14] = [
+const REFUSED: [(&str, &str, &str); 18] = [
     ("run a", "program p; end program", "at 22: syntax\n"),
     ("run a", "program p; end program; x", "at 24: syntax\n"),
     ("run a", "program print; end program;", "at 8: syntax\n"),
@@ -49,14 +49,34 @@ const REFUSED: [(&str, &str, &str); 14] = [
         "line 2: rule 13\n",
     ),
     (
-        "check a",
-        "program p;\nrepr base n: int; s: sparse set(elmt n); end repr;\ns := {1}; print(s);\ns with:= 'a'; print(s);\nend program;",
-        "not built\n",
+        "run a",
+        "program p; repr s: local set(int); end repr; s := {}; end program;",
+        "line 1: rule 26\n",
     ),
     (
-        "run a",
-        "program p; repr base b; end repr; print(1); end program;",
-        "not built\n",
+        "run --unbased a",
+        "program p; repr s: local set(int); end repr; s := {}; end program;",
+        "line 1: rule 26\n",
+    ),
+    (
+        "check a",
+        "program p;\nrepr base b: local set(int); end repr; end program;",
+        "line 2: rule 22\n",
+    ),
+    (
+        "check a",
+        "program p;\nrepr base b, b; end repr;\nquit; end program;",
+        "line 2: rule 19\n",
+    ),
+    (
+        "code a",
+        "program p; repr base b, b; end repr; quit; end program;",
+        "line 1: rule 13\n",
+    ),
+    (
+        "check a",
+        "program p; quit;\nproc f(a,\n  a); end proc; end program;",
+        "line 1: rule 13\n",
     ),
 ];
 
@@ -69,8 +89,8 @@ fn sources_are_refused_for_their_first_reason(rt: HostRuntime) -> Result<(), Fai
     Ok(())
 }
 
-/// Each rule of names, a source that breaks it on line 2, and one that keeps it.
-const RULES: [(u8, &str, &str); 18] = [
+/// Each rule, a source that breaks it on line 2, and one that keeps it.
+const RULES: [(u8, &str, &str); 28] = [
     (
         1,
         "program p;\nend program q;",
@@ -160,6 +180,56 @@ const RULES: [(u8, &str, &str); 18] = [
         18,
         "program p;\nf(a, a); proc f(wr x, rw y); end proc; end program;",
         "program p;\nf(a, b); proc f(wr x, rw y); end proc; end program;",
+    ),
+    (
+        19,
+        "program p; repr base a;\nbase a; end repr; end program;",
+        "program p; repr base a;\nbase b; end repr; end program;",
+    ),
+    (
+        20,
+        "program p; repr\nbase a; end repr; a := 1; end program;",
+        "program p; repr\nbase a; end repr; b := 1; end program;",
+    ),
+    (
+        21,
+        "program p; repr\ns: set(elmt a); base a; end repr; s := {}; end program;",
+        "program p; repr base a;\ns: set(elmt a); end repr; s := {}; end program;",
+    ),
+    (
+        22,
+        "program p; repr base a; base b:\nset(elmt a); end repr; end program;",
+        "program p; repr base a; base b:\nset(int); end repr; end program;",
+    ),
+    (
+        23,
+        "program p; repr x,\nx: int; end repr; x := 1; end program;",
+        "program p; repr x,\ny: int; end repr; x := 1; y := 1; end program;",
+    ),
+    (
+        24,
+        "program p; repr\nx: int; end repr; y := 1; end program;",
+        "program p; var x; repr\nx: int; end repr; y := 1; end program;",
+    ),
+    (
+        25,
+        "program p; repr base a;\nt: set(elmt a); s: remote smap(elmt a) local set(elmt a); end repr; s := t; end program;",
+        "program p; repr base a;\nt: local set(elmt a); s: local smap(elmt a) remote set(elmt a); end repr; s := t; end program;",
+    ),
+    (
+        26,
+        "program p; repr\ns: remote set(int); end repr; s := {}; end program;",
+        "program p; repr\nbase a; s: remote set(elmt a); end repr; s := {}; end program;",
+    ),
+    (
+        27,
+        "program p; repr base a;\ns: set(set(elmt a)); end repr; s := {}; end program;",
+        "program p; repr base a;\ns: tuple(elmt a); end repr; s := []; end program;",
+    ),
+    (
+        28,
+        "program p; repr\ns: mmap{int} int; end repr; s := {}; end program;",
+        "program p; repr\ns: mmap{int} set(int); end repr; s := {}; end program;",
     ),
 ];
 

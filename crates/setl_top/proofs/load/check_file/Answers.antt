@@ -1,9 +1,8 @@
 use Rattle.setl_top.specs.Loads.{checked_so, not_checked}
-use Rattle.setl_top.specs.Words.{Check}
 use Rattle.setl_top.proofs.load.check_file.Goals as goal
 
 pub returns-in-Err : goal.returns-in-Err
-returns-in-Err g c = not_checked c.in-Err.status (c.in-Err.ensures.not_loaded (Check c.args.name.now))
+returns-in-Err g c = not_checked c.in-Err.status c.in-Err.ensures.not_loaded
 
-pub returns : goal.returns
-returns g c = checked_so c.in-Ok.tree c.in-Ok.ensures.loaded c.in-Ok.ensures.still
+pub returns-in-Ok : goal.returns-in-Ok
+returns-in-Ok g c = checked_so _ c.in-Ok.ensures.loaded c.in-Ok.ensures.still

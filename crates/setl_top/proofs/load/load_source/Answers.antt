@@ -5,10 +5,10 @@ use Rattle.setl_top.proofs.load.load_source.Goals as goal
 pub returns-in-TooLong-clause-not_loaded : goal.returns-in-TooLong-clause-not_loaded
 returns-in-TooLong-clause-not_loaded g c =
     let text = c.in-TooLong.ensures.text.0 in
-    λ command. not_accepted text.0 reason.TooLong _ text.1 text.2 c.in-TooLong.ensures.count c.refuse.ensures.told
+    not_accepted text.0 reason.TooLong _ text.1 text.2 c.in-TooLong.ensures.count c.refuse.ensures.told
 
 pub returns-in-Failed-clause-not_loaded : goal.returns-in-Failed-clause-not_loaded
-returns-in-Failed-clause-not_loaded g c = λ command. not_read c.in-Failed.ensures.count c.try_line.ensures.front
+returns-in-Failed-clause-not_loaded g c = not_read c.in-Failed.ensures.count c.try_line.ensures.front
 
 pub returns-in-NoMemory-clause-not_loaded : goal.returns-in-NoMemory-clause-not_loaded
-returns-in-NoMemory-clause-not_loaded g c = λ command. no_room c.try_line-in-NoMemory.ensures.front
+returns-in-NoMemory-clause-not_loaded g c = no_room c.try_line-in-NoMemory.ensures.front
