@@ -90,6 +90,7 @@ finds_present table y m there bs finds x = finds x ∙ sym (one_more 0 bs y m x 
     kept : (v e z : Option ℕ) → is_some v ≡ true → v ≡ e → or_else e z ≡ e
     kept None e z h q = absurd (true≢false (sym h))
     kept (Some v) e z h q = ap (λ o. or_else o z) (sym q) ∙ q
+
     by : (t : Bool) → bytes_eq y x ≡ t → or_else (number_from 0 bs x) (cond t (Some (next_number 0 bs)) None) ≡ number_from 0 bs x
     by true same =
         let e : y ≡ x = (bytes_decides y x).0 same in
@@ -120,6 +121,7 @@ finds_absent old new key y number m out ek en bs count finds x =
     fresh : (v e : Option ℕ) → is_some v ≡ false → v ≡ e → e ≡ None
     fresh None e h q = sym q
     fresh (Some v) e h q = absurd (true≢false h)
+
     by : (t : Bool) → bytes_eq x y ≡ t → cond t (Some number) (number_from 0 bs x) ≡ or_else (number_from 0 bs x) (cond (bytes_eq y x) (Some number) None)
     by true same =
         let e : x ≡ y = (bytes_decides x y).0 same in

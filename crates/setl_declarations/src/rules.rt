@@ -1,6 +1,6 @@
 //! Rules 21, 22 and 25 to 28: the modes of a section.
 
-ghost use Rattle.std.specs.Prelude.{◌≡◌, ◌++◌, [], Option, fold, OnOk, IfOk};
+ghost use Rattle.std.specs.Prelude.{◌≡◌, [], Option, fold, OnOk, IfOk};
 ghost use Rattle.std.specs.List.{list_any};
 ghost use Rattle.setl_tree.specs.declared.mode.Attribute.{Attribute as TreeAttribute};
 ghost use Rattle.setl_names.specs.Breaks.{earlier, tagged};
@@ -20,7 +20,6 @@ use std::alloc::{AllocError, Global};
 
 /// The first break so far and of the rule that an `elmt` names a known base, in a mode.
 #[cycle(unknown)]
-#[tactic(auto, using(crate::proofs::Appends::unknown_fold))]
 fn unknown(first: Option<Break>, known: &Names, m: &WrittenMode) -> Option<Break>
     ensures { result ≡ fold earlier first (tagged 21 (unknown_bases known.now (parts (written m.now)))) }
 {
@@ -36,25 +35,16 @@ fn unknown_in_core(first: Option<Break>, known: &Names, x: &Core) -> Option<Brea
         Core::Elmt(line, base) => noted_if(first, *line, 21, !known.has(base.bytes())),
         Core::Set(m) => unknown(first, known, m.get()),
         Core::Tuple(m) => unknown(first, known, m.get()),
-        Core::Smap(domain, range) => unknown_in_both(first, known, domain.get(), range.get()),
-        Core::Mmap(domain, images) => unknown_in_both(first, known, domain.get(), images.get()),
+        Core::Smap(domain, range) => {
+            let first = unknown(first, known, domain.get());
+            unknown(first, known, range.get())
+        }
+        Core::Mmap(domain, images) => {
+            let first = unknown(first, known, domain.get());
+            unknown(first, known, images.get())
+        }
         _ => first,
     }
-}
-
-/// The first break so far and of the rule that an `elmt` names a known base, in two modes.
-#[cycle(unknown)]
-#[tactic(auto, using(crate::proofs::Appends::unknown_fold))]
-fn unknown_in_both(
-    first: Option<Break>,
-    known: &Names,
-    m: &WrittenMode,
-    n: &WrittenMode,
-) -> Option<Break>
-    ensures { result ≡ fold earlier first (tagged 21 (unknown_bases known.now (parts (written m.now) ++ parts (written n.now)))) }
-{
-    let first = unknown(first, known, m);
-    unknown(first, known, n)
 }
 
 /// The first break so far and of the rule that an `elmt` names a known base, in a `repr` line.
@@ -89,7 +79,6 @@ fn put_bases(known: &mut Names, line: &ReprLine) -> Result<(), AllocError>
 }
 
 /// The first break so far and of the rule that each `elmt` names a base of an earlier line. An error is want of memory.
-#[tactic(auto, using(crate::proofs::Appends::tagged_fold))]
 fn element_breaks(
     alloc: Global,
     first: Option<Break>,

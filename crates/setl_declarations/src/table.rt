@@ -32,13 +32,7 @@ fn form_of(attribute: Option<Attribute>, is_based: bool) -> Form
         Some(Attribute::Local) => Form::Local,
         Some(Attribute::Remote) => Form::Remote,
         Some(Attribute::Sparse) => Form::Sparse,
-        None => {
-            if is_based {
-                Form::Sparse
-            } else {
-                Form::Plain
-            }
-        }
+        None => { if is_based { Form::Sparse } else { Form::Plain } }
     }
 }
 
@@ -99,11 +93,7 @@ fn boxed_meaning(alloc: Global, bases: &Bases, m: &WrittenMode) -> Result<Boxed<
 }
 
 /// What the mode of a base means with the bases of the lines before. An error is want of memory.
-fn base_meaning(
-    alloc: Global,
-    bases: &Bases,
-    m: &Option<WrittenMode>,
-) -> Result<Mode, AllocError>
+fn base_meaning(alloc: Global, bases: &Bases, m: &Option<WrittenMode>) -> Result<Mode, AllocError>
     requires { Finds bases.now.numbers (named_modes bases.now.modes) }
     ensures { IfOk result (λ made. mode_of made ≡ spec.base_mode m.now (named_modes bases.now.modes)) }
 {

@@ -13,12 +13,16 @@ use std::test::Fail;
 /// The program around a section, whose first line is line 3. Its variables are v and w, which stand in `var`, x and y in
 /// the main program's statements, and u and the parameter z in the procedure q.
 const HEAD: &str = "program p; var v, w;\nrepr\n";
+
 const TAIL: &str = "end repr;\nx := y; q(x);\nproc q(z);\nu := z;\nend;\nend;\n";
 
 /// Sections, and what each declares, or the rule that it breaks first and the line.
 const SECTIONS: [(&str, &str); 54] = [
     ("", ""),
-    ("base b: int;\nv: local set(elmt b);\n", "b i, v local set(0 i), "),
+    (
+        "base b: int;\nv: local set(elmt b);\n",
+        "b i, v local set(0 i), ",
+    ),
     // 19
     ("base b;\nbase b;\n", "19 at 4"),
     ("base b,\nc, b;\n", "19 at 4"),
@@ -34,7 +38,10 @@ const SECTIONS: [(&str, &str); 54] = [
     ("v: elmt b;\nbase b;\n", "21 at 3"),
     ("base b: set(elmt b);\n", "21 at 3"),
     ("base b;\nv: smap(elmt b)\nelmt c;\n", "21 at 5"),
-    ("base b;\nv: smap(elmt b)\nelmt b;\n", "b g, v sparse smap(0 g) 0 g, "),
+    (
+        "base b;\nv: smap(elmt b)\nelmt b;\n",
+        "b g, v sparse smap(0 g) 0 g, ",
+    ),
     // 22
     ("base c;\nbase b: elmt c;\n", "22 at 4"),
     ("base c;\nbase b: int;\n", "c g, b i, "),
@@ -54,8 +61,14 @@ const SECTIONS: [(&str, &str); 54] = [
     ("x, y: atom;\n", "x a, y a, "),
     // 25
     ("base b;\nv: smap(elmt b) local set(elmt b);\n", "25 at 4"),
-    ("base b;\nv: smap(elmt b) remote set(elmt b);\n", "b g, v sparse smap(0 g) remote set(0 g), "),
-    ("base b;\nv: local smap(elmt b) set(elmt b);\n", "b g, v local smap(0 g) sparse set(0 g), "),
+    (
+        "base b;\nv: smap(elmt b) remote set(elmt b);\n",
+        "b g, v sparse smap(0 g) remote set(0 g), ",
+    ),
+    (
+        "base b;\nv: local smap(elmt b) set(elmt b);\n",
+        "b g, v local smap(0 g) sparse set(0 g), ",
+    ),
     // 26
     ("v: local set(int);\n", "26 at 3"),
     ("v: set(int);\n", "v plain set(i), "),
@@ -69,19 +82,31 @@ const SECTIONS: [(&str, &str); 54] = [
     ("base b;\nv: tuple(set(elmt b));\n", "27 at 4"),
     ("base b;\nv: smap(int)\nelmt b;\n", "27 at 4"),
     ("base b;\nv: mmap{elmt b} set(set(elmt b));\n", "27 at 4"),
-    ("base b;\nv: smap(elmt b) mmap{elmt b} set(elmt b);\n", "b g, v sparse smap(0 g) sparse mmap(0 g) sparse set(0 g), "),
+    (
+        "base b;\nv: smap(elmt b) mmap{elmt b} set(elmt b);\n",
+        "b g, v sparse smap(0 g) sparse mmap(0 g) sparse set(0 g), ",
+    ),
     // 28
     ("v: mmap{int} int;\n", "28 at 3"),
     ("v: mmap{int} set(int);\n", "v plain mmap(i) plain set(i), "),
     ("base b;\nv: smap(elmt b) mmap{string} string;\n", "28 at 4"),
-    ("base b;\nv: smap(elmt b) mmap{string} set(string);\n", "b g, v sparse smap(0 g) plain mmap(s) plain set(s), "),
-    ("base b;\nv: mmap{elmt b} sparse set(elmt b);\n", "b g, v sparse mmap(0 g) sparse set(0 g), "),
+    (
+        "base b;\nv: smap(elmt b) mmap{string} set(string);\n",
+        "b g, v sparse smap(0 g) plain mmap(s) plain set(s), ",
+    ),
+    (
+        "base b;\nv: mmap{elmt b} sparse set(elmt b);\n",
+        "b g, v sparse mmap(0 g) sparse set(0 g), ",
+    ),
     // The first by line, then by number.
     ("q, q: mmap{int} int;\n", "23 at 3"),
     ("q: mmap{int} int;\n", "24 at 3"),
     ("v: mmap{int} int;\nbase b, b;\n", "28 at 3"),
     ("v: local mmap{set(local int)} int;\n", "25 at 3"),
-    ("base a: string; base b: integer;\nv: tuple(elmt b);\nw: elmt a;\n", "a s, b i, v tuple(1 i), w 0 s, "),
+    (
+        "base a: string; base b: integer;\nv: tuple(elmt b);\nw: elmt a;\n",
+        "a s, b i, v tuple(1 i), w 0 s, ",
+    ),
 ];
 
 /// The tree of a short program; `None` where it is none.
