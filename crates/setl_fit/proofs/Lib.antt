@@ -1,3 +1,5 @@
-mod Pairs
-mod Parts
-mod Law
+mod PairFacts
+mod Components
+mod Images
+mod Decided
+mod ModeCodes

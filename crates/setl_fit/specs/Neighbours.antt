@@ -54,7 +54,7 @@ follows together (Some c) d = together c d
 -- whether each of these fits by itself and goes together with the one before it, where `before` stands before the first
 abbrev pub all_follow : (Datum → Bool) → (Datum → Datum → Bool) → Option Datum → List Datum → Bool
 all_follow alone together before [] = true
-all_follow alone together before (d ∷ ds) = alone d && follows together before d && all_follow alone together (Some d) ds
+all_follow alone together before (d ∷ ds) = alone d && (follows together before d && all_follow alone together (Some d) ds)
 
 -- ---- worked rows: the neighbours [1 1] and [1 2] in an smap, and in an mmap of sets and of maps
 abbrev one : Datum

@@ -9,6 +9,7 @@ ghost use Rattle.std.specs.Prelude.{◌≡◌};
 ghost use Rattle.setl_value.specs.DatumOf.{part};
 ghost use Rattle.setl_modes.specs.Fits.{fits};
 ghost use Rattle.setl_modes.specs.Modes.{mode_of};
+ghost use Rattle.setl_fit.specs.Laws.{NeighboursDecide};
 
 mod neighbours;
 mod pairs;
@@ -28,3 +29,9 @@ pub fn fits(mode: &Mode, value: &Option<Value>) -> bool
         Some(v) => value_fits(mode, v),
     }
 }
+
+/// Has no effect: it hands a proof the law that a set that isn't empty fits a mode exactly where each member fits by
+/// itself and each two neighbours fit together.
+pub fn neighbours_decide()
+    ensures { NeighboursDecide }
+{}

@@ -5,6 +5,7 @@ ghost use Rattle.std.specs.List.{list_all};
 ghost use Rattle.std.specs.Option.{unwrap_or};
 ghost use Rattle.setl_value.specs.Body.{Members};
 ghost use Rattle.setl_value.specs.DatumOf.{datum};
+ghost use Rattle.setl_value.specs.Order.{IsRising};
 ghost use Rattle.setl_modes.specs.Fits.{datum_fits, part_fits};
 ghost use Rattle.setl_modes.specs.Modes.{mode_of};
 ghost use Rattle.setl_fit.specs.Neighbours.{all_follow, member_fits, go_together};
@@ -36,6 +37,7 @@ pub(crate) fn value_fits(mode: &Mode, v: &Value) -> bool
 
 // Whether each component of a tuple is `om` or fits the mode.
 #[cycle(fitting)]
+#[tactic(auto, using(crate::proofs::Components::all_from))]
 fn parts_fit(mode: &Mode, t: &TupleBody) -> bool
     ensures { result ≡ list_all (part_fits (datum_fits (mode_of mode.now))) t.now }
 {
@@ -61,8 +63,10 @@ fn part_fits(mode: &Mode, t: &TupleBody, i: usize) -> bool
 // Whether each member fits by itself in a set of this mode, and fits together with the one before it.
 #[cycle(fitting)]
 fn members_fit(mode: &Mode, s: &SetBody) -> bool
-    ensures { result ≡ all_follow (member_fits (mode_of mode.now)) (go_together (mode_of mode.now)) None (Members s.now) }
+    ensures rising { IsRising (Members s.now) }
+    ensures walked { result ≡ all_follow (member_fits (mode_of mode.now)) (go_together (mode_of mode.now)) None (Members s.now) }
 {
+    s.learn();
     let mut before: Option<&Value> = None;
     for v in s.members() {
         if !member_fits(mode, v) || !follows(mode, before, v) {
