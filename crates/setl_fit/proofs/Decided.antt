@@ -1,6 +1,6 @@
 -- A set that isn't empty is tested member by member and neighbour by neighbour.
 use Rattle.std.specs.Prelude.{◌≡◌, ◌⊎◌, suc, Bool, true, false, ◌&&◌, ◌==◌, cond, List, [], ◌∷◌, length, Option, Some, None, refl}
-use Rattle.std.specs.List.{AllByRecursion, list_all}
+use Rattle.std.specs.List.{list_all}
 use Rattle.std.specs.List.Sorted.{IsStrictlySortedBy}
 use Rattle.std.specs.Ordering.{is_eq}
 use Rattle.std.proofs.Common.{ap, sym, ◌∙◌, subst, inl, inr, arith}
@@ -14,7 +14,7 @@ use Rattle.setl_modes.specs.Modes.{Mode, General, Integers, Strings, Booleans, A
 use Rattle.setl_modes.specs.Fits.{datum_fits, single_fits, multi_fits}
 use Rattle.setl_fit.specs.Neighbours.{pair_fits, images_at_one_point, both_fit, member_fits, go_together, all_follow}
 use Rattle.setl_fit.specs.Laws.{NeighboursDecide}
-use Rattle.setl_fit.proofs.Images.{is_at, at, Others, Above, HasImage, same_self, images_past, images_at, none_at, some_at, images_rise, other_way, none_past}
+use Rattle.setl_fit.proofs.Images.{is_at, at, Others, HasImage, same_self, images_past, images_at, none_at, some_at, images_rise, other_way, none_past}
 
 -- ---- truth values
 

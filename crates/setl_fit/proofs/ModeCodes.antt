@@ -1,5 +1,5 @@
 -- What the composite modes stand for, and that each takes the empty set.
-use Rattle.std.specs.Prelude.{◌≡◌, true, [], refl}
+use Rattle.std.specs.Prelude.{◌≡◌, true, []}
 use Rattle.std.proofs.Common.{ap, sym, ◌∙◌}
 use Rattle.setl_value.specs.Datum.{set_of}
 use Rattle.setl_modes.specs.declared.mode.Form.{Form}

@@ -8,7 +8,7 @@ use Rattle.setl_value.specs.Datum.{Datum, int}
 use Rattle.setl_value.specs.DatumOf.{datum}
 use Rattle.setl_value.specs.Order.{datum_cmp}
 use Rattle.setl_value.specs.Pairs.{pair, pair_parts}
-use Rattle.setl_modes.specs.Modes.{Mode, General, Integers, Strings, Booleans, Atoms, Elements, Sets, Tuples, SingleMaps, MultiMaps}
+use Rattle.setl_modes.specs.Modes.{Mode, General, Integers, Elements, Sets, SingleMaps, MultiMaps}
 use Rattle.setl_modes.specs.Fits.{datum_fits}
 use Rattle.setl_modes.specs.declared.mode.Form.TheVariants.{Plain}
 

@@ -20,7 +20,8 @@ use setl_value::Value;
 use values::value_fits;
 
 /// Whether a value, or `om` where there is none, fits a mode. It takes no memory. Its cost is near linear in the size of
-/// the value: each member and component is looked at once, and in a map its parts once more for each map around it.
+/// the value: it looks at each member and component once, and in each map at the first parts up to twice more, where it
+/// compares neighbours. No recursion is deeper than the mode or the value.
 pub fn fits(mode: &Mode, value: &Option<Value>) -> bool
     ensures { result ≡ fits (mode_of mode.now) (part value.now) }
 {
