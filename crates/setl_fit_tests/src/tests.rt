@@ -42,7 +42,11 @@ const ROWS: [(&str, &str, bool); 70] = [
     ("tuple int", "[1 * 2]", true),
     ("tuple int", "[* 'a']", false),
     ("tuple int", "{1}", false),
-    ("tuple set smap int int", "[{{[1 2]} {}} * {{[1 1] [2 1]}}]", true),
+    (
+        "tuple set smap int int",
+        "[{{[1 2]} {}} * {{[1 1] [2 1]}}]",
+        true,
+    ),
     ("tuple set smap int int", "[{} {{[1 1] [1 2]}}]", false),
     ("smap int int", "{}", true),
     ("smap int int", "{[1 2] [2 2]}", true),
@@ -70,14 +74,30 @@ const ROWS: [(&str, &str, bool); 70] = [
     ("mmap int int", "{[1 1]}", false),
     ("mmap int tuple int", "{[1 [1]]}", false),
     ("mmap int elmt set int", "{[1 1] [1 2]}", true),
-    ("mmap int smap int int", "{[1 [1 1]] [1 [2 1]] [2 [1 5]]}", true),
+    (
+        "mmap int smap int int",
+        "{[1 [1 1]] [1 [2 1]] [2 [1 5]]}",
+        true,
+    ),
     ("mmap int smap int int", "{[1 [1 1]] [1 [1 2]]}", false),
     ("mmap int smap int int", "{[1 1]}", false),
     ("mmap int smap int string", "{[1 [1 2]]}", false),
     ("mmap int elmt smap int int", "{[1 [1 1]] [1 [1 2]]}", false),
-    ("mmap int mmap int set int", "{[1 [1 1]] [1 [1 2]] [2 [1 1]]}", true),
-    ("mmap int mmap int set int", "{[1 [1 1]] [1 [1 'a']]}", false),
-    ("mmap int mmap int set int", "{[1 [1 1]] [1 ['a' 1]]}", false),
+    (
+        "mmap int mmap int set int",
+        "{[1 [1 1]] [1 [1 2]] [2 [1 1]]}",
+        true,
+    ),
+    (
+        "mmap int mmap int set int",
+        "{[1 [1 1]] [1 [1 'a']]}",
+        false,
+    ),
+    (
+        "mmap int mmap int set int",
+        "{[1 [1 1]] [1 ['a' 1]]}",
+        false,
+    ),
     ("mmap int mmap int int", "{[1 [1 1]]}", false),
     ("mmap int mmap int int", "{}", true),
     (
@@ -149,11 +169,19 @@ fn answer(alloc: Global, words: &str, denotation: &str) -> Result<Option<bool>, 
 fn values_fit_modes(rt: HostRuntime) -> Result<(), Fail> {
     let alloc = rt.alloc();
     for (words, denotation, expected) in ROWS {
-        assert_eq!(rt; answer(alloc, words, denotation)?, Some(expected), "{denotation} as {words}");
+        assert_eq!(rt;
+            answer(alloc, words, denotation)?,
+            Some(expected),
+            "{denotation} as {words}"
+        );
     }
     let atom = Some(Value::Atom(7));
     for (words, expected) in [("atom", true), ("general", true), ("int", false)] {
-        assert_eq!(rt; fits(&mode(alloc, words)?, &atom), expected, "an atom as {words}");
+        assert_eq!(rt;
+            fits(&mode(alloc, words)?, &atom),
+            expected,
+            "an atom as {words}"
+        );
     }
     Ok(())
 }
