@@ -1,0 +1,14 @@
+//! The words of the command line: their plain form, and what is told of other words.
+//!
+//! `run [--unbased] [--turns N] FILE`, `check FILE` and `code FILE` are the commands. `Spells` is their plain form, and
+//! `read_words` decides it.
+#![tactic(auto)]
+
+mod given;
+mod laws;
+mod number;
+mod reading;
+mod single;
+
+pub use laws::one_command;
+pub use reading::{Command, Options, read_words};
