@@ -6,9 +6,12 @@
 
 mod given;
 mod laws;
+mod line;
 mod number;
 mod reading;
 mod single;
+mod told;
 
 pub use laws::one_command;
 pub use reading::{Command, Options, read_words};
+pub use told::fault_text;
