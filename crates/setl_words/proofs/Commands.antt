@@ -1,12 +1,12 @@
 -- The words of a command in parts: the first, those between, and the last.
-use Rattle.std.proofs.Common.{◌≡◌, ◌≢◌, ◌∙◌, ℕ, false, List, [], ◌∷◌, ◌++◌, length, None, codes, refl, sym, ap, ap₂, rules, arith}
+use Rattle.std.proofs.Common.{subst, ◌≡◌, ◌≢◌, ◌∙◌, ℕ, false, List, [], ◌∷◌, ◌++◌, length, None, codes, refl, sym, ap, ap₂, rules, arith}
 use Rattle.std.specs.List.{flat_map}
 use Rattle.setl_words.specs.Words.{Command, Run, Check, Code, Options, option_words, options_of, Spells, SpellsRun, IsFile, IsFaulty}
 use Rattle.setl_words.specs.Reading.{Leads, LeadsNowhere}
 use Rattle.setl_words.specs.declared.given.Given.{Given}
 use Rattle.setl_words.proofs.Order.{head_of, tail_of, one_list, first_gives, options_from, comes_to}
 
-no_end : (ys : List (List ℕ)) (y : List ℕ) → [] ≡ ys ++ y ∷ [] → ⊥
+pub no_end : (ys : List (List ℕ)) (y : List ℕ) → [] ≡ ys ++ y ∷ [] → ⊥
 no_end [] y e = absurd (omega (arith, ap length e))
 no_end (z ∷ ys) y e = absurd (omega (arith, ap length e))
 
@@ -31,6 +31,18 @@ pub few_are_faulty : (words : List (List ℕ)) → ((word : List ℕ) (between :
 few_are_faulty words few (Run options name) s = few (codes "run") (flat_map option_words s.given) name s.spelled
 few_are_faulty words few (Check name) s = few (codes "check") [] name s.0
 few_are_faulty words few (Code name) s = few (codes "code") [] name s.0
+
+-- a command's last word is a file
+pub dash_is_faulty : (words : List (List ℕ)) (word : List ℕ) (between : List (List ℕ)) (name : List ℕ) → words ≡ word ∷ between ++ name ∷ [] → (IsFile name → ⊥) → IsFaulty words
+dash_is_faulty words word between name e none (Run options n) s =
+    let parts = one_last between (flat_map option_words s.given) name n (tail_of _ _ _ _ (sym e ∙ s.spelled)) in
+    none (subst IsFile (sym parts.1) s.file)
+dash_is_faulty words word between name e none (Check n) s =
+    let parts = one_last between [] name n (tail_of _ _ _ _ (sym e ∙ s.0)) in
+    none (subst IsFile (sym parts.1) s.1)
+dash_is_faulty words word between name e none (Code n) s =
+    let parts = one_last between [] name n (tail_of _ _ _ _ (sym e ∙ s.0)) in
+    none (subst IsFile (sym parts.1) s.1)
 
 pub run_is_faulty : (words : List (List ℕ)) (word : List ℕ) (between : List (List ℕ)) (name : List ℕ) (given : Given) → words ≡ word ∷ between ++ name ∷ [] → word ≡ codes "run" → given.turns ≡ None → given.unbased ≡ false → LeadsNowhere given between → IsFaulty words
 run_is_faulty words word between name given e w t u none (Run options n) s =

@@ -10,8 +10,10 @@ mod line;
 mod number;
 mod reading;
 mod single;
+#[cfg(test)]
+mod tests;
 mod told;
 
-pub use laws::one_command;
+pub use laws::{faulty_words, one_command, plain_words};
 pub use reading::{Command, Options, read_words};
 pub use told::fault_text;

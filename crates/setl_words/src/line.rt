@@ -66,6 +66,7 @@ pub(crate) fn commands<'a>(alloc: Global) -> Result<Command<'a>, AllocError>
     ensures { IfOk result (λ c. app_of c ≡ setl_app) }
 {
     Command::new(alloc, "setl")
+        .bin_name("setl")?
         .no_binary_name(true)
         .subcommand_required(true)
         .subcommand(run(alloc)?)?
