@@ -1,5 +1,5 @@
 -- What is known where `clap` refuses the words.
-use Rattle.std.proofs.Common.{◌≡◌, ◌≢◌, ◌∙◌, ◌⊎◌, ℕ, true, List, [], ◌∷◌, Result, Ok, Err, IfOk, length, arith, inl, inr, refl, ap, subst}
+use Rattle.std.proofs.Common.{◌≡◌, ◌≢◌, ◌∙◌, ℕ, true, List, [], ◌∷◌, Result, Ok, Err, IfOk, length, arith, inl, inr, refl, ap, subst}
 use Rattle.clap.specs.Words.{App, HasKind, Kinds, fault_of, is_simple_and_free, kind_of}
 use Rattle.clap.specs.declared.error.Error.{Error}
 use Rattle.clap.specs.declared.error.ErrorKind.TheVariants.{OutOfMemory}

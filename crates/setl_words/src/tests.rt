@@ -12,17 +12,34 @@ fn words_of(alloc: Global, line: &str) -> Result<Vec<String>, Fail> {
     Ok(words)
 }
 
+fn told(alloc: Global, line: &str) -> Result<String, Fail> {
+    let words = words_of(alloc, line)?;
+    Ok(fault_text(alloc, words.as_slice())?)
+}
+
+const fn run(turns: u64, based: bool) -> Option<Command<'static>> {
+    Some(Command::Run(Options { turns, based }, "q.setl"))
+}
+
 #[test]
-fn plain_form(rt: HostRuntime) -> Result<(), Fail> {
+fn each_line_is_what_it_is(rt: HostRuntime) -> Result<(), Fail> {
     let alloc = rt.alloc();
     let rows = [
-        ("run q.setl", Some((MOST, true))),
-        ("run --unbased q.setl", Some((MOST, false))),
-        ("run --turns 0 q.setl", Some((0, true))),
-        ("run --turns 50 --unbased q.setl", Some((50, false))),
-        ("run --unbased --turns 9223372036854775807 q.setl", Some((MOST, false))),
+        ("run q.setl", run(MOST, true)),
+        ("run --unbased q.setl", run(MOST, false)),
+        ("run --turns 0 q.setl", run(0, true)),
+        ("run --turns 50 --unbased q.setl", run(50, false)),
+        (
+            "run --unbased --turns 9223372036854775807 q.setl",
+            run(MOST, false),
+        ),
+        ("check q.setl", Some(Command::Check("q.setl"))),
+        ("code q.setl", Some(Command::Code("q.setl"))),
         ("run --turns 9223372036854775808 q.setl", None),
-        ("run --turns 1000000000000000000000000000000000000000 q.setl", None),
+        (
+            "run --turns 1000000000000000000000000000000000000000 q.setl",
+            None,
+        ),
         ("run --turns 07 q.setl", None),
         ("run --turns +1 q.setl", None),
         ("run --turns 1e3 q.setl", None),
@@ -33,36 +50,55 @@ fn plain_form(rt: HostRuntime) -> Result<(), Fail> {
         ("run --turns 5 --turns 5 q.setl", None),
         ("run --unbased --unbased q.setl", None),
         ("run q.setl --unbased", None),
-        ("run q.setl more", None),
+        ("run q.setl q.setl", None),
         ("run -- q.setl", None),
         ("run -", None),
         ("run ", None),
         ("run", None),
         ("Run q.setl", None),
+        ("check --unbased q.setl", None),
         ("--help", None),
         ("--version", None),
         ("", None),
     ];
     for (line, wanted) in rows {
         let words = words_of(alloc, line)?;
-        let got = match read_words(words.as_slice()) {
-            Some(Command::Run(Options { turns, based }, "q.setl")) => Some((turns, based)),
-            Some(_) => return Err(Fail::from("another command")),
-            None => None,
-        };
-        assert_eq!(rt; got, wanted);
+        assert_eq!(rt; read_words(words.as_slice()), wanted);
     }
+    assert_eq!(rt; read_words(&[]), None);
+    one_command();
+    plain_words();
+    faulty_words();
     Ok(())
 }
 
 #[test]
-fn texts(rt: HostRuntime) -> Result<(), Fail> {
+fn faulty_words_are_told(rt: HostRuntime) -> Result<(), Fail> {
     let alloc = rt.alloc();
-    let rows = ["", "go q", "run", "run --turns 07 q", "run --turns x q", "run --turns 9223372036854775808 q", "run --unbased --unbased q", "--help", "run --help", "run -- q", "run --turns=5 q", "--version", "help code", "run q r", "run --tuns 5 q", "run -1 q"];
-    for line in rows {
-        let words = words_of(alloc, line)?;
-        let text = fault_text(alloc, words.as_slice())?;
-        println!(rt; "=== {line}\n{text}")?;
+    let rows = [
+        ("run --turns 07 q", "not of the plain form\n"),
+        ("run --turns=5 q", "not of the plain form\n"),
+        ("run -- q", "not of the plain form\n"),
+        (
+            "go q",
+            "error: unrecognized subcommand 'go'\n\nUsage: setl <COMMAND>\n\nFor more information, try '--help'.\n",
+        ),
+        (
+            "run",
+            "error: the following required arguments were not provided:\n  <FILE>\n\nUsage: setl run <FILE>\n\nFor more information, try '--help'.\n",
+        ),
+        (
+            "run --unbased --unbased q",
+            "error: the argument '--unbased' cannot be used multiple times\n\nUsage: setl run [OPTIONS] <FILE>\n\nFor more information, try '--help'.\n",
+        ),
+        (
+            "code --help",
+            "List the code of a program\n\nUsage: setl code <FILE>\n\nArguments:\n  <FILE>  The source\n\nOptions:\n  -h, --help  Print help\n",
+        ),
+    ];
+    for (line, wanted) in rows {
+        let text = told(alloc, line)?;
+        assert_eq!(rt; text.as_str(), wanted);
     }
     Ok(())
 }

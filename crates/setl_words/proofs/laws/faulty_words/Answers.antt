@@ -1,8 +1,8 @@
-use Rattle.std.proofs.Common.{◌≡◌, ◌≢◌, ◌<◌, ◌^◌, ◌∙◌, ℕ, List, [], ◌∷◌, ◌++◌, None, false, Ok, Result, codes, decimal, refl, sym, ap, length, arith, rules}
+use Rattle.std.proofs.Common.{◌≡◌, ◌≢◌, ◌<◌, ◌^◌, ◌∙◌, ℕ, List, [], ◌∷◌, ◌++◌, None, false, codes, decimal, refl, sym, ap, length, arith, rules}
 use Rattle.std.proofs.lemmas.Fmt.{decimal_digit, decimal_injective, decimal_is_IsNumeral}
 use Rattle.std.specs.Fmt.{digits}
 use Rattle.std.specs.Str.Parse.{digits_value}
-use Rattle.setl_words.specs.Words.{RunOption, Unbased, Turns, IsInRange, IsFile, IsFaulty, option_words}
+use Rattle.setl_words.specs.Words.{RunOption, Unbased, Turns, IsInRange, IsFaulty, option_words}
 use Rattle.setl_words.specs.Reading.{LeadsNowhere, with_given}
 use Rattle.setl_words.specs.declared.given.Given.{Given}
 use Rattle.setl_words.proofs.Order.{head_of, tail_of, nowhere_on, nowhere_again, nowhere_else}
