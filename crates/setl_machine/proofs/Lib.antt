@@ -3,9 +3,13 @@ pub mod Stays
 pub mod RunLaws
 pub mod RanLaws
 pub mod Working
+pub mod Declared
 pub mod Entering
 pub mod Components
 pub mod Denotations
 pub mod Stepping
 pub mod Rounds
+pub mod Storing
 pub mod Altered
+pub mod Places
+pub mod Finding

@@ -7,7 +7,8 @@ use Rattle.setl_run.specs.Run.{State, Next, Goes, Ends, step, run}
 use Rattle.setl_code.specs.Code.{Code}
 use Rattle.setl_code.specs.CodeCore.{CodeCore}
 use Rattle.setl_code.specs.Machine.{machine}
-use Rattle.setl_machine.specs.Outcome.{always, start, said, Answers, Seen, NoFault, Steps, AtPrint, AtRead, Before, Ran, ReadsOnly}
+use Rattle.setl_machine.specs.Declaring.{Modes, tested}
+use Rattle.setl_machine.specs.Outcome.{start, said, Answers, Seen, NoFault, Steps, AtPrint, AtRead, Before, Ran, ReadsOnly}
 use Rattle.setl_machine.specs.declared.end.End.{End}
 use Rattle.setl_machine.specs.declared.end.End.TheVariants.{Done, Stopped, Spent, Paused, ReadFault, WriteFault, NoMemory, Stuck}
 use Rattle.setl_machine.proofs.RunLaws.{behind, all_behind, run_joined, run_ended, run_one}
@@ -47,70 +48,70 @@ record Came (x : Next CodeCore) (old new : Seen) (k : CodeCore) : Type 0 where
   pub bytes : Appends old.held new.held state.out
   pub count : NoFault old new
 
-came : (x : Next CodeCore) (old new : Seen) (k : CodeCore) → Steps x old new k Paused → Came x old new k
-came (Goes s) old new k h = record { state = s; goes = refl; core = h.0; bytes = h.1; count = h.2 }
-came (Ends e s) old new k h = absurd h.0
+came : (modes : Modes) (x : Next CodeCore) (old new : Seen) (k : CodeCore) → Steps modes x old new k Paused → Came x old new k
+came modes (Goes s) old new k h = record { state = s; goes = refl; core = h.0; bytes = h.1; count = h.2 }
+came modes (Ends e s) old new k h = absurd h.0
 
 -- the answers of a code that goes on or ends
-abbrev Plain : Next CodeCore → Seen → Seen → CodeCore → End → Type 0
-Plain x old new k e = Answers x k e × Appends old.held new.held (said x) × NoFault old new
+abbrev Plain : Modes → Next CodeCore → Seen → Seen → CodeCore → End → Type 0
+Plain modes x old new k e = Answers modes x k e × Appends old.held new.held (said x) × NoFault old new
 
-answers_behind : (s : State CodeCore) (x : Next CodeCore) (k : CodeCore) (e : End) → Answers x k e → Answers (all_behind s x) k e
-answers_behind s (Goes t) k Paused h = h
-answers_behind s (Ends d t) k Done h = h
-answers_behind s (Ends d t) k (Stopped why line) h = h
-answers_behind s (Ends d t) k Spent h = h
-answers_behind s (Ends d t) k Stuck h = h
-answers_behind s (Goes t) k Done h = absurd h
-answers_behind s (Goes t) k (Stopped why line) h = absurd h
-answers_behind s (Goes t) k Spent h = absurd h
-answers_behind s (Goes t) k Stuck h = absurd h
-answers_behind s (Goes t) k ReadFault h = absurd h
-answers_behind s (Goes t) k WriteFault h = absurd h
-answers_behind s (Goes t) k NoMemory h = absurd h
-answers_behind s (Ends d t) k Paused h = absurd h
-answers_behind s (Ends d t) k ReadFault h = absurd h
-answers_behind s (Ends d t) k WriteFault h = absurd h
-answers_behind s (Ends d t) k NoMemory h = absurd h
+answers_behind : (modes : Modes) (s : State CodeCore) (x : Next CodeCore) (k : CodeCore) (e : End) → Answers modes x k e → Answers modes (all_behind s x) k e
+answers_behind modes s (Goes t) k Paused h = h
+answers_behind modes s (Ends d t) k Done h = h
+answers_behind modes s (Ends d t) k (Stopped why line) h = h
+answers_behind modes s (Ends d t) k Spent h = h
+answers_behind modes s (Ends d t) k Stuck h = h
+answers_behind modes s (Goes t) k Done h = absurd h
+answers_behind modes s (Goes t) k (Stopped why line) h = absurd h
+answers_behind modes s (Goes t) k Spent h = absurd h
+answers_behind modes s (Goes t) k Stuck h = absurd h
+answers_behind modes s (Goes t) k ReadFault h = absurd h
+answers_behind modes s (Goes t) k WriteFault h = absurd h
+answers_behind modes s (Goes t) k NoMemory h = absurd h
+answers_behind modes s (Ends d t) k Paused h = absurd h
+answers_behind modes s (Ends d t) k ReadFault h = absurd h
+answers_behind modes s (Ends d t) k WriteFault h = absurd h
+answers_behind modes s (Ends d t) k NoMemory h = absurd h
 
 no_fault_then : (old mid new : Seen) → NoFault old mid → NoFault mid new → NoFault old new
 no_fault_then old mid new h k = (k.0 ∙ h.0, k.1 ∙ h.1)
 
-plain_behind : (s : State CodeCore) (x y : Next CodeCore) (old mid new : Seen) (k : CodeCore) (e : End) → y ≡ all_behind s x → Appends old.held mid.held s.out → NoFault old mid → Plain x mid new k e → Plain y old new k e
-plain_behind s x y old mid new k e j w c p =
-    let all : Plain (all_behind s x) old new k e = (answers_behind s x k e p.0, subst (λ bs. Appends old.held new.held bs) (sym (said_behind s x)) (appends_then old.held mid.held new.held s.out (said x) w p.1), no_fault_then old mid new c p.2) in
-    subst (λ z. Plain z old new k e) (sym j) all
+plain_behind : (modes : Modes) (s : State CodeCore) (x y : Next CodeCore) (old mid new : Seen) (k : CodeCore) (e : End) → y ≡ all_behind s x → Appends old.held mid.held s.out → NoFault old mid → Plain modes x mid new k e → Plain modes y old new k e
+plain_behind modes s x y old mid new k e j w c p =
+    let all : Plain modes (all_behind s x) old new k e = (answers_behind modes s x k e p.0, subst (λ bs. Appends old.held new.held bs) (sym (said_behind s x)) (appends_then old.held mid.held new.held s.out (said x) w p.1), no_fault_then old mid new c p.2) in
+    subst (λ z. Plain modes z old new k e) (sym j) all
 
-before_joined : (c : Code) (n j : ℕ) (from k : CodeCore) (s t : State CodeCore) (line : List ℕ) → run (machine c) always n (start from) ≡ Goes s → s.core ≡ k → Before c j k t line → Before c (n + j) from (behind s t) line
-before_joined c n j from k s t line h e b = record {
+before_joined : (modes : Modes) (c : Code) (n j : ℕ) (from k : CodeCore) (s t : State CodeCore) (line : List ℕ) → run (machine c) (tested modes) n (start from) ≡ Goes s → s.core ≡ k → Before modes c j k t line → Before modes c (n + j) from (behind s t) line
+before_joined modes c n j from k s t line h e b = record {
   after = n + b.after;
   fewer = omega (arith, b.fewer);
-  reached = run_joined (machine c) always n b.after (start from) s h ∙ ap (all_behind s) (ap (λ d. run (machine c) always b.after (start d)) e ∙ b.reached);
+  reached = run_joined (machine c) (tested modes) n b.after (start from) s h ∙ ap (all_behind s) (ap (λ d. run (machine c) (tested modes) b.after (start d)) e ∙ b.reached);
   says = b.says;
 }
 
-before_longer : (c : Code) (n k : ℕ) (from : CodeCore) (s : State CodeCore) (line : List ℕ) → n ≤ k → Before c n from s line → Before c k from s line
-before_longer c n k from s line h b = record { after = b.after; fewer = omega (arith, b.fewer); reached = b.reached; says = b.says }
+before_longer : (modes : Modes) (c : Code) (n k : ℕ) (from : CodeCore) (s : State CodeCore) (line : List ℕ) → n ≤ k → Before modes c n from s line → Before modes c k from s line
+before_longer modes c n k from s line h b = record { after = b.after; fewer = omega (arith, b.fewer); reached = b.reached; says = b.says }
 
 -- ---- calls
 
 -- Two calls in a row, of which the first paused, are a call.
-pub ran_join : (c : Code) (n j : ℕ) (from mid to : CodeCore) (old now new : Seen) (e : End) → Ran c n from old now mid Paused → Ran c j mid now new to e → Ran c (n + j) from old new to e
-ran_join c n j from mid to old now new e p q = go e q
+pub ran_join : (modes : Modes) (c : Code) (n j : ℕ) (from mid to : CodeCore) (old now new : Seen) (e : End) → Ran modes c n from old now mid Paused → Ran modes c j mid now new to e → Ran modes c (n + j) from old new to e
+ran_join modes c n j from mid to old now new e p q = go e q
   where
-    w : Came (run (machine c) always n (start from)) old now mid
-    w = came (run (machine c) always n (start from)) old now mid p
+    w : Came (run (machine c) (tested modes) n (start from)) old now mid
+    w = came modes (run (machine c) (tested modes) n (start from)) old now mid p
 
-    whole : run (machine c) always (n + j) (start from) ≡ all_behind w.state (run (machine c) always j (start mid))
-    whole = run_joined (machine c) always n j (start from) w.state w.goes ∙ ap (λ k. all_behind w.state (run (machine c) always j (start k))) w.core
+    whole : run (machine c) (tested modes) (n + j) (start from) ≡ all_behind w.state (run (machine c) (tested modes) j (start mid))
+    whole = run_joined (machine c) (tested modes) n j (start from) w.state w.goes ∙ ap (λ k. all_behind w.state (run (machine c) (tested modes) j (start k))) w.core
 
-    plain : (e : End) → Plain (run (machine c) always j (start mid)) now new to e → Plain (run (machine c) always (n + j) (start from)) old new to e
-    plain e q = plain_behind w.state (run (machine c) always j (start mid)) (run (machine c) always (n + j) (start from)) old now new to e whole w.bytes w.count q
+    plain : (e : End) → Plain modes (run (machine c) (tested modes) j (start mid)) now new to e → Plain modes (run (machine c) (tested modes) (n + j) (start from)) old new to e
+    plain e q = plain_behind modes w.state (run (machine c) (tested modes) j (start mid)) (run (machine c) (tested modes) (n + j) (start from)) old now new to e whole w.bytes w.count q
 
-    before : (s : State CodeCore) (line : List ℕ) → Before c j mid s line → Before c (n + j) from (behind w.state s) line
-    before s line b = before_joined c n j from mid w.state s line w.goes w.core b
+    before : (s : State CodeCore) (line : List ℕ) → Before modes c j mid s line → Before modes c (n + j) from (behind w.state s) line
+    before s line b = before_joined modes c n j from mid w.state s line w.goes w.core b
 
-    go : (e : End) → Ran c j mid now new to e → Ran c (n + j) from old new to e
+    go : (e : End) → Ran modes c j mid now new to e → Ran modes c (n + j) from old new to e
     go Done q = plain Done q
     go (Stopped why line) q = plain (Stopped why line) q
     go Spent q = plain Spent q
@@ -126,41 +127,41 @@ ran_join c n j from mid to old now new e p q = go e q
         (behind w.state q.0, q.1, before q.0 q.1 q.2, q.3, (r.0, r.1, known_joined old.held now.held new.held w.state.out (q.0).out (take r.0 q.1) w.bytes r.2), no_fault_then old now new w.count q.5)
 
 -- A step is a call of one step.
-pub ran_one : (c : Code) (from to : CodeCore) (old new : Seen) (e : End) → (e ≡ ReadFault → AtRead c from) → (e ≡ WriteFault → AtPrint c from) → Steps (step (machine c) always (start from)) old new to e → Ran c 1 from old new to e
-ran_one c from to old new e reads writes h = go e reads writes h
+pub ran_one : (modes : Modes) (c : Code) (from to : CodeCore) (old new : Seen) (e : End) → (e ≡ ReadFault → AtRead c from) → (e ≡ WriteFault → AtPrint c from) → Steps modes (step (machine c) (tested modes) (start from)) old new to e → Ran modes c 1 from old new to e
+ran_one modes c from to old new e reads writes h = go e reads writes h
   where
     line : List ℕ
-    line = said (step (machine c) always (start from))
+    line = said (step (machine c) (tested modes) (start from))
 
-    one : (e : End) → Plain (step (machine c) always (start from)) old new to e → Plain (run (machine c) always 1 (start from)) old new to e
-    one e p = subst (λ x. Plain x old new to e) (sym (run_one (machine c) always (start from))) p
+    one : (e : End) → Plain modes (step (machine c) (tested modes) (start from)) old new to e → Plain modes (run (machine c) (tested modes) 1 (start from)) old new to e
+    one e p = subst (λ x. Plain modes x old new to e) (sym (run_one (machine c) (tested modes) (start from))) p
 
-    before : Before c 1 from (start from) (said (step (machine c) always (start from)))
+    before : Before modes c 1 from (start from) (said (step (machine c) (tested modes) (start from)))
     before = record { after = 0; fewer = omega arith; reached = refl; says = refl }
 
-    go : (e : End) → (e ≡ ReadFault → AtRead c from) → (e ≡ WriteFault → AtPrint c from) → Steps (step (machine c) always (start from)) old new to e → Ran c 1 from old new to e
+    go : (e : End) → (e ≡ ReadFault → AtRead c from) → (e ≡ WriteFault → AtPrint c from) → Steps modes (step (machine c) (tested modes) (start from)) old new to e → Ran modes c 1 from old new to e
     go Done reads writes p = one Done p
     go (Stopped why line) reads writes p = one (Stopped why line) p
     go Spent reads writes p = one Spent p
     go Stuck reads writes p = one Stuck p
     go Paused reads writes p = one Paused p
-    go ReadFault reads writes p = (start from, said (step (machine c) always (start from)), before, reads refl, p.0, p.1, p.2)
+    go ReadFault reads writes p = (start from, said (step (machine c) (tested modes) (start from)), before, reads refl, p.0, p.1, p.2)
     go WriteFault reads writes p =
         let r = p.0 in
-        (start from, said (step (machine c) always (start from)), before, writes refl, (r.0, r.1, known_none old.held new.held (take r.0 (said (step (machine c) always (start from)))) r.2), p.1, p.2)
+        (start from, said (step (machine c) (tested modes) (start from)), before, writes refl, (r.0, r.1, known_none old.held new.held (take r.0 (said (step (machine c) (tested modes) (start from)))) r.2), p.1, p.2)
     go NoMemory reads writes p =
         let r = p.0 in
-        (start from, said (step (machine c) always (start from)), before, says_nothing c from, (r.0, r.1, known_none old.held new.held (take r.0 (said (step (machine c) always (start from)))) r.2), p.1)
+        (start from, said (step (machine c) (tested modes) (start from)), before, says_nothing modes c from, (r.0, r.1, known_none old.held new.held (take r.0 (said (step (machine c) (tested modes) (start from)))) r.2), p.1)
 
 -- A call that ended is one of more steps.
-pub ran_longer : (c : Code) (n k : ℕ) (from to : CodeCore) (old new : Seen) (e : End) → (e ≡ Paused → ⊥) → n ≤ k → Ran c n from old new to e → Ran c k from old new to e
-ran_longer c n k from to old new e ne le p = go e ne p
+pub ran_longer : (modes : Modes) (c : Code) (n k : ℕ) (from to : CodeCore) (old new : Seen) (e : End) → (e ≡ Paused → ⊥) → n ≤ k → Ran modes c n from old new to e → Ran modes c k from old new to e
+ran_longer modes c n k from to old new e ne le p = go e ne p
   where
     total : n + (k - n) ≡ k
     total = omega arith
 
-    longer : (x : Next CodeCore) (e : End) → run (machine c) always n (start from) ≡ x → (e ≡ Paused → ⊥) → Plain x old new to e → Plain (run (machine c) always k (start from)) old new to e
-    longer (Ends d s) e h ne p = subst (λ x. Plain x old new to e) (sym (ap (λ j. run (machine c) always j (start from)) (sym total) ∙ run_ended (machine c) always n (k - n) (start from) d s h)) p
+    longer : (x : Next CodeCore) (e : End) → run (machine c) (tested modes) n (start from) ≡ x → (e ≡ Paused → ⊥) → Plain modes x old new to e → Plain modes (run (machine c) (tested modes) k (start from)) old new to e
+    longer (Ends d s) e h ne p = subst (λ x. Plain modes x old new to e) (sym (ap (λ j. run (machine c) (tested modes) j (start from)) (sym total) ∙ run_ended (machine c) (tested modes) n (k - n) (start from) d s h)) p
     longer (Goes s) Paused h ne p = absurd (ne refl)
     longer (Goes s) Done h ne p = absurd p.0
     longer (Goes s) (Stopped why line) h ne p = absurd p.0
@@ -170,15 +171,15 @@ ran_longer c n k from to old new e ne le p = go e ne p
     longer (Goes s) WriteFault h ne p = absurd p.0
     longer (Goes s) NoMemory h ne p = absurd p.0
 
-    go : (e : End) → (e ≡ Paused → ⊥) → Ran c n from old new to e → Ran c k from old new to e
-    go Done ne p = longer (run (machine c) always n (start from)) Done refl ne p
-    go (Stopped why line) ne p = longer (run (machine c) always n (start from)) (Stopped why line) refl ne p
-    go Spent ne p = longer (run (machine c) always n (start from)) Spent refl ne p
-    go Stuck ne p = longer (run (machine c) always n (start from)) Stuck refl ne p
+    go : (e : End) → (e ≡ Paused → ⊥) → Ran modes c n from old new to e → Ran modes c k from old new to e
+    go Done ne p = longer (run (machine c) (tested modes) n (start from)) Done refl ne p
+    go (Stopped why line) ne p = longer (run (machine c) (tested modes) n (start from)) (Stopped why line) refl ne p
+    go Spent ne p = longer (run (machine c) (tested modes) n (start from)) Spent refl ne p
+    go Stuck ne p = longer (run (machine c) (tested modes) n (start from)) Stuck refl ne p
     go Paused ne p = absurd (ne refl)
-    go ReadFault ne p = (p.0, p.1, before_longer c n k from p.0 p.1 le p.2, p.3, p.4, p.5, p.6)
-    go WriteFault ne p = (p.0, p.1, before_longer c n k from p.0 p.1 le p.2, p.3, p.4, p.5, p.6)
-    go NoMemory ne p = (p.0, p.1, before_longer c n k from p.0 p.1 le p.2, p.3, p.4, p.5)
+    go ReadFault ne p = (p.0, p.1, before_longer modes c n k from p.0 p.1 le p.2, p.3, p.4, p.5, p.6)
+    go WriteFault ne p = (p.0, p.1, before_longer modes c n k from p.0 p.1 le p.2, p.3, p.4, p.5, p.6)
+    go NoMemory ne p = (p.0, p.1, before_longer modes c n k from p.0 p.1 le p.2, p.3, p.4, p.5)
 
 -- A call that gives up where another one came to is one of a step more.
 known_appended : (old new : Option (List ℕ)) (xs : List ℕ) → Appends old new xs → Appends (append_known old xs) new []
@@ -186,26 +187,26 @@ known_appended None new xs h = tt
 known_appended (Some a) None xs h = absurd h
 known_appended (Some a) (Some b) xs h = h ∙ sym (append-nil (a ++ xs))
 
-pub ran_gives_up : (c : Code) (n : ℕ) (from mid to : CodeCore) (old new : Seen) → Ran c n from old new mid Paused → Ran c (n + 1) from old new to NoMemory
-ran_gives_up c n from mid to old new p =
-    let w : Came (run (machine c) always n (start from)) old new mid = came (run (machine c) always n (start from)) old new mid p in
-    let line = said (step (machine c) always (start w.state.core)) in
-    (w.state, line, record { after = n; fewer = omega arith; reached = w.goes; says = refl }, says_nothing c w.state.core, (0, omega arith, known_appended old.held new.held w.state.out w.bytes), w.count)
+pub ran_gives_up : (modes : Modes) (c : Code) (n : ℕ) (from mid to : CodeCore) (old new : Seen) → Ran modes c n from old new mid Paused → Ran modes c (n + 1) from old new to NoMemory
+ran_gives_up modes c n from mid to old new p =
+    let w : Came (run (machine c) (tested modes) n (start from)) old new mid = came modes (run (machine c) (tested modes) n (start from)) old new mid p in
+    let line = said (step (machine c) (tested modes) (start w.state.core)) in
+    (w.state, line, record { after = n; fewer = omega arith; reached = w.goes; says = refl }, says_nothing modes c w.state.core, (0, omega arith, known_appended old.held new.held w.state.out w.bytes), w.count)
 
 -- ---- reads
 
 -- the bytes taken of the input by two calls in a row
-pub reads_join : (c : Code) (n j : ℕ) (from mid : CodeCore) (old now : Seen) (left then_left new_left : Option (List ℕ)) → Ran c n from old now mid Paused → ReadsOnly c n from left then_left → ReadsOnly c j mid then_left new_left → ReadsOnly c (n + j) from left new_left
-reads_join c n j from mid old now left then_left new_left p h k = go h k
+pub reads_join : (modes : Modes) (c : Code) (n j : ℕ) (from mid : CodeCore) (old now : Seen) (left then_left new_left : Option (List ℕ)) → Ran modes c n from old now mid Paused → ReadsOnly modes c n from left then_left → ReadsOnly modes c j mid then_left new_left → ReadsOnly modes c (n + j) from left new_left
+reads_join modes c n j from mid old now left then_left new_left p h k = go h k
   where
-    w : Came (run (machine c) always n (start from)) old now mid
-    w = came (run (machine c) always n (start from)) old now mid p
+    w : Came (run (machine c) (tested modes) n (start from)) old now mid
+    w = came modes (run (machine c) (tested modes) n (start from)) old now mid p
 
-    go : ReadsOnly c n from left then_left → ReadsOnly c j mid then_left new_left → ReadsOnly c (n + j) from left new_left
+    go : ReadsOnly modes c n from left then_left → ReadsOnly modes c j mid then_left new_left → ReadsOnly modes c (n + j) from left new_left
     go (inl h) (inl k) = inl (k ∙ h)
-    go (inr h) k = inr (h.0, h.1, before_longer c n (n + j) from h.0 h.1 (omega arith) h.2, h.3)
-    go (inl h) (inr k) = inr (behind w.state k.0, k.1, before_joined c n j from mid w.state k.0 k.1 w.goes w.core k.2, k.3)
+    go (inr h) k = inr (h.0, h.1, before_longer modes c n (n + j) from h.0 h.1 (omega arith) h.2, h.3)
+    go (inl h) (inr k) = inr (behind w.state k.0, k.1, before_joined modes c n j from mid w.state k.0 k.1 w.goes w.core k.2, k.3)
 
-pub reads_longer : (c : Code) (n k : ℕ) (from : CodeCore) (left new_left : Option (List ℕ)) → n ≤ k → ReadsOnly c n from left new_left → ReadsOnly c k from left new_left
-reads_longer c n k from left new_left le (inl h) = inl h
-reads_longer c n k from left new_left le (inr h) = inr (h.0, h.1, before_longer c n k from h.0 h.1 le h.2, h.3)
+pub reads_longer : (modes : Modes) (c : Code) (n k : ℕ) (from : CodeCore) (left new_left : Option (List ℕ)) → n ≤ k → ReadsOnly modes c n from left new_left → ReadsOnly modes c k from left new_left
+reads_longer modes c n k from left new_left le (inl h) = inl h
+reads_longer modes c n k from left new_left le (inr h) = inr (h.0, h.1, before_longer modes c n k from h.0 h.1 le h.2, h.3)

@@ -6,7 +6,8 @@ use Rattle.setl_code.specs.CodeCore.{CodeCore}
 use Rattle.setl_code.specs.Machine.{machine}
 use Rattle.setl_text.specs.Reads.{ahead, StaysHonest, TakesOff}
 use Rattle.setl_machine.specs.Control.{ControlState, stood_for, IsRest}
-use Rattle.setl_machine.specs.Outcome.{always, start, Seen, seen, Steps, AtPrint, AtRead, Ran, ReadsOnly}
+use Rattle.setl_machine.specs.Declaring.{Modes, tested}
+use Rattle.setl_machine.specs.Outcome.{start, Seen, seen, Steps, AtPrint, AtRead, Ran, ReadsOnly}
 use Rattle.setl_machine.specs.declared.end.End.{End}
 use Rattle.setl_machine.specs.declared.end.End.TheVariants.{Paused, ReadFault, WriteFault, NoMemory}
 use Rattle.setl_machine.proofs.RanLaws.{ran_join, ran_one, ran_longer, ran_gives_up, reads_join, reads_longer}
@@ -22,63 +23,63 @@ abbrev pub moment : CodeCore → ControlState → (held : Option (List ℕ)) →
 moment core control held faults input_faults left = record { core = core; control = control; outside = seen held faults input_faults; left = left }
 
 -- what a call of at most so many steps did, whatever is left to come then
-abbrev pub Runs : Code → ℕ → Moment → Moment → End → Type 0
-Runs c n old new e = (rest' : List ℕ) → IsRest (ahead new.control.reader.ended new.left) rest' →
+abbrev pub Runs : Modes → Code → ℕ → Moment → Moment → End → Type 0
+Runs modes c n old new e = (rest' : List ℕ) → IsRest (ahead new.control.reader.ended new.left) rest' →
     (rest : List ℕ) × IsRest (ahead old.control.reader.ended old.left) rest
-    × Ran c n (stood_for old.core old.control rest) old.outside new.outside (stood_for new.core new.control rest') e
-    × ReadsOnly c n (stood_for old.core old.control rest) old.left new.left
+    × Ran modes c n (stood_for old.core old.control rest) old.outside new.outside (stood_for new.core new.control rest') e
+    × ReadsOnly modes c n (stood_for old.core old.control rest) old.left new.left
 
-pub runs_join : (c : Code) (n j : ℕ) (old mid new : Moment) (e : End) → Runs c n old mid Paused → Runs c j mid new e → Runs c (n + j) old new e
-runs_join c n j old mid new e p q = λ rest' h.
+pub runs_join : (modes : Modes) (c : Code) (n j : ℕ) (old mid new : Moment) (e : End) → Runs modes c n old mid Paused → Runs modes c j mid new e → Runs modes c (n + j) old new e
+runs_join modes c n j old mid new e p q = λ rest' h.
     let b = q rest' h in
     let a = p b.0 b.1 in
     let from = stood_for old.core old.control a.0 in
     let there = stood_for mid.core mid.control b.0 in (
       a.0,
       a.1,
-      ran_join c n j from there (stood_for new.core new.control rest') old.outside mid.outside new.outside e a.2 b.2,
-      reads_join c n j from there old.outside mid.outside old.left mid.left new.left a.2 a.3 b.3,
+      ran_join modes c n j from there (stood_for new.core new.control rest') old.outside mid.outside new.outside e a.2 b.2,
+      reads_join modes c n j from there old.outside mid.outside old.left mid.left new.left a.2 a.3 b.3,
     )
 
-pub runs_longer : (c : Code) (n k : ℕ) (old new : Moment) (e : End) → (e ≡ Paused → ⊥) → n ≤ k → Runs c n old new e → Runs c k old new e
-runs_longer c n k old new e ne le p = λ rest' h.
+pub runs_longer : (modes : Modes) (c : Code) (n k : ℕ) (old new : Moment) (e : End) → (e ≡ Paused → ⊥) → n ≤ k → Runs modes c n old new e → Runs modes c k old new e
+runs_longer modes c n k old new e ne le p = λ rest' h.
     let a = p rest' h in
     let from = stood_for old.core old.control a.0 in
-    (a.0, a.1, ran_longer c n k from (stood_for new.core new.control rest') old.outside new.outside e ne le a.2, reads_longer c n k from old.left new.left le a.3)
+    (a.0, a.1, ran_longer modes c n k from (stood_for new.core new.control rest') old.outside new.outside e ne le a.2, reads_longer modes c n k from old.left new.left le a.3)
 
 -- a step is a call of one step
-pub runs_one : (c : Code) (old new : Moment) (e : End) → ((rest' : List ℕ) → IsRest (ahead new.control.reader.ended new.left) rest' → (rest : List ℕ) × IsRest (ahead old.control.reader.ended old.left) rest × Steps (step (machine c) always (start (stood_for old.core old.control rest))) old.outside new.outside (stood_for new.core new.control rest') e) → (e ≡ ReadFault → AtRead c old.core) → (e ≡ WriteFault → AtPrint c old.core) → ((new.left ≡ old.left) ⊎ AtRead c old.core) → Runs c 1 old new e
-runs_one c old new e did reads writes only = λ rest' h.
+pub runs_one : (modes : Modes) (c : Code) (old new : Moment) (e : End) → ((rest' : List ℕ) → IsRest (ahead new.control.reader.ended new.left) rest' → (rest : List ℕ) × IsRest (ahead old.control.reader.ended old.left) rest × Steps modes (step (machine c) (tested modes) (start (stood_for old.core old.control rest))) old.outside new.outside (stood_for new.core new.control rest') e) → (e ≡ ReadFault → AtRead c old.core) → (e ≡ WriteFault → AtPrint c old.core) → ((new.left ≡ old.left) ⊎ AtRead c old.core) → Runs modes c 1 old new e
+runs_one modes c old new e did reads writes only = λ rest' h.
     let a = did rest' h in
     let from = stood_for old.core old.control a.0 in
-    (a.0, a.1, ran_one c from (stood_for new.core new.control rest') old.outside new.outside e reads writes a.2, go from only)
+    (a.0, a.1, ran_one modes c from (stood_for new.core new.control rest') old.outside new.outside e reads writes a.2, go from only)
   where
-    go : (from : CodeCore) → ((new.left ≡ old.left) ⊎ AtRead c from) → ReadsOnly c 1 from old.left new.left
+    go : (from : CodeCore) → ((new.left ≡ old.left) ⊎ AtRead c from) → ReadsOnly modes c 1 from old.left new.left
     go from (inl h) = inl h
     go from (inr h) = inr (start from, _, record { after = 0; fewer = omega arith; reached = refl; says = refl }, h)
 
 -- one step more, of the same code
-pub runs_on : (c d : Code) (n : ℕ) (old mid new : Moment) (e : End) → d ≡ c → Runs c n old mid Paused → ((rest' : List ℕ) → IsRest (ahead new.control.reader.ended new.left) rest' → (rest : List ℕ) × IsRest (ahead mid.control.reader.ended mid.left) rest × Steps (step (machine d) always (start (stood_for mid.core mid.control rest))) mid.outside new.outside (stood_for new.core new.control rest') e) → (e ≡ ReadFault → AtRead d mid.core) → (e ≡ WriteFault → AtPrint d mid.core) → ((new.left ≡ mid.left) ⊎ AtRead d mid.core) → Runs c (n + 1) old new e
-runs_on c d n old mid new e same p did reads writes only = runs_join c n 1 old mid new e p (subst (λ x. Runs x 1 mid new e) same (runs_one d mid new e did reads writes only))
+pub runs_on : (modes : Modes) (c d : Code) (n : ℕ) (old mid new : Moment) (e : End) → d ≡ c → Runs modes c n old mid Paused → ((rest' : List ℕ) → IsRest (ahead new.control.reader.ended new.left) rest' → (rest : List ℕ) × IsRest (ahead mid.control.reader.ended mid.left) rest × Steps modes (step (machine d) (tested modes) (start (stood_for mid.core mid.control rest))) mid.outside new.outside (stood_for new.core new.control rest') e) → (e ≡ ReadFault → AtRead d mid.core) → (e ≡ WriteFault → AtPrint d mid.core) → ((new.left ≡ mid.left) ⊎ AtRead d mid.core) → Runs modes c (n + 1) old new e
+runs_on modes c d n old mid new e same p did reads writes only = runs_join modes c n 1 old mid new e p (subst (λ x. Runs modes x 1 mid new e) same (runs_one modes d mid new e did reads writes only))
 
 -- a call more, of the same code
-pub runs_then : (c d : Code) (n j k : ℕ) (old mid new : Moment) (e : End) → d ≡ c → n + j ≡ k → Runs c n old mid Paused → Runs d j mid new e → Runs c k old new e
-runs_then c d n j k old mid new e same sum p q = subst (λ m. Runs c m old new e) sum (runs_join c n j old mid new e p (subst (λ x. Runs x j mid new e) same q))
+pub runs_then : (modes : Modes) (c d : Code) (n j k : ℕ) (old mid new : Moment) (e : End) → d ≡ c → n + j ≡ k → Runs modes c n old mid Paused → Runs modes d j mid new e → Runs modes c k old new e
+runs_then modes c d n j k old mid new e same sum p q = subst (λ m. Runs modes c m old new e) sum (runs_join modes c n j old mid new e p (subst (λ x. Runs modes x j mid new e) same q))
 
 -- a call of some number of steps
-pub some_runs : (c : Code) (n : ℕ) (old new : Moment) (e : End) → Runs c n old new e → (rest' : List ℕ) → IsRest (ahead new.control.reader.ended new.left) rest' →
+pub some_runs : (modes : Modes) (c : Code) (n : ℕ) (old new : Moment) (e : End) → Runs modes c n old new e → (rest' : List ℕ) → IsRest (ahead new.control.reader.ended new.left) rest' →
     (rest : List ℕ) × IsRest (ahead old.control.reader.ended old.left) rest
-    × (n : ℕ) × Ran c n (stood_for old.core old.control rest) old.outside new.outside (stood_for new.core new.control rest') e
-    × ReadsOnly c n (stood_for old.core old.control rest) old.left new.left
-some_runs c n old new e p = λ rest' h. let a = p rest' h in (a.0, a.1, n, a.2, a.3)
+    × (n : ℕ) × Ran modes c n (stood_for old.core old.control rest) old.outside new.outside (stood_for new.core new.control rest') e
+    × ReadsOnly modes c n (stood_for old.core old.control rest) old.left new.left
+some_runs modes c n old new e p = λ rest' h. let a = p rest' h in (a.0, a.1, n, a.2, a.3)
 
 -- a call that gives up where another one came to
-pub runs_give_up : (c : Code) (n : ℕ) (old new : Moment) → Runs c n old new Paused → Runs c (n + 1) old new NoMemory
-runs_give_up c n old new p = λ rest' h.
+pub runs_give_up : (modes : Modes) (c : Code) (n : ℕ) (old new : Moment) → Runs modes c n old new Paused → Runs modes c (n + 1) old new NoMemory
+runs_give_up modes c n old new p = λ rest' h.
     let a = p rest' h in
     let from = stood_for old.core old.control a.0 in
     let there = stood_for new.core new.control rest' in
-    (a.0, a.1, ran_gives_up c n from there there old.outside new.outside a.2, reads_longer c n (n + 1) from old.left new.left (omega arith) a.3)
+    (a.0, a.1, ran_gives_up modes c n from there there old.outside new.outside a.2, reads_longer modes c n (n + 1) from old.left new.left (omega arith) a.3)
 
 -- ---- the input
 

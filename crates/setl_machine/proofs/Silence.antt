@@ -1,5 +1,5 @@
 -- A step says nothing unless it is a `print`.
-use Rattle.std.proofs.Common.{◌≡◌, ◌⊎◌, inl, inr, ◌∙◌, ℕ, ◌-◌, true, false, List, [], ◌∷◌, length, Option, None, Some, refl, ap}
+use Rattle.std.proofs.Common.{◌≡◌, ◌⊎◌, inl, inr, ◌∙◌, ℕ, ◌-◌, Bool, true, false, List, [], ◌∷◌, length, Option, None, Some, refl, ap}
 use Rattle.std.specs.Prelude.{slice_get}
 use Rattle.setl_value.specs.Datum.{Datum, bool, int, text, atom, tuple, set}
 use Rattle.setl_map.specs.Outcome.{Outcome, Gives, Fails, Overspends}
@@ -9,7 +9,8 @@ use Rattle.setl_program.specs.declared.kinds.Connective.TheVariants.{And, Or, Im
 use Rattle.setl_program.specs.Program.{Begin}
 use Rattle.setl_text.specs.Reading.{Reading, Denotes, AtEnd, NotForm, TooWide, TooDeep, read_denotation}
 use Rattle.setl_run.specs.Turns.{left_after}
-use Rattle.setl_run.specs.Run.{Store, State, Move, Moves, Halts, store_all, stored, settle, step}
+use Rattle.setl_run.specs.Events.{End}
+use Rattle.setl_run.specs.Run.{Store, State, Next, Move, Moves, Halts, if_fits, store_all, stored, settle, step}
 use Rattle.setl_run.specs.Variable.{Variable, Global, Own, Bound}
 use Rattle.setl_model.specs.Core.{One, Two, Selected}
 use Rattle.setl_model.specs.World.{branch, go_with}
@@ -18,20 +19,25 @@ use Rattle.setl_model.specs.Places.{Taken, TakesOut, IsEmpty, CannotTake, part_a
 use Rattle.setl_code.specs.Code.{Alteration, Putting, Combining, TakingOut, Body, Code, Step, Instr, Push, PushAtom, PushEof, Load, Take, StoreIn, Operate, Alter, Decides, TestBool, Unless, Jump, DropTop, DupTop, PartsOf, BeginOver, NextOr, BeginOf, AddBelow, LeaveAll, PayRound, CallBody, ReturnTop, KeepAll, GoBack, PrintTop, ReadOne, StopRun}
 use Rattle.setl_code.specs.CodeCore.{Held, There, Gone, Operand, Result, Iterator, PairIterator, Collecting, value_of, Popped, Pops, Lacks, popped, without_iterators, Activation, Copy, CodeCore, holding, held}
 use Rattle.setl_code.specs.Machine.{on_value, on_top, on_popped, on_held, on_rest, turn, with_outcome, store_in, store_whole, take_from, selected_by, alter, begin_over, next_or, Added, Adds, Refused, Nowhere, added, go_added, take_apart, call_body, handed_back, return_to, go_back, push_read, decides, do_instr, do_step, fetch, machine}
-use Rattle.setl_machine.specs.Outcome.{always, start, said, AtPrint}
+use Rattle.setl_machine.specs.Declaring.{Modes, tested}
+use Rattle.setl_machine.specs.Outcome.{start, said, AtPrint}
 
 -- the bytes that a move says
 abbrev pub said_by : Move CodeCore → List ℕ
 said_by (Moves said told to line xs) = said
 said_by (Halts e) = []
 
-pub said_stored : (c : Code) (line : ℕ) (xs : List Store) (s : State CodeCore) → said (store_all (machine c) always line xs s) ≡ s.out
-said_stored c line [] s = refl
-said_stored c line (x ∷ xs) s = said_stored c line xs (stored (machine c) line x s)
+said_if : (t : Bool) (x : Next CodeCore) (e : End) (s : State CodeCore) → said x ≡ s.out → said (if_fits t x e s) ≡ s.out
+said_if true x e s h = h
+said_if false x e s h = refl
 
-pub said_settled : (c : Code) (k : CodeCore) (m : Move CodeCore) → said (settle (machine c) always (start k) m) ≡ said_by m
-said_settled c k (Moves said told to line xs) = said_stored c line xs (record { core = to; out = said; events = told })
-said_settled c k (Halts e) = refl
+pub said_stored : (modes : Modes) (c : Code) (line : ℕ) (xs : List Store) (s : State CodeCore) → said (store_all (machine c) (tested modes) line xs s) ≡ s.out
+said_stored modes c line [] s = refl
+said_stored modes c line (x ∷ xs) s = said_if (tested modes x.0 x.1) _ _ s (said_stored modes c line xs (stored (machine c) line x s))
+
+pub said_settled : (modes : Modes) (c : Code) (k : CodeCore) (m : Move CodeCore) → said (settle (machine c) (tested modes) (start k) m) ≡ said_by m
+said_settled modes c k (Moves said told to line xs) = said_stored modes c line xs (record { core = to; out = said; events = told })
+said_settled modes c k (Halts e) = refl
 
 -- it says nothing
 abbrev Mute : Move CodeCore → Type 0
@@ -203,9 +209,9 @@ step_said c k (Some (line, i)) e = go (instr_mute c line i k)
     go (inl h) = inl h
     go (inr h) = inr (line, h.0, e ∙ ap (λ j. Some (line, j)) h.1)
 
-pub says_nothing : (c : Code) (k : CodeCore) → (length (said (step (machine c) always (start k))) ≡ 0) ⊎ AtPrint c k
-says_nothing c k = go (step_said c k (fetch c k.now.body k.now.at) refl)
+pub says_nothing : (modes : Modes) (c : Code) (k : CodeCore) → (length (said (step (machine c) (tested modes) (start k))) ≡ 0) ⊎ AtPrint c k
+says_nothing modes c k = go (step_said c k (fetch c k.now.body k.now.at) refl)
   where
-    go : (said_by (do_step c (fetch c k.now.body k.now.at) k) ≡ []) ⊎ AtPrint c k → (length (said (step (machine c) always (start k))) ≡ 0) ⊎ AtPrint c k
-    go (inl h) = inl (ap length (said_settled c k (do_step c (fetch c k.now.body k.now.at) k) ∙ h))
+    go : (said_by (do_step c (fetch c k.now.body k.now.at) k) ≡ []) ⊎ AtPrint c k → (length (said (step (machine c) (tested modes) (start k))) ≡ 0) ⊎ AtPrint c k
+    go (inl h) = inl (ap length (said_settled modes c k (do_step c (fetch c k.now.body k.now.at) k) ∙ h))
     go (inr h) = inr h

@@ -7,7 +7,8 @@ use Rattle.setl_code.specs.Code.{Code}
 use Rattle.setl_code.specs.CodeCore.{CodeCore}
 use Rattle.setl_code.specs.Machine.{machine}
 use Rattle.setl_text.specs.Reads.{StaysHonest, TakesOff}
-use Rattle.setl_machine.specs.Outcome.{always, start, said, Seen, Ran}
+use Rattle.setl_machine.specs.Declaring.{Modes, tested}
+use Rattle.setl_machine.specs.Outcome.{start, said, Seen, Ran}
 use Rattle.setl_machine.specs.declared.end.End.TheVariants.{Paused, NoMemory}
 use Rattle.setl_machine.proofs.Silence.{says_nothing}
 
@@ -28,10 +29,10 @@ takes_none None = ([], tt)
 takes_none (Some l) = ([], refl)
 
 -- no step
-pub ran_none : (c : Code) (k : CodeCore) (seen : Seen) → Ran c 0 k seen seen k Paused
-ran_none c k seen = (refl, appends_same seen.held, (refl, refl))
+pub ran_none : (modes : Modes) (c : Code) (k : CodeCore) (seen : Seen) → Ran modes c 0 k seen seen k Paused
+ran_none modes c k seen = (refl, appends_same seen.held, (refl, refl))
 
 -- memory was refused at the first step
-pub ran_refused : (c : Code) (n : ℕ) (k to : CodeCore) (seen : Seen) → 0 < n → Ran c n k seen seen to NoMemory
-ran_refused c n k to seen h =
-    (start k, said (step (machine c) always (start k)), record { after = 0; fewer = h; reached = refl; says = refl }, says_nothing c k, (0, omega arith, known_same seen.held), (refl, refl))
+pub ran_refused : (modes : Modes) (c : Code) (n : ℕ) (k to : CodeCore) (seen : Seen) → 0 < n → Ran modes c n k seen seen to NoMemory
+ran_refused modes c n k to seen h =
+    (start k, said (step (machine c) (tested modes) (start k)), record { after = 0; fewer = h; reached = refl; says = refl }, says_nothing modes c k, (0, omega arith, known_same seen.held), (refl, refl))

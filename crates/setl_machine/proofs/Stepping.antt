@@ -9,7 +9,8 @@ use Rattle.setl_code.specs.Plain.{Variables, plain_instr, plain_step}
 use Rattle.setl_code.specs.CodeCore.{CodeCore}
 use Rattle.setl_code.specs.Machine.{do_step, fetch, machine}
 use Rattle.setl_text.specs.Reads.{ReaderState, StaysHonest}
-use Rattle.setl_machine.specs.Outcome.{always, start, next_of, Quiet, Seen, Steps}
+use Rattle.setl_machine.specs.Declaring.{Modes, tested}
+use Rattle.setl_machine.specs.Outcome.{start, next_of, Quiet, Seen, Steps}
 use Rattle.setl_machine.specs.declared.end.End.{End}
 use Rattle.setl_machine.specs.declared.end.End.TheVariants.{Done, Stopped, Spent, Paused, ReadFault, WriteFault, NoMemory, Stuck}
 use Rattle.setl_machine.proofs.Stays.{appends_same, honest_same}
@@ -17,43 +18,43 @@ use Rattle.setl_machine.proofs.Stays.{appends_same, honest_same}
 pub in_hand : (c : Code) (k : CodeCore) (xs : Variables) (s : declared.Step) (what : declared_instr.Instr) → fetch c k.now.body k.now.at ≡ Some (plain_step xs s) → s.what ≡ what → fetch c k.now.body k.now.at ≡ Some (s.line, plain_instr xs what)
 in_hand c k xs s what h e = h ∙ ap (λ w. Some (s.line, plain_instr xs w)) e
 
-step_is : (c : Code) (k : CodeCore) (line : ℕ) (i : Instr) → fetch c k.now.body k.now.at ≡ Some (line, i) → step (machine c) always (start k) ≡ next_of c line i k
-step_is c k line i h = ap (λ o. settle (machine c) always (start k) (do_step c o k)) h
+step_is : (modes : Modes) (c : Code) (k : CodeCore) (line : ℕ) (i : Instr) → fetch c k.now.body k.now.at ≡ Some (line, i) → step (machine c) (tested modes) (start k) ≡ next_of modes c line i k
+step_is modes c k line i h = ap (λ o. settle (machine c) (tested modes) (start k) (do_step c o k)) h
 
-pub by_step : (c : Code) (k to : CodeCore) (line : ℕ) (i : Instr) (old new : Seen) (e : End) → fetch c k.now.body k.now.at ≡ Some (line, i) → Steps (next_of c line i k) old new to e → Steps (step (machine c) always (start k)) old new to e
-by_step c k to line i old new e h s = subst (λ x. Steps x old new to e) (sym (step_is c k line i h)) s
+pub by_step : (modes : Modes) (c : Code) (k to : CodeCore) (line : ℕ) (i : Instr) (old new : Seen) (e : End) → fetch c k.now.body k.now.at ≡ Some (line, i) → Steps modes (next_of modes c line i k) old new to e → Steps modes (step (machine c) (tested modes) (start k)) old new to e
+by_step modes c k to line i old new e h s = subst (λ x. Steps modes x old new to e) (sym (step_is modes c k line i h)) s
 
 -- no step is in hand
-pub no_step : (c : Code) (k : CodeCore) (now : Seen) → fetch c k.now.body k.now.at ≡ None → Steps (step (machine c) always (start k)) now now k Stuck
-no_step c k now h =
-    subst (λ x. Steps x now now k Stuck) (sym (ap (λ o. settle (machine c) always (start k) (do_step c o k)) h)) ((refl, ([], refl)), appends_same now.held, (refl, refl))
+pub no_step : (modes : Modes) (c : Code) (k : CodeCore) (now : Seen) → fetch c k.now.body k.now.at ≡ None → Steps modes (step (machine c) (tested modes) (start k)) now now k Stuck
+no_step modes c k now h =
+    subst (λ x. Steps modes x now now k Stuck) (sym (ap (λ o. settle (machine c) (tested modes) (start k) (do_step c o k)) h)) ((refl, ([], refl)), appends_same now.held, (refl, refl))
 
 -- what neither reads nor writes does nothing to the outside
-pub quiet_steps : (x : Next CodeCore) (to : CodeCore) (now : Seen) (e : End) → Quiet x to e → Steps x now now to e
-quiet_steps x to now Done q = (q.0, subst (Appends now.held now.held) (sym q.1) (appends_same now.held), (refl, refl))
-quiet_steps x to now (Stopped why line) q = (q.0, subst (Appends now.held now.held) (sym q.1) (appends_same now.held), (refl, refl))
-quiet_steps x to now Spent q = (q.0, subst (Appends now.held now.held) (sym q.1) (appends_same now.held), (refl, refl))
-quiet_steps x to now Paused q = (q.0, subst (Appends now.held now.held) (sym q.1) (appends_same now.held), (refl, refl))
-quiet_steps x to now Stuck q = (q.0, subst (Appends now.held now.held) (sym q.1) (appends_same now.held), (refl, refl))
-quiet_steps x to now NoMemory q = ((0, omega arith, appends_same now.held), (refl, refl))
-quiet_steps (Goes s) to now ReadFault q = absurd q.0
-quiet_steps (Ends d s) to now ReadFault q = absurd q.0
-quiet_steps (Goes s) to now WriteFault q = absurd q.0
-quiet_steps (Ends d s) to now WriteFault q = absurd q.0
+pub quiet_steps : (modes : Modes) (x : Next CodeCore) (to : CodeCore) (now : Seen) (e : End) → Quiet modes x to e → Steps modes x now now to e
+quiet_steps modes x to now Done q = (q.0, subst (Appends now.held now.held) (sym q.1) (appends_same now.held), (refl, refl))
+quiet_steps modes x to now (Stopped why line) q = (q.0, subst (Appends now.held now.held) (sym q.1) (appends_same now.held), (refl, refl))
+quiet_steps modes x to now Spent q = (q.0, subst (Appends now.held now.held) (sym q.1) (appends_same now.held), (refl, refl))
+quiet_steps modes x to now Paused q = (q.0, subst (Appends now.held now.held) (sym q.1) (appends_same now.held), (refl, refl))
+quiet_steps modes x to now Stuck q = (q.0, subst (Appends now.held now.held) (sym q.1) (appends_same now.held), (refl, refl))
+quiet_steps modes x to now NoMemory q = ((0, omega arith, appends_same now.held), (refl, refl))
+quiet_steps modes (Goes s) to now ReadFault q = absurd q.0
+quiet_steps modes (Ends d s) to now ReadFault q = absurd q.0
+quiet_steps modes (Goes s) to now WriteFault q = absurd q.0
+quiet_steps modes (Ends d s) to now WriteFault q = absurd q.0
 
-no_write : (x : Next CodeCore) (to : CodeCore) → Quiet x to WriteFault → ⊥
-no_write (Goes s) to q = q.0
-no_write (Ends d s) to q = q.0
+no_write : (modes : Modes) (x : Next CodeCore) (to : CodeCore) → Quiet modes x to WriteFault → ⊥
+no_write modes (Goes s) to q = q.0
+no_write modes (Ends d s) to q = q.0
 
-no_read : (x : Next CodeCore) (to : CodeCore) → Quiet x to ReadFault → ⊥
-no_read (Goes s) to q = q.0
-no_read (Ends d s) to q = q.0
+no_read : (modes : Modes) (x : Next CodeCore) (to : CodeCore) → Quiet modes x to ReadFault → ⊥
+no_read modes (Goes s) to q = q.0
+no_read modes (Ends d s) to q = q.0
 
-pub quiet_no_write : (x : Next CodeCore) (to : CodeCore) (e : End) → Quiet x to e → e ≡ WriteFault → ⊥
-quiet_no_write x to e q h = no_write x to (subst (Quiet x to) h q)
+pub quiet_no_write : (modes : Modes) (x : Next CodeCore) (to : CodeCore) (e : End) → Quiet modes x to e → e ≡ WriteFault → ⊥
+quiet_no_write modes x to e q h = no_write modes x to (subst (Quiet modes x to) h q)
 
-pub quiet_no_read : (x : Next CodeCore) (to : CodeCore) (e : End) → Quiet x to e → e ≡ ReadFault → ⊥
-quiet_no_read x to e q h = no_read x to (subst (Quiet x to) h q)
+pub quiet_no_read : (modes : Modes) (x : Next CodeCore) (to : CodeCore) (e : End) → Quiet modes x to e → e ≡ ReadFault → ⊥
+quiet_no_read modes x to e q h = no_read modes x to (subst (Quiet modes x to) h q)
 
 -- where the reader and the input stay
 pub stays_honest : (old new : ReaderState) (left : Option (List ℕ)) → new ≡ old → StaysHonest old.ended left new.ended left

@@ -15,28 +15,29 @@ use Rattle.setl_code.specs.CodeCore.{Held, Operand, Result as Holds, value_of, C
 use Rattle.setl_code.specs.Machine.{machine, do_instr, next, go_to, on_value, on_top, decides}
 use Rattle.setl_store.specs.Standing.{Standing, over, at_place, top_of}
 use Rattle.setl_machine.specs.Control.{ControlState, world_of, in_world, stood_for}
-use Rattle.setl_machine.specs.Outcome.{always, start, IsLikely, Quiet}
-use Rattle.setl_machine.specs.Working.{Works, Does, Halted, Judges}
+use Rattle.setl_machine.specs.Declaring.{Modes, tested}
+use Rattle.setl_machine.specs.Outcome.{start, IsLikely, Quiet}
+use Rattle.setl_machine.specs.Working.{Works, Does, WorksBy, DoesBy, Halted, Judges}
 use Rattle.setl_machine.specs.declared.end.End.{End}
 use Rattle.setl_machine.specs.declared.end.End.TheVariants.{Done, Stopped, Spent, Paused, ReadFault, WriteFault, NoMemory, Stuck}
 
-pub halted_quiet : (c : Code) (k to : CodeCore) (m : Move CodeCore) (e : End) → IsLikely k to → Halted m e → Quiet (settle (machine c) always (start k) m) to e
-halted_quiet c k to (Halts d) Done l h = ((h, l), refl)
-halted_quiet c k to (Halts d) (Stopped why line) l h = ((h, l), refl)
-halted_quiet c k to (Halts d) Spent l h = ((h, l), refl)
-halted_quiet c k to (Halts d) Stuck l h = ((h, l), refl)
-halted_quiet c k to (Halts d) Paused l h = absurd h
-halted_quiet c k to (Halts d) ReadFault l h = absurd h
-halted_quiet c k to (Halts d) WriteFault l h = absurd h
-halted_quiet c k to (Halts d) NoMemory l h = absurd h
-halted_quiet c k to (Moves said told d line xs) Done l h = absurd h
-halted_quiet c k to (Moves said told d line xs) (Stopped why at) l h = absurd h
-halted_quiet c k to (Moves said told d line xs) Spent l h = absurd h
-halted_quiet c k to (Moves said told d line xs) Stuck l h = absurd h
-halted_quiet c k to (Moves said told d line xs) Paused l h = absurd h
-halted_quiet c k to (Moves said told d line xs) ReadFault l h = absurd h
-halted_quiet c k to (Moves said told d line xs) WriteFault l h = absurd h
-halted_quiet c k to (Moves said told d line xs) NoMemory l h = absurd h
+pub halted_quiet : (modes : Modes) (c : Code) (k to : CodeCore) (m : Move CodeCore) (e : End) → IsLikely k to → Halted m e → Quiet modes (settle (machine c) (tested modes) (start k) m) to e
+halted_quiet modes c k to (Halts d) Done l h = ((h, l), refl)
+halted_quiet modes c k to (Halts d) (Stopped why line) l h = ((h, l), refl)
+halted_quiet modes c k to (Halts d) Spent l h = ((h, l), refl)
+halted_quiet modes c k to (Halts d) Stuck l h = ((h, l), refl)
+halted_quiet modes c k to (Halts d) Paused l h = absurd h
+halted_quiet modes c k to (Halts d) ReadFault l h = absurd h
+halted_quiet modes c k to (Halts d) WriteFault l h = absurd h
+halted_quiet modes c k to (Halts d) NoMemory l h = absurd h
+halted_quiet modes c k to (Moves said told d line xs) Done l h = absurd h
+halted_quiet modes c k to (Moves said told d line xs) (Stopped why at) l h = absurd h
+halted_quiet modes c k to (Moves said told d line xs) Spent l h = absurd h
+halted_quiet modes c k to (Moves said told d line xs) Stuck l h = absurd h
+halted_quiet modes c k to (Moves said told d line xs) Paused l h = absurd h
+halted_quiet modes c k to (Moves said told d line xs) ReadFault l h = absurd h
+halted_quiet modes c k to (Moves said told d line xs) WriteFault l h = absurd h
+halted_quiet modes c k to (Moves said told d line xs) NoMemory l h = absurd h
 
 pub likely_over : (w : World) (k : CodeCore) (xs : List Operand) → IsLikely (in_world w k) (in_world w (over xs k))
 likely_over w k xs = ([], refl)
@@ -46,9 +47,9 @@ pub goes : (old new : Standing) (line : ℕ) (what : Instr) (at : ℕ) (xs : Lis
 goes old new line what at xs e f =
     let c = plain_code old.code in (
       ap (λ s. s.code) e,
-      λ w.
+      λ modes w.
           let k = in_world w old.core in
-          subst (λ m. Quiet (settle (machine c) always (start k) m) (in_world w new.core) Paused) (sym (f w)) (sym (ap (λ s. in_world w s.core) e), refl),
+          subst (λ m. Quiet modes (settle (machine c) (tested modes) (start k) m) (in_world w new.core) Paused) (sym (f w)) (sym (ap (λ s. in_world w s.core) e), refl),
     )
 
 -- it ends the run, when some operands may be gone
@@ -56,9 +57,9 @@ pub stops : (old new : Standing) (line : ℕ) (what : Instr) (xs : List Operand)
 stops old new line what xs e h f =
     let c = plain_code old.code in (
       ap (λ s. s.code) h,
-      λ w.
+      λ modes w.
           let k = in_world w old.core in
-          halted_quiet c k (in_world w new.core) (do_instr c line what k) e (subst (λ (s : Standing). IsLikely k (in_world w s.core)) (sym h) (likely_over w old.core xs)) (f w),
+          halted_quiet modes c k (in_world w new.core) (do_instr c line what k) e (subst (λ (s : Standing). IsLikely k (in_world w s.core)) (sym h) (likely_over w old.core xs)) (f w),
     )
 
 -- where no connective is decided, none goes on
@@ -72,16 +73,25 @@ pub stops_with : (old new : Standing) (from to : ControlState) (line : ℕ) (wha
 stops_with old new from to line what xs e h same f =
     let c = plain_code old.code in (
       ap (λ s. s.code) h,
-      λ rest.
+      λ modes rest.
           let k = stood_for old.core from rest in
           let likely : IsLikely k (stood_for (over xs old.core) from rest) = likely_over (world_of from rest) old.core xs in
-          halted_quiet c k (stood_for new.core to rest) (do_instr c line what k) e (subst (λ (s : Standing). IsLikely k (stood_for s.core to rest)) (sym h) (subst (λ d. IsLikely k (stood_for (over xs old.core) d rest)) (sym same) likely)) (f rest),
+          halted_quiet modes c k (stood_for new.core to rest) (do_instr c line what k) e (subst (λ (s : Standing). IsLikely k (stood_for s.core to rest)) (sym h) (subst (λ d. IsLikely k (stood_for (over xs old.core) d rest)) (sym same) likely)) (f rest),
     )
 
 -- what doesn't ask the control does the same with any
 pub works_alone : (old new : Standing) (from : ControlState) (line : ℕ) (what : Instr) (r : Result End AllocError) → IfOk r (λ e. Works old line what new e) → IfOk r (λ e. Does old from line what new from e)
-works_alone old new from line what (Ok e) h = (h.0, λ rest. h.1 (world_of from rest))
+works_alone old new from line what (Ok e) h = (h.0, λ modes rest. h.1 modes (world_of from rest))
 works_alone old new from line what (Err e) h = tt
+
+pub works_alone_by : (modes : Modes) (old new : Standing) (from : ControlState) (line : ℕ) (what : Instr) (r : Result End AllocError) → IfOk r (λ e. WorksBy modes old line what new e) → IfOk r (λ e. DoesBy modes old from line what new from e)
+works_alone_by modes old new from line what (Ok e) h = (h.0, λ rest. h.1 (world_of from rest))
+works_alone_by modes old new from line what (Err e) h = tt
+
+-- what tests no value does the same by any declarations
+pub does_untested : (modes : Modes) (old new : Standing) (from to : ControlState) (line : ℕ) (what : Instr) (r : Result End AllocError) → IfOk r (λ e. Does old from line what new to e) → IfOk r (λ e. DoesBy modes old from line what new to e)
+does_untested modes old new from to line what (Ok e) h = (h.0, h.1 modes)
+does_untested modes old new from to line what (Err e) h = tt
 
 -- no write sees the world
 pub write_in_world : (x : Variable) (h : Held) (w : World) (k : CodeCore) → write x h (in_world w k) ≡ in_world w (write x h k)

@@ -1,5 +1,5 @@
 -- What updates of a variable in place did.
-use Rattle.std.specs.Prelude.{◌≡◌, ℕ, suc, ◌-◌, List, Option, Some, None, Result, Ok, Err}
+use Rattle.std.specs.Prelude.{◌≡◌, ◌⊎◌, ℕ, suc, ◌-◌, true, List, Option, Some, None, Result, Ok, Err}
 use Rattle.setl_value.specs.Datum.{Datum}
 use Rattle.setl_value.specs.DatumOf.{part}
 use Rattle.setl_value.specs.declared.Value.{Value}
@@ -13,19 +13,21 @@ use Rattle.setl_code.specs.CodeCore.{There, Gone, Operand, held, write}
 use Rattle.setl_code.specs.Machine.{machine, on_held, alter}
 use Rattle.setl_store.specs.Standing.{Standing, over, at_place}
 use Rattle.setl_machine.specs.Control.{ControlState, stood_for}
-use Rattle.setl_machine.specs.Outcome.{always, start, Quiet}
+use Rattle.setl_machine.specs.Declaring.{Modes, tested, Tests}
+use Rattle.setl_machine.specs.Outcome.{start, Quiet}
 use Rattle.setl_machine.specs.Working.{EndsBy}
 use Rattle.setl_machine.specs.declared.end.End.{End}
 use Rattle.setl_machine.specs.declared.end.End.TheVariants as end
+use Rattle.setl_machine.specs.declared.end.StopKind.TheVariants as kind
 
--- the rest of an `Alter` whose selectors were popped: whatever the operands were before, and whatever is still to come
--- from the input
-abbrev pub Alters : Standing → ControlState → ℕ → Alteration → Variable → List Selected → Standing → ControlState → End → Type 0
-Alters old from line what x at new to e =
+-- the rest of an `Alter` whose selectors were popped, where these declarations count: whatever the operands were before,
+-- and whatever is still to come from the input
+abbrev pub Alters : Modes → Standing → ControlState → ℕ → Alteration → Variable → List Selected → Standing → ControlState → End → Type 0
+Alters modes old from line what x at new to e =
     (new.code ≡ old.code)
     × ((before : List Operand) (rest : List ℕ) →
     let k = stood_for (over before old.core) from rest in
-    Quiet (settle (machine (plain_code old.code)) always (start k) (on_held (held x k) (λ whole. alter what line x whole at old.core.now.operands k))) (stood_for new.core to rest) e)
+    Quiet modes (settle (machine (plain_code old.code)) (tested modes) (start k) (on_held (held x k) (λ whole. alter what line x whole at old.core.now.operands k))) (stood_for new.core to rest) e)
 
 -- what the variable holds was taken out of its slot, and stored again it leaves all as before; or it was taken before
 abbrev pub TakesHeld : Variable → Standing → Option (Option Value) → Standing → Type 0
@@ -33,8 +35,23 @@ TakesHeld x old None new = (held x old.core ≡ Gone) × (new ≡ old)
 TakesHeld x old (Some v) new =
     (held x old.core ≡ There (part v)) × (write x (There (part v)) old.core ≡ old.core) × (new ≡ record old { core = write x Gone old.core })
 
--- the whole of a variable was stored, and the code goes on with the turns that an update left; or its fault ends the run
-abbrev pub EndsUpdate : Result ℕ OpFault → ℕ → Variable → Option Datum → Standing → ControlState → Standing → ControlState → End → Type 0
-EndsUpdate (Ok left) line x v old from new to e =
-    (e ≡ end.Paused) × (new ≡ record old { core = at_place (suc old.core.now.at) (write x (There v) old.core) }) × (to ≡ record from { turns = from.turns - (from.turns - left) })
-EndsUpdate (Err f) line x v old from new to e = EndsBy f line e × (new ≡ record old { core = write x (There v) old.core }) × (to ≡ from)
+-- what a variable holds after an update to a whole: the whole, where it isn't tested or fits, and the code goes on; or what
+-- was kept, and the run stops at the variable's declaration
+abbrev pub Settles : Modes → ℕ → Variable → (whole : Option Datum) → (kept : Option (Option Datum)) → (holds : Option Datum) → End → Type 0
+Settles modes line x whole kept holds end.Paused = (holds ≡ whole) × ((kept ≡ None) ⊎ (tested modes x whole ≡ true))
+Settles modes line x whole kept holds (end.Stopped (kind.Unfit k) at) = (at ≡ line) × (kept ≡ Some holds) × Tests modes x whole (Some k)
+Settles modes line x whole kept holds e = ⊥
+
+-- the variable holds that now
+abbrev pub StoresWhole : Modes → ℕ → Variable → (whole : Option Datum) → (kept : Option (Option Datum)) → Standing → Standing → End → Type 0
+StoresWhole modes line x whole kept old new e = (holds : Option Datum) × Settles modes line x whole kept holds e × (new ≡ record old { core = write x (There holds) old.core })
+
+-- the variable holds that now, and the code is at the next step with the turns that an update left; or its fault ends the
+-- run
+abbrev pub EndsUpdate : Modes → Result ℕ OpFault → ℕ → Variable → (whole : Option Datum) → (kept : Option (Option Datum)) → Standing → ControlState → Standing → ControlState → End → Type 0
+EndsUpdate modes (Ok left) line x whole kept old from new to e =
+    (holds : Option Datum)
+    × Settles modes line x whole kept holds e
+    × (new ≡ record old { core = at_place (suc old.core.now.at) (write x (There holds) old.core) })
+    × (to ≡ record from { turns = from.turns - (from.turns - left) })
+EndsUpdate modes (Err f) line x whole kept old from new to e = EndsBy f line e × (new ≡ record old { core = write x (There whole) old.core }) × (to ≡ from)

@@ -1,4 +1,6 @@
 pub mod Control
+pub mod Declaring
+pub mod Tables
 pub mod Outcome
 pub mod Working
 pub mod Altered

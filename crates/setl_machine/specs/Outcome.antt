@@ -4,29 +4,25 @@ use Rattle.std.specs.Io.KnownBytes.{Appends, append_known}
 use Rattle.setl_io.specs.Faults.{Rose}
 use Rattle.setl_io.specs.Sink.{AppendsPart}
 use Rattle.setl_run.specs.Events as run
-use Rattle.setl_run.specs.Run.{State, Next, Goes, Ends, Test, settle, step}
+use Rattle.setl_run.specs.Run.{State, Next, Goes, Ends, settle, step}
 use Rattle.setl_run.specs.Run as runs
-use Rattle.setl_model.specs.Step.{test_of}
 use Rattle.setl_code.specs.Code.{Code, Instr, PrintTop, ReadOne}
 use Rattle.setl_code.specs.CodeCore.{CodeCore}
 use Rattle.setl_code.specs.Machine.{machine, fetch, do_instr}
 use Rattle.setl_store.specs.Standing.{over}
+use Rattle.setl_machine.specs.Declaring.{Modes, tested, declared_at}
 use Rattle.setl_machine.specs.declared.end.End.{End}
 use Rattle.setl_machine.specs.declared.end.End.TheVariants as end
 use Rattle.setl_machine.specs.declared.end.StopKind.{StopKind}
 use Rattle.setl_machine.specs.declared.end.StopKind.TheVariants as kind
 
--- every variable takes every value
-abbrev pub always : Test
-always = test_of [] false
-
 -- a state at which nothing was written or told yet
 abbrev pub start : CodeCore → State CodeCore
 start k = record { core = k; out = []; events = [] }
 
--- what an instruction of a line does at a core
-abbrev pub next_of : Code → ℕ → Instr → CodeCore → Next CodeCore
-next_of c line i k = settle (machine c) always (start k) (do_instr c line i k)
+-- what an instruction of a line does at a core, where these declarations count
+abbrev pub next_of : Modes → Code → ℕ → Instr → CodeCore → Next CodeCore
+next_of modes c line i k = settle (machine c) (tested modes) (start k) (do_instr c line i k)
 
 -- the bytes written
 abbrev pub said : Next CodeCore → List ℕ
@@ -38,15 +34,17 @@ abbrev pub last : Next CodeCore → CodeCore
 last (Goes s) = s.core
 last (Ends e s) = s.core
 
-abbrev pub kind_of : StopKind → run.StopKind
-kind_of kind.Om = run.Om
-kind_of kind.Kind = run.Kind
-kind_of kind.Zero = run.Zero
-kind_of kind.Range = run.Range
-kind_of kind.Wide = run.Wide
-kind_of kind.Deep = run.Deep
-kind_of kind.Form = run.Form
-kind_of kind.Nothing = run.Nothing
+-- why a run stops; a declaration is named by its place
+abbrev pub kind_of : Modes → StopKind → run.StopKind
+kind_of modes kind.Om = run.Om
+kind_of modes kind.Kind = run.Kind
+kind_of modes kind.Zero = run.Zero
+kind_of modes kind.Range = run.Range
+kind_of modes kind.Wide = run.Wide
+kind_of modes kind.Deep = run.Deep
+kind_of modes kind.Form = run.Form
+kind_of modes kind.Nothing = run.Nothing
+kind_of modes (kind.Unfit k) = run.Unfit (declared_at modes k)
 
 -- The same but for the operands of the body at work, and for bytes of the input that were taken ahead for a read that
 -- stopped.
@@ -54,18 +52,18 @@ abbrev pub IsLikely : CodeCore → CodeCore → Type 0
 IsLikely a b = (taken : List ℕ) × (over [] a ≡ over [] (record b { world = record b.world { input = taken ++ b.world.input } }))
 
 -- The answer says how the code stands there, and the core now is the last state's, or likely so at an end.
-abbrev pub Answers : Next CodeCore → CodeCore → End → Type 0
-Answers (Goes s) k end.Paused = s.core ≡ k
-Answers (Ends e s) k end.Done = (e ≡ run.Done) × IsLikely s.core k
-Answers (Ends e s) k (end.Stopped why line) = (e ≡ run.Stopped (kind_of why) line) × IsLikely s.core k
-Answers (Ends e s) k end.Spent = (e ≡ run.Spent) × IsLikely s.core k
-Answers (Ends e s) k end.Stuck = (e ≡ run.Stuck) × IsLikely s.core k
-Answers n k e = ⊥
+abbrev pub Answers : Modes → Next CodeCore → CodeCore → End → Type 0
+Answers modes (Goes s) k end.Paused = s.core ≡ k
+Answers modes (Ends e s) k end.Done = (e ≡ run.Done) × IsLikely s.core k
+Answers modes (Ends e s) k (end.Stopped why line) = (e ≡ run.Stopped (kind_of modes why) line) × IsLikely s.core k
+Answers modes (Ends e s) k end.Spent = (e ≡ run.Spent) × IsLikely s.core k
+Answers modes (Ends e s) k end.Stuck = (e ≡ run.Stuck) × IsLikely s.core k
+Answers modes n k e = ⊥
 
 -- What an instruction did that neither reads nor writes. After want of memory nothing is known of the core.
-abbrev pub Quiet : Next CodeCore → CodeCore → End → Type 0
-Quiet n k end.NoMemory = Unit {0}
-Quiet n k e = Answers n k e × (said n ≡ [])
+abbrev pub Quiet : Modes → Next CodeCore → CodeCore → End → Type 0
+Quiet modes n k end.NoMemory = Unit {0}
+Quiet modes n k e = Answers modes n k e × (said n ≡ [])
 
 -- What is seen of the outside: the bytes held by the output, where it tells them, its count of faults, and that of the
 -- input.
@@ -93,29 +91,29 @@ abbrev pub AtRead : Code → CodeCore → Type 0
 AtRead c k = (line : ℕ) × (fetch c k.now.body k.now.at ≡ Some (line, ReadOne))
 
 -- What one step did to the outside.
-abbrev pub Steps : Next CodeCore → Seen → Seen → CodeCore → End → Type 0
-Steps n old new k end.ReadFault = Appends old.held new.held [] × Rose old.input_faults new.input_faults × (new.faults ≡ old.faults)
-Steps n old new k end.WriteFault = AppendsPart old.held new.held (said n) × Rose old.faults new.faults × (new.input_faults ≡ old.input_faults)
-Steps n old new k end.NoMemory = AppendsFront old.held new.held (said n) × NoFault old new
-Steps n old new k e = Answers n k e × Appends old.held new.held (said n) × NoFault old new
+abbrev pub Steps : Modes → Next CodeCore → Seen → Seen → CodeCore → End → Type 0
+Steps modes n old new k end.ReadFault = Appends old.held new.held [] × Rose old.input_faults new.input_faults × (new.faults ≡ old.faults)
+Steps modes n old new k end.WriteFault = AppendsPart old.held new.held (said n) × Rose old.faults new.faults × (new.input_faults ≡ old.input_faults)
+Steps modes n old new k end.NoMemory = AppendsFront old.held new.held (said n) × NoFault old new
+Steps modes n old new k e = Answers modes n k e × Appends old.held new.held (said n) × NoFault old new
 
 -- a state that is reached in fewer than n steps from a core, and what the step from it says
-pub record Before (c : Code) (n : ℕ) (from : CodeCore) (s : State CodeCore) (line : List ℕ) : Type 0 where
+pub record Before (modes : Modes) (c : Code) (n : ℕ) (from : CodeCore) (s : State CodeCore) (line : List ℕ) : Type 0 where
   pub after : ℕ
   pub fewer : after < n
-  pub reached : runs.run (machine c) always after (start from) ≡ Goes s
-  pub says : line ≡ said (step (machine c) always (start s.core))
+  pub reached : runs.run (machine c) (tested modes) after (start from) ≡ Goes s
+  pub says : line ≡ said (step (machine c) (tested modes) (start s.core))
 
--- What at most n steps of a code did, from one core to another.
-abbrev pub Ran : Code → ℕ → CodeCore → Seen → Seen → CodeCore → End → Type 0
-Ran c n from old new to end.ReadFault =
-    (s : State CodeCore) × (line : List ℕ) × Before c n from s line × AtRead c s.core × Appends old.held new.held s.out × Rose old.input_faults new.input_faults × (new.faults ≡ old.faults)
-Ran c n from old new to end.WriteFault =
-    (s : State CodeCore) × (line : List ℕ) × Before c n from s line × AtPrint c s.core × AppendsPart (append_known old.held s.out) new.held line × Rose old.faults new.faults × (new.input_faults ≡ old.input_faults)
-Ran c n from old new to end.NoMemory =
-    (s : State CodeCore) × (line : List ℕ) × Before c n from s line × (length line ≡ 0 ⊎ AtPrint c s.core) × AppendsFront (append_known old.held s.out) new.held line × NoFault old new
-Ran c n from old new to e = Steps (runs.run (machine c) always n (start from)) old new to e
+-- What at most n steps of a code did, from one core to another, where these declarations count.
+abbrev pub Ran : Modes → Code → ℕ → CodeCore → Seen → Seen → CodeCore → End → Type 0
+Ran modes c n from old new to end.ReadFault =
+    (s : State CodeCore) × (line : List ℕ) × Before modes c n from s line × AtRead c s.core × Appends old.held new.held s.out × Rose old.input_faults new.input_faults × (new.faults ≡ old.faults)
+Ran modes c n from old new to end.WriteFault =
+    (s : State CodeCore) × (line : List ℕ) × Before modes c n from s line × AtPrint c s.core × AppendsPart (append_known old.held s.out) new.held line × Rose old.faults new.faults × (new.input_faults ≡ old.input_faults)
+Ran modes c n from old new to end.NoMemory =
+    (s : State CodeCore) × (line : List ℕ) × Before modes c n from s line × (length line ≡ 0 ⊎ AtPrint c s.core) × AppendsFront (append_known old.held s.out) new.held line × NoFault old new
+Ran modes c n from old new to e = Steps modes (runs.run (machine c) (tested modes) n (start from)) old new to e
 
 -- nothing was taken of the input, or a state was reached in fewer than n steps at which a `read` is in hand
-abbrev pub ReadsOnly : Code → ℕ → CodeCore → (left left' : Option (List ℕ)) → Type 0
-ReadsOnly c n from left left' = (left' ≡ left) ⊎ ((s : State CodeCore) × (line : List ℕ) × Before c n from s line × AtRead c s.core)
+abbrev pub ReadsOnly : Modes → Code → ℕ → CodeCore → (left left' : Option (List ℕ)) → Type 0
+ReadsOnly modes c n from left left' = (left' ≡ left) ⊎ ((s : State CodeCore) × (line : List ℕ) × Before modes c n from s line × AtRead c s.core)

@@ -21,23 +21,32 @@ use Rattle.setl_code.specs.CodeCore.{Operand, Result as Holds, CodeCore}
 use Rattle.setl_code.specs.Machine.{next, on_top, push_read}
 use Rattle.setl_store.specs.Standing.{Standing, over, top_of}
 use Rattle.setl_machine.specs.Control.{ControlState, in_world, stood_for}
+use Rattle.setl_machine.specs.Declaring.{Modes}
 use Rattle.setl_machine.specs.Outcome.{next_of, kind_of, Quiet}
 use Rattle.setl_machine.specs.declared.end.End.{End}
 use Rattle.setl_machine.specs.declared.end.End.TheVariants as end
 use Rattle.setl_machine.specs.declared.end.StopKind.TheVariants as kind
 
--- one that neither reads nor writes nor changes the control: whatever the world is
+-- one that stores nothing and neither reads nor writes nor changes the control: whatever is declared and the world is
 abbrev pub Works : Standing → ℕ → Instr → Standing → End → Type 0
-Works old line what new e = (new.code ≡ old.code) × ((w : World) → Quiet (next_of (plain_code old.code) line what (in_world w old.core)) (in_world w new.core) e)
+Works old line what new e = (new.code ≡ old.code) × ((modes : Modes) (w : World) → Quiet modes (next_of modes (plain_code old.code) line what (in_world w old.core)) (in_world w new.core) e)
 
--- one that neither reads nor writes: whatever is still to come from the input
+-- one that stores nothing and neither reads nor writes: whatever is declared and is still to come from the input
 abbrev pub Does : Standing → ControlState → ℕ → Instr → Standing → ControlState → End → Type 0
-Does old from line what new to e = (new.code ≡ old.code) × ((rest : List ℕ) → Quiet (next_of (plain_code old.code) line what (stood_for old.core from rest)) (stood_for new.core to rest) e)
+Does old from line what new to e = (new.code ≡ old.code) × ((modes : Modes) (rest : List ℕ) → Quiet modes (next_of modes (plain_code old.code) line what (stood_for old.core from rest)) (stood_for new.core to rest) e)
 
--- the code halts there, and the answer says how
+-- one that neither reads nor writes nor changes the control, where these declarations count: whatever the world is
+abbrev pub WorksBy : Modes → Standing → ℕ → Instr → Standing → End → Type 0
+WorksBy modes old line what new e = (new.code ≡ old.code) × ((w : World) → Quiet modes (next_of modes (plain_code old.code) line what (in_world w old.core)) (in_world w new.core) e)
+
+-- one that neither reads nor writes, where these declarations count: whatever is still to come from the input
+abbrev pub DoesBy : Modes → Standing → ControlState → ℕ → Instr → Standing → ControlState → End → Type 0
+DoesBy modes old from line what new to e = (new.code ≡ old.code) × ((rest : List ℕ) → Quiet modes (next_of modes (plain_code old.code) line what (stood_for old.core from rest)) (stood_for new.core to rest) e)
+
+-- the code halts there, and the answer says how, whatever is declared
 abbrev pub Halted : Move CodeCore → End → Type 0
 Halted (Halts e) end.Done = e ≡ run.Done
-Halted (Halts e) (end.Stopped why line) = e ≡ run.Stopped (kind_of why) line
+Halted (Halts e) (end.Stopped why line) = (modes : Modes) → e ≡ run.Stopped (kind_of modes why) line
 Halted (Halts e) end.Spent = e ≡ run.Spent
 Halted (Halts e) end.Stuck = e ≡ run.Stuck
 Halted m e = ⊥
@@ -116,8 +125,16 @@ IsQuiet (i.Print n) = ⊥
 IsQuiet i.Read = ⊥
 IsQuiet what = Unit {0}
 
+-- it tests no value by a declaration
+abbrev pub IsUntested : code.Instr → Type 0
+IsUntested (i.Store x) = ⊥
+IsUntested (i.Alter a x bs) = ⊥
+IsUntested (i.Call n) = ⊥
+IsUntested what = Unit {0}
+
 -- it changes the store alone, and rests on nothing else
 abbrev pub IsAlone : code.Instr → Type 0
+IsAlone (i.Store x) = ⊥
 IsAlone i.NewAtom = ⊥
 IsAlone i.Eof = ⊥
 IsAlone (i.Operate o n) = ⊥

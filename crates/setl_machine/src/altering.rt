@@ -1,6 +1,6 @@
 //! Updates of variables in place.
 
-ghost use Rattle.std.specs.Prelude.{◌≡◌, ◌≤◌, ◌<◌, ◌+◌, ◌^◌, ◌∷◌, [], Some, map, length, IfOk};
+ghost use Rattle.std.specs.Prelude.{◌≡◌, ◌≤◌, ◌<◌, ◌+◌, ◌^◌, ◌∷◌, [], Some, None, cond, map, option_map, length, IfOk};
 ghost use Rattle.setl_code.specs.Code.{Alter, Putting, Combining, TakingOut};
 ghost use Rattle.setl_code.specs.Machine.{selected_by};
 ghost use Rattle.setl_code.specs.MayRun.{HasSlot, CanAlter};
@@ -9,11 +9,14 @@ ghost use Rattle.setl_map.specs.Operators.{operand_count};
 ghost use Rattle.setl_store.specs.Standing.{variables};
 ghost use Rattle.setl_update.specs.Selectors.{selected};
 ghost use Rattle.setl_value.specs.DatumOf.{part};
-ghost use Rattle.setl_machine.specs.Altered.{Alters, TakesHeld, EndsUpdate};
-ghost use Rattle.setl_machine.specs.Working.{Does};
+ghost use Rattle.setl_machine.specs.Altered.{Alters, TakesHeld, StoresWhole, EndsUpdate};
+ghost use Rattle.setl_machine.specs.Declaring.{Modes, modes_of, Serves};
+ghost use Rattle.setl_machine.specs.Tables.{IsDeclared};
+ghost use Rattle.setl_machine.specs.Working.{DoesBy};
 
 use crate::control::Control;
-use crate::end::End;
+use crate::declarations::{Declaration, Declarations, kept_copy, refusal};
+use crate::end::{End, StopKind};
 use crate::operands::{end_by, go_on, pop_top};
 use setl_code::{Alteration, Bracket, Slot};
 use setl_environment::Memory;
@@ -22,104 +25,127 @@ use setl_update::{OpFault, Operator, Selector, Taking, combine_at, put_at, take_
 use setl_value::Value;
 use std::alloc::Global;
 
-/// Pops the operands of the selectors, and does to the part of a variable at them what the alteration says.
+/// The variable of an update, with its declaration where it has one.
+#[derive(Clone, Copy)]
+struct Target<'p> {
+    slot: Slot,
+    declared: Option<Declaration<'p>>,
+}
+
+/// Pops the operands of the selectors, and does to the part of a variable at them what the alteration says. A new whole
+/// that the variable's declaration refuses leaves the variable as it was, and stops the run.
 pub(crate) fn alter(
     what: Alteration,
     slot: Slot,
     brackets: &[Bracket],
     line: u32,
+    declarations: &Declarations<'_>,
     store: &mut Store<'_>,
     control: &mut Control,
 ) -> Result<End, Memory>
     requires few { store.old.core.now.at + 1 < 2 ^ 64 }
     requires there { HasSlot (length store.old.core.globals) (length store.old.core.now.own) slot }
     requires can { CanAlter what }
-    ensures did { IfOk result (λ end. Does store.old control.old line (Alter (plain_alteration what) (plain_slot (variables store.old.core) slot) (map plain_bracket brackets.now)) store.new control.new end) }
+    requires serves { Serves declarations.now store.old.code }
+    ensures did { IfOk result (λ end. DoesBy (modes_of declarations.now) store.old control.old line (Alter (plain_alteration what) (plain_slot (variables store.old.core) slot) (map plain_bracket brackets.now)) store.new control.new end) }
     ensures reader { control.new.reader ≡ control.old.reader }
 {
+    let declared = declarations.of_slot(slot, store);
     let Some(values) = store.pop_values(brackets.len())? else {
         return Ok(End::Stuck);
     };
     let at = selectors(control.alloc, brackets, values)?;
+    let target = Target { slot, declared };
     match what {
-        Alteration::Put => put(slot, at.as_slice(), line, store, control),
-        Alteration::Combine(by) => combine(by, slot, at.as_slice(), line, store, control),
-        Alteration::TakeOut(end) => take_out(end, slot, at.as_slice(), line, store, control),
+        Alteration::Put => put(target, at.as_slice(), line, store, control),
+        Alteration::Combine(by) => combine(by, target, at.as_slice(), line, store, control),
+        Alteration::TakeOut(end) => take_out(end, target, at.as_slice(), line, store, control),
     }
 }
 
 /// Pops a value and puts it at the part of a variable.
 fn put(
-    slot: Slot,
+    target: Target<'_>,
     at: &[Selector],
     line: u32,
     store: &mut Store<'_>,
     control: &mut Control,
 ) -> Result<End, Memory>
     requires few { store.old.core.now.at + 1 < 2 ^ 64 }
-    requires there { HasSlot (length store.old.core.globals) (length store.old.core.now.own) slot }
-    ensures did { IfOk result (λ end. Alters store.old control.old line Putting (plain_slot (variables store.old.core) slot) (map selected at.now) store.new control.new end) }
+    requires there { HasSlot (length store.old.core.globals) (length store.old.core.now.own) target.slot }
+    ensures did { (modes : Modes) → IsDeclared modes (plain_slot (variables store.old.core) target.entry.slot) target.entry.declared → IfOk result (λ end. Alters modes store.old control.old line Putting (plain_slot (variables store.old.core) target.entry.slot) (map selected at.now) store.new control.new end) }
     ensures reader { control.new.reader ≡ control.old.reader }
 {
     let Some(value) = pop_top(store)? else {
         return Ok(End::Stuck);
     };
-    let Some(mut whole) = take_held(slot, store)? else {
+    let Some(mut whole) = take_held(target.slot, store)? else {
         return Ok(End::Stuck);
     };
+    let kept = kept_copy(target.declared, &whole)?;
     let left = put_at(control.alloc, &mut whole, at, value, control.turns);
-    end_update(left, whole, slot, line, store, control)
+    end_update(left, whole, kept, target, line, store, control)
 }
 
 /// Pops a value and combines the part of a variable with it.
 fn combine(
     by: Operator,
-    slot: Slot,
+    target: Target<'_>,
     at: &[Selector],
     line: u32,
     store: &mut Store<'_>,
     control: &mut Control,
 ) -> Result<End, Memory>
     requires few { store.old.core.now.at + 1 < 2 ^ 64 }
-    requires there { HasSlot (length store.old.core.globals) (length store.old.core.now.own) slot }
+    requires there { HasSlot (length store.old.core.globals) (length store.old.core.now.own) target.slot }
     requires two { operand_count by ≡ Some 2 }
-    ensures did { IfOk result (λ end. Alters store.old control.old line (Combining by) (plain_slot (variables store.old.core) slot) (map selected at.now) store.new control.new end) }
+    ensures did { (modes : Modes) → IsDeclared modes (plain_slot (variables store.old.core) target.entry.slot) target.entry.declared → IfOk result (λ end. Alters modes store.old control.old line (Combining by) (plain_slot (variables store.old.core) target.entry.slot) (map selected at.now) store.new control.new end) }
     ensures reader { control.new.reader ≡ control.old.reader }
 {
     let Some(value) = pop_top(store)? else {
         return Ok(End::Stuck);
     };
-    let Some(mut whole) = take_held(slot, store)? else {
+    let Some(mut whole) = take_held(target.slot, store)? else {
         return Ok(End::Stuck);
     };
+    let kept = kept_copy(target.declared, &whole)?;
     let left = combine_at(control.alloc, by, &mut whole, at, value, control.turns);
-    end_update(left, whole, slot, line, store, control)
+    end_update(left, whole, kept, target, line, store, control)
 }
 
-/// Takes a value out of the part of a variable, and pushes it; of an empty part `om` is pushed.
+/// Takes a value out of the part of a variable, and pushes it; of an empty part `om` is pushed, and nothing is tested.
 fn take_out(
     end: Taking,
-    slot: Slot,
+    target: Target<'_>,
     at: &[Selector],
     line: u32,
     store: &mut Store<'_>,
     control: &mut Control,
 ) -> Result<End, Memory>
     requires few { store.old.core.now.at + 1 < 2 ^ 64 }
-    requires there { HasSlot (length store.old.core.globals) (length store.old.core.now.own) slot }
-    ensures did { IfOk result (λ e. Alters store.old control.old line (TakingOut end) (plain_slot (variables store.old.core) slot) (map selected at.now) store.new control.new e) }
+    requires there { HasSlot (length store.old.core.globals) (length store.old.core.now.own) target.slot }
+    ensures did { (modes : Modes) → IsDeclared modes (plain_slot (variables store.old.core) target.entry.slot) target.entry.declared → IfOk result (λ e. Alters modes store.old control.old line (TakingOut end) (plain_slot (variables store.old.core) target.entry.slot) (map selected at.now) store.new control.new e) }
     ensures reader { control.new.reader ≡ control.old.reader }
 {
-    let Some(mut whole) = take_held(slot, store)? else {
+    let Some(mut whole) = take_held(target.slot, store)? else {
         return Ok(End::Stuck);
     };
+    let kept = kept_copy(target.declared, &whole)?;
     match take_at(control.alloc, end, &mut whole, at, control.turns) {
         Ok(taken) => {
             store.push(taken.value)?;
-            end_update(Ok(taken.left), whole, slot, line, store, control)
+            let tested = tested_if(taken.stored, kept);
+            end_update(Ok(taken.left), whole, tested, target, line, store, control)
         }
-        Err(fault) => end_update(Err(fault), whole, slot, line, store, control),
+        Err(fault) => end_update(Err(fault), whole, kept, target, line, store, control),
     }
+}
+
+/// What was kept for a test, which comes where a new whole is stored.
+fn tested_if(stored: bool, kept: Option<Option<Value>>) -> Option<Option<Value>>
+    ensures { option_map part result ≡ cond stored (option_map part kept) None }
+{
+    if stored { kept } else { None }
 }
 
 /// Takes out of its slot what a variable holds. None comes where that was taken before, and then all is as before.
@@ -134,28 +160,61 @@ fn take_held(slot: Slot, store: &mut Store<'_>) -> Result<Option<Option<Value>>,
     Ok(Some(store.take_slot(slot)?))
 }
 
-/// Stores the whole of a variable, and goes on with so many turns left; or after a fault ends the run.
+/// Stores the whole of a variable, or what was kept of it where its declaration refuses the whole, and goes on with so
+/// many turns left; or after a fault ends the run.
 fn end_update(
     left: Result<u64, OpFault>,
     whole: Option<Value>,
-    slot: Slot,
+    kept: Option<Option<Value>>,
+    target: Target<'_>,
     line: u32,
     store: &mut Store<'_>,
     control: &mut Control,
 ) -> Result<End, Memory>
     requires few { store.old.core.now.at + 1 < 2 ^ 64 }
-    requires there { HasSlot (length store.old.core.globals) (length store.old.core.now.own) slot }
-    ensures did { IfOk result (λ end. EndsUpdate left line (plain_slot (variables store.old.core) slot) (part whole) store.old control.old store.new control.new end) }
+    requires there { HasSlot (length store.old.core.globals) (length store.old.core.now.own) target.slot }
+    ensures did { (modes : Modes) → IsDeclared modes (plain_slot (variables store.old.core) target.entry.slot) target.entry.declared → IfOk result (λ end. EndsUpdate modes left line (plain_slot (variables store.old.core) target.entry.slot) (part whole) (option_map part kept) store.old control.old store.new control.new end) }
     ensures reader { control.new.reader ≡ control.old.reader }
 {
-    store.set_slot(slot, whole)?;
     match left {
         Ok(left) => {
+            let end = store_whole(whole, kept, target, line, store)?;
             control.charge(control.turns.saturating_sub(left));
             go_on(store);
+            Ok(end)
+        }
+        Err(fault) => {
+            store.set_slot(target.slot, whole)?;
+            end_by(fault, line)
+        }
+    }
+}
+
+/// Stores the whole of a variable; or what was kept of it, where something was and its declaration refuses the whole, and
+/// then the run stops.
+fn store_whole(
+    whole: Option<Value>,
+    kept: Option<Option<Value>>,
+    target: Target<'_>,
+    line: u32,
+    store: &mut Store<'_>,
+) -> Result<End, Memory>
+    requires { HasSlot (length store.old.core.globals) (length store.old.core.now.own) target.slot }
+    ensures { (modes : Modes) → IsDeclared modes (plain_slot (variables store.old.core) target.entry.slot) target.entry.declared → IfOk result (λ end. StoresWhole modes line (plain_slot (variables store.old.core) target.entry.slot) (part whole) (option_map part kept) store.old store.new end) }
+{
+    let Some(kept) = kept else {
+        store.set_slot(target.slot, whole)?;
+        return Ok(End::Paused);
+    };
+    match refusal(target.declared, &whole) {
+        None => {
+            store.set_slot(target.slot, whole)?;
             Ok(End::Paused)
         }
-        Err(fault) => end_by(fault, line),
+        Some(place) => {
+            store.set_slot(target.slot, kept)?;
+            Ok(End::Stopped(StopKind::Unfit(place), line))
+        }
     }
 }
 

@@ -3,7 +3,8 @@
 ghost use Rattle.std.specs.Prelude.{◌≡◌, ℕ, ◌<◌, ◌+◌, ◌^◌, length, slice_get, Some, None, IfSome, IfNone, IfOk};
 ghost use Rattle.setl_code.specs.Code.{CallBody, ReturnTop, KeepAll, GoBack};
 ghost use Rattle.setl_code.specs.Plain.{plain_code};
-ghost use Rattle.setl_machine.specs.Working.{Works, Does, HasParameters};
+ghost use Rattle.setl_machine.specs.Declaring.{Modes, AreOfMain, IsBare};
+ghost use Rattle.setl_machine.specs.Working.{Works, Does, DoesBy, HasParameters};
 
 use crate::control::Control;
 use crate::end::{End, StopKind};
@@ -12,7 +13,8 @@ use setl_code::{Body, Code};
 use setl_environment::Memory;
 use setl_store::Store;
 
-/// Takes one turn and has the body of this number at work, with its arguments taken off the operands.
+/// Takes one turn and has the body of this number at work, with its arguments taken off the operands. No parameter is
+/// declared, so each takes every value.
 pub(crate) fn call(
     body: u32,
     line: u32,
@@ -20,7 +22,7 @@ pub(crate) fn call(
     control: &mut Control,
 ) -> Result<End, Memory>
     requires { store.old.core.now.at + 1 < 2 ^ 64 }
-    ensures did { IfOk result (λ end. Does store.old control.old line (CallBody body) store.new control.new end) }
+    ensures did { (modes : Modes) → AreOfMain modes → IsBare (plain_code store.old.code) → IfOk result (λ end. DoesBy modes store.old control.old line (CallBody body) store.new control.new end) }
     ensures reader { control.new.reader ≡ control.old.reader }
 {
     let Some(count) = parameter_count(store.code(), body) else {

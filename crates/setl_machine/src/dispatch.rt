@@ -6,13 +6,15 @@ ghost use Rattle.setl_code.specs.Plain.{plain_code, plain_instr};
 ghost use Rattle.setl_store.specs.Standing.{variables};
 ghost use Rattle.setl_machine.specs.Control.{stood_for};
 ghost use Rattle.setl_machine.specs.Outcome.{next_of, Quiet};
+ghost use Rattle.setl_machine.specs.Declaring.{modes_of, Serves};
 ghost use Rattle.setl_machine.specs.declared.end.End.{End};
-ghost use Rattle.setl_machine.specs.Working.{Works, Does, IsQuiet, IsAlone};
+ghost use Rattle.setl_machine.specs.Working.{Works, Does, DoesBy, IsQuiet, IsUntested, IsAlone};
 
 use crate::altering::alter;
 use crate::calling::{back, call, keep, leave_body};
 use crate::conditions::{decide, discard, duplicate, jump, test, unless};
 use crate::control::Control;
+use crate::declarations::Declarations;
 use crate::end::End;
 use crate::iterating::{add, begin_over, collect, leave, next, take_apart};
 use crate::operating::{operate, push_atom, push_eof, round};
@@ -27,17 +29,19 @@ use std::alloc::Global;
 pub(crate) fn quiet_step(
     what: &Instr,
     line: u32,
+    declarations: &Declarations<'_>,
     store: &mut Store<'_>,
     control: &mut Control,
 ) -> End
     requires quiet { IsQuiet what.now }
     requires few { store.old.core.now.at + 1 < 2 ^ 64 }
     requires fits { InstrFits (length store.old.core.globals) (length store.old.core.now.own) what.now }
-    ensures did { (rest : List ℕ) → Quiet (next_of (plain_code store.old.code) line (plain_instr (variables store.old.core) what.now) (stood_for store.old.core control.old rest)) (stood_for store.new.core control.new rest) result }
+    requires serves { Serves declarations.now store.old.code }
+    ensures did { (rest : List ℕ) → Quiet (modes_of declarations.now) (next_of (modes_of declarations.now) (plain_code store.old.code) line (plain_instr (variables store.old.core) what.now) (stood_for store.old.core control.old rest)) (stood_for store.new.core control.new rest) result }
     ensures code { result ≡ End.Paused → store.new.code ≡ store.old.code }
     ensures reader { control.new.reader ≡ control.old.reader }
 {
-    match do_quiet(what, line, store, control) {
+    match do_quiet(what, line, declarations, store, control) {
         Ok(end) => end,
         Err(_) => End::NoMemory,
     }
@@ -47,10 +51,42 @@ pub(crate) fn quiet_step(
 fn do_quiet(
     what: &Instr,
     line: u32,
+    declarations: &Declarations<'_>,
     store: &mut Store<'_>,
     control: &mut Control,
 ) -> Result<End, Memory>
     requires quiet { IsQuiet what.now }
+    requires few { store.old.core.now.at + 1 < 2 ^ 64 }
+    requires fits { InstrFits (length store.old.core.globals) (length store.old.core.now.own) what.now }
+    requires serves { Serves declarations.now store.old.code }
+    ensures did { IfOk result (λ end. DoesBy (modes_of declarations.now) store.old control.old line (plain_instr (variables store.old.core) what.now) store.new control.new end) }
+    ensures reader { control.new.reader ≡ control.old.reader }
+{
+    match what {
+        Instr::Store(slot) => store_in(*slot, line, declarations, store),
+        Instr::Alter(what, slot, brackets) => alter(
+            *what,
+            *slot,
+            brackets.as_slice(),
+            line,
+            declarations,
+            store,
+            control,
+        ),
+        Instr::Call(body) => call(*body, line, store, control),
+        _ => do_untested(what, line, store, control),
+    }
+}
+
+/// Does an instruction that neither reads nor writes and tests no value by a declaration. The error is want of memory.
+fn do_untested(
+    what: &Instr,
+    line: u32,
+    store: &mut Store<'_>,
+    control: &mut Control,
+) -> Result<End, Memory>
+    requires quiet { IsQuiet what.now }
+    requires untested { IsUntested what.now }
     requires few { store.old.core.now.at + 1 < 2 ^ 64 }
     requires fits { InstrFits (length store.old.core.globals) (length store.old.core.now.own) what.now }
     ensures did { IfOk result (λ end. Does store.old control.old line (plain_instr (variables store.old.core) what.now) store.new control.new end) }
@@ -60,17 +96,8 @@ fn do_quiet(
         Instr::NewAtom => push_atom(store, control),
         Instr::Eof => push_eof(store, control),
         Instr::Operate(operator, count) => operate(*operator, *count, line, store, control),
-        Instr::Alter(what, slot, brackets) => alter(
-            *what,
-            *slot,
-            brackets.as_slice(),
-            line,
-            store,
-            control,
-        ),
         Instr::Next(to) => next(*to, store, control),
         Instr::Round => round(store, control),
-        Instr::Call(body) => call(*body, line, store, control),
         Instr::Back => back(line, store, control),
         _ => do_alone(what, line, store, control.alloc),
     }
@@ -90,7 +117,6 @@ fn do_alone(what: &Instr, line: u32, store: &mut Store<'_>, alloc: Global) -> Re
         Instr::Undefined => push(None, store),
         Instr::Load(slot) => load(*slot, store),
         Instr::Take(slot) => take(*slot, store),
-        Instr::Store(slot) => store_in(*slot, line, store),
         Instr::Decide(connective, to) => decide(*connective, *to, line, store),
         Instr::TestTruth => test(line, store),
         Instr::Unless(to) => unless(*to, line, store),

@@ -1,6 +1,7 @@
 //! How a call of the machine ends.
 
-/// Why a run stops: an operator's fault, an input without a denotation (`Form`), or `fail` with nothing kept.
+/// Why a run stops: an operator's fault, an input without a denotation (`Form`), `fail` with nothing kept, or a value that
+/// doesn't fit the declaration of its variable.
 #[derive(Clone, Copy, Debug, PartialEq, Eq)]
 pub enum StopKind {
     Om,
@@ -11,6 +12,8 @@ pub enum StopKind {
     Deep,
     Form,
     Nothing,
+    /// The declaration by its place among those of the program, from 0.
+    Unfit(u32),
 }
 
 /// How a call of the machine, or one step of it, ended.

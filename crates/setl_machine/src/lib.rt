@@ -5,6 +5,7 @@ mod altering;
 mod calling;
 mod conditions;
 mod control;
+mod declarations;
 mod dispatch;
 mod end;
 mod iterating;
@@ -15,5 +16,6 @@ mod outside;
 mod variables;
 
 pub use control::Control;
+pub use declarations::Declarations;
 pub use end::{End, StopKind};
 pub use machine::{run, run_whole};

@@ -6,10 +6,12 @@ ghost use Rattle.setl_code.specs.Machine.{machine};
 ghost use Rattle.setl_code.specs.Plain.{plain_code};
 ghost use Rattle.setl_text.specs.Reads.{ahead, StaysHonest, TakesOff};
 ghost use Rattle.setl_machine.specs.Control.{stood_for, IsRest};
-ghost use Rattle.setl_machine.specs.Outcome.{always, start, seen, Steps, AtPrint, AtRead, Ran, ReadsOnly};
+ghost use Rattle.setl_machine.specs.Declaring.{modes_of, tested, Serves};
+ghost use Rattle.setl_machine.specs.Outcome.{start, seen, Steps, AtPrint, AtRead, Ran, ReadsOnly};
 ghost use Rattle.setl_machine.specs.declared.end.End.{End};
 
 use crate::control::Control;
+use crate::declarations::Declarations;
 use crate::dispatch::quiet_step;
 use crate::end::End;
 use crate::outside::{print, read};
@@ -19,22 +21,26 @@ use setl_store::Store;
 
 /// Does the next instructions, at most `steps` of them.
 ///
-/// `Paused` comes where all were done without an end, and the next call goes on from there. The bytes that the reader
-/// keeps and those of `input` together are what the code reads; each `print` is handed to `out` as one piece.
+/// A store tests its value by the declaration of its variable: one that doesn't fit leaves the variable as it was, and
+/// the run stops there. `Paused` comes where all were done without an end, and the next call goes on from there. The
+/// bytes that the reader keeps and those of `input` together are what the code reads; each `print` is handed to `out` as
+/// one piece.
 /// `ReadFault` and `WriteFault` come only where the count of faults of `input` or `out` rose: at a `read`, and at a
 /// `print`, of which a part was written. `NoMemory` comes where memory was refused.
 pub fn run<I: Source, O: Sink>(
+    declarations: &Declarations<'_>,
     store: &mut Store<'_>,
     control: &mut Control,
     steps: u64,
     input: &mut I,
     out: &mut O,
 ) -> End
-    requires { control.old.reader.fault ≡ None }
+    requires no_fault { control.old.reader.fault ≡ None }
+    requires serves { Serves declarations.now store.old.code }
     ensures ran { (rest' : List ℕ) → IsRest (ahead control.new.reader.ended (I.left input.new)) rest' →
         (rest : List ℕ) × IsRest (ahead control.old.reader.ended (I.left input.old)) rest
-        × Ran (plain_code store.old.code) steps (stood_for store.old.core control.old rest) (seen (O.held out.old) (O.faults out.old) (I.faults input.old)) (seen (O.held out.new) (O.faults out.new) (I.faults input.new)) (stood_for store.new.core control.new rest') result
-        × ReadsOnly (plain_code store.old.code) steps (stood_for store.old.core control.old rest) (I.left input.old) (I.left input.new) }
+        × Ran (modes_of declarations.now) (plain_code store.old.code) steps (stood_for store.old.core control.old rest) (seen (O.held out.old) (O.faults out.old) (I.faults input.old)) (seen (O.held out.new) (O.faults out.new) (I.faults input.new)) (stood_for store.new.core control.new rest') result
+        × ReadsOnly (modes_of declarations.now) (plain_code store.old.code) steps (stood_for store.old.core control.old rest) (I.left input.old) (I.left input.new) }
     ensures code { result ≡ End.Paused → store.new.code ≡ store.old.code }
     ensures goes_on { result ≡ End.Paused → control.new.reader.fault ≡ None }
     ensures took { TakesOff (I.left input.old) (I.left input.new) }
@@ -42,7 +48,7 @@ pub fn run<I: Source, O: Sink>(
 {
     let mut done = 0;
     while done < steps {
-        match step(store, control, input, out) {
+        match step(declarations, store, control, input, out) {
             End::Paused => done += 1,
             end => return end,
         }
@@ -54,22 +60,24 @@ pub fn run<I: Source, O: Sink>(
 ///
 /// It is as `run`, but never answers `Paused`. A run that isn't at its end after 2^64 - 1 rounds is answered as `NoMemory`.
 pub fn run_whole<I: Source, O: Sink>(
+    declarations: &Declarations<'_>,
     store: &mut Store<'_>,
     control: &mut Control,
     input: &mut I,
     out: &mut O,
 ) -> End
-    requires { control.old.reader.fault ≡ None }
+    requires no_fault { control.old.reader.fault ≡ None }
+    requires serves { Serves declarations.now store.old.code }
     ensures ran { (rest' : List ℕ) → IsRest (ahead control.new.reader.ended (I.left input.new)) rest' →
         (rest : List ℕ) × IsRest (ahead control.old.reader.ended (I.left input.old)) rest
-        × (n : ℕ) × Ran (plain_code store.old.code) n (stood_for store.old.core control.old rest) (seen (O.held out.old) (O.faults out.old) (I.faults input.old)) (seen (O.held out.new) (O.faults out.new) (I.faults input.new)) (stood_for store.new.core control.new rest') result
-        × ReadsOnly (plain_code store.old.code) n (stood_for store.old.core control.old rest) (I.left input.old) (I.left input.new) }
+        × (n : ℕ) × Ran (modes_of declarations.now) (plain_code store.old.code) n (stood_for store.old.core control.old rest) (seen (O.held out.old) (O.faults out.old) (I.faults input.old)) (seen (O.held out.new) (O.faults out.new) (I.faults input.new)) (stood_for store.new.core control.new rest') result
+        × ReadsOnly (modes_of declarations.now) (plain_code store.old.code) n (stood_for store.old.core control.old rest) (I.left input.old) (I.left input.new) }
     ensures whole { ¬ (result ≡ End.Paused) }
     ensures took { TakesOff (I.left input.old) (I.left input.new) }
     ensures honest { StaysHonest control.old.reader.ended (I.left input.old) control.new.reader.ended (I.left input.new) }
 {
     for rounds in 0..u64::MAX {
-        match run(store, control, 1000, input, out) {
+        match run(declarations, store, control, 1000, input, out) {
             End::Paused => {}
             end => return end,
         }
@@ -79,15 +87,17 @@ pub fn run_whole<I: Source, O: Sink>(
 
 /// One step.
 fn step<I: Source, O: Sink>(
+    declarations: &Declarations<'_>,
     store: &mut Store<'_>,
     control: &mut Control,
     input: &mut I,
     out: &mut O,
 ) -> End
-    requires { control.old.reader.fault ≡ None }
+    requires no_fault { control.old.reader.fault ≡ None }
+    requires serves { Serves declarations.now store.old.code }
     ensures did { (rest' : List ℕ) → IsRest (ahead control.new.reader.ended (I.left input.new)) rest' →
         (rest : List ℕ) × IsRest (ahead control.old.reader.ended (I.left input.old)) rest
-        × Steps (step (machine (plain_code store.old.code)) always (start (stood_for store.old.core control.old rest))) (seen (O.held out.old) (O.faults out.old) (I.faults input.old)) (seen (O.held out.new) (O.faults out.new) (I.faults input.new)) (stood_for store.new.core control.new rest') result }
+        × Steps (modes_of declarations.now) (step (machine (plain_code store.old.code)) (tested (modes_of declarations.now)) (start (stood_for store.old.core control.old rest))) (seen (O.held out.old) (O.faults out.old) (I.faults input.old)) (seen (O.held out.new) (O.faults out.new) (I.faults input.new)) (stood_for store.new.core control.new rest') result }
     ensures prints { result ≡ End.WriteFault → AtPrint (plain_code store.old.code) store.old.core }
     ensures reads { result ≡ End.ReadFault → AtRead (plain_code store.old.code) store.old.core }
     ensures reads_only { (I.left input.new ≡ I.left input.old) ⊎ AtRead (plain_code store.old.code) store.old.core }
@@ -102,6 +112,6 @@ fn step<I: Source, O: Sink>(
     match &step.what {
         Instr::Print(count) => print(*count, store, control, out),
         Instr::Read => read(step.line, store, control, input),
-        what => quiet_step(what, step.line, store, control),
+        what => quiet_step(what, step.line, declarations, store, control),
     }
 }

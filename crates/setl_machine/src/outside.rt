@@ -9,6 +9,7 @@ ghost use Rattle.setl_code.specs.Plain.{plain_code};
 ghost use Rattle.setl_model.specs.World.{World};
 ghost use Rattle.setl_text.specs.Reads.{ahead, SourceCounts, StaysHonest, TakesOff};
 ghost use Rattle.setl_machine.specs.Control.{world_of, in_world, stood_for, IsRest};
+ghost use Rattle.setl_machine.specs.Declaring.{Modes};
 ghost use Rattle.setl_machine.specs.Outcome.{next_of, seen, Steps};
 ghost use Rattle.setl_machine.specs.Working.{TakesIn, EndsReading};
 ghost use Rattle.setl_machine.specs.declared.end.End.{End};
@@ -30,7 +31,7 @@ pub(crate) fn print<O: Sink>(
     out: &mut O,
 ) -> End
     requires { store.old.core.now.at + 1 < 2 ^ 64 }
-    ensures did { (line : ℕ) (w : World) (n : ℕ) → Steps (next_of (plain_code store.old.code) line (PrintTop count) (in_world w store.old.core)) (seen (O.held out.old) (O.faults out.old) n) (seen (O.held out.new) (O.faults out.new) n) (in_world w store.new.core) result }
+    ensures did { (modes : Modes) (line : ℕ) (w : World) (n : ℕ) → Steps modes (next_of modes (plain_code store.old.code) line (PrintTop count) (in_world w store.old.core)) (seen (O.held out.old) (O.faults out.old) n) (seen (O.held out.new) (O.faults out.new) n) (in_world w store.new.core) result }
     ensures code { result ≡ End.Paused → store.new.code ≡ store.old.code }
     ensures no_read { result ≡ End.ReadFault → ⊥ }
 {
@@ -61,9 +62,9 @@ pub(crate) fn read<I: Source>(
 ) -> End
     requires few { store.old.core.now.at + 1 < 2 ^ 64 }
     requires no_fault { control.old.reader.fault ≡ None }
-    ensures did { (held : _) (n : ℕ) (rest' : List ℕ) → IsRest (ahead control.new.reader.ended (I.left input.new)) rest' →
+    ensures did { (modes : Modes) (held : _) (n : ℕ) (rest' : List ℕ) → IsRest (ahead control.new.reader.ended (I.left input.new)) rest' →
         (rest : List ℕ) × IsRest (ahead control.old.reader.ended (I.left input.old)) rest
-        × Steps (next_of (plain_code store.old.code) line ReadOne (stood_for store.old.core control.old rest)) (seen held n (I.faults input.old)) (seen held n (I.faults input.new)) (stood_for store.new.core control.new rest') result }
+        × Steps modes (next_of modes (plain_code store.old.code) line ReadOne (stood_for store.old.core control.old rest)) (seen held n (I.faults input.old)) (seen held n (I.faults input.new)) (stood_for store.new.core control.new rest') result }
     ensures code { result ≡ End.Paused → store.new.code ≡ store.old.code }
     ensures no_write { result ≡ End.WriteFault → ⊥ }
     ensures goes_on { result ≡ End.Paused → control.new.reader.fault ≡ None }

@@ -7,9 +7,11 @@ ghost use Rattle.setl_code.specs.Plain.{plain_slot};
 ghost use Rattle.setl_store.specs.Standing.{variables};
 ghost use Rattle.setl_value.specs.Datum.{int, text};
 ghost use Rattle.setl_value.specs.DatumOf.{part};
-ghost use Rattle.setl_machine.specs.Working.{Works};
+ghost use Rattle.setl_machine.specs.Declaring.{modes_of, Serves};
+ghost use Rattle.setl_machine.specs.Working.{Works, WorksBy};
 
-use crate::end::End;
+use crate::declarations::{Declarations, refusal};
+use crate::end::{End, StopKind};
 use crate::operands::{go_on, pop_top};
 use setl_code::Slot;
 use setl_environment::Memory;
@@ -81,15 +83,26 @@ pub(crate) fn take(slot: Slot, store: &mut Store<'_>) -> Result<End, Memory>
     Ok(End::Paused)
 }
 
-/// Pops the top into a variable.
-pub(crate) fn store_in(slot: Slot, line: u32, store: &mut Store<'_>) -> Result<End, Memory>
+/// Pops the top into a variable. A value that its declaration refuses leaves the variable as it was, and stops the run.
+pub(crate) fn store_in(
+    slot: Slot,
+    line: u32,
+    declarations: &Declarations<'_>,
+    store: &mut Store<'_>,
+) -> Result<End, Memory>
     requires few { store.old.core.now.at + 1 < 2 ^ 64 }
     requires there { HasSlot (length store.old.core.globals) (length store.old.core.now.own) slot }
-    ensures { IfOk result (λ end. Works store.old line (StoreIn (plain_slot (variables store.old.core) slot)) store.new end) }
+    requires serves { Serves declarations.now store.old.code }
+    ensures { IfOk result (λ end. WorksBy (modes_of declarations.now) store.old line (StoreIn (plain_slot (variables store.old.core) slot)) store.new end) }
 {
+    let declared = declarations.of_slot(slot, store);
     let Some(value) = pop_top(store)? else {
         return Ok(End::Stuck);
     };
+    if let Some(place) = refusal(declared, &value) {
+        go_on(store);
+        return Ok(End::Stopped(StopKind::Unfit(place), line));
+    }
     store.set_slot(slot, value)?;
     go_on(store);
     Ok(End::Paused)

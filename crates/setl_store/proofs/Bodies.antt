@@ -15,7 +15,8 @@ use Rattle.setl_code.specs.Code as plain
 use Rattle.setl_code.specs.CodeCore.{Held, CodeCore, held, held_in, with_held, write, variables_of}
 use Rattle.setl_code.specs.Plain.{plain_name, own_variables, variable_at, plain_body, plain_bodies, plain_code}
 use Rattle.setl_code.specs.MayRun.{Differ, StepsFit, BodiesFit, MayRun}
-use Rattle.setl_store.specs.Flat.{names_of, variables_by}
+use Rattle.setl_store.specs.Flat.{names_of}
+use Rattle.setl_store.specs.Standing.{variables_by}
 
 -- ---- variables of a body
 

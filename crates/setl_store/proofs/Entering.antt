@@ -25,9 +25,9 @@ use Rattle.setl_code.specs.Plain.{plain_body, plain_code, plain_name}
 use Rattle.setl_store.specs.declared.cells.Frame.{Frame}
 use Rattle.setl_store.specs.declared.cells.Held.{Held as Slot}
 use Rattle.setl_store.specs.Bodies.{with_stores, entered}
-use Rattle.setl_store.specs.Flat.{Here, held_of, operand_of, cells, variables_by, names_of, helds, results, activation, callers, core_of, copy_of, stands, own_count_of, IsShaped, IsSound, AllSound}
+use Rattle.setl_store.specs.Flat.{Here, held_of, operand_of, cells, names_of, helds, results, activation, callers, core_of, copy_of, stands, own_count_of, IsShaped, IsSound, AllSound}
 use Rattle.setl_store.specs.Returning.{parameter_count_of, name_count_of}
-use Rattle.setl_store.specs.Standing.{Standing, no_world, started}
+use Rattle.setl_store.specs.Standing.{Standing, no_world, started, variables_by}
 use Rattle.setl_store.proofs.Bodies.{body_at, names_same, names_differ, own_by}
 use Rattle.setl_store.proofs.OperandLists.{Changed, changed}
 use Rattle.setl_store.proofs.Slots.{or_false, cells_agree, Innermost, innermost, innermost_of, sizes}

@@ -29,9 +29,9 @@ use Rattle.setl_store.specs.declared.cells.Held.{Held as Slot}
 use Rattle.setl_store.specs.declared.cells.Operand.{Operand}
 use Rattle.setl_store.specs.declared.cells.Operand.TheVariants as operand
 use Rattle.setl_store.specs.Bodies.{left, left_for}
-use Rattle.setl_store.specs.Flat.{Here, cells, variables_by, names_of, held_of, helds, operand_of, results, body_in, slots_in, lowest_in, own_in, operands_in, activation, callers, core_of, copy_of, stands, own_count_of, GotThese, AllGot, HasMembers, members_below, IsShaped, IsSound, AllSound, with_operand}
+use Rattle.setl_store.specs.Flat.{Here, cells, names_of, held_of, helds, operand_of, results, body_in, slots_in, lowest_in, own_in, operands_in, activation, callers, core_of, copy_of, stands, own_count_of, GotThese, AllGot, HasMembers, members_below, IsShaped, IsSound, AllSound, with_operand}
 use Rattle.setl_store.specs.Returning.{operand_by, pushed_on, handed, handed_by, handed_in, Hands, parameter_count_of}
-use Rattle.setl_store.specs.Standing.{Standing, no_world, over}
+use Rattle.setl_store.specs.Standing.{Standing, no_world, variables_by, over}
 use Rattle.setl_store.proofs.Bodies.{body_at, names_same, names_differ}
 use Rattle.setl_store.proofs.Entering.{among_left, core_over}
 use Rattle.setl_store.proofs.OperandLists.{has_below, below_within, cut_results, got_take, Changed, pushes}

@@ -14,7 +14,7 @@ use Rattle.setl_code.specs.Machine.{body_steps, fetch}
 use Rattle.setl_code.specs.MayRun.{InstrFits, StepsFit, MayRun}
 use Rattle.setl_code.specs.Plain.{Variables, plain_body, plain_step, plain_code, plain_name}
 use Rattle.setl_store.specs.Flat.{Here, step_of, own_count_of, body_in, cells, own_in, helds, results, core_of, stands, IsSound, AllSound}
-use Rattle.setl_store.specs.Standing.{Standing, variables}
+use Rattle.setl_store.specs.Standing.{Standing, variables, variables_in}
 use Rattle.setl_store.proofs.Bodies.{own_by, BodyFits, body_at, body_fits, names_same}
 use Rattle.setl_store.proofs.Slots.{Innermost, innermost, innermost_of, sizes}
 
@@ -34,13 +34,22 @@ fetched code n at =
 
 -- ---- the variables in hand
 
-variables_by : (code : Code) (at : ℕ) (e : Here) (kept : List (Here × ℕ)) → Innermost (plain_code code) e →
+variables_here : (code : Code) (at : ℕ) (e : Here) (kept : List (Here × ℕ)) → Innermost (plain_code code) e →
     variables (core_of (plain_code code) at e kept) ≡ variables_by_slots code (body_in (reverse e.activations)) (slice_get code.bodies (body_in (reverse e.activations)))
-variables_by code at e kept (innermost f fs is h) =
+variables_here code at e kept (innermost f fs is h) =
     let c = plain_code code in
     let z = sizes c f fs (helds e) (length (results e)) h in
     subst (λ l. record { global = map (λ s. s.0) (cells c.vars (helds e)); own = map (λ s. s.0) (own_in c l (helds e)) } ≡ variables_by_slots code (body_in l) (slice_get code.bodies (body_in l))) (sym is)
     (λ i. record { global = z.globals_are i; own = (z.own_are ∙ names_same code f.body) i })
+
+-- what the body at work has in hand
+pub at_work : (code : Code) (at : ℕ) (e : Here) (kept : List (Here × ℕ)) (s : Standing) (n : ℕ) → IsSound (plain_code code) e → stands code at e kept ≡ s → n ≡ body_in (reverse e.activations) → variables s.core ≡ variables_in (plain_code s.code) n
+at_work code at e kept s n h is number =
+    let m = body_in (reverse e.activations) in
+    subst (λ (t : Standing). variables t.core ≡ variables_in (plain_code t.code) n) is
+    (variables_here code at e kept (innermost_of (plain_code code) e h)
+    ∙ (λ i. record { global = map Global code.vars; own = sym (names_same code m) i })
+    ∙ ap (variables_in (plain_code code)) (sym number))
 
 -- ---- the step in hand of a store
 
@@ -51,7 +60,7 @@ step_found code at e kept s n x h is number found =
     subst (λ (t : Standing). fetch (plain_code t.code) t.core.now.body t.core.now.at ≡ Some (plain_step (variables t.core) x)) is
     (fetched code m at
     ∙ ap (option_map (plain_step (variables_by_slots code m (slice_get code.bodies m)))) (subst (λ k. step_of (slice_get code.bodies k) at ≡ Some x) number found)
-    ∙ ap (λ v. Some (plain_step v x)) (sym (variables_by code at e kept (innermost_of (plain_code code) e h))))
+    ∙ ap (λ v. Some (plain_step v x)) (sym (variables_here code at e kept (innermost_of (plain_code code) e h))))
 
 no_step : (code : Code) (at : ℕ) (e : Here) (kept : List (Here × ℕ)) (s : Standing) (n : ℕ) → stands code at e kept ≡ s → n ≡ body_in (reverse e.activations) →
     step_of (slice_get code.bodies n) at ≡ None → fetch (plain_code s.code) s.core.now.body s.core.now.at ≡ None

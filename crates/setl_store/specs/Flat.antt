@@ -16,14 +16,14 @@ use Rattle.setl_code.specs.declared.code.Slot.TheVariants as slot
 use Rattle.setl_code.specs.Code as plain
 use Rattle.setl_code.specs.Plain.{plain_code}
 use Rattle.setl_code.specs.CodeCore as core
-use Rattle.setl_code.specs.CodeCore.{Cells, variables_of, Activation, Copy, CodeCore}
+use Rattle.setl_code.specs.CodeCore.{Cells, Activation, Copy, CodeCore}
 use Rattle.setl_store.specs.declared.cells.Held.{Held}
 use Rattle.setl_store.specs.declared.cells.Held.TheVariants as held
 use Rattle.setl_store.specs.declared.cells.Operand.{Operand}
 use Rattle.setl_store.specs.declared.cells.Operand.TheVariants as operand
 use Rattle.setl_store.specs.declared.cells.Frame.{Frame}
 use Rattle.setl_store.specs.declared.cells.Member.{Member}
-use Rattle.setl_store.specs.Standing.{Standing, no_world, iterator_by}
+use Rattle.setl_store.specs.Standing.{Standing, no_world, variables_by, iterator_by}
 
 -- ---- slots
 
@@ -37,11 +37,6 @@ abbrev pub cells : List Variable → List core.Held → Cells
 cells [] hs = []
 cells (x ∷ xs) [] = []
 cells (x ∷ xs) (h ∷ hs) = (x, h) ∷ cells xs hs
-
--- the variables of a body
-abbrev pub variables_by : ℕ → Option plain.Body → List Variable
-variables_by n None = []
-variables_by n (Some b) = variables_of n b
 
 abbrev pub names_of : plain.Code → ℕ → List Variable
 names_of c n = variables_by n (slice_get c.bodies n)

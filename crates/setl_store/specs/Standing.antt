@@ -6,8 +6,11 @@ use Rattle.setl_value.specs.DatumOf.{datum}
 use Rattle.setl_model.specs.Core.{Item}
 use Rattle.setl_model.specs.World.{World}
 use Rattle.setl_code.specs.declared.code.Code.{Code}
+use Rattle.setl_run.specs.Variable.{Variable}
+use Rattle.setl_code.specs.Code as plain
+use Rattle.setl_code.specs.Code.{Body}
 use Rattle.setl_code.specs.Plain.{Variables, plain_code}
-use Rattle.setl_code.specs.CodeCore.{cleared, Copy, Held, There, Gone, Operand, Result as Holds, Iterator, PairIterator, Collecting, value_of, CodeCore}
+use Rattle.setl_code.specs.CodeCore.{cleared, variables_of, Copy, Held, There, Gone, Operand, Result as Holds, Iterator, PairIterator, Collecting, value_of, CodeCore}
 use Rattle.setl_store.specs.declared.store.Content.{Content}
 use Rattle.setl_store.specs.declared.store.Content.TheVariants as content
 use Rattle.setl_store.specs.declared.store.Top.{Top}
@@ -39,6 +42,15 @@ started c = record {
 -- the variables in hand, by their slots
 abbrev pub variables : CodeCore → Variables
 variables k = record { global = map (λ c. c.0) k.globals; own = map (λ c. c.0) k.now.own }
+
+-- the variables of a body
+abbrev pub variables_by : ℕ → Option Body → List Variable
+variables_by n None = []
+variables_by n (Some b) = variables_of n b
+
+-- the variables that the body of this number has in hand
+abbrev pub variables_in : plain.Code → ℕ → Variables
+variables_in c n = record { global = c.vars; own = variables_by n (slice_get c.bodies n) }
 
 -- the same with these operands, the top first
 abbrev pub over : List Operand → CodeCore → CodeCore

@@ -8,7 +8,7 @@ ghost use Rattle.setl_value.specs.DatumOf.{part};
 ghost use Rattle.setl_store.specs.Bodies.{entered, left, Leaves};
 ghost use Rattle.setl_store.specs.Flat.{step_of};
 ghost use Rattle.setl_store.specs.Returning.{name_count_of, parameter_count_of};
-ghost use Rattle.setl_store.specs.Standing.{started, variables};
+ghost use Rattle.setl_store.specs.Standing.{started, variables, variables_in};
 
 use crate::activations::{
     add_activation, add_cleared, add_operands, drop_activation, innermost, members_of_lower,
@@ -58,6 +58,14 @@ impl<'c> Store<'c> {
         ensures { result.now ≡ self.now.code }
     {
         self.code
+    }
+
+    /// The number of the body at work. It takes no memory.
+    pub fn body(&self) -> u32
+        ensures number { result ≡ self.now.core.now.body }
+        ensures variables { variables self.now.core ≡ variables_in (plain_code self.now.code) result }
+    {
+        innermost(&self.environment).body
     }
 
     /// The step in hand, if there is one. It takes no memory.

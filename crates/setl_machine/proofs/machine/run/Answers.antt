@@ -1,5 +1,6 @@
-use Rattle.std.proofs.Common.{◌≡◌, ◌∙◌, ◌+◌, refl, ap, subst, arith}
+use Rattle.std.proofs.Common.{◌≡◌, ◌∙◌, ◌+◌, refl, sym, ap, subst, arith}
 use Rattle.setl_code.specs.Plain.{plain_code}
+use Rattle.setl_machine.specs.Declaring.{modes_of, Serves}
 use Rattle.setl_machine.specs.declared.end.End.TheVariants.{Paused}
 use Rattle.setl_machine.proofs.Rounds.{moment, Runs, runs_on, runs_longer, takes_then, honest_then}
 use Rattle.setl_machine.proofs.machine.run.Goals as goal
@@ -15,7 +16,7 @@ loop-done-preserved g c =
     let mid = moment l.store.core l.control (g.O.Sink.held l.out) (g.O.Sink.faults l.out) (g.I.Source.faults l.input) (g.I.Source.left l.input) in
     let new = moment n.store.core n.control (g.O.Sink.held n.out) (g.O.Sink.faults n.out) (g.I.Source.faults n.input) (g.I.Source.left n.input) in
     record {
-      ran = runs_on (plain_code s.code) (plain_code l.store.code) l.done old mid new Paused (ap plain_code i.code) i.ran a.did a.reads a.prints a.reads_only;
+      ran = runs_on (modes_of c.args.declarations.now) (plain_code s.code) (plain_code l.store.code) l.done old mid new Paused (ap plain_code i.code) i.ran a.did a.reads a.prints a.reads_only;
       code = a.code refl ∙ i.code;
       no_fault = a.goes_on refl;
       took = takes_then old.left mid.left new.left i.took a.took;
@@ -35,7 +36,7 @@ returns-in_default g c =
     let new = moment n.store.core n.control (g.O.Sink.held n.out) (g.O.Sink.faults n.out) (g.I.Source.faults n.input) (g.I.Source.left n.input) in
     let ne = c.in_default.not-Paused in
     record {
-      ran = runs_longer (plain_code s.code) (l.done + 1) c.args.steps old new c.step.result ne (omega arith) (runs_on (plain_code s.code) (plain_code l.store.code) l.done old mid new c.step.result (ap plain_code i.code) i.ran a.did a.reads a.prints a.reads_only);
+      ran = runs_longer (modes_of c.args.declarations.now) (plain_code s.code) (l.done + 1) c.args.steps old new c.step.result ne (omega arith) (runs_on (modes_of c.args.declarations.now) (plain_code s.code) (plain_code l.store.code) l.done old mid new c.step.result (ap plain_code i.code) i.ran a.did a.reads a.prints a.reads_only);
       code = λ e. absurd (ne e);
       goes_on = λ e. absurd (ne e);
       took = takes_then old.left mid.left new.left i.took a.took;
@@ -49,4 +50,7 @@ returns-clause-ran g c =
     let old = moment s.core c.args.control.now (g.O.Sink.held c.args.out.now) (g.O.Sink.faults c.args.out.now) (g.I.Source.faults c.args.input.now) (g.I.Source.left c.args.input.now) in
     let now = moment l.store.core l.control (g.O.Sink.held l.out) (g.O.Sink.faults l.out) (g.I.Source.faults l.input) (g.I.Source.left l.input) in
     let all : l.done ≡ c.args.steps = omega arith in
-    subst (λ n. Runs (plain_code s.code) n old now Paused) all l.invariant.ran
+    subst (λ n. Runs (modes_of c.args.declarations.now) (plain_code s.code) n old now Paused) all l.invariant.ran
+
+pub step-requires-clause-serves : goal.step-requires-clause-serves
+step-requires-clause-serves g c = subst (λ d. Serves c.args.declarations.now d) (sym c.loop-done.invariant.code) c.requires.serves

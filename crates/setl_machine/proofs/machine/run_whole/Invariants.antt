@@ -1,6 +1,7 @@
 use Rattle.std.proofs.Common.{◌≡◌, ◌*◌, None}
 use Rattle.setl_code.specs.Plain.{plain_code}
 use Rattle.setl_text.specs.Reads.{StaysHonest, TakesOff}
+use Rattle.setl_machine.specs.Declaring.{modes_of}
 use Rattle.setl_machine.specs.declared.end.End.TheVariants.{Paused}
 use Rattle.setl_machine.proofs.Rounds.{moment, Runs}
 use Rattle.setl_machine.proofs.machine.run_whole.Given as goal
@@ -10,7 +11,7 @@ invariant-loop-rounds g l =
     let old = moment l.fn.store.core l.fn.control (g.O.Sink.held l.fn.out) (g.O.Sink.faults l.fn.out) (g.I.Source.faults l.fn.input) (g.I.Source.left l.fn.input) in
     let now = moment l.store.core l.control (g.O.Sink.held l.out) (g.O.Sink.faults l.out) (g.I.Source.faults l.input) (g.I.Source.left l.input) in
     record {
-      ran : Runs (plain_code l.fn.store.code) (l.rounds * 1000) old now Paused;
+      ran : Runs (modes_of l.declarations) (plain_code l.fn.store.code) (l.rounds * 1000) old now Paused;
       code : l.store.code ≡ l.fn.store.code;
       no_fault : l.control.reader.fault ≡ None;
       took : TakesOff old.left now.left;

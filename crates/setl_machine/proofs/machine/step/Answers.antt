@@ -6,6 +6,7 @@ use Rattle.setl_code.specs.Plain.{plain_code, plain_instr}
 use Rattle.setl_store.specs.Standing.{variables}
 use Rattle.setl_text.specs.Reads.{ReaderState, ahead}
 use Rattle.setl_machine.specs.Control.{world_of, stood_for, IsRest}
+use Rattle.setl_machine.specs.Declaring.{modes_of}
 use Rattle.setl_machine.specs.Outcome.{seen, next_of}
 use Rattle.setl_machine.proofs.Stays.{takes_none}
 use Rattle.setl_machine.proofs.Stepping.{in_hand, by_step, quiet_steps, quiet_no_write, quiet_no_read, stays_honest}
@@ -22,7 +23,7 @@ returns-in-Print-clause-did g c =
     let new = seen (g.O.Sink.held c.print.new.out) (g.O.Sink.faults c.print.new.out) faults in
     λ rest h.
     let w = world_of c.args.control.now rest in
-    (rest, h, by_step m (stood_for s.core c.args.control.now rest) (stood_for c.print.new.store.core c.args.control.now rest) line (PrintTop c.in-Print.count) old new c.print.result here (c.print.ensures.did line w faults))
+    (rest, h, by_step (modes_of c.args.declarations.now) m (stood_for s.core c.args.control.now rest) (stood_for c.print.new.store.core c.args.control.now rest) line (PrintTop c.in-Print.count) old new c.print.result here (c.print.ensures.did (modes_of c.args.declarations.now) line w faults))
 
 pub returns-in-Read-clause-did : goal.returns-in-Read-clause-did
 returns-in-Read-clause-did g c =
@@ -35,8 +36,8 @@ returns-in-Read-clause-did g c =
     let old = seen held faults (g.I.Source.faults c.args.input.now) in
     let new = seen held faults (g.I.Source.faults c.read.new.input) in
     λ rest h.
-    let did = c.read.ensures.did held faults rest h in
-    (did.0, did.1, by_step m (stood_for s.core c.args.control.now did.0) (stood_for c.read.new.store.core c.read.new.control rest) line ReadOne old new c.read.result here did.2)
+    let did = c.read.ensures.did (modes_of c.args.declarations.now) held faults rest h in
+    (did.0, did.1, by_step (modes_of c.args.declarations.now) m (stood_for s.core c.args.control.now did.0) (stood_for c.read.new.store.core c.read.new.control rest) line ReadOne old new c.read.result here did.2)
 
 pub returns-in_default-what : goal.returns-in_default-what
 returns-in_default-what g c =
@@ -53,13 +54,13 @@ returns-in_default-what g c =
           let to = stood_for c.quiet_step.new.store.core c.quiet_step.new.control rest in (
             rest,
             subst (λ (r : ReaderState). IsRest (ahead r.ended left) rest) reader h,
-            by_step m k to line what now now c.quiet_step.result c.in-Some.ensures.some (quiet_steps (next_of m line what k) to now c.quiet_step.result (c.quiet_step.ensures.did rest)),
+            by_step (modes_of c.args.declarations.now) m k to line what now now c.quiet_step.result c.in-Some.ensures.some (quiet_steps (modes_of c.args.declarations.now) (next_of (modes_of c.args.declarations.now) m line what k) to now c.quiet_step.result (c.quiet_step.ensures.did rest)),
           );
-      prints = λ e. absurd (quiet_no_write (next_of m line what (stood_for s.core c.args.control.now [])) (stood_for c.quiet_step.new.store.core c.quiet_step.new.control []) c.quiet_step.result (c.quiet_step.ensures.did []) e);
-      reads = λ e. absurd (quiet_no_read (next_of m line what (stood_for s.core c.args.control.now [])) (stood_for c.quiet_step.new.store.core c.quiet_step.new.control []) c.quiet_step.result (c.quiet_step.ensures.did []) e);
+      prints = λ e. absurd (quiet_no_write (modes_of c.args.declarations.now) (next_of (modes_of c.args.declarations.now) m line what (stood_for s.core c.args.control.now [])) (stood_for c.quiet_step.new.store.core c.quiet_step.new.control []) c.quiet_step.result (c.quiet_step.ensures.did []) e);
+      reads = λ e. absurd (quiet_no_read (modes_of c.args.declarations.now) (next_of (modes_of c.args.declarations.now) m line what (stood_for s.core c.args.control.now [])) (stood_for c.quiet_step.new.store.core c.quiet_step.new.control []) c.quiet_step.result (c.quiet_step.ensures.did []) e);
       reads_only = inl refl;
       code = c.quiet_step.ensures.code;
-      goes_on = λ e. ap (λ (r : ReaderState). r.fault) reader ∙ c.requires;
+      goes_on = λ e. ap (λ (r : ReaderState). r.fault) reader ∙ c.requires.no_fault;
       took = takes_none left;
       honest = stays_honest c.args.control.now.reader c.quiet_step.new.control.reader left reader;
     }
