@@ -13,3 +13,4 @@ pub mod Storing
 pub mod Altered
 pub mod Places
 pub mod Finding
+pub mod Ending

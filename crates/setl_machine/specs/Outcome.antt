@@ -65,6 +65,10 @@ abbrev pub Quiet : Modes → Next CodeCore → CodeCore → End → Type 0
 Quiet modes n k end.NoMemory = Unit {0}
 Quiet modes n k e = Answers modes n k e × (said n ≡ [])
 
+-- a step that ends a run writes nothing
+abbrev pub EndsWriteNothing : Type 0
+EndsWriteNothing = (c : Code) (modes : Modes) (k : CodeCore) (e : run.End) (s : State CodeCore) → step (machine c) (tested modes) (start k) ≡ Ends e s → s.out ≡ []
+
 -- What is seen of the outside: the bytes held by the output, where it tells them, its count of faults, and that of the
 -- input.
 pub record Seen : Type 0 where

@@ -2,7 +2,7 @@
 ghost use Rattle.std.specs.Prelude.{◌≡◌, ◌≢◌, [], IfOk, map, string_bytes};
 ghost use Rattle.clap.specs.Words.{kind_of};
 ghost use Rattle.clap.specs.declared.error.ErrorKind.TheVariants.{OutOfMemory};
-ghost use Rattle.setl_words.specs.Told.{Tells};
+ghost use Rattle.setl_words.specs.Told.{IsToldOf};
 
 use crate::line::commands;
 use clap::Error;
@@ -16,7 +16,7 @@ const NOT_PLAIN: &str = "not of the plain form\n";
 /// it refuses them, also where they ask for help, and otherwise the line `not of the plain form`. The error is want of
 /// memory.
 pub fn fault_text(alloc: Global, words: &[String]) -> Result<String, AllocError>
-    ensures { IfOk result (λ text. Tells (map string_bytes words.now) (string_bytes text)) }
+    ensures { IfOk result (λ text. IsToldOf (map string_bytes words.now) (string_bytes text)) }
 {
     let parsed = commands(alloc)?.try_get_matches_from(words);
     match parsed {
