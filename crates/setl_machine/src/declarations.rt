@@ -16,6 +16,7 @@ use crate::operands::copied;
 use indexmap::IndexMap;
 use setl_code::{Code, OwnName, Slot};
 use setl_environment::Memory;
+use setl_fit::fits;
 use setl_modes::Mode;
 use setl_program::{Declared, Variable};
 use setl_store::Store;
@@ -249,16 +250,5 @@ pub(crate) fn kept_copy(
     match declared {
         None => Ok(None),
         Some(_) => Ok(Some(copied(value)?)),
-    }
-}
-
-// STAND-IN: setl_fit::fits
-fn fits(mode: &Mode, value: &Option<Value>) -> bool
-    ensures { result ≡ mode_fits (mode_of mode.now) (part value.now) }
-{
-    match (mode, value) {
-        (Mode::General, _) => true,
-        (_, None) => true,
-        _ => false,
     }
 }

@@ -35,6 +35,12 @@ impl Left {
         self.has(status, out.as_bytes(), err)
     }
 
+    /// Whether the call answered so, the output gained nothing, and the error output gained some other text.
+    pub fn is_told_in_other_words(&self, status: Status) -> bool {
+        let told = !self.err.is_empty() && self.err.as_slice() != b"not of the plain form\n";
+        self.status == status && self.out.is_empty() && told
+    }
+
     /// The same for an output as bytes.
     pub fn has(&self, status: Status, out: &[u8], err: &str) -> bool {
         let told = self.err.as_slice() == err.as_bytes();

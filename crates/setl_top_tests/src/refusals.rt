@@ -249,25 +249,37 @@ fn each_rule_is_told_and_a_neighbour_keeps_it(rt: HostRuntime) -> Result<(), Fai
     Ok(())
 }
 
-/// Words of no plain form.
-const OTHER_WORDS: [&str; 10] = [
+/// Words of no plain form that the library for command lines refuses in its own words.
+const OTHER_WORDS: [&str; 9] = [
     "",
     "run",
     "check",
     "run x y",
     "check x y",
-    "run --turns 07 x",
     "run -x",
     "check -x",
     "checks a",
     "--help",
 ];
 
+/// Words of no plain form that it takes.
+const UNPLAIN_WORDS: [&str; 5] = [
+    "run --turns 07 a",
+    "run --turns=5 a",
+    "run --turns 9223372036854775808 a",
+    "run a --unbased",
+    "run -- a",
+];
+
 #[test]
-fn other_words_are_told_by_the_status_alone(rt: HostRuntime) -> Result<(), Fail> {
+fn other_words_are_told_on_the_error_output_alone(rt: HostRuntime) -> Result<(), Fail> {
     for line in OTHER_WORDS {
         let left = answer(rt.alloc(), line, "program p; end program;")?;
-        assert!(rt; left.is(Status::Words, "", ""), "at {line}");
+        assert!(rt; left.is_told_in_other_words(Status::Words), "at {line}");
+    }
+    for line in UNPLAIN_WORDS {
+        let left = answer(rt.alloc(), line, "program p; end program;")?;
+        assert!(rt; left.is(Status::Words, "", "not of the plain form\n"), "at {line}");
     }
     assert_eq!(rt; Status::Words.number(), 2);
     Ok(())

@@ -1,22 +1,10 @@
--- What the code holds while it reads options, and the values that its types stand for.
+-- What the code holds while it reads options.
 use Rattle.std.specs.Prelude.{◌≡◌, ℕ, true, false, List, [], ◌∷◌, Some, None, ⊤}
 use Rattle.std.specs.List.{flat_map, fold}
-use Rattle.setl_words.specs.Words as words
 use Rattle.setl_words.specs.Words.{RunOption, Unbased, Turns, option_words, AreOptions}
 use Rattle.setl_words.specs.declared.given.Given.{Given}
 use Rattle.setl_words.specs.declared.given.RunOption.{RunOption as Read}
 use Rattle.setl_words.specs.declared.given.RunOption.TheVariants as read
-use Rattle.setl_words.specs.declared.reading.Options.{Options}
-use Rattle.setl_words.specs.declared.reading.Command.{Command}
-use Rattle.setl_words.specs.declared.reading.Command.TheVariants as asked
-
-abbrev pub options_now : Options → words.Options
-options_now options = record { turns = options.turns; based = options.based }
-
-abbrev pub command_of : Command → words.Command
-command_of (asked.Run options name) = words.Run (options_now options) name.now
-command_of (asked.Check name) = words.Check name.now
-command_of (asked.Code name) = words.Code name.now
 
 abbrev pub option_of : Read → RunOption
 option_of read.Unbased = Unbased

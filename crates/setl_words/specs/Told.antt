@@ -8,6 +8,6 @@ abbrev pub IsTaken : List (List ℕ) → Type 0
 IsTaken words = fault_of setl_app words ≡ []
 
 -- where `clap` takes the words, the text is this line; it is never empty
-pub record IsToldOf (words : List (List ℕ)) (text : List ℕ) : Type 0 where
+pub record TellsFaulty (words : List (List ℕ)) (text : List ℕ) : Type 0 where
   pub taken : IsTaken words → text ≡ codes "not of the plain form" ++ 10 ∷ []
   pub some : text ≢ []

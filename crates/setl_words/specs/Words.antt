@@ -92,3 +92,7 @@ RunsFile (Code name) file turns based = ⊥
 -- the words are of no plain form
 abbrev pub IsFaulty : List (List ℕ) → Type 0
 IsFaulty words = (command : Command) → Spells words command → ⊥
+
+-- words spell at most one command
+abbrev pub OneCommand : Type 0
+OneCommand = (words : List (List ℕ)) (a b : Command) → Spells words a → Spells words b → a ≡ b

@@ -1,6 +1,6 @@
 //! The options of a run.
 ghost use Rattle.std.specs.Prelude.{◌≡◌, ◌<◌, ◌-◌, ◌^◌, ◌++◌, List, ℕ, length, map, string_bytes, true, false, not, None, unwrap_or, IfSome, IfNone};
-ghost use Rattle.setl_words.specs.Words.{RunOption as Option_, IsInRange, option_words};
+ghost use Rattle.setl_words.specs.Words.{RunOption as Asked, IsInRange, option_words};
 ghost use Rattle.setl_words.specs.Reading.{Leads, LeadsNowhere, IsFree, option_of, with_given};
 
 use crate::number::read_number;
@@ -74,7 +74,7 @@ fn read_option(words: &[String]) -> Option<(RunOption, &[String])>
     ensures option { IfSome result (λ read. map string_bytes words.now ≡ option_words (option_of read.0) ++ map string_bytes read.1.now) }
     ensures in_range { IfSome result (λ read. IsInRange (option_of read.0)) }
     ensures shorter { IfSome result (λ read. length read.1.now < length words.now) }
-    ensures none { IfNone result ((option : Option_) (rest : List (List ℕ)) → IsInRange option → map string_bytes words.now ≡ option_words option ++ rest → ⊥) }
+    ensures none { IfNone result ((option : Asked) (rest : List (List ℕ)) → IsInRange option → map string_bytes words.now ≡ option_words option ++ rest → ⊥) }
 {
     let (word, rest) = words.split_first()?;
     if is_unbased(word.as_str()) {

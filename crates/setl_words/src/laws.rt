@@ -1,10 +1,10 @@
 //! What follows from the definitions alone. The functions have no effect: each states a law.
-ghost use Rattle.std.specs.Prelude.{◌≡◌, ◌∷◌, ◌-◌, ◌^◌, [], ℕ, List, codes, true, false};
-ghost use Rattle.setl_words.specs.Words.{Command, Run, Check, Spells, IsFaulty};
+ghost use Rattle.std.specs.Prelude.{◌∷◌, ◌-◌, ◌^◌, [], codes, true, false};
+ghost use Rattle.setl_words.specs.Words.{OneCommand, Run, Check, Spells, IsFaulty};
 
 /// Words spell at most one command.
 pub fn one_command()
-    ensures { (words : List (List ℕ)) (a b : Command) → Spells words a → Spells words b → a ≡ b }
+    ensures { OneCommand }
 {}
 
 /// Words of the plain form, and what they spell.
