@@ -21,7 +21,7 @@ use Rattle.setl_top.specs.Headline.{Moment, Job, IsInput, IsToRun, IsToList, sta
 use Rattle.setl_top.specs.declared.status.Status.{Status}
 use Rattle.setl_top.specs.declared.status.Status.TheVariants.{Done, Refused, Words}
 use Rattle.setl_words.specs.Words.{Options, IsFaulty, Spells, HasFile, Command, Run, Check, Code}
-use Rattle.setl_words.specs.Told.{IsToldOf}
+use Rattle.setl_words.specs.Told.{TellsFaulty}
 use Rattle.setl_top.proofs.Fronts.{appends_none, front_none}
 
 -- a fault's own line, and nothing before it
@@ -80,7 +80,7 @@ told words before after status out err ends a so_far o f i u _ (no_memory h) = r
 }
 
 -- what is told of faulty words was told, or not
-pub faulty_ends : (words : List (List ℕ)) (before after : Moment) (text : List ℕ) → IsFaulty words → IsToldOf words text → Appends before.out after.out [] → after.input ≡ before.input → after.files_faults ≤ before.files_faults → after.input_faults ≤ before.input_faults → after.out_faults ≤ before.out_faults → (r : Status) → Tells Words text before.err after.err before.err_faults after.err_faults r → Headline words before after r
+pub faulty_ends : (words : List (List ℕ)) (before after : Moment) (text : List ℕ) → IsFaulty words → TellsFaulty words text → Appends before.out after.out [] → after.input ≡ before.input → after.files_faults ≤ before.files_faults → after.input_faults ≤ before.input_faults → after.out_faults ≤ before.out_faults → (r : Status) → Tells Words text before.err after.err before.err_faults after.err_faults r → Headline words before after r
 faulty_ends words before after text h tells o l f i u r t =
     told words before after Words [] text (λ e. e) (subst (Answers words before Words [] text) (sym l) (faulty_words text h tells)) no_program o f i u r t
 

@@ -13,7 +13,7 @@ use Rattle.setl_top.specs.Laws.{IsComplete, FaultyWordsReadNothing, RefusesExact
 use Rattle.setl_top.specs.Listings.{listing_of}
 use Rattle.setl_top.specs.Reasons.{reason_line}
 use Rattle.setl_top.specs.declared.status.Status.TheVariants.{Done, Refused, Words, Stopped, Spent, ReadFault, WriteFault, NoMemory}
-use Rattle.setl_words.specs.Words.{Command, Run, Check, Code, Spells, HasFile, RunsFile, IsFaulty}
+use Rattle.setl_words.specs.Words.{Command, Run, Check, Code, Spells, HasFile, RunsFile, IsFaulty, OneCommand}
 use Rattle.setl_top.proofs.OneReason.{FrontLaws, one_reason, one_program_tree, not_refused}
 
 write_rose : (words : List (List ℕ)) (before after : Moment) (out : List ℕ) → WriteCause words before after out → AnyRose before after
@@ -47,7 +47,7 @@ no_input words before after faulty (read_from job out taken a h k) = absurd (fau
 pub faulty_reads_nothing : FaultyWordsReadNothing
 faulty_reads_nothing words before after faulty = ((λ h. no_read words before after h.out faulty h.cause), no_input words before after faulty)
 
-module _ (one_command : (words : List (List ℕ)) (a b : Command) → Spells words a → Spells words b → a ≡ b) where
+module _ (one_command : OneCommand) where
   one_file : (c : Command) (n m : List ℕ) → HasFile c n → HasFile c m → n ≡ m
   one_file (Run o a) n m f g = f ∙ sym g
   one_file (Check a) n m f g = f ∙ sym g

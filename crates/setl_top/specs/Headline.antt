@@ -16,7 +16,7 @@ use Rattle.setl_top.specs.Moments.{AtState, AtPrint, AtRead}
 use Rattle.setl_top.specs.declared.status.Status.{Status}
 use Rattle.setl_top.specs.declared.status.Status.TheVariants.{Done, Refused, Words, Stopped, Spent, ReadFault, WriteFault, NoMemory}
 use Rattle.setl_words.specs.Words.{Command, Check, Code, Spells, HasFile, RunsFile, IsFaulty}
-use Rattle.setl_words.specs.Told.{IsToldOf}
+use Rattle.setl_words.specs.Told.{TellsFaulty}
 
 -- What is seen of the outside at one moment: the contents, where they are told, and the counts of faults.
 pub record Moment : Type 0 where
@@ -89,7 +89,7 @@ IsLeft (Some input) left bytes = (kept : List ℕ) × (prepend_known kept left �
 -- Where nothing fails: the status, what is added to the output and to the error output, and what is left of the input.
 -- A run leaves what its last state has of the input, but for bytes that were taken ahead.
 pub data Answers (words : List (List ℕ)) (before : Moment) : Status → List ℕ → List ℕ → Option (List ℕ) → Type 0 where
-  faulty_words : (told : List ℕ) → IsFaulty words → IsToldOf words told → Answers words before Words [] told before.input
+  faulty_words : (told : List ℕ) → IsFaulty words → TellsFaulty words told → Answers words before Words [] told before.input
   refused : (command : Command) (name source line : List ℕ) → Spells words command → HasFile command name → IsText before.texts name source → Refusal source line → Answers words before Refused [] (line ++ 10 ∷ []) before.input
   checked : (name source : List ℕ) (tree : Tree) → Spells words (Check name) → IsText before.texts name source → IsProgram source tree → Answers words before Done [] [] before.input
   listed : (text : List ℕ) → IsToList words before text → Answers words before Done text [] before.input

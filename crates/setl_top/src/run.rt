@@ -6,7 +6,7 @@ ghost use Rattle.setl_machine.specs.Declaring.{IsBare, AreOfMain};
 ghost use Rattle.setl_program.specs.Plain.{plain_declared, plain_program};
 ghost use Rattle.setl_top.specs.CodeRuns.{RunsCode};
 ghost use Rattle.setl_top.specs.Runs.{IsMeant, Runs, TakesInput, counted, streams};
-ghost use Rattle.setl_words.specs.Reading.{options_now};
+ghost use Rattle.setl_words.specs.Commands.{options_now};
 
 use setl_code::Code;
 use setl_gen::emit;

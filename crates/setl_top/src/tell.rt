@@ -3,7 +3,7 @@ ghost use Rattle.std.specs.Prelude.{◌≡◌, ◌∷◌, ◌++◌, List, ℕ, [
 ghost use Rattle.setl_program.specs.Plain.{plain_declared};
 ghost use Rattle.setl_top.specs.Reasons.{reason_line};
 ghost use Rattle.setl_top.specs.Tells.{Tells, TellsEnd};
-ghost use Rattle.setl_words.specs.Told.{IsToldOf};
+ghost use Rattle.setl_words.specs.Told.{TellsFaulty};
 
 use crate::Status;
 use crate::lines::{try_line, write_line};
@@ -74,7 +74,7 @@ pub fn tell_end<E: Sink>(alloc: Global, err: &mut E, declared: &[Declared], end:
 
 /// Tells what is to be told of words that are of no plain form.
 pub fn tell_faulty<E: Sink>(alloc: Global, words: &[String], err: &mut E) -> Status
-    ensures told { (text : List ℕ) × IsToldOf (map string_bytes words.now) text × Tells Status.Words text (E.held err.old) (E.held err.new) (E.faults err.old) (E.faults err.new) result }
+    ensures told { (text : List ℕ) × TellsFaulty (map string_bytes words.now) text × Tells Status.Words text (E.held err.old) (E.held err.new) (E.faults err.old) (E.faults err.new) result }
 {
     match fault_text(alloc, words) {
         Ok(text) => tell(err, text.as_bytes(), Status::Words),
