@@ -4,6 +4,7 @@ pub mod Ends
 pub mod OneReason
 pub mod Exclude
 pub mod Breaking
+pub mod Asked
 pub mod Accepting
 pub mod Reaching
 pub mod Running

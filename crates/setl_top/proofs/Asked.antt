@@ -1,0 +1,13 @@
+-- The bound on turns that words ask for.
+use Rattle.std.proofs.Common.{◌<◌, ◌^◌, ℕ, false, List, [], ◌∷◌, subst, sym, arith}
+use Rattle.std.specs.List.{fold}
+use Rattle.setl_words.specs.Words.{Options, RunOption, Unbased, Turns, AreOptions, with_option, default_options, Run, Spells}
+
+bounded : (xs : List RunOption) (o : Options) → AreOptions xs → o.turns < 2 ^ 63 → (fold with_option o xs).turns < 2 ^ 63
+bounded [] o v h = h
+bounded (Unbased ∷ xs) o v h = bounded xs (record o { based = false }) v.2 h
+bounded (Turns n ∷ xs) o v h = bounded xs (record o { turns = n }) v.2 v.0
+
+-- it is below 2^63
+pub turns_asked : (words : List (List ℕ)) (o : Options) (name : List ℕ) → Spells words (Run o name) → o.turns < 2 ^ 63
+turns_asked words o name s = subst (λ (x : Options). x.turns < 2 ^ 63) (sym s.means) (bounded s.given default_options s.valid (omega arith))
