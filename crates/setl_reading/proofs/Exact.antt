@@ -649,9 +649,16 @@ pub exact_more : {A : Type 0} {always : Bool} {room : ℕ} {item : Reader A} {L 
 unfolding more
 exact_more exact = exact_many (is k.Comma) (exact_then (exact_expect k.Comma) (λ _. exact)) (begins_then (begins_token {p = is k.Comma} k.Comma (same_kind_self k.Comma)))
 
+any_enough : (b : Bool) (room : ℕ) → Enough false room → Enough b room
+any_enough true room enough = omega arith
+any_enough false room enough = enough
+
+pub seldom : {A : Type 0} {always : Bool} {room : ℕ} {r : Reader A} {L : Tokens → A → Type 0} → Exact always room r L → Exact false room r L
+seldom {always = always} {room = room} one = record { sound = one.sound; stop = one.stop; some = λ enough. one.some (any_enough always room enough); reach = one.reach }
+
 pub exact_separated : {A : Type 0} {always : Bool} {room : ℕ} {item : Reader A} {L : Tokens → A → Type 0} → Exact always room item L → Exact always room (separated item) (lang.separated L)
 unfolding separated
-exact_separated exact = exact_then exact (λ first. exact_map (λ others. first ∷ others) (exact_more exact))
+exact_separated exact = exact_then exact (λ first. exact_map (λ others. first ∷ others) (exact_more (seldom exact)))
 
 pub exact_listed : {A : Type 0} {always : Bool} {room : ℕ} (close : Kind) {item : Reader A} {L : Tokens → A → Type 0} → Exact false room item L → Exact always room (listed close item) (lang.listed L)
 unfolding listed
@@ -696,3 +703,21 @@ left_none (Err (Syntax (suc n))) whole back h le = let m = ap left h in absurd (
 left_none (Err (Nesting zero)) whole back h le = omega arith
 left_none (Err (Nesting (suc n))) whole back h le = let m = ap left h in absurd (omega (arith, m, le))
 left_none (Err Memory) whole back h le = omega arith
+
+-- where reading the front came to its end, reading more comes as far
+pub far : {A : Type 0} (o whole : Outcome A) (back : Tokens) → Extends back o whole → left o ≤ 0 → left whole ≤ length back
+far (Ok (a, [])) whole back h none = h
+far (Ok (a, t ∷ rest)) whole back h none = absurd (omega (arith, none))
+far (Err (Syntax zero)) whole back h none = h
+far (Err (Syntax (suc n))) whole back h none = absurd (omega (arith, none))
+far (Err (Nesting zero)) whole back h none = h
+far (Err (Nesting (suc n))) whole back h none = absurd (omega (arith, none))
+far (Err Memory) whole back h none = h
+
+-- a step that failed
+pub fails_to : {A B : Type 0} {o : Outcome A} (f : A → Reader B) {e : Fault} → o ≡ Err e → and_then o f ≡ Err e
+fails_to f h = ap (λ o. and_then o f) h
+
+pub pred_of : (room : ℕ) (toks : Tokens) → Fits room toks → (inside : ℕ) × (room ≡ suc inside)
+pred_of zero toks fits = absurd (omega (arith, fits))
+pred_of (suc room) toks fits = (room, refl)
