@@ -710,8 +710,8 @@ module _ (room : ℕ) (R : r.Inside) (L : grammar.Inside) (E : IsInside room R L
     open_bound (t ∷ toks) (inr bracket) fits =
         let m = pred_of room (t ∷ toks) fits in
         let c = closes_slots grammar.slot
-            (λ t name. (sl.Name t.text, inl (record { front = t ∷ []; back = []; value = t.text; parts = refl; first = name_token t name; second = (refl, refl) })))
-            (λ t minus. ([], sl.Skip, inr (record { front = t ∷ []; back = []; value = t; parts = refl; first = record { alone = refl; kind = minus }; second = (refl, refl) }))) toks bracket.1 in
+        (λ t name. (sl.Name t.text, inl (record { front = t ∷ []; back = []; value = t.text; parts = refl; first = name_token t name; second = (refl, refl) })))
+        (λ t minus. ([], sl.Skip, inr (record { front = t ∷ []; back = []; value = t; parts = refl; first = record { alone = refl; kind = minus }; second = (refl, refl) }))) toks bracket.1 in
         let used : Tokens = t ∷ (c.list ++ c.close ∷ []) in
         let as_pattern : grammar.pattern room used c.values = subst (λ (z : ℕ). grammar.pattern z used c.values) (sym m.1) (bracketed grammar.slot m.0 t c.list c.close c.values bracket.0 c.closed c.spelled) in
         let as_bound : grammar.bound room used (bd.Pattern c.values) = inr (record { front = used; back = []; value = c.values; parts = sym (append-nil used); first = as_pattern; second = (refl, refl) }) in

@@ -109,7 +109,7 @@ not_later toks one two first second less =
     let whole : first.front ++ first.rest ≡ second.front ++ second.rest = sym first.parts ∙ second.parts in
     let a = ap length whole in
     let n = longer first.front first.rest second.front second.rest whole
-        (omega (arith, a, less, first.place, second.place, length-append first.front first.rest, length-append second.front second.rest)) in
+    (omega (arith, a, less, first.place, second.place, length-append first.front first.rest, length-append second.front second.rest)) in
     second.wrong n.0 (n.1 ++ first.rest) n.3 (shorter_begins second.front n.0 n.1 (subst Begins n.2 first.begins))
 
 ordered : (one two : ℕ) → (one < two) ⊎ ((one ≡ two) ⊎ (two < one))
