@@ -39,6 +39,7 @@ Fits room toks = suc (length toks) < room
 pub record Reach {A : Type 0} (room : ℕ) (r : Reader A) : Type 0 where
   pub within : (i : Tokens) → left (r i) ≤ length i
   pub local : (front back : Tokens) → Fits room front → Extends back (r front) (r (front ++ back))
+  pub faults : (i : Tokens) (e : Fault) → Fits room i → r i ≡ Err e → (count : ℕ) × (e ≡ Syntax count)
 
 -- at the end of the front
 pub ends : {A : Type 0} (o : Outcome A) (back : Tokens) (whole : Outcome A) → left o ≤ 0 → left whole ≤ length back → Extends back o whole
@@ -70,10 +71,16 @@ then_extends room (Err (Nesting zero)) whole f front back long fits reach h = an
 then_extends room (Err (Nesting (suc n))) whole f front back long fits reach h = ap (λ o. and_then o f) h
 then_extends room (Err Memory) whole f front back long fits reach h = and_left whole f (length back) h (λ a. (reach a).within)
 
+then_faults : {A B : Type 0} (o : Outcome A) (f : A → Reader B) (i : Tokens) (e : Fault) → left o ≤ length i → (o ≡ Err e → (count : ℕ) × (e ≡ Syntax count)) → ((a : A) (j : Tokens) → length j ≤ length i → f a j ≡ Err e → (count : ℕ) × (e ≡ Syntax count))
+    → and_then o f ≡ Err e → (count : ℕ) × (e ≡ Syntax count)
+then_faults (Ok p) f i e long one two h = two p.0 p.1 long h
+then_faults (Err d) f i e long one two h = let same : d ≡ e = cc in one (ap Err same)
+
 pub reach_then : {A B : Type 0} {room : ℕ} {r : Reader A} {f : A → Reader B} → Reach room r → ((a : A) → Reach room (f a)) → Reach room (r >>= f)
 reach_then {room = room} {r = r} {f = f} one two = record {
   within = λ i. and_left (r i) f (length i) (one.within i) (λ a. (two a).within);
   local = λ front back fits. then_extends room (r front) (r (front ++ back)) f front back (one.within front) fits two (one.local front back fits);
+  faults = λ i e fits h. then_faults (r i) f i e (one.within i) (one.faults i e fits) (λ a j long. (two a).faults j e (fits_shorter room i j long fits)) h;
 }
 
 pure_local : {A : Type 0} (a : A) {room : ℕ} (front back : Tokens) → Fits room front → Extends back (pure a front) (pure a (front ++ back))
@@ -81,7 +88,7 @@ pure_local a [] back fits = omega arith
 pure_local a (t ∷ front) back fits = refl
 
 pub reach_pure : {A : Type 0} {room : ℕ} (a : A) → Reach room (pure a)
-reach_pure {room = room} a = record { within = λ i. omega arith; local = pure_local a }
+reach_pure {room = room} a = record { within = λ i. omega arith; local = pure_local a; faults = λ i e fits h. absurd cc }
 
 -- a choice by the next token
 by_local : {A : Type 0} {room : ℕ} (by : Kind → Reader A) → ((kind : Kind) → Reach room (by kind)) → (front back : Tokens) → Fits room front → Extends back ((peek >>= by) front) ((peek >>= by) (front ++ back))
@@ -89,7 +96,7 @@ by_local by reach [] back fits = ends ((peek >>= by) []) back ((peek >>= by) bac
 by_local by reach (t ∷ front) back fits = (reach t.kind).local (t ∷ front) back fits
 
 pub reach_by : {A : Type 0} {room : ℕ} {by : Kind → Reader A} → ((kind : Kind) → Reach room (by kind)) → Reach room (peek >>= by)
-reach_by {by = by} reach = record { within = λ i. (reach (next_kind i)).within i; local = by_local by reach }
+reach_by {by = by} reach = record { within = λ i. (reach (next_kind i)).within i; local = by_local by reach; faults = λ i e fits h. (reach (next_kind i)).faults i e fits h }
 
 cond_reach : {A : Type 0} {room : ℕ} (b : Bool) {r q : Reader A} → Reach room r → Reach room q → Reach room (cond b r q)
 cond_reach true one two = one
@@ -98,7 +105,7 @@ cond_reach false one two = two
 pub reach_choose : {A : Type 0} {room : ℕ} (p : Kind → Bool) {r q : Reader A} → Reach room r → Reach room q → Reach room (peek >>= λ kind. cond (p kind) r q)
 reach_choose p one two = reach_by (λ kind. cond_reach (p kind) one two)
 
-take_within : (b : Bool) (i : Tokens) → left (take_if b i) ≤ length i
+pub take_within : (b : Bool) (i : Tokens) → left (take_if b i) ≤ length i
 take_within true [] = omega arith
 take_within true (t ∷ i) = omega arith
 take_within false i = omega arith
@@ -117,11 +124,16 @@ unfolding expect
 expect_local kind [] back = ends (expect kind []) back (expect kind back) (take_within (is kind k.SourceEnd) []) (take_within (is kind (next_kind back)) back)
 expect_local kind (t ∷ front) back = take_extends (is kind t.kind) t front back
 
+take_faults : (b : Bool) (i : Tokens) (e : Fault) → take_if b i ≡ Err e → (count : ℕ) × (e ≡ Syntax count)
+take_faults true [] e h = (0, cc)
+take_faults true (t ∷ i) e h = absurd cc
+take_faults false i e h = (length i, cc)
+
 pub reach_expect : {room : ℕ} (kind : Kind) → Reach room (expect kind)
 unfolding expect
-reach_expect kind = record { within = λ i. take_within (is kind (next_kind i)) i; local = λ front back fits. expect_local kind front back }
+reach_expect kind = record { within = λ i. take_within (is kind (next_kind i)) i; local = λ front back fits. expect_local kind front back; faults = λ i e fits h. take_faults (is kind (next_kind i)) i e h }
 
-meant_within : {A : Type 0} (o : Option A) (i : Tokens) → left (meant o i) ≤ length i
+pub meant_within : {A : Type 0} (o : Option A) (i : Tokens) → left (meant o i) ≤ length i
 meant_within (Some a) [] = omega arith
 meant_within (Some a) (t ∷ i) = omega arith
 meant_within None i = omega arith
@@ -139,12 +151,16 @@ unfolding one_of
 one_of_local meaning [] back = ends (one_of meaning []) back (one_of meaning back) (meant_within (meaning k.SourceEnd) []) (meant_within (meaning (next_kind back)) back)
 one_of_local meaning (t ∷ front) back = meant_extends (meaning t.kind) t front back
 
+meant_faults : {A : Type 0} (o : Option A) (i : Tokens) (e : Fault) → meant o i ≡ Err e → (count : ℕ) × (e ≡ Syntax count)
+meant_faults (Some a) i e h = absurd cc
+meant_faults None i e h = (length i, cc)
+
 pub reach_one_of : {A : Type 0} {room : ℕ} (meaning : Kind → Option A) → Reach room (one_of meaning)
 unfolding one_of
-reach_one_of meaning = record { within = λ i. meant_within (meaning (next_kind i)) i; local = λ front back fits. one_of_local meaning front back }
+reach_one_of meaning = record { within = λ i. meant_within (meaning (next_kind i)) i; local = λ front back fits. one_of_local meaning front back; faults = λ i e fits h. meant_faults (meaning (next_kind i)) i e h }
 
 -- a token that opens a nesting
-open_within : {A : Type 0} (room : ℕ) (here : Bool) (f : Token → Reader A) → ((inside : ℕ) → room ≡ suc inside → (t : Token) (i : Tokens) → left (f t i) ≤ length i) → (i : Tokens) → left (and_then (open_if room here i) f) ≤ length i
+pub open_within : {A : Type 0} (room : ℕ) (here : Bool) (f : Token → Reader A) → ((inside : ℕ) → room ≡ suc inside → (t : Token) (i : Tokens) → left (f t i) ≤ length i) → (i : Tokens) → left (and_then (open_if room here i) f) ≤ length i
 open_within zero true f within i = omega arith
 open_within zero false f within i = omega arith
 open_within (suc room) here f within i = and_left (take_if here i) f (length i) (take_within here i) (within room refl)
@@ -164,15 +180,25 @@ open_local (suc room) kind f reach [] back fits =
     (open_within (suc room) (is kind (next_kind back)) f (λ inside s t. (reach inside s t).within) back)
 open_local (suc room) kind f reach (t ∷ front) back fits = opened_extends room (is kind t.kind) f (reach room refl) t front back fits
 
+opened_faults : {A : Type 0} (room : ℕ) (here : Bool) (f : Token → Reader A) → ((t : Token) → Reach room (f t)) → (i : Tokens) (e : Fault) → Fits (suc room) i → and_then (take_if here i) f ≡ Err e → (count : ℕ) × (e ≡ Syntax count)
+opened_faults room true f reach [] e fits h = (0, cc)
+opened_faults room true f reach (t ∷ i) e fits h = (reach t).faults i e (omega (arith, fits)) h
+opened_faults room false f reach i e fits h = (length i, cc)
+
+open_faults : {A : Type 0} (room : ℕ) (here : Bool) (f : Token → Reader A) → ((inside : ℕ) → room ≡ suc inside → (t : Token) → Reach inside (f t)) → (i : Tokens) (e : Fault) → Fits room i → and_then (open_if room here i) f ≡ Err e → (count : ℕ) × (e ≡ Syntax count)
+open_faults zero here f reach i e fits h = absurd (omega (arith, fits))
+open_faults (suc room) here f reach i e fits h = opened_faults room here f (reach room refl) i e fits h
+
 pub reach_opening : {A : Type 0} (room : ℕ) (kind : Kind) {f : Token → Reader A} → ((inside : ℕ) → room ≡ suc inside → (t : Token) → Reach inside (f t)) → Reach room (opening room kind >>= f)
 unfolding opening
 reach_opening room kind {f = f} reach = record {
   within = λ i. open_within room (is kind (next_kind i)) f (λ inside s t. (reach inside s t).within) i;
   local = open_local room kind f reach;
+  faults = λ i e fits h. open_faults room (is kind (next_kind i)) f reach i e fits h;
 }
 
 -- a token that means something and opens a nesting
-open_meant_within : {A B : Type 0} (room : ℕ) (o : Option A) (f : A → Reader B) → ((inside : ℕ) → room ≡ suc inside → (a : A) (i : Tokens) → left (f a i) ≤ length i) → (i : Tokens) → left (and_then (open_meant room o i) f) ≤ length i
+pub open_meant_within : {A B : Type 0} (room : ℕ) (o : Option A) (f : A → Reader B) → ((inside : ℕ) → room ≡ suc inside → (a : A) (i : Tokens) → left (f a i) ≤ length i) → (i : Tokens) → left (and_then (open_meant room o i) f) ≤ length i
 open_meant_within zero (Some a) f within i = omega arith
 open_meant_within zero None f within i = omega arith
 open_meant_within (suc room) o f within i = and_left (meant o i) f (length i) (meant_within o i) (within room refl)
@@ -192,15 +218,34 @@ open_meant_local (suc room) meaning f reach [] back fits =
     (open_meant_within (suc room) (meaning (next_kind back)) f (λ inside s a. (reach inside s a).within) back)
 open_meant_local (suc room) meaning f reach (t ∷ front) back fits = meant_opened room (meaning t.kind) f (reach room refl) t front back fits
 
-pub reach_opening_one_of : {A B : Type 0} (room : ℕ) (meaning : Kind → Option A) {f : A → Reader B} → ((inside : ℕ) → room ≡ suc inside → (a : A) → Reach inside (f a)) → Reach room (opening_one_of room meaning >>= f)
+no_end_meant : {A B : Type 0} (o : Option A) (f : A → Reader B) (e : Fault) → o ≡ None → and_then (meant o []) f ≡ Err e → (count : ℕ) × (e ≡ Syntax count)
+no_end_meant (Some a) f e end h = absurd cc
+no_end_meant None f e end h = (0, cc)
+
+meant_some_faults : {A B : Type 0} (room : ℕ) (o : Option A) (f : A → Reader B) → ((a : A) → Reach room (f a)) → (t : Token) (i : Tokens) (e : Fault) → Fits (suc room) (t ∷ i) → and_then (meant o (t ∷ i)) f ≡ Err e → (count : ℕ) × (e ≡ Syntax count)
+meant_some_faults room (Some a) f reach t i e fits h = (reach a).faults i e (omega (arith, fits)) h
+meant_some_faults room None f reach t i e fits h = (length (t ∷ i), cc)
+
+open_meant_faults : {A B : Type 0} (room : ℕ) (meaning : Kind → Option A) (f : A → Reader B) → NotEnd meaning → ((inside : ℕ) → room ≡ suc inside → (a : A) → Reach inside (f a)) → (i : Tokens) (e : Fault) → Fits room i
+    → and_then (open_meant room (meaning (next_kind i)) i) f ≡ Err e → (count : ℕ) × (e ≡ Syntax count)
+open_meant_faults zero meaning f end reach i e fits h = absurd (omega (arith, fits))
+open_meant_faults (suc room) meaning f end reach [] e fits h = no_end_meant (meaning k.SourceEnd) f e end h
+open_meant_faults (suc room) meaning f end reach (t ∷ i) e fits h = meant_some_faults room (meaning t.kind) f (reach room refl) t i e fits h
+
+pub reach_opening_one_of : {A B : Type 0} (room : ℕ) (meaning : Kind → Option A) → NotEnd meaning → {f : A → Reader B} → ((inside : ℕ) → room ≡ suc inside → (a : A) → Reach inside (f a)) → Reach room (opening_one_of room meaning >>= f)
 unfolding opening_one_of
-reach_opening_one_of room meaning {f = f} reach = record {
+reach_opening_one_of room meaning end {f = f} reach = record {
   within = λ i. open_meant_within room (meaning (next_kind i)) f (λ inside s a. (reach inside s a).within) i;
   local = open_meant_local room meaning f reach;
+  faults = λ i e fits h. open_meant_faults room meaning f end reach i e fits h;
 }
 
 pub reach_lower : {A : Type 0} {room inside : ℕ} {r : Reader A} → room ≡ suc inside → Reach room r → Reach inside r
-reach_lower is_suc reach = record { within = reach.within; local = λ front back fits. reach.local front back (omega (arith, fits, is_suc)) }
+reach_lower is_suc reach = record {
+  within = reach.within;
+  local = λ front back fits. reach.local front back (omega (arith, fits, is_suc));
+  faults = λ i e fits. reach.faults i e (omega (arith, fits, is_suc));
+}
 
 lined_local : {A : Type 0} {room : ℕ} (r : Reader A) → Reach room r → (front back : Tokens) → Fits room front → Extends back (lined r front) (lined r (front ++ back))
 lined_local {room = room} r reach [] back fits =
@@ -211,6 +256,7 @@ pub reach_lined : {A : Type 0} {room : ℕ} {r : Reader A} → Reach room r → 
 reach_lined {room = room} {r = r} reach = record {
   within = λ i. (reach_then reach (λ a. reach_pure {room = room} (lang.line_of i, a))).within i;
   local = lined_local r reach;
+  faults = λ i. (reach_then reach (λ a. reach_pure {room = room} (lang.line_of i, a))).faults i;
 }
 
 -- ---- any number of parts
@@ -260,10 +306,23 @@ many_extends {A = A} room begins item reach eats (suc n) (suc m) found (t ∷ fr
     ] in
     go (begins t.kind)
 
+many_faults : {A : Type 0} (room : ℕ) (begins : Kind → Bool) (item : Reader A) → Reach room item → (n : ℕ) (found : List A) (i : Tokens) (e : Fault) → Fits room i → many_from begins item n found i ≡ Err e → (count : ℕ) × (e ≡ Syntax count)
+unfolding many_from
+many_faults room begins item reach zero found i e fits h = absurd cc
+many_faults {A = A} room begins item reach (suc n) found i e fits h =
+    let f : A → Reader (List A) = λ x. many_from begins item n (found ++ x ∷ []) in
+    let go : (b : Bool) → cond b (item >>= f) (pure found) i ≡ Err e → (count : ℕ) × (e ≡ Syntax count) = λ b.
+    elim b as (λ b. cond b (item >>= f) (pure found) i ≡ Err e → (count : ℕ) × (e ≡ Syntax count)) [
+      | true ↦ λ h. then_faults (item i) f i e (reach.within i) (reach.faults i e fits) (λ x j long. many_faults room begins item reach n (found ++ x ∷ []) j e (fits_shorter room i j long fits)) h
+      | false ↦ λ h. absurd cc
+    ] in
+    go (begins (next_kind i)) h
+
 pub reach_many : {A : Type 0} {room : ℕ} (begins : Kind → Bool) {item : Reader A} → Reach room item → Eats item → Reach room (many begins item)
 reach_many {room = room} begins {item = item} reach eats = record {
   within = λ i. many_within begins item reach.within (length i) [] i;
   local = λ front back fits. many_extends room begins item reach eats (length front) (length (front ++ back)) [] front back (omega arith) (omega arith) fits;
+  faults = λ i e fits h. many_faults room begins item reach (length i) [] i e fits h;
 }
 
 pub eats_begins : {A : Type 0} {r : Reader A} {L : Tokens → A → Type 0} {p : Kind → Bool} → Sound r L → Begins p L → Eats r
@@ -473,6 +532,7 @@ exact_reads {r = r} {q = q} same one = record {
   reach = record {
     within = λ i. subst (λ z. left z ≤ length i) (sym (same i)) (one.reach.within i);
     local = λ front back fits. subst (λ z. Extends back z (r (front ++ back))) (sym (same front)) (subst (λ z. Extends back (q front) z) (sym (same (front ++ back))) (one.reach.local front back fits));
+    faults = λ i e fits h. one.reach.faults i e fits (sym (same i) ∙ h);
   };
 }
 
@@ -547,13 +607,13 @@ exact_opening_one_of zero meaning kind a end some {f = f} body = record {
   sound = record { took = λ toks a rest e. absurd (no_meaning (meaning (next_kind toks)) f toks a rest e) };
   stop = λ toks count fits h. absurd (omega (arith, fits));
   some = λ enough. absurd (omega (arith, enough));
-  reach = reach_opening_one_of zero meaning (λ inside s t. (body inside s t).reach);
+  reach = reach_opening_one_of zero meaning end (λ inside s t. (body inside s t).reach);
 }
 exact_opening_one_of (suc room) meaning kind a end some {f = f} body = record {
   sound = sound_then (law_one_of meaning end).sound (λ t. (body room refl t).sound);
   stop = meant_stop room meaning end (some_one_of meaning kind a some) (body room refl);
   some = λ enough. some_then (some_one_of meaning kind a some) (λ t. (body room refl t).some (omega arith));
-  reach = reach_opening_one_of (suc room) meaning (λ inside s t. (body inside s t).reach);
+  reach = reach_opening_one_of (suc room) meaning end (λ inside s t. (body inside s t).reach);
 }
 
 -- ---- lists and optional parts

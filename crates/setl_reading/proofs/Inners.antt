@@ -812,5 +812,5 @@ module _ (room : ℕ) (R : r.Inside) (L : grammar.Inside) (E : IsInside room R L
       sound = law_inner.sound;
       stop = λ toks count fits h. inner_stop (ahead toks) toks count fits refl h;
       some = λ enough. record { toks = []; value = inn.List []; spelled = inl (listed_none (refl, refl)) };
-      reach = record { within = λ i. (reach_by (ahead i)).within i; local = inner_local };
+      reach = record { within = λ i. (reach_by (ahead i)).within i; local = inner_local; faults = λ i e fits h. (reach_by (ahead i)).faults i e fits h };
     }

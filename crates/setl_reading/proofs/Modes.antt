@@ -251,7 +251,7 @@ pub law_mode : (room : ℕ) → Law (m.mode room) (grammar.mode room) always
 unfolding m.mode grammar.mode
 law_mode room = law_mode_in room (m.nested_mode room) (grammar.nested_mode room) (nested_mode room)
 
-exact_nested : (room inside : ℕ) → room ≡ suc inside → Exact true inside (m.nested_mode room) (grammar.nested_mode room)
+pub exact_nested : (room inside : ℕ) → room ≡ suc inside → Exact true inside (m.nested_mode room) (grammar.nested_mode room)
 unfolding m.nested_mode grammar.nested_mode
 exact_nested zero inside h = absurd (omega (arith, h))
 exact_nested (suc room) inside h = subst (λ (z : ℕ). Exact true z (m.nested_mode (suc room)) (grammar.nested_mode (suc room))) (omega (arith, h)) (exact_mode_in room (m.nested_mode room) (grammar.nested_mode room) (nested_mode room) (exact_nested room))

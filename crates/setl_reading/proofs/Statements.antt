@@ -762,7 +762,7 @@ follows_stmts room go stop = follows_many (begins_a_stmt room (s.nested_stmts ro
 
 -- ---- where reading stops
 
-exact_nested : (room inside : ℕ) → room ≡ suc inside → Exact true inside (s.nested_stmts room) (grammar.nested_stmts room)
+pub exact_nested : (room inside : ℕ) → room ≡ suc inside → Exact true inside (s.nested_stmts room) (grammar.nested_stmts room)
 unfolding s.nested_stmts grammar.nested_stmts
 exact_nested zero inside h = absurd (omega (arith, h))
 exact_nested (suc room) inside h = subst (λ (z : ℕ). Exact true z (s.nested_stmts (suc room)) (grammar.nested_stmts (suc room))) (omega (arith, h)) (exact_body room (s.nested_stmts room) (grammar.nested_stmts room) (nested_stmts room) (exact_nested room))

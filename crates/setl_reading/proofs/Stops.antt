@@ -1,19 +1,19 @@
 -- Where reading a program stops, the tokens go wrong.
-use Rattle.std.proofs.Common.{◌≡◌, ℕ, zero, suc, ◌+◌, ◌≤◌, ◌<◌, true, List, [], ◌∷◌, ◌++◌, length, Ok, Err, refl, sym, ap, subst, ◌∙◌, append_assoc, arith, inl, inr, ◌⊎◌, length-append}
+use Rattle.std.proofs.Common.{◌≡◌, ℕ, zero, suc, ◌+◌, ◌-◌, ◌≤◌, ◌<◌, true, List, [], ◌∷◌, ◌++◌, length, Ok, Err, refl, sym, ap, subst, ◌∙◌, append_assoc, arith, inl, inr, ◌⊎◌, length-append}
 use Rattle.std.proofs.lemmas.List.{append-nil}
 use Rattle.setl_tree.specs.declared.tree.Tree.{Tree}
 use Rattle.setl_tree.specs.Tokens.{Token, Tokens}
 use Rattle.setl_tree.specs.Programs as grammar
 use Rattle.setl_reading.specs.declared.fault.Fault.TheVariants.{Memory, Syntax, Nesting}
 use Rattle.setl_reading.specs.Reading.{Outcome}
-use Rattle.setl_reading.specs.Fronts.{Begins, GoesWrong}
-use Rattle.setl_reading.specs.Claims.{IsTooDeep, SyntaxIsExact, LeftoverIsExact, OnePlaceIsWrong}
+use Rattle.setl_reading.specs.Fronts.{Begins, GoesWrong, GoesOn}
+use Rattle.setl_reading.specs.Claims.{IsTooDeep, SyntaxIsExact, LeftoverIsExact, OnePlaceIsWrong, NestingGoesOn}
 use Rattle.setl_reading.specs.ReadPrograms as reading
 use Rattle.setl_reading.proofs.Laws.{ok_parts}
 use Rattle.setl_reading.proofs.Exact.{left, Extends}
 use Rattle.setl_reading.proofs.Programs.{law_program, exact_program}
-use Rattle.setl_reading.proofs.Rooms.{fewer_nestings}
-use Rattle.setl_reading.proofs.Top.{reading_is_complete, nestings_may_be_more}
+use Rattle.setl_reading.proofs.Rooms.{fewer_nestings, further}
+use Rattle.setl_reading.proofs.Top.{reading_is_sound, reading_is_complete, nestings_may_be_more}
 
 no_end : (t : Token) (rest : Tokens) → t ∷ rest ≡ [] → ⊥
 no_end t rest h = cc
@@ -123,3 +123,52 @@ less_or_same one two a b = elim (ordered one two) [ inl less ↦ absurd (a less)
 
 pub one_place_is_wrong : OnePlaceIsWrong
 one_place_is_wrong toks one two first second = less_or_same one two (not_later toks one two first second) (not_later toks two one second first)
+
+-- ---- at a nesting
+
+-- the tokens with so many left
+split_at : (toks : Tokens) (count : ℕ) → count ≤ length toks → (front : Tokens) × (rest : Tokens) × (toks ≡ front ++ rest) × (length rest ≡ count)
+split_at [] count le = ([], [], refl, omega (arith, le))
+split_at (t ∷ toks) count le = elim (ordered count (suc (length toks))) [
+  | inl less ↦ let n = split_at toks count (omega (arith, less)) in (t ∷ n.0, n.1, ap (λ (z : Tokens). t ∷ z) n.2, n.3)
+  | inr (inl same) ↦ ([], t ∷ toks, refl, sym same)
+  | inr (inr more) ↦ absurd (omega (arith, le, more))
+]
+
+-- tokens that go wrong later go on here
+later_begins : (toks front rest : Tokens) (t : Token) (others : Tokens) (count : ℕ) → toks ≡ front ++ rest → rest ≡ t ∷ others → GoesWrong toks count → count < length rest → Begins (front ++ t ∷ [])
+later_begins toks front rest t others count parts is g less =
+    let whole : g.front ++ g.rest ≡ front ++ rest = sym g.parts ∙ parts in
+    let a = ap length whole in
+    let n = longer g.front g.rest front rest whole (omega (arith, a, less, g.place, length-append g.front g.rest, length-append front rest)) in
+    let same = same_parts n.0 t (n.1 ++ g.rest) others (sym n.3 ∙ is) in
+    subst (λ (z : Token). Begins (front ++ z ∷ [])) same.0 (shorter_begins front n.0 n.1 (subst Begins n.2 g.begins))
+
+further_begins : (big : ℕ) (toks front rest : Tokens) (t : Token) (others : Tokens) (o : Outcome Tree) → suc (length toks) < big → reading.program big toks ≡ o → toks ≡ front ++ rest → rest ≡ t ∷ others → left o ≤ length rest - 1 → Begins (front ++ t ∷ [])
+further_begins big toks front rest t others (Ok (tree, [])) fits h parts is far =
+    let derived = reading_is_sound big toks tree h in
+    let whole : toks ≡ (front ++ t ∷ others) ++ [] = parts ∙ ap (λ (z : Tokens). front ++ z) is ∙ sym (append-nil (front ++ t ∷ others)) in
+    shorter_begins front t others ([], tree, (big, subst (λ (z : Tokens). grammar.program big z tree) whole derived))
+further_begins big toks front rest t others (Ok (tree, u ∷ more)) fits h parts is far =
+    let long = ap length is in
+    later_begins toks front rest t others (length (u ∷ more)) parts is (leftover_is_exact big toks tree u more h) (omega (arith, far, long))
+further_begins big toks front rest t others (Err (Syntax count)) fits h parts is far =
+    let long = ap length is in
+    later_begins toks front rest t others count parts is (syntax_is_exact big toks count h) (omega (arith, far, long))
+further_begins big toks front rest t others (Err (Nesting count)) fits h parts is far = let e = ((exact_program big).reach.faults toks (Nesting count) fits h).1 in absurd (cc e)
+further_begins big toks front rest t others (Err Memory) fits h parts is far = let e = ((exact_program big).reach.faults toks Memory fits h).1 in absurd (cc e)
+
+pub nesting_goes_on : NestingGoesOn
+nesting_goes_on room toks count h =
+    let big : ℕ = room + length toks + 2 in
+    let far = further room big toks count (omega arith) h in
+    let at = ap left h in
+    let within = (exact_program room).reach.within toks in
+    let n = split_at toks count (omega (arith, at, within)) in
+    record {
+      front = n.0;
+      rest = n.1;
+      parts = n.2;
+      place = n.3;
+      begins = λ t others is. further_begins big toks n.0 n.1 t others (reading.program big toks) (omega arith) refl n.2 is (omega (arith, far, n.3));
+    }

@@ -7,7 +7,7 @@ use Rattle.setl_tree.specs.Programs.{Derives}
 use Rattle.setl_tree.specs.Canonical.{canonical}
 use Rattle.setl_reading.specs.declared.fault.Fault.TheVariants.{Syntax, Nesting}
 use Rattle.setl_reading.specs.Reading.{Outcome}
-use Rattle.setl_reading.specs.Fronts.{GoesWrong}
+use Rattle.setl_reading.specs.Fronts.{GoesWrong, GoesOn}
 use Rattle.setl_reading.specs.ReadPrograms as reading
 
 -- a tree that is read to the end of the tokens is one that they derive with so many nestings
@@ -49,3 +49,7 @@ LeftoverIsExact = (room : ℕ) (toks : Tokens) (tree : Tree) (t : Token) (rest :
 -- tokens go wrong at one place at most
 abbrev pub OnePlaceIsWrong : Type 0
 OnePlaceIsWrong = (toks : Tokens) (one two : ℕ) → GoesWrong toks one → GoesWrong toks two → one ≡ two
+
+-- where reading ends at a token that opens one nesting too many, some program begins with the tokens up to that one
+abbrev pub NestingGoesOn : Type 0
+NestingGoesOn = (room : ℕ) (toks : Tokens) (left : ℕ) → reading.program room toks ≡ Err (Nesting left) → GoesOn toks left

@@ -17,3 +17,11 @@ pub record GoesWrong (toks : Tokens) (left : ℕ) : Type 0 where
   pub place : length rest ≡ left
   pub begins : Begins front
   pub wrong : (t : Token) (others : Tokens) → rest ≡ t ∷ others → Begins (front ++ t ∷ []) → ⊥
+
+-- The tokens before the place at which so many are left, with the token there, begin a program.
+pub record GoesOn (toks : Tokens) (left : ℕ) : Type 0 where
+  pub front : Tokens
+  pub rest : Tokens
+  pub parts : toks ≡ front ++ rest
+  pub place : length rest ≡ left
+  pub begins : (t : Token) (others : Tokens) → rest ≡ t ∷ others → Begins (front ++ t ∷ [])

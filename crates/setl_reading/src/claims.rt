@@ -1,6 +1,6 @@
 //! The laws between reading and the grammar.
 
-ghost use Rattle.setl_reading.specs.Claims.{ReadingIsSound, ReadingIsComplete, NestingsMayBeMore, NestingsMayBeFewer, TreeIsUnique, CanonicalTokensDerive, SyntaxIsExact, LeftoverIsExact, OnePlaceIsWrong};
+ghost use Rattle.setl_reading.specs.Claims.{ReadingIsSound, ReadingIsComplete, NestingsMayBeMore, NestingsMayBeFewer, TreeIsUnique, CanonicalTokensDerive, SyntaxIsExact, LeftoverIsExact, OnePlaceIsWrong, NestingGoesOn};
 
 /// Reading finds a program's tree exactly where the tokens derive it with as many nestings as may open.
 pub fn reading_meets_grammar()
@@ -31,4 +31,10 @@ pub fn syntax_faults_are_exact()
     ensures fault { SyntaxIsExact }
     ensures leftover { LeftoverIsExact }
     ensures one_place { OnePlaceIsWrong }
+{}
+
+/// Where reading ends at a token that opens one nesting too many, some program begins with the tokens up to that one: it
+/// is no fault of syntax.
+pub fn nesting_goes_on()
+    ensures { NestingGoesOn }
 {}
