@@ -9,9 +9,9 @@ use Rattle.setl_tree.specs.Lang.{Lang, Then, IsToken}
 use Rattle.setl_tree.specs.Lang as lang
 use Rattle.setl_reading.specs.declared.fault.Fault.{Fault}
 use Rattle.setl_reading.specs.declared.fault.Fault.TheVariants.{Memory, Syntax, Nesting}
-use Rattle.setl_reading.specs.Reading.{Outcome, Reader, next_kind, is, rest_of, and_then, ◌>>=◌, ◌>>◌, pure, refuse, peek, take_if, open_if, open_meant, expect, opening, opening_one_of, meant, one_of, begins_as, many_from, many, more, separated, listed, optional, lined, name, same_kind}
+use Rattle.setl_reading.specs.Reading.{Outcome, Reader, next_kind, is, and_then, ◌>>=◌, pure, peek, take_if, open_if, open_meant, expect, opening, opening_one_of, meant, one_of, many_from, many, more, separated, listed, optional, lined, name}
 use Rattle.setl_reading.proofs.EveryKind.{same_kind_self}
-use Rattle.setl_reading.proofs.Laws.{no_room, no_meaning, line_begins, took_at, Took, Sound, Begins, NotEnd, bind_ok, ok_parts, took_then, took_as, law_pure, law_expect, law_one_of, law_name, begins_then, begins_token}
+use Rattle.setl_reading.proofs.Laws.{no_room, no_meaning, line_begins, took_at, Took, Sound, Begins, NotEnd, bind_ok, ok_parts, took_then, took_as, law_pure, law_expect, law_one_of, begins_then, begins_token}
 
 -- ---- how many tokens are left
 

@@ -23,7 +23,7 @@ use Rattle.setl_reading.specs.Scan.{ends_slot, slots_ahead}
 use Rattle.setl_reading.specs.ReadExpressions as r
 use Rattle.setl_reading.proofs.EveryKind.{kinds}
 use Rattle.setl_reading.proofs.Laws.{Took, Law, Follows, Within, Begins, Fails, always, anything, took_as, fails_then, fails_at, takes, passes, goes_to, opening_fails, opening_takes, many_none, same_outcome, bind_assoc, law_of, chosen, next_of, not_is, within, within_always, same, law_pure, law_then, law_map, law_stops, law_expect, law_one_of, law_choose, law_as, law_opening, law_opening_one_of, law_many, law_more, law_separated, law_name, begins_name, begins_token, begins_then, begins_or, begins_within, begins_one_of, begins_many, begins_opening, begins_opening_one_of, follows_begins, follows_token, follows_or, follows_then, follows_map, follows_more, follows_pure, follows_opening}
-use Rattle.setl_reading.proofs.Exact.{Fits, Reach, Exact, Some_of, reach_then, reach_pure, weak, seldom, exact_then, exact_map, exact_pure, exact_expect, exact_one_of, exact_choose, exact_either, exact_as, exact_by, exact_opening, exact_opening_one_of, exact_many, exact_more, exact_separated, exact_name, token_of}
+use Rattle.setl_reading.proofs.Exact.{Reach, Exact, reach_then, reach_pure, weak, exact_then, exact_map, exact_pure, exact_expect, exact_one_of, exact_choose, exact_either, exact_as, exact_by, exact_opening, exact_opening_one_of, exact_many, exact_more, exact_separated, exact_name, token_of}
 use Rattle.setl_reading.proofs.Regroup.{more_l, behind, with_second, optional_none, optional_some, optional_to, listed_none, listed_some, listed_to}
 use Rattle.setl_reading.proofs.Bounds.{below, below_more, starts_bound, law_iters, exact_iters}
 use Rattle.setl_reading.proofs.Levels.{exact_chain, exact_chain_from, op_2, op_3, op_4, op_7, op_8, op_9, op_10, law_chain, level_2, level_3, level_4, level_7, level_8, level_9, level_10}

@@ -1,5 +1,5 @@
 -- The levels of operators that group to the left.
-use Rattle.std.proofs.Common.{◌≡◌, Bool, true, false, Some, ℕ, suc, not, refl, arith}
+use Rattle.std.proofs.Common.{◌≡◌, Bool, true, Some, ℕ, suc, not, refl, arith}
 use Rattle.setl_tree.specs.declared.kind.Kind.{Kind}
 use Rattle.setl_tree.specs.declared.kind.Kind.TheVariants as k
 use Rattle.setl_tree.specs.declared.expr.BinaryOp.{BinaryOp}

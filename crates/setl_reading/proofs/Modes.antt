@@ -18,7 +18,7 @@ use Rattle.setl_reading.specs.ReadModes as m
 use Rattle.setl_reading.proofs.EveryKind.{kinds}
 use Rattle.setl_reading.proofs.Laws.{Took, Law, Within, Begins, always, anything, took_as, law_of, chosen, within, within_always, same, law_then, law_map, law_expect, law_one_of, law_choose, law_as, law_opening, law_many, law_separated, law_optional, law_lined, law_name, bind_assoc, begins_token, begins_then, begins_or, begins_within, begins_one_of, begins_lined, begins_separated, follows_begins, follows_token, follows_then, follows_map, follows_optional, begins_optional, bind_ok}
 use Rattle.setl_reading.proofs.Regroup.{behind, assoc, unassoc, pure_then, then_pure, with_second}
-use Rattle.setl_reading.proofs.Exact.{Exact, weak, exact_then, exact_map, exact_expect, exact_one_of, exact_choose, exact_as, exact_by, exact_reads, exact_opening, exact_many, exact_optional, exact_separated, exact_lined, exact_name, some_one_of}
+use Rattle.setl_reading.proofs.Exact.{Exact, weak, exact_then, exact_map, exact_expect, exact_one_of, exact_choose, exact_as, exact_by, exact_reads, exact_opening, exact_many, exact_optional, exact_separated, exact_lined, exact_name}
 use Rattle.setl_reading.proofs.Inners.{zero_or_more}
 use Rattle.setl_reading.proofs.Statements.{exact_ending, law_ending, begins_ending}
 

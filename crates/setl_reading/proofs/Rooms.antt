@@ -20,7 +20,7 @@ use Rattle.setl_tree.specs.Tokens.{Token, Tokens}
 use Rattle.setl_tree.specs.declared.tree.Tree.{Tree}
 use Rattle.std.specs.Prelude.{⊤}
 use Rattle.setl_reading.specs.declared.fault.Fault.{Fault}
-use Rattle.setl_reading.specs.declared.fault.Fault.TheVariants.{Memory, Syntax, Nesting}
+use Rattle.setl_reading.specs.declared.fault.Fault.TheVariants.{Syntax, Nesting}
 use Rattle.setl_reading.specs.declared.ahead.Ahead.{Ahead}
 use Rattle.setl_reading.specs.declared.ahead.Ahead.TheVariants.{Expression, Either, Pattern}
 use Rattle.setl_reading.specs.Claims.{IsTooDeep}
@@ -32,7 +32,7 @@ use Rattle.setl_reading.specs.ReadStatements as s
 use Rattle.setl_reading.specs.ReadModes as m
 use Rattle.setl_reading.specs.ReadPrograms as p
 use Rattle.setl_reading.specs.Scan.{ahead}
-use Rattle.setl_reading.proofs.Exact.{left, and_left, open_within, open_meant_within, take_within, meant_within, reach_pure, reach_expect, reach_one_of}
+use Rattle.setl_reading.proofs.Exact.{left, and_left, open_within, open_meant_within, take_within, meant_within, reach_pure}
 use Rattle.setl_reading.proofs.Expressions.{nested_exact}
 use Rattle.setl_reading.proofs.Statements as statements
 use Rattle.setl_reading.proofs.Modes as modes

@@ -28,7 +28,7 @@ use Rattle.setl_reading.proofs.Laws.{Took, Law, Follows, Within, Begins, always,
 use Rattle.setl_reading.proofs.Regroup.{behind, assoc, unassoc, pure_then, then_pure, map_then, then_map, with_second, then_or, in_left, in_right, listed_none, many_nil, many_cons, many_to}
 use Rattle.setl_reading.proofs.Exact.{Exact, weak, exact_then, exact_map, exact_expect, exact_one_of, exact_choose, exact_either, exact_as, exact_by, exact_lower, exact_opening, exact_many, exact_optional, exact_separated, exact_listed, exact_lined, exact_name}
 use Rattle.setl_reading.proofs.Bounds.{below, over, law_pattern, begins_pattern, law_iters, exact_pattern, exact_iters}
-use Rattle.setl_reading.proofs.Inners.{exact_condition, IsExact, IsInside, starts_primary, starts}
+use Rattle.setl_reading.proofs.Inners.{IsExact, IsInside, starts_primary, starts}
 use Rattle.setl_reading.proofs.Expressions.{exact_braces, nested_exact, exact_expr, law_expr, begins_expr, nested_inside, law_braces}
 
 -- ---- ends

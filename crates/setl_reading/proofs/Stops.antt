@@ -1,12 +1,12 @@
 -- Where reading a program stops, the tokens go wrong.
-use Rattle.std.proofs.Common.{◌≡◌, ℕ, zero, suc, ◌+◌, ◌-◌, ◌≤◌, ◌<◌, true, List, [], ◌∷◌, ◌++◌, length, Ok, Err, refl, sym, ap, subst, ◌∙◌, append_assoc, arith, inl, inr, ◌⊎◌, length-append}
+use Rattle.std.proofs.Common.{◌≡◌, ℕ, zero, suc, ◌+◌, ◌-◌, ◌≤◌, ◌<◌, [], ◌∷◌, ◌++◌, length, Ok, Err, refl, sym, ap, subst, ◌∙◌, append_assoc, arith, inl, inr, ◌⊎◌, length-append}
 use Rattle.std.proofs.lemmas.List.{append-nil}
 use Rattle.setl_tree.specs.declared.tree.Tree.{Tree}
 use Rattle.setl_tree.specs.Tokens.{Token, Tokens}
 use Rattle.setl_tree.specs.Programs as grammar
 use Rattle.setl_reading.specs.declared.fault.Fault.TheVariants.{Memory, Syntax, Nesting}
 use Rattle.setl_reading.specs.Reading.{Outcome}
-use Rattle.setl_reading.specs.Fronts.{Begins, GoesWrong, GoesOn}
+use Rattle.setl_reading.specs.Fronts.{Begins, GoesWrong}
 use Rattle.setl_reading.specs.Claims.{IsTooDeep, SyntaxIsExact, LeftoverIsExact, OnePlaceIsWrong, NestingGoesOn}
 use Rattle.setl_reading.specs.ReadPrograms as reading
 use Rattle.setl_reading.proofs.Laws.{ok_parts}

@@ -1,5 +1,5 @@
 -- What a program may begin with, and where tokens go wrong.
-use Rattle.std.specs.Prelude.{◌≡◌, ℕ, List, [], ◌∷◌, ◌++◌, length}
+use Rattle.std.specs.Prelude.{◌≡◌, ℕ, [], ◌∷◌, ◌++◌, length}
 use Rattle.setl_tree.specs.declared.tree.Tree.{Tree}
 use Rattle.setl_tree.specs.Tokens.{Token, Tokens}
 use Rattle.setl_tree.specs.Programs.{Derives}
