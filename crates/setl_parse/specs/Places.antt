@@ -6,7 +6,7 @@ use Rattle.setl_token.specs.Text.{Lexed}
 use Rattle.setl_reading.specs.declared.fault.Fault.{Fault}
 use Rattle.setl_reading.specs.declared.fault.Fault.TheVariants as left
 use Rattle.setl_reading.specs.Reading.{Outcome}
-use Rattle.setl_reading.specs.Fronts.{GoesWrong, GoesOn}
+use Rattle.setl_reading.specs.Fronts.{GoesWrong, NestsTooDeep}
 use Rattle.setl_reading.specs.ReadPrograms as reading
 use Rattle.setl_expressions.specs.Plain.{plain_tokens}
 use Rattle.setl_parse.specs.declared.fault.ParseFault.{ParseFault}
@@ -38,15 +38,15 @@ outcome_of l (Err e) = Err (fault_of l e)
 abbrev pub GoesWrongAt : Lexed → ℕ → Type 0
 GoesWrongAt l place = (count : ℕ) × GoesWrong (plain_tokens l) count × (place ≡ place_of l count)
 
--- some program begins with the tokens before this place and the one there
-abbrev pub GoesOnAt : Lexed → ℕ → Type 0
-GoesOnAt l place = (count : ℕ) × GoesOn (plain_tokens l) count × (place ≡ place_of l count)
+-- some program begins with the tokens before this place and the one there, and none within 200 nestings
+abbrev pub NestsTooDeepAt : Lexed → ℕ → Type 0
+NestsTooDeepAt l place = (count : ℕ) × NestsTooDeep 200 (plain_tokens l) count × (place ≡ place_of l count)
 
 -- what the place of a fault is
 abbrev pub IsPlaced : Lexed → ParseFault → Type 0
 IsPlaced l at.NoMemory = ⊤
 IsPlaced l (at.Syntax place) = GoesWrongAt l place
-IsPlaced l (at.Nesting place) = GoesOnAt l place
+IsPlaced l (at.Nesting place) = NestsTooDeepAt l place
 
 -- where reading stops is such a place
 abbrev pub StopsArePlaced : Type 0

@@ -38,7 +38,7 @@ Fits room toks = suc (length toks) < room
 
 pub record Reach {A : Type 0} (room : ℕ) (r : Reader A) : Type 0 where
   pub within : (i : Tokens) → left (r i) ≤ length i
-  pub local : (front back : Tokens) → Fits room front → Extends back (r front) (r (front ++ back))
+  pub local : (front back : Tokens) → Extends back (r front) (r (front ++ back))
   pub faults : (i : Tokens) (e : Fault) → Fits room i → r i ≡ Err e → (count : ℕ) × (e ≡ Syntax count)
 
 -- at the end of the front
@@ -60,16 +60,16 @@ and_left (Err Memory) f n h within = h
 fits_shorter : (room : ℕ) (front rest : Tokens) → length rest ≤ length front → Fits room front → Fits room rest
 fits_shorter room front rest h fits = omega (arith, h, fits)
 
-then_extends : {A B : Type 0} (room : ℕ) (o whole : Outcome A) (f : A → Reader B) (front back : Tokens) → left o ≤ length front → Fits room front → ((a : A) → Reach room (f a)) → Extends back o whole
+then_extends : {A B : Type 0} (room : ℕ) (o whole : Outcome A) (f : A → Reader B) (back : Tokens) → ((a : A) → Reach room (f a)) → Extends back o whole
     → Extends back (and_then o f) (and_then whole f)
-then_extends room (Ok (a, [])) whole f front back long fits reach h = ends (f a []) back (and_then whole f) ((reach a).within []) (and_left whole f (length back) h (λ a. (reach a).within))
-then_extends room (Ok (a, t ∷ rest)) whole f front back long fits reach h =
-    subst (λ z. Extends back (f a (t ∷ rest)) (and_then z f)) (sym h) ((reach a).local (t ∷ rest) back (fits_shorter room front (t ∷ rest) long fits))
-then_extends room (Err (Syntax zero)) whole f front back long fits reach h = and_left whole f (length back) h (λ a. (reach a).within)
-then_extends room (Err (Syntax (suc n))) whole f front back long fits reach h = ap (λ o. and_then o f) h
-then_extends room (Err (Nesting zero)) whole f front back long fits reach h = and_left whole f (length back) h (λ a. (reach a).within)
-then_extends room (Err (Nesting (suc n))) whole f front back long fits reach h = ap (λ o. and_then o f) h
-then_extends room (Err Memory) whole f front back long fits reach h = and_left whole f (length back) h (λ a. (reach a).within)
+then_extends room (Ok (a, [])) whole f back reach h = ends (f a []) back (and_then whole f) ((reach a).within []) (and_left whole f (length back) h (λ a. (reach a).within))
+then_extends room (Ok (a, t ∷ rest)) whole f back reach h =
+    subst (λ z. Extends back (f a (t ∷ rest)) (and_then z f)) (sym h) ((reach a).local (t ∷ rest) back)
+then_extends room (Err (Syntax zero)) whole f back reach h = and_left whole f (length back) h (λ a. (reach a).within)
+then_extends room (Err (Syntax (suc n))) whole f back reach h = ap (λ o. and_then o f) h
+then_extends room (Err (Nesting zero)) whole f back reach h = and_left whole f (length back) h (λ a. (reach a).within)
+then_extends room (Err (Nesting (suc n))) whole f back reach h = ap (λ o. and_then o f) h
+then_extends room (Err Memory) whole f back reach h = and_left whole f (length back) h (λ a. (reach a).within)
 
 then_faults : {A B : Type 0} (o : Outcome A) (f : A → Reader B) (i : Tokens) (e : Fault) → left o ≤ length i → (o ≡ Err e → (count : ℕ) × (e ≡ Syntax count)) → ((a : A) (j : Tokens) → length j ≤ length i → f a j ≡ Err e → (count : ℕ) × (e ≡ Syntax count))
     → and_then o f ≡ Err e → (count : ℕ) × (e ≡ Syntax count)
@@ -79,21 +79,21 @@ then_faults (Err d) f i e long one two h = let same : d ≡ e = cc in one (ap Er
 pub reach_then : {A B : Type 0} {room : ℕ} {r : Reader A} {f : A → Reader B} → Reach room r → ((a : A) → Reach room (f a)) → Reach room (r >>= f)
 reach_then {room = room} {r = r} {f = f} one two = record {
   within = λ i. and_left (r i) f (length i) (one.within i) (λ a. (two a).within);
-  local = λ front back fits. then_extends room (r front) (r (front ++ back)) f front back (one.within front) fits two (one.local front back fits);
+  local = λ front back. then_extends room (r front) (r (front ++ back)) f back two (one.local front back);
   faults = λ i e fits h. then_faults (r i) f i e (one.within i) (one.faults i e fits) (λ a j long. (two a).faults j e (fits_shorter room i j long fits)) h;
 }
 
-pure_local : {A : Type 0} (a : A) {room : ℕ} (front back : Tokens) → Fits room front → Extends back (pure a front) (pure a (front ++ back))
-pure_local a [] back fits = omega arith
-pure_local a (t ∷ front) back fits = refl
+pure_local : {A : Type 0} (a : A) (front back : Tokens) → Extends back (pure a front) (pure a (front ++ back))
+pure_local a [] back = omega arith
+pure_local a (t ∷ front) back = refl
 
 pub reach_pure : {A : Type 0} {room : ℕ} (a : A) → Reach room (pure a)
 reach_pure {room = room} a = record { within = λ i. omega arith; local = pure_local a; faults = λ i e fits h. absurd cc }
 
 -- a choice by the next token
-by_local : {A : Type 0} {room : ℕ} (by : Kind → Reader A) → ((kind : Kind) → Reach room (by kind)) → (front back : Tokens) → Fits room front → Extends back ((peek >>= by) front) ((peek >>= by) (front ++ back))
-by_local by reach [] back fits = ends ((peek >>= by) []) back ((peek >>= by) back) ((reach k.SourceEnd).within []) ((reach (next_kind back)).within back)
-by_local by reach (t ∷ front) back fits = (reach t.kind).local (t ∷ front) back fits
+by_local : {A : Type 0} {room : ℕ} (by : Kind → Reader A) → ((kind : Kind) → Reach room (by kind)) → (front back : Tokens) → Extends back ((peek >>= by) front) ((peek >>= by) (front ++ back))
+by_local by reach [] back = ends ((peek >>= by) []) back ((peek >>= by) back) ((reach k.SourceEnd).within []) ((reach (next_kind back)).within back)
+by_local by reach (t ∷ front) back = (reach t.kind).local (t ∷ front) back
 
 pub reach_by : {A : Type 0} {room : ℕ} {by : Kind → Reader A} → ((kind : Kind) → Reach room (by kind)) → Reach room (peek >>= by)
 reach_by {by = by} reach = record { within = λ i. (reach (next_kind i)).within i; local = by_local by reach; faults = λ i e fits h. (reach (next_kind i)).faults i e fits h }
@@ -131,7 +131,7 @@ take_faults false i e h = (length i, cc)
 
 pub reach_expect : {room : ℕ} (kind : Kind) → Reach room (expect kind)
 unfolding expect
-reach_expect kind = record { within = λ i. take_within (is kind (next_kind i)) i; local = λ front back fits. expect_local kind front back; faults = λ i e fits h. take_faults (is kind (next_kind i)) i e h }
+reach_expect kind = record { within = λ i. take_within (is kind (next_kind i)) i; local = expect_local kind; faults = λ i e fits h. take_faults (is kind (next_kind i)) i e h }
 
 pub meant_within : {A : Type 0} (o : Option A) (i : Tokens) → left (meant o i) ≤ length i
 meant_within (Some a) [] = omega arith
@@ -157,7 +157,7 @@ meant_faults None i e h = (length i, cc)
 
 pub reach_one_of : {A : Type 0} {room : ℕ} (meaning : Kind → Option A) → Reach room (one_of meaning)
 unfolding one_of
-reach_one_of meaning = record { within = λ i. meant_within (meaning (next_kind i)) i; local = λ front back fits. one_of_local meaning front back; faults = λ i e fits h. meant_faults (meaning (next_kind i)) i e h }
+reach_one_of meaning = record { within = λ i. meant_within (meaning (next_kind i)) i; local = one_of_local meaning; faults = λ i e fits h. meant_faults (meaning (next_kind i)) i e h }
 
 -- a token that opens a nesting
 pub open_within : {A : Type 0} (room : ℕ) (here : Bool) (f : Token → Reader A) → ((inside : ℕ) → room ≡ suc inside → (t : Token) (i : Tokens) → left (f t i) ≤ length i) → (i : Tokens) → left (and_then (open_if room here i) f) ≤ length i
@@ -165,20 +165,28 @@ open_within zero true f within i = omega arith
 open_within zero false f within i = omega arith
 open_within (suc room) here f within i = and_left (take_if here i) f (length i) (take_within here i) (within room refl)
 
-opened_extends : {A : Type 0} (room : ℕ) (here : Bool) (f : Token → Reader A) → ((t : Token) → Reach room (f t)) → (t : Token) (front back : Tokens) → Fits (suc room) (t ∷ front)
+opened_extends : {A : Type 0} (room : ℕ) (here : Bool) (f : Token → Reader A) → ((t : Token) → Reach room (f t)) → (t : Token) (front back : Tokens)
     → Extends back (and_then (take_if here (t ∷ front)) f) (and_then (take_if here (t ∷ (front ++ back))) f)
-opened_extends room true f reach t front back fits = (reach t).local front back (omega (arith, fits))
-opened_extends room false f reach t front back fits = let same : suc (length (front ++ back)) ≡ suc (length front) + length back = omega (arith, length-append front back) in ap (λ (n : ℕ). Err (Syntax n)) same
+opened_extends room true f reach t front back = (reach t).local front back
+opened_extends room false f reach t front back = let same : suc (length (front ++ back)) ≡ suc (length front) + length back = omega (arith, length-append front back) in ap (λ (n : ℕ). Err (Syntax n)) same
 
-open_local : {A : Type 0} (room : ℕ) (kind : Kind) (f : Token → Reader A) → ((inside : ℕ) → room ≡ suc inside → (t : Token) → Reach inside (f t)) → (front back : Tokens) → Fits room front
+shut_extends : {A : Type 0} (here : Bool) (f : Token → Reader A) (t : Token) (front back : Tokens) → Extends back (and_then (open_if 0 here (t ∷ front)) f) (and_then (open_if 0 here (t ∷ (front ++ back))) f)
+shut_extends true f t front back = let same : suc (length (front ++ back)) ≡ suc (length front) + length back = omega (arith, length-append front back) in ap (λ (n : ℕ). Err (Nesting n)) same
+shut_extends false f t front back = let same : suc (length (front ++ back)) ≡ suc (length front) + length back = omega (arith, length-append front back) in ap (λ (n : ℕ). Err (Syntax n)) same
+
+open_local : {A : Type 0} (room : ℕ) (kind : Kind) (f : Token → Reader A) → ((inside : ℕ) → room ≡ suc inside → (t : Token) → Reach inside (f t)) → (front back : Tokens)
     → Extends back ((opening room kind >>= f) front) ((opening room kind >>= f) (front ++ back))
 unfolding opening
-open_local zero kind f reach front back fits = absurd (omega (arith, fits))
-open_local (suc room) kind f reach [] back fits =
+open_local zero kind f reach [] back =
+    ends ((opening zero kind >>= f) []) back ((opening zero kind >>= f) back)
+    (open_within zero (is kind k.SourceEnd) f (λ inside s t. (reach inside s t).within) [])
+    (open_within zero (is kind (next_kind back)) f (λ inside s t. (reach inside s t).within) back)
+open_local zero kind f reach (t ∷ front) back = shut_extends (is kind t.kind) f t front back
+open_local (suc room) kind f reach [] back =
     ends ((opening (suc room) kind >>= f) []) back ((opening (suc room) kind >>= f) back)
     (open_within (suc room) (is kind k.SourceEnd) f (λ inside s t. (reach inside s t).within) [])
     (open_within (suc room) (is kind (next_kind back)) f (λ inside s t. (reach inside s t).within) back)
-open_local (suc room) kind f reach (t ∷ front) back fits = opened_extends room (is kind t.kind) f (reach room refl) t front back fits
+open_local (suc room) kind f reach (t ∷ front) back = opened_extends room (is kind t.kind) f (reach room refl) t front back
 
 opened_faults : {A : Type 0} (room : ℕ) (here : Bool) (f : Token → Reader A) → ((t : Token) → Reach room (f t)) → (i : Tokens) (e : Fault) → Fits (suc room) i → and_then (take_if here i) f ≡ Err e → (count : ℕ) × (e ≡ Syntax count)
 opened_faults room true f reach [] e fits h = (0, cc)
@@ -203,20 +211,28 @@ open_meant_within zero (Some a) f within i = omega arith
 open_meant_within zero None f within i = omega arith
 open_meant_within (suc room) o f within i = and_left (meant o i) f (length i) (meant_within o i) (within room refl)
 
-meant_opened : {A B : Type 0} (room : ℕ) (o : Option A) (f : A → Reader B) → ((a : A) → Reach room (f a)) → (t : Token) (front back : Tokens) → Fits (suc room) (t ∷ front)
+meant_opened : {A B : Type 0} (room : ℕ) (o : Option A) (f : A → Reader B) → ((a : A) → Reach room (f a)) → (t : Token) (front back : Tokens)
     → Extends back (and_then (meant o (t ∷ front)) f) (and_then (meant o (t ∷ (front ++ back))) f)
-meant_opened room (Some a) f reach t front back fits = (reach a).local front back (omega (arith, fits))
-meant_opened room None f reach t front back fits = let same : suc (length (front ++ back)) ≡ suc (length front) + length back = omega (arith, length-append front back) in ap (λ (n : ℕ). Err (Syntax n)) same
+meant_opened room (Some a) f reach t front back = (reach a).local front back
+meant_opened room None f reach t front back = let same : suc (length (front ++ back)) ≡ suc (length front) + length back = omega (arith, length-append front back) in ap (λ (n : ℕ). Err (Syntax n)) same
 
-open_meant_local : {A B : Type 0} (room : ℕ) (meaning : Kind → Option A) (f : A → Reader B) → ((inside : ℕ) → room ≡ suc inside → (a : A) → Reach inside (f a)) → (front back : Tokens) → Fits room front
+meant_shut : {A B : Type 0} (o : Option A) (f : A → Reader B) (t : Token) (front back : Tokens) → Extends back (and_then (open_meant 0 o (t ∷ front)) f) (and_then (open_meant 0 o (t ∷ (front ++ back))) f)
+meant_shut (Some a) f t front back = let same : suc (length (front ++ back)) ≡ suc (length front) + length back = omega (arith, length-append front back) in ap (λ (n : ℕ). Err (Nesting n)) same
+meant_shut None f t front back = let same : suc (length (front ++ back)) ≡ suc (length front) + length back = omega (arith, length-append front back) in ap (λ (n : ℕ). Err (Syntax n)) same
+
+open_meant_local : {A B : Type 0} (room : ℕ) (meaning : Kind → Option A) (f : A → Reader B) → ((inside : ℕ) → room ≡ suc inside → (a : A) → Reach inside (f a)) → (front back : Tokens)
     → Extends back ((opening_one_of room meaning >>= f) front) ((opening_one_of room meaning >>= f) (front ++ back))
 unfolding opening_one_of
-open_meant_local zero meaning f reach front back fits = absurd (omega (arith, fits))
-open_meant_local (suc room) meaning f reach [] back fits =
+open_meant_local zero meaning f reach [] back =
+    ends ((opening_one_of zero meaning >>= f) []) back ((opening_one_of zero meaning >>= f) back)
+    (open_meant_within zero (meaning k.SourceEnd) f (λ inside s a. (reach inside s a).within) [])
+    (open_meant_within zero (meaning (next_kind back)) f (λ inside s a. (reach inside s a).within) back)
+open_meant_local zero meaning f reach (t ∷ front) back = meant_shut (meaning t.kind) f t front back
+open_meant_local (suc room) meaning f reach [] back =
     ends ((opening_one_of (suc room) meaning >>= f) []) back ((opening_one_of (suc room) meaning >>= f) back)
     (open_meant_within (suc room) (meaning k.SourceEnd) f (λ inside s a. (reach inside s a).within) [])
     (open_meant_within (suc room) (meaning (next_kind back)) f (λ inside s a. (reach inside s a).within) back)
-open_meant_local (suc room) meaning f reach (t ∷ front) back fits = meant_opened room (meaning t.kind) f (reach room refl) t front back fits
+open_meant_local (suc room) meaning f reach (t ∷ front) back = meant_opened room (meaning t.kind) f (reach room refl) t front back
 
 no_end_meant : {A B : Type 0} (o : Option A) (f : A → Reader B) (e : Fault) → o ≡ None → and_then (meant o []) f ≡ Err e → (count : ℕ) × (e ≡ Syntax count)
 no_end_meant (Some a) f e end h = absurd cc
@@ -243,14 +259,14 @@ reach_opening_one_of room meaning end {f = f} reach = record {
 pub reach_lower : {A : Type 0} {room inside : ℕ} {r : Reader A} → room ≡ suc inside → Reach room r → Reach inside r
 reach_lower is_suc reach = record {
   within = reach.within;
-  local = λ front back fits. reach.local front back (omega (arith, fits, is_suc));
+  local = reach.local;
   faults = λ i e fits. reach.faults i e (omega (arith, fits, is_suc));
 }
 
-lined_local : {A : Type 0} {room : ℕ} (r : Reader A) → Reach room r → (front back : Tokens) → Fits room front → Extends back (lined r front) (lined r (front ++ back))
-lined_local {room = room} r reach [] back fits =
+lined_local : {A : Type 0} {room : ℕ} (r : Reader A) → Reach room r → (front back : Tokens) → Extends back (lined r front) (lined r (front ++ back))
+lined_local {room = room} r reach [] back =
     ends (lined r []) back (lined r back) ((reach_then reach (λ a. reach_pure {room = room} (0, a))).within []) ((reach_then reach (λ a. reach_pure {room = room} (lang.line_of back, a))).within back)
-lined_local {room = room} r reach (t ∷ front) back fits = (reach_then reach (λ a. reach_pure {room = room} (t.line, a))).local (t ∷ front) back fits
+lined_local {room = room} r reach (t ∷ front) back = (reach_then reach (λ a. reach_pure {room = room} (t.line, a))).local (t ∷ front) back
 
 pub reach_lined : {A : Type 0} {room : ℕ} {r : Reader A} → Reach room r → Reach room (lined r)
 reach_lined {room = room} {r = r} reach = record {
@@ -286,22 +302,22 @@ turn_extends (Err (Nesting zero)) whole f g back within within2 goes h = and_lef
 turn_extends (Err (Nesting (suc n))) whole f g back within within2 goes h = ap (λ o. and_then o g) h
 turn_extends (Err Memory) whole f g back within within2 goes h = and_left whole g (length back) h within2
 
-many_extends : {A : Type 0} (room : ℕ) (begins : Kind → Bool) (item : Reader A) → Reach room item → Eats item → (n m : ℕ) (found : List A) (front back : Tokens) → length front ≤ n → length (front ++ back) ≤ m → Fits room front
+many_extends : {A : Type 0} (room : ℕ) (begins : Kind → Bool) (item : Reader A) → Reach room item → Eats item → (n m : ℕ) (found : List A) (front back : Tokens) → length front ≤ n → length (front ++ back) ≤ m
     → Extends back (many_from begins item n found front) (many_from begins item m found (front ++ back))
 unfolding many_from
-many_extends room begins item reach eats n m found [] back le le2 fits =
+many_extends room begins item reach eats n m found [] back le le2 =
     ends (many_from begins item n found []) back (many_from begins item m found back) (many_within begins item reach.within n found []) (many_within begins item reach.within m found back)
-many_extends room begins item reach eats zero m found (t ∷ front) back le le2 fits = absurd (omega (arith, le))
-many_extends room begins item reach eats (suc n) zero found (t ∷ front) back le le2 fits = absurd (omega (arith, le2))
-many_extends {A = A} room begins item reach eats (suc n) (suc m) found (t ∷ front) back le le2 fits =
+many_extends room begins item reach eats zero m found (t ∷ front) back le le2 = absurd (omega (arith, le))
+many_extends room begins item reach eats (suc n) zero found (t ∷ front) back le le2 = absurd (omega (arith, le2))
+many_extends {A = A} room begins item reach eats (suc n) (suc m) found (t ∷ front) back le le2 =
     let f : A → Reader (List A) = λ x. many_from begins item n (found ++ x ∷ []) in
     let g : A → Reader (List A) = λ x. many_from begins item m (found ++ x ∷ []) in
     let go : (b : Bool) → Extends back (cond b (item >>= f) (pure found) (t ∷ front)) (cond b (item >>= g) (pure found) (t ∷ (front ++ back))) = λ b.
     elim b as (λ b. Extends back (cond b (item >>= f) (pure found) (t ∷ front)) (cond b (item >>= g) (pure found) (t ∷ (front ++ back)))) [
       | true ↦ turn_extends (item (t ∷ front)) (item (t ∷ (front ++ back))) f g back (λ x. many_within begins item reach.within n (found ++ x ∷ [])) (λ x. many_within begins item reach.within m (found ++ x ∷ []))
           (λ x u rest h. let short = eats.takes (t ∷ front) x (u ∷ rest) h in
-          many_extends room begins item reach eats n m (found ++ x ∷ []) (u ∷ rest) back (omega (arith, short, le)) (omega (arith, short, le2, length-append front back, length-append rest back)) (omega (arith, short, fits)))
-          (reach.local (t ∷ front) back fits)
+          many_extends room begins item reach eats n m (found ++ x ∷ []) (u ∷ rest) back (omega (arith, short, le)) (omega (arith, short, le2, length-append front back, length-append rest back)))
+          (reach.local (t ∷ front) back)
       | false ↦ refl
     ] in
     go (begins t.kind)
@@ -321,7 +337,7 @@ many_faults {A = A} room begins item reach (suc n) found i e fits h =
 pub reach_many : {A : Type 0} {room : ℕ} (begins : Kind → Bool) {item : Reader A} → Reach room item → Eats item → Reach room (many begins item)
 reach_many {room = room} begins {item = item} reach eats = record {
   within = λ i. many_within begins item reach.within (length i) [] i;
-  local = λ front back fits. many_extends room begins item reach eats (length front) (length (front ++ back)) [] front back (omega arith) (omega arith) fits;
+  local = λ front back. many_extends room begins item reach eats (length front) (length (front ++ back)) [] front back (omega arith) (omega arith);
   faults = λ i e fits h. many_faults room begins item reach (length i) [] i e fits h;
 }
 
@@ -531,7 +547,7 @@ exact_reads {r = r} {q = q} same one = record {
   some = one.some;
   reach = record {
     within = λ i. subst (λ z. left z ≤ length i) (sym (same i)) (one.reach.within i);
-    local = λ front back fits. subst (λ z. Extends back z (r (front ++ back))) (sym (same front)) (subst (λ z. Extends back (q front) z) (sym (same (front ++ back))) (one.reach.local front back fits));
+    local = λ front back. subst (λ z. Extends back z (r (front ++ back))) (sym (same front)) (subst (λ z. Extends back (q front) z) (sym (same (front ++ back))) (one.reach.local front back));
     faults = λ i e fits h. one.reach.faults i e fits (sym (same i) ∙ h);
   };
 }

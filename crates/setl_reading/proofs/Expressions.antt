@@ -1,5 +1,5 @@
 -- Reading expressions.
-use Rattle.std.proofs.Common.{◌≡◌, ℕ, zero, suc, ◌-◌, Bool, true, false, not, List, [], ◌∷◌, ◌++◌, Option, Some, None, Ok, Err, refl, sym, ap, subst, ◌∙◌, arith, inl, inr, ◌⊎◌}
+use Rattle.std.proofs.Common.{◌≡◌, ℕ, zero, suc, ◌-◌, Bool, true, false, not, List, [], ◌∷◌, ◌++◌, Option, Some, None, Ok, Err, length, refl, sym, ap, subst, ◌∙◌, arith, inl, inr, ◌⊎◌}
 use Rattle.std.proofs.lemmas.List.{append-nil}
 use Rattle.setl_tree.specs.declared.kind.Kind.{Kind}
 use Rattle.setl_tree.specs.declared.kind.Kind.TheVariants as k
@@ -18,12 +18,14 @@ use Rattle.setl_tree.specs.Lang as lang
 use Rattle.setl_tree.specs.Operators.{level_of, op_at, binary_op, relation_op, not_sign, prefix_op, fold_sign, quantifier, constant, chain_of, prefixed, selected}
 use Rattle.setl_tree.specs.Expressions as grammar
 use Rattle.setl_reading.specs.declared.ahead.Ahead.TheVariants.{Pattern}
-use Rattle.setl_reading.specs.Reading.{but, Outcome, Reader, ◌>>=◌, and_then, pure, peek, expect, opening, one_of, meant, is, begins_as, next_kind, rest_of, same_kind}
+use Rattle.setl_reading.specs.Reading.{open_if, but, Outcome, Reader, ◌>>=◌, and_then, pure, peek, expect, opening, one_of, meant, is, begins_as, next_kind, rest_of, same_kind}
 use Rattle.setl_reading.specs.Scan.{ends_slot, slots_ahead}
 use Rattle.setl_reading.specs.ReadExpressions as r
 use Rattle.setl_reading.proofs.EveryKind.{kinds}
 use Rattle.setl_reading.proofs.Laws.{Took, Law, Follows, Within, Begins, Fails, always, anything, took_as, fails_then, fails_at, takes, passes, goes_to, opening_fails, opening_takes, many_none, same_outcome, bind_assoc, law_of, chosen, next_of, not_is, within, within_always, same, law_pure, law_then, law_map, law_stops, law_expect, law_one_of, law_choose, law_as, law_opening, law_opening_one_of, law_many, law_more, law_separated, law_name, begins_name, begins_token, begins_then, begins_or, begins_within, begins_one_of, begins_many, begins_opening, begins_opening_one_of, follows_begins, follows_token, follows_or, follows_then, follows_map, follows_more, follows_pure, follows_opening}
-use Rattle.setl_reading.proofs.Exact.{Reach, Exact, reach_then, reach_pure, weak, exact_then, exact_map, exact_pure, exact_expect, exact_one_of, exact_choose, exact_either, exact_as, exact_by, exact_opening, exact_opening_one_of, exact_many, exact_more, exact_separated, exact_name, token_of}
+use Rattle.setl_reading.specs.declared.fault.Fault.TheVariants.{Nesting}
+use Rattle.setl_reading.proofs.EveryKind.{same_kind_self}
+use Rattle.setl_reading.proofs.Exact.{fails_to, Reach, Exact, reach_then, reach_pure, weak, exact_then, exact_map, exact_pure, exact_expect, exact_one_of, exact_choose, exact_either, exact_as, exact_by, exact_opening, exact_opening_one_of, exact_many, exact_more, exact_separated, exact_name, token_of}
 use Rattle.setl_reading.proofs.Regroup.{more_l, behind, with_second, optional_none, optional_some, optional_to, listed_none, listed_some, listed_to}
 use Rattle.setl_reading.proofs.Bounds.{below, below_more, starts_bound, law_iters, exact_iters}
 use Rattle.setl_reading.proofs.Levels.{exact_chain, exact_chain_from, op_2, op_3, op_4, op_7, op_8, op_9, op_10, law_chain, level_2, level_3, level_4, level_7, level_8, level_9, level_10}
@@ -870,12 +872,32 @@ module _ (room : ℕ) (R : r.Inside) (L : grammar.Inside) (E : (inside : ℕ) �
         }))))))) in
         (c.more, e.Tuple (inn.List c.values), subst (λ (z : Tokens). grammar.whole room L (t ∷ z) (e.Tuple (inn.List c.values))) (sym c.parts) (primary_whole (t ∷ (c.list ++ c.close ∷ [])) (e.Tuple (inn.List c.values)) tuple))
 
+    opening_shut : (t : Token) (toks : Tokens) → t.kind ≡ k.LeftBracket → opening zero k.LeftBracket (t ∷ toks) ≡ Err (Nesting (suc (length toks)))
+    unfolding opening
+    opening_shut t toks bracket =
+        let here : is k.LeftBracket t.kind ≡ true = ap (is k.LeftBracket) bracket ∙ same_kind_self k.LeftBracket in
+        ap (λ (b : Bool). open_if zero b (t ∷ toks)) here
+
+    -- a bracket that may not open
+    bracket_shut : room ≡ zero → (t : Token) (toks : Tokens) → t.kind ≡ k.LeftBracket → r.whole room R (t ∷ toks) ≡ Err (Nesting (suc (length toks)))
+    unfolding r.e6 r.e7 r.e11 r.e12 r.prefixes r.primary r.tuple
+    bracket_shut none t toks bracket =
+        let no_prefix = many_none r.begins_prefix r.prefix (t ∷ toks) (ap r.begins_prefix bracket ∙ bracket_facts.2) in
+        let as_tuple : r.primary room R (t ∷ toks) ≡ r.tuple room R (t ∷ toks) = ap (λ (z : Kind). r.primary_by room R z (t ∷ toks)) bracket in
+        let opened : opening room k.LeftBracket (t ∷ toks) ≡ Err (Nesting (suc (length toks))) = ap (λ (z : ℕ). opening z k.LeftBracket (t ∷ toks)) none ∙ opening_shut t toks bracket in
+        let at_tuple : r.primary room R (t ∷ toks) ≡ Err (Nesting (suc (length toks))) = as_tuple ∙ fails_to (λ _. r.inner (room - 1) R >>= λ x. expect k.RightBracket >>= λ _. pure (e.Tuple x)) opened in
+        let at_12 : r.e12 room R (t ∷ toks) ≡ Err (Nesting (suc (length toks))) = fails_to (λ p. r.selectors room R >>= λ ss. pure (selected p ss)) at_tuple in
+        let at_11 : r.e11 room R (t ∷ toks) ≡ Err (Nesting (suc (length toks))) = goes_to (λ ps. r.e12 room R >>= λ x. pure (prefixed ps x)) no_prefix ∙ fails_to (λ x. pure (prefixed [] x)) at_12 in
+        let at_7 = fails_to (r.chain_from 7 (r.levels 10 (r.e11 room R) 3)) (fails_to (r.chain_from 8 (r.levels 10 (r.e11 room R) 2)) (fails_to (r.chain_from 9 (r.levels 10 (r.e11 room R) 1)) (fails_to (r.chain_from 10 (r.e11 room R)) at_11))) in
+        whole_is (t ∷ toks) (ap (begins_as quantifier) bracket ∙ bracket_facts.0) (ap (begins_as not_sign) bracket ∙ bracket_facts.1) ∙ fails_to (r.after room R) (fails_to (r.compared room R) at_7)
+
     pub is_exact : IsExact room (record { expr = r.whole room R; source = r.e7 room R; after = r.after room R }) (record { expr = grammar.whole room L; source = grammar.e7 room L })
     is_exact = record {
       expr = exact_whole;
       source = exact_e7;
       after = reach_after;
       minus_expr = λ t u minus name. (prefixed (pre.Minus ∷ []) (e.Name u.text), operand_whole (t ∷ u ∷ []) (prefixed (pre.Minus ∷ []) (e.Name u.text)) (minus_name t u minus name));
+      shut = bracket_shut;
       goes = tuple_goes;
     }
 

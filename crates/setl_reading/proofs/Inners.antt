@@ -1,5 +1,5 @@
 -- Reading what stands inside braces and brackets.
-use Rattle.std.proofs.Common.{◌≡◌, ℕ, zero, suc, ◌≤◌, Bool, true, false, not, cond, if◌then◌else◌, List, [], ◌∷◌, ◌++◌, length, Some, None, Ok, Err, length-append, refl, sym, ap, subst, ◌∙◌, append_assoc, arith, inl, inr, ◌⊎◌}
+use Rattle.std.proofs.Common.{◌≡◌, ℕ, zero, suc, ◌+◌, ◌≤◌, Bool, true, false, not, cond, if◌then◌else◌, List, [], ◌∷◌, ◌++◌, length, Some, None, Ok, Err, length-append, refl, sym, ap, subst, ◌∙◌, append_assoc, arith, inl, inr, ◌⊎◌}
 use Rattle.std.proofs.lemmas.List.{append-nil}
 use Rattle.setl_tree.specs.declared.kind.Kind.{Kind}
 use Rattle.setl_tree.specs.declared.kind.Kind.TheVariants as k
@@ -18,8 +18,8 @@ use Rattle.setl_tree.specs.Operators.{level_of, not_sign, prefix_op, fold_sign, 
 use Rattle.setl_tree.specs.Expressions as grammar
 use Rattle.setl_reading.specs.declared.ahead.Ahead.{Ahead}
 use Rattle.setl_reading.specs.declared.ahead.Ahead.TheVariants.{Expression, Either, Pattern}
-use Rattle.setl_reading.specs.declared.fault.Fault.TheVariants.{Syntax}
-use Rattle.setl_reading.specs.Reading.{but, Outcome, Reader, ◌>>=◌, ◌>>◌, and_then, pure, expect, opening, is, begins_as, next_kind, rest_of, same_kind, many_from, more, separated}
+use Rattle.setl_reading.specs.declared.fault.Fault.TheVariants.{Syntax, Nesting}
+use Rattle.setl_reading.specs.Reading.{open_if, but, Outcome, Reader, ◌>>=◌, ◌>>◌, and_then, pure, expect, opening, is, begins_as, next_kind, rest_of, same_kind, many_from, more, separated}
 use Rattle.setl_reading.specs.Scan.{either_at, ends_slot, slots_ahead, ahead, bound_expr}
 use Rattle.setl_reading.specs.ReadExpressions as r
 use Rattle.setl_reading.proofs.EveryKind.{kinds, same_kind_is, same_kind_self}
@@ -86,6 +86,8 @@ pub record IsExact (room : ℕ) (R : r.Inside) (L : grammar.Inside) : Type 0 whe
   pub after : (a : Expr) → Reach room (R.after a)
   -- a `-` before a name
   pub minus_expr : (t u : Token) → t.kind ≡ k.Minus → u.kind ≡ k.Name → (a : Expr) × L.expr (t ∷ u ∷ []) a
+  -- a bracket that may not open
+  pub shut : room ≡ zero → (t : Token) (toks : Tokens) → t.kind ≡ k.LeftBracket → R.expr (t ∷ toks) ≡ Err (Nesting (suc (length toks)))
   -- names behind a bracket, up to the end of the tokens
   pub goes : (inside : ℕ) → room ≡ suc inside → (t : Token) (toks : Tokens) → t.kind ≡ k.LeftBracket → OpenSlots toks → (more : Tokens) × (a : Expr) × L.expr (t ∷ (toks ++ more)) a
 
@@ -685,30 +687,37 @@ module _ (room : ℕ) (R : r.Inside) (L : grammar.Inside) (E : IsInside room R L
     reach_by Pattern = reach_bound (r.filter room R) reach_filter
 
     -- a front that the scan runs to the end of is read to its end, as a bound and as an expression
-    bound_read : (front more : Tokens) (b : Bound) → grammar.bound room (front ++ more) b → Fits room front → left (r.bound room front) ≤ 0
-    bound_read front more b s fits =
+    -- a bracket in front may open
+    abbrev Roomy : Tokens → Type 0
+    Roomy front = next_kind front ≡ k.LeftBracket → (m : ℕ) × (room ≡ suc m)
+
+    not_both : {b : Bool} → b ≡ false → b ≡ true → ⊥
+    not_both h g = absurd (cc (h, g))
+
+    bound_read : (front more : Tokens) (b : Bound) → grammar.bound room (front ++ more) b → left (r.bound room front) ≤ 0
+    bound_read front more b s =
         let read = (law_bound room).complete.reads (front ++ more) [] b s refl in
         let whole : r.bound room (front ++ more) ≡ Ok (b, []) = ap (r.bound room) (sym (append-nil (front ++ more))) ∙ read in
         let none = ap left whole in
-        left_none (r.bound room front) (r.bound room (front ++ more)) more ((exact_bound {always = true} room).reach.local front more fits) (omega (arith, none))
+        left_none (r.bound room front) (r.bound room (front ++ more)) more ((exact_bound {always = true} room).reach.local front more) (omega (arith, none))
 
-    plain_read : (front more : Tokens) (a : Expr) → L.expr (front ++ more) a → Fits room front → left (r.plain room R front) ≤ 0
+    plain_read : (front more : Tokens) (a : Expr) → L.expr (front ++ more) a → left (r.plain room R front) ≤ 0
     unfolding r.closes
-    plain_read front more a s fits =
+    plain_read front more a s =
         let back : Tokens = more ++ token_of k.RightBrace ∷ [] in
         let spelled : plain_l (front ++ more) (inn.List (a ∷ [])) = inr (record { front = front ++ more; back = []; value = a; parts = sym (append-nil (front ++ more)); first = s; second = inr (inr (inr (refl, refl))) }) in
         let read = law_plain.complete.reads (front ++ more) (token_of k.RightBrace ∷ []) (inn.List (a ∷ [])) spelled refl in
         let whole = ap (r.plain room R) (sym (append_assoc front more (token_of k.RightBrace ∷ []))) ∙ read in
         let one = ap left whole in
-        left_none (r.plain room R front) (r.plain room R (front ++ back)) back (exact_plain.reach.local front back fits) (omega (arith, one, length-append more (token_of k.RightBrace ∷ [])))
+        left_none (r.plain room R front) (r.plain room R (front ++ back)) back (exact_plain.reach.local front back) (omega (arith, one, length-append more (token_of k.RightBrace ∷ [])))
 
-    open_bound : (front : Tokens) → Open front → Fits room front → left (r.bound room front) ≤ 0
+    open_bound : (front : Tokens) → Open front → Roomy front → left (r.bound room front) ≤ 0
     unfolding grammar.bound grammar.pattern grammar.slot
-    open_bound [] opened fits = (exact_bound {always = true} room).reach.within []
-    open_bound (t ∷ toks) (inl name) fits =
-        bound_read (t ∷ toks) [] (bd.Name t.text) (inl (record { front = t ∷ []; back = []; value = t.text; parts = append-nil (t ∷ toks) ∙ ap (λ (z : Tokens). t ∷ z) name.1; first = name_token t name.0; second = (refl, refl) })) fits
-    open_bound (t ∷ toks) (inr bracket) fits =
-        let m = pred_of room (t ∷ toks) fits in
+    open_bound [] opened roomy = (exact_bound {always = true} room).reach.within []
+    open_bound (t ∷ toks) (inl name) roomy =
+        bound_read (t ∷ toks) [] (bd.Name t.text) (inl (record { front = t ∷ []; back = []; value = t.text; parts = append-nil (t ∷ toks) ∙ ap (λ (z : Tokens). t ∷ z) name.1; first = name_token t name.0; second = (refl, refl) }))
+    open_bound (t ∷ toks) (inr bracket) roomy =
+        let m = roomy bracket.0 in
         let c = closes_slots grammar.slot
         (λ t name. (sl.Name t.text, inl (record { front = t ∷ []; back = []; value = t.text; parts = refl; first = name_token t name; second = (refl, refl) })))
         (λ t minus. ([], sl.Skip, inr (record { front = t ∷ []; back = []; value = t; parts = refl; first = record { alone = refl; kind = minus }; second = (refl, refl) }))) toks bracket.1 in
@@ -716,47 +725,104 @@ module _ (room : ℕ) (R : r.Inside) (L : grammar.Inside) (E : IsInside room R L
         let as_pattern : grammar.pattern room used c.values = subst (λ (z : ℕ). grammar.pattern z used c.values) (sym m.1) (bracketed grammar.slot m.0 t c.list c.close c.values bracket.0 c.closed c.spelled) in
         let as_bound : grammar.bound room used (bd.Pattern c.values) = inr (record { front = used; back = []; value = c.values; parts = sym (append-nil used); first = as_pattern; second = (refl, refl) }) in
         let same : used ≡ t ∷ (toks ++ c.more) = ap (λ (z : Tokens). t ∷ z) (sym c.parts) in
-        bound_read (t ∷ toks) c.more (bd.Pattern c.values) (subst (λ (z : Tokens). grammar.bound room z (bd.Pattern c.values)) same as_bound) fits
+        bound_read (t ∷ toks) c.more (bd.Pattern c.values) (subst (λ (z : Tokens). grammar.bound room z (bd.Pattern c.values)) same as_bound)
 
-    open_plain : (front : Tokens) → Open front → Fits room front → left (r.plain room R front) ≤ 0
-    open_plain [] opened fits = exact_plain.reach.within []
-    open_plain (t ∷ toks) (inl name) fits =
+    open_plain : (front : Tokens) → Open front → Roomy front → left (r.plain room R front) ≤ 0
+    open_plain [] opened roomy = exact_plain.reach.within []
+    open_plain (t ∷ toks) (inl name) roomy =
         let same : t ∷ [] ≡ t ∷ (toks ++ []) = ap (λ (z : Tokens). t ∷ z) (sym (append-nil toks ∙ name.1)) in
-        plain_read (t ∷ toks) [] (e.Name t.text) (subst (λ (z : Tokens). L.expr z (e.Name t.text)) same (E.name_expr t name.0)) fits
-    open_plain (t ∷ toks) (inr bracket) fits =
-        let m = pred_of room (t ∷ toks) fits in
+        plain_read (t ∷ toks) [] (e.Name t.text) (subst (λ (z : Tokens). L.expr z (e.Name t.text)) same (E.name_expr t name.0))
+    open_plain (t ∷ toks) (inr bracket) roomy =
+        let m = roomy bracket.0 in
         let g = X.goes m.0 m.1 t toks bracket.0 bracket.1 in
-        plain_read (t ∷ toks) g.0 g.1 g.2 fits
+        plain_read (t ∷ toks) g.0 g.1 g.2
 
     behind_bound : (b : Bound) → (go_on : Bound → Expr → Reader Inner) → ((b : Bound) (s : Expr) → Reach room (go_on b s)) → (i : Tokens) → left ((expect k.In >>= λ _. R.source >>= λ s. go_on b s) i) ≤ length i
     behind_bound b go_on reach i = (reach_then (reach_expect {room = room} k.In) (λ _. reach_then X.source.reach (λ s. reach b s))).within i
 
-    bound_far : (front back : Tokens) → Open front → Fits room front → left (r.bound room (front ++ back)) ≤ length back
-    bound_far front back opened fits = far (r.bound room front) (r.bound room (front ++ back)) back ((exact_bound {always = true} room).reach.local front back fits) (open_bound front opened fits)
+    bound_far : (front back : Tokens) → Open front → Roomy front → left (r.bound room (front ++ back)) ≤ length back
+    bound_far front back opened roomy = far (r.bound room front) (r.bound room (front ++ back)) back ((exact_bound {always = true} room).reach.local front back) (open_bound front opened roomy)
 
-    first_none : (go_on : Bound → Expr → Reader Inner) → ((b : Bound) (s : Expr) → Reach room (go_on b s)) → (front : Tokens) → Open front → Fits room front → left (r.bound_first room R go_on front) ≤ 0
+    first_none : (go_on : Bound → Expr → Reader Inner) → ((b : Bound) (s : Expr) → Reach room (go_on b s)) → (front : Tokens) → Open front → Roomy front → left (r.bound_first room R go_on front) ≤ 0
     unfolding r.bound_first
-    first_none go_on reach front opened fits = and_left (r.bound room front) (λ b. expect k.In >>= λ _. R.source >>= λ s. go_on b s) 0 (open_bound front opened fits) (λ b. behind_bound b go_on reach)
+    first_none go_on reach front opened roomy = and_left (r.bound room front) (λ b. expect k.In >>= λ _. R.source >>= λ s. go_on b s) 0 (open_bound front opened roomy) (λ b. behind_bound b go_on reach)
 
-    first_far : (go_on : Bound → Expr → Reader Inner) → ((b : Bound) (s : Expr) → Reach room (go_on b s)) → (front back : Tokens) → Open front → Fits room front → left (r.bound_first room R go_on (front ++ back)) ≤ length back
+    first_far : (go_on : Bound → Expr → Reader Inner) → ((b : Bound) (s : Expr) → Reach room (go_on b s)) → (front back : Tokens) → Open front → Roomy front → left (r.bound_first room R go_on (front ++ back)) ≤ length back
     unfolding r.bound_first
-    first_far go_on reach front back opened fits = and_left (r.bound room (front ++ back)) (λ b. expect k.In >>= λ _. R.source >>= λ s. go_on b s) (length back) (bound_far front back opened fits) (λ b. behind_bound b go_on reach)
+    first_far go_on reach front back opened roomy = and_left (r.bound room (front ++ back)) (λ b. expect k.In >>= λ _. R.source >>= λ s. go_on b s) (length back) (bound_far front back opened roomy) (λ b. behind_bound b go_on reach)
 
-    open_none : (at : Ahead) (front : Tokens) → Open front → Fits room front → left (r.inner_by room R at front) ≤ 0
-    open_none Expression front opened fits = open_plain front opened fits
-    open_none Either front opened fits = first_none (r.filter_or_plain room R) reach_either front opened fits
-    open_none Pattern front opened fits = first_none (r.filter room R) reach_filter front opened fits
+    open_none : (at : Ahead) (front : Tokens) → Open front → Roomy front → left (r.inner_by room R at front) ≤ 0
+    open_none Expression front opened roomy = open_plain front opened roomy
+    open_none Either front opened roomy = first_none (r.filter_or_plain room R) reach_either front opened roomy
+    open_none Pattern front opened roomy = first_none (r.filter room R) reach_filter front opened roomy
 
-    open_far : (at : Ahead) (front back : Tokens) → Open front → Fits room front → left (r.inner_by room R at (front ++ back)) ≤ length back
-    open_far Expression front back opened fits = far (r.plain room R front) (r.plain room R (front ++ back)) back (exact_plain.reach.local front back fits) (open_plain front opened fits)
-    open_far Either front back opened fits = first_far (r.filter_or_plain room R) reach_either front back opened fits
-    open_far Pattern front back opened fits = first_far (r.filter room R) reach_filter front back opened fits
+    open_far : (at : Ahead) (front back : Tokens) → Open front → Roomy front → left (r.inner_by room R at (front ++ back)) ≤ length back
+    open_far Expression front back opened roomy = far (r.plain room R front) (r.plain room R (front ++ back)) back (exact_plain.reach.local front back) (open_plain front opened roomy)
+    open_far Either front back opened roomy = first_far (r.filter_or_plain room R) reach_either front back opened roomy
+    open_far Pattern front back opened roomy = first_far (r.filter room R) reach_filter front back opened roomy
 
-    inner_local : (front back : Tokens) → Fits room front → Extends back (r.inner room R front) (r.inner room R (front ++ back))
+    -- a bracket that may not open
+    bound_shut : room ≡ zero → (i : Tokens) → next_kind i ≡ k.LeftBracket → r.bound room i ≡ Err (Nesting (length i))
+    unfolding r.bound r.pattern opening
+    bound_shut none i bracket =
+        let t = some_token i k.LeftBracket bracket (λ same. cc) in
+        let here : is k.LeftBracket (next_kind i) ≡ true = ap (is k.LeftBracket) bracket ∙ same_kind_self k.LeftBracket in
+        let opens : opening zero k.LeftBracket i ≡ Err (Nesting (length i)) = ap (λ (b : Bool). open_if zero b i) here in
+        let opened : opening room k.LeftBracket i ≡ Err (Nesting (length i)) = ap (λ (z : ℕ). opening z k.LeftBracket i) none ∙ opens in
+        passes (is k.Name) _ _ i (ap (is k.Name) bracket ∙ bracket_no_name)
+        ∙ fails_to (λ slots. pure (bd.Pattern slots)) (fails_to (λ _. separated r.slot >>= λ slots. expect k.RightBracket >>= λ _. pure slots) opened)
+
+    first_shut : (go_on : Bound → Expr → Reader Inner) → room ≡ zero → (i : Tokens) → next_kind i ≡ k.LeftBracket → r.bound_first room R go_on i ≡ Err (Nesting (length i))
+    unfolding r.bound_first
+    first_shut go_on none i bracket = fails_to (λ b. expect k.In >>= λ _. R.source >>= λ s. go_on b s) (bound_shut none i bracket)
+
+    plain_shut : room ≡ zero → (i : Tokens) → next_kind i ≡ k.LeftBracket → r.plain room R i ≡ Err (Nesting (length i))
+    unfolding r.plain
+    plain_shut none i bracket =
+        let t = some_token i k.LeftBracket bracket (λ same. cc) in
+        let opens : r.closes (next_kind i) ≡ false = not_is (r.closes (next_kind i)) (starts_bound_open.at (next_kind i) (ap starts_bound bracket ∙ bracket_is_bound)) in
+        let shut : R.expr i ≡ Err (Nesting (length i)) = subst (λ (z : Tokens). R.expr z ≡ Err (Nesting (length z))) (sym t.1) (X.shut none t.0 (rest_of i) t.2) in
+        passes r.closes _ _ i opens ∙ fails_to (r.rest_of_inner room R) shut
+
+    by_shut : (at : Ahead) → room ≡ zero → (i : Tokens) → next_kind i ≡ k.LeftBracket → r.inner_by room R at i ≡ Err (Nesting (length i))
+    by_shut Expression none i bracket = plain_shut none i bracket
+    by_shut Either none i bracket = first_shut (r.filter_or_plain room R) none i bracket
+    by_shut Pattern none i bracket = first_shut (r.filter room R) none i bracket
+
+    shut_extends : (front back : Tokens) → next_kind front ≡ k.LeftBracket → Extends {A = Inner} back (Err (Nesting (length front))) (Err (Nesting (length (front ++ back))))
+    shut_extends [] back bracket = absurd cc
+    shut_extends (t ∷ front) back bracket = let same : suc (length (front ++ back)) ≡ suc (length front) + length back = omega (arith, length-append front back) in ap (λ (n : ℕ). Err (Nesting n)) same
+
+    next_front : (front back : Tokens) → next_kind front ≡ k.LeftBracket → next_kind (front ++ back) ≡ k.LeftBracket
+    next_front [] back bracket = absurd cc
+    next_front (t ∷ front) back bracket = bracket
+
+    open_local : (front back : Tokens) → Open front → Roomy front → Extends back (r.inner room R front) (r.inner room R (front ++ back))
     unfolding r.inner
-    inner_local front back fits = elim (ahead_local front back) [
-      | inl same ↦ subst (λ z. Extends back (r.inner_by room R (ahead front) front) (r.inner_by room R z (front ++ back))) (sym same) ((reach_by (ahead front)).local front back fits)
-      | inr opened ↦ ends (r.inner_by room R (ahead front) front) back (r.inner_by room R (ahead (front ++ back)) (front ++ back)) (open_none (ahead front) front opened fits) (open_far (ahead (front ++ back)) front back opened fits)
+    open_local front back opened roomy = ends (r.inner_by room R (ahead front) front) back (r.inner_by room R (ahead (front ++ back)) (front ++ back)) (open_none (ahead front) front opened roomy) (open_far (ahead (front ++ back)) front back opened roomy)
+
+    shut_local : (front back : Tokens) → room ≡ zero → next_kind front ≡ k.LeftBracket → Extends back (r.inner room R front) (r.inner room R (front ++ back))
+    unfolding r.inner
+    shut_local front back none bracket =
+        let one = by_shut (ahead front) none front bracket in
+        let two = by_shut (ahead (front ++ back)) none (front ++ back) (next_front front back bracket) in
+        subst (λ z. Extends back z (r.inner_by room R (ahead (front ++ back)) (front ++ back))) (sym one) (subst (λ z. Extends {A = Inner} back (Err (Nesting (length front))) z) (sym two) (shut_extends front back bracket))
+
+    is_or_not : (b : Bool) → (b ≡ true) ⊎ (b ≡ false)
+    is_or_not true = inl refl
+    is_or_not false = inr refl
+
+    inner_local : (front back : Tokens) → Extends back (r.inner room R front) (r.inner room R (front ++ back))
+    unfolding r.inner
+    inner_local front back = elim (ahead_local front back) [
+      | inl same ↦ subst (λ z. Extends back (r.inner_by room R (ahead front) front) (r.inner_by room R z (front ++ back))) (sym same) ((reach_by (ahead front)).local front back)
+      | inr opened ↦ elim (zero_or_more room) [
+        | inr m ↦ open_local front back opened (λ _. m)
+        | inl none ↦ elim (is_or_not (is k.LeftBracket (next_kind front))) [
+          | inl bracket ↦ shut_local front back none (same_kind_is (next_kind front) k.LeftBracket bracket)
+          | inr other ↦ open_local front back opened (λ h. absurd (not_both other (ap (is k.LeftBracket) h ∙ same_kind_self k.LeftBracket)))
+        ]
+      ]
     ]
 
     -- where the bound may be an expression: a front of a filter, or the fault of reading an expression

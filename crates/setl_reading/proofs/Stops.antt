@@ -6,8 +6,8 @@ use Rattle.setl_tree.specs.Tokens.{Token, Tokens}
 use Rattle.setl_tree.specs.Programs as grammar
 use Rattle.setl_reading.specs.declared.fault.Fault.TheVariants.{Memory, Syntax, Nesting}
 use Rattle.setl_reading.specs.Reading.{Outcome}
-use Rattle.setl_reading.specs.Fronts.{Begins, GoesWrong}
-use Rattle.setl_reading.specs.Claims.{IsTooDeep, SyntaxIsExact, LeftoverIsExact, OnePlaceIsWrong, NestingGoesOn}
+use Rattle.setl_reading.specs.Fronts.{Begins, GoesWrong, GoesOn}
+use Rattle.setl_reading.specs.Claims.{IsTooDeep, SyntaxIsExact, LeftoverIsExact, OnePlaceIsWrong, NestingFaultsGoOn}
 use Rattle.setl_reading.specs.ReadPrograms as reading
 use Rattle.setl_reading.proofs.Laws.{ok_parts}
 use Rattle.setl_reading.proofs.Exact.{left, Extends}
@@ -51,7 +51,7 @@ none_begins room toks front t others o h shallow parts place begins =
     let two : reading.program big (up ++ more) ≡ Ok (tree, []) = reading_is_complete big (up ++ more) tree derived in
     let local = (exact_program big).reach.local in
     let long = ap left one in
-    stops_within (reading.program big up) (reading.program big (up ++ others)) (reading.program big (up ++ more)) others more tree (local up others (omega arith)) (local up more (omega arith)) (omega (arith, long, place)) two
+    stops_within (reading.program big up) (reading.program big (up ++ others)) (reading.program big (up ++ more)) others more tree (local up others) (local up more) (omega (arith, long, place)) two
 
 no_fault_deep : (count : ℕ) → IsTooDeep {A = Tree} (Err (Syntax count)) → ⊥
 no_fault_deep count deep = let h = deep.1 in absurd (cc h)
@@ -158,8 +158,8 @@ further_begins big toks front rest t others (Err (Syntax count)) fits h parts is
 further_begins big toks front rest t others (Err (Nesting count)) fits h parts is far = let e = ((exact_program big).reach.faults toks (Nesting count) fits h).1 in absurd (cc e)
 further_begins big toks front rest t others (Err Memory) fits h parts is far = let e = ((exact_program big).reach.faults toks Memory fits h).1 in absurd (cc e)
 
-pub nesting_goes_on : NestingGoesOn
-nesting_goes_on room toks count h =
+too_deep_goes_on : (room : ℕ) (toks : Tokens) (count : ℕ) → reading.program room toks ≡ Err (Nesting count) → GoesOn toks count
+too_deep_goes_on room toks count h =
     let big : ℕ = room + length toks + 2 in
     let far = further room big toks count (omega arith) h in
     let at = ap left h in
@@ -172,3 +172,21 @@ nesting_goes_on room toks count h =
       place = n.3;
       begins = λ t others is. further_begins big toks n.0 n.1 t others (reading.program big toks) (omega arith) refl n.2 is (omega (arith, far, n.3));
     }
+
+-- no program within the nestings begins with the token that opens one too many
+none_within : (room : ℕ) (toks : Tokens) (count : ℕ) → reading.program room toks ≡ Err (Nesting count) → (front rest : Tokens) (t : Token) (others more : Tokens) (tree : Tree) → toks ≡ front ++ rest → length rest ≡ count → rest ≡ t ∷ others
+    → grammar.program room ((front ++ t ∷ []) ++ more) tree → ⊥
+none_within room toks count h front rest t others more tree parts place is derived =
+    let up : Tokens = front ++ t ∷ [] in
+    let whole : toks ≡ up ++ others = parts ∙ ap (λ (z : Tokens). front ++ z) is ∙ sym (append_assoc front (t ∷ []) others) in
+    let one : reading.program room (up ++ others) ≡ Err (Nesting count) = ap (reading.program room) (sym whole) ∙ h in
+    let two : reading.program room (up ++ more) ≡ Ok (tree, []) = reading_is_complete room (up ++ more) tree derived in
+    let local = (exact_program room).reach.local in
+    let long = ap left one in
+    let all = ap length is in
+    stops_within (reading.program room up) (reading.program room (up ++ others)) (reading.program room (up ++ more)) others more tree (local up others) (local up more) (omega (arith, long, place, all)) two
+
+pub nesting_faults_go_on : NestingFaultsGoOn
+nesting_faults_go_on room toks count h =
+    let g = too_deep_goes_on room toks count h in
+    record { goes_on = g; none = λ t others more tree is. none_within room toks count h g.front g.rest t others more tree g.parts g.place is }

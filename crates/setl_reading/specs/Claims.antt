@@ -7,7 +7,7 @@ use Rattle.setl_tree.specs.Programs.{Derives}
 use Rattle.setl_tree.specs.Canonical.{canonical}
 use Rattle.setl_reading.specs.declared.fault.Fault.TheVariants.{Syntax, Nesting}
 use Rattle.setl_reading.specs.Reading.{Outcome}
-use Rattle.setl_reading.specs.Fronts.{GoesWrong, GoesOn}
+use Rattle.setl_reading.specs.Fronts.{GoesWrong, NestsTooDeep}
 use Rattle.setl_reading.specs.ReadPrograms as reading
 
 -- a tree that is read to the end of the tokens is one that they derive with so many nestings
@@ -50,6 +50,7 @@ LeftoverIsExact = (room : ℕ) (toks : Tokens) (tree : Tree) (t : Token) (rest :
 abbrev pub OnePlaceIsWrong : Type 0
 OnePlaceIsWrong = (toks : Tokens) (one two : ℕ) → GoesWrong toks one → GoesWrong toks two → one ≡ two
 
--- where reading ends at a token that opens one nesting too many, some program begins with the tokens up to that one
-abbrev pub NestingGoesOn : Type 0
-NestingGoesOn = (room : ℕ) (toks : Tokens) (left : ℕ) → reading.program room toks ≡ Err (Nesting left) → GoesOn toks left
+-- where reading ends at a token that opens one nesting too many, some program begins with the tokens up to that one, and
+-- none with so few nestings inside one another
+abbrev pub NestingFaultsGoOn : Type 0
+NestingFaultsGoOn = (room : ℕ) (toks : Tokens) (left : ℕ) → reading.program room toks ≡ Err (Nesting left) → NestsTooDeep room toks left

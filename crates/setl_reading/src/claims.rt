@@ -1,6 +1,6 @@
 //! The laws between reading and the grammar.
 
-ghost use Rattle.setl_reading.specs.Claims.{ReadingIsSound, ReadingIsComplete, NestingsMayBeMore, NestingsMayBeFewer, TreeIsUnique, CanonicalTokensDerive, SyntaxIsExact, LeftoverIsExact, OnePlaceIsWrong, NestingGoesOn};
+ghost use Rattle.setl_reading.specs.Claims.{ReadingIsSound, ReadingIsComplete, NestingsMayBeMore, NestingsMayBeFewer, TreeIsUnique, CanonicalTokensDerive, SyntaxIsExact, LeftoverIsExact, OnePlaceIsWrong, NestingFaultsGoOn};
 
 /// Reading finds a program's tree exactly where the tokens derive it with as many nestings as may open.
 pub fn reading_meets_grammar()
@@ -33,8 +33,8 @@ pub fn syntax_faults_are_exact()
     ensures one_place { OnePlaceIsWrong }
 {}
 
-/// Where reading ends at a token that opens one nesting too many, some program begins with the tokens up to that one: it
-/// is no fault of syntax.
-pub fn nesting_goes_on()
-    ensures { NestingGoesOn }
+/// Where reading ends at a token that opens one nesting too many, some program begins with the tokens up to and with that
+/// one, so it is no fault of syntax, and none with so few nestings inside one another does.
+pub fn nesting_faults_go_on()
+    ensures { NestingFaultsGoOn }
 {}
