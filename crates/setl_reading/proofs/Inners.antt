@@ -24,7 +24,7 @@ use Rattle.setl_reading.specs.Scan.{either_at, ends_slot, slots_ahead, ahead, bo
 use Rattle.setl_reading.specs.ReadExpressions as r
 use Rattle.setl_reading.proofs.EveryKind.{kinds, same_kind_is, same_kind_self}
 use Rattle.setl_reading.proofs.Laws.{Took, Law, Follows, Within, Begins, Fails, anything, bind_ok, ok_parts, took_as, took_then, fails_then, fails_at, takes, passes, goes_to, opening_fails, bind_assoc, law_of, not_is, within, within_always, same, law_pure, law_then, law_map, law_stops, law_expect, law_choose, law_as, law_more, law_optional, begins_token, begins_then, follows_begins, follows_token, follows_or, follows_map, follows_more, follows_optional, follows_pure}
-use Rattle.setl_reading.proofs.Exact.{left, Extends, Fits, Reach, Exact, Fronted, ends, and_left, left_none, far, fails_to, pred_of, fits_took, bind_err, fronted_second, fronted_as, reach_then, reach_expect, reach_choose, weak, exact_then, exact_map, exact_pure, exact_expect, exact_choose, exact_as, exact_optional, exact_more, token_of}
+use Rattle.setl_reading.proofs.Exact.{left, Extends, Fits, Reach, Exact, Fronted, ends, and_left, left_none, far, fails_to, fits_took, bind_err, fronted_second, fronted_as, reach_then, reach_expect, reach_choose, weak, exact_then, exact_map, exact_pure, exact_expect, exact_choose, exact_as, exact_optional, exact_more, token_of}
 use Rattle.setl_reading.proofs.Regroup.{more_l, behind, assoc, unassoc, with_second, optional_none, optional_some, optional_to, listed_none, listed_some, listed_to, more_one, more_none, more_to}
 use Rattle.setl_reading.proofs.Bounds.{below, over, starts_bound, law_bound, law_iters, exact_bound, exact_iters}
 use Rattle.setl_reading.proofs.Scanning.{Open, OpenSlots, closes_slots, ahead_local, Named, named, holed, not_short, name_token, mapped, separated_map, bracketed, ahead_is, ahead_name, ahead_minus, either_at_in, either_at_not, some_token, bound_seen, slot_exprs_names}
