@@ -1,17 +1,16 @@
 -- The names that a program has, and those that the code lists.
-use Rattle.std.proofs.Common.{◌≡◌, ℕ, Bool, true, false, cond, not, List, [], ◌∷◌, ◌++◌, ◌||◌, ◌&&◌, map, take, refl, ap, sym, subst, ◌∙◌, bytes_eq}
+use Rattle.std.proofs.Common.{◌≡◌, Bool, true, false, cond, not, List, [], ◌∷◌, ◌++◌, ◌||◌, ◌&&◌, map, take, refl, ap, sym, ◌∙◌, bytes_eq}
 use Rattle.std.specs.List.{list_any}
 use Rattle.std.specs.Cmp.Lexicographic.{bytes_decides}
 use Rattle.setl_tree.specs.declared.tree.Declared.{Declared}
 use Rattle.setl_tree.specs.declared.tree.Proc.{Proc}
 use Rattle.setl_tree.specs.declared.tree.Tree.{Tree}
-use Rattle.setl_names.specs.declared.bodies.BodyNames.{BodyNames}
 use Rattle.setl_names.specs.Bodies.{Body, main_body, bodies, occurrences}
 use Rattle.setl_names.specs.Names.{Name, has, in_order}
 use Rattle.setl_names.specs.Procedures.{is_procedure, param_names}
 use Rattle.setl_names.specs.Resolves.{all_names}
 use Rattle.setl_names.specs.Variables.{OfFormer, OfParameter, OfProgram, OfBody, variable, variables, of_body, is_of_body, body_names, var_names}
-use Rattle.setl_declarations.specs.Rules.{is_parameter, is_variable, is_variable_in, is_taken, is_declarable, lines_of_names}
+use Rattle.setl_declarations.specs.Rules.{is_parameter, is_variable_in, is_taken, is_declarable, lines_of_names}
 use Rattle.setl_declarations.specs.Taken.{names_of_all, variable_names, is_among, is_none_of}
 use Rattle.setl_declarations.proofs.NameLists.{or_false, has_append, has_with_names, has_in_order}
 

@@ -1,5 +1,5 @@
 -- The declarations of a program: its bases and declared variables with their modes, or its first break of the rules 19 to 28.
-use Rattle.std.specs.Prelude.{◌≡◌, ℕ, List, [], ◌++◌, map, Some, None, Result, Ok, Err}
+use Rattle.std.specs.Prelude.{◌≡◌, List, [], ◌++◌, map, Some, None, Result, Ok, Err}
 use Rattle.setl_tree.specs.declared.mode.ReprLine.{ReprLine}
 use Rattle.setl_tree.specs.declared.tree.Tree.{Tree}
 use Rattle.setl_names.specs.declared.broken.Break.{Break}

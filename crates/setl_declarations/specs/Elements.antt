@@ -1,5 +1,5 @@
 -- Bases as the code looks them up, and modes without their attributes.
-use Rattle.std.specs.Prelude.{◌≡◌, ℕ, suc, List, [], ◌∷◌, Option, Some, None, bytes_eq, cond}
+use Rattle.std.specs.Prelude.{◌≡◌, ℕ, suc, [], ◌∷◌, Option, Some, None, bytes_eq, cond}
 use Rattle.std.specs.Global.{Vec}
 use Rattle.indexmap.specs.IndexMap.{IndexMap, get_by}
 use Rattle.setl_tree.specs.declared.mode.Attribute.{Attribute}
