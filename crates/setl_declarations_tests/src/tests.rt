@@ -129,6 +129,7 @@ fn form_word(form: Form) -> &'static str {
 }
 
 /// Adds a mode as a text. `0 i` is `elmt` of the base of number 0, whose members are integers.
+#[cycle(modes)]
 fn show_mode(mode: &Mode, text: &mut String) -> Result<(), fmt::Error> {
     match mode {
         Mode::General => text.push_str("g")?,
@@ -168,6 +169,7 @@ fn show_mode(mode: &Mode, text: &mut String) -> Result<(), fmt::Error> {
 }
 
 /// Adds a mode in brackets as a text.
+#[cycle(modes)]
 fn show_first(mode: &Mode, text: &mut String) -> Result<(), fmt::Error> {
     text.push_str("(")?;
     show_mode(mode, text)?;

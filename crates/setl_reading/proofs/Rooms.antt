@@ -24,7 +24,7 @@ use Rattle.setl_reading.specs.declared.fault.Fault.TheVariants.{Syntax, Nesting}
 use Rattle.setl_reading.specs.declared.ahead.Ahead.{Ahead}
 use Rattle.setl_reading.specs.declared.ahead.Ahead.TheVariants.{Expression, Either, Pattern}
 use Rattle.setl_reading.specs.Claims.{IsTooDeep}
-use Rattle.setl_reading.specs.Reading.{Outcome, Reader, next_kind, and_then, ◌>>=◌, peek, sees, open_if, open_meant, is, but, begins_as}
+use Rattle.setl_reading.specs.Reading.{same_kind, Outcome, Reader, next_kind, and_then, ◌>>=◌, peek, sees, open_if, open_meant, is, but, begins_as}
 use Rattle.setl_reading.specs.Reading as reading
 use Rattle.setl_reading.specs.ReadExpressions as r
 use Rattle.setl_reading.specs.ReadExpressions.{Inside}
@@ -39,7 +39,7 @@ use Rattle.setl_reading.proofs.Modes as modes
 
 -- the same outcome, which is at no nesting; or the first is at a nesting, and the second comes further
 abbrev Same : {A : Type 0} → Outcome A → Outcome A → Type 0
-Same o w = ((o ≡ w) × (IsTooDeep w → ⊥)) ⊎ ((count : ℕ) × (o ≡ Err (Nesting count)) × (left w ≤ count - 1))
+Same o w = ((o ≡ w) × (IsTooDeep w → ⊥)) ⊎ ((count : ℕ) × (o ≡ Err (Nesting count)) × (left w < count))
 
 -- the first reads as the second does, or ends at a nesting, where more of them may open in the second
 pub record Agree {A : Type 0} (live : Type 0) (q w : Reader A) : Type 0 where
@@ -90,10 +90,13 @@ and_same : {A B : Type 0} {live : Type 0} (l : live) (w : Outcome A) (f g : A �
 and_same l (Ok x) f g calm two = (two x.0).at l x.1
 and_same l (Err e) f g calm two = inl (refl, err_calm e calm)
 
+and_less : {A B : Type 0} (w : Outcome A) (g : A → Reader B) (count : ℕ) → left w < count → ((a : A) (i : Tokens) → left (g a i) ≤ length i) → left (and_then w g) < count
+and_less w g count less within = let one = and_left w g (count - 1) (omega (arith, less)) within in omega (arith, one, less)
+
 and_agree : {A B : Type 0} {live : Type 0} (l : live) (o w : Outcome A) (f g : A → Reader B) → Same o w → ((x : A) → Agree live (f x) (g x)) → Same (and_then o f) (and_then w g)
 and_agree l o w f g one two = elim one [
   | inl e ↦ subst (λ z. Same (and_then z f) (and_then w g)) (sym e.0) (and_same l w f g e.1 two)
-  | inr deep ↦ inr (deep.0, ap (λ z. and_then z f) deep.1, and_left w g (deep.0 - 1) deep.2 (λ x. (two x).within))
+  | inr deep ↦ inr (deep.0, ap (λ z. and_then z f) deep.1, and_less w g deep.0 deep.2 (λ x. (two x).within))
 ]
 
 behind : {A B : Type 0} {live : Type 0} {q w : Reader A} {f g : A → Reader B} → Agree live q w → ((x : A) → Agree live (f x) (g x)) → Agree live (q >>= f) (w >>= g)
@@ -155,79 +158,104 @@ lined one = behind {q = reading.peek_line} alike_line (λ line. behind {f = λ x
 
 -- ---- a token that opens a nesting
 
-opened_past : {A : Type 0} (toks : Tokens) (g : Token → Reader A) → ((t : Token) (i : Tokens) → left (g t i) ≤ length i) → left (and_then (reading.take_if true toks) g) ≤ length toks - 1
-opened_past [] g within = omega arith
-opened_past (t ∷ toks) g within = let w = within t toks in omega (arith, w)
-
 refused_calm : {A B : Type 0} (toks : Tokens) (g : A → Reader B) → IsTooDeep (and_then (reading.refuse toks) g) → ⊥
 refused_calm toks g deep = let h = deep.1 in absurd (cc h)
 
-shut : {A : Type 0} (b : ℕ) (here : Bool) (toks : Tokens) (f g : Token → Reader A) → 0 < b → ((t : Token) (i : Tokens) → left (g t i) ≤ length i) → Same (and_then (open_if 0 here toks) f) (and_then (open_if b here toks) g)
-shut zero here toks f g some within = absurd (omega (arith, some))
-shut (suc b) true toks f g some within = inr (length toks, refl, opened_past toks g within)
-shut (suc b) false toks f g some within = inl (refl, refused_calm toks g)
+-- at the end of the tokens none opens
+abbrev NoneEnds : Kind → Type 0
+NoneEnds kind = is kind k.SourceEnd ≡ false
 
-opens : {A : Type 0} {live : Type 0} (a b : ℕ) (kind : Kind) {f g : Token → Reader A} → (live → a < b) → ((t : Token) → Agree (live × (0 < a)) (f t) (g t)) → Agree live (reading.opening a kind >>= f) (reading.opening b kind >>= g)
+paren_no_end : NoneEnds k.LeftParen
+unfolding same_kind
+paren_no_end = refl
+
+brace_no_end : NoneEnds k.LeftBrace
+unfolding same_kind
+brace_no_end = refl
+
+bracket_no_end : NoneEnds k.LeftBracket
+unfolding same_kind
+bracket_no_end = refl
+
+quantifier_no_end : quantifier k.SourceEnd ≡ None
+unfolding quantifier
+quantifier_no_end = refl
+
+if_no_end : NoneEnds k.If
+unfolding same_kind
+if_no_end = refl
+
+shut : {A : Type 0} (b : ℕ) (here : Bool) (toks : Tokens) (f g : Token → Reader A) → 0 < b → (toks ≡ [] → here ≡ false) → ((t : Token) (i : Tokens) → left (g t i) ≤ length i) → Same (and_then (open_if 0 here toks) f) (and_then (open_if b here toks) g)
+shut zero here toks f g some end within = absurd (omega (arith, some))
+shut (suc b) true [] f g some end within = let h = end refl in absurd (cc h)
+shut (suc b) true (t ∷ toks) f g some end within = let w = within t toks in inr (suc (length toks), refl, omega (arith, w))
+shut (suc b) false toks f g some end within = inl (refl, refused_calm toks g)
+
+sees_end : (kind : Kind) (toks : Tokens) → NoneEnds kind → toks ≡ [] → sees kind toks ≡ false
+sees_end kind toks end h = ap (sees kind) h ∙ end
+
+opens : {A : Type 0} {live : Type 0} (a b : ℕ) (kind : Kind) {f g : Token → Reader A} → NoneEnds kind → (live → a < b) → ((t : Token) → Agree (live × (0 < a)) (f t) (g t)) → Agree live (reading.opening a kind >>= f) (reading.opening b kind >>= g)
 unfolding reading.opening reading.expect
-opens zero b kind {f = f} {g = g} le two = record {
-  at = λ l toks. shut b (sees kind toks) toks f g (le l) (λ t. (two t).within);
+opens zero b kind {f = f} {g = g} end le two = record {
+  at = λ l toks. shut b (sees kind toks) toks f g (le l) (sees_end kind toks end) (λ t. (two t).within);
   within = λ toks. open_within b (sees kind toks) g (λ inside s t. (two t).within) toks;
 }
-opens (suc a) zero kind {f = f} {g = g} le two = record {
+opens (suc a) zero kind {f = f} {g = g} end le two = record {
   at = λ l toks. let less = le l in absurd (omega (arith, less));
   within = λ toks. open_within 0 (sees kind toks) g (λ inside s t. (two t).within) toks;
 }
-opens (suc a) (suc b) kind le two = behind (alike_token _) (λ t. raise (λ l. (l, omega arith)) (two t))
+opens (suc a) (suc b) kind end le two = behind (alike_token _) (λ t. raise (λ l. (l, omega arith)) (two t))
 
 -- the same, and what stands behind the nesting
 -- the first fails in both ways
-shut_first : {A : Type 0} (b : ℕ) (here : Bool) (toks : Tokens) (f g : Token → Reader A) → 0 < b → ((t : Token) (i : Tokens) → left (g t i) ≤ length i)
-    → ((count : ℕ) × (and_then (open_if 0 here toks) f ≡ Err (Nesting count)) × (left (and_then (open_if b here toks) g) ≤ count - 1)) ⊎ ((count : ℕ) × (and_then (open_if 0 here toks) f ≡ Err (Syntax count)) × (and_then (open_if b here toks) g ≡ Err (Syntax count)))
-shut_first zero here toks f g some within = absurd (omega (arith, some))
-shut_first (suc b) true toks f g some within = inl (length toks, refl, opened_past toks g within)
-shut_first (suc b) false toks f g some within = inr (length toks, refl, refl)
+shut_first : {A : Type 0} (b : ℕ) (here : Bool) (toks : Tokens) (f g : Token → Reader A) → 0 < b → (toks ≡ [] → here ≡ false) → ((t : Token) (i : Tokens) → left (g t i) ≤ length i)
+    → ((count : ℕ) × (and_then (open_if 0 here toks) f ≡ Err (Nesting count)) × (left (and_then (open_if b here toks) g) < count)) ⊎ ((count : ℕ) × (and_then (open_if 0 here toks) f ≡ Err (Syntax count)) × (and_then (open_if b here toks) g ≡ Err (Syntax count)))
+shut_first zero here toks f g some end within = absurd (omega (arith, some))
+shut_first (suc b) true [] f g some end within = let h = end refl in absurd (cc h)
+shut_first (suc b) true (t ∷ toks) f g some end within = let w = within t toks in inl (suc (length toks), refl, omega (arith, w))
+shut_first (suc b) false toks f g some end within = inr (length toks, refl, refl)
 
 fault_calm : {B : Type 0} (count : ℕ) (w : Outcome B) → w ≡ Err (Syntax count) → IsTooDeep w → ⊥
 fault_calm count w h deep = let g = deep.1 in absurd (cc (h, g))
 
-behind_shut : {A B : Type 0} (o w : Outcome A) (f' g' : A → Reader B) → ((count : ℕ) × (o ≡ Err (Nesting count)) × (left w ≤ count - 1)) ⊎ ((count : ℕ) × (o ≡ Err (Syntax count)) × (w ≡ Err (Syntax count))) → ((x : A) (i : Tokens) → left (g' x i) ≤ length i)
+behind_shut : {A B : Type 0} (o w : Outcome A) (f' g' : A → Reader B) → ((count : ℕ) × (o ≡ Err (Nesting count)) × (left w < count)) ⊎ ((count : ℕ) × (o ≡ Err (Syntax count)) × (w ≡ Err (Syntax count))) → ((x : A) (i : Tokens) → left (g' x i) ≤ length i)
     → Same (and_then o f') (and_then w g')
-behind_shut o w f' g' (inl deep) within = inr (deep.0, ap (λ z. and_then z f') deep.1, and_left w g' (deep.0 - 1) deep.2 within)
+behind_shut o w f' g' (inl deep) within = inr (deep.0, ap (λ z. and_then z f') deep.1, and_less w g' deep.0 deep.2 within)
 behind_shut o w f' g' (inr fault) within =
     let one = ap (λ z. and_then z f') fault.1 in
     let two = ap (λ z. and_then z g') fault.2 in
     inl (one ∙ sym two, fault_calm fault.0 (and_then w g') two)
 
-opens_then : {A B : Type 0} {live : Type 0} (a b : ℕ) (kind : Kind) {f g : Token → Reader A} {f' g' : A → Reader B} → (live → a < b) → ((t : Token) → Agree (live × (0 < a)) (f t) (g t)) → ((x : A) → Agree (live × (0 < a)) (f' x) (g' x))
+opens_then : {A B : Type 0} {live : Type 0} (a b : ℕ) (kind : Kind) {f g : Token → Reader A} {f' g' : A → Reader B} → NoneEnds kind → (live → a < b) → ((t : Token) → Agree (live × (0 < a)) (f t) (g t)) → ((x : A) → Agree (live × (0 < a)) (f' x) (g' x))
     → Agree live (reading.opening a kind >>= f >>= f') (reading.opening b kind >>= g >>= g')
 unfolding reading.opening reading.expect
-opens_then zero b kind {f = f} {g = g} {f' = f'} {g' = g'} le two three = record {
-  at = λ l toks. behind_shut (and_then (open_if 0 (sees kind toks) toks) f) (and_then (open_if b (sees kind toks) toks) g) f' g' (shut_first b (sees kind toks) toks f g (le l) (λ t. (two t).within)) (λ x. (three x).within);
+opens_then zero b kind {f = f} {g = g} {f' = f'} {g' = g'} end le two three = record {
+  at = λ l toks. behind_shut (and_then (open_if 0 (sees kind toks) toks) f) (and_then (open_if b (sees kind toks) toks) g) f' g' (shut_first b (sees kind toks) toks f g (le l) (sees_end kind toks end) (λ t. (two t).within)) (λ x. (three x).within);
   within = λ toks. and_left (and_then (open_if b (sees kind toks) toks) g) g' (length toks) (open_within b (sees kind toks) g (λ inside s t. (two t).within) toks) (λ x. (three x).within);
 }
-opens_then (suc a) zero kind {g = g} {g' = g'} le two three = record {
+opens_then (suc a) zero kind {g = g} {g' = g'} end le two three = record {
   at = λ l toks. let less = le l in absurd (omega (arith, less));
   within = λ toks. and_left (and_then (open_if 0 (sees kind toks) toks) g) g' (length toks) (open_within 0 (sees kind toks) g (λ inside s t. (two t).within) toks) (λ x. (three x).within);
 }
-opens_then (suc a) (suc b) kind le two three = behind (behind (alike_token _) (λ t. raise (λ l. (l, omega arith)) (two t))) (λ x. raise (λ l. (l, omega arith)) (three x))
+opens_then (suc a) (suc b) kind end le two three = behind (behind (alike_token _) (λ t. raise (λ l. (l, omega arith)) (two t))) (λ x. raise (λ l. (l, omega arith)) (three x))
 
-shut_one : {A B : Type 0} (b : ℕ) (meaning : Option A) (toks : Tokens) (f g : A → Reader B) → 0 < b → ((x : A) (i : Tokens) → left (g x i) ≤ length i) → Same (and_then (open_meant 0 meaning toks) f) (and_then (open_meant b meaning toks) g)
-shut_one zero meaning toks f g some within = absurd (omega (arith, some))
-shut_one (suc b) (Some x) [] f g some within = inr (0, refl, within x [])
-shut_one (suc b) (Some x) (t ∷ toks) f g some within = let w = within x toks in inr (suc (length toks), refl, omega (arith, w))
-shut_one (suc b) None toks f g some within = inl (refl, refused_calm toks g)
+shut_one : {A B : Type 0} (b : ℕ) (meaning : Option A) (toks : Tokens) (f g : A → Reader B) → 0 < b → (toks ≡ [] → meaning ≡ None) → ((x : A) (i : Tokens) → left (g x i) ≤ length i) → Same (and_then (open_meant 0 meaning toks) f) (and_then (open_meant b meaning toks) g)
+shut_one zero meaning toks f g some end within = absurd (omega (arith, some))
+shut_one (suc b) (Some x) [] f g some end within = let h = end refl in absurd (cc h)
+shut_one (suc b) (Some x) (t ∷ toks) f g some end within = let w = within x toks in inr (suc (length toks), refl, omega (arith, w))
+shut_one (suc b) None toks f g some end within = inl (refl, refused_calm toks g)
 
-opens_one : {A B : Type 0} {live : Type 0} (a b : ℕ) (meaning : Kind → Option A) {f g : A → Reader B} → (live → a < b) → ((x : A) → Agree (live × (0 < a)) (f x) (g x)) → Agree live (reading.opening_one_of a meaning >>= f) (reading.opening_one_of b meaning >>= g)
+opens_one : {A B : Type 0} {live : Type 0} (a b : ℕ) (meaning : Kind → Option A) {f g : A → Reader B} → meaning k.SourceEnd ≡ None → (live → a < b) → ((x : A) → Agree (live × (0 < a)) (f x) (g x)) → Agree live (reading.opening_one_of a meaning >>= f) (reading.opening_one_of b meaning >>= g)
 unfolding reading.opening_one_of reading.one_of
-opens_one zero b meaning {f = f} {g = g} le two = record {
-  at = λ l toks. shut_one b (meaning (next_kind toks)) toks f g (le l) (λ x. (two x).within);
+opens_one zero b meaning {f = f} {g = g} end le two = record {
+  at = λ l toks. shut_one b (meaning (next_kind toks)) toks f g (le l) (λ h. ap (λ (z : Tokens). meaning (next_kind z)) h ∙ end) (λ x. (two x).within);
   within = λ toks. open_meant_within b (meaning (next_kind toks)) g (λ inside s x. (two x).within) toks;
 }
-opens_one (suc a) zero meaning {g = g} le two = record {
+opens_one (suc a) zero meaning {g = g} end le two = record {
   at = λ l toks. let less = le l in absurd (omega (arith, less));
   within = λ toks. open_meant_within 0 (meaning (next_kind toks)) g (λ inside s x. (two x).within) toks;
 }
-opens_one (suc a) (suc b) meaning le two = behind (alike_one meaning) (λ x. raise (λ l. (l, omega arith)) (two x))
+opens_one (suc a) (suc b) meaning end le two = behind (alike_one meaning) (λ x. raise (λ l. (l, omega arith)) (two x))
 
 less_one : {live : Type 0} (a b : ℕ) → (live → a < b) → live × (0 < a) → a - 1 < b - 1
 less_one a b le l = let less = le l.0 in let some = l.1 in omega (arith, less, some)
@@ -241,7 +269,7 @@ slot = choose (is k.Name) (behind alike_name (λ x. alike_pure)) (token_end k.Mi
 module _ (live : Type 0) (a b : ℕ) (le : live → a < b) where
   pattern : Agree live (r.pattern a) (r.pattern b)
   unfolding r.pattern
-  pattern = opens a b k.LeftBracket le (λ t. behind (separated slot) (λ slots. (token_end _ _)))
+  pattern = opens a b k.LeftBracket bracket_no_end le (λ t. behind (separated slot) (λ slots. (token_end _ _)))
 
   bound : Agree live (r.bound a) (r.bound b)
   unfolding r.bound
@@ -249,7 +277,7 @@ module _ (live : Type 0) (a b : ℕ) (le : live → a < b) where
 
   image : (y : List ℕ) → Agree live (r.image a y) (r.image b y)
   unfolding r.image
-  image y = behind alike_name (λ f. opens a b k.LeftParen le (λ t. behind alike_name (λ x. (token_end _ _))))
+  image y = behind alike_name (λ f. opens a b k.LeftParen paren_no_end le (λ t. behind alike_name (λ x. (token_end _ _))))
 
   module _ (S T : Reader Expr) (source : Agree live S T) where
     named_iter : (x : List ℕ) → Agree live (r.named_iter a S x) (r.named_iter b T x)
@@ -368,30 +396,30 @@ module _ (live : Type 0) (a b : ℕ) (le : live → a < b) (D E : Inside) (deepe
 module _ (live : Type 0) (a b : ℕ) (le : live → a < b) (D E : Inside) (deeper : Deeper (live × (0 < a)) D E) where
   braces : Agree live (r.braces a D) (r.braces b E)
   unfolding r.braces
-  braces = opens a b k.LeftBrace le (λ t. behind (separated deeper.expr) (λ xs. (token_end _ _)))
+  braces = opens a b k.LeftBrace brace_no_end le (λ t. behind (separated deeper.expr) (λ xs. (token_end _ _)))
 
   selector : Agree live (r.selector a D) (r.selector b E)
   unfolding r.selector
-  selector = choose (is k.LeftParen) (opens a b k.LeftParen le (λ t. round (live × (0 < a)) a b (λ l. le l.0) D E deeper)) braces
+  selector = choose (is k.LeftParen) (opens a b k.LeftParen paren_no_end le (λ t. round (live × (0 < a)) a b (λ l. le l.0) D E deeper)) braces
 
   parenthesized : Agree live (r.parenthesized a D) (r.parenthesized b E)
   unfolding r.parenthesized
-  parenthesized = opens a b k.LeftParen le (λ t. behind deeper.expr (λ x. (token_end _ _)))
+  parenthesized = opens a b k.LeftParen paren_no_end le (λ t. behind deeper.expr (λ x. (token_end _ _)))
 
   if_expr : Agree live (r.if_expr a D) (r.if_expr b E)
   unfolding r.if_expr
-  if_expr = opens a b k.If le (λ t. behind deeper.expr (λ x. behind (alike_token _) (λ _. behind deeper.expr (λ y. behind (alike_token _) (λ _. behind deeper.expr (λ z. (token_end _ _)))))))
+  if_expr = opens a b k.If if_no_end le (λ t. behind deeper.expr (λ x. behind (alike_token _) (λ _. behind deeper.expr (λ y. behind (alike_token _) (λ _. behind deeper.expr (λ z. (token_end _ _)))))))
 
   in_inner : Agree (live × (0 < a)) (r.inner (a - 1) D) (r.inner (b - 1) E)
   in_inner = inner (live × (0 < a)) (a - 1) (b - 1) (less_one a b le) D E deeper
 
   set : Agree live (r.set a D) (r.set b E)
   unfolding r.set
-  set = opens a b k.LeftBrace le (λ t. behind in_inner (λ x. (token_end _ _)))
+  set = opens a b k.LeftBrace brace_no_end le (λ t. behind in_inner (λ x. (token_end _ _)))
 
   tuple : Agree live (r.tuple a D) (r.tuple b E)
   unfolding r.tuple
-  tuple = opens a b k.LeftBracket le (λ t. behind in_inner (λ x. (token_end _ _)))
+  tuple = opens a b k.LeftBracket bracket_no_end le (λ t. behind in_inner (λ x. (token_end _ _)))
 
   primary_by : (kind : Kind) → Agree live (r.primary_by a D kind) (r.primary_by b E kind)
   primary_by k.Number = behind (alike_token _) (λ t. alike_pure)
@@ -437,7 +465,7 @@ module _ (live : Type 0) (a b : ℕ) (le : live → a < b) (D E : Inside) (deepe
 
   quantified : Agree live (r.quantified a D) (r.quantified b E)
   unfolding r.quantified
-  quantified = opens_one a b quantifier le (λ q. behind (iters (live × (0 < a)) (a - 1) (b - 1) (less_one a b le) D.source E.source deeper.source) (λ over. behind (alike_token _) (λ _. behind deeper.expr (λ x. alike_pure))))
+  quantified = opens_one a b quantifier quantifier_no_end le (λ q. behind (iters (live × (0 < a)) (a - 1) (b - 1) (less_one a b le) D.source E.source deeper.source) (λ over. behind (alike_token _) (λ _. behind deeper.expr (λ x. alike_pure))))
 
   whole : Agree live (r.whole a D) (r.whole b E)
   unfolding r.whole
@@ -484,7 +512,7 @@ module _ (live : Type 0) (a b : ℕ) (le : live → a < b) where
 
   place_selector : Agree live (s.place_selector a) (s.place_selector b)
   unfolding s.place_selector s.place_round
-  place_selector = choose (is k.LeftParen) (opens a b k.LeftParen le (λ t. behind (separated deeper.expr) (λ xs. (token_end _ _)))) nested_braces
+  place_selector = choose (is k.LeftParen) (opens a b k.LeftParen paren_no_end le (λ t. behind (separated deeper.expr) (λ xs. (token_end _ _)))) nested_braces
 
   place_selectors : Agree live (s.place_selectors a) (s.place_selectors b)
   unfolding s.place_selectors
@@ -524,7 +552,7 @@ module _ (live : Type 0) (a b : ℕ) (le : live → a < b) where
 
   called_or_stored : (x : List ℕ) → Agree live (s.called_or_stored a x) (s.called_or_stored b x)
   unfolding s.called_or_stored
-  called_or_stored x = choose (is k.LeftParen) (opens a b k.LeftParen le (λ t. called x)) (braced_or_alone x)
+  called_or_stored x = choose (is k.LeftParen) (opens a b k.LeftParen paren_no_end le (λ t. called x)) (braced_or_alone x)
 
   taken : (x : List ℕ) → Agree live (s.taken a x) (s.taken b x)
   unfolding s.taken
@@ -544,11 +572,11 @@ module _ (live : Type 0) (a b : ℕ) (le : live → a < b) where
 
   print_stmt : Agree live (s.print_stmt a) (s.print_stmt b)
   unfolding s.print_stmt
-  print_stmt = behind (alike_token _) (λ _. opens a b k.LeftParen le (λ t. behind (listed _ deeper.expr) (λ xs. (tokens_end _ _ _))))
+  print_stmt = behind (alike_token _) (λ _. opens a b k.LeftParen paren_no_end le (λ t. behind (listed _ deeper.expr) (λ xs. (tokens_end _ _ _))))
 
   read_stmt : Agree live (s.read_stmt a) (s.read_stmt b)
   unfolding s.read_stmt
-  read_stmt = behind (alike_token _) (λ _. opens a b k.LeftParen le (λ t. behind (separated alike_name) (λ xs. (tokens_end _ _ _))))
+  read_stmt = behind (alike_token _) (λ _. opens a b k.LeftParen paren_no_end le (λ t. behind (separated alike_name) (λ xs. (tokens_end _ _ _))))
 
   simple_stmt : Agree live (s.simple_stmt a) (s.simple_stmt b)
   unfolding s.simple_stmt
@@ -569,7 +597,7 @@ module _ (live : Type 0) (a b : ℕ) (le : live → a < b) where
 
     if_stmt : Agree live (s.if_stmt a D) (s.if_stmt b E)
     unfolding s.if_stmt
-    if_stmt = opens a b k.If le (λ t. behind branch (λ first. behind elseifs (λ others. behind else_part (λ last. behind (ending k.If) (λ _. alike_pure)))))
+    if_stmt = opens a b k.If if_no_end le (λ t. behind branch (λ first. behind elseifs (λ others. behind else_part (λ last. behind (ending k.If) (λ _. alike_pure)))))
 
     for_loop : Agree (live × (0 < a)) (s.for_loop a D) (s.for_loop b E)
     unfolding s.for_loop
@@ -582,7 +610,7 @@ module _ (live : Type 0) (a b : ℕ) (le : live → a < b) where
 
     loop : Agree live (s.loop a D) (s.loop b E)
     unfolding s.loop s.for_or_while
-    loop = opens a b k.LeftParen le (λ t. choose (is k.For) for_loop while_loop)
+    loop = opens a b k.LeftParen paren_no_end le (λ t. choose (is k.For) for_loop while_loop)
 
     kind_by : (kind : Kind) → Agree live (s.kind_by a D kind) (s.kind_by b E kind)
     kind_by k.Name = behind alike_name behind_name
@@ -617,10 +645,10 @@ module _ (live : Type 0) (a b : ℕ) (le : live → a < b) (D E : Reader Written
   core_by : (kind : Kind) → Agree live (m.core_by a D kind) (m.core_by b E kind)
   unfolding m.round_mode m.braced_mode m.element
   core_by k.Elmt = behind (alike_token _) (λ t. behind alike_name (λ x. alike_pure))
-  core_by k.Set = behind (alike_token _) (λ _. behind (opens a b k.LeftParen le (λ t. behind deep (λ x. (token_end _ _)))) (λ x. alike_pure))
-  core_by k.Tuple = behind (alike_token _) (λ _. behind (opens a b k.LeftParen le (λ t. behind deep (λ x. (token_end _ _)))) (λ x. alike_pure))
-  core_by k.Smap = behind (alike_token _) (λ _. opens_then a b k.LeftParen le (λ t. behind deep (λ x. (token_end _ _))) (λ d. behind deep (λ x. alike_pure)))
-  core_by k.Mmap = behind (alike_token _) (λ _. opens_then a b k.LeftBrace le (λ t. behind deep (λ x. (token_end _ _))) (λ d. behind deep (λ x. alike_pure)))
+  core_by k.Set = behind (alike_token _) (λ _. behind (opens a b k.LeftParen paren_no_end le (λ t. behind deep (λ x. (token_end _ _)))) (λ x. alike_pure))
+  core_by k.Tuple = behind (alike_token _) (λ _. behind (opens a b k.LeftParen paren_no_end le (λ t. behind deep (λ x. (token_end _ _)))) (λ x. alike_pure))
+  core_by k.Smap = behind (alike_token _) (λ _. opens_then a b k.LeftParen paren_no_end le (λ t. behind deep (λ x. (token_end _ _))) (λ d. behind deep (λ x. alike_pure)))
+  core_by k.Mmap = behind (alike_token _) (λ _. opens_then a b k.LeftBrace brace_no_end le (λ t. behind deep (λ x. (token_end _ _))) (λ d. behind deep (λ x. alike_pure)))
   core_by _ = alike_one _
 
   mode_in : Agree live (m.mode_in a D) (m.mode_in b E)
@@ -698,7 +726,7 @@ same_count one two h = cc
 module _ (live : Type 0) (a b : ℕ) (le : live → a < b) where
   params : Agree live (p.params a) (p.params b)
   unfolding p.params
-  params = opens a b k.LeftParen le (λ t. behind (listed _ param) (λ xs. (token_end _ _)))
+  params = opens a b k.LeftParen paren_no_end le (λ t. behind (listed _ param) (λ xs. (token_end _ _)))
 
   proc : Agree live (p.proc a) (p.proc b)
   unfolding p.proc
@@ -717,8 +745,8 @@ fewer_nestings room more toks le = elim (same_or_less room more le) [
 ]
 
 -- where more nestings may open, reading comes further than to the token that opens one too many
-pub further : (room more : ℕ) (toks : Tokens) (count : ℕ) → room < more → p.program room toks ≡ Err (Nesting count) → left (p.program more toks) ≤ count - 1
+pub further : (room more : ℕ) (toks : Tokens) (count : ℕ) → room < more → p.program room toks ≡ Err (Nesting count) → left (p.program more toks) < count
 further room more toks count less h = elim ((program ⊤ room more (λ _. less)).at tt toks) [
   | inl one ↦ absurd (one.1 (count, sym one.0 ∙ h))
-  | inr deep ↦ subst (λ (z : ℕ). left (p.program more toks) ≤ z - 1) (same_count deep.0 count (sym deep.1 ∙ h)) deep.2
+  | inr deep ↦ subst (λ (z : ℕ). left (p.program more toks) < z) (same_count deep.0 count (sym deep.1 ∙ h)) deep.2
 ]

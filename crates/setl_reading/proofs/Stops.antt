@@ -1,12 +1,12 @@
 -- Where reading a program stops, the tokens go wrong.
-use Rattle.std.proofs.Common.{◌≡◌, ℕ, zero, suc, ◌+◌, ◌-◌, ◌≤◌, ◌<◌, [], ◌∷◌, ◌++◌, length, Ok, Err, refl, sym, ap, subst, ◌∙◌, append_assoc, arith, inl, inr, ◌⊎◌, length-append}
+use Rattle.std.proofs.Common.{◌≡◌, ℕ, zero, suc, ◌+◌, ◌≤◌, ◌<◌, [], ◌∷◌, ◌++◌, length, Ok, Err, refl, sym, ap, subst, ◌∙◌, append_assoc, arith, inl, inr, ◌⊎◌, length-append}
 use Rattle.std.proofs.lemmas.List.{append-nil}
 use Rattle.setl_tree.specs.declared.tree.Tree.{Tree}
 use Rattle.setl_tree.specs.Tokens.{Token, Tokens}
 use Rattle.setl_tree.specs.Programs as grammar
 use Rattle.setl_reading.specs.declared.fault.Fault.TheVariants.{Memory, Syntax, Nesting}
 use Rattle.setl_reading.specs.Reading.{Outcome}
-use Rattle.setl_reading.specs.Fronts.{Begins, GoesWrong, GoesOn}
+use Rattle.setl_reading.specs.Fronts.{Begins, GoesWrong}
 use Rattle.setl_reading.specs.Claims.{IsTooDeep, SyntaxIsExact, LeftoverIsExact, OnePlaceIsWrong, NestingFaultsGoOn}
 use Rattle.setl_reading.specs.ReadPrograms as reading
 use Rattle.setl_reading.proofs.Laws.{ok_parts}
@@ -144,7 +144,7 @@ later_begins toks front rest t others count parts is g less =
     let same = same_parts n.0 t (n.1 ++ g.rest) others (sym n.3 ∙ is) in
     subst (λ (z : Token). Begins (front ++ z ∷ [])) same.0 (shorter_begins front n.0 n.1 (subst Begins n.2 g.begins))
 
-further_begins : (big : ℕ) (toks front rest : Tokens) (t : Token) (others : Tokens) (o : Outcome Tree) → suc (length toks) < big → reading.program big toks ≡ o → toks ≡ front ++ rest → rest ≡ t ∷ others → left o ≤ length rest - 1 → Begins (front ++ t ∷ [])
+further_begins : (big : ℕ) (toks front rest : Tokens) (t : Token) (others : Tokens) (o : Outcome Tree) → suc (length toks) < big → reading.program big toks ≡ o → toks ≡ front ++ rest → rest ≡ t ∷ others → left o < length rest → Begins (front ++ t ∷ [])
 further_begins big toks front rest t others (Ok (tree, [])) fits h parts is far =
     let derived = reading_is_sound big toks tree h in
     let whole : toks ≡ (front ++ t ∷ others) ++ [] = parts ∙ ap (λ (z : Tokens). front ++ z) is ∙ sym (append-nil (front ++ t ∷ others)) in
@@ -157,21 +157,6 @@ further_begins big toks front rest t others (Err (Syntax count)) fits h parts is
     later_begins toks front rest t others count parts is (syntax_is_exact big toks count h) (omega (arith, far, long))
 further_begins big toks front rest t others (Err (Nesting count)) fits h parts is far = let e = ((exact_program big).reach.faults toks (Nesting count) fits h).1 in absurd (cc e)
 further_begins big toks front rest t others (Err Memory) fits h parts is far = let e = ((exact_program big).reach.faults toks Memory fits h).1 in absurd (cc e)
-
-too_deep_goes_on : (room : ℕ) (toks : Tokens) (count : ℕ) → reading.program room toks ≡ Err (Nesting count) → GoesOn toks count
-too_deep_goes_on room toks count h =
-    let big : ℕ = room + length toks + 2 in
-    let far = further room big toks count (omega arith) h in
-    let at = ap left h in
-    let within = (exact_program room).reach.within toks in
-    let n = split_at toks count (omega (arith, at, within)) in
-    record {
-      front = n.0;
-      rest = n.1;
-      parts = n.2;
-      place = n.3;
-      begins = λ t others is. further_begins big toks n.0 n.1 t others (reading.program big toks) (omega arith) refl n.2 is (omega (arith, far, n.3));
-    }
 
 -- no program within the nestings begins with the token that opens one too many
 none_within : (room : ℕ) (toks : Tokens) (count : ℕ) → reading.program room toks ≡ Err (Nesting count) → (front rest : Tokens) (t : Token) (others more : Tokens) (tree : Tree) → toks ≡ front ++ rest → length rest ≡ count → rest ≡ t ∷ others
@@ -186,7 +171,27 @@ none_within room toks count h front rest t others more tree parts place is deriv
     let all = ap length is in
     stops_within (reading.program room up) (reading.program room (up ++ others)) (reading.program room (up ++ more)) others more tree (local up others) (local up more) (omega (arith, long, place, all)) two
 
+-- tokens of which some are left
+some_left : (rest : Tokens) (count : ℕ) → length rest ≡ count → 0 < count → (t : Token) × (others : Tokens) × (rest ≡ t ∷ others)
+some_left [] count h some = absurd (omega (arith, h, some))
+some_left (t ∷ others) count h some = (t, others, refl)
+
 pub nesting_faults_go_on : NestingFaultsGoOn
 nesting_faults_go_on room toks count h =
-    let g = too_deep_goes_on room toks count h in
-    record { goes_on = g; none = λ t others more tree is. none_within room toks count h g.front g.rest t others more tree g.parts g.place is }
+    let big : ℕ = room + length toks + 2 in
+    let far = further room big toks count (omega arith) h in
+    let at = ap left h in
+    let within = (exact_program room).reach.within toks in
+    let n = split_at toks count (omega (arith, at, within)) in
+    let s = some_left n.1 count n.3 (omega (arith, far)) in
+    let whole : toks ≡ n.0 ++ s.0 ∷ s.1 = n.2 ∙ ap (λ (z : Tokens). n.0 ++ z) s.2 in
+    let place : length (s.0 ∷ s.1) ≡ count = sym (ap length s.2) ∙ n.3 in
+    record {
+      front = n.0;
+      opener = s.0;
+      others = s.1;
+      parts = whole;
+      place = place;
+      begins = further_begins big toks n.0 n.1 s.0 s.1 (reading.program big toks) (omega arith) refl n.2 s.2 (omega (arith, far, n.3));
+      none = λ more tree. none_within room toks count h n.0 (s.0 ∷ s.1) s.0 s.1 more tree whole place refl;
+    }

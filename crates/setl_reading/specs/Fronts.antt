@@ -18,16 +18,13 @@ pub record GoesWrong (toks : Tokens) (left : ℕ) : Type 0 where
   pub begins : Begins front
   pub wrong : (t : Token) (others : Tokens) → rest ≡ t ∷ others → Begins (front ++ t ∷ []) → ⊥
 
--- The tokens before the place at which so many are left, with the token there, begin a program.
-pub record GoesOn (toks : Tokens) (left : ℕ) : Type 0 where
-  pub front : Tokens
-  pub rest : Tokens
-  pub parts : toks ≡ front ++ rest
-  pub place : length rest ≡ left
-  pub begins : (t : Token) (others : Tokens) → rest ≡ t ∷ others → Begins (front ++ t ∷ [])
-
 -- The tokens before the place at which so many are left, with the token there, begin a program, and none with at most
 -- so many nestings inside one another.
 pub record NestsTooDeep (room : ℕ) (toks : Tokens) (left : ℕ) : Type 0 where
-  pub goes_on : GoesOn toks left
-  pub none : (t : Token) (others more : Tokens) (tree : Tree) → goes_on.rest ≡ t ∷ others → program room ((goes_on.front ++ t ∷ []) ++ more) tree → ⊥
+  pub front : Tokens
+  pub opener : Token
+  pub others : Tokens
+  pub parts : toks ≡ front ++ opener ∷ others
+  pub place : length (opener ∷ others) ≡ left
+  pub begins : Begins (front ++ opener ∷ [])
+  pub none : (more : Tokens) (tree : Tree) → program room ((front ++ opener ∷ []) ++ more) tree → ⊥
