@@ -1,12 +1,14 @@
 //! Expressions.
 
-ghost use Rattle.std.specs.Prelude.{◌≡◌, OnOk, IfOk, Some, map};
+ghost use Rattle.std.specs.Prelude.{◌≡◌, [], ◌∷◌, OnOk, IfOk, Some, map};
 ghost use Rattle.std.specs.Option.{option_map};
-ghost use Rattle.setl_program.specs.Program.{Apply, Call, only_if, no_argument};
-ghost use Rattle.setl_program.specs.Plain.{plain_expr, plain_exprs, plain_iterator, plain_iterators, plain_argument, plain_arguments, condition_of};
+ghost use Rattle.setl_program.specs.Program.{Apply, Connect, Call, only_if, no_argument};
+ghost use Rattle.setl_program.specs.Operators.{one, two};
+ghost use Rattle.setl_program.specs.Lists.{exprs_of, chained};
+ghost use Rattle.setl_program.specs.Plain.{plain_expr, plain_link, plain_exprs, plain_iterator, plain_iterators, plain_argument, plain_arguments, condition_of};
 ghost use Rattle.setl_code.specs.Generated as code;
 ghost use Rattle.setl_gen.specs.Emitted.{held, here, after};
-ghost use Rattle.setl_gen.specs.Heads.{begun, next, opened, argument_code};
+ghost use Rattle.setl_gen.specs.Heads.{CodeGoesOn, begun, next, opened, argument_code};
 
 use crate::Memory;
 use crate::binds::{bind, store_set};
@@ -16,7 +18,7 @@ use crate::simple::{
 };
 use setl_code::Instr;
 use setl_map::Operator;
-use setl_program::{Argument, Expr, Iterator};
+use setl_program::{Argument, Connective, Expr, Iterator, Link};
 use setl_tree::Boxed;
 use std::alloc::AllocError;
 
@@ -32,14 +34,7 @@ pub fn expr<'p>(to: &mut Emitter<'p>, line: u32, e: &'p Expr) -> Result<(), Memo
         Expr::Undefined => to.put(line, Instr::Undefined),
         Expr::Name(x) => to.load(line, x),
         Expr::Apply(o, es) => apply(to, line, *o, es.as_slice()),
-        Expr::Connect(k, a, b) => {
-            expr(to, line, a.get())?;
-            let test = to.step(line, Instr::Decide(*k, 0))?;
-            expr(to, line, b.get())?;
-            to.put(line, Instr::TestTruth)?;
-            to.decide_here(test, line, *k)?;
-            Ok(())
-        }
+        Expr::Chain(first, links) => chain(to, line, first.get(), links.as_slice()),
         Expr::Choose(t, a, b) => {
             expr(to, line, t.get())?;
             let test = to.step(line, Instr::Unless(0))?;
@@ -104,6 +99,83 @@ fn apply<'p>(to: &mut Emitter<'p>, line: u32, o: Operator, es: &'p [Expr]) -> Re
     exprs(to, line, es)?;
     let count = number(es.len())?;
     to.put(line, Instr::Operate(o, count))?;
+    Ok(())
+}
+
+/// An expression with links behind it.
+#[cycle(expr)]
+fn chain<'p>(
+    to: &mut Emitter<'p>,
+    line: u32,
+    first: &'p Expr,
+    links: &'p [Link],
+) -> Result<(), Memory>
+    ensures { OnOk result (held to.new ≡ after (code.expr line (chained (plain_expr first.now) (map plain_link links.now))) (held to.old)) }
+{
+    expr(to, line, first)?;
+    for l in links {
+        link(to, line, l)?;
+    }
+    Ok(())
+}
+
+/// A link behind an expression.
+#[cycle(expr)]
+fn link<'p>(to: &mut Emitter<'p>, line: u32, l: &'p Link) -> Result<(), Memory>
+    ensures { OnOk result (CodeGoesOn line (plain_link l.now) (held to.old) (held to.new)) }
+{
+    match l {
+        Link::Unary(o) => unary(to, line, *o),
+        Link::Binary(o, x) => binary(to, line, *o, x.get()),
+        Link::Ternary(o, x, y) => ternary(to, line, *o, x.get(), y.get()),
+        Link::Connect(k, x) => connect(to, line, *k, x.get()),
+    }
+}
+
+/// An operator behind its one operand.
+fn unary(to: &mut Emitter<'_>, line: u32, o: Operator) -> Result<(), Memory>
+    ensures { OnOk result (CodeGoesOn line (one o) (held to.old) (held to.new)) }
+{
+    to.put(line, Instr::Operate(o, 1))?;
+    Ok(())
+}
+
+/// An operator with its second operand, behind the first.
+#[cycle(expr)]
+fn binary<'p>(to: &mut Emitter<'p>, line: u32, o: Operator, x: &'p Expr) -> Result<(), Memory>
+    ensures { OnOk result (CodeGoesOn line (λ e. two o e (plain_expr x.now)) (held to.old) (held to.new)) }
+{
+    expr(to, line, x)?;
+    to.put(line, Instr::Operate(o, 2))?;
+    Ok(())
+}
+
+/// An operator with its second and third operand, behind the first.
+#[cycle(expr)]
+fn ternary<'p>(
+    to: &mut Emitter<'p>,
+    line: u32,
+    o: Operator,
+    x: &'p Expr,
+    y: &'p Expr,
+) -> Result<(), Memory>
+    ensures { OnOk result (CodeGoesOn line (λ e. Apply o (exprs_of (e ∷ plain_expr x.now ∷ plain_expr y.now ∷ []))) (held to.old) (held to.new)) }
+{
+    expr(to, line, x)?;
+    expr(to, line, y)?;
+    to.put(line, Instr::Operate(o, 3))?;
+    Ok(())
+}
+
+/// A connective with its right part, behind the left one.
+#[cycle(expr)]
+fn connect<'p>(to: &mut Emitter<'p>, line: u32, k: Connective, x: &'p Expr) -> Result<(), Memory>
+    ensures { OnOk result (CodeGoesOn line (λ e. Connect k e (plain_expr x.now)) (held to.old) (held to.new)) }
+{
+    let test = to.step(line, Instr::Decide(k, 0))?;
+    expr(to, line, x)?;
+    to.put(line, Instr::TestTruth)?;
+    to.decide_here(test, line, k)?;
     Ok(())
 }
 

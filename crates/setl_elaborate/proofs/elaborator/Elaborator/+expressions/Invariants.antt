@@ -14,14 +14,14 @@ invariant-exprs-loop-x l = record {
 
 abbrev pub invariant-chain_on-loop-op : goal.invariant-chain_on-loop-op
 invariant-chain_on-loop-op l = record {
-  value : made (spec.chain_on (plain_expr l.all) (map (λ x. (x.0, part_of x.1)) (drop l.op-index l.others))) l.self ≡ made (spec.chain_on (plain_expr l.initial.all) (map (λ x. (x.0, part_of x.1)) l.others)) l.initial.self;
-  state : past (spec.chain_on (plain_expr l.all) (map (λ x. (x.0, part_of x.1)) (drop l.op-index l.others))) l.self ≡ past (spec.chain_on (plain_expr l.initial.all) (map (λ x. (x.0, part_of x.1)) l.others)) l.initial.self;
+  value : made (spec.chain_on l.all (map (λ x. (x.0, part_of x.1)) (drop l.op-index l.others))) l.self ≡ made (spec.chain_on l.initial.all (map (λ x. (x.0, part_of x.1)) l.others)) l.initial.self;
+  state : past (spec.chain_on l.all (map (λ x. (x.0, part_of x.1)) (drop l.op-index l.others))) l.self ≡ past (spec.chain_on l.initial.all (map (λ x. (x.0, part_of x.1)) l.others)) l.initial.self;
 }
 
 abbrev pub invariant-selected-loop-selector : goal.invariant-selected-loop-selector
 invariant-selected-loop-selector l = record {
-  value : made (spec.selected (plain_expr l.all) (map behind_of (drop l.selector-index l.selectors))) l.self ≡ made (spec.selected (plain_expr l.initial.all) (map behind_of l.selectors)) l.initial.self;
-  state : past (spec.selected (plain_expr l.all) (map behind_of (drop l.selector-index l.selectors))) l.self ≡ past (spec.selected (plain_expr l.initial.all) (map behind_of l.selectors)) l.initial.self;
+  value : made (spec.selected l.all (map behind_of (drop l.selector-index l.selectors))) l.self ≡ made (spec.selected l.initial.all (map behind_of l.selectors)) l.initial.self;
+  state : past (spec.selected l.all (map behind_of (drop l.selector-index l.selectors))) l.self ≡ past (spec.selected l.initial.all (map behind_of l.selectors)) l.initial.self;
 }
 
 abbrev pub invariant-iterators-loop-turn : goal.invariant-iterators-loop-turn
