@@ -46,7 +46,7 @@ plain_binding (b.Point y x) = plain.Point (plain_variable y) (plain_variable x)
 
 -- ---- expressions
 
-abbrev pub expr_step : Expr-F (plain.Arguments → plain.Arguments) plain.Expr (plain.Binding × plain.Exprs) (plain.Expr → plain.Expr) → plain.Expr
+abbrev pub expr_step : Expr-F (plain.Arguments → plain.Arguments) plain.Expr (plain.Expr → plain.Expr) (plain.Binding × plain.Exprs) → plain.Expr
 expr_step (Expr-F.Integer n) = plain.Literal (int n)
 expr_step (Expr-F.Text t) = plain.Literal (text t)
 expr_step (Expr-F.Truth t) = plain.Literal (bool t)
@@ -63,32 +63,32 @@ expr_step Expr-F.Newat = plain.Newat
 expr_step Expr-F.Eof = plain.Eof
 expr_step Expr-F.Ok = plain.Ok
 
-abbrev pub iterator_step : Iterator-F (plain.Arguments → plain.Arguments) plain.Expr (plain.Binding × plain.Exprs) (plain.Expr → plain.Expr) → plain.Binding × plain.Exprs
+abbrev pub iterator_step : Iterator-F (plain.Arguments → plain.Arguments) plain.Expr (plain.Expr → plain.Expr) (plain.Binding × plain.Exprs) → plain.Binding × plain.Exprs
 iterator_step i = (plain_binding i.binding, exprs_of i.sources)
 
-abbrev pub argument_step : Argument-F (plain.Arguments → plain.Arguments) plain.Expr (plain.Binding × plain.Exprs) (plain.Expr → plain.Expr) → plain.Arguments → plain.Arguments
+abbrev pub argument_step : Argument-F (plain.Arguments → plain.Arguments) plain.Expr (plain.Expr → plain.Expr) (plain.Binding × plain.Exprs) → plain.Arguments → plain.Arguments
 argument_step (Argument-F.Rd e) = plain.rd_argument e
 argument_step (Argument-F.Wr x) = plain.wr_argument (plain_variable x)
 argument_step (Argument-F.Rw x) = plain.rw_argument (plain_variable x)
 
 -- what a link makes of what stands before it
-abbrev pub link_step : Link-F (plain.Arguments → plain.Arguments) plain.Expr (plain.Binding × plain.Exprs) (plain.Expr → plain.Expr) → plain.Expr → plain.Expr
+abbrev pub link_step : Link-F (plain.Arguments → plain.Arguments) plain.Expr (plain.Expr → plain.Expr) (plain.Binding × plain.Exprs) → plain.Expr → plain.Expr
 link_step (Link-F.Unary o) e = one o e
 link_step (Link-F.Binary o x) e = two o e x
 link_step (Link-F.Ternary o x y) e = plain.Apply o (exprs_of (e ∷ x ∷ y ∷ []))
 link_step (Link-F.Connect k x) e = plain.Connect k e x
 
 abbrev pub plain_expr : Expr → plain.Expr
-plain_expr = fold-Expr (plain.Arguments → plain.Arguments) plain.Expr (plain.Binding × plain.Exprs) (plain.Expr → plain.Expr) argument_step expr_step iterator_step link_step
+plain_expr = fold-Expr (plain.Arguments → plain.Arguments) plain.Expr (plain.Expr → plain.Expr) (plain.Binding × plain.Exprs) argument_step expr_step link_step iterator_step
 
 abbrev pub plain_iterator : Iterator → plain.Binding × plain.Exprs
-plain_iterator = fold-Iterator (plain.Arguments → plain.Arguments) plain.Expr (plain.Binding × plain.Exprs) (plain.Expr → plain.Expr) argument_step expr_step iterator_step link_step
+plain_iterator = fold-Iterator (plain.Arguments → plain.Arguments) plain.Expr (plain.Expr → plain.Expr) (plain.Binding × plain.Exprs) argument_step expr_step link_step iterator_step
 
 abbrev pub plain_argument : Argument → plain.Arguments → plain.Arguments
-plain_argument = fold-Argument (plain.Arguments → plain.Arguments) plain.Expr (plain.Binding × plain.Exprs) (plain.Expr → plain.Expr) argument_step expr_step iterator_step link_step
+plain_argument = fold-Argument (plain.Arguments → plain.Arguments) plain.Expr (plain.Expr → plain.Expr) (plain.Binding × plain.Exprs) argument_step expr_step link_step iterator_step
 
 abbrev pub plain_link : Link → plain.Expr → plain.Expr
-plain_link = fold-Link (plain.Arguments → plain.Arguments) plain.Expr (plain.Binding × plain.Exprs) (plain.Expr → plain.Expr) argument_step expr_step iterator_step link_step
+plain_link = fold-Link (plain.Arguments → plain.Arguments) plain.Expr (plain.Expr → plain.Expr) (plain.Binding × plain.Exprs) argument_step expr_step link_step iterator_step
 
 abbrev pub plain_exprs : List Expr → plain.Exprs
 plain_exprs es = exprs_of (map plain_expr es)
