@@ -4,35 +4,25 @@ ghost use Rattle.std.specs.Prelude.{◌≡◌, option_map, IfOk, OnOk};
 ghost use Rattle.setl_program.specs.Expressions as spec;
 ghost use Rattle.setl_program.specs.Operators.{one, two, binary};
 ghost use Rattle.setl_program.specs.Plain.{plain_expr, plain_link};
+ghost use Rattle.setl_elaborate.specs.Chains.{plain_chain};
 
 use crate::operators;
 use setl_map::Operator;
 use setl_program::{Expr, Link};
 use setl_tree::{BinaryOp, Boxed, Items};
 use std::alloc::{AllocError, Global};
-use std::marker::Model;
 
-/// An expression with links behind it. Contracts see the expression that they make together.
+/// An expression with links behind it. `plain_chain` is the expression that they make together.
 #[derive(Drop)]
 pub struct Chain {
     first: Boxed<Expr>,
     links: Items<Link>,
 }
 
-impl Model for Chain {
-    ghost use Rattle.std.specs.Prelude.{map};
-    ghost use Rattle.setl_program.specs.Program as plain;
-    ghost use Rattle.setl_program.specs.Plain.{chained, plain_expr, plain_link};
-
-    ghost Value = { plain.Expr };
-
-    ghost view = { λ c. chained (plain_expr c.first) (map plain_link c.links) };
-}
-
 impl Chain {
     /// An expression without links.
     pub fn new(alloc: Global, first: Boxed<Expr>) -> Chain
-        ensures { result ≡ plain_expr first }
+        ensures { plain_chain result ≡ plain_expr first }
     {
         Chain {
             first,
@@ -41,29 +31,31 @@ impl Chain {
     }
 
     /// Puts a link at the end. An error is want of memory.
+    #[tactic(auto, using(crate::proofs::Links::one_more))]
     fn push(&mut self, link: Link) -> Result<(), AllocError>
-        ensures { OnOk result (self.new ≡ plain_link link self.old) }
+        ensures { OnOk result (plain_chain self.new ≡ plain_link link (plain_chain self.old)) }
     {
-        self.links.push(link)
+        self.links.push(link)?;
+        Ok(())
     }
 
     /// An operator over what stands here. An error is want of memory.
     pub fn one(&mut self, operator: Operator) -> Result<(), AllocError>
-        ensures { OnOk result (self.new ≡ one operator self.old) }
+        ensures { OnOk result (plain_chain self.new ≡ one operator (plain_chain self.old)) }
     {
         self.push(Link::Unary(operator))
     }
 
     /// An operator over what stands here and a second operand. An error is want of memory.
     pub fn two(&mut self, operator: Operator, right: Boxed<Expr>) -> Result<(), AllocError>
-        ensures { OnOk result (self.new ≡ two operator self.old (plain_expr right)) }
+        ensures { OnOk result (plain_chain self.new ≡ two operator (plain_chain self.old) (plain_expr right)) }
     {
         self.push(Link::Binary(operator, right))
     }
 
     /// A binary operator over what stands here and its right operand. An error is want of memory.
     pub fn binary(&mut self, op: BinaryOp, right: Boxed<Expr>) -> Result<(), AllocError>
-        ensures { OnOk result (self.new ≡ binary op self.old (plain_expr right)) }
+        ensures { OnOk result (plain_chain self.new ≡ binary op (plain_chain self.old) (plain_expr right)) }
     {
         match operators::connective(op) {
             None => self.two(operators::updating(op), right),
@@ -77,7 +69,7 @@ impl Chain {
         first: Boxed<Expr>,
         last: Option<Boxed<Expr>>,
     ) -> Result<(), AllocError>
-        ensures { OnOk result (self.new ≡ spec.with_bound self.old (plain_expr first) (option_map plain_expr last)) }
+        ensures { OnOk result (plain_chain self.new ≡ spec.with_bound (plain_chain self.old) (plain_expr first) (option_map plain_expr last)) }
     {
         match last {
             None => self.two(Operator::Tail, first),
@@ -87,7 +79,7 @@ impl Chain {
 
     /// The expression that was made. An error is want of memory.
     pub fn finish(self, alloc: Global) -> Result<Boxed<Expr>, AllocError>
-        ensures { IfOk result (λ e. plain_expr e ≡ self) }
+        ensures { IfOk result (λ e. plain_expr e ≡ plain_chain self) }
     {
         let Chain { first, links } = self;
         if links.is_empty() {

@@ -5,6 +5,7 @@ ghost use Rattle.setl_program.specs.Expressions as spec;
 ghost use Rattle.setl_program.specs.Expressions.{part_of, behind_of};
 ghost use Rattle.setl_program.specs.Plain.{plain_expr, plain_argument};
 ghost use Rattle.setl_program.specs.Scope.{procedure_of};
+ghost use Rattle.setl_elaborate.specs.Chains.{plain_chain};
 ghost use Rattle.setl_elaborate.specs.Elaborators.{made, past};
 
 use crate::chain::Chain;
@@ -31,8 +32,8 @@ impl Elaborator<'_> {
         selectors: &[Selector],
         value: Chain,
     ) -> Result<Boxed<Expr>, AllocError>
-        ensures value { IfOk result (λ e. plain_expr e ≡ made (spec.selected value (map behind_of selectors.now)) self.old) }
-        ensures state { OnOk result (self.new ≡ past (spec.selected value (map behind_of selectors.now)) self.old) }
+        ensures value { IfOk result (λ e. plain_expr e ≡ made (spec.selected (plain_chain value) (map behind_of selectors.now)) self.old) }
+        ensures state { OnOk result (self.new ≡ past (spec.selected (plain_chain value) (map behind_of selectors.now)) self.old) }
     {
         let mut all = value;
         for selector in selectors {
@@ -44,8 +45,8 @@ impl Elaborator<'_> {
     /// Puts a selector behind a chain. An error is want of memory.
     #[cycle(expressions)]
     fn applied(&mut self, selector: &Selector, all: &mut Chain) -> Result<(), AllocError>
-        ensures value { OnOk result (all.new ≡ made ((behind_of selector.now).applied all.old) self.old) }
-        ensures state { OnOk result (self.new ≡ past ((behind_of selector.now).applied all.old) self.old) }
+        ensures value { OnOk result (plain_chain all.new ≡ made ((behind_of selector.now).applied (plain_chain all.old)) self.old) }
+        ensures state { OnOk result (self.new ≡ past ((behind_of selector.now).applied (plain_chain all.old)) self.old) }
     {
         match selector {
             Selector::Round(xs) => self.at_list(xs.as_slice(), Operator::Get, all),
@@ -66,8 +67,8 @@ impl Elaborator<'_> {
         operator: Operator,
         all: &mut Chain,
     ) -> Result<(), AllocError>
-        ensures value { OnOk result (all.new ≡ made (spec.at_list operator (map part_of xs.now) all.old) self.old) }
-        ensures state { OnOk result (self.new ≡ past (spec.at_list operator (map part_of xs.now) all.old) self.old) }
+        ensures value { OnOk result (plain_chain all.new ≡ made (spec.at_list operator (map part_of xs.now) (plain_chain all.old)) self.old) }
+        ensures state { OnOk result (self.new ≡ past (spec.at_list operator (map part_of xs.now) (plain_chain all.old)) self.old) }
     {
         let list = self.listed(xs)?;
         all.two(operator, list)
@@ -113,7 +114,7 @@ impl Elaborator<'_> {
     /// What a name before a list in round brackets becomes: a call if it is a procedure's. An error is want of memory.
     #[cycle(expressions)]
     fn application(&mut self, xs: &[TreeExpr], name: &Text) -> Result<Chain, AllocError>
-        ensures value { IfOk result (λ e. e ≡ made (λ s. spec.application (procedure_of s name.now) name.now (map part_of xs.now) s) self.old) }
+        ensures value { IfOk result (λ e. plain_chain e ≡ made (λ s. spec.application (procedure_of s name.now) name.now (map part_of xs.now) s) self.old) }
         ensures state { OnOk result (self.new ≡ past (λ s. spec.application (procedure_of s name.now) name.now (map part_of xs.now) s) self.old) }
     {
         match self.scope.procedure(name) {

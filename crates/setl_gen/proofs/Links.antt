@@ -1,0 +1,129 @@
+-- Links of a chain: their variables, and their code.
+use Rattle.std.proofs.Common.{◌≡◌, ℕ, ◌+◌, ◌<◌, ◌≤◌, List, [], ◌∷◌, ◌++◌, drop, length, map, refl, ap, sym, ◌∙◌, append_assoc}
+use Rattle.std.proofs.Math.ListN.{get_or}
+use Rattle.std.proofs.lemmas.List.{append-nil, drop_all}
+use Rattle.std.specs.Prelude.{OnOk, Result, Ok, Err}
+use Rattle.setl_map.specs.declared.Operator.{Operator}
+use Rattle.setl_run.specs.Variable.{Variable}
+use Rattle.setl_program.specs.declared.kinds.Connective.{Connective}
+use Rattle.setl_program.specs.declared.expr.Expr as ex
+use Rattle.setl_program.specs.declared.expr.Link.{Link, fold-roll-Link, fold_out-Link}
+use Rattle.setl_program.specs.declared.expr.Link.TheVariants as li
+use Rattle.setl_program.specs.declared.expr.Argument.TheOpen.{Link-F}
+use Rattle.setl_program.specs.Program.{Binding, Expr, Undefined, Apply, Connect, Exprs, no_expr, more_exprs, Arguments}
+use Rattle.setl_program.specs.Operators as program
+use Rattle.setl_program.specs.Lists.{exprs_of, chained}
+use Rattle.setl_program.specs.Plain.{plain_expr, plain_link, argument_step, expr_step, link_step, iterator_step}
+use Rattle.setl_code.specs.Code.{Operate, Decides, TestBool}
+use Rattle.setl_code.specs.Piece.{◌⨾◌, nothing, one}
+use Rattle.setl_code.specs.Generated.{expr}
+use Rattle.setl_code.specs.Names.{in_expr}
+use Rattle.setl_gen.specs.Emitted.{Emitted, here, after, with_step}
+use Rattle.setl_gen.specs.Heads.{CodeGoesOn}
+use Rattle.setl_gen.proofs.Emitting.{then_made}
+use Rattle.setl_gen.proofs.Constructs.{apply_made, connect_made}
+use Rattle.setl_gen.proofs.Rounds.{drop_at, last}
+
+-- ---- variables
+
+abbrev Layer : Type 0
+Layer = Link-F (Arguments → Arguments) Expr (Expr → Expr) (Binding × Exprs)
+
+-- a link is one of four
+layer_of : (l : Link) → (y : Layer) × (plain_link l ≡ link_step y)
+layer_of l = (_, fold_out-Link (Arguments → Arguments) Expr (Expr → Expr) (Binding × Exprs) argument_step expr_step link_step iterator_step l)
+
+layer_variables : (y : Layer) (e : Expr) → in_expr (link_step y e) ≡ in_expr e ++ in_expr (link_step y Undefined)
+layer_variables (Link-F.Unary o) e = refl
+layer_variables (Link-F.Binary o x) e = refl
+layer_variables (Link-F.Ternary o x z) e = refl
+layer_variables (Link-F.Connect k x) e = refl
+
+link_variables : (l : Link) (e : Expr) → in_expr (plain_link l e) ≡ in_expr e ++ in_expr (plain_link l Undefined)
+link_variables l e =
+    let y = layer_of l in
+    ap (λ (f : Expr → Expr). in_expr (f e)) y.1 ∙ layer_variables y.0 e ∙ ap (λ (f : Expr → Expr). in_expr e ++ in_expr (f Undefined)) (sym y.1)
+
+-- those of links: what they make of `om` has no others
+abbrev variables : List Link → List Variable
+variables ls = in_expr (chained Undefined (map plain_link ls))
+
+pub chain_variables : (e : Expr) (ls : List Link) → in_expr (chained e (map plain_link ls)) ≡ in_expr e ++ variables ls
+chain_variables e [] = sym (append-nil (in_expr e))
+chain_variables e (l ∷ ls) =
+    chain_variables (plain_link l e) ls
+    ∙ ap (λ r. r ++ variables ls) (link_variables l e)
+    ∙ append_assoc (in_expr e) (in_expr (plain_link l Undefined)) (variables ls)
+    ∙ ap (λ r. in_expr e ++ r) (sym (chain_variables (plain_link l Undefined) ls))
+
+pub found_round : (ls : List Link) (k : ℕ) (x : Link) (s t : List Variable) → k < length ls → x ≡ get_or ls k x → t ≡ s ++ in_expr (plain_link x Undefined) → t ++ variables (drop (k + 1) ls) ≡ s ++ variables (drop k ls)
+found_round ls k x s t within read e =
+    let rest = drop (k + 1) ls in
+    ap (λ r. r ++ variables rest) e
+    ∙ append_assoc s (in_expr (plain_link x Undefined)) (variables rest)
+    ∙ ap (λ r. s ++ r) (sym (chain_variables (plain_link x Undefined) rest))
+    ∙ ap (λ (r : List Link). s ++ variables r) (sym (drop_at ls k x within read))
+
+pub found_chain : (e : Expr) (ls : List Link) (k : ℕ) (s s1 t : List Variable) → length ls ≤ k → s1 ≡ s ++ in_expr e → t ++ variables (drop k ls) ≡ s1 ++ variables ls → t ≡ s ++ in_expr (chained e (map plain_link ls))
+found_chain e ls k s s1 t h g inv =
+    sym (append-nil t)
+    ∙ ap (λ (r : List Link). t ++ variables r) (sym (drop_all k ls h))
+    ∙ inv
+    ∙ ap (λ r. r ++ variables ls) g
+    ∙ append_assoc s (in_expr e) (variables ls)
+    ∙ ap (λ r. s ++ r) (sym (chain_variables e ls))
+
+-- ---- code
+
+pub unary_made : (line : ℕ) (o : Operator) (s t : Emitted) → t ≡ after (one line (Operate o 1)) s → CodeGoesOn line (program.one o) s t
+unary_made line o s t h e b g = apply_made line o (more_exprs e no_expr) 1 b s t (g ∙ sym (last (expr line e) b)) refl h
+
+pub binary_made : (line : ℕ) (o : Operator) (x : Expr) (s t u : Emitted) → t ≡ after (expr line x) s → u ≡ after (one line (Operate o 2)) t → CodeGoesOn line (λ e. program.two o e x) s u
+binary_made line o x s t u h1 h2 e b g =
+    apply_made line o (more_exprs e (more_exprs x no_expr)) 2 b t u
+    (then_made (expr line e) (expr line x ⨾ nothing) b s t g (h1 ∙ sym (last (expr line x) s))) refl h2
+
+pub ternary_made : (line : ℕ) (o : Operator) (x y : Expr) (s t u v : Emitted) → t ≡ after (expr line x) s → u ≡ after (expr line y) t → v ≡ after (one line (Operate o 3)) u → CodeGoesOn line (λ e. Apply o (exprs_of (e ∷ x ∷ y ∷ []))) s v
+ternary_made line o x y s t u v h1 h2 h3 e b g =
+    apply_made line o (more_exprs e (more_exprs x (more_exprs y no_expr))) 3 b u v
+    (then_made (expr line e) (expr line x ⨾ (expr line y ⨾ nothing)) b s u g
+    (then_made (expr line x) (expr line y ⨾ nothing) s t u h1 (h2 ∙ sym (last (expr line y) t)))) refl h3
+
+pub connected : (line : ℕ) (k : Connective) (x : Expr) (at end : ℕ) (s s1 s2 s3 u : Emitted) → at ≡ here s → s1 ≡ after (one line (Decides k 0)) s → s2 ≡ after (expr line x) s1 → s3 ≡ after (one line TestBool) s2 → end ≡ here s3 → u ≡ with_step at line (Decides k end) s3 → CodeGoesOn line (λ e. Connect k e x) s u
+connected line k x at end s s1 s2 s3 u p h1 h2 h3 q h4 e b g = connect_made line k e x at end b s s1 s2 s3 u g p h1 h2 h3 q h4
+
+-- a link by its kind
+pub unary_is : (l : Link) (o : Operator) → l ≡ li.Unary o → plain_link l ≡ program.one o
+unary_is l o is = ap plain_link (is ∙ sym (li.rolls-Unary o)) ∙ fold-roll-Link (Arguments → Arguments) Expr (Expr → Expr) (Binding × Exprs) argument_step expr_step link_step iterator_step (Link-F.Unary o)
+
+pub binary_is : (l : Link) (o : Operator) (x y : ex.Expr) → l ≡ li.Binary o x → y ≡ x → plain_link l ≡ (λ e. program.two o e (plain_expr y))
+binary_is l o x y is h =
+    ap plain_link (is ∙ sym (li.rolls-Binary o x)) ∙ fold-roll-Link (Arguments → Arguments) Expr (Expr → Expr) (Binding × Exprs) argument_step expr_step link_step iterator_step (Link-F.Binary o x)
+    ∙ ap (λ (z : ex.Expr) (e : Expr). program.two o e (plain_expr z)) (sym h)
+
+pub ternary_is : (l : Link) (o : Operator) (x y z w : ex.Expr) → l ≡ li.Ternary o x y → z ≡ x → w ≡ y → plain_link l ≡ (λ e. Apply o (exprs_of (e ∷ plain_expr z ∷ plain_expr w ∷ [])))
+ternary_is l o x y z w is h g =
+    ap plain_link (is ∙ sym (li.rolls-Ternary o x y)) ∙ fold-roll-Link (Arguments → Arguments) Expr (Expr → Expr) (Binding × Exprs) argument_step expr_step link_step iterator_step (Link-F.Ternary o x y)
+    ∙ ap (λ (a : ex.Expr) (e : Expr). Apply o (exprs_of (e ∷ plain_expr a ∷ plain_expr y ∷ []))) (sym h)
+    ∙ ap (λ (a : ex.Expr) (e : Expr). Apply o (exprs_of (e ∷ plain_expr z ∷ plain_expr a ∷ []))) (sym g)
+
+pub connect_is : (l : Link) (k : Connective) (x y : ex.Expr) → l ≡ li.Connect k x → y ≡ x → plain_link l ≡ (λ e. Connect k e (plain_expr y))
+connect_is l k x y is h =
+    ap plain_link (is ∙ sym (li.rolls-Connect k x)) ∙ fold-roll-Link (Arguments → Arguments) Expr (Expr → Expr) (Binding × Exprs) argument_step expr_step link_step iterator_step (Link-F.Connect k x)
+    ∙ ap (λ (z : ex.Expr) (e : Expr). Connect k e (plain_expr z)) (sym h)
+
+pub as_link : {A E : Type 0} (line : ℕ) (l : Link) (f : Expr → Expr) (s t : Emitted) → plain_link l ≡ f → (r : Result A E) → OnOk r (CodeGoesOn line f s t) → OnOk r (CodeGoesOn line (plain_link l) s t)
+as_link line l f s t is (Ok x) g = λ e b h. g e b h ∙ ap (λ (z : Expr → Expr). after (expr line (z e)) b) (sym is)
+as_link line l f s t is (Err x) g = g
+
+-- what links that are left make of an expression
+abbrev Rest : ℕ → List Link → Emitted → Emitted → Type 0
+Rest line ls s t = CodeGoesOn line (λ e. chained e (map plain_link ls)) s t
+
+pub chain_round : (line : ℕ) (ls : List Link) (k : ℕ) (x : Link) (s t : Emitted) → k < length ls → x ≡ get_or ls k x → CodeGoesOn line (plain_link x) s t → (u : Emitted) → Rest line (drop (k + 1) ls) t u → Rest line (drop k ls) s u
+chain_round line ls k x s t within read f u g e b h =
+    g (plain_link x e) b (f e b h) ∙ ap (λ (r : List Link). after (expr line (chained e (map plain_link r))) b) (sym (drop_at ls k x within read))
+
+pub chain_made : (line : ℕ) (ls : List Link) (k : ℕ) (e : Expr) (b s t : Emitted) → length ls ≤ k → s ≡ after (expr line e) b → ((u : Emitted) → Rest line (drop k ls) t u → Rest line ls s u) → t ≡ after (expr line (chained e (map plain_link ls))) b
+chain_made line ls k e b s t h g inv =
+    inv t (λ x a w. w ∙ ap (λ (r : List Link). after (expr line (chained x (map plain_link r))) a) (sym (drop_all k ls h))) e b g
