@@ -7,6 +7,7 @@ use Rattle.setl_map.specs.declared.Operator.{Operator}
 use Rattle.setl_run.specs.Variable.{Variable}
 use Rattle.setl_program.specs.declared.kinds.Connective.{Connective}
 use Rattle.setl_program.specs.declared.expr.Expr as ex
+use Rattle.setl_program.specs.declared.expr.Expr.TheVariants as ch
 use Rattle.setl_program.specs.declared.expr.Link.{Link, fold-roll-Link, fold_out-Link}
 use Rattle.setl_program.specs.declared.expr.Link.TheVariants as li
 use Rattle.setl_program.specs.declared.expr.Argument.TheOpen.{Link-F}
@@ -22,6 +23,7 @@ use Rattle.setl_gen.specs.Emitted.{Emitted, here, after, with_step}
 use Rattle.setl_gen.specs.Heads.{CodeGoesOn}
 use Rattle.setl_gen.proofs.Emitting.{then_made}
 use Rattle.setl_gen.proofs.Constructs.{apply_made, connect_made}
+use Rattle.setl_gen.proofs.ExprKinds.{chain_is, got}
 use Rattle.setl_gen.proofs.Rounds.{drop_at, last}
 
 -- ---- variables
@@ -64,14 +66,17 @@ found_round ls k x s t within read e =
     ∙ ap (λ r. s ++ r) (sym (chain_variables (plain_link x Undefined) rest))
     ∙ ap (λ (r : List Link). s ++ variables r) (sym (drop_at ls k x within read))
 
-pub found_chain : (e : Expr) (ls : List Link) (k : ℕ) (s s1 t : List Variable) → length ls ≤ k → s1 ≡ s ++ in_expr e → t ++ variables (drop k ls) ≡ s1 ++ variables ls → t ≡ s ++ in_expr (chained e (map plain_link ls))
-found_chain e ls k s s1 t h g inv =
-    sym (append-nil t)
-    ∙ ap (λ (r : List Link). t ++ variables r) (sym (drop_all k ls h))
-    ∙ inv
-    ∙ ap (λ r. r ++ variables ls) g
-    ∙ append_assoc s (in_expr e) (variables ls)
-    ∙ ap (λ r. s ++ r) (sym (chain_variables e ls))
+pub found_links : (ls : List Link) (k : ℕ) (t z : List Variable) → length ls ≤ k → t ++ variables (drop k ls) ≡ z → t ≡ z
+found_links ls k t z h inv = sym (append-nil t) ∙ ap (λ (r : List Link). t ++ variables r) (sym (drop_all k ls h)) ∙ inv
+
+pub found_chain : (e first x : ex.Expr) (ls rest : List Link) (s s1 t : List Variable) → e ≡ ch.Chain first ls → x ≡ first → rest ≡ ls → s1 ≡ s ++ in_expr (plain_expr x) → t ≡ s1 ++ variables rest → t ≡ s ++ in_expr (plain_expr e)
+found_chain e first x ls rest s s1 t is ef er e1 e2 =
+    e2 ∙ ap (λ r. r ++ variables rest) e1
+    ∙ append_assoc s (in_expr (plain_expr x)) (variables rest)
+    ∙ ap (λ r. s ++ r) (sym (chain_variables (plain_expr x) rest))
+    ∙ ap (λ (r : List Link). s ++ in_expr (chained (plain_expr x) (map plain_link r))) er
+    ∙ ap (λ (y : ex.Expr). s ++ in_expr (chained (plain_expr y) (map plain_link ls))) ef
+    ∙ ap (λ (y : Expr). s ++ in_expr y) (sym (chain_is e first ls is))
 
 -- ---- code
 
@@ -83,12 +88,6 @@ binary_made line o x s t u h1 h2 e b g =
     apply_made line o (more_exprs e (more_exprs x no_expr)) 2 b t u
     (then_made (expr line e) (expr line x ⨾ nothing) b s t g (h1 ∙ sym (last (expr line x) s))) refl h2
 
-pub ternary_made : (line : ℕ) (o : Operator) (x y : Expr) (s t u v : Emitted) → t ≡ after (expr line x) s → u ≡ after (expr line y) t → v ≡ after (one line (Operate o 3)) u → CodeGoesOn line (λ e. Apply o (exprs_of (e ∷ x ∷ y ∷ []))) s v
-ternary_made line o x y s t u v h1 h2 h3 e b g =
-    apply_made line o (more_exprs e (more_exprs x (more_exprs y no_expr))) 3 b u v
-    (then_made (expr line e) (expr line x ⨾ (expr line y ⨾ nothing)) b s u g
-    (then_made (expr line x) (expr line y ⨾ nothing) s t u h1 (h2 ∙ sym (last (expr line y) t)))) refl h3
-
 pub connected : (line : ℕ) (k : Connective) (x : Expr) (at end : ℕ) (s s1 s2 s3 u : Emitted) → at ≡ here s → s1 ≡ after (one line (Decides k 0)) s → s2 ≡ after (expr line x) s1 → s3 ≡ after (one line TestBool) s2 → end ≡ here s3 → u ≡ with_step at line (Decides k end) s3 → CodeGoesOn line (λ e. Connect k e x) s u
 connected line k x at end s s1 s2 s3 u p h1 h2 h3 q h4 e b g = connect_made line k e x at end b s s1 s2 s3 u g p h1 h2 h3 q h4
 
@@ -98,23 +97,32 @@ unary_is l o is = ap plain_link (is ∙ sym (li.rolls-Unary o)) ∙ fold-roll-Li
 
 pub binary_is : (l : Link) (o : Operator) (x y : ex.Expr) → l ≡ li.Binary o x → y ≡ x → plain_link l ≡ (λ e. program.two o e (plain_expr y))
 binary_is l o x y is h =
-    ap plain_link (is ∙ sym (li.rolls-Binary o x)) ∙ fold-roll-Link (Arguments → Arguments) Expr (Expr → Expr) (Binding × Exprs) argument_step expr_step link_step iterator_step (Link-F.Binary o x)
-    ∙ ap (λ (z : ex.Expr) (e : Expr). program.two o e (plain_expr z)) (sym h)
-
-pub ternary_is : (l : Link) (o : Operator) (x y z w : ex.Expr) → l ≡ li.Ternary o x y → z ≡ x → w ≡ y → plain_link l ≡ (λ e. Apply o (exprs_of (e ∷ plain_expr z ∷ plain_expr w ∷ [])))
-ternary_is l o x y z w is h g =
-    ap plain_link (is ∙ sym (li.rolls-Ternary o x y)) ∙ fold-roll-Link (Arguments → Arguments) Expr (Expr → Expr) (Binding × Exprs) argument_step expr_step link_step iterator_step (Link-F.Ternary o x y)
-    ∙ ap (λ (a : ex.Expr) (e : Expr). Apply o (exprs_of (e ∷ plain_expr a ∷ plain_expr y ∷ []))) (sym h)
-    ∙ ap (λ (a : ex.Expr) (e : Expr). Apply o (exprs_of (e ∷ plain_expr z ∷ plain_expr a ∷ []))) (sym g)
+    let f : ex.Expr → Expr → Expr = λ z e. program.two o e (plain_expr z) in
+    ap plain_link (is ∙ sym (li.rolls-Binary o x)) ∙ fold-roll-Link (Arguments → Arguments) Expr (Expr → Expr) (Binding × Exprs) argument_step expr_step link_step iterator_step (Link-F.Binary o x) ∙ ap f (sym h)
 
 pub connect_is : (l : Link) (k : Connective) (x y : ex.Expr) → l ≡ li.Connect k x → y ≡ x → plain_link l ≡ (λ e. Connect k e (plain_expr y))
 connect_is l k x y is h =
-    ap plain_link (is ∙ sym (li.rolls-Connect k x)) ∙ fold-roll-Link (Arguments → Arguments) Expr (Expr → Expr) (Binding × Exprs) argument_step expr_step link_step iterator_step (Link-F.Connect k x)
-    ∙ ap (λ (z : ex.Expr) (e : Expr). Connect k e (plain_expr z)) (sym h)
+    let f : ex.Expr → Expr → Expr = λ z e. Connect k e (plain_expr z) in
+    ap plain_link (is ∙ sym (li.rolls-Connect k x)) ∙ fold-roll-Link (Arguments → Arguments) Expr (Expr → Expr) (Binding × Exprs) argument_step expr_step link_step iterator_step (Link-F.Connect k x) ∙ ap f (sym h)
+
+ternary_is : (l : Link) (o : Operator) (x y : ex.Expr) → l ≡ li.Ternary o x y → plain_link l ≡ (λ e. Apply o (exprs_of (e ∷ plain_expr x ∷ plain_expr y ∷ [])))
+ternary_is l o x y is = ap plain_link (is ∙ sym (li.rolls-Ternary o x y)) ∙ fold-roll-Link (Arguments → Arguments) Expr (Expr → Expr) (Binding × Exprs) argument_step expr_step link_step iterator_step (Link-F.Ternary o x y)
 
 pub as_link : {A E : Type 0} (line : ℕ) (l : Link) (f : Expr → Expr) (s t : Emitted) → plain_link l ≡ f → (r : Result A E) → OnOk r (CodeGoesOn line f s t) → OnOk r (CodeGoesOn line (plain_link l) s t)
 as_link line l f s t is (Ok x) g = λ e b h. g e b h ∙ ap (λ (z : Expr → Expr). after (expr line (z e)) b) (sym is)
 as_link line l f s t is (Err x) g = g
+
+-- an operator with its second and third operand
+three_made : (line : ℕ) (o : Operator) (x y : Expr) (s t u v : Emitted) → t ≡ after (expr line x) s → u ≡ after (expr line y) t → v ≡ after (one line (Operate o 3)) u → CodeGoesOn line (λ e. Apply o (exprs_of (e ∷ x ∷ y ∷ []))) s v
+three_made line o x y s t u v h1 h2 h3 e b g =
+    apply_made line o (more_exprs e (more_exprs x (more_exprs y no_expr))) 3 b u v
+    (then_made (expr line e) (expr line x ⨾ (expr line y ⨾ nothing)) b s u g
+    (then_made (expr line x) (expr line y ⨾ nothing) s t u h1 (h2 ∙ sym (last (expr line y) t)))) refl h3
+
+pub ternary_made : (line : ℕ) (l : Link) (o : Operator) (x y z w : ex.Expr) (s t u v : Emitted) → l ≡ li.Ternary o x y → z ≡ x → w ≡ y → t ≡ after (expr line (plain_expr z)) s → u ≡ after (expr line (plain_expr w)) t → v ≡ after (one line (Operate o 3)) u → CodeGoesOn line (plain_link l) s v
+ternary_made line l o x y z w s t u v is hx hy h1 h2 h3 e b g =
+    three_made line o (plain_expr x) (plain_expr y) s t u v (got line z x s t h1 hx) (got line w y t u h2 hy) h3 e b g
+    ∙ ap (λ (f : Expr → Expr). after (expr line (f e)) b) (sym (ternary_is l o x y is))
 
 -- what links that are left make of an expression
 abbrev Rest : ℕ → List Link → Emitted → Emitted → Type 0
@@ -124,6 +132,13 @@ pub chain_round : (line : ℕ) (ls : List Link) (k : ℕ) (x : Link) (s t : Emit
 chain_round line ls k x s t within read f u g e b h =
     g (plain_link x e) b (f e b h) ∙ ap (λ (r : List Link). after (expr line (chained e (map plain_link r))) b) (sym (drop_at ls k x within read))
 
-pub chain_made : (line : ℕ) (ls : List Link) (k : ℕ) (e : Expr) (b s t : Emitted) → length ls ≤ k → s ≡ after (expr line e) b → ((u : Emitted) → Rest line (drop k ls) t u → Rest line ls s u) → t ≡ after (expr line (chained e (map plain_link ls))) b
-chain_made line ls k e b s t h g inv =
-    inv t (λ x a w. w ∙ ap (λ (r : List Link). after (expr line (chained x (map plain_link r))) a) (sym (drop_all k ls h))) e b g
+pub links_made : (line : ℕ) (ls : List Link) (k : ℕ) (s t : Emitted) → length ls ≤ k → ((u : Emitted) → Rest line (drop k ls) t u → Rest line ls s u) → Rest line ls s t
+links_made line ls k s t h inv =
+    inv t (λ x a w. w ∙ ap (λ (r : List Link). after (expr line (chained x (map plain_link r))) a) (sym (drop_all k ls h)))
+
+pub chain_made : (line : ℕ) (e first x : ex.Expr) (ls rest : List Link) (s t u : Emitted) → e ≡ ch.Chain first ls → x ≡ first → rest ≡ ls → t ≡ after (expr line (plain_expr x)) s → Rest line rest t u → u ≡ after (expr line (plain_expr e)) s
+chain_made line e first x ls rest s t u is hx hr g f =
+    f (plain_expr x) s g
+    ∙ ap (λ (r : List Link). after (expr line (chained (plain_expr x) (map plain_link r))) s) hr
+    ∙ ap (λ (y : ex.Expr). after (expr line (chained (plain_expr y) (map plain_link ls))) s) hx
+    ∙ ap (λ (y : Expr). after (expr line y) s) (sym (chain_is e first ls is))

@@ -1,10 +1,10 @@
 //! Expressions.
 
-ghost use Rattle.std.specs.Prelude.{◌≡◌, [], ◌∷◌, OnOk, IfOk, Some, map};
+ghost use Rattle.std.specs.Prelude.{◌≡◌, OnOk, IfOk, Some, map};
 ghost use Rattle.std.specs.Option.{option_map};
 ghost use Rattle.setl_program.specs.Program.{Apply, Connect, Call, only_if, no_argument};
 ghost use Rattle.setl_program.specs.Operators.{one, two};
-ghost use Rattle.setl_program.specs.Lists.{exprs_of, chained};
+ghost use Rattle.setl_program.specs.Lists.{chained};
 ghost use Rattle.setl_program.specs.Plain.{plain_expr, plain_link, plain_exprs, plain_iterator, plain_iterators, plain_argument, plain_arguments, condition_of};
 ghost use Rattle.setl_code.specs.Generated as code;
 ghost use Rattle.setl_gen.specs.Emitted.{held, here, after};
@@ -34,7 +34,11 @@ pub fn expr<'p>(to: &mut Emitter<'p>, line: u32, e: &'p Expr) -> Result<(), Memo
         Expr::Undefined => to.put(line, Instr::Undefined),
         Expr::Name(x) => to.load(line, x),
         Expr::Apply(o, es) => apply(to, line, *o, es.as_slice()),
-        Expr::Chain(first, links) => chain(to, line, first.get(), links.as_slice()),
+        Expr::Chain(first, ls) => {
+            expr(to, line, first.get())?;
+            links(to, line, ls.as_slice())?;
+            Ok(())
+        }
         Expr::Choose(t, a, b) => {
             expr(to, line, t.get())?;
             let test = to.step(line, Instr::Unless(0))?;
@@ -102,18 +106,12 @@ fn apply<'p>(to: &mut Emitter<'p>, line: u32, o: Operator, es: &'p [Expr]) -> Re
     Ok(())
 }
 
-/// An expression with links behind it.
+/// Links behind an expression.
 #[cycle(expr)]
-fn chain<'p>(
-    to: &mut Emitter<'p>,
-    line: u32,
-    first: &'p Expr,
-    links: &'p [Link],
-) -> Result<(), Memory>
-    ensures { OnOk result (held to.new ≡ after (code.expr line (chained (plain_expr first.now) (map plain_link links.now))) (held to.old)) }
+fn links<'p>(to: &mut Emitter<'p>, line: u32, ls: &'p [Link]) -> Result<(), Memory>
+    ensures { OnOk result (CodeGoesOn line (λ e. chained e (map plain_link ls.now)) (held to.old) (held to.new)) }
 {
-    expr(to, line, first)?;
-    for l in links {
+    for l in ls {
         link(to, line, l)?;
     }
     Ok(())
@@ -127,7 +125,12 @@ fn link<'p>(to: &mut Emitter<'p>, line: u32, l: &'p Link) -> Result<(), Memory>
     match l {
         Link::Unary(o) => unary(to, line, *o),
         Link::Binary(o, x) => binary(to, line, *o, x.get()),
-        Link::Ternary(o, x, y) => ternary(to, line, *o, x.get(), y.get()),
+        Link::Ternary(o, x, y) => {
+            expr(to, line, x.get())?;
+            expr(to, line, y.get())?;
+            to.put(line, Instr::Operate(*o, 3))?;
+            Ok(())
+        }
         Link::Connect(k, x) => connect(to, line, *k, x.get()),
     }
 }
@@ -147,23 +150,6 @@ fn binary<'p>(to: &mut Emitter<'p>, line: u32, o: Operator, x: &'p Expr) -> Resu
 {
     expr(to, line, x)?;
     to.put(line, Instr::Operate(o, 2))?;
-    Ok(())
-}
-
-/// An operator with its second and third operand, behind the first.
-#[cycle(expr)]
-fn ternary<'p>(
-    to: &mut Emitter<'p>,
-    line: u32,
-    o: Operator,
-    x: &'p Expr,
-    y: &'p Expr,
-) -> Result<(), Memory>
-    ensures { OnOk result (CodeGoesOn line (λ e. Apply o (exprs_of (e ∷ plain_expr x.now ∷ plain_expr y.now ∷ []))) (held to.old) (held to.new)) }
-{
-    expr(to, line, x)?;
-    expr(to, line, y)?;
-    to.put(line, Instr::Operate(o, 3))?;
     Ok(())
 }
 

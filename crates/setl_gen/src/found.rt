@@ -114,7 +114,11 @@ pub fn expr<'p>(e: &'p Expr, all: &mut Found<'p>) -> Result<(), Memory>
         Expr::Undefined => Ok(()),
         Expr::Name(x) => all.push(x),
         Expr::Apply(_, es) => exprs(es.as_slice(), all),
-        Expr::Chain(first, links) => chain(first.get(), links.as_slice(), all),
+        Expr::Chain(first, ls) => {
+            expr(first.get(), all)?;
+            links(ls.as_slice(), all)?;
+            Ok(())
+        }
         Expr::Choose(t, a, b) => {
             expr(t.get(), all)?;
             expr(a.get(), all)?;
@@ -153,13 +157,12 @@ pub fn exprs<'p>(es: &'p [Expr], all: &mut Found<'p>) -> Result<(), Memory>
     Ok(())
 }
 
-/// The variables of an expression with links behind it.
+/// The variables of links: those of what they make of `om`.
 #[cycle(found)]
-fn chain<'p>(first: &'p Expr, links: &'p [Link], all: &mut Found<'p>) -> Result<(), Memory>
-    ensures { OnOk result (all.new ≡ all.old ++ names.in_expr (chained (plain_expr first.now) (map plain_link links.now))) }
+fn links<'p>(ls: &'p [Link], all: &mut Found<'p>) -> Result<(), Memory>
+    ensures { OnOk result (all.new ≡ all.old ++ names.in_expr (chained Undefined (map plain_link ls.now))) }
 {
-    expr(first, all)?;
-    for l in links {
+    for l in ls {
         link(l, all)?;
     }
     Ok(())

@@ -1,12 +1,11 @@
-use Rattle.std.proofs.Common.{◌≡◌, ◌∙◌, List, [], ◌∷◌, ap, refl, sym, arith, Some}
+use Rattle.std.proofs.Common.{◌≡◌, ◌∙◌, List, ap, refl, sym, arith, Some}
 use Rattle.std.specs.Option.{option_map}
 use Rattle.setl_program.specs.declared.expr.Expr.{Expr}
 use Rattle.setl_program.specs.declared.expr.Iterator.{Iterator}
 use Rattle.setl_program.specs.declared.expr.Argument.{Argument}
 use Rattle.setl_program.specs.Program as plain
-use Rattle.setl_program.specs.Program.{Apply, Connect}
+use Rattle.setl_program.specs.Program.{Connect}
 use Rattle.setl_program.specs.Operators.{one as alone, two}
-use Rattle.setl_program.specs.Lists.{exprs_of}
 use Rattle.setl_program.specs.Plain.{plain_expr, plain_exprs, plain_iterators, plain_binding, plain_arguments, condition_of}
 use Rattle.setl_code.specs.Code.{Unless}
 use Rattle.setl_code.specs.Piece.{one}
@@ -17,7 +16,7 @@ use Rattle.setl_gen.proofs.Emitting.{after_nothing, then_made}
 use Rattle.setl_gen.proofs.Rounds.{done_made, exprs_round, arguments_round, count_is, levels_is, iterator_begun, iterator_headed}
 use Rattle.setl_gen.proofs.ExprKinds.{choose_is, former_is, selection_is, quantified_is, got, of_kind}
 use Rattle.setl_gen.proofs.Constructs.{apply_made, choose_made, former_made, selection_made, quantified_made, call_made}
-use Rattle.setl_gen.proofs.Links.{unary_is, binary_is, ternary_is, connect_is, as_link, binary_made, ternary_made, connected, chain_round, chain_made}
+use Rattle.setl_gen.proofs.Links.{unary_is, binary_is, connect_is, as_link, binary_made, ternary_made, connected, chain_round, links_made, chain_made}
 use Rattle.setl_gen.proofs.exprs.+expr.Goals as goal
 
 pub exprs-loop-e-preserved : goal.exprs-loop-e-preserved
@@ -59,14 +58,18 @@ pub tested-returns : goal.tested-returns
 tested-returns t c =
     then_made (code.expr c.args.line (plain_expr c.args.c.now)) (one c.args.line (Unless c.args.back)) (held c.args.to.now) (held c.expr.new.to) (held c.put.new.self) c.in_ok-expr.ensures c.in_ok-put.ensures
 
-pub chain-loop-l-preserved : goal.chain-loop-l-preserved
-chain-loop-l-preserved t c = λ u g.
+pub links-loop-l-preserved : goal.links-loop-l-preserved
+links-loop-l-preserved t c = λ u g.
     c.loop-l.invariant u
-    (chain_round c.args.line c.args.links.now c.loop-l.l-index c.l-item.result (held c.loop-l.to) (held c.link.new.to) c.loop-l-test.true c.l-item.is c.in_ok-link.ensures u g)
+    (chain_round c.args.line c.args.ls.now c.loop-l.l-index c.l-item.result (held c.loop-l.to) (held c.link.new.to) c.loop-l-test.true c.l-item.is c.in_ok-link.ensures u g)
 
-pub chain-returns : goal.chain-returns
-chain-returns t c =
-    chain_made c.args.line c.args.links.now c.loop-l.l-index (plain_expr c.args.first.now) (held c.args.to.now) (held c.expr.new.to) (held c.loop-l.to) c.loop-l-test.false c.in_ok-expr.ensures c.loop-l.invariant
+pub links-returns : goal.links-returns
+links-returns t c = links_made c.args.line c.args.ls.now c.loop-l.l-index (held c.args.to.now) (held c.loop-l.to) c.loop-l-test.false c.loop-l.invariant
+
+pub expr-returns-in_ok-links-in-Chain : goal.expr-returns-in_ok-links-in-Chain
+expr-returns-in_ok-links-in-Chain t c =
+    chain_made c.args.line c.args.e.now c.in-Chain.first c.get.result.now c.in-Chain.ls c.as_slice-in-Chain.result.now (held c.args.to.now) (held c.expr.new.to) (held c.links.new.to)
+    c.in-Chain.is c.get.ensures c.as_slice-in-Chain.ensures c.in_ok-expr-in-Chain.ensures c.in_ok-links-in-Chain.ensures
 
 pub link-returns-in-Unary : goal.link-returns-in-Unary
 link-returns-in-Unary t c =
@@ -79,13 +82,10 @@ link-returns-in-Binary t c =
     as_link c.args.line c.args.l.now (λ e. two o e (plain_expr y)) (held c.args.to.now) (held c.binary.new.to)
     (binary_is c.args.l.now o c.in-Binary.x y c.in-Binary.is c.get.ensures) c.binary.result c.binary.ensures
 
-pub link-returns-in-Ternary : goal.link-returns-in-Ternary
-link-returns-in-Ternary t c =
-    let o = c.in-Ternary.o in
-    let y = c.get-in-Ternary.result.now in
-    let z = c.get-in-Ternary-2.result.now in
-    as_link c.args.line c.args.l.now (λ e. Apply o (exprs_of (e ∷ plain_expr y ∷ plain_expr z ∷ []))) (held c.args.to.now) (held c.ternary.new.to)
-    (ternary_is c.args.l.now o c.in-Ternary.x c.in-Ternary.y y z c.in-Ternary.is c.get-in-Ternary.ensures c.get-in-Ternary-2.ensures) c.ternary.result c.ternary.ensures
+pub link-returns-in_ok-put-in-Ternary : goal.link-returns-in_ok-put-in-Ternary
+link-returns-in_ok-put-in-Ternary t c =
+    ternary_made c.args.line c.args.l.now c.in-Ternary.o c.in-Ternary.x c.in-Ternary.y c.get-in-Ternary.result.now c.get-in-Ternary-2.result.now (held c.args.to.now) (held c.expr.new.to) (held c.expr-in-Ternary.new.to) (held c.put.new.self)
+    c.in-Ternary.is c.get-in-Ternary.ensures c.get-in-Ternary-2.ensures c.in_ok-expr-in-Ternary.ensures c.in_ok-expr-in-Ternary-2.ensures c.in_ok-put-in-Ternary.ensures
 
 pub link-returns-in-Connect : goal.link-returns-in-Connect
 link-returns-in-Connect t c =
@@ -97,10 +97,6 @@ link-returns-in-Connect t c =
 pub binary-returns : goal.binary-returns
 binary-returns t c =
     binary_made c.args.line c.args.o (plain_expr c.args.x.now) (held c.args.to.now) (held c.expr.new.to) (held c.put.new.self) c.in_ok-expr.ensures c.in_ok-put.ensures
-
-pub ternary-returns : goal.ternary-returns
-ternary-returns t c =
-    ternary_made c.args.line c.args.o (plain_expr c.args.x.now) (plain_expr c.args.y.now) (held c.args.to.now) (held c.expr.new.to) (held c.expr-2.new.to) (held c.put.new.self) c.in_ok-expr.ensures c.in_ok-expr-2.ensures c.in_ok-put.ensures
 
 pub connect-returns : goal.connect-returns
 connect-returns t c =
@@ -117,9 +113,9 @@ expr-returns-in_ok-jump_here-in-Choose t c =
     let b = c.in-Choose.b in
     let s = held c.args.to.now in
     let s1 = held c.expr-in-Choose.new.to in
-    let s2 = held c.step-in-Choose.new.self in
+    let s2 = held c.step.new.self in
     let s3 = held c.expr-in-Choose-2.new.to in
-    let s4 = held c.step-in-Choose-2.new.self in
+    let s4 = held c.step-in-Choose.new.self in
     let s5 = held c.unless_here.new.self in
     let s6 = held c.expr-in-Choose-3.new.to in
     let u = held c.jump_here.new.self in

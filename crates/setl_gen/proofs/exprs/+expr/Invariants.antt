@@ -15,7 +15,7 @@ invariant-arguments-loop-x l = after (code.arguments l.line (plain_arguments (dr
 abbrev pub invariant-iterators-loop-i : goal.invariant-iterators-loop-i
 invariant-iterators-loop-i l = opened_from l.first l.line (plain_iterators (drop l.i-index l.is)) l.at (held l.to) ≡ opened l.line (plain_iterators l.is) (held l.initial.to)
 
-abbrev pub invariant-chain-loop-l : goal.invariant-chain-loop-l
-invariant-chain-loop-l l =
-    (u : Emitted) → CodeGoesOn l.line (λ e. chained e (map plain_link (drop l.l-index l.links))) (held l.to) u
-    → CodeGoesOn l.line (λ e. chained e (map plain_link l.links)) (held l.initial.to) u
+abbrev pub invariant-links-loop-l : goal.invariant-links-loop-l
+invariant-links-loop-l l =
+    (u : Emitted) → CodeGoesOn l.line (λ e. chained e (map plain_link (drop l.l-index l.ls))) (held l.to) u
+    → CodeGoesOn l.line (λ e. chained e (map plain_link l.ls)) (held l.initial.to) u

@@ -14,5 +14,5 @@ invariant-iterators-loop-i l = l.all ++ in_iterators (plain_iterators (drop l.i-
 abbrev pub invariant-arguments-loop-x : goal.invariant-arguments-loop-x
 invariant-arguments-loop-x l = l.all ++ in_arguments (plain_arguments (drop l.x-index l.xs)) ≡ l.initial.all ++ in_arguments (plain_arguments l.xs)
 
-abbrev pub invariant-chain-loop-l : goal.invariant-chain-loop-l
-invariant-chain-loop-l l = l.all ++ in_expr (chained Undefined (map plain_link (drop l.l-index l.links))) ≡ l.initial.all ++ in_expr (chained Undefined (map plain_link l.links))
+abbrev pub invariant-links-loop-l : goal.invariant-links-loop-l
+invariant-links-loop-l l = l.all ++ in_expr (chained Undefined (map plain_link (drop l.l-index l.ls))) ≡ l.initial.all ++ in_expr (chained Undefined (map plain_link l.ls))
