@@ -64,11 +64,7 @@ impl Chain {
     }
 
     /// A slice of what stands here, by its bounds. An error is want of memory.
-    pub fn slice(
-        &mut self,
-        first: Boxed<Expr>,
-        last: Option<Boxed<Expr>>,
-    ) -> Result<(), AllocError>
+    pub fn slice(&mut self, first: Boxed<Expr>, last: Option<Boxed<Expr>>) -> Result<(), AllocError>
         ensures { OnOk result (plain_chain self.new ≡ spec.with_bound (plain_chain self.old) (plain_expr first) (option_map plain_expr last)) }
     {
         match last {
