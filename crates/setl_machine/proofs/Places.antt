@@ -21,6 +21,7 @@ use Rattle.setl_code.specs.Plain.{Variables, variable_at, plain_slot, plain_name
 use Rattle.setl_store.specs.Standing.{Standing, variables, variables_by, variables_in}
 use Rattle.setl_machine.specs.Declaring.{Modes, DeclarationTable, modes_of, declared_at, place_from, place_of, IsOfMain, AreOfMain, IsBare, Serves}
 use Rattle.setl_machine.specs.Tables.{name_place, names_by, KnowsSlots}
+use Rattle.setl_machine.proofs.Declared.{apart}
 use Rattle.setl_machine.proofs.Entering.{bodies_at}
 
 -- ---- what isn't declared
@@ -34,7 +35,9 @@ bound_nowhere ((Bound former' a, m) ∷ ms) h n former x = absurd h.0
 pub other_nowhere : (modes : Modes) → AreOfMain modes → (n body : ℕ) (x : List ℕ) → place_from n modes (Own (suc body) x) ≡ None
 other_nowhere [] h n body x = refl
 other_nowhere ((Global a, m) ∷ ms) h n body x = other_nowhere ms h.1 (suc n) body x
-other_nowhere ((Own zero a, m) ∷ ms) h n body x = other_nowhere ms h.1 (suc n) body x
+other_nowhere ((Own zero a, m) ∷ ms) h n body x =
+    let ne : 0 ≢ suc body = omega arith in
+    ap (λ t. cond t (Some n) (place_from (suc n) ms (Own (suc body) x))) (apart 0 (suc body) a x ne) ∙ other_nowhere ms h.1 (suc n) body x
 other_nowhere ((Own (suc k) a, m) ∷ ms) h n body x = absurd h.0
 other_nowhere ((Bound former a, m) ∷ ms) h n body x = absurd h.0
 
