@@ -106,11 +106,11 @@ no_place c modes (suc n) k h ne = sym (other_slot modes h (map Global c.vars) c.
 
 pub none_there : (n : ℕ) (modes : Modes) (x : Variable) → place_from n modes x ≡ None → declared_mode modes x ≡ None
 none_there n [] x h = refl
-none_there n (m ∷ ms) x h = go (is_variable m.0 x) h
+none_there n (m ∷ ms) x h = go (is_variable m.0 x) h (λ h. none_there (suc n) ms x h)
   where
-    go : (b : Bool) → cond b (Some n) (place_from (suc n) ms x) ≡ None → cond b (Some m.1) (declared_mode ms x) ≡ None
-    go true h = absurd (cc)
-    go false h = none_there (suc n) ms x h
+    go : (b : Bool) → cond b (Some n) (place_from (suc n) ms x) ≡ None → (place_from (suc n) ms x ≡ None → declared_mode ms x ≡ None) → cond b (Some m.1) (declared_mode ms x) ≡ None
+    go true h later = absurd (cc)
+    go false h later = later h
 
 -- the declaration of a variable, this many behind the first of these
 pub record IsThere (n : ℕ) (ds : List Declared) (x : Variable) (k : ℕ) : Type 0 where
@@ -122,10 +122,10 @@ pub record IsThere (n : ℕ) (ds : List Declared) (x : Variable) (k : ℕ) : Typ
 
 pub some_there : (n : ℕ) (ds : List Declared) (x : Variable) (k : ℕ) → place_from n (map plain_declared ds) x ≡ Some k → IsThere n ds x k
 some_there n [] x k h = absurd (cc)
-some_there n (d ∷ ds) x k h = go (is_variable (plain_variable d.variable) x) refl h
+some_there n (d ∷ ds) x k h = go (is_variable (plain_variable d.variable) x) refl h (λ h. some_there (suc n) ds x k h)
   where
-    go : (b : Bool) → is_variable (plain_variable d.variable) x ≡ b → cond b (Some n) (place_from (suc n) (map plain_declared ds) x) ≡ Some k → IsThere n (d ∷ ds) x k
-    go true e h =
+    go : (b : Bool) → is_variable (plain_variable d.variable) x ≡ b → cond b (Some n) (place_from (suc n) (map plain_declared ds) x) ≡ Some k → (place_from (suc n) (map plain_declared ds) x ≡ Some k → IsThere (suc n) ds x k) → IsThere n (d ∷ ds) x k
+    go true e h later =
         let same : n ≡ k = cc in record {
           behind = 0;
           place = omega (arith, same);
@@ -133,8 +133,8 @@ some_there n (d ∷ ds) x k h = go (is_variable (plain_variable d.variable) x) r
           mode = λ d' i. ap (λ b. cond b (Some (mode_of d.mode)) (declared_mode (map plain_declared ds) x)) e ∙ ap (λ (d : Declared). Some (mode_of d.mode)) (sym i);
           variable = same_variable (plain_variable d.variable) x e;
         }
-    go false e h =
-        let t = some_there (suc n) ds x k h in record {
+    go false e h later =
+        let t = later h in record {
           behind = suc t.behind;
           place = omega (arith, t.place);
           within = omega (arith, t.within);
@@ -188,8 +188,8 @@ global_at t c ds globals own s n k y p view serves knows vars is e =
 
 pub own_at : (t : DeclarationTable) (c : declared_code.Code) (ds : List Declared) (globals own : List (Option ℕ)) (s : Standing) (n k : ℕ) (y : Slot) (p : Option ℕ) → table c ds ≡ t → Serves t s.code → KnowsSlots c (map plain_declared ds) globals own →
     variables s.core ≡ variables_in (plain_code s.code) n → n ≡ 0 → y ≡ slot.Own k → p ≡ option_flatten (slice_get own k) → p ≡ place_of (modes_of t) (plain_slot (variables s.core) y)
-own_at t c ds globals own s n k y p view serves knows vars zero is e =
-    at_slot t c ds s 0 (slot.Own k) y p view serves.same (vars ∙ ap (variables_in (plain_code s.code)) zero) is
+own_at t c ds globals own s n k y p view serves knows vars none is e =
+    at_slot t c ds s 0 (slot.Own k) y p view serves.same (vars ∙ ap (variables_in (plain_code s.code)) none) is
     (e ∙ own_place c (map plain_declared ds) globals own k (main_of t c ds view serves.main) (bare_of t c s.code ds view serves.same serves.bare) knows)
 
 pub other_at : (t : DeclarationTable) (c : declared_code.Code) (ds : List Declared) (s : Standing) (n k : ℕ) (y : Slot) → table c ds ≡ t → Serves t s.code →

@@ -3,8 +3,7 @@
 ghost use Rattle.std.specs.Prelude.{◌≡◌, ◌∷◌, ℕ, suc, List, [], map, length, slice_get, option_map, IfOk, OnOk};
 ghost use Rattle.std.specs.Option.{option_flatten};
 ghost use Rattle.setl_code.specs.Plain.{plain_slot};
-ghost use Rattle.setl_modes.specs.Fits.{fits as mode_fits};
-ghost use Rattle.setl_modes.specs.Modes.{Mode as PlainMode, mode_of};
+ghost use Rattle.setl_modes.specs.Modes.{Mode as PlainMode};
 ghost use Rattle.setl_program.specs.Plain.{plain_declared, plain_variable};
 ghost use Rattle.setl_run.specs.Variable.{Variable as PlainVariable};
 ghost use Rattle.setl_store.specs.Standing.{variables};
@@ -16,6 +15,7 @@ use crate::operands::copied;
 use indexmap::IndexMap;
 use setl_code::{Code, OwnName, Slot};
 use setl_environment::Memory;
+use setl_fit::fits;
 use setl_modes::Mode;
 use setl_program::{Declared, Variable};
 use setl_store::Store;
@@ -37,8 +37,7 @@ impl<'p> Model for Declarations<'p> {
     ghost use Rattle.std.specs.Prelude.{map};
     ghost use Rattle.std.specs.Coded.{codes};
     ghost use Rattle.setl_modes.specs.contracts.mode.Mode as mode;
-    ghost use Rattle.setl_modes.specs.Fits.{fits as mode_fits};
-ghost use Rattle.setl_modes.specs.Modes.{Mode as PlainMode, mode_of};
+    ghost use Rattle.setl_modes.specs.Modes.{Mode as PlainMode};
 ghost use Rattle.setl_program.specs.Plain.{plain_declared};
     ghost use Rattle.setl_machine.specs.Declaring.{DeclarationTable};
     ghost use Rattle.setl_machine.specs.Tables.{KnowsSlots};
@@ -262,16 +261,5 @@ pub(crate) fn kept_copy(
     match declared {
         None => Ok(None),
         Some(_) => Ok(Some(copied(value)?)),
-    }
-}
-
-// STAND-IN: setl_fit::fits
-fn fits(mode: &Mode, value: &Option<Value>) -> bool
-    ensures { result ≡ mode_fits (mode_of mode.now) (part value.now) }
-{
-    match (mode, value) {
-        (Mode::General, _) => true,
-        (_, None) => true,
-        _ => false,
     }
 }
