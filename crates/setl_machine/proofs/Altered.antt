@@ -189,15 +189,27 @@ ended_at modes old slot xs w v kept gone new from to line left e rest h f few =
     ap (λ t. stood_for new.core t rest) (f.3 ∙ ap (λ n. record from { turns = n }) turns)
     ∙ ap (in_world (record (world_of from rest) { left = left })) (ap (λ (s : Standing). s.core) f.2 ∙ (λ i. at_place (suc (place_of_step old slot xs w gone h i)) (stored_again old slot xs w f.0 gone h i)))
 
--- the whole is stored, and the code goes on with the turns that are left
-pub ends_stored : (modes : Modes) (old mid new : Standing) (from to : ControlState) (line left charged : ℕ) (x : Variable) (v : Option Datum) (kept : Option (Option Datum)) (e : End) → StoresWhole modes line x v kept old mid e → new ≡ record mid { core = at_place (suc mid.core.now.at) mid.core } → to ≡ record from { turns = from.turns - charged } → charged ≡ from.turns - left →
-    EndsUpdate modes (Ok left) line x v kept old from new to e
-ends_stored modes old mid new from to line left charged x v kept e s n t c = (
-  s.0,
-  s.1,
-  n ∙ ap (λ (s : Standing). record s { core = at_place (suc s.core.now.at) s.core }) s.2 ∙ ap (λ at. record old { core = at_place (suc at) (write x (There s.0) old.core) }) (at_written x (There s.0) old.core),
-  t ∙ ap (λ n. record from { turns = from.turns - n }) c,
-)
+placed : (x : Variable) (h : Held) (at : ℕ) (k : CodeCore) → write x h (at_place at k) ≡ at_place at (write x h k)
+placed (Global name) h at k = refl
+placed (Own body name) h at k = refl
+placed (Bound former name) h at k = refl
+
+-- the code goes on with the turns that are left, and the whole is stored
+pub ends_stored : (modes : Modes) (old mid new : Standing) (from to : ControlState) (line left charged : ℕ) (slot : Slot) (v : Option Datum) (kept : Option (Option Datum)) (e : End) → mid ≡ record old { core = at_place (suc old.core.now.at) old.core } → to ≡ record from { turns = from.turns - charged } → charged ≡ from.turns - left →
+    StoresWhole modes line (plain_slot (variables mid.core) slot) v kept mid new e → EndsUpdate modes (Ok left) line (plain_slot (variables old.core) slot) v kept old from new to e
+ends_stored modes old mid new from to line left charged slot v kept e m t c s =
+    let there : StoresWhole modes line (plain_slot (variables old.core) slot) v kept (record old { core = at_place (suc old.core.now.at) old.core }) new e = subst (λ (d : Standing). StoresWhole modes line (plain_slot (variables d.core) slot) v kept d new e) m s in (
+      there.0,
+      there.1,
+      there.2 ∙ ap (λ k. record old { core = k }) (placed (plain_slot (variables old.core) slot) (There there.0) (suc old.core.now.at) old.core),
+      t ∙ ap (λ n. record from { turns = from.turns - n }) c,
+    )
+
+pub declared_moved : (modes : Modes) (old mid : Standing) (x : Slot) (d : Option Declaration) → mid ≡ record old { core = at_place (suc old.core.now.at) old.core } → IsDeclared modes (plain_slot (variables old.core) x) d → IsDeclared modes (plain_slot (variables mid.core) x) d
+declared_moved modes old mid x d m is = subst (λ (t : Standing). IsDeclared modes (plain_slot (variables t.core) x) d) (sym m) is
+
+pub slot_moved : (old mid : Standing) (x : Slot) → mid ≡ record old { core = at_place (suc old.core.now.at) old.core } → Has old x → Has mid x
+slot_moved old mid x m h = subst (λ (t : Standing). Has t x) (sym m) h
 
 -- what the code holds then
 abbrev held_then : ℕ → Variable → Option Datum → List Operand → World → CodeCore → CodeCore

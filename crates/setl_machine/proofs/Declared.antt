@@ -1,11 +1,12 @@
 -- Which variables are declared.
-use Rattle.std.proofs.Common.{◌≡◌, ◌∙◌, ℕ, zero, suc, true, List, [], ◌∷◌, refl, sym, ap, subst, Option, None, Some}
-use Rattle.std.specs.Prelude.{slice_get, IfSome}
+use Rattle.std.proofs.Common.{◌≡◌, ◌≢◌, ◌∙◌, ℕ, zero, suc, Bool, true, false, List, [], ◌∷◌, refl, sym, ap, subst, arith, Option, None, Some}
+use Rattle.std.specs.Prelude.{slice_get, cond, nat_eq, bytes_eq, ◌&&◌, IfSome}
+use Rattle.std.proofs.lemmas.Bool.{eqb-true}
 use Rattle.setl_value.specs.Datum.{Datum}
 use Rattle.setl_modes.specs.Fits.{is_taken}
 use Rattle.setl_program.specs.Program.{Parameter}
 use Rattle.setl_run.specs.Run.{Store}
-use Rattle.setl_run.specs.Variable.{Variable, Global, Own, Bound}
+use Rattle.setl_run.specs.Variable.{Variable, Global, Own, Bound, is_variable}
 use Rattle.setl_model.specs.Calls.{bindings}
 use Rattle.setl_model.specs.Step.{declared_mode}
 use Rattle.setl_code.specs.Code.{Body, Code}
@@ -15,11 +16,21 @@ use Rattle.setl_machine.specs.Declaring.{Modes, tested, IsOfMain, AreOfMain, IsB
 pub takes_any : (modes : Modes) (x : Variable) (v : Option Datum) → declared_mode modes x ≡ None → tested modes x v ≡ true
 takes_any modes x v h = ap (λ m. is_taken m v) h
 
+-- own variables of two bodies are two
+pub apart : (n m : ℕ) (a b : List ℕ) → n ≢ m → is_variable (Own n a) (Own m b) ≡ false
+apart n m a b ne = go (nat_eq n m) refl
+  where
+    go : (t : Bool) → nat_eq n m ≡ t → is_variable (Own n a) (Own m b) ≡ false
+    go true e = absurd (ne (eqb-true n m e))
+    go false e = ap (λ t. t && bytes_eq a b) e
+
 -- no own variable of another body is declared
 pub not_declared : (modes : Modes) → AreOfMain modes → (n : ℕ) (name : List ℕ) → declared_mode modes (Own (suc n) name) ≡ None
 not_declared [] h n name = refl
 not_declared ((Global a, m) ∷ ms) h n name = not_declared ms h.1 n name
-not_declared ((Own zero a, m) ∷ ms) h n name = not_declared ms h.1 n name
+not_declared ((Own zero a, m) ∷ ms) h n name =
+    let ne : 0 ≢ suc n = omega arith in
+    ap (λ t. cond t (Some m) (declared_mode ms (Own (suc n) name))) (apart 0 (suc n) a name ne) ∙ not_declared ms h.1 n name
 not_declared ((Own (suc k) a, m) ∷ ms) h n name = absurd h.0
 not_declared ((Bound former a, m) ∷ ms) h n name = absurd h.0
 

@@ -14,6 +14,7 @@ use Rattle.setl_code.specs.declared.code.OwnName.{OwnName}
 use Rattle.setl_code.specs.declared.code.OwnName.TheVariants as name
 use Rattle.setl_machine.specs.Declaring.{Modes, place_from, place_of}
 use Rattle.setl_machine.specs.Tables.{place_in, Finds, Puts, name_place, names_by, KnowsSlots}
+use Rattle.setl_machine.proofs.Declared.{apart}
 
 -- ---- one entry more
 
@@ -72,8 +73,7 @@ finds_own at zero x modes mode globals old new none p f y = ((f y).0, p y ∙ ap
 finds_own at (suc n) x modes mode globals old new none p f y = absurd (cc)
 
 pub finds_other : {S T : Type 0} (at body : ℕ) (x : List ℕ) (modes : Modes) (mode : Mode) (globals : IndexMap (Vec ℕ) ℕ S) (own : IndexMap (Vec ℕ) ℕ T) → body ≢ 0 → Finds (suc at) modes globals own → Finds at ((Own body x, mode) ∷ modes) globals own
-finds_other at zero x modes mode globals own some f y = absurd (some refl)
-finds_other at (suc n) x modes mode globals own some f y = f y
+finds_other at body x modes mode globals own some f y = ((f y).0, (f y).1 ∙ sym (ap (λ t. cond t (Some at) (place_from (suc at) modes (Own 0 y))) (apart body 0 x y some)))
 
 pub finds_former : {S T : Type 0} (at former : ℕ) (x : List ℕ) (modes : Modes) (mode : Mode) (globals : IndexMap (Vec ℕ) ℕ S) (own : IndexMap (Vec ℕ) ℕ T) → Finds (suc at) modes globals own → Finds at ((Bound former x, mode) ∷ modes) globals own
 finds_former at former x modes mode globals own f y = f y

@@ -17,13 +17,11 @@ use Rattle.setl_code.specs.declared.code.OwnName.{OwnName}
 use Rattle.setl_code.specs.declared.code.OwnName.TheVariants as name
 use Rattle.setl_code.specs.declared.code.Slot.{Slot}
 use Rattle.setl_code.specs.declared.code.Slot.TheVariants as slot
-use Rattle.setl_code.specs.Code.{Body}
-use Rattle.setl_code.specs.CodeCore.{variables_of}
 use Rattle.setl_code.specs.Plain.{Variables, variable_at, plain_slot, plain_name, plain_body, plain_bodies, plain_code}
-use Rattle.setl_store.specs.Standing.{variables_by, variables_in}
-use Rattle.setl_machine.specs.Declaring.{Modes, declared_at, place_from, place_of, IsOfMain, AreOfMain, IsBare}
-use Rattle.setl_machine.specs.Tables.{name_place, names_by, KnowsSlots, IsDeclared}
-use Rattle.setl_machine.specs.declared.declarations.Declaration.{Declaration}
+use Rattle.setl_store.specs.Standing.{Standing, variables, variables_by, variables_in}
+use Rattle.setl_machine.specs.Declaring.{Modes, DeclarationTable, modes_of, declared_at, place_from, place_of, IsOfMain, AreOfMain, IsBare, Serves}
+use Rattle.setl_machine.specs.Tables.{name_place, names_by, KnowsSlots}
+use Rattle.setl_machine.proofs.Declared.{apart}
 use Rattle.setl_machine.proofs.Entering.{bodies_at}
 
 -- ---- what isn't declared
@@ -37,7 +35,9 @@ bound_nowhere ((Bound former' a, m) ∷ ms) h n former x = absurd h.0
 pub other_nowhere : (modes : Modes) → AreOfMain modes → (n body : ℕ) (x : List ℕ) → place_from n modes (Own (suc body) x) ≡ None
 other_nowhere [] h n body x = refl
 other_nowhere ((Global a, m) ∷ ms) h n body x = other_nowhere ms h.1 (suc n) body x
-other_nowhere ((Own zero a, m) ∷ ms) h n body x = other_nowhere ms h.1 (suc n) body x
+other_nowhere ((Own zero a, m) ∷ ms) h n body x =
+    let ne : 0 ≢ suc body = omega arith in
+    ap (λ t. cond t (Some n) (place_from (suc n) ms (Own (suc body) x))) (apart 0 (suc body) a x ne) ∙ other_nowhere ms h.1 (suc n) body x
 other_nowhere ((Own (suc k) a, m) ∷ ms) h n body x = absurd h.0
 other_nowhere ((Bound former a, m) ∷ ms) h n body x = absurd h.0
 
@@ -106,11 +106,11 @@ no_place c modes (suc n) k h ne = sym (other_slot modes h (map Global c.vars) c.
 
 pub none_there : (n : ℕ) (modes : Modes) (x : Variable) → place_from n modes x ≡ None → declared_mode modes x ≡ None
 none_there n [] x h = refl
-none_there n (m ∷ ms) x h = go (is_variable m.0 x) h
+none_there n (m ∷ ms) x h = go (is_variable m.0 x) h (λ h. none_there (suc n) ms x h)
   where
-    go : (b : Bool) → cond b (Some n) (place_from (suc n) ms x) ≡ None → cond b (Some m.1) (declared_mode ms x) ≡ None
-    go true h = absurd (cc)
-    go false h = none_there (suc n) ms x h
+    go : (b : Bool) → cond b (Some n) (place_from (suc n) ms x) ≡ None → (place_from (suc n) ms x ≡ None → declared_mode ms x ≡ None) → cond b (Some m.1) (declared_mode ms x) ≡ None
+    go true h later = absurd (cc)
+    go false h later = later h
 
 -- the declaration of a variable, this many behind the first of these
 pub record IsThere (n : ℕ) (ds : List Declared) (x : Variable) (k : ℕ) : Type 0 where
@@ -122,10 +122,10 @@ pub record IsThere (n : ℕ) (ds : List Declared) (x : Variable) (k : ℕ) : Typ
 
 pub some_there : (n : ℕ) (ds : List Declared) (x : Variable) (k : ℕ) → place_from n (map plain_declared ds) x ≡ Some k → IsThere n ds x k
 some_there n [] x k h = absurd (cc)
-some_there n (d ∷ ds) x k h = go (is_variable (plain_variable d.variable) x) refl h
+some_there n (d ∷ ds) x k h = go (is_variable (plain_variable d.variable) x) refl h (λ h. some_there (suc n) ds x k h)
   where
-    go : (b : Bool) → is_variable (plain_variable d.variable) x ≡ b → cond b (Some n) (place_from (suc n) (map plain_declared ds) x) ≡ Some k → IsThere n (d ∷ ds) x k
-    go true e h =
+    go : (b : Bool) → is_variable (plain_variable d.variable) x ≡ b → cond b (Some n) (place_from (suc n) (map plain_declared ds) x) ≡ Some k → (place_from (suc n) (map plain_declared ds) x ≡ Some k → IsThere (suc n) ds x k) → IsThere n (d ∷ ds) x k
+    go true e h later =
         let same : n ≡ k = cc in record {
           behind = 0;
           place = omega (arith, same);
@@ -133,8 +133,8 @@ some_there n (d ∷ ds) x k h = go (is_variable (plain_variable d.variable) x) r
           mode = λ d' i. ap (λ b. cond b (Some (mode_of d.mode)) (declared_mode (map plain_declared ds) x)) e ∙ ap (λ (d : Declared). Some (mode_of d.mode)) (sym i);
           variable = same_variable (plain_variable d.variable) x e;
         }
-    go false e h =
-        let t = some_there (suc n) ds x k h in record {
+    go false e h later =
+        let t = later h in record {
           behind = suc t.behind;
           place = omega (arith, t.place);
           within = omega (arith, t.within);
@@ -161,3 +161,49 @@ declares ds x k d main h i =
     let same : k ≡ t.behind = omega (arith, t.place) in
     let at : declared_at (map plain_declared ds) k ≡ x = ap (declared_at (map plain_declared ds)) same ∙ t.variable in
     (t.mode d (i ∙ ap (λ j. get_or ds j d) same), at, of_main (map plain_declared ds) main k x (omega (arith, same, t.within, length-map ds plain_declared)) at)
+
+-- ---- of a table
+
+-- what contracts see of it
+abbrev table : declared_code.Code → List Declared → DeclarationTable
+table c ds = record { code = c; declared = ds }
+
+at_slot : (t : DeclarationTable) (c : declared_code.Code) (ds : List Declared) (s : Standing) (n : ℕ) (x y : Slot) (p : Option ℕ) → table c ds ≡ t → t.code ≡ s.code → variables s.core ≡ variables_in (plain_code s.code) n → y ≡ x → p ≡ slot_place c (map plain_declared ds) n x → p ≡ place_of (modes_of t) (plain_slot (variables s.core) y)
+at_slot t c ds s n x y p view same vars is e =
+    let code : c ≡ s.code = ap (λ (t : DeclarationTable). t.code) view ∙ same in
+    e
+    ∙ (λ i. place_of (modes_of (view i)) (plain_slot (variables_in (plain_code (code i)) n) (sym is i)))
+    ∙ ap (λ vs. place_of (modes_of t) (plain_slot vs y)) (sym vars)
+
+main_of : (t : DeclarationTable) (c : declared_code.Code) (ds : List Declared) → table c ds ≡ t → AreOfMain (modes_of t) → AreOfMain (map plain_declared ds)
+main_of t c ds view h = subst (λ (t : DeclarationTable). AreOfMain (modes_of t)) (sym view) h
+
+bare_of : (t : DeclarationTable) (c d : declared_code.Code) (ds : List Declared) → table c ds ≡ t → t.code ≡ d → IsBare (plain_code d) → IsBare (plain_code c)
+bare_of t c d ds view same h = subst (λ c. IsBare (plain_code c)) (sym (ap (λ (t : DeclarationTable). t.code) view ∙ same)) h
+
+pub global_at : (t : DeclarationTable) (c : declared_code.Code) (ds : List Declared) (globals own : List (Option ℕ)) (s : Standing) (n k : ℕ) (y : Slot) (p : Option ℕ) → table c ds ≡ t → Serves t s.code → KnowsSlots c (map plain_declared ds) globals own →
+    variables s.core ≡ variables_in (plain_code s.code) n → y ≡ slot.Global k → p ≡ option_flatten (slice_get globals k) → p ≡ place_of (modes_of t) (plain_slot (variables s.core) y)
+global_at t c ds globals own s n k y p view serves knows vars is e =
+    at_slot t c ds s n (slot.Global k) y p view serves.same vars is (e ∙ global_place c (map plain_declared ds) globals own n k (main_of t c ds view serves.main) knows)
+
+pub own_at : (t : DeclarationTable) (c : declared_code.Code) (ds : List Declared) (globals own : List (Option ℕ)) (s : Standing) (n k : ℕ) (y : Slot) (p : Option ℕ) → table c ds ≡ t → Serves t s.code → KnowsSlots c (map plain_declared ds) globals own →
+    variables s.core ≡ variables_in (plain_code s.code) n → n ≡ 0 → y ≡ slot.Own k → p ≡ option_flatten (slice_get own k) → p ≡ place_of (modes_of t) (plain_slot (variables s.core) y)
+own_at t c ds globals own s n k y p view serves knows vars none is e =
+    at_slot t c ds s 0 (slot.Own k) y p view serves.same (vars ∙ ap (variables_in (plain_code s.code)) none) is
+    (e ∙ own_place c (map plain_declared ds) globals own k (main_of t c ds view serves.main) (bare_of t c s.code ds view serves.same serves.bare) knows)
+
+pub other_at : (t : DeclarationTable) (c : declared_code.Code) (ds : List Declared) (s : Standing) (n k : ℕ) (y : Slot) → table c ds ≡ t → Serves t s.code →
+    variables s.core ≡ variables_in (plain_code s.code) n → n ≢ 0 → y ≡ slot.Own k → None ≡ place_of (modes_of t) (plain_slot (variables s.core) y)
+other_at t c ds s n k y view serves vars some is =
+    at_slot t c ds s n (slot.Own k) y None view serves.same vars is (no_place c (map plain_declared ds) n k (main_of t c ds view serves.main) some)
+
+pub within_table : (t : DeclarationTable) (c : declared_code.Code) (ds : List Declared) (x : Variable) (k : ℕ) → table c ds ≡ t → Some k ≡ place_of (modes_of t) x → k < length ds
+within_table t c ds x k view h = place_within ds x k (ap (λ (t : DeclarationTable). place_of (modes_of t) x) view ∙ sym h)
+
+pub declared_in : (t : DeclarationTable) (c : declared_code.Code) (ds : List Declared) (x : Variable) (k : ℕ) (d : Declared) → table c ds ≡ t → AreOfMain (modes_of t) → Some k ≡ place_of (modes_of t) x → d ≡ get_or ds k d → Declares (modes_of t) x k d
+declared_in t c ds x k d view main h i =
+    subst (λ (t : DeclarationTable). Declares (modes_of t) x k d) view
+    (declares ds x k d (main_of t c ds view main) (ap (λ (t : DeclarationTable). place_of (modes_of t) x) view ∙ sym h) i)
+
+pub not_in : (t : DeclarationTable) (x : Variable) → None ≡ place_of (modes_of t) x → declared_mode (modes_of t) x ≡ None
+not_in t x h = none_there 0 (modes_of t) x (sym h)

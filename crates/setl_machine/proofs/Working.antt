@@ -23,7 +23,7 @@ use Rattle.setl_machine.specs.declared.end.End.TheVariants.{Done, Stopped, Spent
 
 pub halted_quiet : (modes : Modes) (c : Code) (k to : CodeCore) (m : Move CodeCore) (e : End) → IsLikely k to → Halted m e → Quiet modes (settle (machine c) (tested modes) (start k) m) to e
 halted_quiet modes c k to (Halts d) Done l h = ((h, l), refl)
-halted_quiet modes c k to (Halts d) (Stopped why line) l h = ((h, l), refl)
+halted_quiet modes c k to (Halts d) (Stopped why line) l h = ((h modes, l), refl)
 halted_quiet modes c k to (Halts d) Spent l h = ((h, l), refl)
 halted_quiet modes c k to (Halts d) Stuck l h = ((h, l), refl)
 halted_quiet modes c k to (Halts d) Paused l h = absurd h

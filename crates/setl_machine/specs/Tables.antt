@@ -23,7 +23,7 @@ Finds n modes globals own = (x : List ℕ) → (place_in globals x ≡ place_fro
 
 -- the place is put at the name
 abbrev pub Puts : {S T : Type 0} → List ℕ → ℕ → IndexMap (Vec ℕ) ℕ S → IndexMap (Vec ℕ) ℕ T → Type 0
-Puts name at old new = (x : List ℕ) → place_in new x ≡ cond (bytes_eq x name) (Some at) (place_in old x)
+Puts name at old new = (x : List ℕ) → place_in new x ≡ cond (bytes_eq name x) (Some at) (place_in old x)
 
 -- the place of a name of a body's own by those of its variables; a former's variable is not declared
 abbrev pub name_place : (List ℕ → Option ℕ) → OwnName → Option ℕ

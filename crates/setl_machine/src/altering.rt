@@ -178,10 +178,9 @@ fn end_update(
 {
     match left {
         Ok(left) => {
-            let end = store_whole(whole, kept, target, line, store)?;
             control.charge(control.turns.saturating_sub(left));
             go_on(store);
-            Ok(end)
+            store_whole(whole, kept, target, line, store)
         }
         Err(fault) => {
             store.set_slot(target.slot, whole)?;

@@ -3,8 +3,7 @@
 ghost use Rattle.std.specs.Prelude.{◌≡◌, ◌∷◌, ℕ, suc, List, [], map, length, slice_get, option_map, IfOk, OnOk};
 ghost use Rattle.std.specs.Option.{option_flatten};
 ghost use Rattle.setl_code.specs.Plain.{plain_slot};
-ghost use Rattle.setl_modes.specs.Fits.{fits as mode_fits};
-ghost use Rattle.setl_modes.specs.Modes.{Mode as PlainMode, mode_of};
+ghost use Rattle.setl_modes.specs.Modes.{Mode as PlainMode};
 ghost use Rattle.setl_program.specs.Plain.{plain_declared, plain_variable};
 ghost use Rattle.setl_run.specs.Variable.{Variable as PlainVariable};
 ghost use Rattle.setl_store.specs.Standing.{variables};
@@ -38,8 +37,7 @@ impl<'p> Model for Declarations<'p> {
     ghost use Rattle.std.specs.Prelude.{map};
     ghost use Rattle.std.specs.Coded.{codes};
     ghost use Rattle.setl_modes.specs.contracts.mode.Mode as mode;
-    ghost use Rattle.setl_modes.specs.Fits.{fits as mode_fits};
-ghost use Rattle.setl_modes.specs.Modes.{Mode as PlainMode, mode_of};
+    ghost use Rattle.setl_modes.specs.Modes.{Mode as PlainMode};
 ghost use Rattle.setl_program.specs.Plain.{plain_declared};
     ghost use Rattle.setl_machine.specs.Declaring.{DeclarationTable};
     ghost use Rattle.setl_machine.specs.Tables.{KnowsSlots};
@@ -82,7 +80,7 @@ impl<'p> Declarations<'p> {
             code,
             declared,
             globals: seen_places(alloc, code.vars.as_slice(), &globals)?,
-            own: main_places(alloc, main_names(code), &own)?,
+            own: main_places(alloc, code, &own)?,
         })
     }
 
@@ -91,11 +89,12 @@ impl<'p> Declarations<'p> {
         requires { Serves self.now store.now.code }
         ensures { IsDeclared (modes_of self.now) (plain_slot (variables store.now.core) slot) result }
     {
+        let declared: &'p [Declared] = self.declared;
         match self.place(slot, store) {
             None => None,
             Some(place) => Some(Declaration {
                 place,
-                mode: &self.declared[place as usize].mode,
+                mode: &declared[place as usize].mode,
             }),
         }
     }
@@ -107,10 +106,10 @@ impl<'p> Declarations<'p> {
     {
         let body = store.body();
         match slot {
-            Slot::Global(k) => place_at(&self.globals, k),
+            Slot::Global(k) => place_at(self.globals.as_slice(), k),
             Slot::Own(k) => {
                 if body == 0 {
-                    place_at(&self.own, k)
+                    place_at(self.own.as_slice(), k)
                 } else {
                     None
                 }
@@ -120,8 +119,8 @@ impl<'p> Declarations<'p> {
 }
 
 /// What a table has at a slot; behind its end nothing.
-fn place_at(places: &Vec<Option<u32>>, k: u32) -> Option<u32>
-    ensures { result ≡ option_flatten (slice_get places.now.items k) }
+fn place_at(places: &[Option<u32>], k: u32) -> Option<u32>
+    ensures { result ≡ option_flatten (slice_get places.now k) }
 {
     match places.get(k as usize) {
         None => None,
@@ -161,12 +160,20 @@ fn put_name(
 ) -> Result<(), Memory>
     ensures { OnOk result (Puts name.now at table.old table.new) }
 {
-    let Ok(place) = u32::try_from(at) else {
-        return Err(AllocError);
-    };
+    let place = narrow(at)?;
     let key = Vec::from_slice(alloc, name.bytes())?;
     table.insert(key, place)?;
     Ok(())
+}
+
+/// A place as a stop names it. The error is that it doesn't fit 32 bits.
+fn narrow(at: usize) -> Result<u32, Memory>
+    ensures { IfOk result (λ place. place ≡ at) }
+{
+    match u32::try_from(at) {
+        Ok(place) => Ok(place),
+        Err(_) => Err(AllocError),
+    }
 }
 
 /// The place of the declaration of each variable that all bodies see.
@@ -186,6 +193,20 @@ fn seen_places(
 /// The place of the declaration of each of the main body's names.
 fn main_places(
     alloc: Global,
+    code: &Code,
+    table: &IndexMap<Vec<u8>, u32>,
+) -> Result<Vec<Option<u32>>, Memory>
+    ensures { IfOk result (λ places. places.items ≡ map (name_place (place_in table.now)) (names_by (slice_get code.now.bodies 0))) }
+{
+    match code.bodies.as_slice().get(0) {
+        None => Ok(Vec::new(alloc)),
+        Some(body) => name_places(alloc, body.names.as_slice(), table),
+    }
+}
+
+/// The place of the declaration of each of these names of the main body's.
+fn name_places(
+    alloc: Global,
     names: &[OwnName],
     table: &IndexMap<Vec<u8>, u32>,
 ) -> Result<Vec<Option<u32>>, Memory>
@@ -193,7 +214,7 @@ fn main_places(
 {
     names
         .iter()
-        .map(|name| main_place(name, table))
+        .map(|name| name_place(name, table))
         .collect(alloc)
 }
 
@@ -205,22 +226,12 @@ fn seen_place(name: &Text, table: &IndexMap<Vec<u8>, u32>) -> Option<u32>
 }
 
 /// The place of the declaration of a name of the main body's own; a former's is not declared.
-fn main_place(name: &OwnName, table: &IndexMap<Vec<u8>, u32>) -> Option<u32>
+fn name_place(name: &OwnName, table: &IndexMap<Vec<u8>, u32>) -> Option<u32>
     ensures { result ≡ name_place (place_in table.now) name.now }
 {
     match name {
         OwnName::Body(name) => seen_place(name, table),
         OwnName::Former(_, _) => None,
-    }
-}
-
-/// The names of the main body's own.
-fn main_names(code: &Code) -> &[OwnName]
-    ensures { result.now ≡ names_by (slice_get code.now.bodies 0) }
-{
-    match code.bodies.as_slice().get(0) {
-        None => &[],
-        Some(body) => body.names.as_slice(),
     }
 }
 

@@ -99,11 +99,15 @@ pub(crate) fn store_in(
     let Some(value) = pop_top(store)? else {
         return Ok(End::Stuck);
     };
-    if let Some(place) = refusal(declared, &value) {
-        go_on(store);
-        return Ok(End::Stopped(StopKind::Unfit(place), line));
+    match refusal(declared, &value) {
+        Some(place) => {
+            go_on(store);
+            Ok(End::Stopped(StopKind::Unfit(place), line))
+        }
+        None => {
+            store.set_slot(slot, value)?;
+            go_on(store);
+            Ok(End::Paused)
+        }
     }
-    store.set_slot(slot, value)?;
-    go_on(store);
-    Ok(End::Paused)
 }

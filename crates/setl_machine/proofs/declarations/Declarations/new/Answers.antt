@@ -1,4 +1,4 @@
-use Rattle.std.proofs.Common.{◌≡◌, ◌<◌, ◌+◌, ◌-◌, ◌∙◌, suc, map, drop, length, sym, subst, arith, add-one}
+use Rattle.std.proofs.Common.{◌≡◌, ◌<◌, ◌+◌, ◌-◌, ◌∙◌, suc, map, drop, length, get_or, ap, sym, subst, arith, add-one}
 use Rattle.setl_modes.specs.Modes.{mode_of}
 use Rattle.setl_program.specs.Plain.{plain_declared}
 use Rattle.setl_machine.specs.Tables.{Finds}
@@ -14,9 +14,9 @@ loop-at-preserved c =
     let up : (at - 1) + 1 ≡ at = omega arith in
     let below : at - 1 < length ds = omega arith in
     let next : at ≡ suc (at - 1) = sym up ∙ add-one (at - 1) in
-    let d = c.index-declared-at.result in
+    let d = get_or ds (at - 1) c.index-declared-at.result in
     let here : Finds (suc (at - 1)) (map plain_declared (drop at ds)) c.loop-at.globals c.loop-at.own = subst (λ n. Finds n (map plain_declared (drop at ds)) c.loop-at.globals c.loop-at.own) next c.loop-at.invariant.finds in
     record {
       within = omega arith;
-      finds = finds_before c.put_place.new.globals c.put_place.new.own ds at (at - 1) d up below c.index-declared-at.is (c.in_ok-put_place.ensures (map plain_declared (drop at ds)) (mode_of d.mode) here);
+      finds = finds_before c.put_place.new.globals c.put_place.new.own ds at (at - 1) d up below (ap (get_or ds (at - 1)) c.index-declared-at.is) (c.in_ok-put_place.ensures (map plain_declared (drop at ds)) (mode_of d.mode) here);
     }
