@@ -1,3 +1,4 @@
 mod Scopes
 mod BoundNames
 mod Walks
+mod Links

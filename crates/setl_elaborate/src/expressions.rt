@@ -6,6 +6,7 @@ ghost use Rattle.setl_program.specs.Expressions.{part_of, term_of, inner_of, tur
 ghost use Rattle.setl_program.specs.Plain.{plain_expr};
 ghost use Rattle.setl_elaborate.specs.Elaborators.{made, past, plain_range};
 
+use crate::chain::Chain;
 use crate::elaborator::Elaborator;
 use crate::{bound, makers, operators, ranges};
 use setl_program::{Collection, Expr, Source};
@@ -78,7 +79,7 @@ impl Elaborator<'_> {
             TreeExpr::Selected(x, selectors) => match name_of(x.get()) {
                 None => {
                     let value = self.expr(x.get())?;
-                    self.selected(selectors.as_slice(), value)
+                    self.selected(selectors.as_slice(), Chain::new(self.alloc, value))
                 }
                 Some(name) => self.name_selection(selectors.as_slice(), name),
             },
@@ -134,12 +135,12 @@ impl Elaborator<'_> {
         ensures value { IfOk result (λ e. plain_expr e ≡ made (spec.chain_on (plain_expr left) (map (λ x. (x.0, part_of x.1)) others.now)) self.old) }
         ensures state { OnOk result (self.new ≡ past (spec.chain_on (plain_expr left) (map (λ x. (x.0, part_of x.1)) others.now)) self.old) }
     {
-        let mut all = left;
+        let mut all = Chain::new(self.alloc, left);
         for (op, x) in others {
             let right = self.expr(x)?;
-            all = makers::binary(self.alloc, *op, all, right)?;
+            all.binary(*op, right)?;
         }
-        Ok(all)
+        all.finish(self.alloc)
     }
 
     /// What the inside of braces or brackets becomes. An error is want of memory.

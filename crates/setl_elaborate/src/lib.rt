@@ -2,6 +2,7 @@
 #![tactic(auto)]
 
 mod bound;
+mod chain;
 mod elaborator;
 mod expressions;
 mod iterators;

@@ -7,12 +7,11 @@ ghost use Rattle.setl_program.specs.Expressions as terms;
 ghost use Rattle.setl_program.specs.Program as plain;
 ghost use Rattle.setl_program.specs.Plain.{plain_variable, plain_binding, plain_expr, plain_exprs, plain_iterators, plain_arguments, condition_of};
 
+use crate::chain::Chain;
 use crate::operators;
 use setl_map::Operator;
-use setl_program::{
-    Argument, Binding, Collection, Connective, Expr, Iterator, Quantifier, Variable,
-};
-use setl_tree::{BinaryOp, Boxed, Items, Prefix, Text};
+use setl_program::{Argument, Binding, Collection, Expr, Iterator, Quantifier, Variable};
+use setl_tree::{Boxed, Items, Prefix, Text};
 use std::alloc::{AllocError, Global};
 
 /// A literal number.
@@ -82,19 +81,6 @@ pub fn apply(
     Boxed::new(alloc, Expr::Apply(operator, operands))
 }
 
-/// An operator over one operand.
-pub fn one(
-    alloc: Global,
-    operator: Operator,
-    operand: Boxed<Expr>,
-) -> Result<Boxed<Expr>, AllocError>
-    ensures { IfOk result (λ e. plain_expr e ≡ spec.one operator (plain_expr operand)) }
-{
-    let mut operands = Items::new(alloc);
-    operands.push(operand.into_inner())?;
-    apply(alloc, operator, operands)
-}
-
 /// An operator over two operands.
 pub fn two(
     alloc: Global,
@@ -104,37 +90,9 @@ pub fn two(
 ) -> Result<Boxed<Expr>, AllocError>
     ensures { IfOk result (λ e. plain_expr e ≡ spec.two operator (plain_expr left) (plain_expr right)) }
 {
-    let mut operands = Items::new(alloc);
-    operands.push(left.into_inner())?;
-    operands.push(right.into_inner())?;
-    apply(alloc, operator, operands)
-}
-
-/// Two expressions under a connective.
-fn connect(
-    alloc: Global,
-    connective: Connective,
-    left: Boxed<Expr>,
-    right: Boxed<Expr>,
-) -> Result<Boxed<Expr>, AllocError>
-    ensures { IfOk result (λ e. plain_expr e ≡ plain.Connect connective (plain_expr left) (plain_expr right)) }
-{
-    Boxed::new(alloc, Expr::Connect(connective, left, right))
-}
-
-/// A binary operator over two operands.
-pub fn binary(
-    alloc: Global,
-    op: BinaryOp,
-    left: Boxed<Expr>,
-    right: Boxed<Expr>,
-) -> Result<Boxed<Expr>, AllocError>
-    ensures { IfOk result (λ e. plain_expr e ≡ spec.binary op (plain_expr left) (plain_expr right)) }
-{
-    match operators::connective(op) {
-        None => two(alloc, operators::updating(op), left, right),
-        Some(connective) => connect(alloc, connective, left, right),
-    }
+    let mut all = Chain::new(alloc, left);
+    all.two(operator, right)?;
+    all.finish(alloc)
 }
 
 /// Prefixes before an operand, from the outside in.
@@ -145,13 +103,13 @@ pub fn prefixes(
 ) -> Result<Boxed<Expr>, AllocError>
     ensures { IfOk result (λ e. plain_expr e ≡ terms.prefixes prefixes.now (plain_expr operand)) }
 {
-    let mut all = operand;
+    let mut all = Chain::new(alloc, operand);
     let mut left = prefixes.len();
     while left > 0 {
         left -= 1;
-        all = one(alloc, operators::prefix(prefixes[left]), all)?;
+        all.one(operators::prefix(prefixes[left]))?;
     }
-    Ok(all)
+    all.finish(alloc)
 }
 
 /// `if condition then value else other end`

@@ -88,24 +88,6 @@ pub fn range_source(
     Ok((source, all))
 }
 
-/// What a slice of an expression becomes, by its bounds. An error is want of memory.
-pub fn with_bound(
-    alloc: Global,
-    value: Boxed<Expr>,
-    first: Boxed<Expr>,
-    last: Option<Boxed<Expr>>,
-) -> Result<Boxed<Expr>, AllocError>
-    ensures { IfOk result (λ e. plain_expr e ≡ spec.with_bound (plain_expr value) (plain_expr first) (option_map plain_expr last)) }
-{
-    match last {
-        None => makers::two(alloc, Operator::Tail, value, first),
-        Some(last) => {
-            let all = bounds(alloc, value, Some(first), last)?;
-            makers::apply(alloc, Operator::Slice, all)
-        }
-    }
-}
-
 /// One expression alone, or the tuple of several. An error is want of memory.
 pub fn tuple_of_several(alloc: Global, all: Items<Expr>) -> Result<Boxed<Expr>, AllocError>
     ensures { IfOk result (λ e. plain_expr e ≡ spec.tuple_of_several (map plain_expr all)) }

@@ -5,8 +5,10 @@ ghost use Rattle.setl_program.specs.Expressions as spec;
 ghost use Rattle.setl_program.specs.Expressions.{part_of, behind_of};
 ghost use Rattle.setl_program.specs.Plain.{plain_expr, plain_argument};
 ghost use Rattle.setl_program.specs.Scope.{procedure_of};
+ghost use Rattle.setl_elaborate.specs.Chains.{plain_chain};
 ghost use Rattle.setl_elaborate.specs.Elaborators.{made, past};
 
+use crate::chain::Chain;
 use crate::elaborator::Elaborator;
 use crate::expressions::name_of;
 use crate::{makers, ranges};
@@ -23,57 +25,53 @@ impl Elaborator<'_> {
         makers::name(self.alloc, self.scope.variable(name)?)
     }
 
-    /// What an expression becomes with selectors behind it. An error is want of memory.
+    /// What a chain becomes with selectors behind it. An error is want of memory.
     #[cycle(expressions)]
     pub fn selected(
         &mut self,
         selectors: &[Selector],
-        value: Boxed<Expr>,
+        value: Chain,
     ) -> Result<Boxed<Expr>, AllocError>
-        ensures value { IfOk result (λ e. plain_expr e ≡ made (spec.selected (plain_expr value) (map behind_of selectors.now)) self.old) }
-        ensures state { OnOk result (self.new ≡ past (spec.selected (plain_expr value) (map behind_of selectors.now)) self.old) }
+        ensures value { IfOk result (λ e. plain_expr e ≡ made (spec.selected (plain_chain value) (map behind_of selectors.now)) self.old) }
+        ensures state { OnOk result (self.new ≡ past (spec.selected (plain_chain value) (map behind_of selectors.now)) self.old) }
     {
         let mut all = value;
         for selector in selectors {
-            all = self.applied(selector, all)?;
+            self.applied(selector, &mut all)?;
         }
-        Ok(all)
+        all.finish(self.alloc)
     }
 
-    /// What an expression becomes with a selector behind it. An error is want of memory.
+    /// Puts a selector behind a chain. An error is want of memory.
     #[cycle(expressions)]
-    fn applied(
-        &mut self,
-        selector: &Selector,
-        value: Boxed<Expr>,
-    ) -> Result<Boxed<Expr>, AllocError>
-        ensures value { IfOk result (λ e. plain_expr e ≡ made ((behind_of selector.now).applied (plain_expr value)) self.old) }
-        ensures state { OnOk result (self.new ≡ past ((behind_of selector.now).applied (plain_expr value)) self.old) }
+    fn applied(&mut self, selector: &Selector, all: &mut Chain) -> Result<(), AllocError>
+        ensures value { OnOk result (plain_chain all.new ≡ made ((behind_of selector.now).applied (plain_chain all.old)) self.old) }
+        ensures state { OnOk result (self.new ≡ past ((behind_of selector.now).applied (plain_chain all.old)) self.old) }
     {
         match selector {
-            Selector::Round(xs) => self.at_list(xs.as_slice(), Operator::Get, value),
+            Selector::Round(xs) => self.at_list(xs.as_slice(), Operator::Get, all),
             Selector::Slice(a, b) => {
                 let first = self.expr(a.get())?;
                 let last = self.optional(b)?;
-                ranges::with_bound(self.alloc, value, first, last)
+                all.slice(first, last)
             }
-            Selector::Braces(xs) => self.at_list(xs.as_slice(), Operator::Images, value),
+            Selector::Braces(xs) => self.at_list(xs.as_slice(), Operator::Images, all),
         }
     }
 
-    /// What an operator over an expression and a list in brackets becomes. An error is want of memory.
+    /// Puts an operator with a list in brackets behind a chain. An error is want of memory.
     #[cycle(expressions)]
     fn at_list(
         &mut self,
         xs: &[TreeExpr],
         operator: Operator,
-        value: Boxed<Expr>,
-    ) -> Result<Boxed<Expr>, AllocError>
-        ensures value { IfOk result (λ e. plain_expr e ≡ made (spec.at_list operator (map part_of xs.now) (plain_expr value)) self.old) }
-        ensures state { OnOk result (self.new ≡ past (spec.at_list operator (map part_of xs.now) (plain_expr value)) self.old) }
+        all: &mut Chain,
+    ) -> Result<(), AllocError>
+        ensures value { OnOk result (plain_chain all.new ≡ made (spec.at_list operator (map part_of xs.now) (plain_chain all.old)) self.old) }
+        ensures state { OnOk result (self.new ≡ past (spec.at_list operator (map part_of xs.now) (plain_chain all.old)) self.old) }
     {
         let list = self.listed(xs)?;
-        makers::two(self.alloc, operator, value, list)
+        all.two(operator, list)
     }
 
     /// What a list in brackets becomes: one expression alone, or the tuple of several. An error is want of memory.
@@ -104,27 +102,31 @@ impl Elaborator<'_> {
             }
             [Selector::Slice(_, _), ..] => {
                 let value = self.name(name)?;
-                self.selected(selectors, value)
+                self.selected(selectors, Chain::new(self.alloc, value))
             }
             [Selector::Braces(_), ..] => {
                 let value = self.name(name)?;
-                self.selected(selectors, value)
+                self.selected(selectors, Chain::new(self.alloc, value))
             }
         }
     }
 
     /// What a name before a list in round brackets becomes: a call if it is a procedure's. An error is want of memory.
     #[cycle(expressions)]
-    fn application(&mut self, xs: &[TreeExpr], name: &Text) -> Result<Boxed<Expr>, AllocError>
-        ensures value { IfOk result (λ e. plain_expr e ≡ made (λ s. spec.application (procedure_of s name.now) name.now (map part_of xs.now) s) self.old) }
+    fn application(&mut self, xs: &[TreeExpr], name: &Text) -> Result<Chain, AllocError>
+        ensures value { IfOk result (λ e. plain_chain e ≡ made (λ s. spec.application (procedure_of s name.now) name.now (map part_of xs.now) s) self.old) }
         ensures state { OnOk result (self.new ≡ past (λ s. spec.application (procedure_of s name.now) name.now (map part_of xs.now) s) self.old) }
     {
         match self.scope.procedure(name) {
             None => {
-                let value = self.name(name)?;
-                self.at_list(xs, Operator::Get, value)
+                let mut all = Chain::new(self.alloc, self.name(name)?);
+                self.at_list(xs, Operator::Get, &mut all)?;
+                Ok(all)
             }
-            Some((place, parameters)) => self.call(xs, place, parameters),
+            Some((place, parameters)) => {
+                let value = self.call(xs, place, parameters)?;
+                Ok(Chain::new(self.alloc, value))
+            }
         }
     }
 

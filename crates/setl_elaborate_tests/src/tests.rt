@@ -4,7 +4,7 @@ ghost use Rattle.std.specs.Prelude.{◌≡◌, [], IfOk};
 
 use setl_elaborate::{Memory, elaborate};
 use setl_map::Operator;
-use setl_program::{Binding, Collection, Expr, Iterator, Source, Stmt, StmtKind, Variable};
+use setl_program::{Binding, Collection, Expr, Iterator, Link, Source, Stmt, StmtKind, Variable};
 use setl_tree::{
     BinaryOp, Bound, Boxed, Declared, Expr as TreeExpr, Inner, Items, Iter, Place,
     Stmt as TreeStmt, StmtKind as TreeKind, Text, Tree,
@@ -81,8 +81,8 @@ fn is_variable(x: &Variable, wanted: &Variable) -> bool {
 /// Whether this is the sum of `x` of the first former and the global `y`.
 fn is_sum(x: &Expr, first: &Variable, second: &Variable) -> bool {
     match x {
-        Expr::Apply(Operator::Add, operands) => match operands.as_slice() {
-            [a, b] => is_name(a, first) && is_name(b, second),
+        Expr::Chain(a, links) => match links.as_slice() {
+            [Link::Binary(Operator::Add, b)] => is_name(a.get(), first) && is_name(b.get(), second),
             _ => false,
         },
         _ => false,

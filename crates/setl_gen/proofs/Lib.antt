@@ -7,3 +7,4 @@ pub mod Rounds
 pub mod SlotTables
 pub mod Stepping
 pub mod StmtRounds
+pub mod Links

@@ -18,7 +18,7 @@ use Rattle.setl_program.specs.declared.expr.Iterator.{out-Iterator, fold_out-Ite
 use Rattle.setl_program.specs.declared.expr.Argument.TheOpen.{Argument-F}
 use Rattle.std.specs.Option.{option_map}
 use Rattle.setl_program.specs.Program.{Slots, Binding, begin_of, Expr, Exprs, Arguments, no_argument, rd_argument}
-use Rattle.setl_program.specs.Plain.{plain_variable, plain_slots, plain_binding, plain_expr, plain_exprs, plain_iterator, plain_iterators, plain_argument, plain_arguments, argument_step, expr_step, iterator_step}
+use Rattle.setl_program.specs.Plain.{plain_variable, plain_slots, plain_binding, plain_expr, plain_exprs, plain_iterator, plain_iterators, plain_argument, plain_arguments, argument_step, expr_step, link_step, iterator_step}
 use Rattle.setl_code.specs.Code.{Push, Load, DropTop, StoreIn, PartsOf, BeginOver, NextOr}
 use Rattle.setl_code.specs.Piece.{Laid, ◌⨾◌, nothing, one}
 use Rattle.setl_code.specs.Generated.{store_slots, parts, bind, set_by, arguments, clear, count_from, count, levels, expr, exprs}
@@ -93,7 +93,7 @@ clears_round line xs k x s t within read e =
 
 -- an iterator by its fields
 pub iterator_is : (x : it.Iterator) → plain_iterator x ≡ (plain_binding (out-Iterator x).binding, plain_exprs (out-Iterator x).sources)
-iterator_is x = fold_out-Iterator (Arguments → Arguments) Expr (Binding × Exprs) argument_step expr_step iterator_step x
+iterator_is x = fold_out-Iterator (Arguments → Arguments) Expr (Expr → Expr) (Binding × Exprs) argument_step expr_step link_step iterator_step x
 
 pub iterator_begun : (line n : ℕ) (x : it.Iterator) (xs : List ex.Expr) (s t u : Emitted) → xs ≡ (out-Iterator x).sources → t ≡ after (exprs line (plain_exprs xs)) s → n ≡ length (out-Iterator x).sources → u ≡ after (one line (BeginOver (begin_of (plain_binding (out-Iterator x).binding)) n)) t → u ≡ after (begun line (plain_iterator x)) s
 iterator_begun line n x xs s t u h e1 m e2 =
@@ -116,11 +116,11 @@ bounds_round line is k x s t within read e =
 -- ---- arguments
 
 abbrev Layer : Type 0
-Layer = Argument-F (Arguments → Arguments) Expr (Binding × Exprs)
+Layer = Argument-F (Arguments → Arguments) Expr (Expr → Expr) (Binding × Exprs)
 
 -- what an argument puts before the others is one of three
 pub layer_of : (x : arg.Argument) → (l : Layer) × (plain_argument x ≡ argument_step l)
-layer_of x = (_, fold_out-Argument (Arguments → Arguments) Expr (Binding × Exprs) argument_step expr_step iterator_step x)
+layer_of x = (_, fold_out-Argument (Arguments → Arguments) Expr (Expr → Expr) (Binding × Exprs) argument_step expr_step link_step iterator_step x)
 
 set_item : (line : ℕ) (l : Layer) (rest : Arguments) (s t : Emitted) → t ≡ after (set_code line (argument_step l no_argument)) s → after (store_slots line (set_by rest)) t ≡ after (store_slots line (set_by (argument_step l rest))) s
 set_item line (Argument-F.Rd x) rest s t e = ap (after (store_slots line (set_by rest))) (e ∙ after_nothing s)
@@ -187,7 +187,7 @@ point_cleared line b y x s t u is e1 e2 =
 -- ---- kinds of arguments
 
 pub rd_is : (x : arg.Argument) (e : ex.Expr) → x ≡ an.Rd e → plain_argument x ≡ rd_argument (plain_expr e)
-rd_is x e is = ap plain_argument (is ∙ sym (an.rolls-Rd e)) ∙ fold-roll-Argument (Arguments → Arguments) Expr (Binding × Exprs) argument_step expr_step iterator_step (Argument-F.Rd e)
+rd_is x e is = ap plain_argument (is ∙ sym (an.rolls-Rd e)) ∙ fold-roll-Argument (Arguments → Arguments) Expr (Expr → Expr) (Binding × Exprs) argument_step expr_step link_step iterator_step (Argument-F.Rd e)
 
 pub nothing_set : (line : ℕ) (x : arg.Argument) (e : ex.Expr) (s : Emitted) → x ≡ an.Rd e → s ≡ after (set_code line (plain_argument x no_argument)) s
 nothing_set line x e s is = sym (after_nothing s) ∙ ap (λ (f : Arguments → Arguments). after (set_code line (f no_argument)) s) (sym (rd_is x e is))

@@ -1,8 +1,8 @@
 -- Iterators without the code inside.
-use Rattle.std.specs.Prelude.{ℕ, List, Option, Some, None}
+use Rattle.std.specs.Prelude.{◌≡◌, ℕ, List, Option, Some, None}
 use Rattle.setl_value.specs.Datum.{bool}
 use Rattle.setl_program.specs.declared.kinds.Quantifier.{Quantifier}
-use Rattle.setl_program.specs.Program.{Binding, begin_of, Exprs, Iterators, no_iterator, more_iterators, Arguments, no_argument, rd_argument, wr_argument, rw_argument}
+use Rattle.setl_program.specs.Program.{Binding, begin_of, Expr, Exprs, Iterators, no_iterator, more_iterators, Arguments, no_argument, rd_argument, wr_argument, rw_argument}
 use Rattle.setl_run.specs.Variable.{Variable}
 use Rattle.setl_model.specs.Iterations.{undecided, all_bound}
 use Rattle.setl_code.specs.Code.{Push, Load, StoreIn, DropTop, BeginOver, NextOr}
@@ -10,6 +10,10 @@ use Rattle.setl_code.specs.Piece.{Laid, ◌⨾◌, nothing, one}
 use Rattle.setl_code.specs.Generated.{count, bind, clear, expr, exprs}
 use Rattle.setl_gen.specs.Emitted.{Emitted, here, after, all_filled}
 use Rattle.setl_gen.specs.declared.hole.Hole.{Hole}
+
+-- Where the first steps are the code of an expression, with those that came they are the code of what becomes of it.
+abbrev pub CodeGoesOn : (line : ℕ) → (Expr → Expr) → Emitted → Emitted → Type 0
+CodeGoesOn line f old new = (e : Expr) (s : Emitted) → old ≡ after (expr line e) s → new ≡ after (expr line (f e)) s
 
 -- an iterator up to its next step, and that step with what it binds
 abbrev pub begun : ℕ → Binding × Exprs → Laid

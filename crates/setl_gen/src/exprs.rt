@@ -2,11 +2,13 @@
 
 ghost use Rattle.std.specs.Prelude.{◌≡◌, OnOk, IfOk, Some, map};
 ghost use Rattle.std.specs.Option.{option_map};
-ghost use Rattle.setl_program.specs.Program.{Apply, Call, only_if, no_argument};
-ghost use Rattle.setl_program.specs.Plain.{plain_expr, plain_exprs, plain_iterator, plain_iterators, plain_argument, plain_arguments, condition_of};
+ghost use Rattle.setl_program.specs.Program.{Apply, Connect, Call, only_if, no_argument};
+ghost use Rattle.setl_program.specs.Operators.{one, two};
+ghost use Rattle.setl_program.specs.Lists.{chained};
+ghost use Rattle.setl_program.specs.Plain.{plain_expr, plain_link, plain_exprs, plain_iterator, plain_iterators, plain_argument, plain_arguments, condition_of};
 ghost use Rattle.setl_code.specs.Generated as code;
 ghost use Rattle.setl_gen.specs.Emitted.{held, here, after};
-ghost use Rattle.setl_gen.specs.Heads.{begun, next, opened, argument_code};
+ghost use Rattle.setl_gen.specs.Heads.{CodeGoesOn, begun, next, opened, argument_code};
 
 use crate::Memory;
 use crate::binds::{bind, store_set};
@@ -16,7 +18,7 @@ use crate::simple::{
 };
 use setl_code::Instr;
 use setl_map::Operator;
-use setl_program::{Argument, Expr, Iterator};
+use setl_program::{Argument, Connective, Expr, Iterator, Link};
 use setl_tree::Boxed;
 use std::alloc::AllocError;
 
@@ -32,12 +34,9 @@ pub fn expr<'p>(to: &mut Emitter<'p>, line: u32, e: &'p Expr) -> Result<(), Memo
         Expr::Undefined => to.put(line, Instr::Undefined),
         Expr::Name(x) => to.load(line, x),
         Expr::Apply(o, es) => apply(to, line, *o, es.as_slice()),
-        Expr::Connect(k, a, b) => {
-            expr(to, line, a.get())?;
-            let test = to.step(line, Instr::Decide(*k, 0))?;
-            expr(to, line, b.get())?;
-            to.put(line, Instr::TestTruth)?;
-            to.decide_here(test, line, *k)?;
+        Expr::Chain(first, ls) => {
+            expr(to, line, first.get())?;
+            links(to, line, ls.as_slice())?;
             Ok(())
         }
         Expr::Choose(t, a, b) => {
@@ -104,6 +103,65 @@ fn apply<'p>(to: &mut Emitter<'p>, line: u32, o: Operator, es: &'p [Expr]) -> Re
     exprs(to, line, es)?;
     let count = number(es.len())?;
     to.put(line, Instr::Operate(o, count))?;
+    Ok(())
+}
+
+/// Links behind an expression.
+#[cycle(expr)]
+fn links<'p>(to: &mut Emitter<'p>, line: u32, ls: &'p [Link]) -> Result<(), Memory>
+    ensures { OnOk result (CodeGoesOn line (λ e. chained e (map plain_link ls.now)) (held to.old) (held to.new)) }
+{
+    for l in ls {
+        link(to, line, l)?;
+    }
+    Ok(())
+}
+
+/// A link behind an expression.
+#[cycle(expr)]
+fn link<'p>(to: &mut Emitter<'p>, line: u32, l: &'p Link) -> Result<(), Memory>
+    ensures { OnOk result (CodeGoesOn line (plain_link l.now) (held to.old) (held to.new)) }
+{
+    match l {
+        Link::Unary(o) => unary(to, line, *o),
+        Link::Binary(o, x) => binary(to, line, *o, x.get()),
+        Link::Ternary(o, x, y) => {
+            expr(to, line, x.get())?;
+            expr(to, line, y.get())?;
+            to.put(line, Instr::Operate(*o, 3))?;
+            Ok(())
+        }
+        Link::Connect(k, x) => connect(to, line, *k, x.get()),
+    }
+}
+
+/// An operator behind its one operand.
+fn unary(to: &mut Emitter<'_>, line: u32, o: Operator) -> Result<(), Memory>
+    ensures { OnOk result (CodeGoesOn line (one o) (held to.old) (held to.new)) }
+{
+    to.put(line, Instr::Operate(o, 1))?;
+    Ok(())
+}
+
+/// An operator with its second operand, behind the first.
+#[cycle(expr)]
+fn binary<'p>(to: &mut Emitter<'p>, line: u32, o: Operator, x: &'p Expr) -> Result<(), Memory>
+    ensures { OnOk result (CodeGoesOn line (λ e. two o e (plain_expr x.now)) (held to.old) (held to.new)) }
+{
+    expr(to, line, x)?;
+    to.put(line, Instr::Operate(o, 2))?;
+    Ok(())
+}
+
+/// A connective with its right part, behind the left one.
+#[cycle(expr)]
+fn connect<'p>(to: &mut Emitter<'p>, line: u32, k: Connective, x: &'p Expr) -> Result<(), Memory>
+    ensures { OnOk result (CodeGoesOn line (λ e. Connect k e (plain_expr x.now)) (held to.old) (held to.new)) }
+{
+    let test = to.step(line, Instr::Decide(k, 0))?;
+    expr(to, line, x)?;
+    to.put(line, Instr::TestTruth)?;
+    to.decide_here(test, line, k)?;
     Ok(())
 }
 

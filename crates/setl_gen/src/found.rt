@@ -2,8 +2,9 @@
 
 ghost use Rattle.std.specs.Prelude.{◌≡◌, ◌++◌, ◌∷◌, [], OnOk, map};
 ghost use Rattle.std.specs.Option.{option_map};
-ghost use Rattle.setl_program.specs.Program.{no_argument};
-ghost use Rattle.setl_program.specs.Plain.{plain_variable, plain_slots, plain_binding, plain_expr, plain_exprs, plain_iterator, plain_iterators, plain_argument, plain_arguments, plain_place, plain_block, plain_stmt, selectors_of, condition_of};
+ghost use Rattle.setl_program.specs.Program.{Undefined, no_argument};
+ghost use Rattle.setl_program.specs.Lists.{chained};
+ghost use Rattle.setl_program.specs.Plain.{plain_variable, plain_slots, plain_binding, plain_expr, plain_link, plain_exprs, plain_iterator, plain_iterators, plain_argument, plain_arguments, plain_place, plain_block, plain_stmt, selectors_of, condition_of};
 ghost use Rattle.setl_model.specs.Slots.{variables_in};
 ghost use Rattle.setl_code.specs.Names as names;
 ghost use Rattle.setl_gen.specs.StmtKinds.{plain_kind};
@@ -11,7 +12,7 @@ ghost use Rattle.setl_gen.specs.Found.{before, behind, around, part_variables, s
 
 use crate::Memory;
 use setl_program::{
-    Argument, Binding, Branch, Expr, Iterator, Place, Selector, Stmt, StmtKind, Variable,
+    Argument, Binding, Branch, Expr, Iterator, Link, Place, Selector, Stmt, StmtKind, Variable,
 };
 use setl_tree::Boxed;
 use std::alloc::Global;
@@ -113,9 +114,10 @@ pub fn expr<'p>(e: &'p Expr, all: &mut Found<'p>) -> Result<(), Memory>
         Expr::Undefined => Ok(()),
         Expr::Name(x) => all.push(x),
         Expr::Apply(_, es) => exprs(es.as_slice(), all),
-        Expr::Connect(_, a, b) => {
-            expr(a.get(), all)?;
-            expr(b.get(), all)
+        Expr::Chain(first, ls) => {
+            expr(first.get(), all)?;
+            links(ls.as_slice(), all)?;
+            Ok(())
         }
         Expr::Choose(t, a, b) => {
             expr(t.get(), all)?;
@@ -153,6 +155,33 @@ pub fn exprs<'p>(es: &'p [Expr], all: &mut Found<'p>) -> Result<(), Memory>
         expr(e, all)?;
     }
     Ok(())
+}
+
+/// The variables of links: those of what they make of `om`.
+#[cycle(found)]
+fn links<'p>(ls: &'p [Link], all: &mut Found<'p>) -> Result<(), Memory>
+    ensures { OnOk result (all.new ≡ all.old ++ names.in_expr (chained Undefined (map plain_link ls.now))) }
+{
+    for l in ls {
+        link(l, all)?;
+    }
+    Ok(())
+}
+
+/// The variables of a link: those of what it makes of `om`.
+#[cycle(found)]
+fn link<'p>(l: &'p Link, all: &mut Found<'p>) -> Result<(), Memory>
+    ensures { OnOk result (all.new ≡ all.old ++ names.in_expr (plain_link l.now Undefined)) }
+{
+    match l {
+        Link::Unary(_) => Ok(()),
+        Link::Binary(_, x) => expr(x.get(), all),
+        Link::Ternary(_, x, y) => {
+            expr(x.get(), all)?;
+            expr(y.get(), all)
+        }
+        Link::Connect(_, x) => expr(x.get(), all),
+    }
 }
 
 /// The variables of iterators.

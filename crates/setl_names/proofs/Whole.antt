@@ -39,6 +39,9 @@ whole_first t =
 whole_names : (t : Tree) → (whole_program t).names ≡ all_names t
 whole_names t = names_of_bodies t.procs (var_names t.vars) (bodies t) (record { first = first_break (head_breaks t); names = [] })
 
+pub names_found : (t : Tree) (f : Found) → f ≡ whole_program t → f.names ≡ all_names t
+names_found t f ef = ap (λ (z : Found). z.names) ef ∙ whole_names t
+
 pub resolved_ok : (t : Tree) (f : Found) → f ≡ whole_program t → f.first ≡ None → (first_break (breaks t) ≡ None) × (f.names ≡ all_names t)
 resolved_ok t f ef none = (sym (whole_first t) ∙ sym (ap (λ (z : Found). z.first) ef) ∙ none, ap (λ (z : Found). z.names) ef ∙ whole_names t)
 

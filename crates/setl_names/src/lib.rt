@@ -22,9 +22,9 @@ mod statements;
 mod walk;
 
 pub use bodies::{BodyNames, names_of_params, names_of_vars};
-pub use broken::RuleFault;
+pub use broken::{Break, RuleFault, noted, noted_if};
 pub use laws::worked_rows;
 pub use names::Names;
 pub use procs::Procs;
-pub use program::resolve;
+pub use program::{names_of_bodies, resolve};
 pub use std::alloc::AllocError as Memory;

@@ -2,7 +2,7 @@
 
 ghost use Rattle.std.specs.Prelude.{◌≡◌, ◌∷◌, map, IfOk, OnOk, OnErr};
 ghost use Rattle.setl_names.specs.Bodies.{main_body, proc_body, bodies, occurrences};
-ghost use Rattle.setl_names.specs.Resolves.{Resolves};
+ghost use Rattle.setl_names.specs.Resolves.{Resolves, all_names};
 ghost use Rattle.setl_names.specs.Found.{body_of, with_occurrences, with_body, with_bodies, heads_found, whole_program};
 
 use crate::around::Around;
@@ -161,6 +161,16 @@ fn resolve_all(alloc: Global, tree: &Tree) -> Result<Found, AllocError>
 {
     let table = Procs::new(alloc, tree.procs.as_slice())?;
     resolve_with(alloc, tree, &table)
+}
+
+/// The names of each body, the main program first, then the procedures in their order, whether a rule is broken or not.
+///
+/// The error is want of memory.
+pub fn names_of_bodies(alloc: Global, tree: &Tree) -> Result<Items<BodyNames>, AllocError>
+    ensures { IfOk result (λ names. names ≡ all_names tree.now) }
+{
+    let found = resolve_all(alloc, tree)?;
+    Ok(found.names)
 }
 
 /// Resolves the names of a program.

@@ -2,6 +2,7 @@
 #![tactic(auto)]
 
 mod fault;
+mod laws;
 mod modes;
 mod nested;
 mod programs;
@@ -17,6 +18,7 @@ ghost use Rattle.setl_parse.specs.Places.{outcome_of};
 use crate::programs::program;
 pub use fault::ParseFault;
 use fault::fault_at;
+pub use laws::stops_are_placed;
 use setl_expressions::Cursor;
 use setl_reading::{reading_meets_grammar, tree_is_unique};
 use setl_token::TokenList;

@@ -6,6 +6,11 @@ abbrev pub exprs_of : List Expr → Exprs
 exprs_of [] = no_expr
 exprs_of (e ∷ es) = more_exprs e (exprs_of es)
 
+-- an expression with links behind it, each as what it makes of what stands before it
+abbrev pub chained : Expr → List (Expr → Expr) → Expr
+chained e [] = e
+chained e (l ∷ ls) = chained (l e) ls
+
 abbrev pub iterators_of : List (Binding × Exprs) → Iterators
 iterators_of [] = no_iterator
 iterators_of (i ∷ is) = more_iterators i.0 i.1 (iterators_of is)

@@ -1,5 +1,5 @@
 -- Programs in which each variable has a place, and each operator its operands.
-use Rattle.std.specs.Prelude.{◌≡◌, ◌≤◌, ℕ, true, false, List, [], ◌∷◌, map, Some, None}
+use Rattle.std.specs.Prelude.{◌≡◌, ◌≤◌, true, false, List, [], ◌∷◌, map, Some, None}
 use Rattle.setl_names.specs.Names.{Name as Word, has}
 use Rattle.setl_run.specs.Variable.{Variable, Global, Own, Bound}
 use Rattle.setl_map.specs.Operators.{operand_count, TakesOperands}

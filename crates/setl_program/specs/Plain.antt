@@ -1,5 +1,5 @@
 -- The plain data that a program stands for.
-use Rattle.std.specs.Prelude.{ℕ, List, map, Option}
+use Rattle.std.specs.Prelude.{ℕ, List, [], ◌∷◌, map, Option}
 use Rattle.std.specs.Option.{option_map}
 use Rattle.setl_value.specs.Datum.{bool, int, text}
 use Rattle.setl_run.specs.Variable as run
@@ -9,9 +9,10 @@ use Rattle.setl_program.specs.declared.expr.Variable.TheVariants as v
 use Rattle.setl_program.specs.declared.expr.Binding.{Binding}
 use Rattle.setl_program.specs.declared.expr.Binding.TheVariants as b
 use Rattle.setl_program.specs.declared.expr.Expr.{Expr, fold-Expr}
-use Rattle.setl_program.specs.declared.expr.Argument.TheOpen.{Argument-F, Expr-F, Iterator-F}
+use Rattle.setl_program.specs.declared.expr.Argument.TheOpen.{Argument-F, Expr-F, Iterator-F, Link-F}
 use Rattle.setl_program.specs.declared.expr.Iterator.{Iterator, fold-Iterator}
 use Rattle.setl_program.specs.declared.expr.Argument.{Argument, fold-Argument}
+use Rattle.setl_program.specs.declared.expr.Link.{Link, fold-Link}
 use Rattle.setl_program.specs.declared.stmt.Selector.{Selector}
 use Rattle.setl_program.specs.declared.stmt.Selector.TheVariants as s
 use Rattle.setl_program.specs.declared.stmt.Place.{Place}
@@ -23,8 +24,9 @@ use Rattle.setl_program.specs.declared.program.Declared.{Declared}
 use Rattle.setl_program.specs.declared.program.Procedure.{Procedure}
 use Rattle.setl_program.specs.declared.program.Program.{Program}
 use Rattle.setl_program.specs.Program as plain
+use Rattle.setl_program.specs.Operators.{one, two}
 use Rattle.setl_program.specs.ProgramOf.{parameter_of}
-pub use Rattle.setl_program.specs.Lists.{exprs_of, iterators_of, condition_of, arguments_of, all_selectors, block_of, otherwise}
+pub use Rattle.setl_program.specs.Lists.{exprs_of, chained, iterators_of, condition_of, arguments_of, all_selectors, block_of, otherwise}
 
 abbrev pub plain_variable : Variable → run.Variable
 plain_variable (v.Global name) = run.Global name
@@ -44,14 +46,14 @@ plain_binding (b.Point y x) = plain.Point (plain_variable y) (plain_variable x)
 
 -- ---- expressions
 
-abbrev pub expr_step : Expr-F (plain.Arguments → plain.Arguments) plain.Expr (plain.Binding × plain.Exprs) → plain.Expr
+abbrev pub expr_step : Expr-F (plain.Arguments → plain.Arguments) plain.Expr (plain.Expr → plain.Expr) (plain.Binding × plain.Exprs) → plain.Expr
 expr_step (Expr-F.Integer n) = plain.Literal (int n)
 expr_step (Expr-F.Text t) = plain.Literal (text t)
 expr_step (Expr-F.Truth t) = plain.Literal (bool t)
 expr_step Expr-F.Undefined = plain.Undefined
 expr_step (Expr-F.Name x) = plain.Name (plain_variable x)
 expr_step (Expr-F.Apply o es) = plain.Apply o (exprs_of es)
-expr_step (Expr-F.Connect k x y) = plain.Connect k x y
+expr_step (Expr-F.Chain e ls) = chained e ls
 expr_step (Expr-F.Choose t x y) = plain.Choose t x y
 expr_step (Expr-F.Former k e is t) = plain.Former k e (iterators_of is) (condition_of t)
 expr_step (Expr-F.Selection k x es c) = plain.Selection k (plain_binding x) (exprs_of es) c
@@ -61,22 +63,32 @@ expr_step Expr-F.Newat = plain.Newat
 expr_step Expr-F.Eof = plain.Eof
 expr_step Expr-F.Ok = plain.Ok
 
-abbrev pub iterator_step : Iterator-F (plain.Arguments → plain.Arguments) plain.Expr (plain.Binding × plain.Exprs) → plain.Binding × plain.Exprs
+abbrev pub iterator_step : Iterator-F (plain.Arguments → plain.Arguments) plain.Expr (plain.Expr → plain.Expr) (plain.Binding × plain.Exprs) → plain.Binding × plain.Exprs
 iterator_step i = (plain_binding i.binding, exprs_of i.sources)
 
-abbrev pub argument_step : Argument-F (plain.Arguments → plain.Arguments) plain.Expr (plain.Binding × plain.Exprs) → plain.Arguments → plain.Arguments
+abbrev pub argument_step : Argument-F (plain.Arguments → plain.Arguments) plain.Expr (plain.Expr → plain.Expr) (plain.Binding × plain.Exprs) → plain.Arguments → plain.Arguments
 argument_step (Argument-F.Rd e) = plain.rd_argument e
 argument_step (Argument-F.Wr x) = plain.wr_argument (plain_variable x)
 argument_step (Argument-F.Rw x) = plain.rw_argument (plain_variable x)
 
+-- what a link makes of what stands before it
+abbrev pub link_step : Link-F (plain.Arguments → plain.Arguments) plain.Expr (plain.Expr → plain.Expr) (plain.Binding × plain.Exprs) → plain.Expr → plain.Expr
+link_step (Link-F.Unary o) e = one o e
+link_step (Link-F.Binary o x) e = two o e x
+link_step (Link-F.Ternary o x y) e = plain.Apply o (exprs_of (e ∷ x ∷ y ∷ []))
+link_step (Link-F.Connect k x) e = plain.Connect k e x
+
 abbrev pub plain_expr : Expr → plain.Expr
-plain_expr = fold-Expr (plain.Arguments → plain.Arguments) plain.Expr (plain.Binding × plain.Exprs) argument_step expr_step iterator_step
+plain_expr = fold-Expr (plain.Arguments → plain.Arguments) plain.Expr (plain.Expr → plain.Expr) (plain.Binding × plain.Exprs) argument_step expr_step link_step iterator_step
 
 abbrev pub plain_iterator : Iterator → plain.Binding × plain.Exprs
-plain_iterator = fold-Iterator (plain.Arguments → plain.Arguments) plain.Expr (plain.Binding × plain.Exprs) argument_step expr_step iterator_step
+plain_iterator = fold-Iterator (plain.Arguments → plain.Arguments) plain.Expr (plain.Expr → plain.Expr) (plain.Binding × plain.Exprs) argument_step expr_step link_step iterator_step
 
 abbrev pub plain_argument : Argument → plain.Arguments → plain.Arguments
-plain_argument = fold-Argument (plain.Arguments → plain.Arguments) plain.Expr (plain.Binding × plain.Exprs) argument_step expr_step iterator_step
+plain_argument = fold-Argument (plain.Arguments → plain.Arguments) plain.Expr (plain.Expr → plain.Expr) (plain.Binding × plain.Exprs) argument_step expr_step link_step iterator_step
+
+abbrev pub plain_link : Link → plain.Expr → plain.Expr
+plain_link = fold-Link (plain.Arguments → plain.Arguments) plain.Expr (plain.Expr → plain.Expr) (plain.Binding × plain.Exprs) argument_step expr_step link_step iterator_step
 
 abbrev pub plain_exprs : List Expr → plain.Exprs
 plain_exprs es = exprs_of (map plain_expr es)

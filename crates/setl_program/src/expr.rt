@@ -39,7 +39,8 @@ pub enum Expr {
     Name(Variable),
     /// An operator over its operands in their order, of which it has as many as it needs.
     Apply(Operator, Items<Expr>),
-    Connect(Connective, Boxed<Expr>, Boxed<Expr>),
+    /// An expression, and what is done with its value, one link after the other.
+    Chain(Boxed<Expr>, Items<Link>),
     /// `if condition then value else other end`
     Choose(Boxed<Expr>, Boxed<Expr>, Boxed<Expr>),
     /// `{value : iterators | condition}`, and with brackets.
@@ -52,6 +53,20 @@ pub enum Expr {
     Newat,
     Eof,
     Ok,
+}
+
+/// What is done with the value of what stands before it in a chain, which is the first operand.
+#[cycle(expr)]
+#[derive(Drop)]
+pub enum Link {
+    /// An operator over the value alone.
+    Unary(Operator),
+    /// An operator over the value and a second operand.
+    Binary(Operator, Boxed<Expr>),
+    /// An operator over the value, a second and a third operand.
+    Ternary(Operator, Boxed<Expr>, Boxed<Expr>),
+    /// A connective between the value and a right part.
+    Connect(Connective, Boxed<Expr>),
 }
 
 /// An iterator with the parts of its source: the one expression, or the bounds of a range.

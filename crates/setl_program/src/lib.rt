@@ -9,7 +9,7 @@ mod program;
 mod stmt;
 mod worked;
 
-pub use expr::{Argument, Binding, Expr, Iterator, Variable};
+pub use expr::{Argument, Binding, Expr, Iterator, Link, Variable};
 pub use kinds::{Collection, Connective, Quantifier, Source, Taking};
 pub use program::{Declared, Procedure, Program};
 pub use stmt::{Branch, Place, Selector, Stmt, StmtKind};

@@ -17,6 +17,7 @@ use Rattle.setl_reading.specs.Reading.{Reader, ◌>>=◌, pure, expect, is, same
 use Rattle.setl_reading.specs.ReadExpressions as r
 use Rattle.setl_reading.proofs.EveryKind.{kinds}
 use Rattle.setl_reading.proofs.Laws.{Law, Within, Begins, always, anything, within, within_always, same, law_then, law_map, law_stops, law_expect, law_choose, law_as, law_opening, law_separated, law_name, begins_name, begins_token, begins_then, begins_or, begins_within, begins_opening, begins_separated, follows_begins, follows_token}
+use Rattle.setl_reading.proofs.Exact.{Exact, weak, exact_then, exact_map, exact_expect, exact_choose, exact_either, exact_as, exact_opening, exact_separated, exact_name}
 use Rattle.setl_reading.proofs.Regroup.{behind, map_then, then_map, with_second, in_left, in_right, then_or}
 
 -- ---- where an expression ends
@@ -76,6 +77,18 @@ law_bound room = law_choose (is k.Name)
 pub begins_bound : (room : ℕ) → Begins starts_bound (grammar.bound room)
 unfolding grammar.bound kinds same_kind
 begins_bound room = begins_or (begins_then (begins_name refl)) (begins_then (begins_within (begins_pattern room) (within refl)))
+
+pub exact_slot : {always : Bool} {room : ℕ} → Exact always room r.slot grammar.slot
+unfolding r.slot grammar.slot
+exact_slot = exact_choose (is k.Name) (exact_map sl.Name exact_name) (exact_map (λ _. sl.Skip) (exact_expect k.Minus))
+
+pub exact_pattern : (room : ℕ) → Exact false room (r.pattern room) (grammar.pattern room)
+unfolding r.pattern grammar.pattern
+exact_pattern room = exact_opening room k.LeftBracket (λ _ _ _. exact_then (exact_separated exact_slot) (λ slots. exact_map (λ _. slots) (exact_expect k.RightBracket)))
+
+pub exact_bound : {always : Bool} (room : ℕ) → Exact always room (r.bound room) (grammar.bound room)
+unfolding r.bound grammar.bound
+exact_bound room = exact_choose (is k.Name) (exact_map bd.Name exact_name) (exact_map bd.Pattern (exact_pattern room))
 
 -- ---- iterators
 
@@ -145,3 +158,23 @@ module _ (room : ℕ) (source : Reader Expr) (L : Lang Expr) (law : Law source L
   pub begins_iters : Begins starts_bound (grammar.iters room L)
   unfolding grammar.iters
   begins_iters = begins_separated begins_iter
+
+  module _ (exact : Exact true room source L) where
+    exact_image : (y : List ℕ) → Exact false room (r.image room y) (image_l y)
+    unfolding r.image
+    exact_image y = exact_then exact_name (λ f. exact_opening room k.LeftParen (λ _ _ _. exact_then exact_name (λ x. exact_map (λ _. it.Image y f x) (exact_expect k.RightParen))))
+
+    exact_over : {always : Bool} (b : Bound) → Exact always room (expect k.In >>= λ _. source >>= λ s. pure (it.Over b s)) (over_l b)
+    exact_over b = exact_then (exact_expect k.In) (λ _. exact_map (λ s. it.Over b s) (weak exact))
+
+    exact_named : {always : Bool} (x : List ℕ) → Exact always room (r.named_iter room source x) (named_l x)
+    unfolding r.named_iter
+    exact_named x = exact_either (is k.Equal) (exact_then (exact_expect k.Equal) (λ _. exact_image x)) (exact_over (bd.Name x))
+
+    exact_iter_l : {always : Bool} → Exact always room (r.iter room source) iter_l
+    unfolding r.iter r.pattern_iter
+    exact_iter_l = exact_choose (is k.Name) (exact_then exact_name (λ x. exact_named x)) (exact_then (exact_pattern room) (λ slots. exact_over (bd.Pattern slots)))
+
+    pub exact_iters : {always : Bool} → Exact always room (r.iters room source) (grammar.iters room L)
+    unfolding r.iters grammar.iters
+    exact_iters = exact_separated (exact_as exact_iter_l iter_to)

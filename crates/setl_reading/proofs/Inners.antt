@@ -1,5 +1,5 @@
 -- Reading what stands inside braces and brackets.
-use Rattle.std.proofs.Common.{◌≡◌, ℕ, zero, suc, ◌≤◌, Bool, true, false, not, cond, if◌then◌else◌, List, [], ◌∷◌, ◌++◌, length, Some, None, Ok, Err, refl, sym, ap, subst, ◌∙◌, append_assoc, arith, inl, inr, ◌⊎◌}
+use Rattle.std.proofs.Common.{◌≡◌, ℕ, zero, suc, ◌+◌, ◌≤◌, Bool, true, false, not, cond, if◌then◌else◌, List, [], ◌∷◌, ◌++◌, length, Some, None, Ok, Err, length-append, refl, sym, ap, subst, ◌∙◌, append_assoc, arith, inl, inr, ◌⊎◌}
 use Rattle.std.proofs.lemmas.List.{append-nil}
 use Rattle.setl_tree.specs.declared.kind.Kind.{Kind}
 use Rattle.setl_tree.specs.declared.kind.Kind.TheVariants as k
@@ -18,14 +18,16 @@ use Rattle.setl_tree.specs.Operators.{level_of, not_sign, prefix_op, fold_sign, 
 use Rattle.setl_tree.specs.Expressions as grammar
 use Rattle.setl_reading.specs.declared.ahead.Ahead.{Ahead}
 use Rattle.setl_reading.specs.declared.ahead.Ahead.TheVariants.{Expression, Either, Pattern}
-use Rattle.setl_reading.specs.Reading.{but, Outcome, Reader, ◌>>=◌, ◌>>◌, and_then, pure, expect, opening, is, begins_as, next_kind, rest_of, same_kind, many_from, more, separated}
+use Rattle.setl_reading.specs.declared.fault.Fault.TheVariants.{Syntax, Nesting}
+use Rattle.setl_reading.specs.Reading.{open_if, but, Outcome, Reader, ◌>>=◌, ◌>>◌, and_then, pure, expect, opening, is, begins_as, next_kind, rest_of, same_kind, many_from, more, separated}
 use Rattle.setl_reading.specs.Scan.{either_at, ends_slot, slots_ahead, ahead, bound_expr}
 use Rattle.setl_reading.specs.ReadExpressions as r
 use Rattle.setl_reading.proofs.EveryKind.{kinds, same_kind_is, same_kind_self}
 use Rattle.setl_reading.proofs.Laws.{Took, Law, Follows, Within, Begins, Fails, anything, bind_ok, ok_parts, took_as, took_then, fails_then, fails_at, takes, passes, goes_to, opening_fails, bind_assoc, law_of, not_is, within, within_always, same, law_pure, law_then, law_map, law_stops, law_expect, law_choose, law_as, law_more, law_optional, begins_token, begins_then, follows_begins, follows_token, follows_or, follows_map, follows_more, follows_optional, follows_pure}
+use Rattle.setl_reading.proofs.Exact.{left, Extends, Fits, Reach, Exact, Fronted, ends, and_left, left_none, far, fails_to, fits_took, bind_err, fronted_second, fronted_as, reach_then, reach_expect, reach_choose, weak, exact_then, exact_map, exact_pure, exact_expect, exact_choose, exact_as, exact_optional, exact_more, token_of}
 use Rattle.setl_reading.proofs.Regroup.{more_l, behind, assoc, unassoc, with_second, optional_none, optional_some, optional_to, listed_none, listed_some, listed_to, more_one, more_none, more_to}
-use Rattle.setl_reading.proofs.Bounds.{below, over, starts_bound, law_bound, law_iters}
-use Rattle.setl_reading.proofs.Scanning.{Named, named, holed, not_short, name_token, mapped, separated_map, bracketed, ahead_is, ahead_name, ahead_minus, either_at_in, either_at_not, some_token, bound_seen, slot_exprs_names}
+use Rattle.setl_reading.proofs.Bounds.{below, over, starts_bound, law_bound, law_iters, exact_bound, exact_iters}
+use Rattle.setl_reading.proofs.Scanning.{Open, OpenSlots, closes_slots, ahead_local, Named, named, holed, not_short, name_token, mapped, separated_map, bracketed, ahead_is, ahead_name, ahead_minus, either_at_in, either_at_not, some_token, bound_seen, slot_exprs_names}
 
 -- ---- what begins an expression
 
@@ -76,6 +78,18 @@ pub record IsInside (room : ℕ) (R : r.Inside) (L : grammar.Inside) : Type 0 wh
   pub no_operand : (t u : Token) (toks : Tokens) → t.kind ≡ k.Minus → ends_slot u.kind ≡ true → Fails (R.expr (t ∷ u ∷ toks))
   -- a bracket that may not open, or that a pattern with a `-` opens
   pub no_tuple : (t : Token) (toks : Tokens) → t.kind ≡ k.LeftBracket → (room ≡ zero) ⊎ (slots_ahead toks ≡ Pattern) → Fails (R.expr (t ∷ toks))
+
+-- What stands before a fault in such expressions is a front, and reading stops where the tokens before it show.
+pub record IsExact (room : ℕ) (R : r.Inside) (L : grammar.Inside) : Type 0 where
+  pub expr : Exact true room R.expr L.expr
+  pub source : Exact true room R.source L.source
+  pub after : (a : Expr) → Reach room (R.after a)
+  -- a `-` before a name
+  pub minus_expr : (t u : Token) → t.kind ≡ k.Minus → u.kind ≡ k.Name → (a : Expr) × L.expr (t ∷ u ∷ []) a
+  -- a bracket that may not open
+  pub shut : room ≡ zero → (t : Token) (toks : Tokens) → t.kind ≡ k.LeftBracket → R.expr (t ∷ toks) ≡ Err (Nesting (suc (length toks)))
+  -- names behind a bracket, up to the end of the tokens
+  pub goes : (inside : ℕ) → room ≡ suc inside → (t : Token) (toks : Tokens) → t.kind ≡ k.LeftBracket → OpenSlots toks → (more : Tokens) × (a : Expr) × L.expr (t ∷ (toks ++ more)) a
 
 pub zero_or_more : (room : ℕ) → (room ≡ zero) ⊎ ((m : ℕ) × (room ≡ suc m))
 zero_or_more zero = inl refl
@@ -614,3 +628,255 @@ module _ (room : ℕ) (R : r.Inside) (L : grammar.Inside) (E : IsInside room R L
         fails_at (inner_plain (t ∷ u ∷ toks) seen (ap r.closes name.0 ∙ name_opens) ∙ goes_to (r.rest_of_inner room R) (name_reads t u toks name.0 name.1))
         (subst (λ (z : Tokens). Fails (r.rest_of_inner room R (e.Name t.text) (u ∷ z))) (sym two.3) (second_fails (e.Name t.text) u two.0 two.1 two.2 name.1 (ap slots_ahead (sym two.3) ∙ name.2)))
   ]
+
+  -- ---- where reading stops
+
+  module _ (X : IsExact room R L) where
+    pub exact_condition : {always : Bool} → Exact always room (r.condition room R) (lang.◌>>◌ (lang.token k.Bar) L.expr)
+    unfolding r.condition
+    exact_condition = exact_then (exact_expect k.Bar) (λ _. weak X.expr)
+
+    exact_former : {always : Bool} (x : Expr) → Exact always room (r.former room R x) (former_l x)
+    unfolding r.former
+    exact_former x = exact_then (exact_iters room R.source L.source E.source X.source) (λ over. exact_map (λ c. inn.Former x over c) (exact_optional (is k.Bar) exact_condition))
+
+    exact_third : {always : Bool} (a b : Expr) → Exact always room (r.third room R a b) (third_l a b)
+    unfolding r.third
+    exact_third a b = exact_choose (is k.Dots)
+        (exact_then (exact_expect k.Dots) (λ _. exact_map (λ c. inn.Range a (Some b) c) (weak X.expr)))
+        (exact_map (λ xs. inn.List (a ∷ b ∷ xs)) (exact_more (weak X.expr)))
+
+    exact_second : {always : Bool} (a : Expr) → Exact always room (r.second room R a) (second_l a)
+    unfolding r.second
+    exact_second a = exact_choose (is k.Comma) (exact_then (exact_expect k.Comma) (λ _. exact_then (weak X.expr) (exact_third a))) (exact_pure (inn.List (a ∷ [])))
+
+    exact_unranged : {always : Bool} (a : Expr) → Exact always room (r.unranged room R a) (unranged_l a)
+    unfolding r.unranged
+    exact_unranged a = exact_choose (is k.Colon) (exact_then (exact_expect k.Colon) (λ _. exact_former a)) (exact_second a)
+
+    exact_rest : {always : Bool} (a : Expr) → Exact always room (r.rest_of_inner room R a) (rest_l a)
+    unfolding r.rest_of_inner
+    exact_rest a = exact_choose (is k.Dots) (exact_then (exact_expect k.Dots) (λ _. exact_map (λ c. inn.Range a None c) (weak X.expr))) (exact_unranged a)
+
+    exact_plain : Exact true room (r.plain room R) plain_l
+    unfolding r.plain
+    exact_plain = exact_choose r.closes (exact_pure _) (exact_then (weak X.expr) exact_rest)
+
+    exact_filter : {always : Bool} (b : Bound) (s : Expr) → Exact always room (r.filter room R b s) (condition_l b s)
+    unfolding r.filter
+    exact_filter b s = exact_as (exact_map (λ c. inn.Filter b s c) exact_condition) (λ toks a h. assoc h)
+
+    exact_filtered : Exact true room (r.bound_first room R (r.filter room R)) filter_l
+    unfolding r.bound_first
+    exact_filtered = exact_then (exact_bound room) (λ b. exact_then (exact_expect k.In) (λ _. exact_then X.source (exact_filter b)))
+
+    reach_bound : (go_on : Bound → Expr → Reader Inner) → ((b : Bound) (s : Expr) → Reach room (go_on b s)) → Reach room (r.bound_first room R go_on)
+    unfolding r.bound_first
+    reach_bound go_on reach = reach_then (exact_bound {always = true} room).reach (λ b. reach_then (reach_expect k.In) (λ _. reach_then X.source.reach (λ s. reach b s)))
+
+    reach_either : (b : Bound) (s : Expr) → Reach room (r.filter_or_plain room R b s)
+    unfolding r.filter_or_plain
+    reach_either b s = reach_choose (is k.Bar) (exact_filter {always = true} b s).reach (reach_then (X.after (e.Compare (bound_expr b) rel.In s)) (λ a. (exact_rest {always = true} a).reach))
+
+    reach_filter : (b : Bound) (s : Expr) → Reach room (r.filter room R b s)
+    reach_filter b s = (exact_filter {always = true} b s).reach
+
+    reach_by : (at : Ahead) → Reach room (r.inner_by room R at)
+    reach_by Expression = exact_plain.reach
+    reach_by Either = reach_bound (r.filter_or_plain room R) reach_either
+    reach_by Pattern = reach_bound (r.filter room R) reach_filter
+
+    -- a front that the scan runs to the end of is read to its end, as a bound and as an expression
+    -- a bracket in front may open
+    abbrev Roomy : Tokens → Type 0
+    Roomy front = next_kind front ≡ k.LeftBracket → (m : ℕ) × (room ≡ suc m)
+
+    not_both : {b : Bool} → b ≡ false → b ≡ true → ⊥
+    not_both h g = absurd (cc (h, g))
+
+    bound_read : (front more : Tokens) (b : Bound) → grammar.bound room (front ++ more) b → left (r.bound room front) ≤ 0
+    bound_read front more b s =
+        let read = (law_bound room).complete.reads (front ++ more) [] b s refl in
+        let whole : r.bound room (front ++ more) ≡ Ok (b, []) = ap (r.bound room) (sym (append-nil (front ++ more))) ∙ read in
+        let none = ap left whole in
+        left_none (r.bound room front) (r.bound room (front ++ more)) more ((exact_bound {always = true} room).reach.local front more) (omega (arith, none))
+
+    plain_read : (front more : Tokens) (a : Expr) → L.expr (front ++ more) a → left (r.plain room R front) ≤ 0
+    unfolding r.closes
+    plain_read front more a s =
+        let back : Tokens = more ++ token_of k.RightBrace ∷ [] in
+        let spelled : plain_l (front ++ more) (inn.List (a ∷ [])) = inr (record { front = front ++ more; back = []; value = a; parts = sym (append-nil (front ++ more)); first = s; second = inr (inr (inr (refl, refl))) }) in
+        let read = law_plain.complete.reads (front ++ more) (token_of k.RightBrace ∷ []) (inn.List (a ∷ [])) spelled refl in
+        let whole = ap (r.plain room R) (sym (append_assoc front more (token_of k.RightBrace ∷ []))) ∙ read in
+        let one = ap left whole in
+        left_none (r.plain room R front) (r.plain room R (front ++ back)) back (exact_plain.reach.local front back) (omega (arith, one, length-append more (token_of k.RightBrace ∷ [])))
+
+    open_bound : (front : Tokens) → Open front → Roomy front → left (r.bound room front) ≤ 0
+    unfolding grammar.bound grammar.pattern grammar.slot
+    open_bound [] opened roomy = (exact_bound {always = true} room).reach.within []
+    open_bound (t ∷ toks) (inl name) roomy =
+        bound_read (t ∷ toks) [] (bd.Name t.text) (inl (record { front = t ∷ []; back = []; value = t.text; parts = append-nil (t ∷ toks) ∙ ap (λ (z : Tokens). t ∷ z) name.1; first = name_token t name.0; second = (refl, refl) }))
+    open_bound (t ∷ toks) (inr bracket) roomy =
+        let m = roomy bracket.0 in
+        let c = closes_slots grammar.slot
+        (λ t name. (sl.Name t.text, inl (record { front = t ∷ []; back = []; value = t.text; parts = refl; first = name_token t name; second = (refl, refl) })))
+        (λ t minus. ([], sl.Skip, inr (record { front = t ∷ []; back = []; value = t; parts = refl; first = record { alone = refl; kind = minus }; second = (refl, refl) }))) toks bracket.1 in
+        let used : Tokens = t ∷ (c.list ++ c.close ∷ []) in
+        let as_pattern : grammar.pattern room used c.values = subst (λ (z : ℕ). grammar.pattern z used c.values) (sym m.1) (bracketed grammar.slot m.0 t c.list c.close c.values bracket.0 c.closed c.spelled) in
+        let as_bound : grammar.bound room used (bd.Pattern c.values) = inr (record { front = used; back = []; value = c.values; parts = sym (append-nil used); first = as_pattern; second = (refl, refl) }) in
+        let same : used ≡ t ∷ (toks ++ c.more) = ap (λ (z : Tokens). t ∷ z) (sym c.parts) in
+        bound_read (t ∷ toks) c.more (bd.Pattern c.values) (subst (λ (z : Tokens). grammar.bound room z (bd.Pattern c.values)) same as_bound)
+
+    open_plain : (front : Tokens) → Open front → Roomy front → left (r.plain room R front) ≤ 0
+    open_plain [] opened roomy = exact_plain.reach.within []
+    open_plain (t ∷ toks) (inl name) roomy =
+        let same : t ∷ [] ≡ t ∷ (toks ++ []) = ap (λ (z : Tokens). t ∷ z) (sym (append-nil toks ∙ name.1)) in
+        plain_read (t ∷ toks) [] (e.Name t.text) (subst (λ (z : Tokens). L.expr z (e.Name t.text)) same (E.name_expr t name.0))
+    open_plain (t ∷ toks) (inr bracket) roomy =
+        let m = roomy bracket.0 in
+        let g = X.goes m.0 m.1 t toks bracket.0 bracket.1 in
+        plain_read (t ∷ toks) g.0 g.1 g.2
+
+    behind_bound : (b : Bound) → (go_on : Bound → Expr → Reader Inner) → ((b : Bound) (s : Expr) → Reach room (go_on b s)) → (i : Tokens) → left ((expect k.In >>= λ _. R.source >>= λ s. go_on b s) i) ≤ length i
+    behind_bound b go_on reach i = (reach_then (reach_expect {room = room} k.In) (λ _. reach_then X.source.reach (λ s. reach b s))).within i
+
+    bound_far : (front back : Tokens) → Open front → Roomy front → left (r.bound room (front ++ back)) ≤ length back
+    bound_far front back opened roomy = far (r.bound room front) (r.bound room (front ++ back)) back ((exact_bound {always = true} room).reach.local front back) (open_bound front opened roomy)
+
+    first_none : (go_on : Bound → Expr → Reader Inner) → ((b : Bound) (s : Expr) → Reach room (go_on b s)) → (front : Tokens) → Open front → Roomy front → left (r.bound_first room R go_on front) ≤ 0
+    unfolding r.bound_first
+    first_none go_on reach front opened roomy = and_left (r.bound room front) (λ b. expect k.In >>= λ _. R.source >>= λ s. go_on b s) 0 (open_bound front opened roomy) (λ b. behind_bound b go_on reach)
+
+    first_far : (go_on : Bound → Expr → Reader Inner) → ((b : Bound) (s : Expr) → Reach room (go_on b s)) → (front back : Tokens) → Open front → Roomy front → left (r.bound_first room R go_on (front ++ back)) ≤ length back
+    unfolding r.bound_first
+    first_far go_on reach front back opened roomy = and_left (r.bound room (front ++ back)) (λ b. expect k.In >>= λ _. R.source >>= λ s. go_on b s) (length back) (bound_far front back opened roomy) (λ b. behind_bound b go_on reach)
+
+    open_none : (at : Ahead) (front : Tokens) → Open front → Roomy front → left (r.inner_by room R at front) ≤ 0
+    open_none Expression front opened roomy = open_plain front opened roomy
+    open_none Either front opened roomy = first_none (r.filter_or_plain room R) reach_either front opened roomy
+    open_none Pattern front opened roomy = first_none (r.filter room R) reach_filter front opened roomy
+
+    open_far : (at : Ahead) (front back : Tokens) → Open front → Roomy front → left (r.inner_by room R at (front ++ back)) ≤ length back
+    open_far Expression front back opened roomy = far (r.plain room R front) (r.plain room R (front ++ back)) back (exact_plain.reach.local front back) (open_plain front opened roomy)
+    open_far Either front back opened roomy = first_far (r.filter_or_plain room R) reach_either front back opened roomy
+    open_far Pattern front back opened roomy = first_far (r.filter room R) reach_filter front back opened roomy
+
+    -- a bracket that may not open
+    bound_shut : room ≡ zero → (i : Tokens) → next_kind i ≡ k.LeftBracket → r.bound room i ≡ Err (Nesting (length i))
+    unfolding r.bound r.pattern opening
+    bound_shut none i bracket =
+        let t = some_token i k.LeftBracket bracket (λ same. cc) in
+        let here : is k.LeftBracket (next_kind i) ≡ true = ap (is k.LeftBracket) bracket ∙ same_kind_self k.LeftBracket in
+        let opens : opening zero k.LeftBracket i ≡ Err (Nesting (length i)) = ap (λ (b : Bool). open_if zero b i) here in
+        let opened : opening room k.LeftBracket i ≡ Err (Nesting (length i)) = ap (λ (z : ℕ). opening z k.LeftBracket i) none ∙ opens in
+        passes (is k.Name) _ _ i (ap (is k.Name) bracket ∙ bracket_no_name)
+        ∙ fails_to (λ slots. pure (bd.Pattern slots)) (fails_to (λ _. separated r.slot >>= λ slots. expect k.RightBracket >>= λ _. pure slots) opened)
+
+    first_shut : (go_on : Bound → Expr → Reader Inner) → room ≡ zero → (i : Tokens) → next_kind i ≡ k.LeftBracket → r.bound_first room R go_on i ≡ Err (Nesting (length i))
+    unfolding r.bound_first
+    first_shut go_on none i bracket = fails_to (λ b. expect k.In >>= λ _. R.source >>= λ s. go_on b s) (bound_shut none i bracket)
+
+    plain_shut : room ≡ zero → (i : Tokens) → next_kind i ≡ k.LeftBracket → r.plain room R i ≡ Err (Nesting (length i))
+    unfolding r.plain
+    plain_shut none i bracket =
+        let t = some_token i k.LeftBracket bracket (λ same. cc) in
+        let opens : r.closes (next_kind i) ≡ false = not_is (r.closes (next_kind i)) (starts_bound_open.at (next_kind i) (ap starts_bound bracket ∙ bracket_is_bound)) in
+        let shut : R.expr i ≡ Err (Nesting (length i)) = subst (λ (z : Tokens). R.expr z ≡ Err (Nesting (length z))) (sym t.1) (X.shut none t.0 (rest_of i) t.2) in
+        passes r.closes _ _ i opens ∙ fails_to (r.rest_of_inner room R) shut
+
+    by_shut : (at : Ahead) → room ≡ zero → (i : Tokens) → next_kind i ≡ k.LeftBracket → r.inner_by room R at i ≡ Err (Nesting (length i))
+    by_shut Expression none i bracket = plain_shut none i bracket
+    by_shut Either none i bracket = first_shut (r.filter_or_plain room R) none i bracket
+    by_shut Pattern none i bracket = first_shut (r.filter room R) none i bracket
+
+    shut_extends : (front back : Tokens) → next_kind front ≡ k.LeftBracket → Extends {A = Inner} back (Err (Nesting (length front))) (Err (Nesting (length (front ++ back))))
+    shut_extends [] back bracket = absurd cc
+    shut_extends (t ∷ front) back bracket = let same : suc (length (front ++ back)) ≡ suc (length front) + length back = omega (arith, length-append front back) in ap (λ (n : ℕ). Err (Nesting n)) same
+
+    next_front : (front back : Tokens) → next_kind front ≡ k.LeftBracket → next_kind (front ++ back) ≡ k.LeftBracket
+    next_front [] back bracket = absurd cc
+    next_front (t ∷ front) back bracket = bracket
+
+    open_local : (front back : Tokens) → Open front → Roomy front → Extends back (r.inner room R front) (r.inner room R (front ++ back))
+    unfolding r.inner
+    open_local front back opened roomy = ends (r.inner_by room R (ahead front) front) back (r.inner_by room R (ahead (front ++ back)) (front ++ back)) (open_none (ahead front) front opened roomy) (open_far (ahead (front ++ back)) front back opened roomy)
+
+    shut_local : (front back : Tokens) → room ≡ zero → next_kind front ≡ k.LeftBracket → Extends back (r.inner room R front) (r.inner room R (front ++ back))
+    unfolding r.inner
+    shut_local front back none bracket =
+        let one = by_shut (ahead front) none front bracket in
+        let two = by_shut (ahead (front ++ back)) none (front ++ back) (next_front front back bracket) in
+        subst (λ z. Extends back z (r.inner_by room R (ahead (front ++ back)) (front ++ back))) (sym one) (subst (λ z. Extends {A = Inner} back (Err (Nesting (length front))) z) (sym two) (shut_extends front back bracket))
+
+    is_or_not : (b : Bool) → (b ≡ true) ⊎ (b ≡ false)
+    is_or_not true = inl refl
+    is_or_not false = inr refl
+
+    inner_local : (front back : Tokens) → Extends back (r.inner room R front) (r.inner room R (front ++ back))
+    unfolding r.inner
+    inner_local front back = elim (ahead_local front back) [
+      | inl same ↦ subst (λ z. Extends back (r.inner_by room R (ahead front) front) (r.inner_by room R z (front ++ back))) (sym same) ((reach_by (ahead front)).local front back)
+      | inr opened ↦ elim (zero_or_more room) [
+        | inr m ↦ open_local front back opened (λ _. m)
+        | inl none ↦ elim (is_or_not (is k.LeftBracket (next_kind front))) [
+          | inl bracket ↦ shut_local front back none (same_kind_is (next_kind front) k.LeftBracket bracket)
+          | inr other ↦ open_local front back opened (λ h. absurd (not_both other (ap (is k.LeftBracket) h ∙ same_kind_self k.LeftBracket)))
+        ]
+      ]
+    ]
+
+    -- where the bound may be an expression: a front of a filter, or the fault of reading an expression
+    either_stop : (i : Tokens) (both : Both i) (count : ℕ) → Fits room i → (expect k.In >>= λ _. R.source >>= λ s. r.filter_or_plain room R both.bound s) both.rest ≡ Err (Syntax count)
+        → Fronted filter_l i count ⊎ (goes both.bound both.rest ≡ Err (Syntax count))
+    unfolding goes r.filter_or_plain
+    either_stop i both count fits h =
+        let b = both.bound in
+        let took_bound = (law_bound room).sound.took i b both.rest both.reads in
+        elim (bind_err (expect k.In both.rest) (λ _. R.source >>= λ s. r.filter_or_plain room R b s) (Syntax count) h) [
+          | inl none ↦ inr (fails_to (λ _. R.source >>= λ s. R.after (e.Compare (bound_expr b) rel.In s) >>= r.rest_of_inner room R) none)
+          | inr one ↦
+              let took_in = (law_expect k.In).sound.took both.rest one.0.0 one.0.1 one.1 in
+              elim (bind_err (R.source one.0.1) (λ s. r.filter_or_plain room R b s) (Syntax count) one.2) [
+                | inl none ↦ inr (goes_to (λ _. R.source >>= λ s. R.after (e.Compare (bound_expr b) rel.In s) >>= r.rest_of_inner room R) one.1
+                    ∙ fails_to (λ s. R.after (e.Compare (bound_expr b) rel.In s) >>= r.rest_of_inner room R) none)
+                | inr two ↦
+                    let s = two.0.0 in
+                    let at = two.0.1 in
+                    let took_source = E.source.sound.took one.0.1 s at two.1 in
+                    let fits_at = fits_took room took_source (fits_took room took_in (fits_took room took_bound fits)) in
+                    let go : (c : Bool) → cond c (r.filter room R b s) (R.after (e.Compare (bound_expr b) rel.In s) >>= r.rest_of_inner room R) at ≡ Err (Syntax count)
+                    → Fronted filter_l i count ⊎ ((R.after (e.Compare (bound_expr b) rel.In s) >>= r.rest_of_inner room R) at ≡ Err (Syntax count)) = λ c.
+                    elim c as (λ c. cond c (r.filter room R b s) (R.after (e.Compare (bound_expr b) rel.In s) >>= r.rest_of_inner room R) at ≡ Err (Syntax count)
+                    → Fronted filter_l i count ⊎ ((R.after (e.Compare (bound_expr b) rel.In s) >>= r.rest_of_inner room R) at ≡ Err (Syntax count))) [
+                      | true ↦ λ read. inl (fronted_second took_bound (fronted_second took_in (fronted_second took_source ((exact_filter {always = true} b s).stop at count fits_at read))))
+                      | false ↦ λ read. inr read
+                    ] in
+                    elim (go (is k.Bar (next_kind at)) two.2) [
+                      | inl front ↦ inl front
+                      | inr read ↦ inr (goes_to (λ _. R.source >>= λ s. R.after (e.Compare (bound_expr b) rel.In s) >>= r.rest_of_inner room R) one.1
+                          ∙ goes_to (λ s. R.after (e.Compare (bound_expr b) rel.In s) >>= r.rest_of_inner room R) two.1 ∙ read)
+                    ]
+              ]
+        ]
+
+    inner_stop : (at : Ahead) (i : Tokens) (count : ℕ) → Fits room i → ahead i ≡ at → r.inner_by room R at i ≡ Err (Syntax count) → Fronted (grammar.inner room L) i count
+    inner_stop Expression i count fits seen h = fronted_as (exact_plain.stop i count fits h) plain_to
+    inner_stop Pattern i count fits seen h = fronted_as (exact_filtered.stop i count fits h) filter_to
+    inner_stop Either i count fits seen h =
+        let e = either i seen in
+        elim e.1 [
+          | inl both ↦ elim (either_stop i both count fits (sym (bound_goes i both (r.filter_or_plain room R)) ∙ h)) [
+            | inl front ↦ fronted_as front filter_to
+            | inr read ↦ fronted_as (exact_plain.stop i count fits (plain_goes i both e.0 ∙ read)) plain_to
+          ]
+          | inr none ↦ absurd (omega (arith, fits, none.0))
+        ]
+
+    pub exact_inner : {always : Bool} → Exact always room (r.inner room R) (grammar.inner room L)
+    unfolding r.inner grammar.inner
+    exact_inner = record {
+      sound = law_inner.sound;
+      stop = λ toks count fits h. inner_stop (ahead toks) toks count fits refl h;
+      some = λ enough. record { toks = []; value = inn.List []; spelled = inl (listed_none (refl, refl)) };
+      reach = record { within = λ i. (reach_by (ahead i)).within i; local = inner_local; faults = λ i e fits h. (reach_by (ahead i)).faults i e fits h };
+    }

@@ -331,11 +331,11 @@ no_token : {A : Type 0} (b : Bool) (f : Token → Reader A) (toks : Tokens) (a :
 no_token true f toks a rest e = cc
 no_token false f toks a rest e = cc
 
-no_room : {A : Type 0} (k : Kind) (f : Token → Reader A) (toks : Tokens) (a : A) (rest : Tokens) → (opening 0 k >>= f) toks ≡ Ok (a, rest) → ⊥
+pub no_room : {A : Type 0} (k : Kind) (f : Token → Reader A) (toks : Tokens) (a : A) (rest : Tokens) → (opening 0 k >>= f) toks ≡ Ok (a, rest) → ⊥
 unfolding opening
 no_room k f toks a rest e = no_token (same_kind (next_kind toks) k) f toks a rest e
 
-no_meaning : {A B : Type 0} (o : Option A) (f : A → Reader B) (toks : Tokens) (b : B) (rest : Tokens) → and_then (open_meant 0 o toks) f ≡ Ok (b, rest) → ⊥
+pub no_meaning : {A B : Type 0} (o : Option A) (f : A → Reader B) (toks : Tokens) (b : B) (rest : Tokens) → and_then (open_meant 0 o toks) f ≡ Ok (b, rest) → ⊥
 no_meaning (Some a) f toks b rest e = cc
 no_meaning None f toks b rest e = cc
 
@@ -515,7 +515,7 @@ opening_takes room k t toks h = ap (λ (b : Bool). open_if (suc room) b (t ∷ t
 
 -- ---- the line of the first token
 
-line_begins : {p : Kind → Bool} (toks rest : Tokens) → BeginsWith p toks → line_of (toks ++ rest) ≡ line_of toks
+pub line_begins : {p : Kind → Bool} (toks rest : Tokens) → BeginsWith p toks → line_of (toks ++ rest) ≡ line_of toks
 line_begins toks rest b = rw b.parts refl
 
 lined_reads : {A : Type 0} (part : Reader A) (i : Tokens) (a : A) (rest : Tokens) → part i ≡ Ok (a, rest) → lined part i ≡ Ok ((line_of i, a), rest)

@@ -1,5 +1,5 @@
 -- Reading programs.
-use Rattle.std.proofs.Common.{ℕ, Bool, true, not, if◌then◌else◌, List, [], Option, unwrap_or, refl}
+use Rattle.std.proofs.Common.{ℕ, Bool, true, false, not, if◌then◌else◌, List, [], Option, unwrap_or, refl}
 use Rattle.setl_tree.specs.declared.kind.Kind.{Kind}
 use Rattle.setl_tree.specs.declared.kind.Kind.TheVariants as k
 use Rattle.setl_tree.specs.declared.tree.Passing.TheVariants as pa
@@ -16,8 +16,9 @@ use Rattle.setl_reading.specs.ReadPrograms as p
 use Rattle.setl_reading.specs.ReadStatements.{begins_stmt}
 use Rattle.setl_reading.proofs.EveryKind.{kinds}
 use Rattle.setl_reading.proofs.Laws.{Law, Follows, Within, Begins, always, anything, within, within_always, same, law_then, law_map, law_expect, law_one_of, law_choose, law_opening, law_many, law_listed, law_optional, law_lined, law_name, begins_name, begins_token, begins_then, begins_or, begins_one_of, begins_optional, begins_opening, begins_lined, follows_begins, follows_token, follows_then, follows_map, follows_many, follows_optional, follows_within}
-use Rattle.setl_reading.proofs.Statements.{ends_body, law_stmts, follows_stmts}
-use Rattle.setl_reading.proofs.Modes.{law_names, law_repr, begins_repr}
+use Rattle.setl_reading.proofs.Exact.{Exact, exact_then, exact_map, exact_expect, exact_one_of, exact_choose, exact_opening, exact_many, exact_optional, exact_separated, exact_listed, exact_lined, exact_name}
+use Rattle.setl_reading.proofs.Statements.{ends_body, law_stmts, follows_stmts, exact_stmts}
+use Rattle.setl_reading.proofs.Modes.{law_names, law_repr, begins_repr, exact_declared, exact_repr}
 
 -- ---- the end of a declaration
 
@@ -219,3 +220,53 @@ law_program room = law_then (law_expect k.Program) (λ _. law_then law_name (λ 
     (λ ps. follows_end)) (λ body. follows_within (follows_procs room (λ ps. follows_end)) last_ends_body)) (λ modes. follows_body room (λ body. follows_procs room (λ ps. follows_end))))
     (λ vs. follows_then (follows_optional (begins_repr room) repr_no_var main_no_var) (λ modes. follows_body room (λ body. follows_procs room (λ ps. follows_end)))))
     (λ _. anything)) (λ x. anything)) (λ _. anything)
+
+-- ---- where reading stops
+
+exact_named_ending : {always : Bool} {room : ℕ} (is_word : Kind → Bool) (word : Reader Token) (L : Lang Token) → Exact false room word L → Exact always room (p.named_ending is_word word) (grammar.named_ending L)
+unfolding p.named_ending grammar.named_ending p.optional_name
+exact_named_ending is_word word L exact = exact_then (exact_expect k.End)
+    (λ t. exact_then (exact_optional is_word (exact_then exact (λ _. exact_optional (is k.Name) exact_name))) (λ x. exact_map (λ _. (t.line, name_behind x)) (exact_expect k.Semicolon)))
+
+exact_var : {always : Bool} {room : ℕ} → Exact always room p.var grammar.var
+unfolding p.var grammar.var
+exact_var = exact_then (exact_expect k.Var) (λ _. exact_then (exact_separated exact_declared) (λ xs. exact_map (λ _. xs) (exact_expect k.Semicolon)))
+
+exact_vars : {always : Bool} {room : ℕ} → Exact always room p.vars (lang.many grammar.var)
+unfolding p.vars
+exact_vars = exact_many (is k.Var) exact_var begins_var
+
+exact_passed : {always : Bool} {room : ℕ} → Exact always room p.passed grammar.passed
+unfolding p.passed grammar.passed passing
+exact_passed = exact_then (exact_optional (begins_as passing) (exact_one_of passing k.Rd pa.Rd refl refl)) (λ w. exact_map (λ x. (unwrap_or w pa.Rd, x)) exact_name)
+
+exact_param : {always : Bool} {room : ℕ} → Exact always room p.param grammar.param
+unfolding p.param grammar.param
+exact_param = exact_map (λ x. record { passing = x.1.0; name = x.1.1; line = x.0 }) (exact_lined exact_passed begins_passed)
+
+exact_params : (room : ℕ) → Exact false room (p.params room) (grammar.params room)
+unfolding p.params grammar.params
+exact_params room = exact_opening room k.LeftParen (λ _ _ _. exact_then (exact_listed k.RightParen exact_param) (λ xs. exact_map (λ _. xs) (exact_expect k.RightParen)))
+
+exact_proc_word : {always : Bool} {room : ℕ} → Exact always room p.proc_word grammar.proc_word
+unfolding p.proc_word grammar.proc_word
+exact_proc_word = exact_choose (is k.Proc) (exact_expect k.Proc) (exact_expect k.Procedure)
+
+exact_proc : {always : Bool} (room : ℕ) → Exact always room (p.proc room) (grammar.proc room)
+unfolding p.proc grammar.proc
+exact_proc room = exact_then exact_proc_word (λ t. exact_then exact_name (λ x. exact_then (exact_optional (is k.LeftParen) (exact_params room)) (λ ps. exact_then (exact_expect k.Semicolon) (λ _. exact_then (exact_stmts room)
+    (λ body. exact_map (λ last. record { line = t.line; name = x; params = unwrap_or ps []; body = body; end_name = last.1; end_line = last.0 }) (exact_named_ending p.begins_proc p.proc_word grammar.proc_word exact_proc_word))))))
+
+exact_procs : {always : Bool} (room : ℕ) → Exact always room (p.procs room) (lang.many (grammar.proc room))
+unfolding p.procs
+exact_procs room = exact_many p.begins_proc (exact_proc room) (begins_a_proc room)
+
+exact_program_end : {always : Bool} {room : ℕ} → Exact always room p.program_end (grammar.named_ending (lang.token k.Program))
+unfolding p.program_end
+exact_program_end = exact_named_ending (is k.Program) (expect k.Program) (lang.token k.Program) (exact_expect k.Program)
+
+pub exact_program : (room : ℕ) → Exact true room (p.program room) (grammar.program room)
+unfolding p.program grammar.program
+exact_program room = exact_then (exact_expect k.Program) (λ _. exact_then exact_name (λ x. exact_then (exact_expect k.Semicolon) (λ _. exact_then exact_vars (λ vs. exact_then (exact_optional (is k.Repr) (exact_repr room))
+    (λ modes. exact_then (exact_stmts room) (λ body. exact_then (exact_procs room)
+    (λ ps. exact_map (λ last. record { name = x; vars = joined vs; modes = unwrap_or modes []; body = body; procs = ps; end_name = last.1; end_line = last.0 }) exact_program_end)))))))

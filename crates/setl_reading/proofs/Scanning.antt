@@ -1,6 +1,7 @@
 -- What the scan at the inside of a brace or bracket shows.
 use Rattle.std.proofs.Common.{◌≡◌, ◌≢◌, ℕ, zero, suc, Bool, true, false, if◌then◌else◌, List, [], ◌∷◌, ◌++◌, refl, sym, ap, ◌∙◌, append_assoc, inl, inr, ◌⊎◌}
 use Rattle.std.proofs.lemmas.List.{append-nil}
+use Rattle.std.specs.Prelude.{pos, ⊤}
 use Rattle.setl_tree.specs.declared.kind.Kind.{Kind}
 use Rattle.setl_tree.specs.declared.kind.Kind.TheVariants as k
 use Rattle.setl_tree.specs.declared.expr.Slot.{Slot}
@@ -349,3 +350,170 @@ bound_seen room toks rest b (inr s) next h =
 pub slot_exprs_names : (xs : List (List ℕ)) → slot_exprs (mapped sl.Name xs) ≡ mapped e.Name xs
 slot_exprs_names [] = refl
 slot_exprs_names (x ∷ xs) = ap (λ z. e.Name x ∷ z) (slot_exprs_names xs)
+
+-- ---- fronts that the scan runs to the end of
+
+-- slots up to the end of the tokens
+abbrev pub OpenSlots : Tokens → Type 0
+OpenSlots [] = ⊤
+OpenSlots (t ∷ []) = (t.kind ≡ k.Name) ⊎ (t.kind ≡ k.Minus)
+OpenSlots (t ∷ u ∷ toks) = (t.kind ≡ k.Name) × ((u.kind ≡ k.Comma) × OpenSlots toks ⊎ (u.kind ≡ k.RightBracket) × (toks ≡ []))
+
+abbrev pub Open : Tokens → Type 0
+Open [] = ⊤
+Open (t ∷ toks) = ((t.kind ≡ k.Name) × (toks ≡ [])) ⊎ ((t.kind ≡ k.LeftBracket) × OpenSlots toks)
+
+end_expression : either_at k.SourceEnd ≡ Expression
+unfolding same_kind
+end_expression = refl
+
+is_or_not : (b : Bool) → (b ≡ true) ⊎ (b ≡ false)
+is_or_not true = inl refl
+is_or_not false = inr refl
+
+scan_neither : (t u : Token) (toks : Tokens) → same_kind t.kind k.Minus ≡ false → same_kind t.kind k.Name ≡ false → slots_ahead (t ∷ u ∷ toks) ≡ Expression
+unfolding slots_ahead
+scan_neither t u toks minus name = rw (minus, name) refl
+
+scan_hole : (t u : Token) (one two : Tokens) → same_kind t.kind k.Minus ≡ true → slots_ahead (t ∷ u ∷ one) ≡ slots_ahead (t ∷ u ∷ two)
+unfolding slots_ahead
+scan_hole t u one two minus = rw minus refl
+
+scan_named : (t u : Token) (toks : Tokens) → same_kind t.kind k.Minus ≡ false → same_kind t.kind k.Name ≡ true → slots_ahead (t ∷ u ∷ toks) ≡ after_name u.kind (slots_ahead toks) (next_kind toks)
+unfolding slots_ahead
+scan_named t u toks minus name = rw (minus, name) refl
+
+scan_none : slots_ahead [] ≡ Expression
+unfolding slots_ahead
+scan_none = refl
+
+scan_alone : (t : Token) → slots_ahead (t ∷ []) ≡ Expression
+unfolding slots_ahead
+scan_alone t = refl
+
+after_comma : (kind : Kind) → same_kind kind k.Comma ≡ true → (more : Ahead) (next : Kind) → after_name kind more next ≡ more
+after_comma kind comma more next = rw comma refl
+
+after_bracket : (kind : Kind) → same_kind kind k.Comma ≡ false → same_kind kind k.RightBracket ≡ true → (more : Ahead) (next : Kind) → after_name kind more next ≡ either_at next
+after_bracket kind no_comma close more next = rw (no_comma, close) refl
+
+after_other : (kind : Kind) → same_kind kind k.Comma ≡ false → same_kind kind k.RightBracket ≡ false → (more : Ahead) (next : Kind) → after_name kind more next ≡ Expression
+after_other kind no_comma no_close more next = rw (no_comma, no_close) refl
+
+no_tokens : (front : Tokens) → (front ≡ []) ⊎ ((back : Tokens) → next_kind (front ++ back) ≡ next_kind front)
+no_tokens [] = inl refl
+no_tokens (t ∷ front) = inr (λ back. refl)
+
+-- what the scan of the slots shows depends on the tokens in front, or it runs to their end
+pub slots_local : (front back : Tokens) → (slots_ahead (front ++ back) ≡ slots_ahead front) ⊎ OpenSlots front
+slots_local [] back = inr tt
+slots_local (t ∷ []) [] = inl refl
+slots_local (t ∷ []) (u ∷ back) = elim (is_or_not (same_kind t.kind k.Minus)) [
+  | inl minus ↦ inr (inr (same_kind_is t.kind k.Minus minus))
+  | inr no_minus ↦ elim (is_or_not (same_kind t.kind k.Name)) [
+    | inl name ↦ inr (inl (same_kind_is t.kind k.Name name))
+    | inr no_name ↦ inl (scan_neither t u back no_minus no_name ∙ sym (scan_alone t))
+  ]
+]
+slots_local (t ∷ u ∷ front) back = elim (is_or_not (same_kind t.kind k.Minus)) [
+  | inl minus ↦ inl (scan_hole t u (front ++ back) front minus)
+  | inr no_minus ↦ elim (is_or_not (same_kind t.kind k.Name)) [
+    | inl name ↦
+        let kind : t.kind ≡ k.Name = same_kind_is t.kind k.Name name in
+        let one = scan_named t u (front ++ back) no_minus name in
+        let two = scan_named t u front no_minus name in
+        elim (is_or_not (same_kind u.kind k.Comma)) [
+          | inl comma ↦ elim (slots_local front back) [
+            | inl same ↦ inl (one ∙ after_comma u.kind comma (slots_ahead (front ++ back)) (next_kind (front ++ back)) ∙ same ∙ sym (after_comma u.kind comma (slots_ahead front) (next_kind front)) ∙ sym two)
+            | inr opened ↦ inr (kind, inl (same_kind_is u.kind k.Comma comma, opened))
+          ]
+          | inr no_comma ↦ elim (is_or_not (same_kind u.kind k.RightBracket)) [
+            | inl close ↦ elim (no_tokens front) [
+              | inl none ↦ inr (kind, inr (same_kind_is u.kind k.RightBracket close, none))
+              | inr some ↦ inl (one ∙ after_bracket u.kind no_comma close (slots_ahead (front ++ back)) (next_kind (front ++ back)) ∙ ap either_at (some back) ∙ sym (after_bracket u.kind no_comma close (slots_ahead front) (next_kind front)) ∙ sym two)
+            ]
+            | inr no_close ↦ inl (one ∙ after_other u.kind no_comma no_close (slots_ahead (front ++ back)) (next_kind (front ++ back)) ∙ sym (after_other u.kind no_comma no_close (slots_ahead front) (next_kind front)) ∙ sym two)
+          ]
+        ]
+    | inr no_name ↦ inl (scan_neither t u (front ++ back) no_minus no_name ∙ sym (scan_neither t u front no_minus no_name))
+  ]
+]
+
+ahead_other : (toks : Tokens) → same_kind (next_kind toks) k.Name ≡ false → same_kind (next_kind toks) k.LeftBracket ≡ false → ahead toks ≡ Expression
+unfolding ahead
+ahead_other toks name bracket = rw (name, bracket) refl
+
+name_local : (t : Token) (front back : Tokens) → t.kind ≡ k.Name → (ahead (t ∷ (front ++ back)) ≡ ahead (t ∷ front)) ⊎ Open (t ∷ front)
+name_local t [] back name = inr (inl (name, refl))
+name_local t (u ∷ front) back name = inl (ahead_name (t ∷ u ∷ (front ++ back)) name ∙ sym (ahead_name (t ∷ u ∷ front) name))
+
+-- what the scan shows depends on the tokens in front, or it runs to their end
+pub ahead_local : (front back : Tokens) → (ahead (front ++ back) ≡ ahead front) ⊎ Open front
+ahead_local [] back = inr tt
+ahead_local (t ∷ front) back = elim (is_or_not (same_kind t.kind k.Name)) [
+  | inl name ↦ name_local t front back (same_kind_is t.kind k.Name name)
+  | inr no_name ↦ elim (is_or_not (same_kind t.kind k.LeftBracket)) [
+    | inl bracket ↦
+        let kind : t.kind ≡ k.LeftBracket = same_kind_is t.kind k.LeftBracket bracket in
+        elim (slots_local front back) [
+          | inl same ↦ inl (ahead_bracket (t ∷ (front ++ back)) kind ∙ same ∙ sym (ahead_bracket (t ∷ front) kind))
+          | inr opened ↦ inr (inr (kind, opened))
+        ]
+    | inr no_bracket ↦ inl (ahead_other (t ∷ (front ++ back)) no_name no_bracket ∙ sym (ahead_other (t ∷ front) no_name no_bracket))
+  ]
+]
+
+-- slots that go on to a closing bracket
+pub record Closes {A : Type 0} (L : Tokens → A → Type 0) (front : Tokens) : Type 0 where
+  pub more : Tokens
+  pub list : Tokens
+  pub close : Token
+  pub values : List A
+  pub parts : front ++ more ≡ list ++ close ∷ []
+  pub closed : close.kind ≡ k.RightBracket
+  pub spelled : lang.separated L list values
+
+abbrev sign : Kind → Token
+sign kind = record { kind = kind; text = []; value = pos 0; line = 0 }
+
+module _ {A : Type 0} (L : Tokens → A → Type 0) (named_item : (t : Token) → t.kind ≡ k.Name → (a : A) × L (t ∷ []) a) (hole_item : (t : Token) → t.kind ≡ k.Minus → (more : Tokens) × (a : A) × L (t ∷ more) a) where
+  one_part : (toks : Tokens) (a : A) → L toks a → lang.separated L toks (a ∷ [])
+  one_part toks a s = record { front = toks; back = []; value = a; parts = sym (append-nil toks); first = s; second = record { front = []; back = []; value = []; parts = refl; first = refl; second = (refl, refl) } }
+
+  more_parts : (t u : Token) (list : Tokens) (a : A) (values : List A) → L (t ∷ []) a → u.kind ≡ k.Comma → lang.separated L list values → lang.separated L (t ∷ u ∷ list) (a ∷ values)
+  more_parts t u list a values first comma s =
+      let more : Then (lang.token k.Comma) (λ _. Then L (λ b. Then (more_l L) (λ xs. lang.pure (a ∷ b ∷ xs)))) (u ∷ list) (a ∷ values) = record {
+        front = u ∷ [];
+        back = list;
+        value = u;
+        parts = refl;
+        first = record { alone = refl; kind = comma };
+        second = record {
+          front = s.front;
+          back = s.back;
+          value = s.value;
+          parts = s.parts;
+          first = s.first;
+          second = record { front = s.second.front; back = s.second.back; value = s.second.value; parts = s.second.parts; first = s.second.first; second = (s.second.second.0, ap (λ z. a ∷ z) s.second.second.1) };
+        };
+      } in
+      record { front = t ∷ []; back = u ∷ list; value = a; parts = refl; first = first; second = more_one {K = λ xs. lang.pure (a ∷ xs)} more }
+
+  pub closes_slots : (front : Tokens) → OpenSlots front → Closes L front
+  closes_slots [] opened =
+      let t = sign k.Name in
+      let a = named_item t refl in
+      record { more = t ∷ sign k.RightBracket ∷ []; list = t ∷ []; close = sign k.RightBracket; values = a.0 ∷ []; parts = refl; closed = refl; spelled = one_part (t ∷ []) a.0 a.1 }
+  closes_slots (t ∷ []) (inl name) =
+      let a = named_item t name in
+      record { more = sign k.RightBracket ∷ []; list = t ∷ []; close = sign k.RightBracket; values = a.0 ∷ []; parts = refl; closed = refl; spelled = one_part (t ∷ []) a.0 a.1 }
+  closes_slots (t ∷ []) (inr minus) =
+      let a = hole_item t minus in
+      record { more = a.0 ++ sign k.RightBracket ∷ []; list = t ∷ a.0; close = sign k.RightBracket; values = a.1 ∷ []; parts = refl; closed = refl; spelled = one_part (t ∷ a.0) a.1 a.2 }
+  closes_slots (t ∷ u ∷ toks) (name, inl comma) =
+      let a = named_item t name in
+      let c = closes_slots toks comma.1 in
+      record { more = c.more; list = t ∷ u ∷ c.list; close = c.close; values = a.0 ∷ c.values; parts = ap (λ (z : Tokens). t ∷ u ∷ z) c.parts; closed = c.closed; spelled = more_parts t u c.list a.0 c.values a.1 comma.0 c.spelled }
+  closes_slots (t ∷ u ∷ toks) (name, inr close) =
+      let a = named_item t name in
+      record { more = []; list = t ∷ []; close = u; values = a.0 ∷ []; parts = append-nil (t ∷ u ∷ toks) ∙ ap (λ (z : Tokens). t ∷ u ∷ z) close.1; closed = close.0; spelled = one_part (t ∷ []) a.0 a.1 }

@@ -1,10 +1,12 @@
 -- Reading statements.
-use Rattle.std.proofs.Common.{◌≡◌, ℕ, zero, suc, ◌-◌, Bool, true, not, if◌then◌else◌, List, [], ◌∷◌, ◌++◌, Some, Ok, refl, ap, ◌∙◌, arith, inl, inr}
+use Rattle.std.proofs.Common.{◌≡◌, ℕ, zero, suc, ◌-◌, Bool, true, not, if◌then◌else◌, false, List, [], ◌∷◌, ◌++◌, Some, Ok, refl, ap, subst, ◌∙◌, arith, inl, inr}
 use Rattle.setl_tree.specs.declared.kind.Kind.{Kind}
 use Rattle.setl_tree.specs.declared.kind.Kind.TheVariants as k
 use Rattle.setl_tree.specs.declared.expr.Expr.{Expr}
 use Rattle.setl_tree.specs.declared.expr.Selector.{Selector}
 use Rattle.setl_tree.specs.declared.expr.Selector.TheVariants as se
+use Rattle.setl_tree.specs.declared.expr.BinaryOp.TheVariants as op
+use Rattle.setl_tree.specs.declared.stmt.FromEnd.TheVariants as fr
 use Rattle.setl_tree.specs.declared.stmt.Place.{Place}
 use Rattle.setl_tree.specs.declared.stmt.Branch.{Branch, roll-Branch}
 use Rattle.setl_tree.specs.declared.stmt.Stmt.{Stmt, roll-Stmt}
@@ -24,9 +26,10 @@ use Rattle.setl_reading.specs.ReadStatements.{begins_stmt}
 use Rattle.setl_reading.proofs.EveryKind.{kinds, same_kind_self}
 use Rattle.setl_reading.proofs.Laws.{Took, Law, Follows, Within, Begins, always, anything, took_as, law_of, chosen, within, within_always, same, law_then, law_map, law_expect, law_one_of, law_choose, law_opening, law_many, law_separated, law_listed, law_optional, law_lined, law_name, begins_name, begins_token, begins_then, begins_or, begins_within, begins_one_of, begins_many, begins_lined, begins_opening, begins_separated, follows_begins, follows_token, follows_then, follows_many, follows_optional, follows_opening}
 use Rattle.setl_reading.proofs.Regroup.{behind, assoc, unassoc, pure_then, then_pure, map_then, then_map, with_second, then_or, in_left, in_right, listed_none, many_nil, many_cons, many_to}
-use Rattle.setl_reading.proofs.Bounds.{below, over, law_pattern, begins_pattern, law_iters}
-use Rattle.setl_reading.proofs.Inners.{IsInside, starts_primary, starts}
-use Rattle.setl_reading.proofs.Expressions.{law_expr, begins_expr, nested_inside, law_braces}
+use Rattle.setl_reading.proofs.Exact.{Exact, weak, exact_then, exact_map, exact_expect, exact_one_of, exact_choose, exact_either, exact_as, exact_by, exact_lower, exact_opening, exact_many, exact_optional, exact_separated, exact_listed, exact_lined, exact_name}
+use Rattle.setl_reading.proofs.Bounds.{below, over, law_pattern, begins_pattern, law_iters, exact_pattern, exact_iters}
+use Rattle.setl_reading.proofs.Inners.{IsExact, IsInside, starts_primary, starts}
+use Rattle.setl_reading.proofs.Expressions.{exact_braces, nested_exact, exact_expr, law_expr, begins_expr, nested_inside, law_braces}
 
 -- ---- ends
 
@@ -38,6 +41,10 @@ unfolding s.ending grammar.ending same_kind
 law_ending word other = law_then (law_expect k.End)
     (λ _. law_then (law_optional (law_expect word) (begins_token word (same_kind_self word)) within_always other) (λ _. law_expect k.Semicolon) (λ _. follows_alone k.Semicolon (same_kind_self k.Semicolon)))
     (λ _. anything)
+
+pub exact_ending : {always : Bool} {room : ℕ} (word : Kind) → Exact always room (s.ending word) (grammar.ending word)
+unfolding s.ending grammar.ending
+exact_ending word = exact_then (exact_expect k.End) (λ _. exact_then (exact_optional (is word) (exact_expect word)) (λ _. exact_expect k.Semicolon))
 
 pub begins_ending : (word : Kind) → Begins (is k.End) (grammar.ending word)
 unfolding grammar.ending same_kind
@@ -311,6 +318,98 @@ module _ (room : ℕ) where
   unfolding s.simple_stmt simple
   law_simple = law_then (law_one_of simple refl) (λ s. law_map (λ _. s) (law_expect k.Semicolon)) (λ s. anything)
 
+  -- ---- where reading stops
+
+  abbrev exact_here : (inside : ℕ) → room ≡ suc inside → IsExact inside (r.nested room) (nested room)
+  exact_here = nested_exact room
+
+  exact_place_round : Exact false room (s.place_round room) round_l
+  unfolding s.place_round
+  exact_place_round = exact_opening room k.LeftParen (λ m e _. exact_then (exact_separated (weak (exact_here m e).expr)) (λ xs. exact_map (λ _. se.Round xs) (exact_expect k.RightParen)))
+
+  exact_place_braces : Exact false room (r.braces room (r.nested room)) braces_l
+  exact_place_braces = exact_braces room (r.nested room) (nested room) here exact_here
+
+  exact_place_selector : Exact false room (s.place_selector room) (grammar.place_selector room)
+  unfolding s.place_selector grammar.place_selector
+  exact_place_selector = exact_choose (is k.LeftParen) exact_place_round exact_place_braces
+
+  exact_place_selectors : {always : Bool} → Exact always room (s.place_selectors room) (lang.many (grammar.place_selector room))
+  unfolding s.place_selectors
+  exact_place_selectors = exact_many r.begins_selector exact_place_selector begins_place_selector
+
+  exact_place : {always : Bool} → Exact always room (s.place room) (grammar.place room)
+  unfolding s.place grammar.place
+  exact_place = exact_then exact_name (λ x. exact_map (λ ss. record { name = x; selectors = ss }) exact_place_selectors)
+
+  exact_assigned : {always : Bool} (p : Place) → Exact always room (s.assigned room p) (assign_l p)
+  unfolding s.assigned
+  exact_assigned p = exact_then (exact_expect k.Assign) (λ _. exact_then (exact_expr room) (λ x. exact_map (λ _. st.Assign p x) (exact_expect k.Semicolon)))
+
+  exact_updated : {always : Bool} (p : Place) → Exact always room (s.updated room p) (update_l p)
+  unfolding s.updated update_op
+  exact_updated p = exact_then (exact_one_of update_op k.With op.With refl refl) (λ o. exact_then (exact_expect k.Assign) (λ _. exact_then (exact_expr room) (λ x. exact_map (λ _. st.Update p o x) (exact_expect k.Semicolon))))
+
+  exact_stored : {always : Bool} (p : Place) → Exact always room (s.stored room p) (stored_l p)
+  unfolding s.stored
+  exact_stored p = exact_choose (is k.Assign) (exact_assigned p) (exact_updated p)
+
+  exact_selected : {always : Bool} (x : List ℕ) (part : Selector) → Exact always room (s.selected_place room x part) (selected_l x part)
+  unfolding s.selected_place
+  exact_selected x part = exact_then exact_place_selectors (λ ss. exact_stored (record { name = x; selectors = part ∷ ss }))
+
+  exact_after : {always : Bool} (f : List ℕ) (xs : List Expr) → Exact always room (s.after_arguments room f xs) (after_l f xs)
+  unfolding s.after_arguments
+  exact_after f xs = exact_choose (is k.Semicolon) (exact_map (λ _. st.Call f xs) (exact_expect k.Semicolon)) (exact_selected f (se.Round xs))
+
+  exact_no_arguments : {always : Bool} {inside : ℕ} (f : List ℕ) → Exact always inside (s.no_arguments room f) (Then (lang.token k.RightParen) (λ _. Then (lang.token k.Semicolon) (λ _. lang.pure (st.Call f []))))
+  unfolding s.no_arguments
+  exact_no_arguments f = exact_then (exact_expect k.RightParen) (λ _. exact_map (λ _. st.Call f []) (exact_expect k.Semicolon))
+
+  exact_called : {always : Bool} (m : ℕ) → room ≡ suc m → (f : List ℕ) → Exact always m (s.called room f) (called_l f)
+  unfolding s.called
+  exact_called m e f = exact_choose (is k.RightParen)
+      (exact_no_arguments f)
+      (exact_then (exact_separated (weak (exact_here m e).expr)) (λ xs. exact_then (exact_expect k.RightParen) (λ _. exact_lower e (exact_after f xs))))
+
+  exact_braced : {always : Bool} (x : List ℕ) → Exact always room (s.braced_or_alone room x) (braced_l x)
+  unfolding s.braced_or_alone
+  exact_braced x = exact_either (is k.LeftBrace) (exact_then exact_place_braces (λ part. exact_selected x part)) (exact_stored (record { name = x; selectors = [] }))
+
+  exact_store : {always : Bool} (x : List ℕ) → Exact always room (s.called_or_stored room x) (store_l x)
+  unfolding s.called_or_stored
+  exact_store x = exact_either (is k.LeftParen) (exact_opening room k.LeftParen (λ m e _. exact_called m e x)) (exact_braced x)
+
+  exact_taken : {always : Bool} (x : List ℕ) → Exact always room (s.taken room x) (taken_l x)
+  unfolding s.taken from_word
+  exact_taken x = exact_then (exact_one_of from_word k.From fr.From refl refl) (λ w. exact_then exact_place (λ p. exact_map (λ _. st.Take x w p) (exact_expect k.Semicolon)))
+
+  exact_named : {always : Bool} → Exact always room (name >>= s.behind_name room) named_l
+  unfolding s.behind_name
+  exact_named = exact_then exact_name (λ x. exact_choose (begins_as from_word) (exact_taken x) (exact_store x))
+
+  exact_tuple_assign : Exact false room (s.tuple_assign room) (Then (pattern room) (λ slots. Then (lang.token k.Assign) (λ _. Then (expr room) (λ x. Then (lang.token k.Semicolon) (λ _. lang.pure (st.TupleAssign slots x))))))
+  unfolding s.tuple_assign
+  exact_tuple_assign = exact_then (exact_pattern room) (λ slots. exact_then (exact_expect k.Assign) (λ _. exact_then (exact_expr room) (λ x. exact_map (λ _. st.TupleAssign slots x) (exact_expect k.Semicolon))))
+
+  exact_return : {always : Bool} → Exact always room (s.return_stmt room) (Then (lang.token k.Return) (λ _. Then (lang.optional (expr room)) (λ x. Then (lang.token k.Semicolon) (λ _. lang.pure (st.Return x)))))
+  unfolding s.return_stmt
+  exact_return = exact_then (exact_expect k.Return) (λ _. exact_then (exact_optional (but k.Semicolon) (exact_expr room)) (λ x. exact_map (λ _. st.Return x) (exact_expect k.Semicolon)))
+
+  exact_print : Exact false room (s.print_stmt room) (Then (lang.token k.Print) (λ _. Then (lang.opening room k.LeftParen) (λ _. Then (lang.listed (nested room).expr) (λ xs. Then (lang.token k.RightParen) (λ _. Then (lang.token k.Semicolon) (λ _. lang.pure (st.Print xs)))))))
+  unfolding s.print_stmt
+  exact_print = exact_then (exact_expect k.Print) (λ _. exact_opening room k.LeftParen (λ m e _. exact_then (exact_listed k.RightParen (weak (exact_here m e).expr))
+      (λ xs. exact_then (exact_expect k.RightParen) (λ _. exact_map (λ _. st.Print xs) (exact_expect k.Semicolon)))))
+
+  exact_read : Exact false room (s.read_stmt room) (Then (lang.token k.Read) (λ _. Then (lang.opening room k.LeftParen) (λ _. Then (lang.separated lang.name) (λ xs. Then (lang.token k.RightParen) (λ _. Then (lang.token k.Semicolon) (λ _. lang.pure (st.Read xs)))))))
+  unfolding s.read_stmt
+  exact_read = exact_then (exact_expect k.Read) (λ _. exact_opening room k.LeftParen (λ m e _. exact_then (exact_separated exact_name)
+      (λ xs. exact_then (exact_expect k.RightParen) (λ _. exact_map (λ _. st.Read xs) (exact_expect k.Semicolon)))))
+
+  exact_simple : {always : Bool} → Exact always room (s.simple_stmt room) simple_l
+  unfolding s.simple_stmt simple
+  exact_simple = exact_then (exact_one_of simple k.Pass st.Pass refl refl) (λ s. exact_map (λ _. s) (exact_expect k.Semicolon))
+
   module _ (deep : Reader (List Stmt)) (D : Lang (List Stmt)) (law_deep : (m : ℕ) → room ≡ suc m → Law deep D ends_body) where
     -- ---- `if`
 
@@ -577,6 +676,75 @@ module _ (room : ℕ) where
     pub law_body : Law (many begins_stmt (s.stmt room deep)) (lang.many (grammar.stmt room D)) ends_body
     law_body = law_many law_stmt begins_a_stmt within_always within_always same
 
+    -- ---- where reading stops
+
+    module _ (exact_deep : (m : ℕ) → room ≡ suc m → Exact true m deep D) where
+      exact_branch : {always : Bool} (m : ℕ) → room ≡ suc m → Exact always m (s.branch room deep) (grammar.branch room D)
+      unfolding s.branch grammar.branch
+      exact_branch m e = exact_then (weak (exact_here m e).expr) (λ c. exact_then (exact_expect k.Then) (λ _. exact_map (λ body. roll-Branch (record { condition = c; body = body })) (weak (exact_deep m e))))
+
+      exact_elseifs : {always : Bool} (m : ℕ) → room ≡ suc m → Exact always m (s.elseifs room deep) (lang.many elseif_l)
+      unfolding s.elseifs
+      exact_elseifs m e = exact_many (is k.Elseif) (exact_then (exact_expect k.Elseif) (λ _. exact_branch m e)) begins_elseif
+
+      exact_else_part : {always : Bool} (m : ℕ) → room ≡ suc m → Exact always m (s.else_part room deep) (lang.optional else_l)
+      unfolding s.else_part
+      exact_else_part m e = exact_optional (is k.Else) (exact_then (exact_expect k.Else) (λ _. weak (exact_deep m e)))
+
+      exact_if : Exact false room (s.if_stmt room deep) if_l
+      unfolding s.if_stmt
+      exact_if = exact_opening room k.If (λ m e _. exact_then (exact_branch m e) (λ first. exact_then (exact_elseifs m e) (λ others. exact_then (exact_else_part m e) (λ last. exact_map (λ _. st.If first others last) (exact_ending k.If)))))
+
+      inside_room : (m : ℕ) → room ≡ suc m → m ≡ room - 1
+      inside_room m e = omega (arith, e)
+
+      exact_over : {always : Bool} (m : ℕ) → room ≡ suc m → Exact always m (r.iters (room - 1) (r.nested room).source) (iters (room - 1) (nested room).source)
+      exact_over {always = always} m e = subst (λ (z : ℕ). Exact always m (r.iters z (r.nested room).source) (iters z (nested room).source)) (inside_room m e) (exact_iters m (r.nested room).source (nested room).source (here m e).source (exact_here m e).source)
+
+      exact_bar : {always : Bool} (m : ℕ) → room ≡ suc m → Exact always m (r.condition room (r.nested room)) bar_l
+      unfolding r.condition
+      exact_bar m e = exact_then (exact_expect k.Bar) (λ _. weak (exact_here m e).expr)
+
+      exact_for : {always : Bool} (m : ℕ) → room ≡ suc m → Exact always m (s.for_loop room deep) for_l
+      unfolding s.for_loop
+      exact_for m e = exact_then (exact_expect k.For) (λ _. exact_then (exact_over m e) (λ over. exact_then (exact_optional (is k.Bar) (exact_bar m e)) (λ c. exact_then (exact_expect k.RightParen)
+          (λ _. exact_then (weak (exact_deep m e)) (λ body. exact_map (λ _. st.For over c body) (exact_ending k.For))))))
+
+      exact_while : {always : Bool} (m : ℕ) → room ≡ suc m → Exact always m (s.while_loop room deep) while_l
+      unfolding s.while_loop
+      exact_while m e = exact_then (exact_expect k.While) (λ _. exact_then (weak (exact_here m e).expr) (λ c. exact_then (exact_expect k.RightParen)
+          (λ _. exact_then (weak (exact_deep m e)) (λ body. exact_map (λ _. st.While c body) (exact_ending k.While)))))
+
+      exact_loop : Exact false room (s.loop room deep) loop_l
+      unfolding s.loop s.for_or_while
+      exact_loop = exact_opening room k.LeftParen (λ m e _. exact_choose (is k.For) (exact_for m e) (exact_while m e))
+
+      exact_kind : (kind : Kind) → Exact false room (s.kind_by room deep kind) (grammar.stmt_kind room D)
+      unfolding grammar.stmt_kind
+      exact_kind k.Name = exact_as exact_named named_to
+      exact_kind k.LeftBracket = exact_as exact_tuple_assign (λ u a s. inr (inr (inl s)))
+      exact_kind k.If = exact_as exact_if (λ u a s. inr (inr (inr (inr (inr (inl s))))))
+      exact_kind k.LeftParen = exact_as exact_loop (λ u a s. elim s.second [ inl l ↦ inr (inr (inr (inr (inr (inr (inl (with_second s l))))))) | inr l ↦ inr (inr (inr (inr (inr (inr (inr (inl (with_second s l)))))))) ])
+      exact_kind k.Return = exact_as exact_return (λ u a s. inr (inr (inr (inr (inr (inr (inr (inr (inr (inl s))))))))))
+      exact_kind k.Print = exact_as exact_print (λ u a s. inr (inr (inr (inr (inr (inr (inr (inr (inr (inr (inl s)))))))))))
+      exact_kind k.Read = exact_as exact_read (λ u a s. inr (inr (inr (inr (inr (inr (inr (inr (inr (inr (inr s)))))))))))
+      exact_kind _ = exact_as exact_simple (λ u a s. inr (inr (inr (inr (inr (inr (inr (inr (inl s)))))))))
+
+      exact_word : Exact true room (s.simple_stmt room) (grammar.stmt_kind room D)
+      unfolding grammar.stmt_kind
+      exact_word = exact_as exact_simple (λ u a s. inr (inr (inr (inr (inr (inr (inr (inr (inl s)))))))))
+
+      exact_stmt_kind : {always : Bool} → Exact always room (s.stmt_kind room deep) (grammar.stmt_kind room D)
+      unfolding s.stmt_kind
+      exact_stmt_kind = exact_by exact_kind (λ _. exact_word.some (omega arith))
+
+      exact_stmt : {always : Bool} → Exact always room (s.stmt room deep) (grammar.stmt room D)
+      unfolding s.stmt grammar.stmt
+      exact_stmt = exact_map (λ x. roll-Stmt (record { line = x.0; kind = x.1 })) (exact_lined exact_stmt_kind begins_kind)
+
+      pub exact_body : {always : Bool} → Exact always room (many begins_stmt (s.stmt room deep)) (lang.many (grammar.stmt room D))
+      exact_body = exact_many begins_stmt exact_stmt begins_a_stmt
+
 nested_stmts : (room inside : ℕ) → room ≡ suc inside → Law (s.nested_stmts room) (grammar.nested_stmts room) ends_body
 unfolding s.nested_stmts grammar.nested_stmts
 nested_stmts zero inside h = absurd (omega (arith, h))
@@ -591,3 +759,14 @@ law_stmts room = law_body room (s.nested_stmts room) (grammar.nested_stmts room)
 pub follows_stmts : (room : ℕ) {stops q : Kind → Bool} → Within begins_stmt q → Within stops q → Follows (grammar.stmts room) stops q
 unfolding grammar.stmts
 follows_stmts room go stop = follows_many (begins_a_stmt room (s.nested_stmts room) (grammar.nested_stmts room) (nested_stmts room)) go stop
+
+-- ---- where reading stops
+
+pub exact_nested : (room inside : ℕ) → room ≡ suc inside → Exact true inside (s.nested_stmts room) (grammar.nested_stmts room)
+unfolding s.nested_stmts grammar.nested_stmts
+exact_nested zero inside h = absurd (omega (arith, h))
+exact_nested (suc room) inside h = subst (λ (z : ℕ). Exact true z (s.nested_stmts (suc room)) (grammar.nested_stmts (suc room))) (omega (arith, h)) (exact_body room (s.nested_stmts room) (grammar.nested_stmts room) (nested_stmts room) (exact_nested room))
+
+pub exact_stmts : {always : Bool} (room : ℕ) → Exact always room (s.stmts room) (grammar.stmts room)
+unfolding s.stmts grammar.stmts
+exact_stmts room = exact_body room (s.nested_stmts room) (grammar.nested_stmts room) (nested_stmts room) (exact_nested room)

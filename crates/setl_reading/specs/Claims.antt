@@ -1,12 +1,13 @@
 -- What is claimed of reading and of the grammar.
-use Rattle.std.specs.Prelude.{◌≡◌, ◌⊎◌, ℕ, ◌≤◌, [], Ok, Err}
+use Rattle.std.specs.Prelude.{◌≡◌, ◌⊎◌, ℕ, ◌≤◌, [], ◌∷◌, length, Ok, Err}
 use Rattle.setl_tree.specs.declared.tree.Tree.{Tree}
-use Rattle.setl_tree.specs.Tokens.{Tokens}
+use Rattle.setl_tree.specs.Tokens.{Token, Tokens}
 use Rattle.setl_tree.specs.Programs as grammar
 use Rattle.setl_tree.specs.Programs.{Derives}
 use Rattle.setl_tree.specs.Canonical.{canonical}
-use Rattle.setl_reading.specs.declared.fault.Fault.TheVariants.{Nesting}
+use Rattle.setl_reading.specs.declared.fault.Fault.TheVariants.{Syntax, Nesting}
 use Rattle.setl_reading.specs.Reading.{Outcome}
+use Rattle.setl_reading.specs.Fronts.{GoesWrong, NestsTooDeep}
 use Rattle.setl_reading.specs.ReadPrograms as reading
 
 -- a tree that is read to the end of the tokens is one that they derive with so many nestings
@@ -36,3 +37,20 @@ TreeIsUnique = (toks : Tokens) (one two : Tree) → Derives toks one → Derives
 -- the canonical tokens of a tree that some tokens derive, derive that tree
 abbrev pub CanonicalTokensDerive : Type 0
 CanonicalTokensDerive = (toks : Tokens) (tree : Tree) → Derives toks tree → Derives (canonical tree) tree
+
+-- where reading faults for its syntax, the tokens go wrong
+abbrev pub SyntaxIsExact : Type 0
+SyntaxIsExact = (room : ℕ) (toks : Tokens) (left : ℕ) → reading.program room toks ≡ Err (Syntax left) → GoesWrong toks left
+
+-- where a program is read and tokens are left, the tokens go wrong at the first of them
+abbrev pub LeftoverIsExact : Type 0
+LeftoverIsExact = (room : ℕ) (toks : Tokens) (tree : Tree) (t : Token) (rest : Tokens) → reading.program room toks ≡ Ok (tree, t ∷ rest) → GoesWrong toks (length (t ∷ rest))
+
+-- tokens go wrong at one place at most
+abbrev pub OnePlaceIsWrong : Type 0
+OnePlaceIsWrong = (toks : Tokens) (one two : ℕ) → GoesWrong toks one → GoesWrong toks two → one ≡ two
+
+-- where reading ends at a token that opens one nesting too many, some program begins with the tokens up to that one, and
+-- none with so few nestings inside one another
+abbrev pub NestingFaultsGoOn : Type 0
+NestingFaultsGoOn = (room : ℕ) (toks : Tokens) (left : ℕ) → reading.program room toks ≡ Err (Nesting left) → NestsTooDeep room toks left

@@ -4,4 +4,5 @@ pub mod ReadExpressions
 pub mod ReadStatements
 pub mod ReadModes
 pub mod ReadPrograms
+pub mod Fronts
 pub mod Claims

@@ -4,6 +4,8 @@ use Rattle.setl_program.specs.declared.expr.Expr.{Expr}
 use Rattle.setl_program.specs.declared.expr.Iterator.{Iterator}
 use Rattle.setl_program.specs.declared.expr.Argument.{Argument}
 use Rattle.setl_program.specs.Program as plain
+use Rattle.setl_program.specs.Program.{Connect}
+use Rattle.setl_program.specs.Operators.{one as alone, two}
 use Rattle.setl_program.specs.Plain.{plain_expr, plain_exprs, plain_iterators, plain_binding, plain_arguments, condition_of}
 use Rattle.setl_code.specs.Code.{Unless}
 use Rattle.setl_code.specs.Piece.{one}
@@ -12,8 +14,9 @@ use Rattle.setl_gen.specs.Emitted.{held, here, after}
 use Rattle.setl_gen.specs.Heads.{opened, with_end_undecided}
 use Rattle.setl_gen.proofs.Emitting.{after_nothing, then_made}
 use Rattle.setl_gen.proofs.Rounds.{done_made, exprs_round, arguments_round, count_is, levels_is, iterator_begun, iterator_headed}
-use Rattle.setl_gen.proofs.ExprKinds.{connect_is, choose_is, former_is, selection_is, quantified_is, got, of_kind}
-use Rattle.setl_gen.proofs.Constructs.{apply_made, connect_made, choose_made, former_made, selection_made, quantified_made, call_made}
+use Rattle.setl_gen.proofs.ExprKinds.{choose_is, former_is, selection_is, quantified_is, got, of_kind}
+use Rattle.setl_gen.proofs.Constructs.{apply_made, choose_made, former_made, selection_made, quantified_made, call_made}
+use Rattle.setl_gen.proofs.Links.{unary_is, binary_is, connect_is, as_link, binary_made, ternary_made, connected, chain_round, links_made, chain_made}
 use Rattle.setl_gen.proofs.exprs.+expr.Goals as goal
 
 pub exprs-loop-e-preserved : goal.exprs-loop-e-preserved
@@ -55,23 +58,52 @@ pub tested-returns : goal.tested-returns
 tested-returns t c =
     then_made (code.expr c.args.line (plain_expr c.args.c.now)) (one c.args.line (Unless c.args.back)) (held c.args.to.now) (held c.expr.new.to) (held c.put.new.self) c.in_ok-expr.ensures c.in_ok-put.ensures
 
-pub expr-returns-in_ok-decide_here-in-Connect : goal.expr-returns-in_ok-decide_here-in-Connect
-expr-returns-in_ok-decide_here-in-Connect t c =
-    let line = c.args.line in
+pub links-loop-l-preserved : goal.links-loop-l-preserved
+links-loop-l-preserved t c = λ u g.
+    c.loop-l.invariant u
+    (chain_round c.args.line c.args.ls.now c.loop-l.l-index c.l-item.result (held c.loop-l.to) (held c.link.new.to) c.loop-l-test.true c.l-item.is c.in_ok-link.ensures u g)
+
+pub links-returns : goal.links-returns
+links-returns t c = links_made c.args.line c.args.ls.now c.loop-l.l-index (held c.args.to.now) (held c.loop-l.to) c.loop-l-test.false c.loop-l.invariant
+
+pub expr-returns-in_ok-links-in-Chain : goal.expr-returns-in_ok-links-in-Chain
+expr-returns-in_ok-links-in-Chain t c =
+    chain_made c.args.line c.args.e.now c.in-Chain.first c.get.result.now c.in-Chain.ls c.as_slice-in-Chain.result.now (held c.args.to.now) (held c.expr.new.to) (held c.links.new.to)
+    c.in-Chain.is c.get.ensures c.as_slice-in-Chain.ensures c.in_ok-expr-in-Chain.ensures c.in_ok-links-in-Chain.ensures
+
+pub link-returns-in-Unary : goal.link-returns-in-Unary
+link-returns-in-Unary t c =
+    as_link c.args.line c.args.l.now (alone c.in-Unary.o) (held c.args.to.now) (held c.unary.new.to) (unary_is c.args.l.now c.in-Unary.o c.in-Unary.is) c.unary.result c.unary.ensures
+
+pub link-returns-in-Binary : goal.link-returns-in-Binary
+link-returns-in-Binary t c =
+    let o = c.in-Binary.o in
+    let y = c.get.result.now in
+    as_link c.args.line c.args.l.now (λ e. two o e (plain_expr y)) (held c.args.to.now) (held c.binary.new.to)
+    (binary_is c.args.l.now o c.in-Binary.x y c.in-Binary.is c.get.ensures) c.binary.result c.binary.ensures
+
+pub link-returns-in_ok-put-in-Ternary : goal.link-returns-in_ok-put-in-Ternary
+link-returns-in_ok-put-in-Ternary t c =
+    ternary_made c.args.line c.args.l.now c.in-Ternary.o c.in-Ternary.x c.in-Ternary.y c.get-in-Ternary.result.now c.get-in-Ternary-2.result.now (held c.args.to.now) (held c.expr.new.to) (held c.expr-in-Ternary.new.to) (held c.put.new.self)
+    c.in-Ternary.is c.get-in-Ternary.ensures c.get-in-Ternary-2.ensures c.in_ok-expr-in-Ternary.ensures c.in_ok-expr-in-Ternary-2.ensures c.in_ok-put-in-Ternary.ensures
+
+pub link-returns-in-Connect : goal.link-returns-in-Connect
+link-returns-in-Connect t c =
     let k = c.in-Connect.k in
-    let a = c.in-Connect.a in
-    let b = c.in-Connect.b in
+    let y = c.get-in-Connect.result.now in
+    as_link c.args.line c.args.l.now (λ e. Connect k e (plain_expr y)) (held c.args.to.now) (held c.connect.new.to)
+    (connect_is c.args.l.now k c.in-Connect.x y c.in-Connect.is c.get-in-Connect.ensures) c.connect.result c.connect.ensures
+
+pub binary-returns : goal.binary-returns
+binary-returns t c =
+    binary_made c.args.line c.args.o (plain_expr c.args.x.now) (held c.args.to.now) (held c.expr.new.to) (held c.put.new.self) c.in_ok-expr.ensures c.in_ok-put.ensures
+
+pub connect-returns : goal.connect-returns
+connect-returns t c =
     let s = held c.args.to.now in
-    let s1 = held c.expr.new.to in
-    let s2 = held c.step.new.self in
-    let s3 = held c.expr-in-Connect.new.to in
-    let s4 = held c.put-in-Connect.new.self in
-    let u = held c.decide_here.new.self in
-    let e1 = got line c.get.result.now a s s1 c.in_ok-expr-in-Connect.ensures c.get.ensures in
-    let e3 = got line c.get-in-Connect.result.now b s2 s3 c.in_ok-expr-in-Connect-2.ensures c.get-in-Connect.ensures in
-    of_kind line c.args.e.now (plain.Connect k (plain_expr a) (plain_expr b)) s u (connect_is c.args.e.now k a b c.in-Connect.is)
-    (connect_made line k (plain_expr a) (plain_expr b) c.in_ok-test-in-Connect.test (here s4) s s1 s2 s3 s4 u
-    e1 c.in_ok-test-in-Connect.ensures.place c.in_ok-test-in-Connect.ensures.code e3 c.in_ok-put-in-Connect.ensures refl c.in_ok-decide_here-in-Connect.ensures)
+    let s3 = held c.put.new.self in
+    connected c.args.line c.args.k (plain_expr c.args.x.now) c.in_ok-test.test (here s3) s (held c.step.new.self) (held c.expr.new.to) s3 (held c.decide_here.new.self)
+    c.in_ok-test.ensures.place c.in_ok-test.ensures.code c.in_ok-expr.ensures c.in_ok-put.ensures refl c.in_ok-decide_here.ensures
 
 pub expr-returns-in_ok-jump_here-in-Choose : goal.expr-returns-in_ok-jump_here-in-Choose
 expr-returns-in_ok-jump_here-in-Choose t c =
@@ -81,9 +113,9 @@ expr-returns-in_ok-jump_here-in-Choose t c =
     let b = c.in-Choose.b in
     let s = held c.args.to.now in
     let s1 = held c.expr-in-Choose.new.to in
-    let s2 = held c.step-in-Choose.new.self in
+    let s2 = held c.step.new.self in
     let s3 = held c.expr-in-Choose-2.new.to in
-    let s4 = held c.step-in-Choose-2.new.self in
+    let s4 = held c.step-in-Choose.new.self in
     let s5 = held c.unless_here.new.self in
     let s6 = held c.expr-in-Choose-3.new.to in
     let u = held c.jump_here.new.self in

@@ -3,6 +3,7 @@ use Rattle.setl_names.specs.Names.{with_names}
 use Rattle.setl_program.specs.Expressions as spec
 use Rattle.setl_program.specs.Expressions.{part_of, behind_of, turn_of}
 use Rattle.setl_program.specs.Plain.{plain_expr, plain_iterator, plain_argument}
+use Rattle.setl_elaborate.specs.Chains.{plain_chain}
 use Rattle.setl_elaborate.specs.Elaborators.{made, past}
 use Rattle.setl_elaborate.proofs.elaborator.Elaborator.+expressions.Given as goal
 
@@ -14,14 +15,14 @@ invariant-exprs-loop-x l = record {
 
 abbrev pub invariant-chain_on-loop-op : goal.invariant-chain_on-loop-op
 invariant-chain_on-loop-op l = record {
-  value : made (spec.chain_on (plain_expr l.all) (map (λ x. (x.0, part_of x.1)) (drop l.op-index l.others))) l.self ≡ made (spec.chain_on (plain_expr l.initial.all) (map (λ x. (x.0, part_of x.1)) l.others)) l.initial.self;
-  state : past (spec.chain_on (plain_expr l.all) (map (λ x. (x.0, part_of x.1)) (drop l.op-index l.others))) l.self ≡ past (spec.chain_on (plain_expr l.initial.all) (map (λ x. (x.0, part_of x.1)) l.others)) l.initial.self;
+  value : made (spec.chain_on (plain_chain l.all) (map (λ x. (x.0, part_of x.1)) (drop l.op-index l.others))) l.self ≡ made (spec.chain_on (plain_chain l.initial.all) (map (λ x. (x.0, part_of x.1)) l.others)) l.initial.self;
+  state : past (spec.chain_on (plain_chain l.all) (map (λ x. (x.0, part_of x.1)) (drop l.op-index l.others))) l.self ≡ past (spec.chain_on (plain_chain l.initial.all) (map (λ x. (x.0, part_of x.1)) l.others)) l.initial.self;
 }
 
 abbrev pub invariant-selected-loop-selector : goal.invariant-selected-loop-selector
 invariant-selected-loop-selector l = record {
-  value : made (spec.selected (plain_expr l.all) (map behind_of (drop l.selector-index l.selectors))) l.self ≡ made (spec.selected (plain_expr l.initial.all) (map behind_of l.selectors)) l.initial.self;
-  state : past (spec.selected (plain_expr l.all) (map behind_of (drop l.selector-index l.selectors))) l.self ≡ past (spec.selected (plain_expr l.initial.all) (map behind_of l.selectors)) l.initial.self;
+  value : made (spec.selected (plain_chain l.all) (map behind_of (drop l.selector-index l.selectors))) l.self ≡ made (spec.selected (plain_chain l.initial.all) (map behind_of l.selectors)) l.initial.self;
+  state : past (spec.selected (plain_chain l.all) (map behind_of (drop l.selector-index l.selectors))) l.self ≡ past (spec.selected (plain_chain l.initial.all) (map behind_of l.selectors)) l.initial.self;
 }
 
 abbrev pub invariant-iterators-loop-turn : goal.invariant-iterators-loop-turn

@@ -1,0 +1,4 @@
+pub mod NameLists
+pub mod Appends
+pub mod Among
+pub mod Elements

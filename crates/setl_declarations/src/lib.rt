@@ -1,0 +1,17 @@
+//! The declarations of a `repr` section, and the rules that they keep.
+//!
+//! `modes` tests the rules 19 to 28 of a program on its syntax tree, and gives its bases and declared variables with their
+//! modes.
+#![tactic(auto)]
+
+mod bases;
+mod copies;
+mod listed;
+mod names;
+mod parts;
+mod program;
+mod rules;
+mod table;
+mod taken;
+
+pub use program::modes;

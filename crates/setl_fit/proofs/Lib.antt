@@ -1,0 +1,5 @@
+mod PairFacts
+mod Components
+mod Images
+mod Decided
+mod ModeCodes

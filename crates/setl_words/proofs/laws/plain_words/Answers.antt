@@ -1,0 +1,24 @@
+use Rattle.std.proofs.Common.{◌≡◌, [], ◌∷◌, ◌++◌, codes, refl, arith}
+use Rattle.std.specs.Fmt.{digits}
+use Rattle.std.specs.List.{flat_map}
+use Rattle.setl_words.specs.Words.{IsFile, Unbased, Turns, option_words}
+use Rattle.setl_words.proofs.laws.plain_words.Goals as goal
+
+is_file : IsFile (codes "q")
+is_file e = absurd (omega (arith, e))
+
+both : codes "run" ∷ codes "--turns" ∷ codes "50" ∷ codes "--unbased" ∷ codes "q" ∷ [] ≡ codes "run" ∷ flat_map option_words (Turns 50 ∷ Unbased ∷ []) ++ codes "q" ∷ []
+unfolding digits
+both = refl
+
+swapped : codes "run" ∷ codes "--unbased" ∷ codes "--turns" ∷ codes "0" ∷ codes "q" ∷ [] ≡ codes "run" ∷ flat_map option_words (Unbased ∷ Turns 0 ∷ []) ++ codes "q" ∷ []
+unfolding digits
+swapped = refl
+
+pub returns : goal.returns
+returns c = record {
+  run = record { given = []; spelled = refl; valid = tt; file = is_file; means = refl };
+  both = record { given = Turns 50 ∷ Unbased ∷ []; spelled = both; valid = (omega arith, (λ x. x, tt), (tt, tt, tt)); file = is_file; means = refl };
+  swapped = record { given = Unbased ∷ Turns 0 ∷ []; spelled = swapped; valid = (tt, (λ x. x, tt), (omega arith, tt, tt)); file = is_file; means = refl };
+  check = (refl, is_file);
+}

@@ -1,0 +1,13 @@
+-- The commands and options that those of the code stand for.
+use Rattle.setl_words.specs.Words as words
+use Rattle.setl_words.specs.declared.reading.Options.{Options}
+use Rattle.setl_words.specs.declared.reading.Command.{Command}
+use Rattle.setl_words.specs.declared.reading.Command.TheVariants as asked
+
+abbrev pub options_now : Options → words.Options
+options_now options = record { turns = options.turns; based = options.based }
+
+abbrev pub command_of : Command → words.Command
+command_of (asked.Run options name) = words.Run (options_now options) name.now
+command_of (asked.Check name) = words.Check name.now
+command_of (asked.Code name) = words.Code name.now

@@ -1,0 +1,27 @@
+-- The command line as `clap` is told of it: what it reads of the commands, their options and the file.
+use Rattle.std.specs.Prelude.{◌-◌, ◌^◌, ℕ, List, pos, true, Some, codes}
+use Rattle.clap.specs.Words.{App, Rule, new_app, new_rule, with_rule, with_subcommand}
+use Rattle.clap.specs.declared.builder.ArgAction.TheVariants.{SetTrue}
+use Rattle.clap.specs.declared.builder.value_parser.ValueParser.TheVariants.{Signed}
+
+abbrev pub unbased_rule : Rule
+unbased_rule = record (new_rule (codes "unbased")) { long = Some (codes "unbased"); action = Some SetTrue }
+
+abbrev pub turns_rule : Rule
+turns_rule = record (new_rule (codes "turns")) { long = Some (codes "turns"); value_names = 1; parser = Some (Signed (pos 0) (pos (2 ^ 63 - 1))) }
+
+abbrev pub file_rule : Rule
+file_rule = record (new_rule (codes "file")) { value_names = 1; required = true }
+
+abbrev pub run_app : App
+run_app = with_rule (with_rule (with_rule (new_app (codes "run")) unbased_rule) turns_rule) file_rule
+
+abbrev pub file_app : List ℕ → App
+file_app name = with_rule (new_app name) file_rule
+
+-- the program before its commands, which is told only the words after its own name
+abbrev pub empty_app : App
+empty_app = let a = new_app (codes "setl") in record a { top = record a.top { no_binary_name = true; subcommand_required = true } }
+
+abbrev pub setl_app : App
+setl_app = with_subcommand (with_subcommand (with_subcommand empty_app run_app.top) (file_app (codes "check")).top) (file_app (codes "code")).top

@@ -1,0 +1,27 @@
+//! What follows from the definitions alone. The functions have no effect: each states a law.
+ghost use Rattle.std.specs.Prelude.{◌∷◌, ◌-◌, ◌^◌, [], codes, true, false};
+ghost use Rattle.setl_words.specs.Words.{OneCommand, Run, Check, Spells, IsFaulty};
+
+/// Words spell at most one command.
+pub fn one_command()
+    ensures { OneCommand }
+{}
+
+/// Words of the plain form, and what they spell.
+pub fn plain_words()
+    ensures run { Spells (codes "run" ∷ codes "q" ∷ []) (Run (record { turns = 2 ^ 63 - 1; based = true }) (codes "q")) }
+    ensures both { Spells (codes "run" ∷ codes "--turns" ∷ codes "50" ∷ codes "--unbased" ∷ codes "q" ∷ []) (Run (record { turns = 50; based = false }) (codes "q")) }
+    ensures swapped { Spells (codes "run" ∷ codes "--unbased" ∷ codes "--turns" ∷ codes "0" ∷ codes "q" ∷ []) (Run (record { turns = 0; based = false }) (codes "q")) }
+    ensures check { Spells (codes "check" ∷ codes "q" ∷ []) (Check (codes "q")) }
+{}
+
+/// Words of no plain form.
+pub fn faulty_words()
+    ensures nothing { IsFaulty [] }
+    ensures no_file { IsFaulty (codes "run" ∷ []) }
+    ensures dash { IsFaulty (codes "run" ∷ codes "q" ∷ codes "--unbased" ∷ []) }
+    ensures again { IsFaulty (codes "run" ∷ codes "--unbased" ∷ codes "--unbased" ∷ codes "q" ∷ []) }
+    ensures no_value { IsFaulty (codes "run" ∷ codes "--turns" ∷ codes "q" ∷ []) }
+    ensures leading_zero { IsFaulty (codes "run" ∷ codes "--turns" ∷ codes "07" ∷ codes "q" ∷ []) }
+    ensures too_great { IsFaulty (codes "run" ∷ codes "--turns" ∷ codes "9223372036854775808" ∷ codes "q" ∷ []) }
+{}

@@ -1,0 +1,46 @@
+//! Tests of single words.
+ghost use Rattle.std.specs.Prelude.{◌≡◌, ◌↔◌, codes, IsTrue};
+ghost use Rattle.setl_words.specs.Words.{IsFile};
+
+/// Whether a word is that of a run.
+pub(crate) fn is_run(word: &str) -> bool
+    ensures { IsTrue result ↔ (word.now ≡ codes "run") }
+{
+    word == "run"
+}
+
+/// Whether a word is that of a check.
+pub(crate) fn is_check(word: &str) -> bool
+    ensures { IsTrue result ↔ (word.now ≡ codes "check") }
+{
+    word == "check"
+}
+
+/// Whether a word is that of a listing.
+pub(crate) fn is_code(word: &str) -> bool
+    ensures { IsTrue result ↔ (word.now ≡ codes "code") }
+{
+    word == "code"
+}
+
+/// Whether a word is the option that takes the declarations' effect away.
+pub(crate) fn is_unbased(word: &str) -> bool
+    ensures { IsTrue result ↔ (word.now ≡ codes "--unbased") }
+{
+    word == "--unbased"
+}
+
+/// Whether a word is the option whose value bounds the turns.
+pub(crate) fn is_turns(word: &str) -> bool
+    ensures { IsTrue result ↔ (word.now ≡ codes "--turns") }
+{
+    word == "--turns"
+}
+
+/// Whether a file may have that name in the words.
+pub(crate) fn is_file(word: &str) -> bool
+    ensures { IsTrue result ↔ IsFile word.now }
+{
+    let bytes = word.as_bytes();
+    !bytes.is_empty() && bytes[0] != b'-'
+}
