@@ -38,7 +38,7 @@ impl<'p> Model for Declarations<'p> {
     ghost use Rattle.std.specs.Coded.{codes};
     ghost use Rattle.setl_modes.specs.contracts.mode.Mode as mode;
     ghost use Rattle.setl_modes.specs.Modes.{Mode as PlainMode};
-ghost use Rattle.setl_program.specs.Plain.{plain_declared};
+    ghost use Rattle.setl_program.specs.Plain.{plain_declared};
     ghost use Rattle.setl_machine.specs.Declaring.{DeclarationTable};
     ghost use Rattle.setl_machine.specs.Tables.{KnowsSlots};
 
