@@ -5,6 +5,7 @@ pub mod OneReason
 pub mod Exclude
 pub mod Breaking
 pub mod Asked
+pub mod Declaring
 pub mod Accepting
 pub mod Reaching
 pub mod Running

@@ -210,6 +210,10 @@ not_begun p asked s same = inr (record {
   gained = subst (λ o. Appends s.old o []) (sym same) (appends_none s.old);
 })
 
+-- the same declarations
+pub runs_by : {F : Type 0} (c : Code) (modes others : Modes) (turns : ℕ) (s : Streams) (r : Result End F) → modes ≡ others → IfOk r (RunsCode c modes turns s) → IfOk r (RunsCode c others turns s)
+runs_by c modes others turns s r is h = subst (λ ms. IfOk r (RunsCode c ms turns s)) is h
+
 -- ---- where memory may have been refused first
 
 module _ (laws : CodeLaws) (p : Program) (formed : Formed p) (asked : Options) (s : Streams) {F : Type 0} where

@@ -2,6 +2,8 @@
 use Rattle.std.specs.Prelude.{◌≡◌, ◌≤◌, ◌^◌, ℕ, List, length, [], ◌∷◌, ◌++◌, Option, codes}
 use Rattle.setl_io.specs.Faults.{Rose}
 use Rattle.setl_io.specs.Files.{Texts, IsText}
+use Rattle.setl_program.specs.Program.{Program}
+use Rattle.setl_program.specs.ProgramOf.{program_of}
 use Rattle.setl_tree.specs.declared.tree.Tree.{Tree}
 use Rattle.setl_top.specs.Accepted.{IsProgram, IsRefusedFor}
 use Rattle.setl_top.specs.Lines.{AppendsFront}
@@ -35,6 +37,12 @@ pub record Loaded (texts : Texts) (name : List ℕ) (tree : Tree) : Type 0 where
   pub source : List ℕ
   pub text : IsText texts name source
   pub is_program : IsProgram source tree
+
+-- the file that was loaded means this program
+pub record LoadedAs (texts : Texts) (name : List ℕ) (program : Program) : Type 0 where
+  pub tree : Tree
+  pub loaded : Loaded texts name tree
+  pub meaning : program ≡ program_of tree
 
 -- what is seen of the files and of the error output before and after
 pub record Sides : Type 0 where

@@ -1,5 +1,5 @@
 -- The rules that a program keeps, and the answer of a test of them.
-use Rattle.std.specs.Prelude.{◌≡◌, List, ◌++◌, map, Some, None, Result, Ok, Err}
+use Rattle.std.specs.Prelude.{◌≡◌, List, ◌++◌, map, Option, Some, None, Result, Ok, Err}
 use Rattle.setl_tree.specs.declared.tree.Tree.{Tree}
 use Rattle.setl_modes.specs.Declarations.{variables_of}
 use Rattle.setl_modes.specs.Modes.{mode_of}
@@ -14,6 +14,11 @@ use Rattle.setl_declarations.specs.Declares as declarations
 -- all breaks: of the rules of names, and of those of declarations
 abbrev pub all_breaks : Tree → List Break
 all_breaks t = names.breaks t ++ declarations.breaks t
+
+-- the earlier of two breaks that may not be there
+abbrev pub earlier_of : Option Break → Option Break → Option Break
+earlier_of first None = first
+earlier_of first (Some b) = names.earlier first b
 
 -- the modes of the declared variables of a tree, in the order of their declarations
 abbrev pub AreModes : Tree → List NamedMode → Type 0

@@ -1,11 +1,12 @@
 //! Sources read as programs: tokens, then a tree, then the rules.
-ghost use Rattle.std.specs.Prelude.{◌≡◌, ◌≤◌, ◌^◌, length, Some, IfOk, IfErr};
+ghost use Rattle.std.specs.Prelude.{◌≡◌, ◌≤◌, ◌^◌, length, None, IfOk, IfErr};
 ghost use Rattle.setl_names.specs.Breaks.{first_break};
 ghost use Rattle.setl_names.specs.Breaks as names;
+ghost use Rattle.setl_declarations.specs.Declares as declarations;
 ghost use Rattle.setl_token.specs.Lex.{Spelled};
 ghost use Rattle.setl_top.specs.Accepted.{IsParsed};
 ghost use Rattle.setl_top.specs.Loads.{IsChecked, TellsWhy};
-ghost use Rattle.setl_top.specs.Rules.{KeepsRules};
+ghost use Rattle.setl_top.specs.Rules.{AreModes, KeepsRules, earlier_of};
 
 use crate::reason::Reason;
 use setl_declarations::modes;
@@ -76,31 +77,48 @@ fn first_of_names(alloc: Global, tree: &Tree) -> Result<Option<Break>, Memory>
     }
 }
 
+/// The first break of the rules of declarations, if there is one, and otherwise the declared variables of a program with
+/// their modes. The error is want of memory.
+fn first_of_declarations(
+    alloc: Global,
+    tree: &Tree,
+) -> Result<(Option<Break>, Items<NamedMode>), Memory>
+    ensures first { IfOk result (λ found. found.0 ≡ first_break (declarations.breaks tree.now)) }
+    ensures modes { IfOk result (λ found. found.0 ≡ None → AreModes tree.now found.1) }
+{
+    match modes(alloc, tree) {
+        Ok(table) => Ok((None, table.vars)),
+        Err(RuleFault::Broken { rule, line }) => {
+            Ok((Some(Break { line, rule }), Items::new(alloc)))
+        }
+        Err(RuleFault::NoMemory) => Err(Memory),
+    }
+}
+
+/// The earlier of two breaks that may not be there.
+fn earlier_of(first: Option<Break>, second: Option<Break>) -> Option<Break>
+    ensures { result ≡ earlier_of first second }
+{
+    match second {
+        None => first,
+        Some(found) => noted(first, found.line, found.rule),
+    }
+}
+
 /// The declared variables of a program that keeps the rules, with their modes. A break is the first by line, and then by
 /// rule, of the rules of names and of those of declarations.
 fn sound(alloc: Global, tree: &Tree) -> Result<Items<NamedMode>, RuleFault>
     ensures { KeepsRules tree.now result }
 {
     let first = first_of_names(alloc, tree)?;
-    let first = match modes(alloc, tree) {
-        Ok(table) => match first {
-            None => return Ok(table.vars),
-            Some(first) => first,
-        },
-        Err(RuleFault::Broken { rule, line }) => earlier(first, Break { line, rule }),
-        Err(RuleFault::NoMemory) => return Err(RuleFault::NoMemory),
-    };
-    Err(RuleFault::Broken {
-        rule: first.rule,
-        line: first.line,
-    })
-}
-
-/// The earlier of two breaks, of which the first may not be there.
-fn earlier(first: Option<Break>, found: Break) -> Break
-    ensures { Some result ≡ names.earlier first found }
-{
-    noted(first, found.line, found.rule).unwrap_or(found)
+    let (second, modes) = first_of_declarations(alloc, tree)?;
+    match earlier_of(first, second) {
+        None => Ok(modes),
+        Some(found) => Err(RuleFault::Broken {
+            rule: found.rule,
+            line: found.line,
+        }),
+    }
 }
 
 /// The program of a source. A refusal is the first by length, tokens, syntax and nesting, and rules.

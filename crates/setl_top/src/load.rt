@@ -1,14 +1,17 @@
 //! Sources that are loaded and read.
 ghost use Rattle.std.specs.Prelude.{IfOk, IfErr, OnOk};
-ghost use Rattle.setl_top.specs.Loads.{HasText, Loaded, NotLoaded, Checks, IsStill, sides};
+ghost use Rattle.setl_top.specs.Loads.{HasText, Loaded, LoadedAs, NotLoaded, Checks, IsStill, sides};
 ghost use Rattle.setl_top.specs.Rules.{AreModes};
+ghost use Rattle.setl_program.specs.Plain.{plain_program};
 
 use crate::Status;
+use crate::coding::program_of_source;
 use crate::front::{Checked, Unread, read_program};
 use crate::lines::try_line;
 use crate::reason::Reason;
 use crate::tell::refuse;
 use setl_io::{Files, Load, Sink};
+use setl_program::Program;
 use std::alloc::Global;
 
 /// The greatest length of a source.
@@ -60,6 +63,30 @@ pub fn load_program<F: Files, E: Sink>(
         Ok(checked) => Ok(checked),
         Err(Unread::Refused(reason)) => Err(refuse(alloc, err, reason)),
         Err(Unread::NoMemory) => {
+            try_line(err, b"no memory\n");
+            Err(Status::NoMemory)
+        }
+    }
+}
+
+/// Loads the program of a file, with each name in it resolved. At `Err` the last line was told.
+pub fn load_resolved<F: Files, E: Sink>(
+    alloc: Global,
+    name: &str,
+    files: &mut F,
+    err: &mut E,
+) -> Result<Program, Status>
+    ensures loaded { IfOk result (λ program. LoadedAs (F.texts files.old) name.now (plain_program program)) }
+    ensures still { OnOk result (IsStill (sides (F.faults files.old) (F.faults files.new) (E.held err.old) (E.held err.new) (E.faults err.old) (E.faults err.new))) }
+    ensures not_loaded { IfErr result (NotLoaded (F.texts files.old) name.now (sides (F.faults files.old) (F.faults files.new) (E.held err.old) (E.held err.new) (E.faults err.old) (E.faults err.new))) }
+{
+    let source = match load_program(alloc, name, files, err) {
+        Ok(source) => source,
+        Err(status) => return Err(status),
+    };
+    match program_of_source(alloc, source) {
+        Ok(program) => Ok(program),
+        Err(_) => {
             try_line(err, b"no memory\n");
             Err(Status::NoMemory)
         }

@@ -5,9 +5,8 @@ ghost use Rattle.setl_words.specs.Commands.{options_now};
 ghost use Rattle.setl_words.specs.Words.{Run, Spells};
 
 use crate::Status;
-use crate::coding::program_of_source;
 use crate::listing::list_file;
-use crate::load::{check_file, load_program};
+use crate::load::{check_file, load_resolved};
 use crate::run::{counted, run_program};
 use crate::tell::{tell_end, tell_faulty};
 use setl_io::{Files, Sink, Source};
@@ -69,12 +68,9 @@ fn run_file<F: Files, I: Source, O: Sink, E: Sink>(
     ensures input { let seen = moment F.texts F.faults I.left I.faults O.held O.faults E.held E.faults in
         (words : List (List ℕ)) → Spells words (Run (options_now asked) name.now) → InputLeft words (seen files.old input.old out.old err.old) (seen files.new input.new out.new err.new) }
 {
-    let source = match load_program(alloc, name, files, err) {
-        Ok(source) => source,
+    let program = match load_resolved(alloc, name, files, err) {
+        Ok(program) => program,
         Err(status) => return status,
-    };
-    let Ok(program) = program_of_source(alloc, source) else {
-        return tell_end(alloc, err, &[], End::NoMemory);
     };
     let end = run_program(alloc, &program, asked, input, out).unwrap_or(End::NoMemory);
     tell_end(alloc, err, counted(asked, &program), end)

@@ -1,20 +1,38 @@
+use Rattle.std.proofs.Common.{map, subst, sym}
 use Rattle.setl_code.specs.Plain.{plain_code}
-use Rattle.setl_program.specs.ProgramOf.{program_of}
-use Rattle.setl_top.proofs.Accepting.{undeclared}
+use Rattle.setl_machine.specs.Declaring.{AreOfMain}
+use Rattle.setl_program.specs.Formed.{Formed}
+use Rattle.setl_program.specs.Placed.{Placed}
+use Rattle.setl_program.specs.Plain.{plain_program}
+use Rattle.setl_words.specs.Commands.{options_now}
+use Rattle.setl_top.proofs.Declaring.{counted_of_main, code_is_bare}
 use Rattle.setl_top.proofs.Reaching.{CodeLaws}
-use Rattle.setl_top.proofs.Running.{all_runs, all_takes}
+use Rattle.setl_top.proofs.Running.{all_runs, all_takes, runs_by}
 use Rattle.setl_top.proofs.run.run_program.Goals as goal
 
 pub run_code-requires : goal.run_code-requires
 run_code-requires g c =
-    c.code_may_run.ensures.may_run (program_of c.args.tree.now) c.in_ok-code.code (c.accepted_is_formed.ensures.placed c.args.tree.now c.requires.accepted) c.in_ok-code.ensures
+    let p = plain_program c.args.program.now in
+    let m = c.requires.meant in
+    record {
+      may_run = c.code_may_run.ensures.may_run p c.in_ok-code.code (subst Placed (sym m.meaning) (c.accepted_is_formed.ensures.placed m.tree m.accepted)) c.in_ok-code.ensures;
+      bare = code_is_bare (plain_code c.in_ok-code.code) p c.in_ok-code.ensures;
+      main = subst AreOfMain (sym c.counted.ensures) (counted_of_main (options_now c.args.asked) p m);
+      turns = c.requires.turns;
+    }
 
 pub returns-clause-ran : goal.returns-clause-ran
 returns-clause-ran g c =
-    let laws : CodeLaws = record { means = c.code_means_what_the_program_means.ensures.means; last = c.code_ends_in_the_same_state.ensures.last; reached = c.code_reaches_the_same_states.ensures.reached; reads = c.code_reaches_the_same_states.ensures.reads; prints = c.code_reaches_the_same_states.ensures.prints; not_stuck = c.every_run_ends.ensures.not_stuck } in
-    all_runs laws (program_of c.args.tree.now) (c.accepted_is_formed.ensures.formed c.args.tree.now c.requires.accepted) (undeclared c.args.tree.now c.requires.no_modes) _ (plain_code c.in_ok-code.code) c.in_ok-code.ensures c.run_code.result c.run_code.ensures.ran
+    let laws : CodeLaws = record { means = c.code_means_what_the_program_means.ensures.means; last = c.code_ends_in_the_same_state.ensures.last; reached = c.code_reaches_the_same_states.ensures.reached; reads = c.code_reaches_the_same_states.ensures.reads; prints = c.code_reaches_the_same_states.ensures.prints; not_stuck = c.every_run_ends.ensures.not_stuck; silent = c.ends_write_nothing.ensures } in
+    let p = plain_program c.args.program.now in
+    let m = c.requires.meant in
+    let formed = subst Formed (sym m.meaning) (c.accepted_is_formed.ensures.formed m.tree m.accepted) in
+    all_runs laws p formed (options_now c.args.asked) _ (plain_code c.in_ok-code.code) c.in_ok-code.ensures c.run_code.result (runs_by _ _ _ _ _ c.run_code.result c.counted.ensures c.run_code.ensures.ran)
 
 pub returns-clause-input : goal.returns-clause-input
 returns-clause-input g c =
-    let laws : CodeLaws = record { means = c.code_means_what_the_program_means.ensures.means; last = c.code_ends_in_the_same_state.ensures.last; reached = c.code_reaches_the_same_states.ensures.reached; reads = c.code_reaches_the_same_states.ensures.reads; prints = c.code_reaches_the_same_states.ensures.prints; not_stuck = c.every_run_ends.ensures.not_stuck } in
-    all_takes laws (program_of c.args.tree.now) (c.accepted_is_formed.ensures.formed c.args.tree.now c.requires.accepted) (undeclared c.args.tree.now c.requires.no_modes) _ (plain_code c.in_ok-code.code) c.in_ok-code.ensures c.run_code.result c.run_code.ensures.ran c.run_code.ensures.input
+    let laws : CodeLaws = record { means = c.code_means_what_the_program_means.ensures.means; last = c.code_ends_in_the_same_state.ensures.last; reached = c.code_reaches_the_same_states.ensures.reached; reads = c.code_reaches_the_same_states.ensures.reads; prints = c.code_reaches_the_same_states.ensures.prints; not_stuck = c.every_run_ends.ensures.not_stuck; silent = c.ends_write_nothing.ensures } in
+    let p = plain_program c.args.program.now in
+    let m = c.requires.meant in
+    let formed = subst Formed (sym m.meaning) (c.accepted_is_formed.ensures.formed m.tree m.accepted) in
+    all_takes laws p formed (options_now c.args.asked) _ (plain_code c.in_ok-code.code) c.in_ok-code.ensures c.run_code.result (runs_by _ _ _ _ _ c.run_code.result c.counted.ensures c.run_code.ensures.ran) c.run_code.ensures.input

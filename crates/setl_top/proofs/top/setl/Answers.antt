@@ -1,10 +1,17 @@
-use Rattle.std.proofs.Common.{refl}
+use Rattle.std.proofs.Common.{arith, refl}
 use Rattle.setl_top.specs.Headline.{untouched}
 use Rattle.setl_top.proofs.Ends.{faulty_ends, check_ends, list_ends, rest_same}
+use Rattle.setl_top.proofs.Asked.{turns_asked}
+use Rattle.setl_top.proofs.Fronts.{appends_none}
 use Rattle.setl_top.proofs.top.setl.Goals as goal
 
+pub run_file-requires : goal.run_file-requires
+run_file-requires g c = turns_asked _ _ _ (rw c.in-Some-Run.field-0-is at c.in-Some-Run.ensures.plain)
+
 pub returns-in-None-clause-headline : goal.returns-in-None-clause-headline
-returns-in-None-clause-headline g c = faulty_ends _ _ c.in-None.ensures.faulty
+returns-in-None-clause-headline g c =
+    let told = c.tell_faulty.ensures.told in
+    faulty_ends _ _ _ told.0 c.in-None.ensures.faulty told.1 (appends_none _) refl (omega arith) (omega arith) (omega arith) _ told.2
 
 pub returns-in-Some-Run-clause-headline : goal.returns-in-Some-Run-clause-headline
 returns-in-Some-Run-clause-headline g c = c.run_file.ensures.headline _ (rw c.in-Some-Run.field-0-is at c.in-Some-Run.ensures.plain)
