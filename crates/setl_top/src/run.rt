@@ -74,5 +74,12 @@ pub fn run_program<I: Source, O: Sink>(
     setl_simulation::every_run_ends();
     setl_machine::ends_write_nothing();
     let code = emit(alloc, program)?;
-    run_code(alloc, &code, counted(asked, program), asked.turns, input, out)
+    run_code(
+        alloc,
+        &code,
+        counted(asked, program),
+        asked.turns,
+        input,
+        out,
+    )
 }

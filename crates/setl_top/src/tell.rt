@@ -54,7 +54,11 @@ pub fn tell_end<E: Sink>(alloc: Global, err: &mut E, declared: &[Declared], end:
 {
     match end {
         End::Done => Status::Done,
-        End::Stopped(kind, line) => tell_made(err, stop_line(alloc, declared, kind, line), Status::Stopped),
+        End::Stopped(kind, line) => tell_made(
+            err,
+            stop_line(alloc, declared, kind, line),
+            Status::Stopped,
+        ),
         End::Spent => tell(err, b"out of turns\n", Status::Spent),
         End::ReadFault => {
             try_line(err, b"read fault\n");

@@ -37,7 +37,8 @@ impl Left {
 
     /// Whether the call answered so, the output gained nothing, and the error output gained some other text.
     pub fn is_told_in_other_words(&self, status: Status) -> bool {
-        let told = !self.err.is_empty() && self.err.as_slice() != b"not of the plain form\n".as_slice();
+        let told = !self.err.is_empty()
+            && self.err.as_slice() != b"not of the plain form\n".as_slice();
         self.status == status && self.out.is_empty() && told
     }
 

@@ -227,19 +227,42 @@ fn stops_unless_unbased(
 #[test]
 fn a_store_stops_at_a_value_that_does_not_fit(rt: HostRuntime) -> Result<(), Fail> {
     for (body, input, out, line, unbased) in MISFITS {
-        assert!(rt; stops_unless_unbased(rt.alloc(), body, input, out, line, unbased)?, "at {body}");
+        assert!(rt;
+            stops_unless_unbased(rt.alloc(), body, input, out, line, unbased)?,
+            "at {body}"
+        );
     }
     Ok(())
 }
 
 /// Words of a run, and how a run of this loop ends that takes a turn for each number, with as many turns.
 const TURNS: [(&str, Status, &str, &str); 6] = [
-    ("run --turns 3 a", Status::Spent, "1\n2\n3\n", "out of turns\n"),
+    (
+        "run --turns 3 a",
+        Status::Spent,
+        "1\n2\n3\n",
+        "out of turns\n",
+    ),
     ("run --turns 5 a", Status::Done, "1\n2\n3\n4\n5\n", ""),
     ("run --turns 0 a", Status::Spent, "", "out of turns\n"),
-    ("run --turns 9223372036854775807 a", Status::Done, "1\n2\n3\n4\n5\n", ""),
-    ("run --unbased --turns 4 a", Status::Spent, "1\n2\n3\n4\n", "out of turns\n"),
-    ("run --turns 4 --unbased a", Status::Spent, "1\n2\n3\n4\n", "out of turns\n"),
+    (
+        "run --turns 9223372036854775807 a",
+        Status::Done,
+        "1\n2\n3\n4\n5\n",
+        "",
+    ),
+    (
+        "run --unbased --turns 4 a",
+        Status::Spent,
+        "1\n2\n3\n4\n",
+        "out of turns\n",
+    ),
+    (
+        "run --turns 4 --unbased a",
+        Status::Spent,
+        "1\n2\n3\n4\n",
+        "out of turns\n",
+    ),
 ];
 
 #[test]

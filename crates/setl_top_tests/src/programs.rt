@@ -9,7 +9,10 @@ const PROGRAMS: [(&str, &str); 12] = [
     ("program p; end program;", ""),
     ("program p; end program p;", ""),
     ("program p; repr end repr; print(1); end;", "1\n"),
-    ("program p; repr base b; end repr; print(1); end program;", "1\n"),
+    (
+        "program p; repr base b; end repr; print(1); end program;",
+        "1\n",
+    ),
     (
         "PROGRAM p; $ a comment\nX := (10); x := x; Print(); print(X, {}); END; ",
         "\n10 {}\n",

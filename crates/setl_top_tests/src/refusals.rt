@@ -279,7 +279,10 @@ fn other_words_are_told_on_the_error_output_alone(rt: HostRuntime) -> Result<(),
     }
     for line in UNPLAIN_WORDS {
         let left = answer(rt.alloc(), line, "program p; end program;")?;
-        assert!(rt; left.is(Status::Words, "", "not of the plain form\n"), "at {line}");
+        assert!(rt;
+            left.is(Status::Words, "", "not of the plain form\n"),
+            "at {line}"
+        );
     }
     assert_eq!(rt; Status::Words.number(), 2);
     Ok(())
