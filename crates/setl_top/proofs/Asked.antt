@@ -1,7 +1,8 @@
--- The bound on turns that words ask for.
-use Rattle.std.proofs.Common.{◌<◌, ◌^◌, ℕ, false, List, [], ◌∷◌, subst, sym, arith}
+-- The bound on turns that words ask for, and the line that is told of others.
+use Rattle.std.proofs.Common.{◌≡◌, ◌<◌, ◌^◌, ℕ, false, List, [], ◌∷◌, ◌++◌, codes, refl, subst, sym, arith}
 use Rattle.std.specs.List.{fold}
 use Rattle.setl_words.specs.Words.{Options, RunOption, Unbased, Turns, AreOptions, with_option, default_options, Run, Spells}
+use Rattle.setl_words.specs.Told.{TellsFaulty}
 
 bounded : (xs : List RunOption) (o : Options) → AreOptions xs → o.turns < 2 ^ 63 → (fold with_option o xs).turns < 2 ^ 63
 bounded [] o v h = h
@@ -11,3 +12,7 @@ bounded (Turns n ∷ xs) o v h = bounded xs (record o { turns = n }) v.2 v.0
 -- it is below 2^63
 pub turns_asked : (words : List (List ℕ)) (o : Options) (name : List ℕ) → Spells words (Run o name) → o.turns < 2 ^ 63
 turns_asked words o name s = subst (λ (x : Options). x.turns < 2 ^ 63) (sym s.means) (bounded s.given default_options s.valid (omega arith))
+
+-- the line serves in any case
+pub line_told : (words : List (List ℕ)) → TellsFaulty words (codes "not of the plain form" ++ 10 ∷ [])
+line_told words = record { taken = λ h. refl; some = λ (e : (codes "not of the plain form" ++ 10 ∷ []) ≡ []). absurd (cc) }

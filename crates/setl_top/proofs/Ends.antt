@@ -108,6 +108,10 @@ pub tells_then : (modes : Modes) (e : End) (old mid new : Option (List ℕ)) (be
 tells_then modes e old mid new before then_ now r held count told =
     subst (λ (n : ℕ). TellsEnd modes e old new n now r) count (subst (λ (o : Option (List ℕ)). TellsEnd modes e o new then_ now r) held told)
 
+-- the same declarations
+pub tells_as : (modes others : Modes) (e : End) (old new : Option (List ℕ)) (before now : ℕ) (r : Status) → modes ≡ others → TellsEnd modes e old new before now r → TellsEnd others e old new before now r
+tells_as modes others e old new before now r is told = subst (λ ms. TellsEnd ms e old new before now r) is told
+
 -- what is seen of the input and of the output
 abbrev pub streams_of : Moment → Moment → Streams
 streams_of before after = streams before.input after.input before.input_faults after.input_faults before.out after.out before.out_faults after.out_faults

@@ -4,6 +4,8 @@ pub mod Ends
 pub mod OneReason
 pub mod Exclude
 pub mod Breaking
+pub mod Parsing
+pub mod Stopping
 pub mod Asked
 pub mod Declaring
 pub mod Accepting

@@ -28,16 +28,17 @@ use Rattle.setl_words.specs.Words.{Options}
 
 module _ (m : Machine CodeCore) (test : Test) where
   -- whether values fit doesn't hang on what was written and told
+  fits_so : (line : ℕ) (x : Store) (b : Bool) (p q : Next CodeCore) (s t d : State CodeCore) (e : End) → (p ≡ Ends e d → (f : State CodeCore) × (q ≡ Ends e f) × (d.out ≡ s.out) × (f.out ≡ t.out)) → if_fits b p (Stopped (Unfit x.0) line) s ≡ Ends e d → (f : State CodeCore) × (if_fits b q (Stopped (Unfit x.0) line) t ≡ Ends e f) × (d.out ≡ s.out) × (f.out ≡ t.out)
+  fits_so line x true p q s t d e later h = later h
+  fits_so line x false p q s t d e later h =
+      let ends : Stopped (Unfit x.0) line ≡ e = cc in
+      let same : s ≡ d = cc in
+      (t, ap (λ f. Ends f t) ends, ap (λ (z : State CodeCore). z.out) (sym same), refl)
+
   fits_alike : (line : ℕ) (xs : List Store) (s t d : State CodeCore) (e : End) → store_all m test line xs s ≡ Ends e d → (f : State CodeCore) × (store_all m test line xs t ≡ Ends e f) × (d.out ≡ s.out) × (f.out ≡ t.out)
   fits_alike line [] s t d e h = absurd (cc)
-  fits_alike line (x ∷ xs) s t d e h = go (test x.0 x.1) h
-    where
-      go : (b : Bool) → if_fits b (store_all m test line xs (stored m line x s)) (Stopped (Unfit x.0) line) s ≡ Ends e d → (f : State CodeCore) × (if_fits b (store_all m test line xs (stored m line x t)) (Stopped (Unfit x.0) line) t ≡ Ends e f) × (d.out ≡ s.out) × (f.out ≡ t.out)
-      go true h = fits_alike line xs (stored m line x s) (stored m line x t) d e h
-      go false h =
-          let ends : Stopped (Unfit x.0) line ≡ e = cc in
-          let same : s ≡ d = cc in
-          (t, ap (λ f. Ends f t) ends, ap (λ (z : State CodeCore). z.out) (sym same), refl)
+  fits_alike line (x ∷ xs) s t d e h =
+      fits_so line x (test x.0 x.1) (store_all m test line xs (stored m line x s)) (store_all m test line xs (stored m line x t)) s t d e (fits_alike line xs (stored m line x s) (stored m line x t) d e) h
 
   module _ (silent : (k : CodeCore) (e : End) (d : State CodeCore) → step m test (start k) ≡ Ends e d → d.out ≡ []) where
     -- a step that ends the run leaves the output as it was
@@ -46,7 +47,7 @@ module _ (m : Machine CodeCore) (test : Test) where
       where
         go : (how : Move CodeCore) → settle m test s how ≡ Ends e d → ((f : End) (z : State CodeCore) → settle m test (start s.core) how ≡ Ends f z → z.out ≡ []) → d.out ≡ s.out
         go (Moves words told to line xs) h mute =
-            let there = record { core = to; out = words; events = told } in
+            let there : State CodeCore = record { core = to; out = words; events = told } in
             let r = fits_alike line xs (record { core = to; out = s.out ++ words; events = s.events ++ told }) there d e h in
             let none : words ≡ [] = sym r.3 ∙ mute e r.0 r.1 in
             r.2 ∙ ap (λ ws. s.out ++ ws) none ∙ append-nil s.out
@@ -60,7 +61,6 @@ module _ (m : Machine CodeCore) (test : Test) where
         go : (y : Next CodeCore) → step m test s ≡ y → and_then y (run m test n) ≡ Ends e t → ((d : State CodeCore) → run m test n d ≡ Ends e t → (k : ℕ) × (f : State CodeCore) × (run m test k d ≡ Goes f) × (f.out ≡ t.out)) → (k : ℕ) × (d : State CodeCore) × (run m test k s ≡ Goes d) × (d.out ≡ t.out)
         go (Goes d) is h ih = let later = ih d h in (suc later.0, later.1, ap (λ z. and_then z (run m test later.0)) is ∙ later.2, later.3)
         go (Ends f d) is h ih =
-            let same : Ends {CodeCore} f d ≡ Ends e t = h in
             let state : d ≡ t = cc in
             (0, s, refl, sym (leaves_output s d f is) ∙ ap (λ (z : State CodeCore). z.out) state)
 

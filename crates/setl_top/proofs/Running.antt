@@ -237,6 +237,13 @@ not_paused p asked s e h is = subst (Runs p asked s) is h
 pub not_at_stuck : (p : Program) (asked : Options) (s : Streams) (e : End) → Runs p asked s e → e ≡ end.Stuck → ⊥
 not_at_stuck p asked s e h is = subst (Runs p asked s) is h
 
+-- the same program
+pub runs_as : (p q : Program) (asked : Options) (s : Streams) (e : End) → p ≡ q → Runs p asked s e → Runs q asked s e
+runs_as p q asked s e is h = subst (λ (r : Program). Runs r asked s e) is h
+
+pub takes_as : (p q : Program) (asked : Options) (s : Streams) → p ≡ q → TakesInput p asked s → TakesInput q asked s
+takes_as p q asked s is h = subst (λ (r : Program). TakesInput r asked s) is h
+
 -- ---- from what the machine tells
 
 module _ (modes : Modes) (turns : ℕ) where

@@ -18,7 +18,8 @@ pub fn program_of_source(alloc: Global, source: Checked) -> Result<Program, Allo
     requires { AreModes source.tree source.modes }
     ensures { IfOk result (λ program. plain_program program ≡ program_of source.tree) }
 {
-    elaborate(alloc, &source.tree, source.modes)
+    let Checked { tree, modes } = source;
+    elaborate(alloc, &tree, modes)
 }
 
 /// The code of the program of a source. The error is want of memory.

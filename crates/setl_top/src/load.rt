@@ -59,14 +59,15 @@ pub fn load_program<F: Files, E: Sink>(
         Ok(source) => source,
         Err(status) => return Err(status),
     };
-    match read_program(alloc, &source) {
-        Ok(checked) => Ok(checked),
-        Err(Unread::Refused(reason)) => Err(refuse(alloc, err, reason)),
+    let checked = match read_program(alloc, &source) {
+        Ok(checked) => checked,
+        Err(Unread::Refused(reason)) => return Err(refuse(alloc, err, reason)),
         Err(Unread::NoMemory) => {
             try_line(err, b"no memory\n");
-            Err(Status::NoMemory)
+            return Err(Status::NoMemory);
         }
-    }
+    };
+    Ok(checked)
 }
 
 /// Loads the program of a file, with each name in it resolved. At `Err` the last line was told.
@@ -102,8 +103,9 @@ pub fn check_file<F: Files, E: Sink>(
 ) -> Status
     ensures { Checks (F.texts files.old) name.now (sides (F.faults files.old) (F.faults files.new) (E.held err.old) (E.held err.new) (E.faults err.old) (E.faults err.new)) result }
 {
-    match load_program(alloc, name, files, err) {
-        Ok(_) => Status::Done,
-        Err(status) => status,
-    }
+    let _source = match load_program(alloc, name, files, err) {
+        Ok(source) => source,
+        Err(status) => return status,
+    };
+    Status::Done
 }

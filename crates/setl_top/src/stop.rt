@@ -1,9 +1,10 @@
 //! Why a run stops, and the line that tells it.
-ghost use Rattle.std.specs.Prelude.{◌≡◌, ◌++◌, [], map, IfOk};
+ghost use Rattle.std.specs.Prelude.{◌≡◌, ◌++◌, [], map, slice_get, Some, None, IfSome, IfNone, IfOk};
 ghost use Rattle.setl_run.specs.Events.{Stopped};
 ghost use Rattle.setl_model.specs.Answers.{stop_text, error_line};
 ghost use Rattle.setl_machine.specs.Outcome.{kind_of};
-ghost use Rattle.setl_program.specs.Plain.{plain_declared};
+ghost use Rattle.setl_program.specs.Plain.{plain_declared, plain_variable};
+ghost use Rattle.setl_run.specs.Variable.{name_of};
 
 use crate::reason::at_line;
 use setl_machine::StopKind;
@@ -38,12 +39,20 @@ fn name_of(variable: &Variable) -> &[u8]
     }
 }
 
+/// The declaration at a place, counted from 0, if there is one.
+fn declaration(declared: &[Declared], at: u32) -> Option<&Declared>
+    ensures some { IfSome result (λ d. slice_get declared.now at ≡ Some d.now) }
+    ensures none { IfNone result (slice_get declared.now at ≡ None) }
+{
+    declared.get(at as usize)
+}
+
 /// The name of the declared variable that a stop tells, if it tells one; else no bytes.
 fn stop_name(declared: &[Declared], kind: StopKind) -> &[u8]
     ensures { stop_text (kind_of [] kind) ++ result.now ≡ stop_text (kind_of (map plain_declared declared.now) kind) }
 {
     match kind {
-        StopKind::Unfit(at) => match declared.get(at as usize) {
+        StopKind::Unfit(at) => match declaration(declared, at) {
             Some(declared) => name_of(&declared.variable),
             None => &[],
         },

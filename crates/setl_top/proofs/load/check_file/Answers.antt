@@ -4,5 +4,5 @@ use Rattle.setl_top.proofs.load.check_file.Goals as goal
 pub returns-in-Err : goal.returns-in-Err
 returns-in-Err g c = not_checked c.in-Err.status c.in-Err.ensures.not_loaded
 
-pub returns-in-Ok : goal.returns-in-Ok
-returns-in-Ok g c = checked_so _ c.in-Ok.ensures.loaded c.in-Ok.ensures.still
+pub returns : goal.returns
+returns g c = checked_so c.in-Ok.source.tree c.in-Ok.ensures.loaded c.in-Ok.ensures.still

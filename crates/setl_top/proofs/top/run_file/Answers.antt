@@ -1,15 +1,13 @@
-use Rattle.std.proofs.Common.{◌∙◌, arith, refl, ap, subst}
+use Rattle.std.proofs.Common.{◌∙◌, arith, refl, ap}
 use Rattle.setl_program.specs.Plain.{plain_program}
-use Rattle.setl_program.specs.Program.{Program}
 use Rattle.setl_words.specs.Commands.{options_now}
 use Rattle.setl_words.specs.Words.{Run}
 use Rattle.setl_top.specs.Headline.{untouched}
-use Rattle.setl_top.specs.Runs.{counted, Runs, TakesInput}
-use Rattle.setl_top.specs.Tells.{TellsEnd}
+use Rattle.setl_top.specs.Runs.{counted}
 use Rattle.setl_top.proofs.Accepting.{is_accepted}
-use Rattle.setl_top.proofs.Ends.{not_loaded, run_ends, run_takes, tells_then}
+use Rattle.setl_top.proofs.Ends.{not_loaded, run_ends, run_takes, tells_then, tells_as}
 use Rattle.setl_top.proofs.Fronts.{appends_none}
-use Rattle.setl_top.proofs.Running.{runs_or, not_paused, not_at_stuck}
+use Rattle.setl_top.proofs.Running.{runs_or, runs_as, takes_as, not_paused, not_at_stuck}
 use Rattle.setl_top.proofs.top.run_file.Goals as goal
 
 pub returns-in-Err : goal.returns-in-Err
@@ -37,6 +35,6 @@ returns g c =
     let ran = runs_or program asked _ c.run_program.result end c.unwrap_or-end.ensures c.run_program.ensures.ran c.run_program.ensures.out in
     let told = tells_then _ end _ _ _ _ _ _ _ known.still.held known.still.err c.tell_end.ensures.told in
     record {
-      headline = λ words s. run_ends words _ _ asked c.args.name.now l.tree s l.loaded end (subst (λ (p : Program). Runs p asked _ end) l.meaning ran) (omega (arith, known.still.files)) _ (subst (λ ms. TellsEnd ms end _ _ _ _ _) (c.counted.ensures ∙ ap (counted asked) l.meaning) told);
-      input = λ words s. run_takes words _ _ asked c.args.name.now l.tree s l.loaded (subst (λ (p : Program). TakesInput p asked _) l.meaning c.run_program.ensures.input);
+      headline = λ words s. run_ends words _ _ asked c.args.name.now l.tree s l.loaded end (runs_as _ _ asked _ end l.meaning ran) (omega (arith, known.still.files)) _ (tells_as _ _ end _ _ _ _ _ (c.counted.ensures ∙ ap (counted asked) l.meaning) told);
+      input = λ words s. run_takes words _ _ asked c.args.name.now l.tree s l.loaded (takes_as _ _ asked _ l.meaning c.run_program.ensures.input);
     }

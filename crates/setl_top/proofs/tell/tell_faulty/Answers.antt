@@ -1,0 +1,8 @@
+use Rattle.std.proofs.Common.{◌++◌, ◌∷◌, [], codes}
+use Rattle.setl_top.specs.Tells.{no_memory}
+use Rattle.setl_top.proofs.Asked.{line_told}
+use Rattle.setl_top.proofs.Fronts.{front_alone}
+use Rattle.setl_top.proofs.tell.tell_faulty.Goals as goal
+
+pub returns-in-Err : goal.returns-in-Err
+returns-in-Err g c = record { told = (codes "not of the plain form" ++ 10 ∷ [], line_told _, no_memory (front_alone _ _ _ _ c.try_line.ensures.front)) }
