@@ -29,6 +29,8 @@ SIZES = {
     'queues': (10_000, 20_000, 40_000),
     'strings': (10_000, 20_000, 40_000),
     'deep': (250, 500, 1_000),
+    # the largest input has some 10 MB
+    'reading': (375_000, 750_000, 1_500_000),
 }
 # net seconds below this tell nothing
 LEAST = 0.005
@@ -38,17 +40,25 @@ class Failed(Exception):
     """A run that didn't end well, with what is told of it."""
 
 
+def input_of(job, size):
+    """The input of a job at a size: the size, and for `reading` as many numbers behind it."""
+    lines = [str(size)]
+    if job == 'reading':
+        lines += (str(i * 7919 % 1_000_003) for i in range(size))
+    return ''.join(line + '\n' for line in lines).encode()
+
+
 def spent():
     """The seconds that the processor spent on runs that have ended."""
     usage = resource.getrusage(resource.RUSAGE_CHILDREN)
     return usage.ru_utime + usage.ru_stime
 
 
-def timed(command, size, limit):
-    """The seconds of a run with a size as its input, and what it writes."""
+def timed(command, given_input, limit):
+    """The seconds of a run with this input, and what it writes."""
     before = spent()
     try:
-        done = subprocess.run(command, input=f'{size}\n'.encode(), capture_output=True, timeout=limit)
+        done = subprocess.run(command, input=given_input, capture_output=True, timeout=limit)
     except subprocess.TimeoutExpired:
         raise Failed(f'takes more than {limit} seconds')
     seconds = spent() - before
@@ -58,13 +68,13 @@ def timed(command, size, limit):
     return seconds, done.stdout
 
 
-def least(commands, size, rounds, limit):
+def least(commands, given_input, rounds, limit):
     """The least seconds of each command over some rounds, in which they run in turn, and what each writes."""
     times = [None] * len(commands)
     outputs = [None] * len(commands)
     for _ in range(rounds):
         for i, command in enumerate(commands):
-            seconds, outputs[i] = timed(command, size, limit)
+            seconds, outputs[i] = timed(command, given_input, limit)
             times[i] = seconds if times[i] is None else min(times[i], seconds)
     return times, outputs
 
@@ -81,7 +91,7 @@ def measure(job, program, empty, rounds, limit):
     before = None
     for size in SIZES[job]:
         try:
-            times, outputs = least(commands, size, rounds, limit)
+            times, outputs = least(commands, input_of(job, size), rounds, limit)
         except Failed as failed:
             print(f'{job:13}{size:>9}  {failed}', flush=True)
             return False
@@ -112,7 +122,7 @@ def main():
         sys.exit(f'run: {program} isn\'t there; rt ci leaves it')
     empties = [[program, 'run', FOLDER.parent / 'examples' / 'empty.setl'], [sys.executable, '-c', '']]
     try:
-        empty, _ = least(empties, 0, max(given.rounds, 5), given.limit)
+        empty, _ = least(empties, b'0\n', max(given.rounds, 5), given.limit)
     except Failed as failed:
         sys.exit(f'run: an empty program {failed}')
     print(f'an empty program takes {empty[0]:.3f} s, in Python {empty[1]:.3f} s')
