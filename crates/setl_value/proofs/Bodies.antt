@@ -101,17 +101,17 @@ depth_insert (e ∷ ds) (suc i) d = omega (arith, depth_insert ds i d)
 
 -- ---- some members in the place of others
 
-all_take : {X : Type 0} (P : X → Type 0) (xs : List X) (i : ℕ) → AllByRecursion P xs → AllByRecursion P (take i xs)
+pub all_take : {X : Type 0} (P : X → Type 0) (xs : List X) (i : ℕ) → AllByRecursion P xs → AllByRecursion P (take i xs)
 all_take P xs zero a = tt
 all_take P [] (suc i) a = tt
 all_take P (x ∷ xs) (suc i) a = (a.0, all_take P xs i a.1)
 
-all_drop : {X : Type 0} (P : X → Type 0) (xs : List X) (i : ℕ) → AllByRecursion P xs → AllByRecursion P (drop i xs)
+pub all_drop : {X : Type 0} (P : X → Type 0) (xs : List X) (i : ℕ) → AllByRecursion P xs → AllByRecursion P (drop i xs)
 all_drop P xs zero a = a
 all_drop P [] (suc i) a = tt
 all_drop P (x ∷ xs) (suc i) a = all_drop P xs i a.1
 
-all_append : {X : Type 0} (P : X → Type 0) (xs ys : List X) → AllByRecursion P xs → AllByRecursion P ys → AllByRecursion P (xs ++ ys)
+pub all_append : {X : Type 0} (P : X → Type 0) (xs ys : List X) → AllByRecursion P xs → AllByRecursion P ys → AllByRecursion P (xs ++ ys)
 all_append P [] ys a b = b
 all_append P (x ∷ xs) ys a b = (a.0, all_append P xs ys a.1 b)
 
@@ -131,7 +131,7 @@ set_replaced ds i j ms h a r p =
     let fine = stand_in ds h.0.0 in
     set_from (replaced ds i j ms) (all_append IsWellFormed (take i ds ++ ms) (drop j ds) (all_append IsWellFormed (take i ds) ms (all_take IsWellFormed ds i fine) a) (all_drop IsWellFormed ds j fine)) r p
 
-depth_append : (xs ys : List Datum) → elements_depth (elements_of (xs ++ ys)) ≡ max (elements_depth (elements_of xs)) (elements_depth (elements_of ys))
+pub depth_append : (xs ys : List Datum) → elements_depth (elements_of (xs ++ ys)) ≡ max (elements_depth (elements_of xs)) (elements_depth (elements_of ys))
 depth_append [] ys = omega arith
 depth_append (x ∷ xs) ys = omega (arith, depth_append xs ys)
 
@@ -140,7 +140,7 @@ depth_take xs zero = omega arith
 depth_take [] (suc i) = omega arith
 depth_take (x ∷ xs) (suc i) = omega (arith, depth_take xs i)
 
-depth_drop : (xs : List Datum) (i : ℕ) → elements_depth (elements_of (drop i xs)) ≤ elements_depth (elements_of xs)
+pub depth_drop : (xs : List Datum) (i : ℕ) → elements_depth (elements_of (drop i xs)) ≤ elements_depth (elements_of xs)
 depth_drop xs zero = omega arith
 depth_drop [] (suc i) = omega arith
 depth_drop (x ∷ xs) (suc i) = omega (arith, depth_drop xs i)

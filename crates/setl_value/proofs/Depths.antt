@@ -1,5 +1,5 @@
 -- How a change of a list of members or components changes the depth.
-use Rattle.std.specs.Prelude.{◌≡◌, ℕ, ◌+◌, ◌≤◌, zero, suc, List, [], ◌∷◌, ◌++◌, Option, Some, None, map, max, slice_get, unwrap_or}
+use Rattle.std.specs.Prelude.{◌≡◌, ℕ, ◌+◌, ◌-◌, ◌<◌, ◌≤◌, take, zero, suc, List, [], ◌∷◌, ◌++◌, Option, Some, None, map, max, slice_get, unwrap_or}
 use Rattle.std.specs.List.{remove}
 use Rattle.std.proofs.Common.{arith, ap}
 use Rattle.std.proofs.lemmas.List.{map-append}
@@ -28,6 +28,11 @@ elements_remove (c ∷ ds) (suc i) d e = omega (arith, elements_remove ds i d e)
 -- the depth of a set that lost its i-th member d
 pub set_without : (ds : List Datum) (i : ℕ) (d : Datum) → slice_get ds i ≡ Some d → max (depth (set_of (remove ds i))) (depth d + 1) ≡ depth (set_of ds)
 set_without ds i d e = omega (arith, elements_remove ds i d e)
+
+-- the depth of the first of some members
+pub depth_taken : (n : ℕ) (d : Datum) (ds : List Datum) → 0 < n → depth (set_of (take n (d ∷ ds))) ≡ max (depth d + 1) (depth (set_of (take (n - 1) ds)))
+depth_taken zero d ds h = absurd (omega arith)
+depth_taken (suc n) d ds h = omega (arith, ap (λ m. depth (set_of (take m ds))) {x = n} {y = suc n - 1} (omega arith))
 
 -- ---- components
 

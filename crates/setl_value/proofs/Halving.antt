@@ -12,7 +12,7 @@ use Rattle.std.proofs.lemmas.Option.{none-some}
 use Rattle.setl_value.specs.Datum.{Datum, part_then, no_part, parts_of}
 use Rattle.setl_value.specs.Order.{datum_cmp, parts_cmp, IsRising}
 use Rattle.setl_value.specs.OrderLaws.{datum_cmp_total, same_datum}
-use Rattle.setl_value.specs.Places.{IsPlace, IsBound}
+use Rattle.setl_value.specs.Places.{IsPlace, IsBound, IsBetween}
 use Rattle.setl_value.proofs.Bodies.{all_at}
 
 abbrev AllBelow : Datum → List Datum → Type 0
@@ -49,13 +49,6 @@ none_more d (c ∷ cs) zero e r h p =
     let q : is_lt (datum_cmp c d) ≡ false = subst (λ x. is_lt (datum_cmp x d) ≡ false) (sym (some_same c e h)) p in
     (q, none_behind d c cs r.0 q)
 none_more d (c ∷ cs) (suc m) e r h p = none_more d cs m e r.1 h p
-
--- the bound of d is from low to high
-pub record IsBetween (d : Datum) (ds : List Datum) (low high : ℕ) : Type 0 where
-  pub ordered : low ≤ high
-  pub within : high ≤ length ds
-  pub before : AllByRecursion (λ e. datum_cmp e d ≡ Less) (take low ds)
-  pub after : AllByRecursion (λ e. is_lt (datum_cmp e d) ≡ false) (drop high ds)
 
 less_from_lt : (o : Ordering) → is_lt o ≡ true → o ≡ Less
 less_from_lt Less h = refl

@@ -1,5 +1,5 @@
 -- Counting the members of a set that are no pairs.
-use Rattle.std.specs.Prelude.{◌≡◌, ℕ, zero, suc, ◌+◌, ◌≤◌, ◌==◌, Bool, true, false, ◌&&◌, cond, List, [], ◌∷◌, Option, Some, None, slice_get, slice_range, length, is_some, refl}
+use Rattle.std.specs.Prelude.{◌≡◌, ℕ, zero, suc, ◌+◌, ◌≤◌, ◌==◌, ◌-◌, Bool, true, false, ◌&&◌, cond, List, [], ◌∷◌, Option, Some, None, slice_get, slice_range, length, is_some, refl}
 use Rattle.std.specs.Option.{unwrap_or}
 use Rattle.std.specs.List.{insert, remove}
 use Rattle.std.proofs.Common.{arith, ap, sym, ◌∙◌, ◌<◌, ◌++◌, take, drop, zero-add, get_or}
@@ -60,6 +60,11 @@ count_more vs i v h e =
     ap (λ l. other_count (map datum l)) (take_more vs i v h)
     ∙ ap other_count (map-append datum (take i vs) (get_or vs i v ∷ []))
     ∙ omega (arith, count_append (map datum (take i vs)) (datum (get_or vs i v) ∷ []), ap (λ w. counted (datum w)) e)
+
+-- the first of some members
+pub count_taken : (n : ℕ) (d : Datum) (ds : List Datum) → 0 < n → other_count (take n (d ∷ ds)) ≡ counted d + other_count (take (n - 1) ds)
+count_taken zero d ds h = absurd (omega arith)
+count_taken (suc n) d ds h = ap (λ m. counted d + other_count (take m ds)) {x = n} {y = suc n - 1} (omega arith)
 
 -- ---- which tuples are pairs
 

@@ -1,5 +1,8 @@
 -- What a `Value` stands for.
-use Rattle.std.specs.Prelude.{Option, Some, None}
+use Rattle.std.specs.Prelude.{List, map, Option, Some, None}
+use Rattle.std.specs.declared.rc.Rc.{Rc}
+use Rattle.std.specs.declared.vec.Vec.{Vec}
+use Rattle.std.specs.declared.alloc.Global.{Global}
 use Rattle.std.specs.Borrow.{Bor}
 use Rattle.std.specs.Option.{option_map}
 use Rattle.setl_value.specs.declared.Value.{Value}
@@ -24,3 +27,7 @@ part o = option_map datum o
 abbrev pub lent : Option (Bor Value) → Option Datum
 lent None = None
 lent (Some v) = Some (datum v.now)
+
+-- a page of a set
+abbrev pub page : Rc (Vec Value Global) Global → List Datum
+page p = map datum p.value.items

@@ -61,8 +61,7 @@ fn feed<H: Hasher>(v: &Value, state: &mut H)
 fn feed_members<H: Hasher>(s: &SetBody, state: &mut H)
     ensures { state.new ≡ fold H.write state.old (elements_writes (elements_of (Members s.now))) }
 {
-    let members = s.items.as_slice();
-    for v in members {
+    for v in s.members() {
         state.write_u8(1);
         feed(v, state);
     }

@@ -14,9 +14,12 @@ ghost use Rattle.setl_value.specs.WellFormed.{IsValue};
 ghost use Rattle.setl_value.specs.Datum.{depth};
 ghost use Rattle.setl_value.specs.DatumOf.{datum};
 
+mod body;
+mod counts;
 mod hashing;
 pub mod laws;
 mod order;
+mod page_list;
 mod places;
 mod sets;
 mod shared;
@@ -42,11 +45,19 @@ pub enum Value {
     Set(SetBody),
 }
 
-/// The members of a set, in a strictly rising list. Contracts read it by `Members`.
+/// The members of a set, in a strictly rising list that is cut in shared pages. Contracts read it by `Members`.
 #[cycle(value)]
 #[derive(Drop)]
 pub struct SetBody {
-    items: Rc<Vec<Value>>,
+    body: Rc<Pages>,
+}
+
+// The pages of a set, each of 1 to 64 members.
+#[cycle(value)]
+#[derive(Drop)]
+pub(crate) struct Pages {
+    list: Vec<Rc<Vec<Value>>>,
+    count: usize,
     deep: u32,
     // How many members are no pairs, so that a test for a map looks at none.
     others: usize,
@@ -61,7 +72,25 @@ pub struct TupleBody {
 }
 
 impl Model for SetBody {
-    ghost use Rattle.std.specs.Prelude.{List, map, ◌≡◌};
+    ghost use Rattle.std.specs.Prelude.{◌+◌, ◌*◌};
+    ghost use Rattle.setl_value.specs.Datum.{set_of, depth};
+    ghost use Rattle.setl_value.specs.Body.{Body, coded_body, Members};
+
+    ghost Value = { Body };
+
+    ghost coded = { coded_body };
+
+    ghost view = { λ s. s.body.value };
+
+    ghost size = { λ b. 2 * depth (set_of (Members b)) + 1 };
+
+    ghost use Rattle.std.proofs.Common.{arith};
+
+    ghost size_decreases = { λ a h. omega arith };
+}
+
+impl Model for Pages {
+    ghost use Rattle.std.specs.Prelude.{List, map, ◌*◌};
     ghost use Rattle.setl_value.specs.Datum.{Datum, set_of, depth};
     ghost use Rattle.setl_value.specs.Body.{Body, coded_body, Members};
 
@@ -69,24 +98,23 @@ impl Model for SetBody {
 
     ghost coded = { coded_body };
 
-    ghost use Rattle.setl_value.specs.DatumOf.{datum};
-    ghost use Rattle.setl_value.specs.WellFormed.{IsSetList};
-    ghost use Rattle.setl_value.specs.Pairs.{other_count};
+    ghost use Rattle.setl_value.specs.DatumOf.{page};
+    ghost use Rattle.setl_value.specs.Counted.{IsCounted};
 
-    ghost view = { λ s. record { rising = map datum s.items.value.items } };
+    ghost view = { λ s. record { pages = map page s.list.items } };
 
-    ghost invariant = { λ s. IsSetList (map datum s.items.value.items) × (s.deep ≡ depth (set_of (map datum s.items.value.items))) × (s.others ≡ other_count (map datum s.items.value.items)) };
+    ghost invariant = { λ s. IsCounted (map page s.list.items) s.count s.deep s.others };
 
-    ghost size = { λ b. depth (set_of (Members b)) };
+    ghost size = { λ b. 2 * depth (set_of (Members b)) };
 
     ghost use Rattle.std.proofs.Common.{arith};
-    ghost use Rattle.setl_value.specs.Falls.{all_fall};
+    ghost use Rattle.setl_value.specs.Falls.{pages_fall};
 
-    ghost size_decreases = { λ a h. omega (arith, all_fall a.items.value.items) };
+    ghost size_decreases = { λ a h. omega (arith, pages_fall a.list.items) };
 }
 
 impl Model for TupleBody {
-    ghost use Rattle.std.specs.Prelude.{List, map, Option, ◌≡◌};
+    ghost use Rattle.std.specs.Prelude.{List, map, Option, ◌≡◌, ◌*◌};
     ghost use Rattle.std.specs.Coded.{coded_list, coded_option};
     ghost use Rattle.setl_value.specs.Datum.{Datum, tuple_of, depth};
     ghost use Rattle.setl_value.specs.DatumCode.{coded_datum};
@@ -102,7 +130,7 @@ impl Model for TupleBody {
 
     ghost invariant = { λ s. IsTupleList (map part s.parts.value.items) × (s.deep ≡ depth (tuple_of (map part s.parts.value.items))) };
 
-    ghost size = { λ ps. depth (tuple_of ps) };
+    ghost size = { λ ps. 2 * depth (tuple_of ps) };
 
     ghost use Rattle.std.proofs.Common.{arith};
     ghost use Rattle.setl_value.specs.Falls.{parts_fall};
@@ -154,6 +182,20 @@ impl Value {
             Value::Tuple(t) => t.learn(),
             Value::Set(s) => s.learn(),
         }
+    }
+}
+
+/// A clone has the same pages, each shared.
+impl Clone for Pages {
+    ghost is_clone = { λ v copy. copy ≡ v };
+
+    fn clone(&self) -> Result<Pages, Memory> {
+        Ok(Pages {
+            list: self.list.clone()?,
+            count: self.count,
+            deep: self.deep,
+            others: self.others,
+        })
     }
 }
 

@@ -83,16 +83,20 @@ impl SetBody {
     pub fn compare(&self, other: &SetBody) -> Ordering
         ensures { result ≡ slice_cmp datum_cmp (Members self.now) (Members other.now) }
     {
-        let members = self.items.as_slice();
-        let others = other.items.as_slice();
-        let shared = members.len().min(others.len());
-        for i in 0..shared {
-            match members[i].compare(&others[i]) {
+        let mut others = other.members();
+        for v in self.members() {
+            let Some(w) = others.next() else {
+                return Ordering::Greater;
+            };
+            match v.compare(w) {
                 Ordering::Equal => {}
                 unequal => return unequal,
             }
         }
-        members.len().cmp(&others.len())
+        match others.next() {
+            Some(_) => Ordering::Less,
+            None => Ordering::Equal,
+        }
     }
 }
 

@@ -1,30 +1,36 @@
 //! Places among the members of a set: searching them, and changes there.
 #![tactic(auto, unfolding(crate::specs::Places::HasPlace, crate::specs::Places::rank))]
 
-ghost use Rattle.std.specs.Prelude.{◌≡◌, ◌<◌, ◌≤◌, ◌+◌, ◌++◌, length, slice_get, take, drop, map, IfOk, IfErr, MatchResult, OnErr, OnOk, Some};
-ghost use Rattle.std.specs.List.{insert, remove};
+ghost use Rattle.std.specs.Prelude.{suc, ◌≡◌, ◌<◌, ◌≤◌, ◌+◌, ◌-◌, ◌++◌, length, slice_get, take, drop, map, IfOk, IfErr, MatchResult, OnErr, OnOk, Some};
+ghost use Rattle.std.specs.List.{insert, remove, AllByRecursion};
 ghost use Rattle.std.specs.Option.{option_map};
 ghost use Rattle.std.specs.Ordering.{is_lt};
-ghost use Rattle.setl_value.specs.Body.{Members};
+ghost use Rattle.setl_value.specs.Body.{Members, IsPage, joined};
 ghost use Rattle.setl_value.specs.Datum.{depth, set_of};
-ghost use Rattle.setl_value.specs.DatumOf.{datum};
+ghost use Rattle.setl_value.specs.DatumOf.{datum, page};
 ghost use Rattle.setl_value.specs.Order.{datum_cmp, IsRising};
-ghost use Rattle.setl_value.specs.Places.{HasPlace, rank, IsPlace, IsBound, point};
+ghost use Rattle.setl_value.specs.Places.{HasPlace, rank, rank_in, IsPlace, IsBound, IsBetween, point};
 ghost use Rattle.setl_value.specs.Sought.{sought};
 
+use crate::page_list::{Page, first_at};
 use crate::{MemberIter, Memory, SetBody, Value};
 use std::alloc::Global;
+use std::rc::Rc;
 
 /// A place among the members of a set: at one of them, or after the last. It is good for the set that gave it, until
 /// that set changes. Contracts read how many members stand before it as its `rank`.
 #[derive(Clone, Copy)]
 pub struct Cursor {
-    index: usize,
+    pub(crate) page: usize,
+    pub(crate) index: usize,
 }
+
+/// The place before all members.
+pub(crate) const START: Cursor = Cursor { page: 0, index: 0 };
 
 // What is sought among the members: a value, or where the pairs of a point begin.
 #[derive(Clone, Copy)]
-enum Sought<'a> {
+pub(crate) enum Sought<'a> {
     Member(&'a Value),
     Point(&'a Value),
 }
@@ -63,7 +69,10 @@ impl SetBody {
         requires { HasPlace self.now c }
         ensures { option_map (λ v. datum v.now) result ≡ slice_get (Members self.now) (rank self.now c) }
     {
-        self.items.get(c.index)
+        match self.body.members_from(c).next() {
+            Some(v) => Some(v),
+            None => None,
+        }
     }
 
     /// The members from a place on, in rising order.
@@ -71,9 +80,7 @@ impl SetBody {
         requires { HasPlace self.now c }
         ensures { result ≡ drop (rank self.now c) (Members self.now) }
     {
-        MemberIter {
-            rest: &self.items[c.index..],
-        }
+        self.body.members_from(c)
     }
 
     /// Puts `v` before the member at a place. The list stays rising and the depth at most 500. Where memory is refused,
@@ -85,7 +92,8 @@ impl SetBody {
         ensures put { OnOk result (Members self.new ≡ insert (Members self.old) (rank self.old c) (datum v)) }
         ensures refused { OnErr result (self.new ≡ self.old) }
     {
-        self.put_at(alloc, c.index, v)
+        let pages = Rc::make_mut(&mut self.body)?;
+        pages.put_in(alloc, c, v)
     }
 
     /// Takes the member at a place out. Where memory is refused, the set is as before.
@@ -95,7 +103,8 @@ impl SetBody {
         ensures cut { IfOk result (λ v. (slice_get (Members self.old) (rank self.old c) ≡ Some (datum v)) × (Members self.new ≡ remove (Members self.old) (rank self.old c))) }
         ensures refused { OnErr result (self.new ≡ self.old) }
     {
-        self.cut_at(c.index)
+        let pages = Rc::make_mut(&mut self.body)?;
+        pages.cut_in(c)
     }
 
     /// Puts members in the place of the `count` ones from a place on. The list stays rising and the depth at most 500.
@@ -108,8 +117,8 @@ impl SetBody {
         ensures replaced { OnOk result (Members self.new ≡ take (rank self.old c) (Members self.old) ++ map datum by.items ++ drop (rank self.old c + count) (Members self.old)) }
         ensures refused { OnErr result (self.new ≡ self.old) }
     {
-        let _ = &self.items;
-        self.replace(c.index, c.index + count, by)
+        let pages = Rc::make_mut(&mut self.body)?;
+        pages.replace_in(c, count, by)
     }
 
     // The first place whose member isn't below what is sought.
@@ -117,15 +126,12 @@ impl SetBody {
         ensures place { HasPlace self.now result }
         ensures bound { IsBound (sought what.entry) (Members self.now) (rank self.now result) }
     {
-        self.learn();
-        Cursor {
-            index: bound_in(self.items.as_slice(), what),
-        }
+        self.body.bound(what)
     }
 }
 
-// How many of some rising members are below what is sought, found by halving.
-fn bound_in(members: &[Value], what: Sought<'_>) -> usize
+/// How many of some rising members are below what is sought, found by halving.
+pub(crate) fn bound_in(members: &[Value], what: Sought<'_>) -> usize
     requires { IsRising (map datum members.now) }
     ensures { IsBound (sought what.entry) (map datum members.now) result }
 {
@@ -135,6 +141,26 @@ fn bound_in(members: &[Value], what: Sought<'_>) -> usize
         let middle = low + (high - low) / 2;
         if is_below(&members[middle], what) {
             low = middle + 1;
+        } else {
+            high = middle;
+        }
+    }
+    low
+}
+
+/// The last of some pages whose first member is below what is sought, or else the first page, found by halving.
+pub(crate) fn page_in(pages: &[Page], what: Sought<'_>) -> usize
+    requires pages { AllByRecursion IsPage (map page pages.now) }
+    requires rising { IsRising (joined (map page pages.now)) }
+    ensures there { result ≤ length pages.now - 1 }
+    ensures bound { IsBetween (sought what.entry) (joined (map page pages.now)) (rank_in (map page pages.now) result 0) (rank_in (map page pages.now) (suc result) 0) }
+{
+    let mut low = 0;
+    let mut high = pages.len();
+    while high - low > 1 {
+        let middle = low + (high - low) / 2;
+        if is_below(first_at(pages, middle), what) {
+            low = middle;
         } else {
             high = middle;
         }

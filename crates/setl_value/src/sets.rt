@@ -1,31 +1,31 @@
-//! The body of a set: a strictly rising list of members, and its depth.
+//! The body of a set: a strictly rising list of members in shared pages, and its depth.
+#![tactic(auto, unfolding(crate::specs::Places::HasPlace, crate::specs::Places::rank))]
 
-ghost use Rattle.std.specs.Prelude.{◌≡◌, ◌<◌, ◌≤◌, ◌+◌, ◌++◌, List, [], length, slice_get, take, drop, map, max, is_some, if◌then◌else◌, IfOk, OnErr, OnOk, Some};
+ghost use Rattle.std.specs.Prelude.{◌≡◌, ◌<◌, ◌≤◌, ◌+◌, ◌++◌, [], length, slice_get, take, drop, map, IfOk, OnErr, OnOk, Some};
 ghost use Rattle.std.specs.List.{insert, remove, AllByRecursion};
 ghost use Rattle.std.specs.Iterator.{YieldsFirstBy, item_count};
-ghost use Rattle.setl_value.specs.Body.{Members};
-ghost use Rattle.setl_value.specs.Datum.{Datum, depth, set_of, tuple_of};
+ghost use Rattle.setl_value.specs.Body.{Members, IsPage};
+ghost use Rattle.setl_value.specs.Datum.{depth, set_of};
 ghost use Rattle.setl_value.specs.DatumOf.{datum};
 ghost use Rattle.setl_value.specs.Order.{IsRising};
-ghost use Rattle.setl_value.specs.Pairs.{is_map, other_count, pair_parts, is_there};
-ghost use Rattle.setl_value.specs.WellFormed.{IsValue, IsSetList, IsWellFormed};
+ghost use Rattle.setl_value.specs.Pairs.{is_map};
+ghost use Rattle.setl_value.specs.Places.{HasPlace, rank};
+ghost use Rattle.setl_value.specs.WellFormed.{IsValue, IsSetList};
 
-use crate::shared::{cut_in, put_in, replace_in};
-use crate::{Memory, SetBody, TupleBody, Value};
+use crate::places::{Cursor, START};
+use crate::{Memory, Pages, SetBody, Value};
 use std::alloc::Global;
 use std::marker::Model;
 use std::rc::Rc;
 
 impl SetBody {
-    /// The empty set. It takes room for one member.
+    /// The empty set.
     pub fn new(alloc: Global) -> Result<SetBody, Memory>
         ensures empty { IfOk result (λ s. Members s ≡ []) }
     {
-        let items = Vec::with_capacity(alloc, 1)?;
+        let pages = Pages::new(alloc);
         Ok(SetBody {
-            items: Rc::new(alloc, items)?,
-            deep: 1,
-            others: 0,
+            body: Rc::new(alloc, pages)?,
         })
     }
 
@@ -35,13 +35,9 @@ impl SetBody {
         requires shallow { depth (set_of (map datum items.items)) ≤ 500 }
         ensures made { IfOk result (λ s. Members s ≡ map datum items.items) }
     {
-        learn_members(items.as_slice());
-        let deep = depth_of(items.as_slice(), 500);
-        let others = others_in(items.as_slice());
+        let pages = Pages::from_rising(alloc, items)?;
         Ok(SetBody {
-            items: Rc::new(alloc, items)?,
-            deep,
-            others,
+            body: Rc::new(alloc, pages)?,
         })
     }
 
@@ -49,32 +45,30 @@ impl SetBody {
     pub fn len(&self) -> usize
         ensures { result ≡ length (Members self.now) }
     {
-        self.items.len()
+        self.body.len()
     }
 
     /// Whether all members are pairs, tuples of length two whose first component isn't `om`. It looks at no member.
     pub fn is_map(&self) -> bool
         ensures { result ≡ is_map (Members self.now) }
     {
-        self.others == 0
+        self.body.is_map()
     }
 
-    /// The i-th member in rising order, counted from 0.
+    /// The i-th member in rising order, counted from 0. It counts pages, so a walk goes by `members`.
     pub fn at(&self, i: usize) -> &Value
         requires { i < length (Members self.now) }
         ensures member { slice_get (Members self.now) i ≡ Some (datum result.now) }
         ensures stands { IsValue (datum result.now) }
     {
-        &self.items[i]
+        self.body.at(i)
     }
 
     /// The members in rising order.
     pub fn members(&self) -> MemberIter<'_>
         ensures { result ≡ Members self.now }
     {
-        MemberIter {
-            rest: self.items.as_slice(),
-        }
+        self.body.members()
     }
 
     /// Puts `v` before the i-th member, or after the last where i is the length. The list stays rising and the depth
@@ -86,13 +80,8 @@ impl SetBody {
         ensures put { OnOk result (Members self.new ≡ insert (Members self.old) i (datum v)) }
         ensures refused { OnErr result (self.new ≡ self.old) }
     {
-        v.learn();
-        let deep = v.depth() + 1;
-        let other = other(&v);
-        put_in(&mut self.items, i, v)?;
-        self.deep = self.deep.max(deep);
-        self.others += other;
-        Ok(())
+        let place = self.place_of(i);
+        self.put_in(alloc, place, v)
     }
 
     /// Takes the i-th member out. Where memory is refused, the set is as before.
@@ -101,10 +90,8 @@ impl SetBody {
         ensures cut { IfOk result (λ v. (slice_get (Members self.old) i ≡ Some (datum v)) × (Members self.new ≡ remove (Members self.old) i)) }
         ensures refused { OnErr result (self.new ≡ self.old) }
     {
-        let v = cut_in(&mut self.items, i)?;
-        self.deep = depth_without(self.items.as_slice(), self.deep, v.depth());
-        self.others -= other(&v);
-        Ok(v)
+        let place = self.place_of(i);
+        self.cut_in(place)
     }
 
     /// Puts members in the place of those from the `from`-th up to before the `to`-th. The list stays rising and the
@@ -117,23 +104,42 @@ impl SetBody {
         ensures replaced { OnOk result (Members self.new ≡ take from (Members self.old) ++ map datum by.items ++ drop to (Members self.old)) }
         ensures refused { OnErr result (self.new ≡ self.old) }
     {
-        learn_members(by.as_slice());
-        let gone = &self.items[from..to];
-        let kept = self.others - others_in(gone);
-        let deepest = depth_of(gone, self.deep) - 1;
-        let new = others_in(by.as_slice());
-        let most = self.deep.max(depth_of(by.as_slice(), 500));
-        replace_in(&mut self.items, from, to, by)?;
-        self.deep = depth_without(self.items.as_slice(), most, deepest);
-        self.others = kept + new;
-        Ok(())
+        let place = self.place_of(from);
+        self.replace_in(place, to - from, by)
+    }
+
+    /// The place before all members.
+    pub fn start(&self) -> Cursor
+        ensures place { HasPlace self.now result }
+        ensures rank { rank self.now result ≡ 0 }
+    {
+        START
+    }
+
+    /// The place after the member at a place.
+    pub fn after(&self, c: Cursor) -> Cursor
+        requires place { HasPlace self.now c }
+        requires there { rank self.now c < length (Members self.now) }
+        ensures place { HasPlace self.now result }
+        ensures rank { rank self.now result ≡ rank self.now c + 1 }
+    {
+        self.body.place_after(c, 1)
+    }
+
+    // The place before the i-th member, or after the last.
+    fn place_of(&self, i: usize) -> Cursor
+        requires { i ≤ length (Members self.now) }
+        ensures place { HasPlace self.now result }
+        ensures rank { rank self.now result ≡ i }
+    {
+        self.body.place_after(START, i)
     }
 
     /// One more than the greatest depth of a member, and 1 for the empty set.
     pub fn depth(&self) -> u32
         ensures { result ≡ depth (set_of (Members self.now)) }
     {
-        self.deep
+        self.body.depth()
     }
 
     /// The same set, which shares its members.
@@ -141,9 +147,7 @@ impl SetBody {
         ensures same { IfOk result (λ s. s ≡ self.now) }
     {
         Ok(SetBody {
-            items: self.items.clone()?,
-            deep: self.deep,
-            others: self.others,
+            body: self.body.clone()?,
         })
     }
 
@@ -152,19 +156,30 @@ impl SetBody {
     pub fn learn(&self)
         ensures { IsSetList (Members self.now) }
     {
-        let _ = &self.items;
+        self.body.learn();
+    }
+
+    /// Has no effect: it hands a proof that each page of a set has 1 to 64 members.
+    pub fn learn_pages(&self)
+        ensures { AllByRecursion IsPage self.now.pages }
+    {
+        self.body.learn_pages();
     }
 }
 
 /// The members of a set that are left to visit, in rising order. Contracts see it as that list.
 #[derive(Drop)]
 pub struct MemberIter<'a> {
+    // What is left of a page, and the pages behind it.
     pub(crate) rest: &'a [Value],
+    pub(crate) pages: &'a [Rc<Vec<Value>>],
 }
 
 impl<'a> Model for MemberIter<'a> {
-    ghost use Rattle.std.specs.Prelude.{List, map};
+    ghost use Rattle.std.specs.Prelude.{List, map, ◌++◌};
     ghost use Rattle.std.specs.Coded.{coded_list};
+    ghost use Rattle.std.specs.List.{AllByRecursion};
+    ghost use Rattle.setl_value.specs.Body.{IsPage, joined};
     ghost use Rattle.setl_value.specs.Datum.{Datum};
     ghost use Rattle.setl_value.specs.DatumCode.{coded_datum};
 
@@ -172,9 +187,11 @@ impl<'a> Model for MemberIter<'a> {
 
     ghost coded = { coded_list coded_datum };
 
-    ghost use Rattle.setl_value.specs.DatumOf.{datum};
+    ghost use Rattle.setl_value.specs.DatumOf.{datum, page};
 
-    ghost view = { λ s. map datum s.rest.now };
+    ghost view = { λ s. map datum s.rest.now ++ joined (map page s.pages.now) };
+
+    ghost invariant = { λ s. AllByRecursion IsPage (map page s.pages.now) };
 }
 
 impl<'a> Iterator for MemberIter<'a> {
@@ -185,85 +202,13 @@ impl<'a> Iterator for MemberIter<'a> {
     ghost remaining = { item_count (λ s. s) };
 
     fn next(&mut self) -> Option<&'a Value> {
+        if self.rest.is_empty() {
+            let (page, pages) = self.pages.split_first()?;
+            self.rest = page.as_slice();
+            self.pages = pages;
+        }
         let (first, others) = self.rest.split_first()?;
         self.rest = others;
         Some(first)
     }
-}
-
-// Each member keeps the rules of values.
-fn learn_members(members: &[Value])
-    ensures { AllByRecursion IsWellFormed (map datum members.now) }
-{
-    for v in members {
-        v.learn();
-    }
-}
-
-// The depth of a set that would be `before` deep with one more member, of depth `gone`.
-fn depth_without(members: &[Value], before: u32, gone: u32) -> u32
-    requires small { before ≤ 500 }
-    requires cut { max (depth (set_of (map datum members.now))) (gone + 1) ≡ before }
-    ensures { result ≡ depth (set_of (map datum members.now)) }
-{
-    if gone + 1 < before {
-        before
-    } else {
-        depth_of(members, before)
-    }
-}
-
-// The depth of a set of these members, which is at most `most`. It looks from the deepest kinds down, and no further
-// than a member that makes the set `most` deep.
-fn depth_of(members: &[Value], most: u32) -> u32
-    requires small { most ≤ 500 }
-    requires bound { depth (set_of (map datum members.now)) ≤ most }
-    ensures { result ≡ depth (set_of (map datum members.now)) }
-{
-    let mut deepest: u32 = 1;
-    let mut rest = members;
-    while let Some((last, others)) = rest.split_last() {
-        deepest = deepest.max(last.depth() + 1);
-        if deepest == most {
-            return most;
-        }
-        rest = others;
-    }
-    deepest
-}
-
-// 1 for a value that is no pair, and 0 for a pair.
-fn other(v: &Value) -> usize
-    ensures { result ≡ (if is_some (pair_parts (datum v.now)) then 0 else 1) }
-{
-    match v {
-        Value::Tuple(t) => usize::from(!is_pair(t)),
-        _ => 1,
-    }
-}
-
-// Whether a tuple is a pair.
-#[tactic(auto, using(crate::proofs::Others::pair_test))]
-fn is_pair(t: &TupleBody) -> bool
-    ensures { result ≡ is_some (pair_parts (tuple_of t.now)) }
-{
-    t.len() == 2 && is_there(t, 0) && is_there(t, 1)
-}
-
-// Whether the i-th component is there and isn't `om`.
-fn is_there(t: &TupleBody, i: usize) -> bool
-    ensures { result ≡ is_there (slice_get t.now i) }
-{
-    t.at(i).is_some()
-}
-
-// How many members are no pairs.
-fn others_in(members: &[Value]) -> usize
-    ensures { result ≡ other_count (map datum members.now) }
-{
-    let mut count = 0;
-    for v in members {
-        count += other(v);
-    }
-    count
 }

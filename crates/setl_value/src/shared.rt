@@ -46,7 +46,8 @@ pub(crate) fn replace_in<T: Clone + Drop>(
     replace_between(list, from, to, by)
 }
 
-fn replace_between<T: Drop>(
+/// Puts `by` in the place of the items from the `from`-th up to before the `to`-th.
+pub(crate) fn replace_between<T: Drop>(
     list: &mut Vec<T>,
     from: usize,
     to: usize,

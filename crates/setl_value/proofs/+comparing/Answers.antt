@@ -15,14 +15,6 @@ Value::compare-returns-in-Tuple-Tuple t c = rw (c.in-Tuple-Tuple.is-0, c.in-Tupl
 pub Value::compare-returns-in-Set-Set : goal.Value::compare-returns-in-Set-Set
 Value::compare-returns-in-Set-Set t c = rw (c.in-Set-Set.is-0, c.in-Set-Set.is-1) (c.compare-in-Set-Set.ensures ∙ sym (elements_cmp_as_lists (Members c.in-Set-Set.a) (Members c.in-Set-Set.b)))
 
-pub SetBody::compare-returns : goal.SetBody::compare-returns
-SetBody::compare-returns t c =
-    let xs = c.as_slice-members.result.now in
-    let ys = c.as_slice-others.result.now in
-    c.cmp.ensures ∙ sym (lex_end datum datum_cmp xs ys c.loop-i.i (omega (arith, c.loop-i.auto.i-end, c.loop-i-test.false, c.min-shared.ensures)))
-    ∙ sym c.loop-i.invariant
-    ∙ (λ k. slice_cmp datum_cmp ((ap (λ l. map datum l) (c.as_slice-members.ensures.value ∙ ap (λ v. v.items) c.deref.ensures) ∙ ap Members c.self.view_is) k) ((ap (λ l. map datum l) (c.as_slice-others.ensures.value ∙ ap (λ v. v.items) c.deref-2.ensures) ∙ ap Members c.other.view_is) k))
-
 pub TupleBody::compare-returns : goal.TupleBody::compare-returns
 TupleBody::compare-returns t c =
     let xs = c.as_slice-parts.result.now in

@@ -1,0 +1,22 @@
+use Rattle.std.proofs.Common.{◌≡◌, arith, ap, ◌∙◌, sym, subst, map, length}
+use Rattle.std.specs.List.{AllByRecursion}
+use Rattle.std.proofs.lemmas.List.{length-map}
+use Rattle.setl_value.proofs.Bodies.{set_from}
+use Rattle.setl_value.specs.Datum.{depth, set_of}
+use Rattle.setl_value.specs.DatumOf.{datum}
+use Rattle.setl_value.specs.Pairs.{other_count}
+use Rattle.setl_value.specs.WellFormed.{IsSetList, IsWellFormed}
+use Rattle.setl_value.proofs.Pages.from_rising.Goals as goal
+
+pub invariant_of-result : goal.invariant_of-result
+invariant_of-result c =
+    let vs = c.args.items.items in
+    let w = c.in_ok-paged.ensures.all in
+    let fine : AllByRecursion IsWellFormed (map datum vs) = subst (λ l. AllByRecursion IsWellFormed (map datum l)) c.as_slice.ensures.value c.learn_members.ensures in
+    record {
+      pages = c.in_ok-paged.ensures.pages;
+      members = subst IsSetList (sym w) (set_from (map datum vs) fine c.requires.rising c.requires.shallow);
+      counted = omega (arith, c.len-count.ensures, length-map vs datum, ap length w);
+      deepest = c.depth_of-deep.ensures ∙ ap (λ l. depth (set_of (map datum l))) c.as_slice-2.ensures.value ∙ ap (λ l. depth (set_of l)) (sym w);
+      no_pairs = c.others_in-others.ensures ∙ ap (λ l. other_count (map datum l)) c.as_slice-3.ensures.value ∙ ap other_count (sym w);
+    }

@@ -1,0 +1,10 @@
+use Rattle.std.proofs.Common.{ap, ◌∙◌, map, drop}
+use Rattle.setl_value.specs.Body.{Members, joined}
+use Rattle.setl_value.specs.DatumOf.{page}
+use Rattle.setl_value.specs.Places.{rank, rank_in}
+use Rattle.setl_value.proofs.Pages.members_from.Goals as goal
+
+pub returns : goal.returns
+unfolding rank
+returns c =
+    c.members_behind.ensures ∙ ap (λ l. drop (rank_in (map page l) c.args.c.page c.args.c.index) (joined (map page l))) c.as_slice.ensures.value ∙ ap (λ b. drop (rank b c.args.c) (Members b)) c.self.view_is

@@ -1,0 +1,23 @@
+use Rattle.std.proofs.Common.{◌≡◌, ◌+◌, arith, ap, ◌∙◌, sym, subst, map, ◌++◌, drop}
+use Rattle.std.specs.Prelude.{suc}
+use Rattle.std.specs.List.{AllByRecursion}
+use Rattle.std.proofs.lemmas.List.{drop-map}
+use Rattle.setl_value.specs.Body.{IsPage, joined}
+use Rattle.setl_value.specs.DatumOf.{page}
+use Rattle.setl_value.proofs.Bodies.{all_drop}
+use Rattle.setl_value.proofs.Paging.{dropped}
+use Rattle.setl_value.proofs.body.members_behind.Goals as goal
+
+pub invariant_of-result : goal.invariant_of-result
+invariant_of-result c =
+    let k = c.args.c.page + 1 in
+    let ps = map page c.args.list.now in
+    subst (AllByRecursion IsPage) (sym (ap (map page) c.pages_from.ensures ∙ sym (drop-map page k c.args.list.now))) (all_drop IsPage ps k c.requires.pages)
+
+pub returns : goal.returns
+returns c =
+    let k = c.args.c.page + 1 in
+    let ps = map page c.args.list.now in
+    let left : map page c.pages_from.result.now ≡ drop (suc c.args.c.page) ps =
+    ap (map page) c.pages_from.ensures ∙ sym (drop-map page k c.args.list.now) ∙ ap (λ n. drop n ps) {x = k} {y = suc c.args.c.page} (omega arith) in
+    (λ n. c.back.ensures n ++ joined (left n)) ∙ sym (dropped ps c.args.c.page c.args.c.index c.requires.place.1)

@@ -1,0 +1,10 @@
+use Rattle.std.specs.Prelude.{◌≡◌, ◌≤◌, length, map, max}
+use Rattle.setl_value.specs.Datum.{depth, set_of}
+use Rattle.setl_value.specs.DatumOf.{datum}
+use Rattle.setl_value.proofs.counts.depth_of.Given as goal
+
+abbrev pub invariant-loop-last : goal.invariant-loop-last
+invariant-loop-last l = (max l.deepest (depth (set_of (map datum l.rest))) ≡ depth (set_of (map datum l.members))) × (1 ≤ l.deepest)
+
+abbrev pub decreases-loop-last : goal.decreases-loop-last
+decreases-loop-last l = length l.rest

@@ -1,0 +1,17 @@
+use Rattle.std.proofs.Common.{arith, ap, ◌∙◌, [], ◌∷◌, map}
+use Rattle.std.proofs.lemmas.Result.{on_ok_weaker, on_err_weaker}
+use Rattle.setl_value.specs.DatumOf.{datum}
+use Rattle.setl_value.proofs.Bodies.{map-insert}
+use Rattle.setl_value.proofs.Paging.{written, unwritten}
+use Rattle.setl_value.proofs.page_list.put_in_page.Goals as goal
+
+pub returns-clause-put : goal.returns-clause-put
+returns-clause-put c =
+    let p = c.index_mut-changed.result.now in
+    on_ok_weaker c.put_in.result (λ e.
+    written c.args.list.now.items c.args.k c.args.i c.args.i p c.put_in.new.items (datum c.args.v ∷ []) c.requires.there c.index_mut-changed.ensures.value (omega arith) c.requires.place
+    (omega arith) (omega (arith, c.requires.room, c.requires.place)) (ap (map datum) e ∙ map-insert datum p.value.items c.args.i c.args.v)) c.put_in.ensures.put
+
+pub returns-clause-refused : goal.returns-clause-refused
+returns-clause-refused c =
+    on_err_weaker c.put_in.result (λ e. unwritten c.args.list.now.items c.args.k c.index_mut-changed.result.now c.put_in.new.items c.requires.there c.index_mut-changed.ensures.value e) c.put_in.ensures.refused

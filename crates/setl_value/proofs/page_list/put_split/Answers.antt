@@ -1,0 +1,13 @@
+use Rattle.std.proofs.Common.{ap, map, ◌∙◌, take, drop, ◌++◌, ◌∷◌, []}
+use Rattle.std.proofs.lemmas.Result.{on_ok_weaker}
+use Rattle.setl_value.specs.DatumOf.{datum, page}
+use Rattle.setl_value.specs.Places.{page_at}
+use Rattle.setl_value.proofs.Paging.{rebuilt}
+use Rattle.setl_value.proofs.page_list.put_split.Goals as goal
+
+pub returns-clause-put : goal.returns-clause-put
+returns-clause-put c =
+    let xs = c.args.list.now.items in
+    let k = c.args.k in
+    let i = c.args.i in
+    on_ok_weaker c.replace_between.result (λ e. rebuilt xs c.in_ok-two.two.items c.replace_between.new.list.items k i k i (datum c.args.v ∷ []) c.in_ok-two.ensures.pages (c.in_ok-two.ensures.all ∙ ap (λ m. take i m ++ datum c.args.v ∷ drop i m) (c.members_at.ensures ∙ ap (λ l. page_at (map page l) k) c.deref.ensures.value)) e) c.replace_between.ensures.replaced
