@@ -1,15 +1,15 @@
 -- Lists of components of which some at the front were taken off.
-use Rattle.std.specs.Prelude.{◌≡◌, ℕ, zero, suc, ◌+◌, ◌-◌, ◌≤◌, ◌<◌, List, [], ◌∷◌, take, drop, map, refl, length, slice_get, slice_set, Option, Some, None, max}
+use Rattle.std.specs.Prelude.{◌≡◌, ℕ, zero, suc, ◌+◌, ◌-◌, ◌≤◌, ◌<◌, List, [], ◌∷◌, ◌++◌, take, drop, map, refl, length, slice_get, slice_set, Option, Some, None, max}
 use Rattle.std.specs.List.{remove}
 use Rattle.std.specs.Option.{unwrap_or}
 use Rattle.std.proofs.Common.{arith, ap, sym, ◌∙◌, subst}
 use Rattle.std.proofs.Common.{◌⊎◌, inl, inr}
-use Rattle.std.proofs.lemmas.List.{drop-map, drop-set-lt, length-drop, length-map, length-set}
+use Rattle.std.proofs.lemmas.List.{append-nil, drop-append-le, drop-map, drop-set-lt, length-drop, length-map, length-set, map-append, length-append}
 use Rattle.std.proofs.lemmas.Option.{none-some}
 use Rattle.setl_value.specs.declared.Value.{Value}
-use Rattle.setl_value.specs.Datum.{Datum, depth, part_depth, parts_of, part_list, tuple_of}
+use Rattle.setl_value.specs.Datum.{Datum, depth, part_depth, parts_depth, parts_of, part_list, part_list-parts_of, tuple_of}
 use Rattle.setl_value.specs.DatumOf.{part}
-use Rattle.setl_value.specs.WellFormed.{put, trim, EndsIn, IsTrimmed, IsTupleList}
+use Rattle.setl_value.specs.WellFormed.{put, trim, EndsIn, IsTrimmed, IsTupleList, PartsAreWellFormed}
 use Rattle.setl_value.proofs.Depths.{parts_cons, parts_put}
 use Rattle.setl_value.proofs.Trim.{last_taken, last_cut}
 
@@ -167,3 +167,57 @@ module _ (s : ℕ) (xs : List (Option Value)) (ps : List (Option Datum)) (w : ma
   -- the components before the last, as data
   pub end_cut : (ys : List (Option Datum)) → ys ≡ trim (map part (drop s (remove xs (length xs - 1)))) → ys ≡ trim (remove ps (length ps - 1))
   end_cut ys h = last_cut (drop s xs) ps w ys (h ∙ ap (λ l. trim (map part l)) (remove_behind s xs inside))
+
+-- ---- one tuple after another
+
+deep_none : (xs : List (Option Value)) → deep_of xs ≡ max 1 (deep_of xs)
+deep_none xs = omega arith
+
+deep_append : (xs ys : List (Option Value)) → deep_of (xs ++ ys) ≡ max (deep_of xs) (deep_of ys)
+deep_append [] ys = deep_none ys
+deep_append (x ∷ xs) ys = omega (arith, deep_cons x (xs ++ ys), deep_cons x xs, deep_append xs ys)
+
+ends_later : (p q : Option Datum) (ps : List (Option Datum)) → EndsIn q ps → EndsIn p (q ∷ ps)
+ends_later None q ps h = h
+ends_later (Some d) q ps h = h
+
+ends_append : (p q : Option Datum) (ps qs : List (Option Datum)) → EndsIn q qs → EndsIn p (ps ++ q ∷ qs)
+ends_append p q [] qs h = ends_later p q qs h
+ends_append p q (r ∷ ps) qs h = ends_later p r (ps ++ q ∷ qs) (ends_append r q ps qs h)
+
+trimmed_append : (ps qs : List (Option Datum)) → IsTrimmed ps → IsTrimmed qs → IsTrimmed (ps ++ qs)
+trimmed_append ps [] h k = subst IsTrimmed (sym (append-nil ps)) h
+trimmed_append [] (q ∷ qs) h k = k
+trimmed_append (p ∷ ps) (q ∷ qs) h k = ends_append p q ps qs k
+
+formed_append : (ps qs : List (Option Datum)) → PartsAreWellFormed (parts_of ps) → PartsAreWellFormed (parts_of qs) → PartsAreWellFormed (parts_of (ps ++ qs))
+formed_append [] qs h k = k
+formed_append (None ∷ ps) qs h k = formed_append ps qs h k
+formed_append (Some d ∷ ps) qs h k = (h.0, formed_append ps qs h.1 k)
+
+parts_append : (ps qs : List (Option Datum)) → parts_depth (parts_of (ps ++ qs)) ≡ max (parts_depth (parts_of ps)) (parts_depth (parts_of qs))
+parts_append [] qs = omega arith
+parts_append (p ∷ ps) qs = omega (arith, parts_cons p (ps ++ qs), parts_cons p ps, parts_append ps qs)
+
+pub tuple_append : (ps qs : List (Option Datum)) → IsTupleList ps → IsTupleList qs → IsTupleList (ps ++ qs)
+tuple_append ps qs h k = (
+  (
+    formed_append ps qs h.0.0 k.0.0,
+    subst IsTrimmed (sym (part_list-parts_of (ps ++ qs))) (trimmed_append ps qs (subst IsTrimmed (part_list-parts_of ps) h.0.1) (subst IsTrimmed (part_list-parts_of qs) k.0.1)),
+  ),
+  omega (arith, parts_append ps qs, h.1, k.1),
+)
+
+-- what stands in a list, with more behind it
+module _ (s : ℕ) (xs more ys : List (Option Value)) (within : s ≤ length xs) (appended : ys ≡ xs ++ more) where
+  pub behind_appended : map part (drop s ys) ≡ map part (drop s xs) ++ map part more
+  behind_appended = ap (λ l. map part (drop s l)) appended ∙ ap (map part) (drop-append-le s xs more within) ∙ map-append part (drop s xs) more
+
+  pub deep_behind : deep_of (drop s ys) ≡ max (deep_of (drop s xs)) (deep_of more)
+  deep_behind = ap (λ l. deep_of (drop s l)) appended ∙ ap deep_of (drop-append-le s xs more within) ∙ deep_append (drop s xs) more
+
+  pub deep_appended : deep_of ys ≡ max (deep_of xs) (deep_of more)
+  deep_appended = ap deep_of appended ∙ deep_append xs more
+
+  pub long_appended : s ≤ length ys
+  long_appended = omega (arith, ap length appended, length-append xs more, within)

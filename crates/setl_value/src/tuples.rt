@@ -1,13 +1,13 @@
 //! The body of a tuple: a list of components that doesn't end in `om`, and its depth. What was taken off at the front may
 //! still stand in the list, before the place where the tuple starts.
 
-ghost use Rattle.std.specs.Prelude.{◌≡◌, ◌<◌, ◌≤◌, ◌+◌, ◌-◌, ◌∷◌, ◌⊎◌, length, slice_get, slice_set, take, drop, map, max, unwrap_or, is_none, IfOk, OnErr, OnOk, MatchOption, Some, None};
+ghost use Rattle.std.specs.Prelude.{◌≡◌, ◌<◌, ◌≤◌, ◌+◌, ◌-◌, ◌++◌, ◌∷◌, ◌⊎◌, length, slice_get, slice_set, take, drop, map, max, unwrap_or, is_none, IfOk, OnErr, OnOk, MatchOption, Some, None};
 ghost use Rattle.std.specs.List.{remove, AllByRecursion};
 ghost use Rattle.setl_value.specs.Datum.{depth, part_depth, tuple_of};
 ghost use Rattle.setl_value.specs.DatumOf.{datum, part};
 ghost use Rattle.setl_value.specs.WellFormed.{IsTupleList, PartIsWellFormed, trim, put};
 
-use crate::shared::drop_front;
+use crate::shared::{append_in, drop_front};
 use crate::{Memory, TupleBody, Value};
 use std::alloc::Global;
 use std::rc::Rc;
@@ -60,6 +60,17 @@ impl TupleBody {
         self.start = settled(&mut self.parts, self.start, self.deep, gone, came)?;
         put_part(&mut self.parts, self.start, i, v)?;
         self.deep = depth_after(from(&self.parts, self.start), self.deep, gone, came);
+        Ok(())
+    }
+
+    /// Puts the components of another tuple after the last one. Where memory is refused, the tuple is as before.
+    pub fn append(&mut self, other: &TupleBody) -> Result<(), Memory>
+        ensures joined { OnOk result (self.new ≡ self.old ++ other.now) }
+        ensures refused { OnErr result (self.new ≡ self.old) }
+    {
+        let deep = other.deep;
+        append_in(&mut self.parts, from(&other.parts, other.start))?;
+        self.deep = self.deep.max(deep);
         Ok(())
     }
 
