@@ -36,7 +36,7 @@ depth_taken (suc n) d ds h = omega (arith, ap (λ m. depth (set_of (take m ds)))
 
 -- ---- components
 
-parts_cons : (p : Option Datum) (ps : List (Option Datum)) → parts_depth (parts_of (p ∷ ps)) ≡ max (part_depth p) (parts_depth (parts_of ps))
+pub parts_cons : (p : Option Datum) (ps : List (Option Datum)) → parts_depth (parts_of (p ∷ ps)) ≡ max (part_depth p) (parts_depth (parts_of ps))
 parts_cons None ps = omega arith
 parts_cons (Some d) ps = omega arith
 
@@ -57,7 +57,7 @@ parts_remove (q ∷ ps) (suc i) p e = omega (arith, parts_cons q ps, parts_cons 
 pub tuple_without : (ps : List (Option Datum)) (i : ℕ) (p : Option Datum) → slice_get ps i ≡ Some p → max (depth (tuple_of (trim (remove ps i)))) (part_depth p + 1) ≡ depth (tuple_of ps)
 tuple_without ps i p e = omega (arith, parts_remove ps i p e, trim_depth (remove ps i))
 
-parts_put : (ps : List (Option Datum)) (i : ℕ) (p : Option Datum) → max (parts_depth (parts_of (put ps i p))) (part_depth (unwrap_or (slice_get ps i) None)) ≡ max (parts_depth (parts_of ps)) (part_depth p)
+pub parts_put : (ps : List (Option Datum)) (i : ℕ) (p : Option Datum) → max (parts_depth (parts_of (put ps i p))) (part_depth (unwrap_or (slice_get ps i) None)) ≡ max (parts_depth (parts_of ps)) (part_depth p)
 parts_put [] i p = omega (arith, parts_cons p [])
 parts_put (q ∷ ps) zero p = omega (arith, parts_cons p ps, parts_cons q ps)
 parts_put (q ∷ ps) (suc i) p = omega (arith, parts_cons q (put ps i p), parts_cons q ps, parts_put ps i p)

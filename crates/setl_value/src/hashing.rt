@@ -73,7 +73,7 @@ fn feed_members<H: Hasher>(s: &SetBody, state: &mut H)
 fn feed_parts<H: Hasher>(t: &TupleBody, state: &mut H)
     ensures { state.new ≡ fold H.write state.old (parts_writes (parts_of t.now)) }
 {
-    let parts = t.parts.as_slice();
+    let parts = &t.parts[t.start..];
     for p in parts {
         feed_part(p, state);
     }

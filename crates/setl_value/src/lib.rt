@@ -68,6 +68,8 @@ pub(crate) struct Pages {
 #[derive(Drop)]
 pub struct TupleBody {
     parts: Rc<Vec<Option<Value>>>,
+    // Where the components begin in the list. Those before were taken off.
+    start: usize,
     deep: u32,
 }
 
@@ -114,7 +116,7 @@ impl Model for Pages {
 }
 
 impl Model for TupleBody {
-    ghost use Rattle.std.specs.Prelude.{List, map, Option, ◌≡◌, ◌*◌};
+    ghost use Rattle.std.specs.Prelude.{List, map, drop, length, Option, ◌≡◌, ◌≤◌, ◌*◌};
     ghost use Rattle.std.specs.Coded.{coded_list, coded_option};
     ghost use Rattle.setl_value.specs.Datum.{Datum, tuple_of, depth};
     ghost use Rattle.setl_value.specs.DatumCode.{coded_datum};
@@ -126,9 +128,10 @@ impl Model for TupleBody {
     ghost use Rattle.setl_value.specs.DatumOf.{part};
     ghost use Rattle.setl_value.specs.WellFormed.{IsTupleList};
 
-    ghost view = { λ s. map part s.parts.value.items };
+    ghost view = { λ s. map part (drop s.start s.parts.value.items) };
 
-    ghost invariant = { λ s. IsTupleList (map part s.parts.value.items) × (s.deep ≡ depth (tuple_of (map part s.parts.value.items))) };
+    // What was taken off isn't deeper than what is left.
+    ghost invariant = { λ s. IsTupleList (map part (drop s.start s.parts.value.items)) × (s.deep ≡ depth (tuple_of (map part (drop s.start s.parts.value.items)))) × (depth (tuple_of (map part s.parts.value.items)) ≤ s.deep) × (s.start ≤ length s.parts.value.items) };
 
     ghost size = { λ ps. 2 * depth (tuple_of ps) };
 

@@ -64,8 +64,8 @@ impl TupleBody {
     pub fn compare(&self, other: &TupleBody) -> Ordering
         ensures { result ≡ slice_cmp (option_cmp datum_cmp) self.now other.now }
     {
-        let parts = self.parts.as_slice();
-        let others = other.parts.as_slice();
+        let parts = &self.parts[self.start..];
+        let others = &other.parts[other.start..];
         let shared = parts.len().min(others.len());
         for i in 0..shared {
             match compare_parts(&parts[i], &others[i]) {

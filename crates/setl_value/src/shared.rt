@@ -30,6 +30,38 @@ pub(crate) fn cut_in<T: Clone>(items: &mut Rc<Vec<T>>, i: usize) -> Result<T, Me
     Ok(list.remove(i))
 }
 
+/// Puts copies of some items after the last one.
+pub(crate) fn append_in<T: Clone>(items: &mut Rc<Vec<T>>, more: &[T]) -> Result<(), Memory>
+    requires exact { (x y : T) → T.is_clone x y → y ≡ x }
+    ensures appended { OnOk result (items.new.value.items ≡ items.old.value.items ++ more.now) }
+    ensures refused { OnErr result (items.new.value.items ≡ items.old.value.items) }
+{
+    let list = Rc::make_mut(items)?;
+    extend(list, more)
+}
+
+fn extend<T: Clone>(list: &mut Vec<T>, more: &[T]) -> Result<(), Memory>
+    requires exact { (x y : T) → T.is_clone x y → y ≡ x }
+    ensures appended { OnOk result (list.new.items ≡ list.old.items ++ more.now) }
+    ensures refused { OnErr result (list.new.items ≡ list.old.items) }
+{
+    list.extend_with_clones(more)?;
+    Ok(())
+}
+
+/// Drops the first `n` items.
+pub(crate) fn drop_front<T: Clone + Drop>(items: &mut Rc<Vec<T>>, n: usize) -> Result<(), Memory>
+    requires exact { (x y : T) → T.is_clone x y → y ≡ x }
+    requires inside { n ≤ length items.old.value.items }
+    ensures dropped { OnOk result (items.new.value.items ≡ drop n items.old.value.items) }
+    ensures refused { OnErr result (items.new.value.items ≡ items.old.value.items) }
+{
+    let list = Rc::make_mut(items)?;
+    let rest = list.split_off(n)?;
+    *list = rest;
+    Ok(())
+}
+
 /// Puts `by` in the place of the items from the `from`-th up to before the `to`-th.
 pub(crate) fn replace_in<T: Clone + Drop>(
     items: &mut Rc<Vec<T>>,

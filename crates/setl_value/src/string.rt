@@ -1,10 +1,11 @@
 //! Strings: lists of bytes without byte 10.
 
-ghost use Rattle.std.specs.Prelude.{◌≡◌, IfOk};
+ghost use Rattle.std.specs.Prelude.{◌≡◌, ◌++◌, IfOk, OnErr, OnOk};
 ghost use Rattle.std.specs.List.{All, AllByRecursion};
 ghost use Rattle.setl_value.specs.WellFormed.{IsTextByte};
 
 use crate::Memory;
+use crate::shared::append_in;
 use std::alloc::Global;
 use std::marker::Model;
 use std::rc::Rc;
@@ -44,6 +45,14 @@ impl Text {
         Ok(Text {
             bytes: Rc::new(alloc, bytes)?,
         })
+    }
+
+    /// Puts the bytes of another string after the last one. Where memory is refused, the string is as before.
+    pub fn append(&mut self, other: &Text) -> Result<(), Memory>
+        ensures joined { OnOk result (self.new ≡ self.old ++ other.now) }
+        ensures refused { OnErr result (self.new ≡ self.old) }
+    {
+        append_in(&mut self.bytes, other.bytes.as_slice())
     }
 
     /// The bytes of the string.

@@ -1,12 +1,13 @@
-//! The body of a tuple: a list of components that doesn't end in `om`, and its depth.
+//! The body of a tuple: a list of components that doesn't end in `om`, and its depth. What was taken off at the front may
+//! still stand in the list, before the place where the tuple starts.
 
-ghost use Rattle.std.specs.Prelude.{◌≡◌, ◌<◌, ◌≤◌, ◌+◌, ◌-◌, ◌∷◌, ◌⊎◌, length, slice_get, slice_set, take, map, max, unwrap_or, is_none, IfOk, OnErr, OnOk, MatchOption, Some, None};
+ghost use Rattle.std.specs.Prelude.{◌≡◌, ◌<◌, ◌≤◌, ◌+◌, ◌-◌, ◌++◌, ◌∷◌, ◌⊎◌, length, slice_get, slice_set, take, drop, map, max, unwrap_or, is_none, IfOk, OnErr, OnOk, MatchOption, Some, None};
 ghost use Rattle.std.specs.List.{remove, AllByRecursion};
 ghost use Rattle.setl_value.specs.Datum.{depth, part_depth, tuple_of};
 ghost use Rattle.setl_value.specs.DatumOf.{datum, part};
 ghost use Rattle.setl_value.specs.WellFormed.{IsTupleList, PartIsWellFormed, trim, put};
 
-use crate::shared::cut_in;
+use crate::shared::{append_in, drop_front};
 use crate::{Memory, TupleBody, Value};
 use std::alloc::Global;
 use std::rc::Rc;
@@ -19,10 +20,11 @@ impl TupleBody {
     {
         let mut parts = parts;
         learn_parts(parts.as_slice());
-        trim_end(&mut parts);
+        trim_end(&mut parts, 0);
         let deep = depth_of(parts.as_slice(), 500);
         Ok(TupleBody {
             parts: Rc::new(alloc, parts)?,
+            start: 0,
             deep,
         })
     }
@@ -31,14 +33,14 @@ impl TupleBody {
     pub fn len(&self) -> usize
         ensures { result ≡ length self.now }
     {
-        self.parts.len()
+        self.parts.len() - self.start
     }
 
     /// The i-th component, counted from 0. It is `om` past the end.
     pub fn at(&self, i: usize) -> Option<&Value>
         ensures { MatchOption result ((slice_get self.now i ≡ Some None) ⊎ (slice_get self.now i ≡ None)) (λ v. slice_get self.now i ≡ Some (Some (datum v.now))) }
     {
-        match self.parts.get(i) {
+        match from(&self.parts, self.start).get(i) {
             Some(Some(v)) => Some(v),
             _ => None,
         }
@@ -54,21 +56,44 @@ impl TupleBody {
     {
         learn_part(&v);
         let came = depth_of_part(&v);
-        let gone = depth_at(self.parts.as_slice(), i);
-        put_part(&mut self.parts, i, v)?;
-        self.deep = depth_after(self.parts.as_slice(), self.deep, gone, came);
+        let gone = depth_at(from(&self.parts, self.start), i);
+        self.start = settled(&mut self.parts, self.start, self.deep, gone, came)?;
+        put_part(&mut self.parts, self.start, i, v)?;
+        self.deep = depth_after(from(&self.parts, self.start), self.deep, gone, came);
         Ok(())
     }
 
-    /// Takes the first component off. Where memory is refused, the tuple is as before.
+    /// Puts the components of another tuple after the last one. Where memory is refused, the tuple is as before.
+    pub fn append(&mut self, other: &TupleBody) -> Result<(), Memory>
+        ensures joined { OnOk result (self.new ≡ self.old ++ other.now) }
+        ensures refused { OnErr result (self.new ≡ self.old) }
+    {
+        let deep = other.deep;
+        append_in(&mut self.parts, from(&other.parts, other.start))?;
+        self.deep = self.deep.max(deep);
+        Ok(())
+    }
+
+    /// Takes the first component off. Where memory is refused, the tuple is as before. It is moved out of a list with no
+    /// other owner, and the others stay where they are until half of the list is gone.
     pub fn cut_front(&mut self) -> Result<Option<Value>, Memory>
         requires { 0 < length self.old }
         ensures cut { IfOk result (λ p. self.old ≡ part p ∷ self.new) }
         ensures refused { OnErr result (self.new ≡ self.old) }
     {
-        let first = cut_in(&mut self.parts, 0)?;
-        self.deep = depth_after(self.parts.as_slice(), self.deep, depth_of_part(&first), 0);
-        Ok(first)
+        let gone = depth_at(from(&self.parts, self.start), 0);
+        let deep = depth_after(from(&self.parts, self.start + 1), self.deep, gone, 0);
+        if deep < self.deep || self.start >= self.parts.len() / 2 {
+            let first = self.parts[self.start].clone()?;
+            drop_front(&mut self.parts, self.start + 1)?;
+            self.start = 0;
+            self.deep = deep;
+            Ok(first)
+        } else {
+            let first = take_part(&mut self.parts, self.start)?;
+            self.start += 1;
+            Ok(first)
+        }
     }
 
     /// Takes the last component off, and then the `om` at the end. Where memory is refused, the tuple is as before.
@@ -78,8 +103,10 @@ impl TupleBody {
         ensures cut { OnOk result (self.new ≡ trim (remove self.old (length self.old - 1))) }
         ensures refused { OnErr result (self.new ≡ self.old) }
     {
-        let last = cut_last(&mut self.parts)?;
-        self.deep = depth_after(self.parts.as_slice(), self.deep, depth_of_part(&last), 0);
+        let gone = depth_at(from(&self.parts, self.start), self.len() - 1);
+        self.start = settled(&mut self.parts, self.start, self.deep, gone, 0)?;
+        let last = cut_last(&mut self.parts, self.start)?;
+        self.deep = depth_after(from(&self.parts, self.start), self.deep, gone, 0);
         Ok(last)
     }
 
@@ -96,6 +123,7 @@ impl TupleBody {
     {
         Ok(TupleBody {
             parts: self.parts.clone()?,
+            start: self.start,
             deep: self.deep,
         })
     }
@@ -109,30 +137,109 @@ impl TupleBody {
     }
 }
 
-// Writes the i-th component, or one more at the end, and drops the `om` at the end.
-fn put_part(parts: &mut Rc<Vec<Option<Value>>>, i: usize, v: Option<Value>) -> Result<(), Memory>
-    requires { i ≤ length parts.old.value.items }
-    ensures put { OnOk result (map part parts.new.value.items ≡ trim (put (map part parts.old.value.items) i (part v))) }
+// The components from `start` on.
+fn from(parts: &[Option<Value>], start: usize) -> &[Option<Value>]
+    requires { start ≤ length parts.now }
+    ensures { result.now ≡ drop start parts.now }
+{
+    &parts[start..]
+}
+
+// Where the components of a tuple begin, after all before them went where these were over half of the list, or where
+// the depth may fall as a component of depth `came` takes the place of one of depth `gone`.
+fn settled(
+    parts: &mut Rc<Vec<Option<Value>>>,
+    start: usize,
+    deep: u32,
+    gone: u32,
+    came: u32,
+) -> Result<usize, Memory>
+    requires { start ≤ length parts.old.value.items }
+    ensures same { IfOk result (λ s. drop s parts.new.value.items ≡ drop start parts.old.value.items) }
+    ensures inside { IfOk result (λ s. s ≤ length parts.new.value.items) }
+    ensures shallow { depth (tuple_of (map part parts.new.value.items)) ≤ depth (tuple_of (map part parts.old.value.items)) }
+    ensures settled { IfOk result (λ s. (s ≡ 0) ⊎ ((gone ≤ came) ⊎ (gone + 1 < deep))) }
+    ensures refused { OnErr result (parts.new.value.items ≡ parts.old.value.items) }
+{
+    if start <= parts.len() / 2 && (gone <= came || gone < deep.saturating_sub(1)) {
+        return Ok(start);
+    }
+    drop_front(parts, start)?;
+    Ok(0)
+}
+
+// Writes the i-th component from `start` on, or one more at the end, and drops the `om` at the end.
+fn put_part(
+    parts: &mut Rc<Vec<Option<Value>>>,
+    start: usize,
+    i: usize,
+    v: Option<Value>,
+) -> Result<(), Memory>
+    requires { start + i ≤ length parts.old.value.items }
+    ensures put { OnOk result (map part (drop start parts.new.value.items) ≡ trim (put (map part (drop start parts.old.value.items)) i (part v))) }
+    ensures inside { OnOk result (start ≤ length parts.new.value.items) }
+    ensures shallow { OnOk result (depth (tuple_of (map part parts.new.value.items)) ≤ max (depth (tuple_of (map part parts.old.value.items))) (part_depth (part v) + 1)) }
     ensures refused { OnErr result (parts.new.value.items ≡ parts.old.value.items) }
 {
     let list = Rc::make_mut(parts)?;
-    place_part(list, i, v)?;
-    trim_end(list);
+    put_behind(list, start, i, v)
+}
+
+fn put_behind(
+    list: &mut Vec<Option<Value>>,
+    start: usize,
+    i: usize,
+    v: Option<Value>,
+) -> Result<(), Memory>
+    requires { start + i ≤ length list.old.items }
+    ensures put { OnOk result (map part (drop start list.new.items) ≡ trim (put (map part (drop start list.old.items)) i (part v))) }
+    ensures inside { OnOk result (start ≤ length list.new.items) }
+    ensures shallow { OnOk result (depth (tuple_of (map part list.new.items)) ≤ max (depth (tuple_of (map part list.old.items))) (part_depth (part v) + 1)) }
+    ensures refused { OnErr result (list.new.items ≡ list.old.items) }
+{
+    place_part(list, start + i, v)?;
+    trim_end(list, start);
     Ok(())
 }
 
-// Takes the last component off, and then the `om` at the end.
-fn cut_last(parts: &mut Rc<Vec<Option<Value>>>) -> Result<Option<Value>, Memory>
-    requires { 0 < length parts.old.value.items }
+// Moves the i-th component out of a list with no other owner, and else copies it.
+fn take_part(parts: &mut Rc<Vec<Option<Value>>>, i: usize) -> Result<Option<Value>, Memory>
+    requires { i < length parts.old.value.items }
+    ensures taken { IfOk result (λ p. slice_get parts.old.value.items i ≡ Some p) }
+    ensures left { (parts.new.value.items ≡ parts.old.value.items) ⊎ (parts.new.value.items ≡ slice_set parts.old.value.items i None) }
+    ensures refused { OnErr result (parts.new.value.items ≡ parts.old.value.items) }
+{
+    if Rc::strong_count(parts) > 1 {
+        return parts[i].clone();
+    }
+    let list = Rc::make_mut(parts)?;
+    Ok(list[i].take())
+}
+
+// Takes the last component off, and then the `om` at the end, down to `start`.
+fn cut_last(parts: &mut Rc<Vec<Option<Value>>>, start: usize) -> Result<Option<Value>, Memory>
+    requires { start < length parts.old.value.items }
     ensures taken { IfOk result (λ p. slice_get parts.old.value.items (length parts.old.value.items - 1) ≡ Some p) }
-    ensures cut { OnOk result (map part parts.new.value.items ≡ trim (map part (remove parts.old.value.items (length parts.old.value.items - 1)))) }
+    ensures cut { OnOk result (map part (drop start parts.new.value.items) ≡ trim (map part (drop start (remove parts.old.value.items (length parts.old.value.items - 1))))) }
+    ensures inside { OnOk result (start ≤ length parts.new.value.items) }
+    ensures shallow { OnOk result (depth (tuple_of (map part parts.new.value.items)) ≤ depth (tuple_of (map part parts.old.value.items))) }
     ensures refused { OnErr result (parts.new.value.items ≡ parts.old.value.items) }
 {
     let list = Rc::make_mut(parts)?;
+    Ok(cut_behind(list, start))
+}
+
+fn cut_behind(list: &mut Vec<Option<Value>>, start: usize) -> Option<Value>
+    requires { start < length list.old.items }
+    ensures taken { slice_get list.old.items (length list.old.items - 1) ≡ Some result }
+    ensures cut { map part (drop start list.new.items) ≡ trim (map part (drop start (remove list.old.items (length list.old.items - 1)))) }
+    ensures inside { start ≤ length list.new.items }
+    ensures shallow { depth (tuple_of (map part list.new.items)) ≤ depth (tuple_of (map part list.old.items)) }
+{
     let end = list.len() - 1;
     let last = list.remove(end);
-    trim_end(list);
-    Ok(last)
+    trim_end(list, start);
+    last
 }
 
 #[tactic(auto, using(crate::proofs::Trim::put_set, crate::proofs::Trim::put_push))]
@@ -157,12 +264,15 @@ fn replace_part(list: &mut Vec<Option<Value>>, i: usize, v: Option<Value>)
     list[i] = v;
 }
 
-// Drops the `om` at the end.
-fn trim_end(list: &mut Vec<Option<Value>>)
-    ensures { map part list.new.items ≡ trim (map part list.old.items) }
+// Drops the `om` at the end, down to `start`.
+fn trim_end(list: &mut Vec<Option<Value>>, start: usize)
+    requires { start ≤ length list.old.items }
+    ensures trimmed { map part (drop start list.new.items) ≡ trim (map part (drop start list.old.items)) }
+    ensures inside { start ≤ length list.new.items }
+    ensures shallow { depth (tuple_of (map part list.new.items)) ≤ depth (tuple_of (map part list.old.items)) }
 {
-    let n = kept(list.as_slice());
-    list.truncate(n);
+    let n = kept(from(list.as_slice(), start));
+    list.truncate(start + n);
 }
 
 // How many components stand before the `om` at the end.
