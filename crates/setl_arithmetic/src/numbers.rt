@@ -1,15 +1,16 @@
 //! The arithmetic operators, some of which serve sets, tuples and strings too.
 
-ghost use Rattle.std.specs.Prelude.{◌≡◌, ◌<◌, ◌≤◌, ◌<ℤ◌, ◌++◌, ◌⊎◌, ℕ, pos, MatchResult};
+ghost use Rattle.std.specs.Prelude.{◌≡◌, ◌<◌, ◌≤◌, ◌<ℤ◌, ◌++◌, ◌⊎◌, ℕ, pos, MatchResult, OnErr};
 ghost use Rattle.setl_value.specs.Body.{Members};
 ghost use Rattle.setl_value.specs.Datum.{int, set_of, text, tuple_of};
 ghost use Rattle.setl_value.specs.DatumOf.{datum};
 ghost use Rattle.setl_map.specs.Outcome.{value};
 ghost use Rattle.setl_map.specs.Numbers.{negate, absolute, is_even, is_odd, raise, divide, greater, lesser, plus, minus, modulo, times, replicated};
-ghost use Rattle.setl_map.specs.Answers.{Tells};
+ghost use Rattle.setl_map.specs.Answers.{Changes, Tells};
 
 use setl_map::answers::{free, set, string, truth, tuple, whole};
 use setl_map::{Answer, OpFault};
+use setl_scalar::ScalarFault;
 use setl_value::{SetBody, Text, TupleBody, Value};
 use std::alloc::Global;
 
@@ -116,6 +117,80 @@ fn joined(alloc: Global, a: &Text, b: &Text) -> Result<Answer, OpFault>
         Ok(t) => string(t),
         Err(_) => Err(OpFault::NoMemory),
     }
+}
+
+/// `a + b` in place, which answers what it charges: no turn. A tuple or string that has no other owner grows where it
+/// stands. The faults are those of `plus`; after a fault `a` is as before.
+pub fn plus_in_place(alloc: Global, a: &mut Value, b: &Value) -> Result<u64, OpFault>
+    ensures changes { Changes result (plus (datum a.old) (datum b.now)) (datum a.new) }
+    ensures refused { OnErr result (a.new ≡ a.old) }
+{
+    match a {
+        Value::Int(x) => add_integer(x, b),
+        Value::Set(x) => add_set(alloc, x, b),
+        Value::Tuple(x) => append_tuple(x, b),
+        Value::Text(x) => append_string(x, b),
+        Value::Bool(_) => Err(OpFault::Kind),
+        Value::Atom(_) => Err(OpFault::Kind),
+    }
+}
+
+/// An integer with any value added to it.
+fn add_integer(x: &mut i128, b: &Value) -> Result<u64, OpFault>
+    ensures changes { Changes result (plus (int x.old) (datum b.now)) (int x.new) }
+    ensures refused { OnErr result (x.new ≡ x.old) }
+{
+    let Value::Int(y) = b else {
+        return Err(OpFault::Kind);
+    };
+    match setl_scalar::add(*x, *y) {
+        Ok(sum) => {
+            *x = sum;
+            Ok(0)
+        }
+        Err(ScalarFault::Wide) => Err(OpFault::Wide),
+        Err(ScalarFault::Zero) => Err(OpFault::Zero),
+        Err(ScalarFault::Range) => Err(OpFault::Range),
+        Err(ScalarFault::NoMemory) => Err(OpFault::NoMemory),
+    }
+}
+
+/// A set with the members of any value.
+#[tactic(auto, using(crate::proofs::Views::members_back))]
+fn add_set(alloc: Global, x: &mut SetBody, b: &Value) -> Result<u64, OpFault>
+    ensures changes { Changes result (plus (set_of (Members x.old)) (datum b.now)) (set_of (Members x.new)) }
+    ensures refused { OnErr result (x.new ≡ x.old) }
+{
+    let Value::Set(y) = b else {
+        return Err(OpFault::Kind);
+    };
+    *x = setl_set::union(alloc, x, y)?;
+    Ok(0)
+}
+
+/// A tuple with the components of any value behind its own.
+#[tactic(auto, using(crate::proofs::Views::parts_back))]
+fn append_tuple(x: &mut TupleBody, b: &Value) -> Result<u64, OpFault>
+    ensures changes { Changes result (plus (tuple_of x.old) (datum b.now)) (tuple_of x.new) }
+    ensures refused { OnErr result (x.new ≡ x.old) }
+{
+    let Value::Tuple(y) = b else {
+        return Err(OpFault::Kind);
+    };
+    x.append(y)?;
+    Ok(0)
+}
+
+/// A string with the bytes of any value behind its own.
+fn append_string(x: &mut Text, b: &Value) -> Result<u64, OpFault>
+    ensures changes { Changes result (plus (text x.old) (datum b.now)) (text x.new) }
+    ensures refused { OnErr result (x.new ≡ x.old) }
+{
+    let Value::Text(y) = b else {
+        return Err(OpFault::Kind);
+    };
+    x.append(y)?;
+    Ok(0)
 }
 
 /// `a - b`: the difference of integers or sets. Kind for other operands, Wide past 128 bits.

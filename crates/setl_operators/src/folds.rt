@@ -5,10 +5,11 @@ ghost use Rattle.setl_value.specs.Body.{Members};
 ghost use Rattle.setl_value.specs.DatumOf.{datum, lent, part};
 ghost use Rattle.setl_map.specs.Answers.{Tells};
 ghost use Rattle.setl_map.specs.Folds.{combined, fold_list, fold_datum};
+ghost use Rattle.setl_map.specs.Numbers.{plus};
 ghost use Rattle.setl_map.specs.Outcome.{adding};
 ghost use Rattle.setl_operators.specs.Combinations.{combination};
 
-use setl_arithmetic::{both, either, greater, lesser, plus, times};
+use setl_arithmetic::{both, either, greater, lesser, plus_in_place, times};
 use setl_map::{Answer, OpFault};
 use setl_value::{Memory, SetBody, TupleBody, Value};
 use std::alloc::Global;
@@ -110,31 +111,43 @@ fn combined(
     let Some(w) = next else {
         return Err(OpFault::Om);
     };
-    let both = combine(alloc, by, &v, w, turns - charged)?;
+    let both = combine(alloc, by, v, w, turns - charged)?;
     Ok(Answer {
         value: both.value,
         charged: charged + both.charged,
     })
 }
 
-// Two values combined.
+// Two values combined. A sum takes up the first one, so that a tuple or string that is being built isn't copied.
 fn combine(
     alloc: Global,
     by: Combination,
-    a: &Value,
+    a: Value,
     b: &Value,
     turns: u64,
 ) -> Result<Answer, OpFault>
-    ensures { Tells result (combination by turns (datum a.now) (datum b.now)) }
+    ensures { Tells result (combination by turns (datum a) (datum b.now)) }
 {
     match by {
-        Combination::Sum => plus(alloc, a, b),
-        Combination::Product => times(alloc, a, b, turns),
-        Combination::Greatest => greater(a, b),
-        Combination::Least => lesser(a, b),
-        Combination::All => both(a, b),
-        Combination::Any => either(a, b),
+        Combination::Sum => sum(alloc, a, b),
+        Combination::Product => times(alloc, &a, b, turns),
+        Combination::Greatest => greater(&a, b),
+        Combination::Least => lesser(&a, b),
+        Combination::All => both(&a, b),
+        Combination::Any => either(&a, b),
     }
+}
+
+// The sum of two values, made of the first one.
+fn sum(alloc: Global, a: Value, b: &Value) -> Result<Answer, OpFault>
+    ensures { Tells result (plus (datum a) (datum b.now)) }
+{
+    let mut a = a;
+    let charged = plus_in_place(alloc, &mut a, b)?;
+    Ok(Answer {
+        value: Some(a),
+        charged,
+    })
 }
 
 // A copy of a value, or `om`.
