@@ -1,4 +1,2 @@
-mod Scopes
-mod BoundNames
 mod Walks
 mod Links

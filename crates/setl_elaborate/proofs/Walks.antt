@@ -12,23 +12,26 @@ use Rattle.setl_program.specs.Program as plain
 use Rattle.setl_program.specs.Numbered.{Numbered}
 use Rattle.setl_program.specs.Scope.{Scope, in_former}
 use Rattle.setl_program.specs.Expressions.{Part, Inside, Turn, Behind, expr_step, inner_step, iter_step, selector_step, part_of, term_of, turn_of, chain_on, arguments, own_iterators}
-use Rattle.setl_elaborate.specs.Places.{inner_names}
-use Rattle.setl_elaborate.specs.Elaborators.{made, past, inside, left}
+use Rattle.setl_elaborate.specs.Elaborators.{made, past, inside}
 use Rattle.setl_elaborate.specs.declared.elaborator.Elaborator.{Elaborator}
-use Rattle.setl_elaborate.proofs.Scopes.{outside_of_former, names_in_former}
 
 -- ---- inside a former
 
--- the elaborator behind what stands inside a former that is entered and left again
-pub within_state : {A : Type 0} (t : Scope → Numbered A) (m : ℕ) (names : List Name) (w0 w1 w2 w3 : Elaborator) → w1 ≡ inside m names w0 → w2 ≡ past t w1 → w3 ≡ left w2 → w3 ≡ past (λ s. t (in_former m names s)) w0
-within_state t m names w0 w1 w2 w3 e1 e2 e3 =
-    e3
-    ∙ ap left (e2 ∙ ap (past t) e1)
-    ∙ ap (λ (s : Scope). record { alloc = w0.alloc; scope = s; opened = (t (in_former m names w0.scope) w0.opened).1 }) (outside_of_former m names w0.scope)
+-- the elaborator inside a former behind what stands there
+pub within : {A : Type 0} (t : Scope → Numbered A) (m : ℕ) (names : List Name) (w0 w1 w2 : Elaborator) → w1 ≡ inside m names w0 → w2 ≡ past t w1 → w2 ≡ inside m names (past (λ s. t (in_former m names s)) w0)
+within t m names w0 w1 w2 e1 e2 = e2 ∙ ap (past t) e1
 
--- the names that are given where the former is left
-pub within_names : {A : Type 0} (t : Scope → Numbered A) (m : ℕ) (names after : List Name) (w0 w1 w2 : Elaborator) → w1 ≡ inside m names w0 → w2 ≡ past t w1 → after ≡ inner_names w2.scope.formers → after ≡ names
-within_names t m names after w0 w1 w2 e1 e2 e3 = e3 ∙ ap (λ (w : Elaborator). inner_names w.scope.formers) (e2 ∙ ap (past t) e1) ∙ names_in_former m names w0.scope
+-- the scope is left again
+pub left_again : (old new : Elaborator) (m : ℕ) (names result : List Name) (w : Elaborator) → new.alloc ≡ old.alloc → new.opened ≡ old.opened →
+    ((k : ℕ) (ns : List Name) (s : Scope) → old.scope ≡ in_former k ns s → (result ≡ ns) × (new.scope ≡ s)) →
+    old ≡ inside m names w → (result ≡ names) × (new ≡ w)
+left_again old new m names result w ea eo undone e =
+    let back : (result ≡ names) × (new.scope ≡ w.scope) = undone m names w.scope (ap (λ (v : Elaborator). v.scope) e) in (
+      back.0,
+      ap (λ (s : Scope). record new { scope = s }) back.1
+          ∙ ap (λ a. record { alloc = a; scope = w.scope; opened = new.opened }) (ea ∙ ap (λ (v : Elaborator). v.alloc) e)
+          ∙ ap (λ (n : ℕ). record { alloc = w.alloc; scope = w.scope; opened = n }) (eo ∙ ap (λ (v : Elaborator). v.opened) e),
+    )
 
 -- ---- chains
 

@@ -7,7 +7,6 @@ use Rattle.setl_program.specs.Plain.{plain_expr}
 use Rattle.setl_program.specs.Expressions.{Range}
 use Rattle.setl_program.specs.Numbered.{Numbered}
 use Rattle.setl_program.specs.Scope.{Scope, in_former}
-use Rattle.setl_elaborate.specs.Places.{outside}
 use Rattle.setl_elaborate.specs.declared.elaborator.Elaborator.{Elaborator}
 
 -- what is made there
@@ -25,7 +24,3 @@ plain_range r = (r.0, map plain_expr r.1)
 -- the elaborator inside a former that binds these names
 abbrev pub inside : ℕ → List Name → Elaborator → Elaborator
 inside m names w = record { alloc = w.alloc; scope = in_former m names w.scope; opened = w.opened }
-
--- the elaborator outside of the innermost former
-abbrev pub left : Elaborator → Elaborator
-left w = record { alloc = w.alloc; scope = outside w.scope; opened = w.opened }

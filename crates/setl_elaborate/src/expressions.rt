@@ -8,8 +8,9 @@ ghost use Rattle.setl_elaborate.specs.Elaborators.{made, past, plain_range};
 
 use crate::chain::Chain;
 use crate::elaborator::Elaborator;
-use crate::{bound, makers, operators, ranges};
+use crate::{makers, operators, ranges};
 use setl_program::{Collection, Expr, Source};
+use setl_scope::names_of_bound;
 use setl_tree::{BinaryOp, Boxed, Expr as TreeExpr, Inner, Items, Text};
 use std::alloc::AllocError;
 
@@ -161,18 +162,17 @@ impl Elaborator<'_> {
                 ranges::range(self.alloc, collection, first, second, last)
             }
             Inner::Former(value, turns, condition) => {
-                let number = self.open()?;
-                let names = bound::names_of_turns(self.alloc, turns.as_slice())?;
+                let (number, names) = self.open_over(turns.as_slice())?;
                 let value = self.expr_within(value.get(), number, names)?;
-                let (iterators, names) = self.own_iterators(turns.as_slice(), number)?;
-                let condition = self.optional_within(condition, number, names)?;
+                let iterators = self.own_iterators(turns.as_slice(), number)?;
+                let condition = self.own_condition(condition, number, turns.as_slice())?;
                 makers::former(self.alloc, collection, value, iterators, condition)
             }
             Inner::Filter(names, source, condition) => {
                 let number = self.open()?;
                 let (kind, sources) = self.source(source.get())?;
                 let binding = self.scope.binding(self.alloc, Some(number), names, kind)?;
-                let names = bound::names_of_bound(self.alloc, names)?;
+                let names = names_of_bound(self.alloc, names)?;
                 let condition = self.expr_within(condition.get(), number, names)?;
                 makers::selection(self.alloc, collection, binding, sources, condition)
             }

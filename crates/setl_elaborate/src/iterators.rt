@@ -8,10 +8,10 @@ ghost use Rattle.setl_program.specs.Plain.{plain_expr, plain_iterator};
 ghost use Rattle.setl_program.specs.Scope.{in_former};
 ghost use Rattle.setl_elaborate.specs.Elaborators.{made, past};
 
-use crate::bound;
 use crate::elaborator::Elaborator;
 use setl_names::Names;
-use setl_program::{Binding, Expr, Iterator};
+use setl_program::{Expr, Iterator};
+use setl_scope::{names_of_turns, put_turn};
 use setl_tree::{Bound, Boxed, Expr as TreeExpr, Items, Iter, Text};
 use std::alloc::AllocError;
 
@@ -33,20 +33,23 @@ impl Elaborator<'_> {
         Ok(made)
     }
 
-    /// What an expression becomes inside a former that binds these names, if there is one. An error is want of memory.
+    /// What the condition of a former with these iterators becomes, if there is one. An error is want of memory.
     #[cycle(expressions)]
-    pub fn optional_within(
+    pub fn own_condition(
         &mut self,
         x: &Option<Boxed<TreeExpr>>,
         number: u32,
-        names: Names,
+        turns: &[Iter],
     ) -> Result<Option<Boxed<Expr>>, AllocError>
-        ensures value { IfOk result (λ e. option_map plain_expr e ≡ made (λ s. spec.optional (option_map part_of x.now) (in_former number names s)) self.old) }
-        ensures state { OnOk result (self.new ≡ past (λ s. spec.optional (option_map part_of x.now) (in_former number names s)) self.old) }
+        ensures value { IfOk result (λ e. option_map plain_expr e ≡ made (λ s. spec.optional (option_map part_of x.now) (in_former number (in_order (spec.names_of_turns (map turn_of turns.now))) s)) self.old) }
+        ensures state { OnOk result (self.new ≡ past (λ s. spec.optional (option_map part_of x.now) (in_former number (in_order (spec.names_of_turns (map turn_of turns.now))) s)) self.old) }
     {
         match x {
             None => Ok(None),
-            Some(x) => Ok(Some(self.expr_within(x.get(), number, names)?)),
+            Some(x) => {
+                let names = names_of_turns(self.alloc, turns)?;
+                Ok(Some(self.expr_within(x.get(), number, names)?))
+            }
         }
     }
 
@@ -63,16 +66,14 @@ impl Elaborator<'_> {
         Ok(all)
     }
 
-    /// What the iterators of a former become, each of which sees the names of the ones before it, and all names that they
-    /// bind. An error is want of memory.
+    /// What the iterators of a former become, each of which sees the names of the ones before it. An error is want of memory.
     #[cycle(expressions)]
     pub fn own_iterators(
         &mut self,
         turns: &[Iter],
         number: u32,
-    ) -> Result<(Items<Iterator>, Names), AllocError>
-        ensures value { IfOk result (λ r. map plain_iterator r.0 ≡ made (spec.own_iterators number [] (map turn_of turns.now)) self.old) }
-        ensures names { IfOk result (λ r. r.1 ≡ in_order (spec.names_of_turns (map turn_of turns.now))) }
+    ) -> Result<Items<Iterator>, AllocError>
+        ensures value { IfOk result (λ is. map plain_iterator is ≡ made (spec.own_iterators number [] (map turn_of turns.now)) self.old) }
         ensures state { OnOk result (self.new ≡ past (spec.own_iterators number [] (map turn_of turns.now)) self.old) }
     {
         let mut all = Items::new(self.alloc);
@@ -80,7 +81,7 @@ impl Elaborator<'_> {
         for turn in turns {
             seen = self.own_iterator(turn, number, seen, &mut all)?;
         }
-        Ok((all, seen))
+        Ok(all)
     }
 
     /// What an iterator of a former becomes, which sees these names. It is put at the end. It gives the names with those
@@ -100,7 +101,7 @@ impl Elaborator<'_> {
         self.enter(number, seen)?;
         self.iterator(turn, Some(number), all)?;
         let mut names = self.leave();
-        bound::put_turn(turn, &mut names)?;
+        put_turn(turn, &mut names)?;
         Ok(names)
     }
 
@@ -139,13 +140,9 @@ impl Elaborator<'_> {
     ) -> Result<Iterator, AllocError>
         ensures { IfOk result (λ i. plain_iterator i ≡ made (spec.image value.now map.now argument.now former) self.now) }
     {
+        let (map, binding) = self.scope.image(former, value, map, argument)?;
         let mut sources = Items::new(self.alloc);
-        sources.push(self.name(map)?.into_inner())?;
-        let image = self.scope.bound_variable(former, value)?;
-        let argument = self.scope.bound_variable(former, argument)?;
-        Ok(Iterator {
-            binding: Binding::Point(image, argument),
-            sources,
-        })
+        sources.push(Expr::Name(map))?;
+        Ok(Iterator { binding, sources })
     }
 }

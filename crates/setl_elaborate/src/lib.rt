@@ -1,7 +1,6 @@
 //! The program of a syntax tree: each name in it becomes its variable.
 #![tactic(auto)]
 
-mod bound;
 mod chain;
 mod elaborator;
 mod expressions;
@@ -9,7 +8,6 @@ mod iterators;
 mod makers;
 mod operators;
 mod ranges;
-mod scope;
 mod selections;
 mod statements;
 mod stmt_makers;

@@ -1,6 +1,6 @@
 //! What a tree becomes.
 
-ghost use Rattle.std.specs.Prelude.{◌≡◌, map, OnOk, IfOk};
+ghost use Rattle.std.specs.Prelude.{◌≡◌, suc, map, OnOk, IfOk};
 ghost use Rattle.setl_modes.specs.Modes.{mode_of};
 ghost use Rattle.setl_modes.specs.Declarations.{variables_of};
 ghost use Rattle.setl_names.specs.Variables.{var_names};
@@ -9,9 +9,9 @@ ghost use Rattle.setl_program.specs.ProgramOf.{main_scope, in_body, procedure_of
 ghost use Rattle.setl_program.specs.Statements.{body_of};
 
 use crate::elaborator::Elaborator;
-use crate::scope::Scope;
 use setl_modes::NamedMode;
 use setl_program::{Declared, Procedure, Program, Stmt};
+use setl_scope::{Opened, Scope};
 use setl_tree::{Declared as TreeDeclared, Items, Param, Proc, Stmt as TreeStmt, Text, Tree};
 use std::alloc::{AllocError, Global};
 
@@ -48,17 +48,17 @@ impl Elaborator<'_> {
         ensures value { IfOk result (λ b. plain_block b ≡ body_of xs.now self.old.scope) }
         ensures state { OnOk result (self.new.scope ≡ self.old.scope) }
     {
-        self.opened = 0;
+        self.opened = Opened::none();
         self.stmts(xs)
     }
 
-    /// What a procedure becomes, whose body has this number. An error is want of memory.
-    fn procedure(&mut self, number: u32, proc: &Proc) -> Result<Procedure, AllocError>
-        ensures value { IfOk result (λ p. plain_procedure p ≡ procedure_of_tree self.old.scope number proc.now) }
-        ensures state { OnOk result (self.new.scope ≡ in_body number proc.now.params self.old.scope) }
+    /// What the procedure becomes that has the next body. An error is want of memory.
+    fn procedure(&mut self, proc: &Proc) -> Result<Procedure, AllocError>
+        ensures value { IfOk result (λ p. plain_procedure p ≡ procedure_of_tree self.old.scope (suc self.old.scope.body) proc.now) }
+        ensures state { OnOk result (self.new.scope ≡ in_body (suc self.old.scope.body) proc.now.params self.old.scope) }
     {
         let params = proc.params.as_slice();
-        self.scope.enter_body(self.alloc, number, params)?;
+        self.scope.next_body(self.alloc, params)?;
         let body = self.body(proc.body.as_slice())?;
         let name = proc.name.copy()?;
         Ok(Procedure {
@@ -69,15 +69,13 @@ impl Elaborator<'_> {
         })
     }
 
-    /// What the procedures become, whose bodies are counted from 1. An error is want of memory.
+    /// What the procedures become that have the next bodies. An error is want of memory.
     fn procedures(&mut self, procs: &[Proc]) -> Result<Items<Procedure>, AllocError>
-        ensures { IfOk result (λ all. map plain_procedure all ≡ procedures_from self.old.scope 1 procs.now) }
+        ensures { IfOk result (λ all. map plain_procedure all ≡ procedures_from self.old.scope (suc self.old.scope.body) procs.now) }
     {
         let mut all = Items::new(self.alloc);
-        let mut number = 0u32;
         for proc in procs {
-            number = number.checked_add(1).ok_or(AllocError)?;
-            all.push(self.procedure(number, proc)?)?;
+            all.push(self.procedure(proc)?)?;
         }
         Ok(all)
     }
@@ -128,7 +126,7 @@ pub fn elaborate(alloc: Global, tree: &Tree, modes: Items<NamedMode>) -> Result<
     let mut elaborator = Elaborator {
         alloc,
         scope,
-        opened: 0,
+        opened: Opened::none(),
     };
     elaborator.program(tree, modes)
 }

@@ -4,8 +4,7 @@ use Rattle.setl_program.specs.Program as plain
 use Rattle.setl_program.specs.Expressions.{term_of, turn_of}
 use Rattle.setl_program.specs.Plain.{plain_expr, plain_argument, plain_iterator}
 use Rattle.setl_elaborate.specs.declared.elaborator.Elaborator.{Elaborator}
-use Rattle.setl_elaborate.proofs.BoundNames.{one_turn}
-use Rattle.setl_elaborate.proofs.Walks.{within_state, within_names, chain_walked, arguments_made, arguments_past, turn_made, turn_past}
+use Rattle.setl_elaborate.proofs.Walks.{within, chain_walked, arguments_made, arguments_past, turn_made, turn_past}
 use Rattle.setl_elaborate.proofs.elaborator.Elaborator.+expressions.Goals as goal
 
 pub arguments-returns-clause-value : goal.arguments-returns-clause-value
@@ -29,22 +28,23 @@ expr-returns-in_ok-left-in-Chain-clause-state t c =
     subst (λ (w : Elaborator). OnOk c.chain_on.result (c.chain_on.new.self ≡ w)) walked.1 c.chain_on.ensures.state
 
 pub expr_within-returns-clause-state : goal.expr_within-returns-clause-state
-expr_within-returns-clause-state t c = within_state (term_of c.args.x.now) c.args.number c.args.names c.args.self.now c.enter.new.self c.expr.new.self c.leave.new.self c.in_ok-enter.ensures c.in_ok-made.ensures.state c.leave.ensures.left
+expr_within-returns-clause-state t c =
+    (c.leave.ensures c.args.number c.args.names _ (within (term_of c.args.x.now) c.args.number c.args.names c.args.self.now c.enter.new.self c.expr.new.self c.in_ok-enter.ensures c.in_ok-made.ensures.state)).1
 
 pub own_iterator-returns-clause-names : goal.own_iterator-returns-clause-names
 own_iterator-returns-clause-names t c =
     c.in_ok-put_turn.ensures
-    ∙ ap (λ (z : List Name). with_names z (turn_of c.args.turn.now).names) (within_names ((turn_of c.args.turn.now).iterator (Some c.args.number)) c.args.number c.args.seen c.leave-names.result c.args.self.now c.enter.new.self c.iterator.new.self c.in_ok-enter.ensures c.in_ok-iterator.ensures.state c.leave-names.ensures.names)
+    ∙ ap (λ (z : List Name). with_names z (turn_of c.args.turn.now).names)
+    (c.leave-names.ensures c.args.number c.args.seen _ (within ((turn_of c.args.turn.now).iterator (Some c.args.number)) c.args.number c.args.seen c.args.self.now c.enter.new.self c.iterator.new.self c.in_ok-enter.ensures c.in_ok-iterator.ensures.state)).0
 
 pub own_iterator-returns-clause-state : goal.own_iterator-returns-clause-state
 own_iterator-returns-clause-state t c =
-    within_state ((turn_of c.args.turn.now).iterator (Some c.args.number)) c.args.number c.args.seen c.args.self.now c.enter.new.self c.iterator.new.self c.leave-names.new.self c.in_ok-enter.ensures c.in_ok-iterator.ensures.state c.leave-names.ensures.left
+    (c.leave-names.ensures c.args.number c.args.seen _ (within ((turn_of c.args.turn.now).iterator (Some c.args.number)) c.args.number c.args.seen c.args.self.now c.enter.new.self c.iterator.new.self c.in_ok-enter.ensures c.in_ok-iterator.ensures.state)).1
 
 pub own_iterators-loop-turn-preserved : goal.own_iterators-loop-turn-preserved
 own_iterators-loop-turn-preserved t c = record {
   value =
       turn_made c.args.number c.args.turns.now c.loop-turn.turn-index c.turn-item.result c.loop-turn.seen c.in_ok-seen.seen (map plain_iterator c.loop-turn.all) (map plain_iterator c.own_iterator.new.all) _ c.loop-turn.self c.own_iterator.new.self
       c.loop-turn-test.true c.turn-item.is c.in_ok-seen.ensures.value c.in_ok-seen.ensures.names c.in_ok-seen.ensures.state c.loop-turn.invariant.value;
-  names = one_turn c.args.turns.now c.loop-turn.turn-index c.turn-item.result c.loop-turn.seen c.in_ok-seen.seen _ c.loop-turn-test.true c.turn-item.is c.loop-turn.invariant.names c.in_ok-seen.ensures.names;
   state = turn_past c.args.number c.args.turns.now c.loop-turn.turn-index c.turn-item.result c.loop-turn.seen c.in_ok-seen.seen c.loop-turn.self c.own_iterator.new.self _ c.loop-turn-test.true c.turn-item.is c.in_ok-seen.ensures.names c.in_ok-seen.ensures.state c.loop-turn.invariant.state;
 }

@@ -1,5 +1,4 @@
 use Rattle.std.proofs.Common.{◌≡◌, [], ◌++◌, drop, map}
-use Rattle.setl_names.specs.Names.{with_names}
 use Rattle.setl_program.specs.Expressions as spec
 use Rattle.setl_program.specs.Expressions.{part_of, behind_of, turn_of}
 use Rattle.setl_program.specs.Plain.{plain_expr, plain_iterator, plain_argument}
@@ -34,7 +33,6 @@ invariant-iterators-loop-turn l = record {
 abbrev pub invariant-own_iterators-loop-turn : goal.invariant-own_iterators-loop-turn
 invariant-own_iterators-loop-turn l = record {
   value : map plain_iterator l.all ++ made (spec.own_iterators l.number l.seen (map turn_of (drop l.turn-index l.turns))) l.self ≡ made (spec.own_iterators l.number [] (map turn_of l.turns)) l.initial.self;
-  names : with_names l.seen (spec.names_of_turns (map turn_of (drop l.turn-index l.turns))) ≡ with_names [] (spec.names_of_turns (map turn_of l.turns));
   state : past (spec.own_iterators l.number l.seen (map turn_of (drop l.turn-index l.turns))) l.self ≡ past (spec.own_iterators l.number [] (map turn_of l.turns)) l.initial.self;
 }
 

@@ -1,10 +1,12 @@
 //! Which variable a name stands for where it stands.
 
-ghost use Rattle.std.specs.Prelude.{◌≡◌, None, map, option_map, IfOk, OnOk};
+ghost use Rattle.std.specs.Prelude.{◌≡◌, ℕ, List, suc, None, map, option_map, IfOk, OnOk};
+ghost use Rattle.setl_names.specs.Names.{Name};
 ghost use Rattle.setl_program.specs.Plain.{plain_variable, plain_slots, plain_binding};
 ghost use Rattle.setl_program.specs.ProgramOf.{main_scope, in_body};
 ghost use Rattle.setl_program.specs.Scope as spec;
-ghost use Rattle.setl_elaborate.specs.Places.{variable_in, inner_names, outside};
+ghost use Rattle.setl_program.specs.Program.{Point};
+ghost use Rattle.setl_scope.specs.Places.{variable_in};
 
 use setl_names::{Names, Procs, names_of_params, names_of_vars};
 use setl_program::{Binding, Source, Variable};
@@ -66,15 +68,12 @@ impl<'t> Scope<'t> {
         })
     }
 
-    /// Goes over to another body, which has this number and these parameters. An error is want of memory.
-    pub fn enter_body(
-        &mut self,
-        alloc: Global,
-        number: u32,
-        parameters: &[Param],
-    ) -> Result<(), AllocError>
-        ensures { OnOk result (self.new ≡ in_body number parameters.now self.old) }
+    /// Goes over to the next body, which has these parameters. An error is want of memory: there may be 2^32 - 1 procedures
+    /// already.
+    pub fn next_body(&mut self, alloc: Global, parameters: &[Param]) -> Result<(), AllocError>
+        ensures { OnOk result (self.new ≡ in_body (suc self.old.body) parameters.now self.old) }
     {
+        let number = self.body.checked_add(1).ok_or(AllocError)?;
         self.parameters = names_of_params(alloc, parameters)?;
         self.body = number;
         Ok(())
@@ -87,11 +86,9 @@ impl<'t> Scope<'t> {
         self.formers.push(Former { number, names })
     }
 
-    /// Leaves the innermost former, and gives the names that it bound.
-    #[tactic(auto, using(crate::proofs::Scopes::left_formers, crate::proofs::Scopes::left_names))]
+    /// Leaves the innermost former, and gives the names that it bound: all is as before it was entered.
     pub fn leave(&mut self, alloc: Global) -> Names
-        ensures names { result ≡ inner_names self.old.formers }
-        ensures left { self.new ≡ outside self.old }
+        ensures { (m : ℕ) (names : List Name) (s : spec.Scope) → self.old ≡ spec.in_former m names s → (result ≡ names) × (self.new ≡ s) }
     {
         match self.formers.pop() {
             None => Names::new(alloc),
@@ -196,6 +193,24 @@ impl<'t> Scope<'t> {
                 Ok(Binding::Components(source, self.slots(alloc, former, slots.as_slice())?))
             }
         }
+    }
+
+    /// The variable of the map of an iterator over its images, and what the iterator binds: the map's name stands for what
+    /// it stands for outside of the iterator. An error is want of memory.
+    pub fn image(
+        &self,
+        former: Option<u32>,
+        value: &Text,
+        map: &Text,
+        argument: &Text,
+    ) -> Result<(Variable, Binding), AllocError>
+        ensures map { IfOk result (λ r. plain_variable r.0 ≡ spec.variable_of self.now map.now) }
+        ensures binding { IfOk result (λ r. plain_binding r.1 ≡ Point (spec.bound_by former self.now value.now) (spec.bound_by former self.now argument.now)) }
+    {
+        let map = self.variable(map)?;
+        let image = self.bound_variable(former, value)?;
+        let argument = self.bound_variable(former, argument)?;
+        Ok((map, Binding::Point(image, argument)))
     }
 
     /// The variables that names stand for. An error is want of memory.

@@ -1,0 +1,2 @@
+mod Scopes
+mod BoundNames
