@@ -1,4 +1,3 @@
-pub mod Words
 pub mod Plain
 pub mod Undoubled
 pub mod Clean

@@ -1,4 +1,3 @@
-pub mod Spellings
 pub mod Plain
 pub mod Nests
 pub mod Behind

@@ -8,7 +8,7 @@ use Rattle.setl_token.specs.declared.TokenKind.{TokenKind}
 use Rattle.setl_token.specs.declared.TokenKind.TheVariants as is
 use Rattle.setl_token.specs.Bytes.{lower}
 use Rattle.setl_token.specs.Text.{Lexed, token_text}
-use Rattle.setl_expressions.specs.Spellings.{spellings, kind_in}
+use Rattle.setl_token.specs.Spellings.{spellings, kind_in}
 
 -- the kind of a token with this text
 abbrev pub kind_of : TokenKind → List ℕ → Kind

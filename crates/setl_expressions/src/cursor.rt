@@ -7,9 +7,8 @@ ghost use Rattle.setl_reading.specs.Reading.{Reads};
 ghost use Rattle.setl_expressions.specs.Plain.{plain_tokens, next_token};
 
 use crate::content::content;
-use crate::spelling::spelled_kind;
 use setl_reading::Fault;
-use setl_token::{TokenKind, TokenList};
+use setl_token::{TokenKind, TokenList, spelled_kind};
 use setl_tree::{Kind, Text};
 use std::alloc::{AllocError, Global};
 use std::marker::Model;

@@ -18,7 +18,6 @@ mod operators;
 mod parse;
 mod primary;
 mod rule;
-mod spelling;
 
 pub use cursor::{Cursor, same_kind};
 pub use iterators::pattern;

@@ -5,7 +5,7 @@ use Rattle.setl_tree.specs.declared.kind.Kind.{Kind}
 use Rattle.setl_tree.specs.declared.kind.Kind.TheVariants as k
 use Rattle.setl_tree.specs.Tokens.{Token, Tokens}
 use Rattle.setl_token.specs.Form.{doubled}
-use Rattle.setl_show.specs.Spelling.{spelling}
+use Rattle.setl_token.specs.Spellings.{spelling}
 
 -- between apostrophes, with each apostrophe doubled
 abbrev pub quoted : List ℕ → List ℕ

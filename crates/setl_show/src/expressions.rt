@@ -3,7 +3,7 @@
 ghost use Rattle.std.specs.Prelude.{◌≡◌, OnOk, map, option_map};
 ghost use Rattle.setl_tree.specs.Canonical as spec;
 ghost use Rattle.setl_tree.specs.Canonical.{expr_tokens, inner_tokens, iter_tokens, selector_tokens, shown, tokens_of};
-ghost use Rattle.setl_show.specs.Spelling.{IsSpelled};
+ghost use Rattle.setl_token.specs.Spellings.{IsSpelled};
 ghost use Rattle.setl_show.specs.Text.{with_tokens};
 
 use crate::lists::with_commas;

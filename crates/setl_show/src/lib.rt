@@ -7,7 +7,6 @@ mod modes;
 mod operators;
 mod programs;
 mod simple;
-mod spelling;
 mod statements;
 mod writer;
 

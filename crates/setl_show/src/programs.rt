@@ -2,7 +2,7 @@
 
 ghost use Rattle.std.specs.Prelude.{◌≡◌, OnOk, map};
 ghost use Rattle.setl_tree.specs.Canonical as spec;
-ghost use Rattle.setl_show.specs.Spelling.{IsSpelled};
+ghost use Rattle.setl_token.specs.Spellings.{IsSpelled};
 ghost use Rattle.setl_show.specs.Text.{with_tokens};
 
 use crate::lists::with_commas;

@@ -4,7 +4,7 @@ ghost use Rattle.std.specs.Prelude.{◌≡◌, [], ◌∷◌, ◌++◌, OnOk, ma
 ghost use Rattle.setl_tree.specs.declared.kind.Kind.TheVariants as k;
 ghost use Rattle.setl_tree.specs.Canonical as spec;
 ghost use Rattle.setl_tree.specs.Canonical.{sign, name_token, expr_tokens};
-ghost use Rattle.setl_show.specs.Spelling.{IsSpelled};
+ghost use Rattle.setl_token.specs.Spellings.{IsSpelled};
 ghost use Rattle.setl_show.specs.Text.{with_tokens};
 
 use crate::expressions::{expr, exprs, pattern, selectors};

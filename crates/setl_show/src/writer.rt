@@ -2,12 +2,12 @@
 
 ghost use Rattle.std.specs.Prelude.{◌≡◌, ℕ, ℤ, List, [], pos, OnOk, IfOk};
 ghost use Rattle.setl_tree.specs.declared.kind.Kind.TheVariants as k;
-ghost use Rattle.setl_show.specs.Spelling.{IsSpelled};
+ghost use Rattle.setl_token.specs.Spellings.{IsSpelled};
 ghost use Rattle.setl_show.specs.Text as spec;
 ghost use Rattle.setl_show.specs.Text.{put, bytes_of, quoted};
 
-use crate::spelling::spelling;
 use itoa::Buffer;
+use setl_token::spelling;
 use setl_tree::{Kind, Text};
 use std::alloc::{AllocError, Global};
 use std::marker::Model;

@@ -17,9 +17,8 @@ use Rattle.setl_token.specs.declared.TokenKind.{TokenKind}
 use Rattle.setl_token.specs.declared.TokenKind.TheVariants as is
 use Rattle.setl_token.specs.declared.pieces.PieceKind.TheVariants as piece
 use Rattle.setl_token.specs.Bytes.{is_blank, is_in_word, lower, value_of, with_digit, limit}
-use Rattle.setl_token.specs.Form.{IsForm, IsWordText, signs}
-use Rattle.setl_token.specs.Reserved.{words}
-use Rattle.setl_show.specs.Spelling.{spelling, IsSpelled}
+use Rattle.setl_token.specs.Form.{IsForm, IsWordText}
+use Rattle.setl_token.specs.Spellings.{spellings, spelling, IsSpelled, listed, signs}
 use Rattle.setl_show.specs.Text.{bytes_of, behind}
 use Rattle.setl_spelling.specs.Reading.{IsLegal, IsNumberValue, Reads}
 
@@ -74,14 +73,14 @@ found text texts e = Contains-from_any same_bytes text texts e
 some_len : (n : ℕ) → leb 1 n ≡ true → 0 < n
 some_len n e = omega (arith, leb-true 1 n e)
 
-word_form : (text : List ℕ) → leb 1 (length text) ≡ true → is_ascii_alphabetic (get_or text 0 0) ≡ true → list_all is_in_word text ≡ true → list_any (bytes_eq (lower text)) words ≡ true → IsWordText text × Contains words (lower text)
-word_form text a b c d = ((some_len (length text) a, b, c), found (lower text) words d)
+word_form : (text : List ℕ) → leb 1 (length text) ≡ true → is_ascii_alphabetic (get_or text 0 0) ≡ true → list_all is_in_word text ≡ true → list_any (bytes_eq (lower text)) listed ≡ true → IsWordText text × Contains listed (lower text)
+word_form text a b c d = ((some_len (length text) a, b, c), found (lower text) listed d)
 
 sign_form : (text : List ℕ) → list_any (bytes_eq text) signs ≡ true → Contains signs text
 sign_form text e = found text signs e
 
 pub spelled_form : (kind : Kind) → IsSpelled kind → (value : ℤ) (back : List ℕ) → IsForm (piece.Token (sort_of kind value)) (spelling kind) back
-unfolding sort_of spelling words
+unfolding sort_of spellings spelling listed signs
 spelled_form k.SourceEnd h value back = absurd h
 spelled_form k.Name h value back = absurd h
 spelled_form k.Number h value back = absurd h
@@ -113,7 +112,7 @@ spelled_form k.Hash h value back = sign_form (spelling k.Hash) refl
 spelled_form kind h value back = word_form (spelling kind) refl refl refl refl
 
 pub spelled_reads : (kind : Kind) → IsSpelled kind → (text : List ℕ) (value : ℤ) → text ≡ [] → value ≡ pos 0 → Reads (sort_of kind value) (spelling kind) kind text value
-unfolding sort_of spelling
+unfolding sort_of spellings spelling
 spelled_reads k.SourceEnd h text value e v = absurd h
 spelled_reads k.Name h text value e v = absurd h
 spelled_reads k.Number h text value e v = absurd h
@@ -157,7 +156,7 @@ number_form value b back v e =
 pub form : (kind : Kind) (text : List ℕ) (value : ℤ) (b : ℕ) (back : List ℕ) → IsLegal kind text value → is_blank b ≡ true → IsForm (piece.Token (sort_of kind value)) (bytes_of kind text value) (b ∷ back)
 unfolding IsLegal sort_of bytes_of
 form k.SourceEnd text value b back h e = absurd h
-form k.Name text value b back h e = (h.0.form, λ c. h.0.free (subst (λ (z : List ℕ). Contains words z) h.0.low c))
+form k.Name text value b back h e = (h.0.form, λ c. h.0.free (subst (λ (z : List ℕ). Contains listed z) h.0.low c))
 form k.Number text value b back h e = number_form value b back h.1 e
 form k.StringLiteral text value b back h e = record { body = text; text_is = refl; in_line = h.0; closed = no_apostrophe b e }
 form kind text value b back h e = spelled_form kind tt value (b ∷ back)

@@ -6,7 +6,7 @@ use Rattle.setl_tree.specs.Tokens.{Token, Tokens}
 use Rattle.setl_tree.specs.Lang.{Lang, Then, Split, IsToken, Means}
 use Rattle.setl_tree.specs.Lang as lang
 use Rattle.setl_tree.specs.Canonical.{sign, sign_at, name_at, all_of, behind_commas, with_commas}
-use Rattle.setl_show.specs.Spelling.{IsSpelled}
+use Rattle.setl_token.specs.Spellings.{IsSpelled}
 use Rattle.setl_spelling.specs.Reading.{IsNameText, IsLegal, AllLegal, AreLegal}
 
 -- ---- lists of tokens

@@ -28,7 +28,7 @@ use Rattle.setl_tree.specs.Lang.{Lang}
 use Rattle.setl_tree.specs.Operators.{constant, chain_of, prefixed, selected}
 use Rattle.setl_tree.specs.Expressions as x
 use Rattle.setl_tree.specs.Canonical.{Shown, shown, tokens_of, sign, bracketed, as_operand, as_primary, operand_tokens, all_prefixes, prefix_tokens, op_kind, relation_kind, fold_kind, quantifier_kind, slot_tokens, pattern_tokens, bound_tokens, expr_tokens, inner_tokens, iter_tokens, selector_tokens, with_commas, behind_commas, expr_step, inner_step, iter_step, selector_step}
-use Rattle.setl_show.specs.Spelling.{IsSpelled}
+use Rattle.setl_token.specs.Spellings.{IsSpelled}
 use Rattle.setl_spelling.specs.Reading.{IsNameText, IsLegal, AreLegal}
 use Rattle.setl_spelling.proofs.Legal.{none, both, word, named, literal, Each, Maybe, all_legal, commas, Keeps, k_any, k_pure, k_never, k_then, k_or, k_token, k_name, k_one_of, k_many, k_optional, k_past, k_separated, k_listed}
 

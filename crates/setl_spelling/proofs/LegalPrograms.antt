@@ -24,7 +24,7 @@ use Rattle.setl_tree.specs.Modes.{simple_core}
 use Rattle.setl_tree.specs.Programs as g
 use Rattle.setl_tree.specs.Programs.{joined, name_behind, Derives}
 use Rattle.setl_tree.specs.Canonical.{attribute_kind, passing_kind, core_step, mode_step, mode_tokens, with_attribute, declared_tokens, colon_tokens, line_tokens, repr_tokens, param_tokens, optional_name, named_ending_tokens, proc_tokens, var_tokens, stmt_tokens, canonical}
-use Rattle.setl_show.specs.Spelling.{IsSpelled}
+use Rattle.setl_token.specs.Spellings.{IsSpelled}
 use Rattle.setl_show.specs.Parts.{core_tokens}
 use Rattle.setl_spelling.specs.Reading.{IsNameText, AreLegal}
 use Rattle.setl_spelling.proofs.Legal.{none, both, word, word_at, named, named_at, Each, Maybe, all_legal, commas, Keeps, k_any, k_pure, k_never, k_then, k_or, k_token, k_name, k_one_of, k_many, k_optional, k_past, k_separated, k_listed, k_lined, name_of}

@@ -20,7 +20,7 @@ use Rattle.setl_tree.specs.Expressions.{nested}
 use Rattle.setl_tree.specs.Statements as g
 use Rattle.setl_tree.specs.Statements.{simple}
 use Rattle.setl_tree.specs.Canonical.{sign, all_of, with_commas, from_kind, place_tokens, expr_tokens, iter_tokens, selector_tokens, slot_tokens, in_round, elseif_tokens, ending_tokens, bar_tokens, result_tokens, single, kind_step, branch_step, stmt_step, stmt_tokens}
-use Rattle.setl_show.specs.Spelling.{IsSpelled}
+use Rattle.setl_token.specs.Spellings.{IsSpelled}
 use Rattle.setl_show.specs.Parts.{kind_tokens, branch_tokens}
 use Rattle.setl_spelling.specs.Reading.{IsNameText, AreLegal}
 use Rattle.setl_spelling.proofs.Legal.{none, both, front_of, back_of, word, word_at, named, named_at, Each, Maybe, all_legal, commas, Keeps, k_any, k_pure, k_never, k_then, k_or, k_name, k_one_of, k_many, k_optional, k_past, k_separated, k_listed, k_lined}

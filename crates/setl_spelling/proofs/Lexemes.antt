@@ -13,13 +13,11 @@ use Rattle.setl_token.specs.declared.TokenKind.{TokenKind}
 use Rattle.setl_token.specs.declared.TokenKind.TheVariants as kind
 use Rattle.setl_token.specs.declared.pieces.PieceKind.TheVariants as is
 use Rattle.setl_token.specs.Bytes.{lower}
-use Rattle.setl_token.specs.Form.{IsForm, IsStringText, signs}
+use Rattle.setl_token.specs.Form.{IsForm, IsStringText}
 use Rattle.setl_token.specs.Lex.{Spelled}
-use Rattle.setl_token.specs.Reserved.{words}
 use Rattle.setl_token.specs.Text.{Lexed, token_text}
-use Rattle.setl_show.specs.Spelling.{spelling, IsSpelled}
+use Rattle.setl_token.specs.Spellings.{spellings, spelling, IsSpelled, listed, signs, kind_in}
 use Rattle.setl_show.specs.Text.{quoted}
-use Rattle.setl_expressions.specs.Spellings.{spellings, kind_in}
 use Rattle.setl_expressions.specs.Plain.{kind_of, content_of, value_of, plain_token, plain_tokens}
 use Rattle.setl_spelling.specs.Reading.{Reads, AreRead, IsSpelledAs}
 use Rattle.setl_spelling.proofs.Formed.{AllFormed, all_formed}
@@ -44,20 +42,20 @@ spelled_kind _ e = tt
 abbrev is_listed : List ℕ → Bool
 is_listed text = is_spelled (kind_in spellings text) && bytes_eq text (spelling (kind_in spellings text))
 
-words_listed : list_all is_listed words ≡ true
-unfolding words spellings spelling
-words_listed = refl
+all_listed : list_all is_listed listed ≡ true
+unfolding listed spellings spelling
+all_listed = refl
 
 -- the sign has no letters, and is listed
 abbrev is_listed_sign : List ℕ → Bool
 is_listed_sign text = bytes_eq (lower text) text && is_listed (lower text)
 
 signs_listed : list_all is_listed_sign signs ≡ true
-unfolding spellings spelling
+unfolding listed signs spellings spelling
 signs_listed = refl
 
-listed : (test : List ℕ → Bool) (texts : List (List ℕ)) (text : List ℕ) → list_all test texts ≡ true → Contains texts text → test text ≡ true
-listed test texts text e c = All-contains (λ (x : List ℕ). test x ≡ true) texts text (AllPass-from_list_all test texts e) c
+passes : (test : List ℕ → Bool) (texts : List (List ℕ)) (text : List ℕ) → list_all test texts ≡ true → Contains texts text → test text ≡ true
+passes test texts text e c = All-contains (λ (x : List ℕ). test x ≡ true) texts text (AllPass-from_list_all test texts e) c
 
 same_bytes : (x y : List ℕ) → bytes_eq x y ≡ true → x ≡ y
 same_bytes x y e = (bytes_eq-Decides x y).0 e
@@ -81,8 +79,8 @@ abbrev pub StringsHold : Type 0
 StringsHold = (text behind : List ℕ) (s : IsStringText text behind) → content_of kind.Str text ≡ s.body
 
 reads : StringsHold → (s : TokenKind) (bytes back : List ℕ) → IsForm (is.Token s) bytes back → Reads s bytes (kind_of s bytes) (content_of s bytes) (value_of s)
-reads hold kind.Word bytes back form = let it = listed_is (lower bytes) (listed is_listed words (lower bytes) words_listed form.1) in (it.0, it.1, refl, refl)
-reads hold kind.Sign bytes back form = let it = sign_is bytes (listed is_listed_sign signs bytes signs_listed form) in (it.0, it.1, refl, refl)
+reads hold kind.Word bytes back form = let it = listed_is (lower bytes) (passes is_listed listed (lower bytes) all_listed form.1) in (it.0, it.1, refl, refl)
+reads hold kind.Sign bytes back form = let it = sign_is bytes (passes is_listed_sign signs bytes signs_listed form) in (it.0, it.1, refl, refl)
 reads hold kind.Name bytes back form = (refl, refl, refl)
 reads hold (kind.Number n) bytes back form = (refl, refl, refl)
 reads hold kind.Str bytes back form = (refl, form.text_is ∙ ap quoted (sym (hold bytes back form)), refl)

@@ -11,7 +11,7 @@ use Rattle.setl_token.specs.declared.TokenKind.TheVariants as is
 use Rattle.setl_token.specs.Form.{doubled}
 use Rattle.setl_token.specs.Lex.{Spelled}
 use Rattle.setl_token.specs.Text.{token_text}
-use Rattle.setl_show.specs.Spelling.{spelling, IsSpelled}
+use Rattle.setl_token.specs.Spellings.{spellings, spelling, IsSpelled}
 use Rattle.setl_show.specs.Text.{quoted}
 use Rattle.setl_spelling.specs.Lines.{SameToken, SameTokens}
 use Rattle.setl_spelling.specs.Reading.{Reads, AreRead, IsSpelledAs}
@@ -35,7 +35,7 @@ first_spelled [] text = k.SourceEnd
 first_spelled (x ∷ xs) text = if bytes_eq text (spelling x) then x else first_spelled xs text
 
 found : (kind : Kind) → IsSpelled kind → first_spelled kinds (spelling kind) ≡ kind
-unfolding kinds spelling
+unfolding kinds spellings spelling
 found k.SourceEnd h = absurd h
 found k.Name h = absurd h
 found k.Number h = absurd h

@@ -14,9 +14,9 @@ use Rattle.setl_token.specs.declared.TokenKind.TheVariants as kind
 use Rattle.setl_token.specs.declared.pieces.PieceKind.TheVariants as is
 use Rattle.setl_token.specs.Bytes.{is_in_word, is_in_line, lower, value_of}
 use Rattle.setl_token.specs.Form.{IsForm, IsWordText, IsStringText, doubled}
-use Rattle.setl_token.specs.Reserved.{words}
+use Rattle.setl_token.specs.Spellings.{listed}
 use Rattle.setl_token.specs.Text.{token_text}
-use Rattle.setl_show.specs.Spelling.{IsSpelled}
+use Rattle.setl_token.specs.Spellings.{IsSpelled}
 use Rattle.setl_show.specs.Text.{quoted}
 use Rattle.setl_spelling.specs.Reading.{Reads, AreRead, IsSpelledAs, IsNameText, IsNumberValue, IsLegal, AllLegal, AreLegal}
 use Rattle.setl_spelling.proofs.Formed.{AllFormed, all_formed}
@@ -54,7 +54,7 @@ lower_word : (text : List ℕ) → IsWordText text → IsWordText (lower text)
 lower_word [] h = absurd (omega (arith, h.0))
 lower_word (b ∷ xs) h = (omega arith, low_letter b h.1, lower_in_word (b ∷ xs) h.2)
 
-lower_name : (text : List ℕ) → IsWordText text → (Contains words (lower text) → ⊥) → IsNameText (lower text)
+lower_name : (text : List ℕ) → IsWordText text → (Contains listed (lower text) → ⊥) → IsNameText (lower text)
 lower_name text h free = record {
   form = lower_word text h;
   free = free;

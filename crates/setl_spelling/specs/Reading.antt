@@ -9,10 +9,10 @@ use Rattle.setl_token.specs.declared.TokenKind.{TokenKind}
 use Rattle.setl_token.specs.declared.TokenKind.TheVariants as is
 use Rattle.setl_token.specs.Bytes.{lower, is_in_line, limit}
 use Rattle.setl_token.specs.Form.{IsWordText}
-use Rattle.setl_token.specs.Reserved.{words}
+use Rattle.setl_token.specs.Spellings.{listed}
 use Rattle.setl_token.specs.Lex.{Spelled}
 use Rattle.setl_token.specs.Text.{token_text}
-use Rattle.setl_show.specs.Spelling.{spelling, IsSpelled}
+use Rattle.setl_token.specs.Spellings.{spelling, IsSpelled}
 use Rattle.setl_show.specs.Text.{quoted}
 
 -- a token of this sort with these bytes reads as a token of this kind, text and value
@@ -39,7 +39,7 @@ pub record IsSpelledAs (source : List ℕ) (toks : Tokens) : Type 0 where
 -- a name in lower case that is no reserved word
 pub record IsNameText (text : List ℕ) : Type 0 where
   pub form : IsWordText text
-  pub free : Contains words text → ⊥
+  pub free : Contains listed text → ⊥
   pub low : lower text ≡ text
 
 -- a number that a source can spell

@@ -13,9 +13,9 @@ use Rattle.setl_token.specs.declared.pieces.PieceKind.{PieceKind}
 use Rattle.setl_token.specs.declared.pieces.PieceKind.TheVariants as is
 use Rattle.setl_token.specs.declared.pieces.Piece.{Piece}
 use Rattle.setl_token.specs.Bytes.{is_blank, is_in_line, is_in_word, lower, value_of, limit}
-use Rattle.setl_token.specs.Reserved.{words, is_reserved}
+use Rattle.setl_token.specs.Spellings.{spellings, listed, signs, is_reserved}
 use Rattle.setl_token.specs.Pieces.{piece_at, piece, word_kind, string_end, string_piece, sign_piece, number_piece, within_limit}
-use Rattle.setl_token.specs.Form.{IsForm, IsWordText, IsNumberText, IsStringText, doubled, signs}
+use Rattle.setl_token.specs.Form.{IsForm, IsWordText, IsNumberText, IsStringText, doubled}
 use Rattle.setl_token.proofs.Runs.{run_covers, run_first, run_is}
 use Rattle.setl_token.proofs.Strings.{string_end_step}
 use Rattle.setl_token.proofs.Fits.{by_test}
@@ -77,14 +77,14 @@ word_covered z n k within form e =
     subst (CoveredBy (is.Token k) n) (sym (at_letter z (ap is_ascii_alphabetic (sym (first_of z n some)) ∙ form.1)))
     (run_covers is_in_word z n within form.2, λ same. ap is.Token (e ∙ ap (λ (m : ℕ). word_kind (take m z)) same))
 
-pub is_word : (text : List ℕ) → Contains words (lower text) → kind.Word ≡ word_kind text
-is_word text c = let e = found_contains (lower text) words c in rw e refl
+pub is_word : (text : List ℕ) → Contains listed (lower text) → kind.Word ≡ word_kind text
+is_word text c = let e = found_contains (lower text) listed c in rw e refl
 
-not_reserved : (t : List ℕ) (b : Bool) → is_reserved t ≡ b → (Contains words t → ⊥) → is_reserved t ≡ false
-not_reserved t true e none = absurd (none (contains_found t words e))
+not_reserved : (t : List ℕ) (b : Bool) → is_reserved t ≡ b → (Contains listed t → ⊥) → is_reserved t ≡ false
+not_reserved t true e none = absurd (none (contains_found t listed e))
 not_reserved t false e none = e
 
-pub is_name : (text : List ℕ) → (Contains words (lower text) → ⊥) → kind.Name ≡ word_kind text
+pub is_name : (text : List ℕ) → (Contains listed (lower text) → ⊥) → kind.Name ≡ word_kind text
 is_name text none = let e = not_reserved (lower text) (is_reserved (lower text)) refl none in rw e refl
 
 pub number_here : (z : List ℕ) (n : ℕ) → n ≤ length z → IsNumberText (take n z) (drop n z) → piece_at z ≡ Ok (piece (is.Token (kind.Number (pos (value_of (take n z))))) n)
@@ -139,63 +139,9 @@ at_least_one true = (omega arith, λ _. refl)
 at_least_one false = (omega arith, λ _. refl)
 
 signs_covered : AllByRecursion SignCovered signs
-unfolding piece_at
+unfolding piece_at spellings listed signs
 signs_covered =
-    let pair : (2 ≤ 2) × (2 ≡ 2 → is.Token kind.Sign ≡ is.Token kind.Sign) = (omega arith, λ _. refl) in (
-      λ r. pair,
-      (
-        λ r. pair,
-        (
-          λ r. pair,
-          (
-            λ r. pair,
-            (
-              λ r. pair,
-              (
-                λ r. pair,
-                (
-                  λ r. at_least_one _,
-                  (
-                    λ r. at_least_one _,
-                    (
-                      λ r. at_least_one _,
-                      (
-                        λ r. at_least_one _,
-                        (
-                          λ r. at_least_one _,
-                          (
-                            λ r. at_least_one _,
-                            (
-                              λ r. at_least_one _,
-                              (
-                                λ r. at_least_one _,
-                                (
-                                  λ r. at_least_one _,
-                                  (
-                                    λ r. at_least_one _,
-                                    (
-                                      λ r. at_least_one _,
-                                      (
-                                        λ r. at_least_one _,
-                                        (λ r. at_least_one _, (λ r. at_least_one _, (λ r. at_least_one _, (λ r. at_least_one _, (λ r. at_least_one _, (λ r. at_least_one _, tt)))))),
-                                      ),
-                                    ),
-                                  ),
-                                ),
-                              ),
-                            ),
-                          ),
-                        ),
-                      ),
-                    ),
-                  ),
-                ),
-              ),
-            ),
-          ),
-        ),
-      ),
-    )
+    let pair : (2 ≤ 2) × (2 ≡ 2 → is.Token kind.Sign ≡ is.Token kind.Sign) = (omega arith, λ _. refl) in (λ r. at_least_one _, (λ r. at_least_one _, (λ r. at_least_one _, (λ r. at_least_one _, (λ r. at_least_one _, (λ r. at_least_one _, (λ r. at_least_one _, (λ r. at_least_one _, (λ r. at_least_one _, (λ r. at_least_one _, (λ r. at_least_one _, (λ r. at_least_one _, (λ r. at_least_one _, (λ r. at_least_one _, (λ r. at_least_one _, (λ r. at_least_one _, (λ r. at_least_one _, (λ r. at_least_one _, (λ r. pair, (λ r. pair, (λ r. pair, (λ r. pair, (λ r. pair, (λ r. pair, tt))))))))))))))))))))))))
 
 sign_covered : (z : List ℕ) (n : ℕ) → n ≤ length z → Contains signs (take n z) → CoveredBy (is.Token kind.Sign) n (piece_at z)
 sign_covered z n within c =

@@ -15,9 +15,9 @@ use Rattle.setl_token.specs.declared.Cause.{Cause}
 use Rattle.setl_token.specs.declared.pieces.PieceKind.TheVariants as is
 use Rattle.setl_token.specs.declared.pieces.Piece.{Piece}
 use Rattle.setl_token.specs.Bytes.{is_blank, is_in_line, is_in_word, lower, value_of, limit}
-use Rattle.setl_token.specs.Reserved.{words, is_reserved}
+use Rattle.setl_token.specs.Spellings.{spellings, listed, signs, is_reserved}
 use Rattle.setl_token.specs.Pieces.{piece_at, word_kind, string_end, string_piece, sign_len, sign_piece, number_piece, within_limit, is_sign_pair, is_single_sign}
-use Rattle.setl_token.specs.Form.{IsForm, IsWordText, IsStringText, doubled, signs}
+use Rattle.setl_token.specs.Form.{IsForm, IsWordText, IsStringText, doubled}
 use Rattle.setl_token.proofs.Runs.{run_passes, run_ends}
 use Rattle.setl_token.proofs.Fits.{by_test, prefix_some}
 
@@ -41,7 +41,7 @@ found_contains t ws c = list_any_at (bytes_eq t) ws c.0 t c.1 ((bytes_eq-Decides
 word_formed : (text behind : List ℕ) → IsWordText text → IsForm (is.Token (word_kind text)) text behind
 word_formed text behind w =
     by_test (λ (k : TokenKind). IsForm (is.Token k) text behind) (is_reserved (lower text)) kind.Word kind.Name
-    (λ e. (w, contains_found (lower text) words e)) (λ e. (w, λ c. false≢true (sym e ∙ found_contains (lower text) words c)))
+    (λ e. (w, contains_found (lower text) listed e)) (λ e. (w, λ c. false≢true (sym e ∙ found_contains (lower text) listed c)))
 
 number_formed : (z : List ℕ) (len : ℕ) → 0 < length (take len z) → list_all is_ascii_digit (take len z) ≡ true → is_ascii_digit (get_or (drop len z) 0 0) ≡ false → Formed z (number_piece len (within_limit (value_of (take len z))))
 number_formed z len some all ends =
@@ -49,9 +49,11 @@ number_formed z len some all ends =
     by_test (λ (r : Option ℕ). Formed z (number_piece len r)) (leb v limit) (Some v) None (λ e. ((some, all, ends, leb-true v limit e), refl)) (λ _. tt)
 
 pair_found : (b c : ℕ) → is_sign_pair b c ≡ true → list_any (bytes_eq (b ∷ c ∷ [])) signs ≡ true
+unfolding spellings listed signs
 pair_found b c e = grind (arith, nat_tests)
 
 single_found : (b : ℕ) → is_single_sign b ≡ true → list_any (bytes_eq (b ∷ [])) signs ≡ true
+unfolding spellings listed signs
 single_found b e = grind (arith, nat_tests)
 
 no_pair : (b : ℕ) → is_sign_pair b 0 ≡ true → ⊥

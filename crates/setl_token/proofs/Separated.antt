@@ -12,7 +12,8 @@ use Rattle.setl_token.specs.declared.pieces.PieceKind.TheVariants as is
 use Rattle.setl_token.specs.declared.pieces.Piece.{Piece}
 use Rattle.setl_token.specs.Bytes.{is_blank, is_in_word}
 use Rattle.setl_token.specs.Pieces.{piece_at, piece, word_kind, sign_piece, is_sign_pair}
-use Rattle.setl_token.specs.Form.{IsForm, IsWordText, signs, IsLongest}
+use Rattle.setl_token.specs.Form.{IsForm, IsWordText, IsLongest}
+use Rattle.setl_token.specs.Spellings.{spellings, listed, signs}
 use Rattle.setl_token.proofs.Runs.{run_is}
 use Rattle.setl_token.proofs.Formed.{first_of}
 use Rattle.setl_token.proofs.Covered.{first, at_letter, is_word, is_name, number_here, string_here}
@@ -42,71 +43,8 @@ single_apart : (pair : Bool) → pair ≡ false → sign_piece (cond pair 2 1) �
 single_apart pair e = rw e refl
 
 signs_apart : AllByRecursion SignApart signs
-unfolding piece_at
-signs_apart = (
-  λ b r e. refl,
-  (
-    λ b r e. refl,
-    (
-      λ b r e. refl,
-      (
-        λ b r e. refl,
-        (
-          λ b r e. refl,
-          (
-            λ b r e. refl,
-            (
-              λ b r e. single_apart _ (no_pair 59 b e),
-              (
-                λ b r e. single_apart _ (no_pair 58 b e),
-                (
-                  λ b r e. single_apart _ (no_pair 44 b e),
-                  (
-                    λ b r e. single_apart _ (no_pair 40 b e),
-                    (
-                      λ b r e. single_apart _ (no_pair 41 b e),
-                      (
-                        λ b r e. single_apart _ (no_pair 123 b e),
-                        (
-                          λ b r e. single_apart _ (no_pair 125 b e),
-                          (
-                            λ b r e. single_apart _ (no_pair 91 b e),
-                            (
-                              λ b r e. single_apart _ (no_pair 93 b e),
-                              (
-                                λ b r e. single_apart _ (no_pair 124 b e),
-                                (
-                                  λ b r e. single_apart _ (no_pair 61 b e),
-                                  (
-                                    λ b r e. single_apart _ (no_pair 60 b e),
-                                    (
-                                      λ b r e. single_apart _ (no_pair 62 b e),
-                                      (
-                                        λ b r e. single_apart _ (no_pair 43 b e),
-                                        (
-                                          λ b r e. single_apart _ (no_pair 45 b e),
-                                          (λ b r e. single_apart _ (no_pair 42 b e), (λ b r e. single_apart _ (no_pair 47 b e), (λ b r e. single_apart _ (no_pair 35 b e), tt))),
-                                        ),
-                                      ),
-                                    ),
-                                  ),
-                                ),
-                              ),
-                            ),
-                          ),
-                        ),
-                      ),
-                    ),
-                  ),
-                ),
-              ),
-            ),
-          ),
-        ),
-      ),
-    ),
-  ),
-)
+unfolding piece_at spellings listed signs
+signs_apart = (λ b r e. single_apart _ (no_pair 59 b e), (λ b r e. single_apart _ (no_pair 58 b e), (λ b r e. single_apart _ (no_pair 44 b e), (λ b r e. single_apart _ (no_pair 40 b e), (λ b r e. single_apart _ (no_pair 41 b e), (λ b r e. single_apart _ (no_pair 123 b e), (λ b r e. single_apart _ (no_pair 125 b e), (λ b r e. single_apart _ (no_pair 91 b e), (λ b r e. single_apart _ (no_pair 93 b e), (λ b r e. single_apart _ (no_pair 124 b e), (λ b r e. single_apart _ (no_pair 61 b e), (λ b r e. single_apart _ (no_pair 60 b e), (λ b r e. single_apart _ (no_pair 62 b e), (λ b r e. single_apart _ (no_pair 43 b e), (λ b r e. single_apart _ (no_pair 45 b e), (λ b r e. single_apart _ (no_pair 42 b e), (λ b r e. single_apart _ (no_pair 47 b e), (λ b r e. single_apart _ (no_pair 35 b e), (λ b r e. refl, (λ b r e. refl, (λ b r e. refl, (λ b r e. refl, (λ b r e. refl, (λ b r e. refl, tt))))))))))))))))))))))))
 
 sign_apart : (s : List ℕ) → Contains signs s → SignApart s
 sign_apart s c = subst SignApart c.2 (All-from_recursion SignApart signs signs_apart c.0 s c.1)

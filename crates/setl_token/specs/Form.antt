@@ -1,5 +1,5 @@
 -- The forms of tokens, blanks and comments as a table, and the longest piece at a place.
-use Rattle.std.specs.Prelude.{◌≡◌, ◌≢◌, ◌<◌, ◌≤◌, ℕ, pos, IsTrue, false, ◌==◌, if◌then◌else◌, List, [], ◌∷◌, ◌++◌, length, take, drop, slice_index, codes, Contains}
+use Rattle.std.specs.Prelude.{◌≡◌, ◌≢◌, ◌<◌, ◌≤◌, ℕ, pos, IsTrue, false, ◌==◌, if◌then◌else◌, List, [], ◌∷◌, ◌++◌, length, take, drop, slice_index, Contains}
 use Rattle.std.specs.Char.{is_ascii_digit, is_ascii_alphabetic}
 use Rattle.std.specs.List.{list_all, prefix_len}
 use Rattle.setl_token.specs.declared.TokenKind.TheVariants as kind
@@ -9,14 +9,7 @@ use Rattle.setl_token.specs.declared.pieces.PieceKind.{PieceKind}
 use Rattle.setl_token.specs.declared.pieces.PieceKind.TheVariants as is
 use Rattle.setl_token.specs.declared.pieces.Piece.{Piece}
 use Rattle.setl_token.specs.Bytes.{is_blank, is_in_word, is_in_line, lower, value_of, limit}
-use Rattle.setl_token.specs.Reserved.{words}
-
--- the signs
-abbrev pub signs : List (List ℕ)
-signs =
-    codes ":=" ∷ codes ".." ∷ codes "/=" ∷ codes "<=" ∷ codes ">=" ∷ codes "**" ∷
-    codes ";" ∷ codes ":" ∷ codes "," ∷ codes "(" ∷ codes ")" ∷ codes "{" ∷ codes "}" ∷ codes "[" ∷ codes "]" ∷
-    codes "|" ∷ codes "=" ∷ codes "<" ∷ codes ">" ∷ codes "+" ∷ codes "-" ∷ codes "*" ∷ codes "/" ∷ codes "#" ∷ []
+use Rattle.setl_token.specs.Spellings.{listed, signs}
 
 -- a letter, then letters, digits and `_`
 abbrev pub IsWordText : List ℕ → Type 0
@@ -43,8 +36,8 @@ pub record IsStringText (text behind : List ℕ) : Type 0 where
 abbrev pub IsForm : PieceKind → List ℕ → List ℕ → Type 0
 IsForm is.Blank text behind = (length text ≡ 1) × IsTrue (is_blank (slice_index text 0))
 IsForm is.Comment text behind = (slice_index text 0 ≡ 36) × IsTrue (list_all is_in_line text)
-IsForm (is.Token kind.Word) text behind = IsWordText text × Contains words (lower text)
-IsForm (is.Token kind.Name) text behind = IsWordText text × (Contains words (lower text) → ⊥)
+IsForm (is.Token kind.Word) text behind = IsWordText text × Contains listed (lower text)
+IsForm (is.Token kind.Name) text behind = IsWordText text × (Contains listed (lower text) → ⊥)
 IsForm (is.Token (kind.Number n)) text behind = IsNumberText text behind × (n ≡ pos (value_of text))
 IsForm (is.Token kind.Str) text behind = IsStringText text behind
 IsForm (is.Token kind.Sign) text behind = Contains signs text

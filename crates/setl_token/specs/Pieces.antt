@@ -12,7 +12,7 @@ use Rattle.setl_token.specs.declared.pieces.PieceKind.{PieceKind}
 use Rattle.setl_token.specs.declared.pieces.PieceKind.TheVariants as is
 use Rattle.setl_token.specs.declared.pieces.Piece.{Piece}
 use Rattle.setl_token.specs.Bytes.{is_blank, is_in_line, is_in_word, lower, value_of, limit}
-use Rattle.setl_token.specs.Reserved.{is_reserved}
+use Rattle.setl_token.specs.Spellings.{is_reserved}
 
 abbrev pub is_in : Class → ℕ → Bool
 is_in class.Digit b = is_ascii_digit b

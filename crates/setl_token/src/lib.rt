@@ -11,11 +11,12 @@ ghost use Rattle.setl_token.specs.Lex.{Spelled, LexFails, Tells, fault_of};
 
 mod laws;
 mod pieces;
-mod reserved;
+mod spellings;
 
 pub use laws::{blank_ends_token, lexing_is_determined, piece_at_is_longest};
 use pieces::{PieceKind, cut};
-use reserved::reads_as;
+pub use spellings::{spelled_kind, spelling};
+use spellings::reads_as;
 use std::alloc::{AllocError, AllocFailed, Global};
 use std::marker::Model;
 use thiserror::Error;

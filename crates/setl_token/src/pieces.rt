@@ -5,8 +5,9 @@ ghost use Rattle.std.specs.List.{prefix_len};
 ghost use Rattle.setl_token.specs.Bytes as bytes;
 ghost use Rattle.setl_token.specs.Pieces as spec;
 
-use crate::reserved::reads_as_word;
+use crate::spellings::spelled_kind;
 use crate::{Cause, TokenKind};
+use setl_tree::Kind;
 
 /// What a piece is.
 #[derive(Clone, Copy)]
@@ -184,9 +185,9 @@ pub fn cut(z: &[u8]) -> Result<Piece, Cause>
 fn word_kind(text: &[u8]) -> TokenKind
     ensures { result ≡ spec.word_kind text.now }
 {
-    if reads_as_word(text) {
-        TokenKind::Word
-    } else {
+    if spelled_kind(text) == Kind::SourceEnd {
         TokenKind::Name
+    } else {
+        TokenKind::Word
     }
 }

@@ -2,8 +2,8 @@ use Rattle.std.proofs.Common.{◌≡◌, ℕ, List, get_or, sym, ap, ◌∙◌, 
 use Rattle.std.proofs.lemmas.List.{get_or-map, ext_get_or, length-map}
 use Rattle.std.specs.Char.{to_ascii_lowercase}
 use Rattle.setl_token.specs.Bytes.{lower}
-use Rattle.setl_expressions.proofs.Words.{same_text, other_text}
-use Rattle.setl_expressions.proofs.spelling.reads_as.Goals as goal
+use Rattle.setl_token.proofs.Words.{same_text, other_text}
+use Rattle.setl_token.proofs.spellings.reads_as.Goals as goal
 
 pub returns-then-to_ascii_lowercase-word : goal.returns-then-to_ascii_lowercase-word
 returns-then-to_ascii_lowercase-word c =

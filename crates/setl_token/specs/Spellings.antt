@@ -1,8 +1,12 @@
--- Which kind each reserved word and each sign is.
-use Rattle.std.specs.Prelude.{ℕ, if◌then◌else◌, List, [], ◌∷◌, codes}
+-- Reserved words and signs: the table of how each is spelled.
+use Rattle.std.specs.Prelude.{ℕ, Bool, not, if◌then◌else◌, List, [], ◌∷◌, map, filter, slice_index, codes}
+use Rattle.std.specs.Char.{is_ascii_alphabetic}
+use Rattle.std.specs.List.{list_any}
 use Rattle.std.specs.Str.{bytes_eq}
+use denote.Enum.Bare.{sameb}
 use Rattle.setl_tree.specs.declared.kind.Kind.{Kind}
 use Rattle.setl_tree.specs.declared.kind.Kind.TheVariants as k
+use Rattle.setl_tree.specs.contracts.kind.Kind.{the_type}
 
 abbrev pub Spelling : Type 0
 Spelling = List ℕ × Kind
@@ -120,3 +124,35 @@ spellings =
 abbrev pub kind_in : List Spelling → List ℕ → Kind
 kind_in [] text = k.SourceEnd
 kind_in (s ∷ others) text = if bytes_eq text s.0 then s.1 else kind_in others text
+
+-- the text that a kind is listed with
+abbrev pub text_in : List Spelling → Kind → List ℕ
+text_in [] kind = []
+text_in (s ∷ others) kind = if sameb the_type s.1 kind then s.0 else text_in others kind
+
+-- a reserved word in lower case, or a sign; nothing for the kinds that have no one spelling
+unfoldable pub spelling : Kind → List ℕ
+spelling kind = text_in spellings kind
+
+-- a kind of tokens that are all spelled alike
+abbrev pub IsSpelled : Kind → Type 0
+IsSpelled k.SourceEnd = ⊥
+IsSpelled k.Name = ⊥
+IsSpelled k.Number = ⊥
+IsSpelled k.StringLiteral = ⊥
+IsSpelled _ = Unit {0}
+
+-- the texts that are listed: the reserved words in lower case, and the signs
+unfoldable pub listed : List (List ℕ)
+listed = map (λ s. s.0) spellings
+
+-- a sign doesn't begin with a letter
+abbrev pub is_sign : List ℕ → Bool
+is_sign text = not (is_ascii_alphabetic (slice_index text 0))
+
+unfoldable pub signs : List (List ℕ)
+signs = filter is_sign listed
+
+-- whether a text in lower case that begins with a letter is a reserved word
+abbrev pub is_reserved : List ℕ → Bool
+is_reserved text = list_any (bytes_eq text) listed

@@ -1,9 +1,10 @@
-//! The kinds of reserved words and signs.
+//! Reserved words and signs: the table of how each is spelled.
 
-ghost use Rattle.std.specs.Prelude.{◌≡◌, ◌==◌, map, filter, length};
-ghost use Rattle.setl_token.specs.Bytes.{lower};
+ghost use Rattle.std.specs.Prelude.{◌≡◌, ◌==◌, ◌&&◌, map, filter, length};
 ghost use Rattle.std.specs.Str.{bytes_eq};
-ghost use Rattle.setl_expressions.specs.Spellings.{spellings, kind_in};
+ghost use Rattle.setl_token.specs.Bytes.{lower};
+ghost use Rattle.setl_token.specs.Spellings as spec;
+ghost use Rattle.setl_token.specs.Spellings.{is_reserved, spellings, kind_in};
 
 use setl_tree::Kind;
 
@@ -138,7 +139,7 @@ fn spellings_of_len(len: usize) -> &'static [(&'static str, Kind)]
 }
 
 /// Whether a text, with its upper case letters read as lower case, is this text.
-fn reads_as(text: &[u8], word: &[u8]) -> bool
+pub(crate) fn reads_as(text: &[u8], word: &[u8]) -> bool
     ensures { result ≡ bytes_eq (lower text.now) word.now }
 {
     if text.len() != word.len() {
@@ -162,4 +163,24 @@ pub fn spelled_kind(text: &[u8]) -> Kind
         }
     }
     Kind::SourceEnd
+}
+
+/// The text that a kind is listed with, or nothing.
+fn text_in(all: &[(&'static str, Kind)], kind: Kind) -> &'static str
+    ensures { result.now ≡ spec.text_in (map (λ s. (s.0.now, s.1)) all.now) kind }
+{
+    for (text, listed) in all {
+        if *listed == kind {
+            return text;
+        }
+    }
+    ""
+}
+
+/// How a kind is spelled: a reserved word in lower case, or a sign; nothing for the kinds that have no one spelling.
+#[tactic(auto, unfolding(crate::specs::Spellings::spelling, crate::specs::Spellings::spellings))]
+pub fn spelling(kind: Kind) -> &'static str
+    ensures { result.now ≡ spec.spelling kind }
+{
+    text_in(&SPELLINGS, kind)
 }

@@ -2,9 +2,9 @@ use Rattle.std.proofs.Common.{sym, ap, ◌∙◌}
 use Rattle.std.proofs.lemmas.List.{length-map}
 use Rattle.std.specs.Char.{to_ascii_lowercase}
 use Rattle.setl_token.specs.Bytes.{lower}
-use Rattle.setl_expressions.specs.Spellings.{spellings, kind_in}
-use Rattle.setl_expressions.proofs.Words.{spellings_with, kind_of_len}
-use Rattle.setl_expressions.proofs.spelling.spelled_kind.Goals as goal
+use Rattle.setl_token.specs.Spellings.{spellings, kind_in}
+use Rattle.setl_token.proofs.Words.{spellings_with, kind_of_len}
+use Rattle.setl_token.proofs.spellings.spelled_kind.Goals as goal
 
 pub loop-word-init : goal.loop-word-init
 loop-word-init c =

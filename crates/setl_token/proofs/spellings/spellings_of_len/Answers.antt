@@ -1,7 +1,7 @@
 use Rattle.std.proofs.Common.{sym, ap, arith}
-use Rattle.setl_expressions.specs.Spellings.{spellings}
-use Rattle.setl_expressions.proofs.Words.{spellings_with, no_spellings}
-use Rattle.setl_expressions.proofs.spelling.spellings_of_len.Goals as goal
+use Rattle.setl_token.specs.Spellings.{spellings}
+use Rattle.setl_token.proofs.Words.{spellings_with, no_spellings}
+use Rattle.setl_token.proofs.spellings.spellings_of_len.Goals as goal
 
 pub returns-in-1 : goal.returns-in-1
 unfolding spellings
