@@ -1,13 +1,11 @@
--- Scopes: which former binds a name, and leaving a former.
-use Rattle.std.proofs.Common.{◌≡◌, ◌∙◌, ℕ, Bool, true, false, true≢false, cond, ◌||◌, List, [], ◌∷◌, ◌++◌, Option, Some, None, refl, sym, ap}
+-- Scopes: which former binds a name.
+use Rattle.std.proofs.Common.{◌≡◌, ◌∙◌, ℕ, Bool, true, false, true≢false, cond, ◌||◌, List, [], ◌∷◌, Option, Some, None, refl, sym, ap}
 use Rattle.std.specs.Option.{is_some}
 use Rattle.std.proofs.lemmas.List.Folds.{list_any-append}
 use Rattle.setl_names.specs.Names.{Name, has}
 use Rattle.setl_names.specs.Variables as meaning
-use Rattle.setl_program.specs.Scope.{Former, Scope, in_former, names_of_formers, innermost, former_of, of_former, variable_by, variable_of}
+use Rattle.setl_program.specs.Scope.{Former, Scope, names_of_formers, innermost, former_of, of_former, variable_by, variable_of}
 use Rattle.setl_scope.specs.Places.{variable_in}
-
--- ---- which former binds a name
 
 found_or : (found : Option ℕ) (b : Bool) (m : ℕ) → is_some (cond b (Some m) found) ≡ (b || is_some found)
 found_or found true m = refl
@@ -45,51 +43,3 @@ by_former s x None false e found = refl
 -- the variable of a name by the former that is found
 pub variable_found : (s : Scope) (x : Name) → variable_of s x ≡ variable_in s x (former_of s x)
 variable_found s x = by_former s x (former_of s x) (has (names_of_formers s.formers) x) (is_found None s.formers x ∙ or_false (has (names_of_formers s.formers) x)) refl
-
--- ---- leaving a former
-
--- the formers around the innermost one
-abbrev outer : List Former → List Former
-outer [] = []
-outer (f ∷ []) = []
-outer (f ∷ g ∷ fs) = f ∷ outer (g ∷ fs)
-
--- the names that the innermost former binds
-abbrev inner_names : List Former → List Name
-inner_names [] = []
-inner_names (f ∷ []) = f.names
-inner_names (f ∷ g ∷ fs) = inner_names (g ∷ fs)
-
-outer_of : (fs : List Former) (f : Former) → outer (fs ++ f ∷ []) ≡ fs
-outer_of [] f = refl
-outer_of (g ∷ []) f = refl
-outer_of (g ∷ h ∷ fs) f = ap (λ (z : List Former). g ∷ z) (outer_of (h ∷ fs) f)
-
-names_of_last : (fs : List Former) (f : Former) → inner_names (fs ++ f ∷ []) ≡ f.names
-names_of_last [] f = refl
-names_of_last (g ∷ []) f = refl
-names_of_last (g ∷ h ∷ fs) f = names_of_last (h ∷ fs) f
-
--- the scope outside of the innermost former
-outside : (m : ℕ) (names : List Name) (old s : Scope) → old ≡ in_former m names s → record old { formers = outer old.formers } ≡ s
-outside m names old s e =
-    ap (λ (t : Scope). record t { formers = outer t.formers }) e
-    ∙ ap (λ (fs : List Former). record s { formers = fs }) (outer_of s.formers (record { number = m; names = names }))
-
-inside : (m : ℕ) (names : List Name) (old s : Scope) → old ≡ in_former m names s → inner_names old.formers ≡ names
-inside m names old s e = ap (λ (t : Scope). inner_names t.formers) e ∙ names_of_last s.formers (record { number = m; names = names })
-
--- the last former is taken off
-pub last_left : (old : Scope) (fs : List Former) (last : Former) → old.formers ≡ fs ++ last ∷ [] →
-    (m : ℕ) (names : List Name) (s : Scope) → old ≡ in_former m names s → (last.names ≡ names) × (record old { formers = fs } ≡ s)
-last_left old fs last h m names s e = (
-  sym (ap inner_names h ∙ names_of_last fs last) ∙ inside m names old s e,
-  ap (λ (gs : List Former). record old { formers = gs }) (sym (ap outer h ∙ outer_of fs last)) ∙ outside m names old s e,
-)
-
--- there is no former
-pub none_left : (old : Scope) → old.formers ≡ [] → (m : ℕ) (names : List Name) (s : Scope) → old ≡ in_former m names s → ([] ≡ names) × (old ≡ s)
-none_left old h m names s e = (
-  sym (ap inner_names h) ∙ inside m names old s e,
-  ap (λ (gs : List Former). record old { formers = gs }) (h ∙ sym (ap outer h)) ∙ outside m names old s e,
-)
