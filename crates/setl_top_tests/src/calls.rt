@@ -1,8 +1,10 @@
 //! Calls of the program over an outside in memory.
 
+use crate::rows::{BETWEEN, fields, text};
 use setl_io::{MemFiles, MemSink, MemSource, Memory, Source, SureSource};
 use setl_top::{Status, setl};
 use std::alloc::Global;
+use std::process::Abort;
 
 /// Which calls of the outside fail, 0 for none, and how many bytes the output takes a call.
 #[derive(Clone, Copy)]
@@ -32,7 +34,9 @@ pub struct Left {
 impl Left {
     /// Whether the call answered so, and its outputs gained these texts.
     pub fn is(&self, status: Status, out: &str, err: &str) -> bool {
-        self.has(status, out.as_bytes(), err)
+        let printed = self.out.as_slice() == out.as_bytes();
+        let told = self.err.as_slice() == err.as_bytes();
+        self.status == status && printed && told
     }
 
     /// Whether the call answered so, the output gained nothing, and the error output gained some other text.
@@ -42,10 +46,9 @@ impl Left {
         self.status == status && self.out.is_empty() && told
     }
 
-    /// The same for an output as bytes.
-    pub fn has(&self, status: Status, out: &[u8], err: &str) -> bool {
-        let told = self.err.as_slice() == err.as_bytes();
-        self.status == status && self.out.as_slice() == out && told
+    /// The same for a status that is given as its number.
+    pub fn ends(&self, status: u64, out: &str, err: &str) -> bool {
+        u64::from(self.status.number()) == status && self.is(self.status, out, err)
     }
 }
 
@@ -58,55 +61,128 @@ pub fn words_of(alloc: Global, line: &str) -> Result<Vec<String>, Memory> {
     Ok(words)
 }
 
+/// The outside of a call, beside its input.
+#[derive(Drop)]
+struct Outside {
+    files: MemFiles,
+    out: MemSink,
+    err: MemSink,
+}
+
+/// Files in which this source is `a`.
+fn files_of(alloc: Global, source: &[u8], fails: u64) -> Result<MemFiles, Memory> {
+    let text = source.to_vec(alloc)?;
+    let mut files = MemFiles::new(alloc, vec![in alloc; fails]?)?;
+    files.add(String::from_str(alloc, "a")?, text)?;
+    Ok(files)
+}
+
+fn sink(alloc: Global, most: usize, fails: u64) -> Result<MemSink, Memory> {
+    MemSink::new(alloc, most, vec![in alloc; fails]?)
+}
+
+fn outside_of(alloc: Global, source: &[u8], faults: Faults) -> Result<Outside, Memory> {
+    let files = files_of(alloc, source, faults.load)?;
+    let out = sink(alloc, faults.most, faults.write)?;
+    let err = sink(alloc, 99, faults.tell)?;
+    Ok(Outside { files, out, err })
+}
+
+fn gained(alloc: Global, status: Status, outside: &Outside) -> Result<Left, Memory> {
+    let out = outside.out.held().to_vec(alloc)?;
+    let err = outside.err.held().to_vec(alloc)?;
+    Ok(Left { status, out, err })
+}
+
+/// A call with these words over this outside.
+fn called<I: Source>(
+    alloc: Global,
+    words: &[String],
+    outside: &mut Outside,
+    input: &mut I,
+) -> Status {
+    setl(
+        alloc,
+        words,
+        &mut outside.files,
+        input,
+        &mut outside.out,
+        &mut outside.err,
+    )
+}
+
 /// A call with these words, with this source in the file `a` and with this input.
 pub fn call_with<I: Source>(
     alloc: Global,
     line: &str,
-    source: Vec<u8>,
+    source: &[u8],
     input: &mut I,
     faults: Faults,
 ) -> Result<Left, Memory> {
     let words = words_of(alloc, line)?;
-    let mut files = MemFiles::new(alloc, vec![in alloc; faults.load]?)?;
-    files.add(String::from_str(alloc, "a")?, source)?;
-    let mut out = MemSink::new(alloc, faults.most, vec![in alloc; faults.write]?)?;
-    let mut err = MemSink::new(alloc, 99, vec![in alloc; faults.tell]?)?;
-    let status = setl(alloc, &words, &mut files, input, &mut out, &mut err);
-    Ok(Left {
-        status,
-        out: out.held().to_vec(alloc)?,
-        err: err.held().to_vec(alloc)?,
-    })
+    let mut outside = outside_of(alloc, source, faults)?;
+    let status = called(alloc, &words, &mut outside, input);
+    gained(alloc, status, &outside)
 }
 
 /// A call without an input.
-pub fn call(alloc: Global, line: &str, source: Vec<u8>, faults: Faults) -> Result<Left, Memory> {
+pub fn call(alloc: Global, line: &str, source: &[u8], faults: Faults) -> Result<Left, Memory> {
     let mut input = SureSource::new(Vec::new(alloc));
     call_with(alloc, line, source, &mut input, faults)
 }
 
-/// A call without an input, over an outside that doesn't fail.
+/// A call without an input, over an outside that doesn't fail. The last line end of the source is left out.
 pub fn answer(alloc: Global, line: &str, source: &str) -> Result<Left, Memory> {
-    call(alloc, line, source.as_bytes().to_vec(alloc)?, NO_FAULTS)
+    call(alloc, line, text(source).as_bytes(), NO_FAULTS)
 }
 
-/// The source of a program with these declarations, statements and procedures, which begin on line 1.
-fn program(alloc: Global, body: &str) -> Result<Vec<u8>, Memory> {
-    let mut source = b"program p; ".to_vec(alloc)?;
-    source.extend_from_slice(body.as_bytes())?;
-    source.extend_from_slice(b" end program;")?;
-    Ok(source)
+/// Compares such calls with what they answer. A row has the words, the source, what is printed and what is told.
+pub fn expect_calls(
+    rt: &impl Abort,
+    alloc: Global,
+    status: Status,
+    table: &str,
+) -> Result<(), Memory> {
+    for row in table.split(BETWEEN) {
+        let [line, source, out, err, _] = fields(row);
+        let left = answer(alloc, line, source)?;
+        assert!(rt; left.is(status, out, err), "at {row}");
+    }
+    Ok(())
 }
 
-/// A call with these words and a program with this body over an outside that doesn't fail. A byte of the input comes a
-/// call.
-pub fn run_with(alloc: Global, line: &str, body: &str, input: &[u8]) -> Result<Left, Memory> {
-    let source = program(alloc, body)?;
-    let mut input = MemSource::new(input.to_vec(alloc)?, 1, Vec::new(alloc));
-    call_with(alloc, line, source, &mut input, NO_FAULTS)
+/// A call with these words and a program over an outside that doesn't fail. The body has the program's declarations,
+/// statements and procedures, which begin on line 1; its last line end is left out. A byte of the input comes a call.
+pub fn run_with(alloc: Global, line: &str, body: &str, input: &str) -> Result<Left, Memory> {
+    let body = text(body);
+    let source = format!(in alloc; "program p; {body} end program;")?;
+    call_on(alloc, line, source.as_bytes(), input, NO_FAULTS)
+}
+
+/// A call with these words and this source. A byte of the input comes a call.
+pub fn call_on(
+    alloc: Global,
+    line: &str,
+    source: &[u8],
+    input: &str,
+    faults: Faults,
+) -> Result<Left, Memory> {
+    let input = input.as_bytes().to_vec(alloc)?;
+    let mut input = MemSource::new(input, 1, Vec::new(alloc));
+    call_with(alloc, line, source, &mut input, faults)
 }
 
 /// A run of a program with this body.
-pub fn run(alloc: Global, body: &str, input: &[u8]) -> Result<Left, Memory> {
+pub fn run(alloc: Global, body: &str, input: &str) -> Result<Left, Memory> {
     run_with(alloc, "run a", body, input)
+}
+
+/// Compares such runs with what they answer. A row has the body, what is printed, what is told and the input.
+pub fn expect(rt: &impl Abort, alloc: Global, status: Status, table: &str) -> Result<(), Memory> {
+    for row in table.split(BETWEEN) {
+        let [body, out, err, input, _] = fields(row);
+        let left = run(alloc, body, text(input))?;
+        assert!(rt; left.is(status, out, err), "at {row}");
+    }
+    Ok(())
 }

@@ -1,220 +1,324 @@
 //! Programs with declarations: what fits, where a store stops that doesn't, and the same without the declarations.
 
-use crate::calls::{Left, answer, run_with};
+use crate::calls::{Left, expect_calls, run_with};
+use crate::rows::{BETWEEN, fields, text};
 use setl_io::Memory;
 use setl_top::Status;
 use std::alloc::Global;
 use std::test::Fail;
 
 /// A set that is kept in three ways, a map, and a job on a graph, and what they print.
-const FITTING: [(&str, &str); 9] = [
-    (
-        "repr base n: int; s, t: remote set(elmt n); end repr;\ns := {1}; t := s; s with:= 2; print(s, t);",
-        "{1 2} {1}\n",
-    ),
-    (
-        "repr base n: int; s, t: local set(elmt n); end repr;\ns := {1}; t := s; s with:= 2; print(s, t);\ns less:= 1; print(s, t);",
-        "{1 2} {1}\n{2} {1}\n",
-    ),
-    (
-        "repr base b: int; s: local set(elmt b); end repr;\ns := {1};\nif ok then s with:= 2; print(s); fail; else print(s); end if;",
-        "{1 2}\n{1}\n",
-    ),
-    (
-        "repr base n: int; s: remote set(elmt n); t: sparse set(elmt n); end repr;\ns := {30,10}; t := {20,10}; s with:= 20; print(s, t); print([x : x in s]);",
-        "{10 20 30} {10 20}\n[10 20 30]\n",
-    ),
-    (
-        "repr base n: int; g: local mmap{elmt n} remote set(elmt n);\nseen: local set(elmt n); end repr;\ng := {[1,2],[2,3],[4,1]};\nseen := {}; todo := [1];\n(while todo /= [])\nx fromb todo;\nif x notin seen then\nseen with:= x;\n(for y in g{x}) todo with:= y; end for;\nend if;\nend while;\nprint(seen);",
-        "{1 2 3}\n",
-    ),
-    (
-        "repr i: int; c: string; b: boolean; a: atom; v: general; end repr;\ni := 1; c := 'x'; b := true; a := newat; v := [1,{}]; print(i, c, b, a, v);\ni := om; c := om; b := om; a := om; v := om; print(i, c, b, a, v);",
-        "1 x true #1 [1 {}]\n* * * * *\n",
-    ),
-    (
-        "repr base n: string; t: tuple(elmt n); u: tuple(tuple(int)); end repr;\nt := ['a']; t(3) := 'b'; u := [[1], om, [2,om,3]]; print(t, u);",
-        "['a' * 'b'] [[1] * [2 * 3]]\n",
-    ),
-    (
-        "repr f: smap(int) string; m: mmap{string} set(int); end repr;\nf := {[1,'a']}; f(2) := 'b'; f(1) := om; m := {}; m{'x'} := {1,2}; m{'x'} := {}; print(f, m);",
-        "{[2 'b']} {}\n",
-    ),
-    (
-        "var g; repr n: int; g: set(int); end repr;\nq(n); print(n, g);\nproc q(rw x); n := 'its own'; x := 3; g := {x}; print(n); end proc;",
-        "its own\n3 {3}\n",
-    ),
-];
+const FITTING: &str = "repr base n: int; s, t: remote set(elmt n); end repr;
+s := {1}; t := s; s with:= 2; print(s, t);
+--
+{1 2} {1}
+====
+repr base n: int; s, t: local set(elmt n); end repr;
+s := {1}; t := s; s with:= 2; print(s, t);
+s less:= 1; print(s, t);
+--
+{1 2} {1}
+{2} {1}
+====
+repr base b: int; s: local set(elmt b); end repr;
+s := {1};
+if ok then s with:= 2; print(s); fail; else print(s); end if;
+--
+{1 2}
+{1}
+====
+repr base n: int; s: remote set(elmt n); t: sparse set(elmt n); end repr;
+s := {30,10}; t := {20,10}; s with:= 20; print(s, t); print([x : x in s]);
+--
+{10 20 30} {10 20}
+[10 20 30]
+====
+repr base n: int; g: local mmap{elmt n} remote set(elmt n);
+seen: local set(elmt n); end repr;
+g := {[1,2],[2,3],[4,1]};
+seen := {}; todo := [1];
+(while todo /= [])
+x fromb todo;
+if x notin seen then
+seen with:= x;
+(for y in g{x}) todo with:= y; end for;
+end if;
+end while;
+print(seen);
+--
+{1 2 3}
+====
+repr i: int; c: string; b: boolean; a: atom; v: general; end repr;
+i := 1; c := 'x'; b := true; a := newat; v := [1,{}]; print(i, c, b, a, v);
+i := om; c := om; b := om; a := om; v := om; print(i, c, b, a, v);
+--
+1 x true #1 [1 {}]
+* * * * *
+====
+repr base n: string; t: tuple(elmt n); u: tuple(tuple(int)); end repr;
+t := ['a']; t(3) := 'b'; u := [[1], om, [2,om,3]]; print(t, u);
+--
+['a' * 'b'] [[1] * [2 * 3]]
+====
+repr f: smap(int) string; m: mmap{string} set(int); end repr;
+f := {[1,'a']}; f(2) := 'b'; f(1) := om; m := {}; m{'x'} := {1,2}; m{'x'} := {}; print(f, m);
+--
+{[2 'b']} {}
+====
+var g; repr n: int; g: set(int); end repr;
+q(n); print(n, g);
+proc q(rw x); n := 'its own'; x := 3; g := {x}; print(n); end proc;
+--
+its own
+3 {3}
+";
 
 #[test]
 fn programs_run_alike_while_their_values_fit(rt: HostRuntime) -> Result<(), Fail> {
-    let alloc = rt.alloc();
-    for (body, out) in FITTING {
-        for line in ["run a", "run --unbased a"] {
-            let left = run_with(alloc, line, body, b"")?;
-            assert!(rt; left.is(Status::Done, out, ""), "at {line} {body}");
-        }
+    for row in FITTING.split(BETWEEN) {
+        let [body, out, ..] = fields(row);
+        let based = run_with(rt.alloc(), "run a", body, "")?;
+        let plain = run_with(rt.alloc(), "run --unbased a", body, "")?;
+        assert!(rt; based.is(Status::Done, out, ""), "at {body}");
+        assert!(rt; plain.is(Status::Done, out, ""), "unbased at {body}");
     }
     Ok(())
 }
 
-/// A store of each kind whose value doesn't fit: the body, the input, what is printed up to it, the line of the stop, and
-/// what is printed without the declarations.
-const MISFITS: [(&str, &[u8], &str, &str, &str); 21] = [
-    (
-        "repr s: set(int); end repr;\ns := {1}; print(s);\ns := {1,'a'}; print(s);",
-        b"",
-        "{1}\n",
-        "line 3: value does not fit s\n",
-        "{1}\n{1 'a'}\n",
-    ),
-    (
-        "repr base n: int; s: sparse set(elmt n); end repr;\ns := {1}; print(s);\ns with:= 'a'; print(s);",
-        b"",
-        "{1}\n",
-        "line 3: value does not fit s\n",
-        "{1}\n{1 'a'}\n",
-    ),
-    (
-        "repr base n: int; f: sparse smap(elmt n) int; end repr;\nf := {[1,10]}; f(1) := om; print(f); f(1) := 5; print(f);\nf{1} := {1,2}; print(f);",
-        b"",
-        "{}\n{[1 5]}\n",
-        "line 3: value does not fit f\n",
-        "{}\n{[1 5]}\n{[1 1] [1 2]}\n",
-    ),
-    (
-        "repr t: tuple(set(int)); end repr;\nt := [{1}];\nt(1) with:= 'a'; print(t);",
-        b"",
-        "",
-        "line 3: value does not fit t\n",
-        "[{1 'a'}]\n",
-    ),
-    (
-        "repr t: tuple(int); end repr;\nt := [1];\nt(2) := 'a'; print(t);",
-        b"",
-        "",
-        "line 3: value does not fit t\n",
-        "[1 'a']\n",
-    ),
-    (
-        "repr n: int; end repr;\nn := 1;\nn +:= 1; print(n);\nn := str n; print(n);",
-        b"",
-        "2\n",
-        "line 4: value does not fit n\n",
-        "2\n2\n",
-    ),
-    (
-        "repr x: int; end repr;\ns := {'a'};\nx from s; print(x, s);",
-        b"",
-        "",
-        "line 3: value does not fit x\n",
-        "a {}\n",
-    ),
-    (
-        "repr x: int; end repr;\nt := [1,'a'];\nx fromb t; print(x); x fromb t; print(x, t);",
-        b"",
-        "1\n",
-        "line 3: value does not fit x\n",
-        "1\na []\n",
-    ),
-    (
-        "repr t: general; x: string; end repr;\nt := ['a',1];\nx frome t; print(x, t);",
-        b"",
-        "",
-        "line 3: value does not fit x\n",
-        "1 ['a']\n",
-    ),
-    (
-        "repr x: int; end repr;\nread(x); print(x);\nread(x); print(x);",
-        b"1 'a'",
-        "1\n",
-        "line 3: value does not fit x\n",
-        "1\na\n",
-    ),
-    (
-        "repr x: int; end repr;\n(for x in [1,'a',2])\nprint(x);\nend for;",
-        b"",
-        "1\n",
-        "line 2: value does not fit x\n",
-        "1\na\n2\n",
-    ),
-    (
-        "repr y: int; end repr;\n(for [x, y] in [[1,2],['a','b']])\nprint(x, y);\nend for;",
-        b"",
-        "1 2\n",
-        "line 2: value does not fit y\n",
-        "1 2\na b\n",
-    ),
-    (
-        "repr y: int; end repr;\nf := {[1,'a']};\n(for y = f(x))\nprint(x, y);\nend for;",
-        b"",
-        "",
-        "line 3: value does not fit y\n",
-        "1 a\n",
-    ),
-    (
-        "repr x: int; end repr;\nif exists x in {1,'a'} | x = 'a' then print(x); end if;",
-        b"",
-        "",
-        "line 2: value does not fit x\n",
-        "a\n",
-    ),
-    (
-        "repr x: string; end repr;\nprint(forall x in ['a',1] | x = 'a', x);",
-        b"",
-        "",
-        "line 2: value does not fit x\n",
-        "false 1\n",
-    ),
-    (
-        "repr y: int; end repr;\n[x, y] := [1, 2]; print(x, y);\n[x, y] := ['a', 'b']; print(x, y);",
-        b"",
-        "1 2\n",
-        "line 3: value does not fit y\n",
-        "1 2\na b\n",
-    ),
-    (
-        "repr n: int; end repr;\nn := 1;\nspell(n); print(n);\nproc spell(rw x);\nx := str x;\nend proc;",
-        b"",
-        "",
-        "line 3: value does not fit n\n",
-        "1\n",
-    ),
-    (
-        "repr n: int; end repr;\nname(n); print(n);\nproc name(wr x);\nx := 'a';\nend proc;",
-        b"",
-        "",
-        "line 2: value does not fit n\n",
-        "a\n",
-    ),
-    (
-        "var g; repr g: int; end repr;\nkeep('a'); print(g);\nproc keep(v);\ng := v;\nend proc;",
-        b"",
-        "",
-        "line 4: value does not fit g\n",
-        "a\n",
-    ),
-    (
-        "repr m: mmap{int} set(int); end repr;\nm := {[1,1],[1,2]}; print(m);\nm{1} with:= 'a'; print(m);",
-        b"",
-        "{[1 1] [1 2]}\n",
-        "line 3: value does not fit m\n",
-        "{[1 1] [1 2]}\n{[1 1] [1 2] [1 'a']}\n",
-    ),
-    (
-        "repr b: boolean; end repr;\nb := ok; print(b);\nif b then b := 1; end if; print(b);",
-        b"",
-        "true\n",
-        "line 3: value does not fit b\n",
-        "true\n1\n",
-    ),
-];
+/// A store of each kind whose value doesn't fit: the body, what is printed up to it, the line of the stop, what is
+/// printed without the declarations, and the input.
+const MISFITS: &str = "repr s: set(int); end repr;
+s := {1}; print(s);
+s := {1,'a'}; print(s);
+--
+{1}
+--
+line 3: value does not fit s
+--
+{1}
+{1 'a'}
+====
+repr base n: int; s: sparse set(elmt n); end repr;
+s := {1}; print(s);
+s with:= 'a'; print(s);
+--
+{1}
+--
+line 3: value does not fit s
+--
+{1}
+{1 'a'}
+====
+repr base n: int; f: sparse smap(elmt n) int; end repr;
+f := {[1,10]}; f(1) := om; print(f); f(1) := 5; print(f);
+f{1} := {1,2}; print(f);
+--
+{}
+{[1 5]}
+--
+line 3: value does not fit f
+--
+{}
+{[1 5]}
+{[1 1] [1 2]}
+====
+repr t: tuple(set(int)); end repr;
+t := [{1}];
+t(1) with:= 'a'; print(t);
+--
+--
+line 3: value does not fit t
+--
+[{1 'a'}]
+====
+repr t: tuple(int); end repr;
+t := [1];
+t(2) := 'a'; print(t);
+--
+--
+line 3: value does not fit t
+--
+[1 'a']
+====
+repr n: int; end repr;
+n := 1;
+n +:= 1; print(n);
+n := str n; print(n);
+--
+2
+--
+line 4: value does not fit n
+--
+2
+2
+====
+repr x: int; end repr;
+s := {'a'};
+x from s; print(x, s);
+--
+--
+line 3: value does not fit x
+--
+a {}
+====
+repr x: int; end repr;
+t := [1,'a'];
+x fromb t; print(x); x fromb t; print(x, t);
+--
+1
+--
+line 3: value does not fit x
+--
+1
+a []
+====
+repr t: general; x: string; end repr;
+t := ['a',1];
+x frome t; print(x, t);
+--
+--
+line 3: value does not fit x
+--
+1 ['a']
+====
+repr x: int; end repr;
+read(x); print(x);
+read(x); print(x);
+--
+1
+--
+line 3: value does not fit x
+--
+1
+a
+--
+1 'a'
+====
+repr x: int; end repr;
+(for x in [1,'a',2])
+print(x);
+end for;
+--
+1
+--
+line 2: value does not fit x
+--
+1
+a
+2
+====
+repr y: int; end repr;
+(for [x, y] in [[1,2],['a','b']])
+print(x, y);
+end for;
+--
+1 2
+--
+line 2: value does not fit y
+--
+1 2
+a b
+====
+repr y: int; end repr;
+f := {[1,'a']};
+(for y = f(x))
+print(x, y);
+end for;
+--
+--
+line 3: value does not fit y
+--
+1 a
+====
+repr x: int; end repr;
+if exists x in {1,'a'} | x = 'a' then print(x); end if;
+--
+--
+line 2: value does not fit x
+--
+a
+====
+repr x: string; end repr;
+print(forall x in ['a',1] | x = 'a', x);
+--
+--
+line 2: value does not fit x
+--
+false 1
+====
+repr y: int; end repr;
+[x, y] := [1, 2]; print(x, y);
+[x, y] := ['a', 'b']; print(x, y);
+--
+1 2
+--
+line 3: value does not fit y
+--
+1 2
+a b
+====
+repr n: int; end repr;
+n := 1;
+spell(n); print(n);
+proc spell(rw x);
+x := str x;
+end proc;
+--
+--
+line 3: value does not fit n
+--
+1
+====
+repr n: int; end repr;
+name(n); print(n);
+proc name(wr x);
+x := 'a';
+end proc;
+--
+--
+line 2: value does not fit n
+--
+a
+====
+var g; repr g: int; end repr;
+keep('a'); print(g);
+proc keep(v);
+g := v;
+end proc;
+--
+--
+line 4: value does not fit g
+--
+a
+====
+repr m: mmap{int} set(int); end repr;
+m := {[1,1],[1,2]}; print(m);
+m{1} with:= 'a'; print(m);
+--
+{[1 1] [1 2]}
+--
+line 3: value does not fit m
+--
+{[1 1] [1 2]}
+{[1 1] [1 2] [1 'a']}
+====
+repr b: boolean; end repr;
+b := ok; print(b);
+if b then b := 1; end if; print(b);
+--
+true
+--
+line 3: value does not fit b
+--
+true
+1
+";
 
 /// Whether a run stops so, and without the declarations is done with that output.
 fn stops_unless_unbased(
     alloc: Global,
     body: &str,
-    input: &[u8],
+    input: &str,
     out: &str,
     line: &str,
     unbased: &str,
@@ -226,59 +330,135 @@ fn stops_unless_unbased(
 
 #[test]
 fn a_store_stops_at_a_value_that_does_not_fit(rt: HostRuntime) -> Result<(), Fail> {
-    for (body, input, out, line, unbased) in MISFITS {
+    for row in MISFITS.split(BETWEEN) {
+        let [body, out, line, unbased, input] = fields(row);
         assert!(rt;
-            stops_unless_unbased(rt.alloc(), body, input, out, line, unbased)?,
+            stops_unless_unbased(rt.alloc(), body, text(input), out, line, unbased)?,
             "at {body}"
         );
     }
     Ok(())
 }
 
-/// Words of a run, and how a run of this loop ends that takes a turn for each number, with as many turns.
-const TURNS: [(&str, Status, &str, &str); 6] = [
-    (
-        "run --turns 3 a",
-        Status::Spent,
-        "1\n2\n3\n",
-        "out of turns\n",
-    ),
-    ("run --turns 5 a", Status::Done, "1\n2\n3\n4\n5\n", ""),
-    ("run --turns 0 a", Status::Spent, "", "out of turns\n"),
-    (
-        "run --turns 9223372036854775807 a",
-        Status::Done,
-        "1\n2\n3\n4\n5\n",
-        "",
-    ),
-    (
-        "run --unbased --turns 4 a",
-        Status::Spent,
-        "1\n2\n3\n4\n",
-        "out of turns\n",
-    ),
-    (
-        "run --turns 4 --unbased a",
-        Status::Spent,
-        "1\n2\n3\n4\n",
-        "out of turns\n",
-    ),
-];
+/// Words, programs, and what a run with as many turns as it takes prints.
+const ENOUGH: &str = "run --turns 5 a
+--
+program p; (for i in [1..5]) print(i); end for; end program;
+--
+1
+2
+3
+4
+5
+====
+run --turns 9223372036854775807 a
+--
+program p; (for i in [1..5]) print(i); end for; end program;
+--
+1
+2
+3
+4
+5
+";
+
+/// Words, programs, what a run prints that takes more turns, and what is told.
+const TOO_FEW: &str = "run --turns 3 a
+--
+program p; (for i in [1..5]) print(i); end for; end program;
+--
+1
+2
+3
+--
+out of turns
+====
+run --turns 0 a
+--
+program p; (for i in [1..5]) print(i); end for; end program;
+--
+--
+out of turns
+====
+run --unbased --turns 4 a
+--
+program p; (for i in [1..5]) print(i); end for; end program;
+--
+1
+2
+3
+4
+--
+out of turns
+====
+run --turns 4 --unbased a
+--
+program p; (for i in [1..5]) print(i); end for; end program;
+--
+1
+2
+3
+4
+--
+out of turns
+====
+run --turns 1 a
+--
+program p; repr base n: int; s: local set(elmt n); end repr;
+s := {1};
+(for x in [2,'a',3])
+s with:= x;
+print(s);
+end for;
+end program;
+--
+{1 2}
+--
+out of turns
+";
+
+/// Words, programs whose second turn takes a value that doesn't fit, what they print, and the line of the stop.
+const TURNS_LEFT: &str = "run --turns 5 a
+--
+program p; repr base n: int; s: local set(elmt n); end repr;
+s := {1};
+(for x in [2,'a',3])
+s with:= x;
+print(s);
+end for;
+end program;
+--
+{1 2}
+--
+line 4: value does not fit s
+====
+run --turns 2 a
+--
+program p; repr base n: int; s: local set(elmt n); end repr;
+s := {1};
+(for x in [2,'a',3])
+s with:= x;
+print(s);
+end for;
+end program;
+--
+{1 2}
+--
+line 4: value does not fit s
+";
 
 #[test]
 fn turns_are_bounded_by_the_words(rt: HostRuntime) -> Result<(), Fail> {
-    let source = "program p; (for i in [1..5]) print(i); end for; end program;";
-    for (line, status, out, err) in TURNS {
-        let left = answer(rt.alloc(), line, source)?;
-        assert!(rt; left.is(status, out, err), "at {line}");
-    }
+    expect_calls(&rt, rt.alloc(), Status::Done, ENOUGH)?;
+    expect_calls(&rt, rt.alloc(), Status::Spent, TOO_FEW)?;
+    expect_calls(&rt, rt.alloc(), Status::Stopped, TURNS_LEFT)?;
     Ok(())
 }
 
 /// What a run with so many turns answers.
 fn bounded(alloc: Global, turns: u64, body: &str) -> Result<Left, Memory> {
     let line = format!(in alloc; "run --turns {turns} a")?;
-    run_with(alloc, line.as_str(), body, b"")
+    run_with(alloc, line.as_str(), body, "")
 }
 
 #[test]

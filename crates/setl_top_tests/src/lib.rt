@@ -24,6 +24,8 @@ mod programs;
 #[cfg(test)]
 mod refusals;
 #[cfg(test)]
+mod rows;
+#[cfg(test)]
 mod searches;
 #[cfg(test)]
 mod stops;

@@ -1,6 +1,7 @@
 //! Listings of programs, and what stands in the outputs where a listing isn't written whole.
 
 use crate::calls::{Faults, NO_FAULTS, answer, call};
+use crate::faults::expect_faults;
 use setl_top::Status;
 use std::test::Fail;
 
@@ -90,86 +91,73 @@ fn each_kind_of_statement_is_listed(rt: HostRuntime) -> Result<(), Fail> {
 
 #[test]
 fn an_output_may_take_a_byte_a_call(rt: HostRuntime) -> Result<(), Fail> {
-    let alloc = rt.alloc();
     let faults = Faults {
         most: 1,
         ..NO_FAULTS
     };
-    let left = call(alloc, "code a", EACH.as_bytes().to_vec(alloc)?, faults)?;
+    let left = call(rt.alloc(), "code a", EACH.as_bytes(), faults)?;
     assert!(rt; left.is(Status::Done, LISTED, ""));
     Ok(())
 }
 
-/// Faults, words and a source, and what the call answers, writes and tells.
-const BROKEN_OFF: [(Faults, &str, &str, Status, &str, &str); 6] = [
-    (
-        Faults {
-            write: 1,
-            ..NO_FAULTS
-        },
-        "code a",
-        EACH,
-        Status::WriteFault,
-        "",
-        "write fault\n",
-    ),
-    (
-        Faults {
-            write: 3,
-            most: 7,
-            ..NO_FAULTS
-        },
-        "code a",
-        EACH,
-        Status::WriteFault,
-        "main:\n0 read\n1",
-        "write fault\n",
-    ),
-    (
-        Faults {
-            write: 3,
-            most: 7,
-            tell: 1,
-            ..NO_FAULTS
-        },
-        "code a",
-        EACH,
-        Status::WriteFault,
-        "main:\n0 read\n1",
-        "",
-    ),
-    (
-        NO_FAULTS,
-        "code b",
-        EACH,
-        Status::ReadFault,
-        "",
-        "read fault\n",
-    ),
-    (
-        NO_FAULTS,
-        "code a",
-        "program p;\nquit;\nend program;",
-        Status::Refused,
-        "",
-        "line 2: rule 13\n",
-    ),
-    (
-        NO_FAULTS,
-        "code a",
-        "program p;\nrepr base n: elmt m; end repr;\nend program;",
-        Status::Refused,
-        "",
-        "line 2: rule 21\n",
-    ),
-];
+/// Faults, words, what is written and told, and sources other than `EACH`.
+const BROKEN_OFF: &str = "0 1 99 0 6
+--
+code a
+--
+--
+write fault
+====
+0 3 7 0 6
+--
+code a
+--
+main:
+0 read
+1~
+--
+write fault
+====
+0 3 7 1 6
+--
+code a
+--
+main:
+0 read
+1~
+====
+0 0 99 0 5
+--
+code b
+--
+--
+read fault
+====
+0 0 99 0 1
+--
+code a
+--
+--
+line 2: rule 13
+--
+program p;
+quit;
+end program;
+====
+0 0 99 0 1
+--
+code a
+--
+--
+line 2: rule 21
+--
+program p;
+repr base n: elmt m; end repr;
+end program;
+";
 
 #[test]
 fn listings_that_are_not_written_whole(rt: HostRuntime) -> Result<(), Fail> {
-    let alloc = rt.alloc();
-    for (faults, line, source, status, out, err) in BROKEN_OFF {
-        let left = call(alloc, line, source.as_bytes().to_vec(alloc)?, faults)?;
-        assert!(rt; left.is(status, out, err), "at {line} {source}");
-    }
+    expect_faults(&rt, rt.alloc(), EACH, BROKEN_OFF)?;
     Ok(())
 }

@@ -25,15 +25,21 @@ impl Sink for Lengths {
     }
 }
 
+/// Files in which this source is `a`.
+fn files_of(alloc: Global, source: &str) -> Result<SureFiles, Memory> {
+    let text = source.as_bytes().to_vec(alloc)?;
+    let mut files = SureFiles::new(alloc)?;
+    files.add(String::from_str(alloc, "a")?, text)?;
+    Ok(files)
+}
+
 /// The lengths of the pieces that a program writes.
 fn lengths_of(alloc: Global, source: &str) -> Result<Vec<usize>, Memory> {
-    let mut files = SureFiles::new(alloc)?;
-    let text = source.as_bytes().to_vec(alloc)?;
-    files.add(String::from_str(alloc, "a")?, text)?;
     let words = words_of(alloc, "run a")?;
+    let mut files = files_of(alloc, source)?;
+    let mut err = SureSink::new(alloc)?;
     let mut input = SureSource::new(Vec::new(alloc));
     let mut out = Lengths(Vec::new(alloc));
-    let mut err = SureSink::new(alloc)?;
     let _ = setl(alloc, &words, &mut files, &mut input, &mut out, &mut err);
     let Lengths(lengths) = out;
     Ok(lengths)

@@ -71,38 +71,46 @@ fn read_in_pieces(
     answers(alloc, &mut MemSource::new(bytes, piece, fails))
 }
 
-const INPUTS: [(&str, &str); 16] = [
-    ("{1 [2 'a']} 7", "{1 [2 'a']} 7 .."),
-    ("{3,1,2,1} [1,*,2] 'it''s'", "{1 2 3} [1 * 2] 'it''s' .."),
-    ("\t{,,1,}[* 1 * *]*\r\n", "{1} [* 1] * .."),
-    ("12true-5 007'x''''y'", "12 true -5 7 'x''''y' .."),
-    (
-        "{'b' {} [] -1 FALSE {[]} 'a'}",
-        "{false -1 'a' 'b' [] {} {[]}} ..",
-    ),
-    ("", ".."),
-    ("1 truefalse", "1 FF"),
-    ("{1 [2", "FF"),
-    ("{1 *}", "FF"),
-    ("{1]", "FF"),
-    ("-", "FF"),
-    (",1", "FF"),
-    ("'a\n'", "FF"),
-    ("1 $", "1 FF"),
-    (
-        "170141183460469231731687303715884105727 170141183460469231731687303715884105728",
-        "170141183460469231731687303715884105727 WW",
-    ),
-    (
-        "-170141183460469231731687303715884105728 -170141183460469231731687303715884105729",
-        "-170141183460469231731687303715884105728 WW",
-    ),
-];
+// Inputs and their answers, with an empty line between two rows.
+const INPUTS: &str = "{1 [2 'a']} 7 => {1 [2 'a']} 7 ..
+
+{3,1,2,1} [1,*,2] 'it''s' => {1 2 3} [1 * 2] 'it''s' ..
+
+\t{,,1,}[* 1 * *]*\r
+ => {1} [* 1] * ..
+
+12true-5 007'x''''y' => 12 true -5 7 'x''''y' ..
+
+{'b' {} [] -1 FALSE {[]} 'a'} => {false -1 'a' 'b' [] {} {[]}} ..
+
+ => ..
+
+1 truefalse => 1 FF
+
+{1 [2 => FF
+
+{1 *} => FF
+
+{1] => FF
+
+- => FF
+
+,1 => FF
+
+'a
+' => FF
+
+1 $ => 1 FF
+
+170141183460469231731687303715884105727 170141183460469231731687303715884105728 => 170141183460469231731687303715884105727 WW
+
+-170141183460469231731687303715884105728 -170141183460469231731687303715884105729 => -170141183460469231731687303715884105728 WW";
 
 #[test]
 fn denotations_are_read_in_pieces_of_each_size(rt: HostRuntime) -> Result<(), Fail> {
     let alloc = rt.alloc();
-    for (input, expected) in INPUTS {
+    for row in INPUTS.split("\n\n") {
+        let (input, expected) = row.split_once(" => ").unwrap_or((row, ""));
         for piece in 1..30 {
             let all = read_in_pieces(alloc, input, piece, Vec::new(alloc))?;
             assert_eq!(rt; all.as_slice(), expected.as_bytes(), "{piece} of {input}");
