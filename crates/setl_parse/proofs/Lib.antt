@@ -1,3 +1,3 @@
 pub mod Deeper
 pub mod Lists
-pub mod Stopped
+pub mod Faults

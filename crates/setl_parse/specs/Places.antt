@@ -1,13 +1,12 @@
--- The places of faults, and the outcome of reading a whole program.
-use Rattle.std.specs.Prelude.{◌≡◌, ⊤, ℕ, ◌-◌, [], ◌∷◌, length, slice_get, Option, Some, None, Result, Ok, Err}
+-- The places of faults.
+use Rattle.std.specs.Prelude.{◌≡◌, ℕ, ◌-◌, length, slice_get, Option, Some, None}
 use Rattle.setl_tree.specs.declared.tree.Tree.{Tree}
+use Rattle.setl_tree.specs.Programs as grammar
 use Rattle.setl_token.specs.declared.Token.{Token as Lexeme}
 use Rattle.setl_token.specs.Text.{Lexed}
 use Rattle.setl_reading.specs.declared.fault.Fault.{Fault}
 use Rattle.setl_reading.specs.declared.fault.Fault.TheVariants as left
-use Rattle.setl_reading.specs.Reading.{Outcome}
-use Rattle.setl_reading.specs.Fronts.{GoesWrong, NestsTooDeep}
-use Rattle.setl_reading.specs.ReadPrograms as reading
+use Rattle.setl_reading.specs.Fronts.{FaultOf}
 use Rattle.setl_expressions.specs.Plain.{plain_tokens}
 use Rattle.setl_parse.specs.declared.fault.ParseFault.{ParseFault}
 use Rattle.setl_parse.specs.declared.fault.ParseFault.TheVariants as at
@@ -26,28 +25,15 @@ fault_of l left.Memory = at.NoMemory
 fault_of l (left.Syntax count) = at.Syntax (place_of l count)
 fault_of l (left.Nesting count) = at.Nesting (place_of l count)
 
--- the outcome where all tokens have to be read
-abbrev pub outcome_of : Lexed → Outcome Tree → Result Tree ParseFault
-outcome_of l (Ok (tree, [])) = Ok tree
-outcome_of l (Ok (tree, t ∷ rest)) = Err (fault_of l (left.Syntax (length (t ∷ rest))))
-outcome_of l (Err e) = Err (fault_of l e)
+-- This is the fault of the tokens of a source, with its place: of syntax where they go wrong, or of nesting at the first
+-- one that opens the 201st.
+abbrev pub IsFaultOf : Lexed → ParseFault → Type 0
+IsFaultOf l fault = (e : Fault) × FaultOf 200 (plain_tokens l) e × (fault ≡ fault_of l e)
 
--- ---- what a place is by the grammar
+-- the tokens of a source have one fault at most
+abbrev pub FaultIsUnique : Type 0
+FaultIsUnique = (l : Lexed) (one two : ParseFault) → IsFaultOf l one → IsFaultOf l two → one ≡ two
 
--- at this place the tokens go wrong: those before it begin a program, and with the token there they begin none
-abbrev pub GoesWrongAt : Lexed → ℕ → Type 0
-GoesWrongAt l place = (count : ℕ) × GoesWrong (plain_tokens l) count × (place ≡ place_of l count)
-
--- some program begins with the tokens before this place and the one there, and none within 200 nestings
-abbrev pub NestsTooDeepAt : Lexed → ℕ → Type 0
-NestsTooDeepAt l place = (count : ℕ) × NestsTooDeep 200 (plain_tokens l) count × (place ≡ place_of l count)
-
--- what the place of a fault is
-abbrev pub IsPlaced : Lexed → ParseFault → Type 0
-IsPlaced l at.NoMemory = ⊤
-IsPlaced l (at.Syntax place) = GoesWrongAt l place
-IsPlaced l (at.Nesting place) = NestsTooDeepAt l place
-
--- where reading stops is such a place
-abbrev pub StopsArePlaced : Type 0
-StopsArePlaced = (l : Lexed) (stop : ParseFault) → outcome_of l (reading.program 200 (plain_tokens l)) ≡ Err stop → IsPlaced l stop
+-- tokens that derive a tree within 200 nestings have none
+abbrev pub ProgramsHaveNoFault : Type 0
+ProgramsHaveNoFault = (l : Lexed) (tree : Tree) (fault : ParseFault) → grammar.program 200 (plain_tokens l) tree → IsFaultOf l fault → ⊥

@@ -10,10 +10,10 @@ use thiserror::Error;
 /// Why a source is no program. A place is the first byte of a token, or the length of the source.
 #[derive(Clone, Copy, Debug, PartialEq, Eq, Error)]
 pub enum ParseFault {
-    /// The token at this place does not go on.
+    /// The tokens before this place begin a program, and with the one here they begin none.
     #[error("the token at byte {at} does not go on here")]
     Syntax { at: u32 },
-    /// The token at this place opens one nesting too many.
+    /// The token at this place opens a nesting inside 200 others.
     #[error("too many nestings at byte {at}")]
     Nesting { at: u32 },
     /// Memory ran out.

@@ -1,15 +1,14 @@
-//! What the place of a fault is by the grammar.
+//! The law on the faults that a parser tells.
 
-ghost use Rattle.setl_parse.specs.Places.{StopsArePlaced};
+ghost use Rattle.setl_parse.specs.Places.{FaultIsUnique, ProgramsHaveNoFault};
 
-use setl_reading::{nesting_faults_go_on, syntax_faults_are_exact};
+use setl_reading::fault_is_unique;
 
-/// Where reading the tokens of a source stops for their syntax, they go wrong: those before that place begin a program,
-/// and with the token there they begin none. Where it stops at a nesting, some program begins with the tokens up to and
-/// with the one there, and none within 200 nestings does.
-pub fn stops_are_placed()
-    ensures { StopsArePlaced }
+/// The tokens of a source have one fault at most, and none where they derive a tree within 200 nestings. So `parse` tells
+/// a fault exactly where the tokens have it, unless memory runs out.
+pub fn one_fault()
+    ensures unique { FaultIsUnique }
+    ensures none { ProgramsHaveNoFault }
 {
-    syntax_faults_are_exact();
-    nesting_faults_go_on();
+    fault_is_unique();
 }

@@ -8,19 +8,18 @@ mod nested;
 mod programs;
 mod statements;
 
-ghost use Rattle.std.specs.Prelude.{◌≡◌, ◌≢◌, IfOk, IfErr, MatchResult, Err};
+ghost use Rattle.std.specs.Prelude.{◌≡◌, ◌≢◌, IfOk, IfErr, MatchResult};
 ghost use Rattle.setl_tree.specs.Programs as grammar;
 ghost use Rattle.setl_tree.specs.Programs.{Derives};
-ghost use Rattle.setl_reading.specs.ReadPrograms as reading;
 ghost use Rattle.setl_expressions.specs.Plain.{plain_tokens};
-ghost use Rattle.setl_parse.specs.Places.{outcome_of};
+ghost use Rattle.setl_parse.specs.Places.{IsFaultOf};
 
 use crate::programs::program;
 pub use fault::ParseFault;
 use fault::fault_at;
-pub use laws::stops_are_placed;
+pub use laws::one_fault;
 use setl_expressions::Cursor;
-use setl_reading::{reading_meets_grammar, tree_is_unique};
+use setl_reading::{faults_are_exact, reading_meets_grammar, tree_is_unique};
 use setl_token::TokenList;
 use setl_tree::Tree;
 use std::alloc::Global;
@@ -32,16 +31,17 @@ pub const NESTINGS: usize = 200;
 ///
 /// # Errors
 ///
-/// `Syntax` and `Nesting` give the place where reading stopped, because the token there does not go on, or opens more
-/// than 200 nestings inside one another. `NoMemory` if memory runs out.
+/// `Syntax` where no tree has the tokens, at the first token with which those so far begin no program, or at the end of
+/// the source if all of them begin one. `Nesting` at the first token that opens a nesting inside 200 others, if no fault of
+/// syntax stands before. `NoMemory` if memory runs out.
 pub fn parse(alloc: Global, list: &TokenList) -> Result<Tree, ParseFault>
     ensures derives { IfOk result (λ tree. grammar.program 200 (plain_tokens list.now) tree) }
     ensures finds { (tree : Tree) → grammar.program 200 (plain_tokens list.now) tree
         → MatchResult result (λ t. t ≡ tree) (λ e. e ≡ ParseFault.NoMemory) }
     ensures unique { IfOk result (λ t. (tree : Tree) → Derives (plain_tokens list.now) tree → t ≡ tree) }
-    ensures place { IfErr result (λ e. e ≢ ParseFault.NoMemory
-        → outcome_of list.now (reading.program 200 (plain_tokens list.now)) ≡ Err e) }
+    ensures fault { IfErr result (λ e. e ≢ ParseFault.NoMemory → IsFaultOf list.now e) }
 {
+    faults_are_exact();
     reading_meets_grammar();
     tree_is_unique();
     let mut tokens = Cursor::new(alloc, list);

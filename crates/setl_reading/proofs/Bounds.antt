@@ -13,6 +13,7 @@ use Rattle.setl_tree.specs.Lang.{Lang, Then}
 use Rattle.setl_tree.specs.Lang as lang
 use Rattle.setl_tree.specs.Operators.{level_of}
 use Rattle.setl_tree.specs.Expressions as grammar
+use Rattle.setl_reading.specs.Fronts.{opens_nesting}
 use Rattle.setl_reading.specs.Reading.{Reader, ◌>>=◌, pure, expect, is, same_kind}
 use Rattle.setl_reading.specs.ReadExpressions as r
 use Rattle.setl_reading.proofs.EveryKind.{kinds}
@@ -79,12 +80,12 @@ unfolding grammar.bound kinds same_kind
 begins_bound room = begins_or (begins_then (begins_name refl)) (begins_then (begins_within (begins_pattern room) (within refl)))
 
 pub exact_slot : {always : Bool} {room : ℕ} → Exact always room r.slot grammar.slot
-unfolding r.slot grammar.slot
-exact_slot = exact_choose (is k.Name) (exact_map sl.Name exact_name) (exact_map (λ _. sl.Skip) (exact_expect k.Minus))
+unfolding r.slot grammar.slot opens_nesting
+exact_slot = exact_choose (is k.Name) (exact_map sl.Name exact_name) (exact_map (λ _. sl.Skip) (exact_expect k.Minus refl))
 
 pub exact_pattern : (room : ℕ) → Exact false room (r.pattern room) (grammar.pattern room)
-unfolding r.pattern grammar.pattern
-exact_pattern room = exact_opening room k.LeftBracket (λ _ _ _. exact_then (exact_separated exact_slot) (λ slots. exact_map (λ _. slots) (exact_expect k.RightBracket)))
+unfolding r.pattern grammar.pattern opens_nesting
+exact_pattern room = exact_opening room k.LeftBracket refl (λ _ _ _. exact_then (exact_separated exact_slot) (λ slots. exact_map (λ _. slots) (exact_expect k.RightBracket refl)))
 
 pub exact_bound : {always : Bool} (room : ℕ) → Exact always room (r.bound room) (grammar.bound room)
 unfolding r.bound grammar.bound
@@ -161,15 +162,16 @@ module _ (room : ℕ) (source : Reader Expr) (L : Lang Expr) (law : Law source L
 
   module _ (exact : Exact true room source L) where
     exact_image : (y : List ℕ) → Exact false room (r.image room y) (image_l y)
-    unfolding r.image
-    exact_image y = exact_then exact_name (λ f. exact_opening room k.LeftParen (λ _ _ _. exact_then exact_name (λ x. exact_map (λ _. it.Image y f x) (exact_expect k.RightParen))))
+    unfolding r.image opens_nesting
+    exact_image y = exact_then exact_name (λ f. exact_opening room k.LeftParen refl (λ _ _ _. exact_then exact_name (λ x. exact_map (λ _. it.Image y f x) (exact_expect k.RightParen refl))))
 
     exact_over : {always : Bool} (b : Bound) → Exact always room (expect k.In >>= λ _. source >>= λ s. pure (it.Over b s)) (over_l b)
-    exact_over b = exact_then (exact_expect k.In) (λ _. exact_map (λ s. it.Over b s) (weak exact))
+    unfolding opens_nesting
+    exact_over b = exact_then (exact_expect k.In refl) (λ _. exact_map (λ s. it.Over b s) (weak exact))
 
     exact_named : {always : Bool} (x : List ℕ) → Exact always room (r.named_iter room source x) (named_l x)
-    unfolding r.named_iter
-    exact_named x = exact_either (is k.Equal) (exact_then (exact_expect k.Equal) (λ _. exact_image x)) (exact_over (bd.Name x))
+    unfolding r.named_iter opens_nesting
+    exact_named x = exact_either (is k.Equal) (exact_then (exact_expect k.Equal refl) (λ _. exact_image x)) (exact_over (bd.Name x))
 
     exact_iter_l : {always : Bool} → Exact always room (r.iter room source) iter_l
     unfolding r.iter r.pattern_iter

@@ -1,7 +1,6 @@
 -- Reading what stands inside braces and brackets.
-use Rattle.std.proofs.Common.{◌≡◌, ℕ, zero, suc, ◌+◌, ◌≤◌, Bool, true, false, not, cond, if◌then◌else◌, List, [], ◌∷◌, ◌++◌, length, Some, None, Ok, Err, length-append, refl, sym, ap, subst, ◌∙◌, append_assoc, arith, inl, inr, ◌⊎◌}
+use Rattle.std.proofs.Common.{◌≡◌, ℕ, zero, suc, ◌+◌, ◌≤◌, Bool, true, false, not, cond, List, [], ◌∷◌, ◌++◌, length, Some, None, Ok, Err, length-append, refl, sym, ap, subst, ◌∙◌, append_assoc, arith, inl, inr, ◌⊎◌}
 use Rattle.std.proofs.lemmas.List.{append-nil}
-use Rattle.setl_tree.specs.declared.kind.Kind.{Kind}
 use Rattle.setl_tree.specs.declared.kind.Kind.TheVariants as k
 use Rattle.setl_tree.specs.declared.expr.Relation.TheVariants as rel
 use Rattle.setl_tree.specs.declared.expr.Slot.TheVariants as sl
@@ -19,115 +18,19 @@ use Rattle.setl_tree.specs.Expressions as grammar
 use Rattle.setl_reading.specs.declared.ahead.Ahead.{Ahead}
 use Rattle.setl_reading.specs.declared.ahead.Ahead.TheVariants.{Expression, Either, Pattern}
 use Rattle.setl_reading.specs.declared.fault.Fault.TheVariants.{Syntax, Nesting}
-use Rattle.setl_reading.specs.Reading.{open_if, but, Outcome, Reader, ◌>>=◌, ◌>>◌, and_then, pure, expect, opening, is, begins_as, next_kind, rest_of, same_kind, many_from, more, separated}
-use Rattle.setl_reading.specs.Scan.{either_at, ends_slot, slots_ahead, ahead, bound_expr}
+use Rattle.setl_reading.specs.Fronts.{opens_nesting}
+use Rattle.setl_reading.specs.Reading.{open_if, but, Outcome, Reader, ◌>>=◌, ◌>>◌, and_then, pure, expect, opening, is, next_kind, rest_of, same_kind, many_from, more, separated}
+use Rattle.setl_reading.specs.Scan.{either_at, slots_ahead, ahead, bound_expr}
 use Rattle.setl_reading.specs.ReadExpressions as r
 use Rattle.setl_reading.proofs.EveryKind.{kinds, same_kind_is, same_kind_self}
-use Rattle.setl_reading.proofs.Laws.{Took, Law, Follows, Within, Begins, Fails, anything, bind_ok, ok_parts, took_as, took_then, fails_then, fails_at, takes, passes, goes_to, opening_fails, bind_assoc, law_of, not_is, within, within_always, same, law_pure, law_then, law_map, law_stops, law_expect, law_choose, law_as, law_more, law_optional, begins_token, begins_then, follows_begins, follows_token, follows_or, follows_map, follows_more, follows_optional, follows_pure}
-use Rattle.setl_reading.proofs.Exact.{left, Extends, Fits, Reach, Exact, Fronted, ends, and_left, left_none, far, fails_to, fits_took, bind_err, fronted_second, fronted_as, reach_then, reach_expect, reach_choose, weak, exact_then, exact_map, exact_pure, exact_expect, exact_choose, exact_as, exact_optional, exact_more, token_of}
+use Rattle.setl_reading.proofs.Laws.{Took, Law, Follows, Within, Begins, Fails, anything, bind_ok, ok_parts, took_as, fails_then, fails_at, takes, passes, goes_to, bind_assoc, law_of, not_is, within, within_always, same, law_pure, law_then, law_map, law_stops, law_expect, law_choose, law_as, law_more, law_optional, begins_token, begins_then, follows_begins, follows_token, follows_or, follows_map, follows_more, follows_optional, follows_pure}
+use Rattle.setl_reading.proofs.Reach.{left, Extends, Reach, ends, and_left, left_none, far, fails_to, reach_then, reach_expect, reach_choose}
+use Rattle.setl_reading.proofs.Openers.{Opener, Shows}
+use Rattle.setl_reading.proofs.Exact.{Exact, Goes, Fronted, fronted_as, weak, exact_then, exact_map, exact_pure, exact_expect, exact_choose, exact_as, exact_optional, exact_more, token_of}
 use Rattle.setl_reading.proofs.Regroup.{more_l, behind, assoc, unassoc, with_second, optional_none, optional_some, optional_to, listed_none, listed_some, listed_to, more_one, more_none, more_to}
 use Rattle.setl_reading.proofs.Bounds.{below, over, starts_bound, law_bound, law_iters, exact_bound, exact_iters}
-use Rattle.setl_reading.proofs.Scanning.{Open, OpenSlots, closes_slots, ahead_local, Named, named, holed, not_short, name_token, mapped, separated_map, bracketed, ahead_is, ahead_name, ahead_minus, either_at_in, either_at_not, some_token, bound_seen, slot_exprs_names}
-
--- ---- what begins an expression
-
-unfoldable pub starts_primary : Kind → Bool
-starts_primary k.Number = true
-starts_primary k.StringLiteral = true
-starts_primary k.Om = true
-starts_primary k.True = true
-starts_primary k.False = true
-starts_primary k.Newat = true
-starts_primary k.Eof = true
-starts_primary k.Ok = true
-starts_primary k.Name = true
-starts_primary k.LeftParen = true
-starts_primary k.If = true
-starts_primary k.LeftBrace = true
-starts_primary k.LeftBracket = true
-starts_primary _ = false
-
--- an operand with its prefixes
-abbrev pub starts_operand : Kind → Bool
-starts_operand kind = if r.begins_prefix kind then true else starts_primary kind
-
-abbrev pub starts_logic : Kind → Bool
-starts_logic kind = if begins_as not_sign kind then true else starts_operand kind
-
-abbrev pub starts : Kind → Bool
-starts kind = if begins_as quantifier kind then true else starts_logic kind
-
--- names in brackets
-abbrev pub names_l : ℕ → Lang (List (List ℕ))
-names_l room = Then (lang.opening room k.LeftBracket) (λ _. Then (lang.separated lang.name) (λ xs. Then (lang.token k.RightBracket) (λ _. lang.pure xs)))
-
--- Reading expressions where so many nestings may still open.
-pub record IsInside (room : ℕ) (R : r.Inside) (L : grammar.Inside) : Type 0 where
-  pub expr : Law R.expr L.expr (below 2)
-  pub source : Law R.source L.source (below 7)
-  pub begins : Begins starts L.expr
-  -- a name, and names in brackets
-  pub name_expr : (t : Token) → t.kind ≡ k.Name → L.expr (t ∷ []) (e.Name t.text)
-  pub name_source : (t : Token) → t.kind ≡ k.Name → L.source (t ∷ []) (e.Name t.text)
-  pub names_source : (toks : Tokens) (xs : List (List ℕ)) → names_l room toks xs → L.source toks (e.Tuple (inn.List (mapped e.Name xs)))
-  -- an expression that begins with the left side of `in`
-  pub goes_on : (i rest : Tokens) (a : Expr) → starts_bound (next_kind i) ≡ true → R.source i ≡ Ok (a, rest) → next_kind rest ≡ k.In
-      → R.expr i ≡ (expect k.In >>= λ _. R.source >>= λ s. R.after (e.Compare a rel.In s)) rest
-  pub stays : (i : Tokens) (a : Expr) → below 2 (next_kind i) ≡ true → R.after a i ≡ Ok (a, i)
-  -- a `-` that no operand follows
-  pub no_operand : (t u : Token) (toks : Tokens) → t.kind ≡ k.Minus → ends_slot u.kind ≡ true → Fails (R.expr (t ∷ u ∷ toks))
-  -- a bracket that may not open, or that a pattern with a `-` opens
-  pub no_tuple : (t : Token) (toks : Tokens) → t.kind ≡ k.LeftBracket → (room ≡ zero) ⊎ (slots_ahead toks ≡ Pattern) → Fails (R.expr (t ∷ toks))
-
--- What stands before a fault in such expressions is a front, and reading stops where the tokens before it show.
-pub record IsExact (room : ℕ) (R : r.Inside) (L : grammar.Inside) : Type 0 where
-  pub expr : Exact true room R.expr L.expr
-  pub source : Exact true room R.source L.source
-  pub after : (a : Expr) → Reach room (R.after a)
-  -- a `-` before a name
-  pub minus_expr : (t u : Token) → t.kind ≡ k.Minus → u.kind ≡ k.Name → (a : Expr) × L.expr (t ∷ u ∷ []) a
-  -- a bracket that may not open
-  pub shut : room ≡ zero → (t : Token) (toks : Tokens) → t.kind ≡ k.LeftBracket → R.expr (t ∷ toks) ≡ Err (Nesting (suc (length toks)))
-  -- names behind a bracket, up to the end of the tokens
-  pub goes : (inside : ℕ) → room ≡ suc inside → (t : Token) (toks : Tokens) → t.kind ≡ k.LeftBracket → OpenSlots toks → (more : Tokens) × (a : Expr) × L.expr (t ∷ (toks ++ more)) a
-
-pub zero_or_more : (room : ℕ) → (room ≡ zero) ⊎ ((m : ℕ) × (room ≡ suc m))
-zero_or_more zero = inl refl
-zero_or_more (suc m) = inr (m, refl)
-
-not_pattern : Expression ≡ Pattern → ⊥
-not_pattern h = cc
-
-no_pattern_none : slots_ahead [] ≡ Pattern → ⊥
-unfolding slots_ahead
-no_pattern_none h = cc
-
-no_pattern_one : (t : Token) → slots_ahead (t ∷ []) ≡ Pattern → ⊥
-unfolding slots_ahead
-no_pattern_one t h = cc
-
-minus_opens : r.closes k.Minus ≡ false
-unfolding r.closes
-minus_opens = refl
-
-name_opens : r.closes k.Name ≡ false
-unfolding r.closes
-name_opens = refl
-
-comma_expression : either_at k.Comma ≡ Expression
-unfolding same_kind
-comma_expression = refl
-
--- with no room a bracket does not open
-bracket_no_name : is k.Name k.LeftBracket ≡ false
-unfolding same_kind
-bracket_no_name = refl
-
-bracket_fails : (i : Tokens) → next_kind i ≡ k.LeftBracket → Fails (r.bound zero i)
-unfolding r.bound r.pattern
-bracket_fails i h = fails_at (passes (is k.Name) _ _ i (ap (is k.Name) h ∙ bracket_no_name))
-    (fails_then (r.pattern zero) (λ slots. pure (bd.Pattern slots)) i
-    (fails_then (opening zero k.LeftBracket) (λ _. separated r.slot >>= λ slots. expect k.RightBracket >>= λ _. pure slots) i (opening_fails k.LeftBracket i)))
+use Rattle.setl_reading.proofs.Scanning.{Open, closes_slots, ahead_local, Named, named, holed, not_short, name_token, mapped, separated_map, bracketed, ahead_is, ahead_name, ahead_minus, either_at_in, either_at_not, some_token, bound_seen, slot_exprs_names}
+use Rattle.setl_reading.proofs.Insides.{starts_primary, starts, names_l, IsInside, IsExact, zero_or_more, not_pattern, no_pattern_none, no_pattern_one, minus_opens, name_opens, comma_expression, bracket_no_name, bracket_fails}
 
 module _ (room : ℕ) (R : r.Inside) (L : grammar.Inside) (E : IsInside room R L) where
   -- ---- an expression in front, or nothing
@@ -473,25 +376,35 @@ module _ (room : ℕ) (R : r.Inside) (L : grammar.Inside) (E : IsInside room R L
       let bar = filter_at_bar zero_.0.0 two.0.0 two.0.1 (a, rest) two.2 in
       rw (zero_.1, one.1, two.1, bar) two.2
 
-  -- what is read behind `bound in` is a filter, or what an expression in front is read as
-  either_took : (i : Tokens) (both : Both i) (a : Inner) (rest : Tokens) → (expect k.In >>= λ _. R.source >>= λ s. r.filter_or_plain room R both.bound s) both.rest ≡ Ok (a, rest)
-      → Took filter_l i a rest ⊎ (goes both.bound both.rest ≡ Ok (a, rest))
+  -- behind `bound in source`
+  turn_goes : (b : Bound) (s : Expr) (c : Bool) (at : Tokens) → (cond c (r.filter room R b s) (R.after (e.Compare (bound_expr b) rel.In s) >>= r.rest_of_inner room R) at ≡ r.filter room R b s at)
+      ⊎ (cond c (r.filter room R b s) (R.after (e.Compare (bound_expr b) rel.In s) >>= r.rest_of_inner room R) at ≡ (R.after (e.Compare (bound_expr b) rel.In s) >>= r.rest_of_inner room R) at)
+  turn_goes b s true at = inl refl
+  turn_goes b s false at = inr refl
+
+  source_goes : (b : Bound) (o : Outcome Expr) → (and_then o (λ s. r.filter_or_plain room R b s) ≡ and_then o (λ s. r.filter room R b s))
+      ⊎ (and_then o (λ s. r.filter_or_plain room R b s) ≡ and_then o (λ s. R.after (e.Compare (bound_expr b) rel.In s) >>= r.rest_of_inner room R))
+  unfolding r.filter_or_plain
+  source_goes b (Ok x) = turn_goes b x.0 (is k.Bar (next_kind x.1)) x.1
+  source_goes b (Err d) = inl refl
+
+  in_goes : (b : Bound) (o : Outcome Token) → (and_then o (λ _. R.source >>= λ s. r.filter_or_plain room R b s) ≡ and_then o (λ _. R.source >>= λ s. r.filter room R b s))
+      ⊎ (and_then o (λ _. R.source >>= λ s. r.filter_or_plain room R b s) ≡ and_then o (λ _. R.source >>= λ s. R.after (e.Compare (bound_expr b) rel.In s) >>= r.rest_of_inner room R))
+  in_goes b (Ok x) = source_goes b (R.source x.1)
+  in_goes b (Err d) = inl refl
+
+  -- where the bound may be an expression, it is read as a filter or as an expression
+  either_goes : (i : Tokens) (both : Both i) → starts_bound (next_kind i) ≡ true
+      → (r.bound_first room R (r.filter_or_plain room R) i ≡ r.bound_first room R (r.filter room R) i) ⊎ (r.bound_first room R (r.filter_or_plain room R) i ≡ r.plain room R i)
   unfolding goes r.filter_or_plain
-  either_took i both a rest h =
+  either_goes i both begins =
       let b = both.bound in
-      let one = bind_ok (expect k.In both.rest) (λ _. R.source >>= λ s. r.filter_or_plain room R b s) (a, rest) h in
-      let two = bind_ok (R.source one.0.1) (λ s. r.filter_or_plain room R b s) (a, rest) one.2 in
-      let s = two.0.0 in
-      let at = two.0.1 in
-      let go : (c : Bool) → cond c (r.filter room R b s) (R.after (e.Compare (bound_expr b) rel.In s) >>= r.rest_of_inner room R) at ≡ Ok (a, rest)
-      → Took filter_l i a rest ⊎ ((R.after (e.Compare (bound_expr b) rel.In s) >>= r.rest_of_inner room R) at ≡ Ok (a, rest)) = λ c.
-      elim c as (λ c. cond c (r.filter room R b s) (R.after (e.Compare (bound_expr b) rel.In s) >>= r.rest_of_inner room R) at ≡ Ok (a, rest)
-      → Took filter_l i a rest ⊎ ((R.after (e.Compare (bound_expr b) rel.In s) >>= r.rest_of_inner room R) at ≡ Ok (a, rest))) [
-        | true ↦ λ read. inl (took_then ((law_bound room).sound.took i b both.rest both.reads) (took_then ((law_expect k.In).sound.took both.rest one.0.0 one.0.1 one.1)
-            (took_then (E.source.sound.took one.0.1 s at two.1) ((law_filter b s).sound.took at a rest read))))
-        | false ↦ λ read. inr read
-      ] in
-      elim (go (is k.Bar (next_kind at)) two.2) [ inl took ↦ inl took | inr read ↦ inr (rw (one.1, two.1) read) ]
+      let to_filter = bound_goes i both (r.filter room R) in
+      let whole = bound_goes i both (r.filter_or_plain room R) in
+      elim (in_goes b (expect k.In both.rest)) [
+        | inl alike ↦ inl (whole ∙ alike ∙ sym to_filter)
+        | inr alike ↦ inr (whole ∙ alike ∙ sym (plain_goes i both begins))
+      ]
 
   -- ---- a pattern with a `-` is no expression
 
@@ -527,9 +440,9 @@ module _ (room : ℕ) (R : r.Inside) (L : grammar.Inside) (E : IsInside room R L
   inner_sound Either i a rest seen h =
       let e = either i seen in
       elim e.1 [
-        | inl both ↦ elim (either_took i both a rest (sym (bound_goes i both (r.filter_or_plain room R)) ∙ h)) [
-          | inl took ↦ took_as took filter_to
-          | inr read ↦ took_as (law_plain.sound.took i a rest (plain_goes i both e.0 ∙ read)) plain_to
+        | inl both ↦ elim (either_goes i both e.0) [
+          | inl alike ↦ took_as (law_filtered.sound.took i a rest (sym alike ∙ h)) filter_to
+          | inr alike ↦ took_as (law_plain.sound.took i a rest (sym alike ∙ h)) plain_to
         ]
         | inr none ↦ absurd (bound_fails i (r.filter_or_plain room R) none.0 none.1 (a, rest) h)
       ]
@@ -633,30 +546,30 @@ module _ (room : ℕ) (R : r.Inside) (L : grammar.Inside) (E : IsInside room R L
 
   module _ (X : IsExact room R L) where
     pub exact_condition : {always : Bool} → Exact always room (r.condition room R) (lang.◌>>◌ (lang.token k.Bar) L.expr)
-    unfolding r.condition
-    exact_condition = exact_then (exact_expect k.Bar) (λ _. weak X.expr)
+    unfolding r.condition opens_nesting
+    exact_condition = exact_then (exact_expect k.Bar refl) (λ _. weak X.expr)
 
     exact_former : {always : Bool} (x : Expr) → Exact always room (r.former room R x) (former_l x)
     unfolding r.former
     exact_former x = exact_then (exact_iters room R.source L.source E.source X.source) (λ over. exact_map (λ c. inn.Former x over c) (exact_optional (is k.Bar) exact_condition))
 
     exact_third : {always : Bool} (a b : Expr) → Exact always room (r.third room R a b) (third_l a b)
-    unfolding r.third
+    unfolding r.third opens_nesting
     exact_third a b = exact_choose (is k.Dots)
-        (exact_then (exact_expect k.Dots) (λ _. exact_map (λ c. inn.Range a (Some b) c) (weak X.expr)))
+        (exact_then (exact_expect k.Dots refl) (λ _. exact_map (λ c. inn.Range a (Some b) c) (weak X.expr)))
         (exact_map (λ xs. inn.List (a ∷ b ∷ xs)) (exact_more (weak X.expr)))
 
     exact_second : {always : Bool} (a : Expr) → Exact always room (r.second room R a) (second_l a)
-    unfolding r.second
-    exact_second a = exact_choose (is k.Comma) (exact_then (exact_expect k.Comma) (λ _. exact_then (weak X.expr) (exact_third a))) (exact_pure (inn.List (a ∷ [])))
+    unfolding r.second opens_nesting
+    exact_second a = exact_choose (is k.Comma) (exact_then (exact_expect k.Comma refl) (λ _. exact_then (weak X.expr) (exact_third a))) (exact_pure (inn.List (a ∷ [])))
 
     exact_unranged : {always : Bool} (a : Expr) → Exact always room (r.unranged room R a) (unranged_l a)
-    unfolding r.unranged
-    exact_unranged a = exact_choose (is k.Colon) (exact_then (exact_expect k.Colon) (λ _. exact_former a)) (exact_second a)
+    unfolding r.unranged opens_nesting
+    exact_unranged a = exact_choose (is k.Colon) (exact_then (exact_expect k.Colon refl) (λ _. exact_former a)) (exact_second a)
 
     exact_rest : {always : Bool} (a : Expr) → Exact always room (r.rest_of_inner room R a) (rest_l a)
-    unfolding r.rest_of_inner
-    exact_rest a = exact_choose (is k.Dots) (exact_then (exact_expect k.Dots) (λ _. exact_map (λ c. inn.Range a None c) (weak X.expr))) (exact_unranged a)
+    unfolding r.rest_of_inner opens_nesting
+    exact_rest a = exact_choose (is k.Dots) (exact_then (exact_expect k.Dots refl) (λ _. exact_map (λ c. inn.Range a None c) (weak X.expr))) (exact_unranged a)
 
     exact_plain : Exact true room (r.plain room R) plain_l
     unfolding r.plain
@@ -667,8 +580,8 @@ module _ (room : ℕ) (R : r.Inside) (L : grammar.Inside) (E : IsInside room R L
     exact_filter b s = exact_as (exact_map (λ c. inn.Filter b s c) exact_condition) (λ toks a h. assoc h)
 
     exact_filtered : Exact true room (r.bound_first room R (r.filter room R)) filter_l
-    unfolding r.bound_first
-    exact_filtered = exact_then (exact_bound room) (λ b. exact_then (exact_expect k.In) (λ _. exact_then X.source (exact_filter b)))
+    unfolding r.bound_first opens_nesting
+    exact_filtered = exact_then (exact_bound room) (λ b. exact_then (exact_expect k.In refl) (λ _. exact_then X.source (exact_filter b)))
 
     reach_bound : (go_on : Bound → Expr → Reader Inner) → ((b : Bound) (s : Expr) → Reach room (go_on b s)) → Reach room (r.bound_first room R go_on)
     unfolding r.bound_first
@@ -825,58 +738,42 @@ module _ (room : ℕ) (R : r.Inside) (L : grammar.Inside) (E : IsInside room R L
       ]
     ]
 
-    -- where the bound may be an expression: a front of a filter, or the fault of reading an expression
-    either_stop : (i : Tokens) (both : Both i) (count : ℕ) → Fits room i → (expect k.In >>= λ _. R.source >>= λ s. r.filter_or_plain room R both.bound s) both.rest ≡ Err (Syntax count)
-        → Fronted filter_l i count ⊎ (goes both.bound both.rest ≡ Err (Syntax count))
-    unfolding goes r.filter_or_plain
-    either_stop i both count fits h =
-        let b = both.bound in
-        let took_bound = (law_bound room).sound.took i b both.rest both.reads in
-        elim (bind_err (expect k.In both.rest) (λ _. R.source >>= λ s. r.filter_or_plain room R b s) (Syntax count) h) [
-          | inl none ↦ inr (fails_to (λ _. R.source >>= λ s. R.after (e.Compare (bound_expr b) rel.In s) >>= r.rest_of_inner room R) none)
-          | inr one ↦
-              let took_in = (law_expect k.In).sound.took both.rest one.0.0 one.0.1 one.1 in
-              elim (bind_err (R.source one.0.1) (λ s. r.filter_or_plain room R b s) (Syntax count) one.2) [
-                | inl none ↦ inr (goes_to (λ _. R.source >>= λ s. R.after (e.Compare (bound_expr b) rel.In s) >>= r.rest_of_inner room R) one.1
-                    ∙ fails_to (λ s. R.after (e.Compare (bound_expr b) rel.In s) >>= r.rest_of_inner room R) none)
-                | inr two ↦
-                    let s = two.0.0 in
-                    let at = two.0.1 in
-                    let took_source = E.source.sound.took one.0.1 s at two.1 in
-                    let fits_at = fits_took room took_source (fits_took room took_in (fits_took room took_bound fits)) in
-                    let go : (c : Bool) → cond c (r.filter room R b s) (R.after (e.Compare (bound_expr b) rel.In s) >>= r.rest_of_inner room R) at ≡ Err (Syntax count)
-                    → Fronted filter_l i count ⊎ ((R.after (e.Compare (bound_expr b) rel.In s) >>= r.rest_of_inner room R) at ≡ Err (Syntax count)) = λ c.
-                    elim c as (λ c. cond c (r.filter room R b s) (R.after (e.Compare (bound_expr b) rel.In s) >>= r.rest_of_inner room R) at ≡ Err (Syntax count)
-                    → Fronted filter_l i count ⊎ ((R.after (e.Compare (bound_expr b) rel.In s) >>= r.rest_of_inner room R) at ≡ Err (Syntax count))) [
-                      | true ↦ λ read. inl (fronted_second took_bound (fronted_second took_in (fronted_second took_source ((exact_filter {always = true} b s).stop at count fits_at read))))
-                      | false ↦ λ read. inr read
-                    ] in
-                    elim (go (is k.Bar (next_kind at)) two.2) [
-                      | inl front ↦ inl front
-                      | inr read ↦ inr (goes_to (λ _. R.source >>= λ s. R.after (e.Compare (bound_expr b) rel.In s) >>= r.rest_of_inner room R) one.1
-                          ∙ goes_to (λ s. R.after (e.Compare (bound_expr b) rel.In s) >>= r.rest_of_inner room R) two.1 ∙ read)
-                    ]
-              ]
-        ]
-
-    inner_stop : (at : Ahead) (i : Tokens) (count : ℕ) → Fits room i → ahead i ≡ at → r.inner_by room R at i ≡ Err (Syntax count) → Fronted (grammar.inner room L) i count
-    inner_stop Expression i count fits seen h = fronted_as (exact_plain.stop i count fits h) plain_to
-    inner_stop Pattern i count fits seen h = fronted_as (exact_filtered.stop i count fits h) filter_to
-    inner_stop Either i count fits seen h =
+    inner_stop : (at : Ahead) (i : Tokens) (count : ℕ) → Goes room i count → ahead i ≡ at → r.inner_by room R at i ≡ Err (Syntax count) → Fronted (grammar.inner room L) i count
+    inner_stop Expression i count goes seen h = fronted_as (exact_plain.stop i count goes h) plain_to
+    inner_stop Pattern i count goes seen h = fronted_as (exact_filtered.stop i count goes h) filter_to
+    inner_stop Either i count goes seen h =
         let e = either i seen in
         elim e.1 [
-          | inl both ↦ elim (either_stop i both count fits (sym (bound_goes i both (r.filter_or_plain room R)) ∙ h)) [
-            | inl front ↦ fronted_as front filter_to
-            | inr read ↦ fronted_as (exact_plain.stop i count fits (plain_goes i both e.0 ∙ read)) plain_to
+          | inl both ↦ elim (either_goes i both e.0) [
+            | inl alike ↦ fronted_as (exact_filtered.stop i count goes (sym alike ∙ h)) filter_to
+            | inr alike ↦ fronted_as (exact_plain.stop i count goes (sym alike ∙ h)) plain_to
           ]
-          | inr none ↦ absurd (omega (arith, fits, none.0))
+          | inr none ↦ let shut = first_shut (r.filter_or_plain room R) none.0 i none.1 in absurd (cc (shut, h))
+        ]
+
+    inner_shows : (at : Ahead) (i : Tokens) → ahead i ≡ at → Shows room i (r.inner_by room R at i)
+    unfolding opens_nesting
+    inner_shows Expression i seen = exact_plain.shows i
+    inner_shows Pattern i seen = exact_filtered.shows i
+    inner_shows Either i seen =
+        let e = either i seen in
+        elim e.1 [
+          | inl both ↦ elim (either_goes i both e.0) [
+            | inl alike ↦ subst (λ z. Shows room i z) (sym alike) (exact_filtered.shows i)
+            | inr alike ↦ subst (λ z. Shows room i z) (sym alike) (exact_plain.shows i)
+          ]
+          | inr none ↦
+              let t = some_token i k.LeftBracket none.1 (λ same. cc) in
+              let here : Opener i (length i) = record { front = []; token = t.0; others = rest_of i; parts = t.1; place = sym (ap length t.1); opens = ap opens_nesting t.2 } in
+              subst (λ z. Shows room i z) (sym (first_shut (r.filter_or_plain room R) none.0 i none.1)) here
         ]
 
     pub exact_inner : {always : Bool} → Exact always room (r.inner room R) (grammar.inner room L)
     unfolding r.inner grammar.inner
     exact_inner = record {
       sound = law_inner.sound;
-      stop = λ toks count fits h. inner_stop (ahead toks) toks count fits refl h;
+      stop = λ toks count goes h. inner_stop (ahead toks) toks count goes refl h;
       some = λ enough. record { toks = []; value = inn.List []; spelled = inl (listed_none (refl, refl)) };
       reach = record { within = λ i. (reach_by (ahead i)).within i; local = inner_local; faults = λ i e fits h. (reach_by (ahead i)).faults i e fits h };
+      shows = λ toks. inner_shows (ahead toks) toks refl;
     }

@@ -10,12 +10,13 @@ use Rattle.setl_tree.specs.Lang.{Lang, Then}
 use Rattle.setl_tree.specs.Lang as lang
 use Rattle.setl_tree.specs.Operators.{op_at, level_of, binary_op, chain_of}
 use Rattle.setl_tree.specs.Expressions as grammar
+use Rattle.setl_reading.specs.Fronts.{opens_nesting}
 use Rattle.setl_reading.specs.Reading.{Reader, begins_as, same_kind}
 use Rattle.setl_reading.specs.ReadExpressions as r
 use Rattle.setl_reading.proofs.EveryKind.{kinds}
 use Rattle.setl_reading.proofs.Laws.{Law, Within, NotEnd, anything, within, law_then, law_map, law_one_of, law_many, begins_one_of, begins_then, follows_map, follows_many}
 use Rattle.setl_reading.proofs.Bounds.{below, below_more}
-use Rattle.setl_reading.proofs.Exact.{Exact, weak, exact_then, exact_map, exact_one_of, exact_many}
+use Rattle.setl_reading.proofs.Exact.{Exact, Plain, weak, exact_then, exact_map, exact_one_of, exact_many}
 
 -- what the operators of a level do
 pub record IsLevel (level : ℕ) : Type 0 where
@@ -69,11 +70,12 @@ pub record HasOp (level : ℕ) : Type 0 where
   pub kind : Kind
   pub it : BinaryOp
   pub means : op_at level kind ≡ Some it
+  pub plain : Plain (op_at level)
 
 pub exact_operands : {always : Bool} {room level : ℕ} {item : Reader Expr} {L : Tokens → Expr → Type 0} → IsLevel level → HasOp level → Exact true room item L → Exact always room (r.operands level item) (lang.many (grammar.operand level L))
 unfolding r.operands
 exact_operands {level = level} lev has item =
-    exact_many (begins_as (op_at level)) (exact_then (exact_one_of (op_at level) has.kind has.it lev.end has.means) (λ o. exact_map (λ x. (o, x)) (weak item))) (begins_then (begins_one_of (op_at level)))
+    exact_many (begins_as (op_at level)) (exact_then (exact_one_of (op_at level) has.kind has.it lev.end has.means has.plain) (λ o. exact_map (λ x. (o, x)) (weak item))) (begins_then (begins_one_of (op_at level)))
 
 pub exact_chain_from : {always : Bool} {room level : ℕ} {item : Reader Expr} {L : Tokens → Expr → Type 0} → IsLevel level → HasOp level → Exact true room item L → (first : Expr)
     → Exact always room (r.chain_from level item first) (Then (lang.many (grammar.operand level L)) (λ others. lang.pure (chain_of first others)))
@@ -83,29 +85,29 @@ pub exact_chain : {room level : ℕ} {item : Reader Expr} {L : Tokens → Expr �
 exact_chain lev has item = exact_then item (λ first. exact_chain_from lev has item first)
 
 pub op_2 : HasOp 2
-unfolding op_at level_of binary_op
-op_2 = record { kind = k.Impl; it = op.Impl; means = refl }
+unfolding op_at level_of binary_op kinds opens_nesting
+op_2 = record { kind = k.Impl; it = op.Impl; means = refl; plain = within refl }
 
 pub op_3 : HasOp 3
-unfolding op_at level_of binary_op
-op_3 = record { kind = k.Or; it = op.Or; means = refl }
+unfolding op_at level_of binary_op kinds opens_nesting
+op_3 = record { kind = k.Or; it = op.Or; means = refl; plain = within refl }
 
 pub op_4 : HasOp 4
-unfolding op_at level_of binary_op
-op_4 = record { kind = k.And; it = op.And; means = refl }
+unfolding op_at level_of binary_op kinds opens_nesting
+op_4 = record { kind = k.And; it = op.And; means = refl; plain = within refl }
 
 pub op_7 : HasOp 7
-unfolding op_at level_of binary_op
-op_7 = record { kind = k.With; it = op.With; means = refl }
+unfolding op_at level_of binary_op kinds opens_nesting
+op_7 = record { kind = k.With; it = op.With; means = refl; plain = within refl }
 
 pub op_8 : HasOp 8
-unfolding op_at level_of binary_op
-op_8 = record { kind = k.Plus; it = op.Plus; means = refl }
+unfolding op_at level_of binary_op kinds opens_nesting
+op_8 = record { kind = k.Plus; it = op.Plus; means = refl; plain = within refl }
 
 pub op_9 : HasOp 9
-unfolding op_at level_of binary_op
-op_9 = record { kind = k.Star; it = op.Times; means = refl }
+unfolding op_at level_of binary_op kinds opens_nesting
+op_9 = record { kind = k.Star; it = op.Times; means = refl; plain = within refl }
 
 pub op_10 : HasOp 10
-unfolding op_at level_of binary_op
-op_10 = record { kind = k.Power; it = op.Power; means = refl }
+unfolding op_at level_of binary_op kinds opens_nesting
+op_10 = record { kind = k.Power; it = op.Power; means = refl; plain = within refl }

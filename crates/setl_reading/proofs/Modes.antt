@@ -13,13 +13,14 @@ use Rattle.setl_tree.specs.Lang.{Lang, Then}
 use Rattle.setl_tree.specs.Lang as lang
 use Rattle.setl_tree.specs.Modes as grammar
 use Rattle.setl_tree.specs.Modes.{attribute, simple_core}
+use Rattle.setl_reading.specs.Fronts.{opens_nesting}
 use Rattle.setl_reading.specs.Reading.{Reader, ◌>>=◌, pure, opening, expect, peek, one_of, is, but, begins_as, next_kind, same_kind, separated}
 use Rattle.setl_reading.specs.ReadModes as m
 use Rattle.setl_reading.proofs.EveryKind.{kinds}
 use Rattle.setl_reading.proofs.Laws.{Took, Law, Within, Begins, always, anything, took_as, law_of, chosen, within, within_always, same, law_then, law_map, law_expect, law_one_of, law_choose, law_as, law_opening, law_many, law_separated, law_optional, law_lined, law_name, bind_assoc, begins_token, begins_then, begins_or, begins_within, begins_one_of, begins_lined, begins_separated, follows_begins, follows_token, follows_then, follows_map, follows_optional, begins_optional, bind_ok}
 use Rattle.setl_reading.proofs.Regroup.{behind, assoc, unassoc, pure_then, then_pure, with_second}
 use Rattle.setl_reading.proofs.Exact.{Exact, weak, exact_then, exact_map, exact_expect, exact_one_of, exact_choose, exact_as, exact_by, exact_reads, exact_opening, exact_many, exact_optional, exact_separated, exact_lined, exact_name}
-use Rattle.setl_reading.proofs.Inners.{zero_or_more}
+use Rattle.setl_reading.proofs.Insides.{zero_or_more}
 use Rattle.setl_reading.proofs.Statements.{exact_ending, law_ending, begins_ending}
 
 pub law_declared : Law m.declared grammar.declared always
@@ -27,8 +28,8 @@ unfolding m.declared grammar.declared
 law_declared = law_map (λ t. record { line = t.line; name = t.text }) (law_expect k.Name)
 
 pub exact_declared : {always : Bool} {room : ℕ} → Exact always room m.declared grammar.declared
-unfolding m.declared grammar.declared
-exact_declared = exact_map (λ t. record { line = t.line; name = t.text }) (exact_expect k.Name)
+unfolding m.declared grammar.declared opens_nesting
+exact_declared = exact_map (λ t. record { line = t.line; name = t.text }) (exact_expect k.Name refl)
 
 pub begins_declared : Begins (is k.Name) grammar.declared
 unfolding grammar.declared same_kind
@@ -206,37 +207,37 @@ module _ (room : ℕ) (deep : Reader WrittenMode) (D : Lang WrittenMode) (law_de
 
   module _ (exact_deep : (inside : ℕ) → room ≡ suc inside → Exact true inside deep D) where
     exact_round : Exact false room (m.round_mode room deep) round_l
-    unfolding m.round_mode
-    exact_round = exact_opening room k.LeftParen (λ i e _. exact_then (weak (exact_deep i e)) (λ d. exact_map (λ _. d) (exact_expect k.RightParen)))
+    unfolding m.round_mode opens_nesting
+    exact_round = exact_opening room k.LeftParen refl (λ i e _. exact_then (weak (exact_deep i e)) (λ d. exact_map (λ _. d) (exact_expect k.RightParen refl)))
 
     -- a bracketed mode and one behind it
-    exact_both : (opened closed : Kind) (f : WrittenMode → WrittenMode → Core) → Exact false room ((opening room opened >>= λ _. deep >>= λ d. expect closed >>= λ _. pure d) >>= λ d. deep >>= λ r. pure (f d r))
+    exact_both : (opened closed : Kind) → opens_nesting opened ≡ true → opens_nesting closed ≡ false → (f : WrittenMode → WrittenMode → Core) → Exact false room ((opening room opened >>= λ _. deep >>= λ d. expect closed >>= λ _. pure d) >>= λ d. deep >>= λ r. pure (f d r))
         (Then (lang.opening room opened) (λ _. Then D (λ d. Then (lang.token closed) (λ _. Then D (λ r. lang.pure (f d r))))))
-    exact_both opened closed f = exact_as
+    exact_both opened closed opens shuts f = exact_as
         (exact_reads (λ i. bind_assoc (opening room opened i) (λ _. deep >>= λ d. expect closed >>= λ _. pure d) (λ d. deep >>= λ r. pure (f d r)))
-        (exact_opening room opened (λ i e _. exact_then (exact_then (weak (exact_deep i e)) (λ d. exact_map (λ _. d) (exact_expect closed))) (λ d. exact_map (f d) (weak (exact_deep i e))))))
+        (exact_opening room opened opens (λ i e _. exact_then (exact_then (weak (exact_deep i e)) (λ d. exact_map (λ _. d) (exact_expect closed shuts))) (λ d. exact_map (f d) (weak (exact_deep i e))))))
         (λ toks a h. behind (λ _ t y h. behind (λ d t y h. behind (λ _ t y h. pure_then h) (assoc h)) (assoc h)) h)
 
     exact_kind : (kind : Kind) → Exact false room (m.core_by room deep kind) (grammar.core room D)
-    unfolding grammar.core m.element m.round_mode m.braced_mode simple_core
-    exact_kind k.Elmt = exact_as (exact_then (exact_expect k.Elmt) (λ t. exact_map (λ b. co.Elmt t.line b) exact_name)) (λ u a s. inr (inl s))
-    exact_kind k.Set = exact_as (exact_then (exact_expect k.Set) (λ _. exact_map co.Set exact_round)) (λ u a s. inr (inr (inl (with_second s (bracket_to k.LeftParen k.RightParen s.second)))))
-    exact_kind k.Tuple = exact_as (exact_then (exact_expect k.Tuple) (λ _. exact_map co.Tuple exact_round)) (λ u a s. inr (inr (inr (inl (with_second s (bracket_to k.LeftParen k.RightParen s.second))))))
-    exact_kind k.Smap = exact_as (exact_then (exact_expect k.Smap) (λ _. exact_both k.LeftParen k.RightParen co.Smap)) (λ u a s. inr (inr (inr (inr (inl s)))))
-    exact_kind k.Mmap = exact_as (exact_then (exact_expect k.Mmap) (λ _. exact_both k.LeftBrace k.RightBrace co.Mmap)) (λ u a s. inr (inr (inr (inr (inr s)))))
-    exact_kind _ = exact_as (exact_one_of simple_core k.General co.General refl refl) (λ u a s. inl s)
+    unfolding grammar.core m.element m.round_mode m.braced_mode simple_core opens_nesting kinds
+    exact_kind k.Elmt = exact_as (exact_then (exact_expect k.Elmt refl) (λ t. exact_map (λ b. co.Elmt t.line b) exact_name)) (λ u a s. inr (inl s))
+    exact_kind k.Set = exact_as (exact_then (exact_expect k.Set refl) (λ _. exact_map co.Set exact_round)) (λ u a s. inr (inr (inl (with_second s (bracket_to k.LeftParen k.RightParen s.second)))))
+    exact_kind k.Tuple = exact_as (exact_then (exact_expect k.Tuple refl) (λ _. exact_map co.Tuple exact_round)) (λ u a s. inr (inr (inr (inl (with_second s (bracket_to k.LeftParen k.RightParen s.second))))))
+    exact_kind k.Smap = exact_as (exact_then (exact_expect k.Smap refl) (λ _. exact_both k.LeftParen k.RightParen refl refl co.Smap)) (λ u a s. inr (inr (inr (inr (inl s)))))
+    exact_kind k.Mmap = exact_as (exact_then (exact_expect k.Mmap refl) (λ _. exact_both k.LeftBrace k.RightBrace refl refl co.Mmap)) (λ u a s. inr (inr (inr (inr (inr s)))))
+    exact_kind _ = exact_as (exact_one_of simple_core k.General co.General refl refl (within refl)) (λ u a s. inl s)
 
     exact_word : Exact true room (one_of simple_core) (grammar.core room D)
-    unfolding grammar.core simple_core
-    exact_word = exact_as (exact_one_of simple_core k.General co.General refl refl) (λ u a s. inl s)
+    unfolding grammar.core simple_core opens_nesting kinds
+    exact_word = exact_as (exact_one_of simple_core k.General co.General refl refl (within refl)) (λ u a s. inl s)
 
     exact_core : {always : Bool} → Exact always room (m.core room deep) (grammar.core room D)
     unfolding m.core
     exact_core = exact_by exact_kind (λ _. exact_word.some (omega arith))
 
     exact_with_attribute : {always : Bool} → Exact always room (m.with_attribute room deep) (grammar.with_attribute room D)
-    unfolding m.with_attribute grammar.with_attribute attribute
-    exact_with_attribute = exact_then (exact_optional (begins_as attribute) (exact_one_of attribute k.Local at.Local refl refl)) (λ a. exact_map (λ c. (a, c)) exact_core)
+    unfolding m.with_attribute grammar.with_attribute attribute opens_nesting kinds
+    exact_with_attribute = exact_then (exact_optional (begins_as attribute) (exact_one_of attribute k.Local at.Local refl refl (within refl))) (λ a. exact_map (λ c. (a, c)) exact_core)
 
     pub exact_mode_in : {always : Bool} → Exact always room (m.mode_in room deep) (grammar.mode_in room D)
     unfolding m.mode_in grammar.mode_in
@@ -351,21 +352,21 @@ module _ (room : ℕ) where
   -- ---- where reading stops
 
   exact_colon : {always : Bool} → Exact always room (m.colon_mode room) colon_l
-  unfolding m.colon_mode
-  exact_colon = exact_then (exact_expect k.Colon) (λ _. exact_mode room)
+  unfolding m.colon_mode opens_nesting
+  exact_colon = exact_then (exact_expect k.Colon refl) (λ _. exact_mode room)
 
   exact_base : {always : Bool} → Exact always room (m.base_line room) base_l
-  unfolding m.base_line
-  exact_base = exact_then (exact_expect k.Base) (λ t. exact_then (exact_separated exact_declared) (λ xs. exact_then (exact_optional (is k.Colon) exact_colon) (λ c. exact_map (λ _. rl.Base t.line xs c) (exact_expect k.Semicolon))))
+  unfolding m.base_line opens_nesting
+  exact_base = exact_then (exact_expect k.Base refl) (λ t. exact_then (exact_separated exact_declared) (λ xs. exact_then (exact_optional (is k.Colon) exact_colon) (λ c. exact_map (λ _. rl.Base t.line xs c) (exact_expect k.Semicolon refl))))
 
   exact_variables : {always : Bool} → Exact always room (m.variables_line room) variables_l
-  unfolding m.variables_line
-  exact_variables = exact_then (exact_lined (exact_separated exact_declared) begins_names) (λ xs. exact_then exact_colon (λ c. exact_map (λ _. rl.Variables xs.0 xs.1 c) (exact_expect k.Semicolon)))
+  unfolding m.variables_line opens_nesting
+  exact_variables = exact_then (exact_lined (exact_separated exact_declared) begins_names) (λ xs. exact_then exact_colon (λ c. exact_map (λ _. rl.Variables xs.0 xs.1 c) (exact_expect k.Semicolon refl)))
 
   exact_line : {always : Bool} → Exact always room (m.repr_line room) (grammar.repr_line room)
   unfolding m.repr_line grammar.repr_line
   exact_line = exact_as (exact_choose (is k.Base) exact_base exact_variables) (λ toks a s. elim s [ inl b ↦ inl b | inr v ↦ inr (behind (λ xs t y h. assoc h) v) ])
 
   pub exact_repr : {always : Bool} → Exact always room (m.repr room) (grammar.repr room)
-  unfolding m.repr grammar.repr
-  exact_repr = exact_then (exact_expect k.Repr) (λ _. exact_then (exact_many m.begins_line exact_line begins_a_line) (λ lines. exact_map (λ _. lines) (exact_ending k.Repr)))
+  unfolding m.repr grammar.repr opens_nesting
+  exact_repr = exact_then (exact_expect k.Repr refl) (λ _. exact_then (exact_many m.begins_line exact_line begins_a_line) (λ lines. exact_map (λ _. lines) (exact_ending k.Repr refl)))

@@ -11,6 +11,7 @@ use Rattle.setl_tree.specs.declared.stmt.Stmt.{Stmt}
 use Rattle.setl_tree.specs.Statements.{stmts}
 use Rattle.setl_tree.specs.Programs as grammar
 use Rattle.setl_tree.specs.Programs.{passing, joined, name_behind}
+use Rattle.setl_reading.specs.Fronts.{opens_nesting}
 use Rattle.setl_reading.specs.Reading.{Reader, expect, is, but, begins_as, same_kind}
 use Rattle.setl_reading.specs.ReadPrograms as p
 use Rattle.setl_reading.specs.ReadStatements.{begins_stmt}
@@ -224,37 +225,37 @@ law_program room = law_then (law_expect k.Program) (λ _. law_then law_name (λ 
 -- ---- where reading stops
 
 exact_named_ending : {always : Bool} {room : ℕ} (is_word : Kind → Bool) (word : Reader Token) (L : Lang Token) → Exact false room word L → Exact always room (p.named_ending is_word word) (grammar.named_ending L)
-unfolding p.named_ending grammar.named_ending p.optional_name
-exact_named_ending is_word word L exact = exact_then (exact_expect k.End)
-    (λ t. exact_then (exact_optional is_word (exact_then exact (λ _. exact_optional (is k.Name) exact_name))) (λ x. exact_map (λ _. (t.line, name_behind x)) (exact_expect k.Semicolon)))
+unfolding p.named_ending grammar.named_ending p.optional_name opens_nesting
+exact_named_ending is_word word L exact = exact_then (exact_expect k.End refl)
+    (λ t. exact_then (exact_optional is_word (exact_then exact (λ _. exact_optional (is k.Name) exact_name))) (λ x. exact_map (λ _. (t.line, name_behind x)) (exact_expect k.Semicolon refl)))
 
 exact_var : {always : Bool} {room : ℕ} → Exact always room p.var grammar.var
-unfolding p.var grammar.var
-exact_var = exact_then (exact_expect k.Var) (λ _. exact_then (exact_separated exact_declared) (λ xs. exact_map (λ _. xs) (exact_expect k.Semicolon)))
+unfolding p.var grammar.var opens_nesting
+exact_var = exact_then (exact_expect k.Var refl) (λ _. exact_then (exact_separated exact_declared) (λ xs. exact_map (λ _. xs) (exact_expect k.Semicolon refl)))
 
 exact_vars : {always : Bool} {room : ℕ} → Exact always room p.vars (lang.many grammar.var)
 unfolding p.vars
 exact_vars = exact_many (is k.Var) exact_var begins_var
 
 exact_passed : {always : Bool} {room : ℕ} → Exact always room p.passed grammar.passed
-unfolding p.passed grammar.passed passing
-exact_passed = exact_then (exact_optional (begins_as passing) (exact_one_of passing k.Rd pa.Rd refl refl)) (λ w. exact_map (λ x. (unwrap_or w pa.Rd, x)) exact_name)
+unfolding p.passed grammar.passed passing opens_nesting kinds
+exact_passed = exact_then (exact_optional (begins_as passing) (exact_one_of passing k.Rd pa.Rd refl refl (within refl))) (λ w. exact_map (λ x. (unwrap_or w pa.Rd, x)) exact_name)
 
 exact_param : {always : Bool} {room : ℕ} → Exact always room p.param grammar.param
 unfolding p.param grammar.param
 exact_param = exact_map (λ x. record { passing = x.1.0; name = x.1.1; line = x.0 }) (exact_lined exact_passed begins_passed)
 
 exact_params : (room : ℕ) → Exact false room (p.params room) (grammar.params room)
-unfolding p.params grammar.params
-exact_params room = exact_opening room k.LeftParen (λ _ _ _. exact_then (exact_listed k.RightParen exact_param) (λ xs. exact_map (λ _. xs) (exact_expect k.RightParen)))
+unfolding p.params grammar.params opens_nesting
+exact_params room = exact_opening room k.LeftParen refl (λ _ _ _. exact_then (exact_listed k.RightParen exact_param) (λ xs. exact_map (λ _. xs) (exact_expect k.RightParen refl)))
 
 exact_proc_word : {always : Bool} {room : ℕ} → Exact always room p.proc_word grammar.proc_word
-unfolding p.proc_word grammar.proc_word
-exact_proc_word = exact_choose (is k.Proc) (exact_expect k.Proc) (exact_expect k.Procedure)
+unfolding p.proc_word grammar.proc_word opens_nesting
+exact_proc_word = exact_choose (is k.Proc) (exact_expect k.Proc refl) (exact_expect k.Procedure refl)
 
 exact_proc : {always : Bool} (room : ℕ) → Exact always room (p.proc room) (grammar.proc room)
-unfolding p.proc grammar.proc
-exact_proc room = exact_then exact_proc_word (λ t. exact_then exact_name (λ x. exact_then (exact_optional (is k.LeftParen) (exact_params room)) (λ ps. exact_then (exact_expect k.Semicolon) (λ _. exact_then (exact_stmts room)
+unfolding p.proc grammar.proc opens_nesting
+exact_proc room = exact_then exact_proc_word (λ t. exact_then exact_name (λ x. exact_then (exact_optional (is k.LeftParen) (exact_params room)) (λ ps. exact_then (exact_expect k.Semicolon refl) (λ _. exact_then (exact_stmts room)
     (λ body. exact_map (λ last. record { line = t.line; name = x; params = unwrap_or ps []; body = body; end_name = last.1; end_line = last.0 }) (exact_named_ending p.begins_proc p.proc_word grammar.proc_word exact_proc_word))))))
 
 exact_procs : {always : Bool} (room : ℕ) → Exact always room (p.procs room) (lang.many (grammar.proc room))
@@ -262,11 +263,11 @@ unfolding p.procs
 exact_procs room = exact_many p.begins_proc (exact_proc room) (begins_a_proc room)
 
 exact_program_end : {always : Bool} {room : ℕ} → Exact always room p.program_end (grammar.named_ending (lang.token k.Program))
-unfolding p.program_end
-exact_program_end = exact_named_ending (is k.Program) (expect k.Program) (lang.token k.Program) (exact_expect k.Program)
+unfolding p.program_end opens_nesting
+exact_program_end = exact_named_ending (is k.Program) (expect k.Program) (lang.token k.Program) (exact_expect k.Program refl)
 
 pub exact_program : (room : ℕ) → Exact true room (p.program room) (grammar.program room)
-unfolding p.program grammar.program
-exact_program room = exact_then (exact_expect k.Program) (λ _. exact_then exact_name (λ x. exact_then (exact_expect k.Semicolon) (λ _. exact_then exact_vars (λ vs. exact_then (exact_optional (is k.Repr) (exact_repr room))
+unfolding p.program grammar.program opens_nesting
+exact_program room = exact_then (exact_expect k.Program refl) (λ _. exact_then exact_name (λ x. exact_then (exact_expect k.Semicolon refl) (λ _. exact_then exact_vars (λ vs. exact_then (exact_optional (is k.Repr) (exact_repr room))
     (λ modes. exact_then (exact_stmts room) (λ body. exact_then (exact_procs room)
     (λ ps. exact_map (λ last. record { name = x; vars = joined vs; modes = unwrap_or modes []; body = body; procs = ps; end_name = last.1; end_line = last.0 }) exact_program_end)))))))

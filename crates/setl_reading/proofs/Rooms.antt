@@ -32,8 +32,8 @@ use Rattle.setl_reading.specs.ReadStatements as s
 use Rattle.setl_reading.specs.ReadModes as m
 use Rattle.setl_reading.specs.ReadPrograms as p
 use Rattle.setl_reading.specs.Scan.{ahead}
-use Rattle.setl_reading.proofs.Exact.{left, and_left, open_within, open_meant_within, take_within, meant_within, reach_pure}
-use Rattle.setl_reading.proofs.Expressions.{nested_exact}
+use Rattle.setl_reading.proofs.Reach.{left, and_left, open_within, open_meant_within, take_within, meant_within, reach_pure}
+use Rattle.setl_reading.proofs.ExactExpressions.{nested_exact}
 use Rattle.setl_reading.proofs.Statements as statements
 use Rattle.setl_reading.proofs.Modes as modes
 

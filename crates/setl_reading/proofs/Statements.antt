@@ -19,6 +19,7 @@ use Rattle.setl_tree.specs.Operators.{level_of, update_op, prefix_op, fold_sign,
 use Rattle.setl_tree.specs.Expressions.{nested, expr, pattern, iters}
 use Rattle.setl_tree.specs.Statements as grammar
 use Rattle.setl_tree.specs.Statements.{from_word, simple}
+use Rattle.setl_reading.specs.Fronts.{opens_nesting}
 use Rattle.setl_reading.specs.Reading.{Reader, ◌>>=◌, peek, is, but, begins_as, next_kind, same_kind, many, name}
 use Rattle.setl_reading.specs.ReadExpressions as r
 use Rattle.setl_reading.specs.ReadStatements as s
@@ -26,10 +27,11 @@ use Rattle.setl_reading.specs.ReadStatements.{begins_stmt}
 use Rattle.setl_reading.proofs.EveryKind.{kinds, same_kind_self}
 use Rattle.setl_reading.proofs.Laws.{Took, Law, Follows, Within, Begins, always, anything, took_as, law_of, chosen, within, within_always, same, law_then, law_map, law_expect, law_one_of, law_choose, law_opening, law_many, law_separated, law_listed, law_optional, law_lined, law_name, begins_name, begins_token, begins_then, begins_or, begins_within, begins_one_of, begins_many, begins_lined, begins_opening, begins_separated, follows_begins, follows_token, follows_then, follows_many, follows_optional, follows_opening}
 use Rattle.setl_reading.proofs.Regroup.{behind, assoc, unassoc, pure_then, then_pure, map_then, then_map, with_second, then_or, in_left, in_right, listed_none, many_nil, many_cons, many_to}
-use Rattle.setl_reading.proofs.Exact.{Exact, weak, exact_then, exact_map, exact_expect, exact_one_of, exact_choose, exact_either, exact_as, exact_by, exact_lower, exact_opening, exact_many, exact_optional, exact_separated, exact_listed, exact_lined, exact_name}
+use Rattle.setl_reading.proofs.Exact.{Exact, Behind, weak, behind_of, behind_then, behind_choose, behind_expect, behind_optional, behind_closed, behind_opening, exact_then, exact_map, exact_expect, exact_one_of, exact_choose, exact_either, exact_as, exact_by, exact_pure, exact_opening, exact_many, exact_optional, exact_separated, exact_listed, exact_lined, exact_name}
 use Rattle.setl_reading.proofs.Bounds.{below, over, law_pattern, begins_pattern, law_iters, exact_pattern, exact_iters}
-use Rattle.setl_reading.proofs.Inners.{IsExact, IsInside, starts_primary, starts}
-use Rattle.setl_reading.proofs.Expressions.{exact_braces, nested_exact, exact_expr, law_expr, begins_expr, nested_inside, law_braces}
+use Rattle.setl_reading.proofs.Insides.{IsExact, IsInside, starts_primary, starts}
+use Rattle.setl_reading.proofs.Expressions.{law_expr, begins_expr, nested_inside, law_braces}
+use Rattle.setl_reading.proofs.ExactExpressions.{exact_braces, nested_exact, exact_expr}
 
 -- ---- ends
 
@@ -42,9 +44,13 @@ law_ending word other = law_then (law_expect k.End)
     (λ _. law_then (law_optional (law_expect word) (begins_token word (same_kind_self word)) within_always other) (λ _. law_expect k.Semicolon) (λ _. follows_alone k.Semicolon (same_kind_self k.Semicolon)))
     (λ _. anything)
 
-pub exact_ending : {always : Bool} {room : ℕ} (word : Kind) → Exact always room (s.ending word) (grammar.ending word)
+pub exact_ending : {always : Bool} {room : ℕ} (word : Kind) → opens_nesting word ≡ false → Exact always room (s.ending word) (grammar.ending word)
+unfolding s.ending grammar.ending opens_nesting
+exact_ending word plain = exact_then (exact_expect k.End refl) (λ _. exact_then (exact_optional (is word) (exact_expect word plain)) (λ _. exact_expect k.Semicolon refl))
+
+behind_ending : {inside : ℕ} (word : Kind) → Behind inside (s.ending word) (grammar.ending word)
 unfolding s.ending grammar.ending
-exact_ending word = exact_then (exact_expect k.End) (λ _. exact_then (exact_optional (is word) (exact_expect word)) (λ _. exact_expect k.Semicolon))
+behind_ending word = behind_then (behind_expect k.End) (λ _. behind_then (behind_optional (is word) (behind_expect word)) (λ _. behind_expect k.Semicolon))
 
 pub begins_ending : (word : Kind) → Begins (is k.End) (grammar.ending word)
 unfolding grammar.ending same_kind
@@ -324,8 +330,8 @@ module _ (room : ℕ) where
   exact_here = nested_exact room
 
   exact_place_round : Exact false room (s.place_round room) round_l
-  unfolding s.place_round
-  exact_place_round = exact_opening room k.LeftParen (λ m e _. exact_then (exact_separated (weak (exact_here m e).expr)) (λ xs. exact_map (λ _. se.Round xs) (exact_expect k.RightParen)))
+  unfolding s.place_round opens_nesting
+  exact_place_round = exact_opening room k.LeftParen refl (λ m e _. exact_then (exact_separated (weak (exact_here m e).expr)) (λ xs. exact_map (λ _. se.Round xs) (exact_expect k.RightParen refl)))
 
   exact_place_braces : Exact false room (r.braces room (r.nested room)) braces_l
   exact_place_braces = exact_braces room (r.nested room) (nested room) here exact_here
@@ -343,12 +349,12 @@ module _ (room : ℕ) where
   exact_place = exact_then exact_name (λ x. exact_map (λ ss. record { name = x; selectors = ss }) exact_place_selectors)
 
   exact_assigned : {always : Bool} (p : Place) → Exact always room (s.assigned room p) (assign_l p)
-  unfolding s.assigned
-  exact_assigned p = exact_then (exact_expect k.Assign) (λ _. exact_then (exact_expr room) (λ x. exact_map (λ _. st.Assign p x) (exact_expect k.Semicolon)))
+  unfolding s.assigned opens_nesting
+  exact_assigned p = exact_then (exact_expect k.Assign refl) (λ _. exact_then (exact_expr room) (λ x. exact_map (λ _. st.Assign p x) (exact_expect k.Semicolon refl)))
 
   exact_updated : {always : Bool} (p : Place) → Exact always room (s.updated room p) (update_l p)
-  unfolding s.updated update_op
-  exact_updated p = exact_then (exact_one_of update_op k.With op.With refl refl) (λ o. exact_then (exact_expect k.Assign) (λ _. exact_then (exact_expr room) (λ x. exact_map (λ _. st.Update p o x) (exact_expect k.Semicolon))))
+  unfolding s.updated update_op opens_nesting kinds
+  exact_updated p = exact_then (exact_one_of update_op k.With op.With refl refl (within refl)) (λ o. exact_then (exact_expect k.Assign refl) (λ _. exact_then (exact_expr room) (λ x. exact_map (λ _. st.Update p o x) (exact_expect k.Semicolon refl))))
 
   exact_stored : {always : Bool} (p : Place) → Exact always room (s.stored room p) (stored_l p)
   unfolding s.stored
@@ -359,56 +365,56 @@ module _ (room : ℕ) where
   exact_selected x part = exact_then exact_place_selectors (λ ss. exact_stored (record { name = x; selectors = part ∷ ss }))
 
   exact_after : {always : Bool} (f : List ℕ) (xs : List Expr) → Exact always room (s.after_arguments room f xs) (after_l f xs)
-  unfolding s.after_arguments
-  exact_after f xs = exact_choose (is k.Semicolon) (exact_map (λ _. st.Call f xs) (exact_expect k.Semicolon)) (exact_selected f (se.Round xs))
+  unfolding s.after_arguments opens_nesting
+  exact_after f xs = exact_choose (is k.Semicolon) (exact_map (λ _. st.Call f xs) (exact_expect k.Semicolon refl)) (exact_selected f (se.Round xs))
 
   exact_no_arguments : {always : Bool} {inside : ℕ} (f : List ℕ) → Exact always inside (s.no_arguments room f) (Then (lang.token k.RightParen) (λ _. Then (lang.token k.Semicolon) (λ _. lang.pure (st.Call f []))))
-  unfolding s.no_arguments
-  exact_no_arguments f = exact_then (exact_expect k.RightParen) (λ _. exact_map (λ _. st.Call f []) (exact_expect k.Semicolon))
+  unfolding s.no_arguments opens_nesting
+  exact_no_arguments f = exact_then (exact_expect k.RightParen refl) (λ _. exact_map (λ _. st.Call f []) (exact_expect k.Semicolon refl))
 
-  exact_called : {always : Bool} (m : ℕ) → room ≡ suc m → (f : List ℕ) → Exact always m (s.called room f) (called_l f)
-  unfolding s.called
-  exact_called m e f = exact_choose (is k.RightParen)
-      (exact_no_arguments f)
-      (exact_then (exact_separated (weak (exact_here m e).expr)) (λ xs. exact_then (exact_expect k.RightParen) (λ _. exact_lower e (exact_after f xs))))
+  exact_called : (m : ℕ) → room ≡ suc m → (f : List ℕ) → Behind m (s.called room f) (called_l f)
+  unfolding s.called opens_nesting
+  exact_called m e f = behind_choose (is k.RightParen)
+      (behind_of (exact_no_arguments f))
+      (behind_then (behind_of (exact_separated (weak (exact_here m e).expr))) (λ xs. behind_then (behind_expect k.RightParen) (λ _. behind_closed e (exact_after f xs))))
 
   exact_braced : {always : Bool} (x : List ℕ) → Exact always room (s.braced_or_alone room x) (braced_l x)
   unfolding s.braced_or_alone
   exact_braced x = exact_either (is k.LeftBrace) (exact_then exact_place_braces (λ part. exact_selected x part)) (exact_stored (record { name = x; selectors = [] }))
 
   exact_store : {always : Bool} (x : List ℕ) → Exact always room (s.called_or_stored room x) (store_l x)
-  unfolding s.called_or_stored
-  exact_store x = exact_either (is k.LeftParen) (exact_opening room k.LeftParen (λ m e _. exact_called m e x)) (exact_braced x)
+  unfolding s.called_or_stored opens_nesting
+  exact_store x = exact_either (is k.LeftParen) (behind_opening room k.LeftParen refl (λ m e _. exact_called m e x)) (exact_braced x)
 
   exact_taken : {always : Bool} (x : List ℕ) → Exact always room (s.taken room x) (taken_l x)
-  unfolding s.taken from_word
-  exact_taken x = exact_then (exact_one_of from_word k.From fr.From refl refl) (λ w. exact_then exact_place (λ p. exact_map (λ _. st.Take x w p) (exact_expect k.Semicolon)))
+  unfolding s.taken from_word opens_nesting kinds
+  exact_taken x = exact_then (exact_one_of from_word k.From fr.From refl refl (within refl)) (λ w. exact_then exact_place (λ p. exact_map (λ _. st.Take x w p) (exact_expect k.Semicolon refl)))
 
   exact_named : {always : Bool} → Exact always room (name >>= s.behind_name room) named_l
   unfolding s.behind_name
   exact_named = exact_then exact_name (λ x. exact_choose (begins_as from_word) (exact_taken x) (exact_store x))
 
   exact_tuple_assign : Exact false room (s.tuple_assign room) (Then (pattern room) (λ slots. Then (lang.token k.Assign) (λ _. Then (expr room) (λ x. Then (lang.token k.Semicolon) (λ _. lang.pure (st.TupleAssign slots x))))))
-  unfolding s.tuple_assign
-  exact_tuple_assign = exact_then (exact_pattern room) (λ slots. exact_then (exact_expect k.Assign) (λ _. exact_then (exact_expr room) (λ x. exact_map (λ _. st.TupleAssign slots x) (exact_expect k.Semicolon))))
+  unfolding s.tuple_assign opens_nesting
+  exact_tuple_assign = exact_then (exact_pattern room) (λ slots. exact_then (exact_expect k.Assign refl) (λ _. exact_then (exact_expr room) (λ x. exact_map (λ _. st.TupleAssign slots x) (exact_expect k.Semicolon refl))))
 
   exact_return : {always : Bool} → Exact always room (s.return_stmt room) (Then (lang.token k.Return) (λ _. Then (lang.optional (expr room)) (λ x. Then (lang.token k.Semicolon) (λ _. lang.pure (st.Return x)))))
-  unfolding s.return_stmt
-  exact_return = exact_then (exact_expect k.Return) (λ _. exact_then (exact_optional (but k.Semicolon) (exact_expr room)) (λ x. exact_map (λ _. st.Return x) (exact_expect k.Semicolon)))
+  unfolding s.return_stmt opens_nesting
+  exact_return = exact_then (exact_expect k.Return refl) (λ _. exact_then (exact_optional (but k.Semicolon) (exact_expr room)) (λ x. exact_map (λ _. st.Return x) (exact_expect k.Semicolon refl)))
 
   exact_print : Exact false room (s.print_stmt room) (Then (lang.token k.Print) (λ _. Then (lang.opening room k.LeftParen) (λ _. Then (lang.listed (nested room).expr) (λ xs. Then (lang.token k.RightParen) (λ _. Then (lang.token k.Semicolon) (λ _. lang.pure (st.Print xs)))))))
-  unfolding s.print_stmt
-  exact_print = exact_then (exact_expect k.Print) (λ _. exact_opening room k.LeftParen (λ m e _. exact_then (exact_listed k.RightParen (weak (exact_here m e).expr))
-      (λ xs. exact_then (exact_expect k.RightParen) (λ _. exact_map (λ _. st.Print xs) (exact_expect k.Semicolon)))))
+  unfolding s.print_stmt opens_nesting
+  exact_print = exact_then (exact_expect k.Print refl) (λ _. exact_opening room k.LeftParen refl (λ m e _. exact_then (exact_listed k.RightParen (weak (exact_here m e).expr))
+      (λ xs. exact_then (exact_expect k.RightParen refl) (λ _. exact_map (λ _. st.Print xs) (exact_expect k.Semicolon refl)))))
 
   exact_read : Exact false room (s.read_stmt room) (Then (lang.token k.Read) (λ _. Then (lang.opening room k.LeftParen) (λ _. Then (lang.separated lang.name) (λ xs. Then (lang.token k.RightParen) (λ _. Then (lang.token k.Semicolon) (λ _. lang.pure (st.Read xs)))))))
-  unfolding s.read_stmt
-  exact_read = exact_then (exact_expect k.Read) (λ _. exact_opening room k.LeftParen (λ m e _. exact_then (exact_separated exact_name)
-      (λ xs. exact_then (exact_expect k.RightParen) (λ _. exact_map (λ _. st.Read xs) (exact_expect k.Semicolon)))))
+  unfolding s.read_stmt opens_nesting
+  exact_read = exact_then (exact_expect k.Read refl) (λ _. exact_opening room k.LeftParen refl (λ m e _. exact_then (exact_separated exact_name)
+      (λ xs. exact_then (exact_expect k.RightParen refl) (λ _. exact_map (λ _. st.Read xs) (exact_expect k.Semicolon refl)))))
 
   exact_simple : {always : Bool} → Exact always room (s.simple_stmt room) simple_l
-  unfolding s.simple_stmt simple
-  exact_simple = exact_then (exact_one_of simple k.Pass st.Pass refl refl) (λ s. exact_map (λ _. s) (exact_expect k.Semicolon))
+  unfolding s.simple_stmt simple opens_nesting kinds
+  exact_simple = exact_then (exact_one_of simple k.Pass st.Pass refl refl (within refl)) (λ s. exact_map (λ _. s) (exact_expect k.Semicolon refl))
 
   module _ (deep : Reader (List Stmt)) (D : Lang (List Stmt)) (law_deep : (m : ℕ) → room ≡ suc m → Law deep D ends_body) where
     -- ---- `if`
@@ -680,20 +686,21 @@ module _ (room : ℕ) where
 
     module _ (exact_deep : (m : ℕ) → room ≡ suc m → Exact true m deep D) where
       exact_branch : {always : Bool} (m : ℕ) → room ≡ suc m → Exact always m (s.branch room deep) (grammar.branch room D)
-      unfolding s.branch grammar.branch
-      exact_branch m e = exact_then (weak (exact_here m e).expr) (λ c. exact_then (exact_expect k.Then) (λ _. exact_map (λ body. roll-Branch (record { condition = c; body = body })) (weak (exact_deep m e))))
+      unfolding s.branch grammar.branch opens_nesting
+      exact_branch m e = exact_then (weak (exact_here m e).expr) (λ c. exact_then (exact_expect k.Then refl) (λ _. exact_map (λ body. roll-Branch (record { condition = c; body = body })) (weak (exact_deep m e))))
 
       exact_elseifs : {always : Bool} (m : ℕ) → room ≡ suc m → Exact always m (s.elseifs room deep) (lang.many elseif_l)
-      unfolding s.elseifs
-      exact_elseifs m e = exact_many (is k.Elseif) (exact_then (exact_expect k.Elseif) (λ _. exact_branch m e)) begins_elseif
+      unfolding s.elseifs opens_nesting
+      exact_elseifs m e = exact_many (is k.Elseif) (exact_then (exact_expect k.Elseif refl) (λ _. exact_branch m e)) begins_elseif
 
       exact_else_part : {always : Bool} (m : ℕ) → room ≡ suc m → Exact always m (s.else_part room deep) (lang.optional else_l)
-      unfolding s.else_part
-      exact_else_part m e = exact_optional (is k.Else) (exact_then (exact_expect k.Else) (λ _. weak (exact_deep m e)))
+      unfolding s.else_part opens_nesting
+      exact_else_part m e = exact_optional (is k.Else) (exact_then (exact_expect k.Else refl) (λ _. weak (exact_deep m e)))
 
       exact_if : Exact false room (s.if_stmt room deep) if_l
-      unfolding s.if_stmt
-      exact_if = exact_opening room k.If (λ m e _. exact_then (exact_branch m e) (λ first. exact_then (exact_elseifs m e) (λ others. exact_then (exact_else_part m e) (λ last. exact_map (λ _. st.If first others last) (exact_ending k.If)))))
+      unfolding s.if_stmt opens_nesting
+      exact_if = behind_opening room k.If refl (λ m e _. behind_then (behind_of (exact_branch m e)) (λ first. behind_then (behind_of (exact_elseifs m e)) (λ others. behind_then (behind_of (exact_else_part m e))
+          (λ last. behind_then (behind_ending k.If) (λ _. behind_of (exact_pure (st.If first others last)))))))
 
       inside_room : (m : ℕ) → room ≡ suc m → m ≡ room - 1
       inside_room m e = omega (arith, e)
@@ -702,22 +709,22 @@ module _ (room : ℕ) where
       exact_over {always = always} m e = subst (λ (z : ℕ). Exact always m (r.iters z (r.nested room).source) (iters z (nested room).source)) (inside_room m e) (exact_iters m (r.nested room).source (nested room).source (here m e).source (exact_here m e).source)
 
       exact_bar : {always : Bool} (m : ℕ) → room ≡ suc m → Exact always m (r.condition room (r.nested room)) bar_l
-      unfolding r.condition
-      exact_bar m e = exact_then (exact_expect k.Bar) (λ _. weak (exact_here m e).expr)
+      unfolding r.condition opens_nesting
+      exact_bar m e = exact_then (exact_expect k.Bar refl) (λ _. weak (exact_here m e).expr)
 
       exact_for : {always : Bool} (m : ℕ) → room ≡ suc m → Exact always m (s.for_loop room deep) for_l
-      unfolding s.for_loop
-      exact_for m e = exact_then (exact_expect k.For) (λ _. exact_then (exact_over m e) (λ over. exact_then (exact_optional (is k.Bar) (exact_bar m e)) (λ c. exact_then (exact_expect k.RightParen)
-          (λ _. exact_then (weak (exact_deep m e)) (λ body. exact_map (λ _. st.For over c body) (exact_ending k.For))))))
+      unfolding s.for_loop opens_nesting
+      exact_for m e = exact_then (exact_expect k.For refl) (λ _. exact_then (exact_over m e) (λ over. exact_then (exact_optional (is k.Bar) (exact_bar m e)) (λ c. exact_then (exact_expect k.RightParen refl)
+          (λ _. exact_then (weak (exact_deep m e)) (λ body. exact_map (λ _. st.For over c body) (exact_ending k.For refl))))))
 
       exact_while : {always : Bool} (m : ℕ) → room ≡ suc m → Exact always m (s.while_loop room deep) while_l
-      unfolding s.while_loop
-      exact_while m e = exact_then (exact_expect k.While) (λ _. exact_then (weak (exact_here m e).expr) (λ c. exact_then (exact_expect k.RightParen)
-          (λ _. exact_then (weak (exact_deep m e)) (λ body. exact_map (λ _. st.While c body) (exact_ending k.While)))))
+      unfolding s.while_loop opens_nesting
+      exact_while m e = exact_then (exact_expect k.While refl) (λ _. exact_then (weak (exact_here m e).expr) (λ c. exact_then (exact_expect k.RightParen refl)
+          (λ _. exact_then (weak (exact_deep m e)) (λ body. exact_map (λ _. st.While c body) (exact_ending k.While refl)))))
 
       exact_loop : Exact false room (s.loop room deep) loop_l
-      unfolding s.loop s.for_or_while
-      exact_loop = exact_opening room k.LeftParen (λ m e _. exact_choose (is k.For) (exact_for m e) (exact_while m e))
+      unfolding s.loop s.for_or_while opens_nesting
+      exact_loop = exact_opening room k.LeftParen refl (λ m e _. exact_choose (is k.For) (exact_for m e) (exact_while m e))
 
       exact_kind : (kind : Kind) → Exact false room (s.kind_by room deep kind) (grammar.stmt_kind room D)
       unfolding grammar.stmt_kind

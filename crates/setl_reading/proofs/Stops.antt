@@ -1,16 +1,19 @@
 -- Where reading a program stops, the tokens go wrong.
-use Rattle.std.proofs.Common.{◌≡◌, ℕ, zero, suc, ◌+◌, ◌≤◌, ◌<◌, [], ◌∷◌, ◌++◌, length, Ok, Err, refl, sym, ap, subst, ◌∙◌, append_assoc, arith, inl, inr, ◌⊎◌, length-append}
+use Rattle.std.proofs.Common.{◌≡◌, ℕ, zero, suc, true, ◌+◌, ◌≤◌, ◌<◌, [], ◌∷◌, ◌++◌, length, Ok, Err, refl, sym, ap, subst, ◌∙◌, append_assoc, arith, inl, inr, ◌⊎◌, length-append}
 use Rattle.std.proofs.lemmas.List.{append-nil}
 use Rattle.setl_tree.specs.declared.tree.Tree.{Tree}
 use Rattle.setl_tree.specs.Tokens.{Token, Tokens}
 use Rattle.setl_tree.specs.Programs as grammar
+use Rattle.setl_tree.specs.Programs.{Derives}
+use Rattle.setl_reading.specs.declared.fault.Fault.{Fault}
 use Rattle.setl_reading.specs.declared.fault.Fault.TheVariants.{Memory, Syntax, Nesting}
 use Rattle.setl_reading.specs.Reading.{Outcome}
-use Rattle.setl_reading.specs.Fronts.{Begins, GoesWrong}
-use Rattle.setl_reading.specs.Claims.{IsTooDeep, SyntaxIsExact, LeftoverIsExact, OnePlaceIsWrong, NestingFaultsGoOn}
+use Rattle.setl_reading.specs.Fronts.{Begins, GoesWrong, Opens, FaultOf, opens_nesting}
+use Rattle.setl_reading.specs.Claims.{IsTooDeep, FaultIsExact, LeftoverIsExact, FaultIsUnique, ProgramsHaveNoFault}
 use Rattle.setl_reading.specs.ReadPrograms as reading
 use Rattle.setl_reading.proofs.Laws.{ok_parts}
-use Rattle.setl_reading.proofs.Exact.{left, Extends}
+use Rattle.setl_reading.proofs.Reach.{left, Extends}
+use Rattle.setl_reading.proofs.Openers.{Opener, Shows}
 use Rattle.setl_reading.proofs.Programs.{law_program, exact_program}
 use Rattle.setl_reading.proofs.Rooms.{fewer_nestings, further}
 use Rattle.setl_reading.proofs.Top.{reading_is_sound, reading_is_complete, nestings_may_be_more}
@@ -53,17 +56,38 @@ none_begins room toks front t others o h shallow parts place begins =
     let long = ap left one in
     stops_within (reading.program big up) (reading.program big (up ++ others)) (reading.program big (up ++ more)) others more tree (local up others) (local up more) (omega (arith, long, place)) two
 
+abbrev failed : Fault → Outcome Tree
+failed e = Err e
+
+abbrev read_to : Tree → Tokens → Outcome Tree
+read_to tree rest = Ok (tree, rest)
+
 no_fault_deep : (count : ℕ) → IsTooDeep {A = Tree} (Err (Syntax count)) → ⊥
 no_fault_deep count deep = let h = deep.1 in absurd (cc h)
 
 no_value_deep : (tree : Tree) (rest : Tokens) → IsTooDeep {A = Tree} (Ok (tree, rest)) → ⊥
 no_value_deep tree rest deep = let h = deep.1 in absurd (cc h)
 
-pub syntax_is_exact : SyntaxIsExact
-syntax_is_exact room toks count h =
+-- tokens that are read otherwise than to their end derive no tree
+none_derived : (room : ℕ) (toks : Tokens) (o : Outcome Tree) → reading.program room toks ≡ o → (IsTooDeep o → ⊥) → ((tree : Tree) → o ≡ Ok (tree, []) → ⊥) → (tree : Tree) → Derives toks tree → ⊥
+none_derived room toks o h shallow otherwise tree derives =
+    let big : ℕ = room + derives.0 in
+    let read = same_with_more room big toks o (omega arith) h shallow in
+    let whole = reading_is_complete big toks tree (nestings_may_be_more derives.0 big toks tree (omega arith) derives.1) in
+    otherwise tree (sym read ∙ whole)
+
+fault_no_tree : (count : ℕ) (tree : Tree) → failed (Syntax count) ≡ Ok (tree, []) → ⊥
+fault_no_tree count tree h = cc h
+
+left_no_tree : (one tree : Tree) (t : Token) (rest : Tokens) → read_to one (t ∷ rest) ≡ Ok (tree, []) → ⊥
+left_no_tree one tree t rest h = let p = ok_parts one tree (t ∷ rest) [] h in no_end t rest p.1
+
+-- a fault of syntax is where the tokens go wrong
+syntax_is_wrong : (room : ℕ) (toks : Tokens) (count : ℕ) → reading.program room toks ≡ Err (Syntax count) → GoesWrong toks count
+syntax_is_wrong room toks count h =
     let big : ℕ = room + length toks + 2 in
     let read = same_with_more room big toks (Err (Syntax count)) (omega arith) h (no_fault_deep count) in
-    let f = (exact_program big).stop toks count (omega arith) read in
+    let f = (exact_program big).stop toks count (inl (omega arith)) read in
     record {
       front = f.used;
       rest = f.rest;
@@ -71,10 +95,11 @@ syntax_is_exact room toks count h =
       place = f.left;
       begins = (f.more, f.value, (big, f.spelled));
       wrong = λ t others is begins. none_begins room toks f.used t others (Err (Syntax count)) h (no_fault_deep count) (f.parts ∙ ap (λ (z : Tokens). f.used ++ z) is) (sym f.left ∙ ap length is) begins;
+      none = none_derived room toks (Err (Syntax count)) h (no_fault_deep count) (fault_no_tree count);
     }
 
-pub leftover_is_exact : LeftoverIsExact
-leftover_is_exact room toks tree t rest h =
+leftover_is_wrong : (room : ℕ) (toks : Tokens) (tree : Tree) (t : Token) (rest : Tokens) → reading.program room toks ≡ Ok (tree, t ∷ rest) → GoesWrong toks (length (t ∷ rest))
+leftover_is_wrong room toks tree t rest h =
     let took = (law_program room).sound.took toks tree (t ∷ rest) h in
     record {
       front = took.used;
@@ -83,6 +108,7 @@ leftover_is_exact room toks tree t rest h =
       place = refl;
       begins = ([], tree, (room, subst (λ (z : Tokens). grammar.program room z tree) (sym (append-nil took.used)) took.spelled));
       wrong = λ u others is begins. none_begins room toks took.used u others (Ok (tree, t ∷ rest)) h (no_value_deep tree (t ∷ rest)) (took.parts ∙ ap (λ (z : Tokens). took.used ++ z) is) (ap length is) begins;
+      none = none_derived room toks (Ok (tree, t ∷ rest)) h (no_value_deep tree (t ∷ rest)) (λ other. left_no_tree tree other t rest);
     }
 
 -- ---- one place
@@ -121,19 +147,10 @@ ordered (suc one) (suc two) = elim (ordered one two) [ inl less ↦ inl (omega (
 less_or_same : (one two : ℕ) → (one < two → ⊥) → (two < one → ⊥) → one ≡ two
 less_or_same one two a b = elim (ordered one two) [ inl less ↦ absurd (a less) | inr (inl same) ↦ same | inr (inr more) ↦ absurd (b more) ]
 
-pub one_place_is_wrong : OnePlaceIsWrong
+one_place_is_wrong : (toks : Tokens) (one two : ℕ) → GoesWrong toks one → GoesWrong toks two → one ≡ two
 one_place_is_wrong toks one two first second = less_or_same one two (not_later toks one two first second) (not_later toks two one second first)
 
 -- ---- at a nesting
-
--- the tokens with so many left
-split_at : (toks : Tokens) (count : ℕ) → count ≤ length toks → (front : Tokens) × (rest : Tokens) × (toks ≡ front ++ rest) × (length rest ≡ count)
-split_at [] count le = ([], [], refl, omega (arith, le))
-split_at (t ∷ toks) count le = elim (ordered count (suc (length toks))) [
-  | inl less ↦ let n = split_at toks count (omega (arith, less)) in (t ∷ n.0, n.1, ap (λ (z : Tokens). t ∷ z) n.2, n.3)
-  | inr (inl same) ↦ ([], t ∷ toks, refl, sym same)
-  | inr (inr more) ↦ absurd (omega (arith, le, more))
-]
 
 -- tokens that go wrong later go on here
 later_begins : (toks front rest : Tokens) (t : Token) (others : Tokens) (count : ℕ) → toks ≡ front ++ rest → rest ≡ t ∷ others → GoesWrong toks count → count < length rest → Begins (front ++ t ∷ [])
@@ -151,10 +168,10 @@ further_begins big toks front rest t others (Ok (tree, [])) fits h parts is far 
     shorter_begins front t others ([], tree, (big, subst (λ (z : Tokens). grammar.program big z tree) whole derived))
 further_begins big toks front rest t others (Ok (tree, u ∷ more)) fits h parts is far =
     let long = ap length is in
-    later_begins toks front rest t others (length (u ∷ more)) parts is (leftover_is_exact big toks tree u more h) (omega (arith, far, long))
+    later_begins toks front rest t others (length (u ∷ more)) parts is (leftover_is_wrong big toks tree u more h) (omega (arith, far, long))
 further_begins big toks front rest t others (Err (Syntax count)) fits h parts is far =
     let long = ap length is in
-    later_begins toks front rest t others count parts is (syntax_is_exact big toks count h) (omega (arith, far, long))
+    later_begins toks front rest t others count parts is (syntax_is_wrong big toks count h) (omega (arith, far, long))
 further_begins big toks front rest t others (Err (Nesting count)) fits h parts is far = let e = ((exact_program big).reach.faults toks (Nesting count) fits h).1 in absurd (cc e)
 further_begins big toks front rest t others (Err Memory) fits h parts is far = let e = ((exact_program big).reach.faults toks Memory fits h).1 in absurd (cc e)
 
@@ -171,27 +188,112 @@ none_within room toks count h front rest t others more tree parts place is deriv
     let all = ap length is in
     stops_within (reading.program room up) (reading.program room (up ++ others)) (reading.program room (up ++ more)) others more tree (local up others) (local up more) (omega (arith, long, place, all)) two
 
--- tokens of which some are left
-some_left : (rest : Tokens) (count : ℕ) → length rest ≡ count → 0 < count → (t : Token) × (others : Tokens) × (rest ≡ t ∷ others)
-some_left [] count h some = absurd (omega (arith, h, some))
-some_left (t ∷ others) count h some = (t, others, refl)
-
-pub nesting_faults_go_on : NestingFaultsGoOn
-nesting_faults_go_on room toks count h =
+-- where reading ends at a nesting, the token there opens one too many
+nesting_opens : (room : ℕ) (toks : Tokens) (count : ℕ) → reading.program room toks ≡ Err (Nesting count) → Opens room toks count
+nesting_opens room toks count h =
     let big : ℕ = room + length toks + 2 in
     let far = further room big toks count (omega arith) h in
-    let at = ap left h in
-    let within = (exact_program room).reach.within toks in
-    let n = split_at toks count (omega (arith, at, within)) in
-    let s = some_left n.1 count n.3 (omega (arith, far)) in
-    let whole : toks ≡ n.0 ++ s.0 ∷ s.1 = n.2 ∙ ap (λ (z : Tokens). n.0 ++ z) s.2 in
-    let place : length (s.0 ∷ s.1) ≡ count = sym (ap length s.2) ∙ n.3 in
+    let o : Opener toks count = subst (λ z. Shows room toks z) h ((exact_program room).shows toks) in
     record {
-      front = n.0;
-      opener = s.0;
-      others = s.1;
-      parts = whole;
-      place = place;
-      begins = further_begins big toks n.0 n.1 s.0 s.1 (reading.program big toks) (omega arith) refl n.2 s.2 (omega (arith, far, n.3));
-      none = λ more tree. none_within room toks count h n.0 (s.0 ∷ s.1) s.0 s.1 more tree whole place refl;
+      front = o.front;
+      opener = o.token;
+      others = o.others;
+      parts = o.parts;
+      place = o.place;
+      opens = o.opens;
+      begins = further_begins big toks o.front (o.token ∷ o.others) o.token o.others (reading.program big toks) (omega arith) refl o.parts refl (omega (arith, far, o.place));
+      none = λ more tree. none_within room toks count h o.front (o.token ∷ o.others) o.token o.others more tree o.parts o.place refl;
     }
+
+-- ---- a token that opens a nesting, and that reading passes
+
+-- Some tokens behind these make a program of them within so many nestings.
+abbrev BeginsWithin : ℕ → Tokens → Type 0
+BeginsWithin room toks = (more : Tokens) × (tree : Tree) × grammar.program room (toks ++ more) tree
+
+no_tokens : (rest : Tokens) → length rest ≡ 0 → rest ≡ []
+no_tokens [] h = refl
+no_tokens (t ∷ rest) h = absurd (omega (arith, h))
+
+-- the tokens that were read to their end, the last of which opens a nesting
+ended_begins : (room : ℕ) (up others : Tokens) (o whole : Outcome Tree) → Opener up 1 → reading.program room up ≡ o → Shows room up o → Extends others o whole → left whole ≤ length others → BeginsWithin room up
+ended_begins room up others (Ok (tree, [])) whole last h shows extends within = ([], tree, subst (λ (z : Tokens). grammar.program room z tree) (sym (append-nil up)) (reading_is_sound room up tree h))
+ended_begins room up others (Ok (tree, u ∷ rest)) whole last h shows extends within = let long = ap left extends in absurd (omega (arith, long, within, length-append rest others))
+ended_begins room up others (Err (Syntax zero)) whole last h shows extends within =
+    let f = (exact_program room).stop up 0 (inr last) h in
+    let same : up ≡ f.used = f.parts ∙ ap (λ (z : Tokens). f.used ++ z) (no_tokens f.rest f.left) ∙ append-nil f.used in
+    (f.more, f.value, subst (λ (z : Tokens). grammar.program room (z ++ f.more) f.value) (sym same) f.spelled)
+ended_begins room up others (Err (Syntax (suc n))) whole last h shows extends within = let long = ap left extends in absurd (omega (arith, long, within))
+ended_begins room up others (Err (Nesting zero)) whole last h shows extends within = let place = shows.place in absurd (omega (arith, place))
+ended_begins room up others (Err (Nesting (suc n))) whole last h shows extends within = let long = ap left extends in absurd (omega (arith, long, within))
+ended_begins room up others (Err Memory) whole last h shows extends within = absurd shows
+
+passed_begins : (room : ℕ) (toks front : Tokens) (opener : Token) (others : Tokens) → toks ≡ front ++ opener ∷ others → opens_nesting opener.kind ≡ true → left (reading.program room toks) ≤ length others → BeginsWithin room (front ++ opener ∷ [])
+passed_begins room toks front opener others parts opens within =
+    let up : Tokens = front ++ opener ∷ [] in
+    let whole : up ++ others ≡ toks = append_assoc front (opener ∷ []) others ∙ sym parts in
+    let last : Opener up 1 = record { front = front; token = opener; others = []; parts = refl; place = refl; opens = opens } in
+    let exact = exact_program room in
+    ended_begins room up others (reading.program room up) (reading.program room (up ++ others)) last refl (exact.shows up) (exact.reach.local up others)
+    (subst (λ (z : Tokens). left (reading.program room z) ≤ length others) (sym whole) within)
+
+-- so none that reading passes opens one too many
+none_passed : (room : ℕ) (toks : Tokens) (before : ℕ) → Opens room toks before → left (reading.program room toks) < before → ⊥
+none_passed room toks before o less =
+    let b = passed_begins room toks o.front o.opener o.others o.parts o.opens (omega (arith, less, o.place)) in
+    o.none b.0 b.1 b.2
+
+-- where tokens go wrong, none behind opens a nesting
+none_behind : (room : ℕ) (toks : Tokens) (count before : ℕ) → GoesWrong toks count → Opens room toks before → before ≤ count → ⊥
+none_behind room toks count before g o le =
+    let up : Tokens = o.front ++ o.opener ∷ [] in
+    let whole : up ++ o.others ≡ g.front ++ g.rest = append_assoc o.front (o.opener ∷ []) o.others ∙ sym o.parts ∙ g.parts in
+    let long = ap length whole in
+    let n = longer up o.others g.front g.rest whole (omega (arith, long, le, o.place, g.place, length-append up o.others, length-append g.front g.rest)) in
+    g.wrong n.0 (n.1 ++ o.others) n.3 (shorter_begins g.front n.0 n.1 (subst Begins n.2 o.begins))
+
+wrong_is_fault : (room : ℕ) (toks : Tokens) (count : ℕ) → left (reading.program room toks) ≡ count → GoesWrong toks count → FaultOf room toks (Syntax count)
+wrong_is_fault room toks count at g = (
+  g,
+  λ before o. elim (ordered count before) [
+    | inl less ↦ none_passed room toks before o (omega (arith, at, less))
+    | inr (inl same) ↦ none_behind room toks count before g o (omega (arith, same))
+    | inr (inr more) ↦ none_behind room toks count before g o (omega (arith, more))
+  ],
+)
+
+first_opens : (room : ℕ) (toks : Tokens) (count before : ℕ) → left (reading.program room toks) ≡ count → Opens room toks before → before ≤ count
+first_opens room toks count before at o = elim (ordered count before) [
+  | inl less ↦ absurd (none_passed room toks before o (omega (arith, at, less)))
+  | inr (inl same) ↦ omega (arith, same)
+  | inr (inr more) ↦ omega (arith, more)
+]
+
+pub fault_is_exact : FaultIsExact
+fault_is_exact room toks (Syntax count) h = wrong_is_fault room toks count (ap left h) (syntax_is_wrong room toks count h)
+fault_is_exact room toks (Nesting count) h = (nesting_opens room toks count h, λ before o. first_opens room toks count before (ap left h) o)
+fault_is_exact room toks Memory h = subst (λ z. Shows room toks z) h ((exact_program room).shows toks)
+
+pub leftover_is_exact : LeftoverIsExact
+leftover_is_exact room toks tree t rest h = wrong_is_fault room toks (length (t ∷ rest)) (ap left h) (leftover_is_wrong room toks tree t rest h)
+
+-- ---- one fault
+
+same_place : (one two : ℕ) → one ≤ two → two ≤ one → one ≡ two
+same_place one two a b = less_or_same one two (λ less. omega (arith, less, b)) (λ less. omega (arith, less, a))
+
+pub fault_is_unique : FaultIsUnique
+fault_is_unique room toks (Syntax one) (Syntax two) a b = ap Syntax (one_place_is_wrong toks one two a.0 b.0)
+fault_is_unique room toks (Syntax one) (Nesting two) a b = absurd (a.1 two b.0)
+fault_is_unique room toks (Nesting one) (Syntax two) a b = absurd (b.1 one a.0)
+fault_is_unique room toks (Nesting one) (Nesting two) a b = ap Nesting (same_place one two (b.1 one a.0) (a.1 two b.0))
+fault_is_unique room toks Memory two a b = absurd a
+fault_is_unique room toks one Memory a b = absurd b
+
+pub programs_have_no_fault : ProgramsHaveNoFault
+programs_have_no_fault room toks tree (Syntax count) derived fault = fault.0.none tree (room, derived)
+programs_have_no_fault room toks tree (Nesting count) derived fault =
+    let o = fault.0 in
+    let whole = o.parts ∙ sym (append_assoc o.front (o.opener ∷ []) o.others) in
+    o.none o.others tree (subst (λ (z : Tokens). grammar.program room z tree) whole derived)
+programs_have_no_fault room toks tree Memory derived fault = fault

@@ -5,9 +5,10 @@ use Rattle.setl_tree.specs.Tokens.{Token, Tokens}
 use Rattle.setl_tree.specs.Programs as grammar
 use Rattle.setl_tree.specs.Programs.{Derives}
 use Rattle.setl_tree.specs.Canonical.{canonical}
+use Rattle.setl_reading.specs.declared.fault.Fault.{Fault}
 use Rattle.setl_reading.specs.declared.fault.Fault.TheVariants.{Syntax, Nesting}
 use Rattle.setl_reading.specs.Reading.{Outcome}
-use Rattle.setl_reading.specs.Fronts.{GoesWrong, NestsTooDeep}
+use Rattle.setl_reading.specs.Fronts.{FaultOf}
 use Rattle.setl_reading.specs.ReadPrograms as reading
 
 -- a tree that is read to the end of the tokens is one that they derive with so many nestings
@@ -38,19 +39,18 @@ TreeIsUnique = (toks : Tokens) (one two : Tree) → Derives toks one → Derives
 abbrev pub CanonicalTokensDerive : Type 0
 CanonicalTokensDerive = (toks : Tokens) (tree : Tree) → Derives toks tree → Derives (canonical tree) tree
 
--- where reading faults for its syntax, the tokens go wrong
-abbrev pub SyntaxIsExact : Type 0
-SyntaxIsExact = (room : ℕ) (toks : Tokens) (left : ℕ) → reading.program room toks ≡ Err (Syntax left) → GoesWrong toks left
+-- where reading faults, the tokens have this fault
+abbrev pub FaultIsExact : Type 0
+FaultIsExact = (room : ℕ) (toks : Tokens) (fault : Fault) → reading.program room toks ≡ Err fault → FaultOf room toks fault
 
--- where a program is read and tokens are left, the tokens go wrong at the first of them
+-- where a program is read and tokens are left, the tokens have a fault of syntax at the first of them
 abbrev pub LeftoverIsExact : Type 0
-LeftoverIsExact = (room : ℕ) (toks : Tokens) (tree : Tree) (t : Token) (rest : Tokens) → reading.program room toks ≡ Ok (tree, t ∷ rest) → GoesWrong toks (length (t ∷ rest))
+LeftoverIsExact = (room : ℕ) (toks : Tokens) (tree : Tree) (t : Token) (rest : Tokens) → reading.program room toks ≡ Ok (tree, t ∷ rest) → FaultOf room toks (Syntax (length (t ∷ rest)))
 
--- tokens go wrong at one place at most
-abbrev pub OnePlaceIsWrong : Type 0
-OnePlaceIsWrong = (toks : Tokens) (one two : ℕ) → GoesWrong toks one → GoesWrong toks two → one ≡ two
+-- tokens have one fault at most
+abbrev pub FaultIsUnique : Type 0
+FaultIsUnique = (room : ℕ) (toks : Tokens) (one two : Fault) → FaultOf room toks one → FaultOf room toks two → one ≡ two
 
--- where reading ends at a token that opens one nesting too many, some program begins with the tokens up to that one, and
--- none with so few nestings inside one another
-abbrev pub NestingFaultsGoOn : Type 0
-NestingFaultsGoOn = (room : ℕ) (toks : Tokens) (left : ℕ) → reading.program room toks ≡ Err (Nesting left) → NestsTooDeep room toks left
+-- tokens that derive a tree within so many nestings have none
+abbrev pub ProgramsHaveNoFault : Type 0
+ProgramsHaveNoFault = (room : ℕ) (toks : Tokens) (tree : Tree) (fault : Fault) → grammar.program room toks tree → FaultOf room toks fault → ⊥

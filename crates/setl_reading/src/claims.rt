@@ -1,6 +1,6 @@
 //! The laws between reading and the grammar.
 
-ghost use Rattle.setl_reading.specs.Claims.{ReadingIsSound, ReadingIsComplete, NestingsMayBeMore, NestingsMayBeFewer, TreeIsUnique, CanonicalTokensDerive, SyntaxIsExact, LeftoverIsExact, OnePlaceIsWrong, NestingFaultsGoOn};
+ghost use Rattle.setl_reading.specs.Claims.{ReadingIsSound, ReadingIsComplete, NestingsMayBeMore, NestingsMayBeFewer, TreeIsUnique, CanonicalTokensDerive, FaultIsExact, LeftoverIsExact, FaultIsUnique, ProgramsHaveNoFault};
 
 /// Reading finds a program's tree exactly where the tokens derive it with as many nestings as may open.
 pub fn reading_meets_grammar()
@@ -25,16 +25,16 @@ pub fn canonical_tokens_derive()
     ensures { CanonicalTokensDerive }
 {}
 
-/// Reading faults for its syntax, or ends before the tokens do, exactly where the tokens go wrong: those before that
-/// place begin a program, and with the token there they begin none. There is one such place at most.
-pub fn syntax_faults_are_exact()
-    ensures fault { SyntaxIsExact }
+/// Where tokens are no program within so many nestings, reading tells their one fault. It is of syntax where the tokens
+/// before that place begin a program, and with the token there they begin none, and no token before opens one nesting too
+/// many; and of nesting at the first token that does: those up to it begin a program, but none within so many nestings.
+pub fn faults_are_exact()
+    ensures fault { FaultIsExact }
     ensures leftover { LeftoverIsExact }
-    ensures one_place { OnePlaceIsWrong }
 {}
 
-/// Where reading ends at a token that opens one nesting too many, some program begins with the tokens up to and with that
-/// one, so it is no fault of syntax, and none with so few nestings inside one another does.
-pub fn nesting_faults_go_on()
-    ensures { NestingFaultsGoOn }
+/// Tokens have one fault at most, and none where they derive a tree within so many nestings.
+pub fn fault_is_unique()
+    ensures unique { FaultIsUnique }
+    ensures none { ProgramsHaveNoFault }
 {}

@@ -7,7 +7,7 @@ mod fault;
 
 pub use ahead::Ahead;
 pub use claims::{
-    canonical_tokens_derive, nesting_faults_go_on, nestings_may_be_fewer, reading_meets_grammar,
-    syntax_faults_are_exact, tree_is_unique,
+    canonical_tokens_derive, fault_is_unique, faults_are_exact, nestings_may_be_fewer,
+    reading_meets_grammar, tree_is_unique,
 };
 pub use fault::Fault;

@@ -1,12 +1,12 @@
 -- What is claimed of canonical texts.
-use Rattle.std.specs.Prelude.{◌≡◌, ◌⊎◌, ℕ, List, [], Result, Ok, Err}
+use Rattle.std.specs.Prelude.{◌≡◌, ◌⊎◌, ℕ, List, Result, Ok, Err}
 use Rattle.setl_tree.specs.declared.tree.Tree.{Tree}
 use Rattle.setl_tree.specs.Tokens.{Tokens}
+use Rattle.setl_tree.specs.Programs as grammar
 use Rattle.setl_tree.specs.Programs.{Derives}
 use Rattle.setl_tree.specs.Canonical.{canonical}
-use Rattle.setl_reading.specs.Claims.{IsTooDeep}
-use Rattle.setl_reading.specs.Reading.{Outcome}
-use Rattle.setl_reading.specs.ReadPrograms as reading
+use Rattle.setl_reading.specs.declared.fault.Fault.TheVariants.{Nesting}
+use Rattle.setl_reading.specs.Fronts.{FaultOf}
 use Rattle.setl_token.specs.Lex.{Spelled}
 use Rattle.setl_token.specs.Text.{Lexed}
 use Rattle.setl_show.specs.Text.{text_of}
@@ -69,13 +69,13 @@ ShownTextDerives = (l shown : Lexed) (tree : Tree) → HasTree l tree → IsText
 abbrev pub ShownTextDerivesNoOther : Type 0
 ShownTextDerivesNoOther = (l shown : Lexed) (tree other : Tree) → HasTree l tree → IsTextOf shown tree → Derives (plain_tokens shown) other → SameTree tree other
 
--- a program was read up to the end of the tokens as the tree, up to lines, or reading ended at a nesting
-abbrev pub IsReadAs : Outcome Tree → Tree → Type 0
-IsReadAs outcome tree = ((it : Tree) × (outcome ≡ Ok (it, [])) × SameTree tree it) ⊎ IsTooDeep outcome
+-- tokens derive the tree within so many nestings, up to lines, or their fault is one of nesting
+abbrev pub DerivesOrNests : ℕ → Tokens → Tree → Type 0
+DerivesOrNests room toks tree = ((it : Tree) × grammar.program room toks it × SameTree tree it) ⊎ ((left : ℕ) × FaultOf room toks (Nesting left))
 
--- however few nestings may open, they are read as the tree, up to lines, or reading ends at a nesting
+-- however few nestings may open, they derive the tree, up to lines, or their fault is one of nesting
 abbrev pub ShownTextIsRead : Type 0
-ShownTextIsRead = (l shown : Lexed) (tree : Tree) (room : ℕ) → HasTree l tree → IsTextOf shown tree → IsReadAs (reading.program room (plain_tokens shown)) tree
+ShownTextIsRead = (l shown : Lexed) (tree : Tree) (room : ℕ) → HasTree l tree → IsTextOf shown tree → DerivesOrNests room (plain_tokens shown) tree
 
 -- trees that are the same up to lines have the same canonical text
 abbrev pub SameTreesAreShownAlike : Type 0

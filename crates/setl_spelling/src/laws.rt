@@ -4,7 +4,8 @@ ghost use Rattle.setl_spelling.specs.Claims.{TextIsSpelled, SpellingIsDetermined
 
 use setl_expressions::string_holds_its_body;
 use setl_reading::{
-    canonical_tokens_derive, nestings_may_be_fewer, reading_meets_grammar, tree_is_unique,
+    canonical_tokens_derive, faults_are_exact, nestings_may_be_fewer, reading_meets_grammar,
+    tree_is_unique,
 };
 use setl_token::{blank_ends_token, lexing_is_determined, piece_at_is_longest};
 
@@ -59,9 +60,9 @@ pub fn same_trees_are_shown_alike()
 {}
 
 /// The text that `show` writes of a tree is read again as this tree, for every tree that the tokens of some source
-/// derive: the text has tokens, these derive the tree, up to lines, and they derive no other. Reading gives the tree,
-/// up to lines, or ends at a token that opens one nesting too many, since the text may need more nestings than the
-/// source, by the parentheses that `show` writes. Of what is read `show` writes the same text.
+/// derive: the text has tokens, these derive the tree, up to lines, and they derive no other. Within however few nestings
+/// they derive it, or their fault is one of nesting, since the text may need more nestings than the source, by the
+/// parentheses that `show` writes. Of each tree that they derive `show` writes the same text.
 pub fn shown_text_is_read_again()
     ensures has_tokens { ShownTextHasTokens }
     ensures derives { ShownTextDerives }
@@ -76,4 +77,5 @@ pub fn shown_text_is_read_again()
     tree_is_unique();
     reading_meets_grammar();
     nestings_may_be_fewer();
+    faults_are_exact();
 }

@@ -1,5 +1,5 @@
 -- A source is refused for one reason, or it is a program, and not both.
-use Rattle.std.proofs.Common.{◌≡◌, ◌<◌, ◌≤◌, ◌^◌, ℕ, List, length, Err, refl, ap, subst, arith}
+use Rattle.std.proofs.Common.{◌≡◌, ◌<◌, ◌≤◌, ◌^◌, ℕ, List, length, refl, ap, subst, arith}
 use Rattle.setl_token.specs.Lex.{Spelled, LexFails}
 use Rattle.setl_token.specs.declared.Cause.{Cause}
 use Rattle.setl_token.specs.declared.Cause.TheVariants as cause
@@ -7,9 +7,8 @@ use Rattle.setl_token.specs.declared.Token.{Token}
 use Rattle.setl_tree.specs.Programs as grammar
 use Rattle.setl_tree.specs.declared.tree.Tree.{Tree}
 use Rattle.setl_reading.specs.Claims.{TreeIsUnique}
-use Rattle.setl_reading.specs.ReadPrograms as reading
 use Rattle.setl_expressions.specs.Plain.{plain_tokens}
-use Rattle.setl_parse.specs.Places.{outcome_of}
+use Rattle.setl_parse.specs.Places.{FaultIsUnique, ProgramsHaveNoFault, IsFaultOf}
 use Rattle.setl_parse.specs.declared.fault.ParseFault.{ParseFault}
 use Rattle.setl_parse.specs.declared.fault.ParseFault.TheVariants as fault
 use Rattle.setl_names.specs.Breaks.{first_break, break_at}
@@ -25,6 +24,8 @@ pub record FrontLaws : Type 0 where
   pub not_both : (source : List ℕ) (ts : List Token) (why : Cause) (place : ℕ) → Spelled source ts → LexFails source why place → ⊥
   pub one_fault : (source : List ℕ) (c d : Cause) (i j : ℕ) → LexFails source c i → LexFails source d j → (c ≡ d) × (i ≡ j)
   pub one_tree : TreeIsUnique
+  pub one_place : FaultIsUnique
+  pub no_fault : ProgramsHaveNoFault
 
 -- the tokens of a source derive this tree
 abbrev Derived : List ℕ → List Token → Tree → Type 0
@@ -77,7 +78,7 @@ not_unspelled laws source ts why place s u = laws.not_both source ts why place s
 
 not_unparsed : FrontLaws → (source : List ℕ) (tree : Tree) (stop : ParseFault) → IsParsed source tree → IsUnparsed source stop → ⊥
 not_unparsed laws source tree stop p u =
-    u.none tree (subst (λ ts. Derived source ts tree) (laws.one_spelling source p.tokens u.tokens p.spelled u.spelled) p.derived)
+    laws.no_fault (lexed source u.tokens) tree stop (subst (λ ts. Derived source ts tree) (laws.one_spelling source p.tokens u.tokens p.spelled u.spelled) p.derived) u.fault
 
 not_unsound : FrontLaws → (source : List ℕ) (tree : Tree) (broken : Break) → IsProgram source tree → IsUnsound source broken → ⊥
 not_unsound laws source tree broken p u =
@@ -101,9 +102,7 @@ not_refused laws source r h = not_at_stage laws source r (stage source r h)
 one_stop : FrontLaws → (source : List ℕ) (s t : ParseFault) → IsUnparsed source s → IsUnparsed source t → s ≡ t
 one_stop laws source s t a b =
     let tokens = laws.one_spelling source b.tokens a.tokens b.spelled a.spelled in
-    let other = subst (λ ts. outcome_of (lexed source ts) (reading.program 200 (plain_tokens (lexed source ts))) ≡ Err t) tokens b.stops in
-    let mine = a.stops in
-    cc
+    laws.one_place (lexed source a.tokens) s t a.fault (subst (λ ts. IsFaultOf (lexed source ts) t) tokens b.fault)
 
 one_break : FrontLaws → (source : List ℕ) (s t : Break) → IsUnsound source s → IsUnsound source t → s ≡ t
 one_break laws source s t a b =

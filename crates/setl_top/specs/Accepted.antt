@@ -1,5 +1,5 @@
 -- Which sources are programs, and which line tells that one isn't.
-use Rattle.std.specs.Prelude.{◌≡◌, ◌<◌, ◌≤◌, ◌^◌, ℕ, List, length, Some, None, Err}
+use Rattle.std.specs.Prelude.{◌≡◌, ◌<◌, ◌≤◌, ◌^◌, ℕ, List, length, Some, None}
 use Rattle.setl_token.specs.Lex.{Spelled, LexFails}
 use Rattle.setl_token.specs.Text.{Lexed}
 use Rattle.setl_token.specs.declared.Cause.{Cause}
@@ -7,9 +7,8 @@ use Rattle.setl_token.specs.declared.Cause.TheVariants as cause
 use Rattle.setl_token.specs.declared.Token.{Token}
 use Rattle.setl_tree.specs.Programs as grammar
 use Rattle.setl_tree.specs.declared.tree.Tree.{Tree}
-use Rattle.setl_reading.specs.ReadPrograms as reading
 use Rattle.setl_expressions.specs.Plain.{plain_tokens}
-use Rattle.setl_parse.specs.Places.{outcome_of, IsPlaced}
+use Rattle.setl_parse.specs.Places.{IsFaultOf}
 use Rattle.setl_parse.specs.declared.fault.ParseFault.{ParseFault}
 use Rattle.setl_parse.specs.declared.fault.ParseFault.TheVariants as fault
 use Rattle.setl_names.specs.Breaks.{first_break, break_at}
@@ -52,17 +51,13 @@ pub record IsUnspelled (source : List ℕ) (cause : Cause) (place : ℕ) : Type 
   pub short : length source ≤ 2 ^ 24
   pub fails : LexFails source cause place
 
--- The source has at most 2^24 bytes and is spelled by tokens that derive no tree within 200 nestings, and reading them
--- from left to right stops with this fault. One of syntax is where the tokens go wrong: those before its place begin a
--- program, and with the token there they begin none. At one of nesting some program begins with the tokens up to and with
--- the one there, and none within 200 nestings does.
+-- The source has at most 2^24 bytes and is spelled by tokens that have this fault: of syntax at the first with which those
+-- so far begin no program, or of nesting at the first that opens a nesting inside 200 others, whichever stands first.
 pub record IsUnparsed (source : List ℕ) (stop : ParseFault) : Type 0 where
   pub short : length source ≤ 2 ^ 24
   pub tokens : List Token
   pub spelled : Spelled source tokens
-  pub none : (tree : Tree) → grammar.program 200 (plain_tokens (lexed source tokens)) tree → ⊥
-  pub stops : outcome_of (lexed source tokens) (reading.program 200 (plain_tokens (lexed source tokens))) ≡ Err stop
-  pub placed : IsPlaced (lexed source tokens) stop
+  pub fault : IsFaultOf (lexed source tokens) stop
 
 -- the source has a tree, and this is the first of its breaks, by line and then by rule
 pub record IsUnsound (source : List ℕ) (broken : Break) : Type 0 where

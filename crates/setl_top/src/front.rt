@@ -57,7 +57,6 @@ fn parsed(alloc: Global, list: &TokenList) -> Result<Tree, Unread>
     ensures tree { IfOk result (IsParsed list.now.source) }
     ensures why { IfErr result (TellsWhy list.now.source) }
 {
-    setl_parse::stops_are_placed();
     match parse(alloc, list) {
         Ok(tree) => Ok(tree),
         Err(ParseFault::Syntax { at }) => Err(Unread::Refused(Reason::Syntax { at })),

@@ -18,6 +18,7 @@ pub fn refused_exactly()
     setl_words::one_command();
     setl_token::lexing_is_determined();
     setl_reading::tree_is_unique();
+    setl_parse::one_fault();
 }
 
 /// Where the texts are told, a check that came to its end is done exactly where the source is a program; the
@@ -28,6 +29,7 @@ pub fn checks_exactly()
     setl_words::one_command();
     setl_token::lexing_is_determined();
     setl_reading::tree_is_unique();
+    setl_parse::one_fault();
 }
 
 /// Where the texts are told, a listing that came to its end is done exactly where the source is a program; the
@@ -39,6 +41,7 @@ pub fn lists_exactly()
     setl_words::one_command();
     setl_token::lexing_is_determined();
     setl_reading::tree_is_unique();
+    setl_parse::one_fault();
 }
 
 /// Where the texts and the input are told and the program ends so, a call that came to its end has that end's status,
@@ -49,6 +52,7 @@ pub fn ends_exactly()
     setl_words::one_command();
     setl_token::lexing_is_determined();
     setl_reading::tree_is_unique();
+    setl_parse::one_fault();
     setl_model::one_meaning();
 }
 

@@ -1,6 +1,7 @@
 use Rattle.std.proofs.Common.{◌≡◌, ℕ, ◌+◌, [], Ok, refl, sym, ap, subst, ◌∙◌, arith, inl, inr}
 use Rattle.setl_tree.specs.Canonical.{canonical}
 use Rattle.setl_tree.specs.Tokens.{Tokens}
+use Rattle.setl_reading.specs.declared.fault.Fault.TheVariants.{Nesting}
 use Rattle.setl_reading.specs.ReadPrograms as reading
 use Rattle.setl_show.specs.Text.{text_of}
 use Rattle.setl_expressions.specs.Plain.{plain_tokens}
@@ -26,8 +27,8 @@ returns c =
     let most : ℕ = room + d.derived.0 in
     let read : reading.program most toks ≡ Ok (d.it, []) = c.reading_meets_grammar.ensures.complete most toks d.it (c.tree_is_unique.ensures.more d.derived.0 most toks d.it (omega arith) d.derived.1) in
     elim (c.nestings_may_be_fewer.ensures room most toks (omega arith)) [
-      | inl same ↦ inl (d.it, same ∙ read, d.same)
-      | inr deep ↦ inr deep
+      | inl same ↦ inl (d.it, c.reading_meets_grammar.ensures.sound room toks d.it (same ∙ read), d.same)
+      | inr deep ↦ inr (deep.0, c.faults_are_exact.ensures.fault room toks (Nesting deep.0) deep.1)
     ] in
     let stays : ShownTextStays = λ l shown tree other h s o.
     sym (c.same_trees_are_shown_alike.ensures tree other (no_other l shown tree other h s o)) ∙ sym s.text in

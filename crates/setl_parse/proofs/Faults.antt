@@ -1,0 +1,23 @@
+-- The faults that are told.
+use Rattle.std.proofs.Common.{◌≡◌, ◌<◌, [], ◌∷◌, length, Ok, sym, ap, subst, ◌∙◌, arith}
+use Rattle.setl_tree.specs.declared.tree.Tree.{Tree}
+use Rattle.setl_tree.specs.Tokens.{Tokens}
+use Rattle.setl_reading.specs.declared.fault.Fault.{Fault}
+use Rattle.setl_reading.specs.declared.fault.Fault.TheVariants as left
+use Rattle.setl_reading.specs.Claims.{FaultIsUnique, ProgramsHaveNoFault, LeftoverIsExact}
+use Rattle.setl_reading.specs.Fronts.{FaultOf}
+use Rattle.setl_reading.specs.ReadPrograms as reading
+use Rattle.setl_expressions.specs.Plain.{plain_tokens}
+use Rattle.setl_parse.specs.Places.{fault_of}
+use Rattle.setl_parse.specs.Places as places
+
+pub fault_is_unique : FaultIsUnique → places.FaultIsUnique
+fault_is_unique law l one two a b = a.2 ∙ ap (fault_of l) (law 200 (plain_tokens l) a.0 b.0 a.1 b.1) ∙ sym b.2
+
+pub programs_have_no_fault : ProgramsHaveNoFault → places.ProgramsHaveNoFault
+programs_have_no_fault law l tree fault derived h = law 200 (plain_tokens l) tree h.0 derived h.1
+
+-- tokens are left
+pub leftover : LeftoverIsExact → (toks : Tokens) (tree : Tree) (rest : Tokens) (e : Fault) → e ≡ left.Syntax (length rest) → reading.program 200 toks ≡ Ok (tree, rest) → 0 < length rest → FaultOf 200 toks e
+leftover law toks tree [] e is read some = absurd (omega (arith, some))
+leftover law toks tree (t ∷ rest) e is read some = subst (λ e. FaultOf 200 toks e) (sym is) (law 200 toks tree t rest read)
