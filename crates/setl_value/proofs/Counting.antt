@@ -1,5 +1,5 @@
 -- What is kept beside the pages of a set, after a change.
-use Rattle.std.specs.Prelude.{◌≡◌, ℕ, suc, ◌+◌, ◌-◌, ◌<◌, ◌≤◌, List, [], ◌∷◌, ◌++◌, Some, length, take, drop, max, slice_get, slice_range, is_some}
+use Rattle.std.specs.Prelude.{◌≡◌, ℕ, suc, ◌+◌, ◌-◌, ◌<◌, ◌≤◌, List, [], ◌∷◌, ◌++◌, Some, length, take, drop, max, slice_get, slice_range}
 use Rattle.std.specs.List.{AllByRecursion, insert, remove}
 use Rattle.std.proofs.Common.{arith, ap, sym, ◌∙◌, subst, length-append}
 use Rattle.std.proofs.lemmas.List.{length-take, length-drop}
@@ -8,7 +8,7 @@ use Rattle.setl_value.specs.Counted.{IsCounted}
 use Rattle.setl_value.specs.Datum.{Datum, depth, set_of}
 use Rattle.setl_value.specs.Exchange.{Exchanges}
 use Rattle.setl_value.specs.Order.{IsRising}
-use Rattle.setl_value.specs.Pairs.{other_count, pair_parts}
+use Rattle.setl_value.specs.Pairs.{other_count}
 use Rattle.setl_value.specs.Places.{page_at, rank_in}
 use Rattle.setl_value.specs.WellFormed.{IsValue, IsSetList, IsWellFormed}
 use Rattle.setl_value.proofs.Bodies.{replaced, set_insert, set_remove, set_replaced, depth_insert, depth_drop, depth_exchanged}

@@ -1,5 +1,5 @@
 -- Searching a rising list by halving.
-use Rattle.std.specs.Prelude.{◌≡◌, ◌⊎◌, ℕ, zero, suc, ◌+◌, ◌<◌, ◌≤◌, Bool, true, false, List, [], ◌∷◌, Option, Some, None, refl, take, drop, length, slice_get}
+use Rattle.std.specs.Prelude.{◌≡◌, ◌⊎◌, ℕ, zero, suc, ◌+◌, ◌<◌, ◌≤◌, true, false, List, [], ◌∷◌, Option, Some, None, refl, take, drop, length, slice_get}
 use Rattle.std.specs.List.{AllByRecursion}
 use Rattle.std.specs.List.Sorted.{IsStrictlySortedBy}
 use Rattle.std.specs.declared.cmp.Ordering.{Ordering}
@@ -11,7 +11,7 @@ use Rattle.std.proofs.lemmas.Bool.{true≢false, false≢true}
 use Rattle.std.proofs.lemmas.Option.{none-some}
 use Rattle.setl_value.specs.Datum.{Datum, part_then, no_part, parts_of}
 use Rattle.setl_value.specs.Order.{datum_cmp, parts_cmp, IsRising}
-use Rattle.setl_value.specs.OrderLaws.{datum_cmp_total, same_datum}
+use Rattle.setl_value.specs.OrderLaws.{datum_cmp_total}
 use Rattle.setl_value.specs.Places.{IsPlace, IsBound, IsBetween}
 use Rattle.setl_value.proofs.Bodies.{all_at}
 

@@ -2,7 +2,7 @@
 use Rattle.std.specs.Prelude.{◌≡◌, ℕ, zero, suc, ◌+◌, ◌≤◌, ◌==◌, ◌-◌, Bool, true, false, ◌&&◌, cond, List, [], ◌∷◌, Option, Some, None, slice_get, slice_range, length, is_some, refl}
 use Rattle.std.specs.Option.{unwrap_or}
 use Rattle.std.specs.List.{insert, remove}
-use Rattle.std.proofs.Common.{arith, ap, sym, ◌∙◌, ◌<◌, ◌++◌, take, drop, zero-add, get_or}
+use Rattle.std.proofs.Common.{arith, ap, ◌∙◌, ◌<◌, ◌++◌, take, drop, zero-add, get_or}
 use Rattle.std.specs.Prelude.{map}
 use Rattle.std.proofs.lemmas.List.{map-append, take_more}
 use Rattle.setl_value.specs.declared.Value.{Value}

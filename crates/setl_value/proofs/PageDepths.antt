@@ -1,6 +1,6 @@
 -- The depth of a set by its pages.
-use Rattle.std.specs.Prelude.{◌≡◌, ◌+◌, List, [], ◌∷◌, ◌++◌, map, max}
-use Rattle.std.proofs.Common.{arith, ap, sym, ◌∙◌}
+use Rattle.std.specs.Prelude.{◌≡◌, List, [], ◌∷◌, ◌++◌, map, max}
+use Rattle.std.proofs.Common.{arith, ap}
 use Rattle.std.proofs.lemmas.List.{map-append, append-nil}
 use Rattle.setl_value.specs.declared.Value.{Value}
 use Rattle.setl_value.specs.Body.{joined}

@@ -1,5 +1,5 @@
 -- Pages one after the other: where a place of a page stands among all members, and what a change of some pages does.
-use Rattle.std.specs.Prelude.{◌≡◌, ◌⊎◌, ℕ, zero, suc, ◌+◌, ◌-◌, ◌<◌, ◌≤◌, List, [], ◌∷◌, ◌++◌, Option, Some, None, min, length, take, drop, map, refl, slice_get, slice_index_or, slice_set}
+use Rattle.std.specs.Prelude.{◌≡◌, ℕ, zero, suc, ◌+◌, ◌-◌, ◌<◌, ◌≤◌, List, [], ◌∷◌, ◌++◌, Some, None, min, length, take, drop, map, refl, slice_get, slice_index_or, slice_set}
 use Rattle.std.specs.List.{AllByRecursion, AllZip}
 use Rattle.std.proofs.Common.{arith, ap, sym, ◌∙◌, subst, length-append}
 use Rattle.std.proofs.lemmas.List.{append-nil, append_assoc, drop-append-le, take-append-le, length-map, length-take, length-drop}
@@ -12,7 +12,7 @@ use Rattle.setl_value.specs.Body.{Body, joined, IsPage}
 use Rattle.setl_value.specs.Datum.{Datum}
 use Rattle.setl_value.specs.DatumOf.{datum, page}
 use Rattle.setl_value.specs.Exchange.{Exchanges}
-use Rattle.setl_value.specs.Places.{page_at, IsIn, rank_in}
+use Rattle.setl_value.specs.Places.{page_at, rank_in}
 use Rattle.setl_value.proofs.Bodies.{replaced, map-replaced, all_take, all_drop, all_append}
 
 take_none : {X : Type 0} (n : ℕ) → ◌≡◌ {A = List X} (take n []) []

@@ -1,5 +1,5 @@
 -- A set's body as contracts see it: its members in pages. Only `Members` and the definitions of places read its field.
-use Rattle.std.specs.Prelude.{ℕ, ◌≤◌, List, [], ◌∷◌, ◌++◌, length, refl}
+use Rattle.std.specs.Prelude.{◌≤◌, List, [], ◌∷◌, ◌++◌, length, refl}
 use Rattle.std.specs.Coded.{Coded, code_by, coded_list}
 use Rattle.setl_value.specs.Datum.{Datum}
 use Rattle.setl_value.specs.DatumCode.{coded_datum}

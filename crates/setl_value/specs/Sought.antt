@@ -1,5 +1,4 @@
 -- What is sought among the members of a set.
-use Rattle.std.specs.Borrow.{Bor}
 use Rattle.setl_value.specs.declared.places.Sought.{Sought}
 use Rattle.setl_value.specs.declared.places.Sought.TheVariants.{Member, Point}
 use Rattle.setl_value.specs.Datum.{Datum}

@@ -1,6 +1,6 @@
-use Rattle.std.proofs.Common.{◌≡◌, ap, arith, sym, subst, map, length}
+use Rattle.std.proofs.Common.{sym, subst, map}
 use Rattle.setl_value.specs.Body.{Members, joined}
-use Rattle.setl_value.specs.DatumOf.{datum, page}
+use Rattle.setl_value.specs.DatumOf.{page}
 use Rattle.setl_value.specs.Order.{IsRising}
 use Rattle.setl_value.specs.Places.{IsBound, page_at, rank, rank_in}
 use Rattle.setl_value.specs.Sought.{sought}

@@ -1,4 +1,4 @@
-use Rattle.std.proofs.Common.{arith, length, ◌<◌, ◌≡◌, ◌≤◌, ◌-◌, ◌+◌, [], ap, ◌∙◌, sym, subst, map, slice_get, Some}
+use Rattle.std.proofs.Common.{arith, length, ◌<◌, ◌≡◌, ◌-◌, ap, ◌∙◌, sym, subst, map, slice_get, Some}
 use Rattle.std.specs.List.{remove}
 use Rattle.setl_value.proofs.Counting.{cut_joined, cut_counted}
 use Rattle.setl_value.proofs.Depths.{set_without}
@@ -7,7 +7,6 @@ use Rattle.setl_value.proofs.Paging.{member_of}
 use Rattle.setl_value.specs.Body.{Members, joined}
 use Rattle.setl_value.specs.Datum.{depth, set_of}
 use Rattle.setl_value.specs.DatumOf.{datum, page}
-use Rattle.setl_value.specs.Exchange.{Exchanges}
 use Rattle.setl_value.specs.Places.{HasPlace, page_at, rank, rank_in}
 use Rattle.setl_value.proofs.Pages.cut_in.Goals as goal
 

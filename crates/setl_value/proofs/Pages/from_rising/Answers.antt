@@ -1,4 +1,4 @@
-use Rattle.std.proofs.Common.{◌≡◌, arith, ap, ◌∙◌, sym, subst, map, length}
+use Rattle.std.proofs.Common.{arith, ap, ◌∙◌, sym, subst, map, length}
 use Rattle.std.specs.List.{AllByRecursion}
 use Rattle.std.proofs.lemmas.List.{length-map}
 use Rattle.setl_value.proofs.Bodies.{set_from}

@@ -1,5 +1,5 @@
-use Rattle.std.proofs.Common.{arith, ◌≡◌, ◌≤◌, ◌+◌, ap, ◌∙◌, sym, subst, map}
-use Rattle.std.specs.Prelude.{is_some, length}
+use Rattle.std.proofs.Common.{arith, ◌≤◌, ◌+◌, ap, ◌∙◌, sym, subst, map}
+use Rattle.std.specs.Prelude.{is_some}
 use Rattle.std.specs.List.{insert}
 use Rattle.setl_value.proofs.Counting.{put_joined, put_counted}
 use Rattle.setl_value.proofs.Others.{counted_at_most_length, at_most_one}

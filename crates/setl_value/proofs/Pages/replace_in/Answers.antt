@@ -1,17 +1,16 @@
-use Rattle.std.proofs.Common.{arith, ◌≡◌, ◌≤◌, ◌<◌, ◌-◌, ◌+◌, ◌++◌, ◌⊎◌, ℕ, [], List, ap, ◌∙◌, sym, subst, map, length, take, drop, inl, inr}
-use Rattle.std.specs.Prelude.{max, slice_range}
+use Rattle.std.proofs.Common.{arith, ◌≡◌, ◌≤◌, ◌-◌, ◌+◌, ap, ◌∙◌, sym, subst, map, length, take, drop}
 use Rattle.std.specs.List.{AllByRecursion}
 use Rattle.std.proofs.lemmas.List.{length-map}
-use Rattle.setl_value.proofs.Bodies.{replaced, depth_exchanged, depth_replaced}
+use Rattle.setl_value.proofs.Bodies.{replaced, depth_replaced}
 use Rattle.setl_value.proofs.Counting.{part_counted, gone_few, gone_shallow, others_fit, depth_left}
 use Rattle.setl_value.proofs.Paging.{exchanged_between}
 use Rattle.setl_value.specs.Body.{Members, joined}
-use Rattle.setl_value.specs.Datum.{Datum, depth, set_of}
+use Rattle.setl_value.specs.Datum.{depth, set_of}
 use Rattle.setl_value.specs.DatumOf.{datum, page}
 use Rattle.setl_value.specs.Order.{IsRising}
 use Rattle.setl_value.specs.Pairs.{other_count}
 use Rattle.setl_value.specs.Places.{HasPlace, page_at, rank, rank_in}
-use Rattle.setl_value.specs.WellFormed.{IsSetList, IsWellFormed}
+use Rattle.setl_value.specs.WellFormed.{IsWellFormed}
 use Rattle.setl_value.proofs.Pages.replace_in.Goals as goal
 
 pub leaving-gone-requires : goal.leaving-gone-requires

@@ -1,14 +1,11 @@
-use Rattle.std.proofs.Common.{◌≡◌, ◌∙◌, ap, sym, slice_get, Some}
+use Rattle.std.proofs.Common.{◌∙◌, ap, sym, Some}
 use Rattle.std.specs.Ordering.{is_eq}
-use Rattle.std.specs.Option.{option_map}
 use Rattle.setl_value.specs.Body.{Members}
-use Rattle.setl_value.specs.Datum.{Datum}
 use Rattle.setl_value.specs.DatumOf.{datum}
-use Rattle.setl_value.specs.Order.{datum_cmp}
 use Rattle.setl_value.specs.OrderLaws.{same_if_eq}
 use Rattle.setl_value.specs.Places.{rank}
 use Rattle.setl_value.proofs.Bodies.{set_facts}
-use Rattle.setl_value.proofs.Halving.{absent_there, absent_behind}
+use Rattle.setl_value.proofs.Halving.{absent_there}
 use Rattle.setl_value.proofs.SetBody.search.Goals as goal
 
 pub returns-then-is_eq-clause-found : goal.returns-then-is_eq-clause-found

@@ -1,4 +1,4 @@
-use Rattle.std.proofs.Common.{arith, ◌≡◌, ◌+◌, length, map, ap, ◌∙◌, sym, subst, [], ◌∷◌}
+use Rattle.std.proofs.Common.{arith, ◌≡◌, ◌+◌, length, map, ap, ◌∙◌, subst, [], ◌∷◌}
 use Rattle.std.proofs.lemmas.List.{length-map}
 use Rattle.std.proofs.lemmas.Result.{on_ok_weaker}
 use Rattle.setl_value.specs.DatumOf.{datum, page}

@@ -5,7 +5,7 @@ use Rattle.std.proofs.lemmas.Option.{slice_get-map}
 use Rattle.setl_value.specs.DatumOf.{datum}
 use Rattle.setl_value.specs.Sought.{sought}
 use Rattle.setl_value.proofs.Bodies.{member_there}
-use Rattle.setl_value.proofs.Halving.{raised, lowered, all_between, bound_between}
+use Rattle.setl_value.proofs.Halving.{raised, lowered}
 use Rattle.setl_value.proofs.places.bound_in.Goals as goal
 
 pub loop-low-preserved-then-is_below : goal.loop-low-preserved-then-is_below

@@ -1,4 +1,4 @@
-use Rattle.std.proofs.Common.{◌≡◌, ◌<◌, ◌≤◌, ◌+◌, ◌-◌, ◌⊎◌, map, length}
+use Rattle.std.proofs.Common.{◌≡◌, ◌<◌, ◌≤◌, ◌-◌, ◌⊎◌, map, length}
 use Rattle.setl_value.specs.Body.{joined}
 use Rattle.setl_value.specs.DatumOf.{page}
 use Rattle.setl_value.specs.Places.{IsBetween, rank_in}
