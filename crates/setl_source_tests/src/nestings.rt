@@ -1,187 +1,61 @@
 //! The limit of nestings.
 
 use crate::reading::outcome;
-use std::alloc::Global;
+use std::alloc::{AllocError, Global};
 use std::test::Fail;
 
-/// A program with so many nestings inside one another.
-struct Nestings {
-    head: &'static str,
-    open: &'static str,
-    middle: &'static str,
-    close: &'static str,
-    tail: &'static str,
-    /// The outcome where no more than 200 nestings are open.
-    parsed: &'static str,
-    /// The outcome where 201 are.
-    refused: &'static str,
+/// Programs with nestings inside one another, a line each: the head, what opens a nesting, the middle, what closes a
+/// nesting, and the tail; the outcome where no more than 200 nestings are open, and where 201 are.
+const NESTINGS: &str = "program p; x := ~(~1~)~; end;~0 0 1 0~Nesting { at: 216 }
+program p; x := ~{~1~}~; end;~0 0 1 0~Nesting { at: 216 }
+program p; x := ~[~1~]~; end;~0 0 1 0~Nesting { at: 216 }
+program p; x := ~f(~1~)~; end;~0 0 1 0~Nesting { at: 417 }
+program p; x := ~f{~1~}~; end;~0 0 1 0~Nesting { at: 417 }
+program p; x := ~if a then ~1~ else 1 end~; end;~0 0 1 0~Nesting { at: 2016 }
+program p; x := ~exists y in s | ~1~~; end;~0 0 1 0~Nesting { at: 3216 }
+program p; ~(while a) ~pass; ~end; ~end;~0 0 1 0~Nesting { at: 2011 }
+program p; ~(for x in s) ~~end; ~end;~0 0 1 0~Nesting { at: 2611 }
+program p; ~if a then ~~end; ~end;~0 0 1 0~Nesting { at: 2011 }
+program p; repr x : ~set(~int~)~; end; end;~0 1 0 0~Nesting { at: 823 }
+program p; repr x : ~tuple(~int~)~; end; end;~0 1 0 0~Nesting { at: 1225 }
+program p; repr x : ~smap(int) ~int~~; end; end;~0 1 0 0~Nesting { at: 2024 }
+program p; repr x : ~mmap{~int~} int~; end; end;~0 1 0 0~Nesting { at: 1024 }";
+
+/// The seven fields of a row.
+fn fields(row: &str) -> [&str; 7] {
+    let mut all = row.split('~');
+    [
+        all.next().unwrap_or(""),
+        all.next().unwrap_or(""),
+        all.next().unwrap_or(""),
+        all.next().unwrap_or(""),
+        all.next().unwrap_or(""),
+        all.next().unwrap_or(""),
+        all.next().unwrap_or(""),
+    ]
 }
 
-impl Nestings {
-    fn source(&self, alloc: Global, count: usize) -> Result<String, Fail> {
-        let mut text = String::new(alloc);
-        text.push_str(self.head)?;
-        for _ in 0..count {
-            text.push_str(self.open)?;
-        }
-        text.push_str(self.middle)?;
-        for _ in 0..count {
-            text.push_str(self.close)?;
-        }
-        text.push_str(self.tail)?;
-        Ok(text)
-    }
-
-    fn wanted(&self, count: usize) -> &'static str {
-        if count > 200 {
-            self.refused
-        } else {
-            self.parsed
-        }
-    }
+/// The program of a row with so many nestings.
+fn source(alloc: Global, row: &str, count: usize) -> Result<String, AllocError> {
+    let [head, open, middle, close, tail, ..] = fields(row);
+    let opened = open.repeat(alloc, count)?;
+    let closed = close.repeat(alloc, count)?;
+    format!(in alloc; "{head}{opened}{middle}{closed}{tail}")
 }
 
-const NESTINGS: [Nestings; 14] = [
-    Nestings {
-        head: "program p; x := ",
-        open: "(",
-        middle: "1",
-        close: ")",
-        tail: "; end;",
-        parsed: "0 0 1 0",
-        refused: "Nesting { at: 216 }",
-    },
-    Nestings {
-        head: "program p; x := ",
-        open: "{",
-        middle: "1",
-        close: "}",
-        tail: "; end;",
-        parsed: "0 0 1 0",
-        refused: "Nesting { at: 216 }",
-    },
-    Nestings {
-        head: "program p; x := ",
-        open: "[",
-        middle: "1",
-        close: "]",
-        tail: "; end;",
-        parsed: "0 0 1 0",
-        refused: "Nesting { at: 216 }",
-    },
-    Nestings {
-        head: "program p; x := ",
-        open: "f(",
-        middle: "1",
-        close: ")",
-        tail: "; end;",
-        parsed: "0 0 1 0",
-        refused: "Nesting { at: 417 }",
-    },
-    Nestings {
-        head: "program p; x := ",
-        open: "f{",
-        middle: "1",
-        close: "}",
-        tail: "; end;",
-        parsed: "0 0 1 0",
-        refused: "Nesting { at: 417 }",
-    },
-    Nestings {
-        head: "program p; x := ",
-        open: "if a then ",
-        middle: "1",
-        close: " else 1 end",
-        tail: "; end;",
-        parsed: "0 0 1 0",
-        refused: "Nesting { at: 2016 }",
-    },
-    Nestings {
-        head: "program p; x := ",
-        open: "exists y in s | ",
-        middle: "1",
-        close: "",
-        tail: "; end;",
-        parsed: "0 0 1 0",
-        refused: "Nesting { at: 3216 }",
-    },
-    Nestings {
-        head: "program p; ",
-        open: "(while a) ",
-        middle: "pass; ",
-        close: "end; ",
-        tail: "end;",
-        parsed: "0 0 1 0",
-        refused: "Nesting { at: 2011 }",
-    },
-    Nestings {
-        head: "program p; ",
-        open: "(for x in s) ",
-        middle: "",
-        close: "end; ",
-        tail: "end;",
-        parsed: "0 0 1 0",
-        refused: "Nesting { at: 2611 }",
-    },
-    Nestings {
-        head: "program p; ",
-        open: "if a then ",
-        middle: "",
-        close: "end; ",
-        tail: "end;",
-        parsed: "0 0 1 0",
-        refused: "Nesting { at: 2011 }",
-    },
-    Nestings {
-        head: "program p; repr x : ",
-        open: "set(",
-        middle: "int",
-        close: ")",
-        tail: "; end; end;",
-        parsed: "0 1 0 0",
-        refused: "Nesting { at: 823 }",
-    },
-    Nestings {
-        head: "program p; repr x : ",
-        open: "tuple(",
-        middle: "int",
-        close: ")",
-        tail: "; end; end;",
-        parsed: "0 1 0 0",
-        refused: "Nesting { at: 1225 }",
-    },
-    Nestings {
-        head: "program p; repr x : ",
-        open: "smap(int) ",
-        middle: "int",
-        close: "",
-        tail: "; end; end;",
-        parsed: "0 1 0 0",
-        refused: "Nesting { at: 2024 }",
-    },
-    Nestings {
-        head: "program p; repr x : ",
-        open: "mmap{",
-        middle: "int",
-        close: "} int",
-        tail: "; end; end;",
-        parsed: "0 1 0 0",
-        refused: "Nesting { at: 1024 }",
-    },
-];
+/// The outcome that is wanted of it.
+fn wanted(row: &str, count: usize) -> &str {
+    let [.., parsed, refused] = fields(row);
+    if count > 200 { refused } else { parsed }
+}
 
 #[test]
 fn opens_two_hundred_nestings(rt: HostRuntime) -> Result<(), Fail> {
-    for nestings in &NESTINGS {
+    for row in NESTINGS.lines() {
         for count in 199..202 {
-            let source = nestings.source(rt.alloc(), count)?;
+            let source = source(rt.alloc(), row, count)?;
             let text = outcome(rt.alloc(), source.as_str())?;
-            assert_eq!(rt;
-                text.as_str(),
-                nestings.wanted(count),
-                "at {count} of {}",
-                nestings.open
-            );
+            assert_eq!(rt; text.as_str(), wanted(row, count), "{count} of {row}");
         }
     }
     Ok(())

@@ -27,41 +27,45 @@ fn shown(alloc: Global, source: &str) -> Result<String, Fail> {
     Ok(text)
 }
 
+/// Sources, and their tokens with their kinds, places and lines, or their faults. A line `====` stands between two rows.
+const SOURCES: &str = " =>\x20
+====
+x:=1; => Name 0 1 1;Sign 1 3 1;Number(1) 3 4 1;Sign 4 5 1;
+====
+ $ a comment: 'È' .  =>\x20
+====
+IF x_1
+\tNotExists$c
+
+ifs => Word 0 2 1;Name 3 6 1;Word 8 17 2;Name 21 24 4;
+====
+12abc => Number(12) 0 2 1;Name 2 5 1;
+====
+'it''s' ''x'È' => Str 0 7 1;Str 8 10 1;Name 10 11 1;Str 11 15 1;
+====
+..:=/=<=>= => Sign 0 2 1;Sign 2 4 1;Sign 4 6 1;Sign 6 8 1;Sign 8 10 1;
+====
+**:<>= => Sign 0 2 1;Sign 2 3 1;Sign 3 4 1;Sign 4 6 1;
+====
+1..2 => Number(1) 0 1 1;Sign 1 3 1;Number(2) 3 4 1;
+====
+170141183460469231731687303715884105727 => Number(170141183460469231731687303715884105727) 0 39 1;
+====
+a . b => Byte { at: 2 }
+====
+x È => Byte { at: 2 }
+====
+x := 'ab => OpenString { at: 5 }
+====
+'ab''
+' => OpenString { at: 0 }
+====
+- 170141183460469231731687303715884105728 ? => WideNumber { at: 2 }";
+
 #[test]
 fn finds_the_tokens_of_a_source(rt: HostRuntime) -> Result<(), Fail> {
-    let table = [
-        ("", ""),
-        ("x:=1;", "Name 0 1 1;Sign 1 3 1;Number(1) 3 4 1;Sign 4 5 1;"),
-        (" $ a comment: 'È' . ", ""),
-        (
-            "IF x_1\n\tNotExists$c\n\nifs",
-            "Word 0 2 1;Name 3 6 1;Word 8 17 2;Name 21 24 4;",
-        ),
-        ("12abc", "Number(12) 0 2 1;Name 2 5 1;"),
-        (
-            "'it''s' ''x'È'",
-            "Str 0 7 1;Str 8 10 1;Name 10 11 1;Str 11 15 1;",
-        ),
-        (
-            "..:=/=<=>=",
-            "Sign 0 2 1;Sign 2 4 1;Sign 4 6 1;Sign 6 8 1;Sign 8 10 1;",
-        ),
-        ("**:<>=", "Sign 0 2 1;Sign 2 3 1;Sign 3 4 1;Sign 4 6 1;"),
-        ("1..2", "Number(1) 0 1 1;Sign 1 3 1;Number(2) 3 4 1;"),
-        (
-            "170141183460469231731687303715884105727",
-            "Number(170141183460469231731687303715884105727) 0 39 1;",
-        ),
-        ("a . b", "Byte { at: 2 }"),
-        ("x È", "Byte { at: 2 }"),
-        ("x := 'ab", "OpenString { at: 5 }"),
-        ("'ab''\n'", "OpenString { at: 0 }"),
-        (
-            "- 170141183460469231731687303715884105728 ?",
-            "WideNumber { at: 2 }",
-        ),
-    ];
-    for (source, want) in table {
+    for row in SOURCES.split("\n====\n") {
+        let (source, want) = row.split_once(" => ").unwrap_or((row, ""));
         let text = shown(rt.alloc(), source)?;
         assert_eq!(rt; text.as_str(), want, "at {source}");
     }
