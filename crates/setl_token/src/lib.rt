@@ -15,8 +15,8 @@ mod spellings;
 
 pub use laws::{blank_ends_token, lexing_is_determined, piece_at_is_longest};
 use pieces::{PieceKind, cut};
-pub use spellings::{spelled_kind, spelling};
 use spellings::reads_as;
+pub use spellings::{spelled_kind, spelling};
 use std::alloc::{AllocError, AllocFailed, Global};
 use std::marker::Model;
 use thiserror::Error;
