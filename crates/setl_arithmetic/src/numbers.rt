@@ -1,12 +1,12 @@
 //! The arithmetic operators, some of which serve sets, tuples and strings too.
 
 ghost use Rattle.std.specs.Prelude.{◌≡◌, ◌<◌, ◌≤◌, ◌<ℤ◌, ◌++◌, ◌⊎◌, ℕ, pos, MatchResult, OnErr};
-ghost use Rattle.setl_value.specs.Body.{Members};
+ghost use Rattle.setl_value.specs.code.Body.{Members};
 ghost use Rattle.setl_value.specs.Datum.{int, set_of, text, tuple_of};
-ghost use Rattle.setl_value.specs.DatumOf.{datum};
+ghost use Rattle.setl_value.specs.code.DatumOf.{datum};
 ghost use Rattle.setl_map.specs.Outcome.{value};
 ghost use Rattle.setl_map.specs.Numbers.{negate, absolute, is_even, is_odd, raise, divide, greater, lesser, plus, minus, modulo, times, replicated};
-ghost use Rattle.setl_map.specs.Answers.{Changes, Tells};
+ghost use Rattle.setl_map.specs.code.Answers.{Changes, Tells};
 
 use setl_map::answers::{free, set, string, truth, tuple, whole};
 use setl_map::{Answer, OpFault};

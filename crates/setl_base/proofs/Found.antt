@@ -9,7 +9,7 @@ use Rattle.std.specs.Option.{option_map, option_or}
 use Rattle.std.specs.Ordering.{is_eq}
 use Rattle.setl_value.specs.declared.Value.{Value}
 use Rattle.setl_value.specs.Datum.{Datum}
-use Rattle.setl_value.specs.DatumOf.{datum}
+use Rattle.setl_value.specs.code.DatumOf.{datum}
 use Rattle.setl_value.specs.Order.{datum_cmp}
 use Rattle.setl_value.specs.OrderLaws.{datum_cmp_total, same_if_eq}
 use Rattle.setl_base.specs.declared.Elt.{Elt}

@@ -11,7 +11,7 @@ use Rattle.std.specs.declared.ops.Bound.TheVariants.{Excluded, Unbounded}
 use Rattle.indexmap.specs.IndexMap.{IndexMap}
 use Rattle.setl_value.specs.declared.Value.{Value}
 use Rattle.setl_value.specs.Datum.{Datum}
-use Rattle.setl_value.specs.DatumOf.{datum}
+use Rattle.setl_value.specs.code.DatumOf.{datum}
 use Rattle.setl_value.specs.Order.{datum_cmp}
 use Rattle.setl_base.specs.declared.Elt.{Elt}
 use Rattle.setl_base.specs.Base.{Member, BaseState, IsNext, IsLast, value_of, is_above}

@@ -7,7 +7,7 @@ use Rattle.std.specs.Map.{keys_of}
 use Rattle.std.specs.Option.{option_or}
 use Rattle.indexmap.specs.IndexMap.{IndexMap}
 use Rattle.setl_value.specs.declared.Value.{Value}
-use Rattle.setl_value.specs.DatumOf.{datum}
+use Rattle.setl_value.specs.code.DatumOf.{datum}
 use Rattle.setl_value.specs.WellFormed.{IsValue}
 use Rattle.setl_base.specs.declared.Elt.{Elt}
 use Rattle.setl_base.specs.Base.{Member, IsBase, handle, find, find_from, value_of, undone}

@@ -5,7 +5,7 @@ use Rattle.std.specs.Option.{option_map, option_map_or}
 use Rattle.std.specs.Ordering.{is_eq, is_lt, is_gt}
 use Rattle.std.specs.Coded.{Coded, code_by, coded_list, coded×, coded_ℕ}
 use Rattle.setl_value.specs.Datum.{Datum}
-use Rattle.setl_value.specs.DatumCode.{coded_datum}
+use Rattle.setl_value.specs.code.DatumCode.{coded_datum}
 use Rattle.setl_value.specs.Order.{datum_cmp}
 use Rattle.setl_value.specs.WellFormed.{IsValue}
 use Rattle.setl_base.specs.declared.Elt.{Elt}

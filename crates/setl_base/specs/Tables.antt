@@ -6,7 +6,7 @@ use Rattle.std.specs.Ordering.{on}
 use Rattle.std.specs.declared.ops.Bound.{Bound}
 use Rattle.indexmap.specs.IndexMap.{IndexMap}
 use Rattle.setl_value.specs.declared.Value.{Value}
-use Rattle.setl_value.specs.DatumOf.{datum}
+use Rattle.setl_value.specs.code.DatumOf.{datum}
 use Rattle.setl_value.specs.Order.{datum_cmp}
 use Rattle.setl_value.specs.WellFormed.{IsValue}
 use Rattle.setl_base.specs.declared.Elt.{Elt}

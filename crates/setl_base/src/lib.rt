@@ -12,7 +12,7 @@
 ghost use Rattle.std.specs.Prelude.{◌≡◌, ◌<◌, ◌≤◌, ◌^◌, length, IfOk, OnOk, OnErr, IfSome, IfNone, Some};
 ghost use Rattle.std.specs.Option.{option_map, ForSome};
 ghost use Rattle.std.specs.Bound.{bound_map};
-ghost use Rattle.setl_value.specs.DatumOf.{datum};
+ghost use Rattle.setl_value.specs.code.DatumOf.{datum};
 ghost use Rattle.setl_base.specs.Base.{IsBase, IsLiving, IsNext, IsLast, empty, entered, cut_back, undone, find, elt_at, member_at, value_of};
 ghost use Rattle.setl_base.specs.Tables.{StartsAbove};
 

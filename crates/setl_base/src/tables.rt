@@ -1,7 +1,7 @@
 //! The two tables of a base, which are changed together.
 
 ghost use Rattle.std.specs.Prelude.{◌≡◌, ◌<◌, ◌≤◌, ◌+◌, ◌-◌, ◌++◌, [], ◌∷◌, length, take, None, OnOk, OnErr};
-ghost use Rattle.setl_value.specs.DatumOf.{datum};
+ghost use Rattle.setl_value.specs.code.DatumOf.{datum};
 ghost use Rattle.setl_base.specs.Base.{find_from};
 ghost use Rattle.setl_base.specs.Tables.{members_of, AreRanks};
 

@@ -1,11 +1,11 @@
 //! Sets, tuples and maps with one part more or less, changed in place.
 
 ghost use Rattle.std.specs.Prelude.{◌≡◌, OnErr};
-ghost use Rattle.setl_value.specs.Body.{Members};
+ghost use Rattle.setl_value.specs.code.Body.{Members};
 ghost use Rattle.setl_value.specs.Datum.{set_of, tuple_of};
-ghost use Rattle.setl_value.specs.DatumOf.{datum};
+ghost use Rattle.setl_value.specs.code.DatumOf.{datum};
 ghost use Rattle.setl_map.specs.Collections.{less_datum, with_datum, lessf_datum};
-ghost use Rattle.setl_map.specs.Answers.{Changes, Tells};
+ghost use Rattle.setl_map.specs.code.Answers.{Changes, Tells};
 
 use setl_map::{Answer, MapFault, OpFault};
 use setl_set::SetFault;

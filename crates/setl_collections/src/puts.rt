@@ -1,12 +1,12 @@
 //! The wholes after `f(x) := y`, `t(i) := y` and `f{x} := s`, and changes in place to them.
 
 ghost use Rattle.std.specs.Prelude.{◌≡◌, None, Some, pos, ◌≤ℤ◌, OnErr};
-ghost use Rattle.setl_value.specs.Body.{Members};
+ghost use Rattle.setl_value.specs.code.Body.{Members};
 ghost use Rattle.setl_value.specs.Datum.{int, set_of, tuple_of};
-ghost use Rattle.setl_value.specs.DatumOf.{datum, part};
+ghost use Rattle.setl_value.specs.code.DatumOf.{datum, part};
 ghost use Rattle.setl_tuple.specs.Tuples.{index_of};
 ghost use Rattle.setl_map.specs.Puts.{put_part, put_value, put_set};
-ghost use Rattle.setl_map.specs.Answers.{Changes, Tells};
+ghost use Rattle.setl_map.specs.code.Answers.{Changes, Tells};
 
 use crate::changes::changed;
 use setl_map::{Answer, MapFault, OpFault};

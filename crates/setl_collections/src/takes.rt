@@ -1,10 +1,10 @@
 //! `from`, `fromb` and `frome`: taking one part out of a set or a tuple in place.
 
 ghost use Rattle.std.specs.Prelude.{◌≡◌, OnErr, IfOk, false};
-ghost use Rattle.setl_value.specs.Body.{Members};
+ghost use Rattle.setl_value.specs.code.Body.{Members};
 ghost use Rattle.setl_value.specs.Datum.{set_of, tuple_of};
-ghost use Rattle.setl_value.specs.DatumOf.{datum};
-ghost use Rattle.setl_map.specs.Answers.{Takes};
+ghost use Rattle.setl_value.specs.code.DatumOf.{datum};
+ghost use Rattle.setl_map.specs.code.Answers.{Takes};
 ghost use Rattle.setl_map.specs.Takes.{take_least, take_first, take_last};
 
 use setl_map::{OpFault, Taken};

@@ -1,10 +1,10 @@
 //! The operators on whole sets, tuples and maps.
 
-ghost use Rattle.setl_value.specs.Body.{Members};
+ghost use Rattle.setl_value.specs.code.Body.{Members};
 ghost use Rattle.setl_value.specs.Datum.{set_of};
-ghost use Rattle.setl_value.specs.DatumOf.{datum};
+ghost use Rattle.setl_value.specs.code.DatumOf.{datum};
 ghost use Rattle.setl_map.specs.Collections.{size, least_member, domain, range};
-ghost use Rattle.setl_map.specs.Answers.{Tells};
+ghost use Rattle.setl_map.specs.code.Answers.{Tells};
 
 use setl_map::answers::{free, set};
 use setl_map::{Answer, MapFault, OpFault};

@@ -11,7 +11,7 @@ use Rattle.setl_names.specs.Procedures.{is_procedure, param_names}
 use Rattle.setl_names.specs.Resolves.{all_names}
 use Rattle.setl_names.specs.Variables.{OfFormer, OfParameter, OfProgram, OfBody, variable, variables, of_body, is_of_body, body_names, var_names}
 use Rattle.setl_declarations.specs.Rules.{is_parameter, is_variable_in, is_taken, is_declarable, lines_of_names}
-use Rattle.setl_declarations.specs.Taken.{names_of_all, variable_names, is_among, is_none_of}
+use Rattle.setl_declarations.specs.code.Taken.{names_of_all, variable_names, is_among, is_none_of}
 use Rattle.setl_declarations.proofs.NameLists.{or_false, has_append, has_with_names, has_in_order}
 
 -- whether a name is no parameter and not in `var`

@@ -8,7 +8,7 @@ use Rattle.setl_modes.specs.declared.mode.NamedMode.{NamedMode}
 use Rattle.setl_modes.specs.Modes.{Mode, Elements, General, mode_of}
 use Rattle.setl_modes.specs.Declarations.{Name, Bases, element_of}
 use Rattle.setl_declarations.specs.Declares.{named_modes}
-use Rattle.setl_declarations.specs.Elements.{number_from, value_at, Finds}
+use Rattle.setl_declarations.specs.code.Elements.{number_from, value_at, Finds}
 
 -- ---- tables
 

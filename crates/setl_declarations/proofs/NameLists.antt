@@ -3,7 +3,7 @@ use Rattle.std.proofs.Common.{◌≡◌, Bool, true, false, cond, List, [], ◌�
 use Rattle.std.specs.Cmp.Lexicographic.{bytes_decides}
 use Rattle.setl_names.specs.declared.bodies.BodyNames.{BodyNames}
 use Rattle.setl_names.specs.Names.{Name, has, with_name, with_names, in_order}
-use Rattle.setl_declarations.specs.Taken.{names_of_body, names_of_all}
+use Rattle.setl_declarations.specs.code.Taken.{names_of_body, names_of_all}
 
 pub or_assoc : (a b c : Bool) → (a || b) || c ≡ a || (b || c)
 or_assoc true b c = refl

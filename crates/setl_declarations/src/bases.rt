@@ -5,7 +5,7 @@ ghost use Rattle.setl_modes.specs.Modes.{Mode as PlainMode, General, Elements, m
 ghost use Rattle.setl_modes.specs.Declarations as modes;
 ghost use Rattle.setl_modes.specs.Declarations.{Bases as PlainBases};
 ghost use Rattle.setl_declarations.specs.Declares.{named_modes};
-ghost use Rattle.setl_declarations.specs.Elements.{Finds, number_from};
+ghost use Rattle.setl_declarations.specs.code.Elements.{Finds, number_from};
 
 use crate::copies::{copied_box, put_mode};
 use indexmap::IndexMap;

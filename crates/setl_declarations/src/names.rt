@@ -7,7 +7,7 @@ ghost use Rattle.setl_names.specs.Resolves.{all_names};
 ghost use Rattle.setl_declarations.specs.Declares.{name_breaks};
 ghost use Rattle.setl_declarations.specs.Rules as rules;
 ghost use Rattle.setl_declarations.specs.Rules.{lines_of_names};
-ghost use Rattle.setl_declarations.specs.Taken.{is_among, is_none_of};
+ghost use Rattle.setl_declarations.specs.code.Taken.{is_among, is_none_of};
 
 use crate::listed::{Listed, declared_bases, declared_variables};
 use crate::taken::variable_names;

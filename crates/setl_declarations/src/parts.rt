@@ -6,7 +6,7 @@ ghost use Rattle.setl_tree.specs.declared.mode.Attribute.{Attribute as TreeAttri
 ghost use Rattle.setl_declarations.specs.Written as spec;
 ghost use Rattle.setl_declarations.specs.Written.{written, parts, inside};
 ghost use Rattle.setl_declarations.specs.Rules as rules;
-ghost use Rattle.setl_declarations.specs.Tests.{core_written, passes};
+ghost use Rattle.setl_declarations.specs.code.Tests.{core_written, passes};
 
 use setl_tree::{Attribute, Boxed, Core, WrittenMode};
 

@@ -9,8 +9,8 @@ ghost use Rattle.setl_names.specs.Variables.{var_names};
 ghost use Rattle.setl_declarations.specs.Declares.{mode_breaks};
 ghost use Rattle.setl_declarations.specs.Rules as spec;
 ghost use Rattle.setl_declarations.specs.Rules.{unknown_bases, lines_where, line_parts, line_bases};
-ghost use Rattle.setl_declarations.specs.Tests as tests;
-ghost use Rattle.setl_declarations.specs.Tests.{core_written};
+ghost use Rattle.setl_declarations.specs.code.Tests as tests;
+ghost use Rattle.setl_declarations.specs.code.Tests.{core_written};
 ghost use Rattle.setl_declarations.specs.Written.{written, parts};
 
 use crate::parts::{Test, any_inside, any_part};

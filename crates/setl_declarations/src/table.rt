@@ -6,7 +6,7 @@ ghost use Rattle.setl_modes.specs.Modes.{mode_of};
 ghost use Rattle.setl_modes.specs.Declarations as spec;
 ghost use Rattle.setl_modes.specs.Declarations.{bases_of, variables_of};
 ghost use Rattle.setl_declarations.specs.Declares.{named_modes};
-ghost use Rattle.setl_declarations.specs.Elements.{Finds, core_mode};
+ghost use Rattle.setl_declarations.specs.code.Elements.{Finds, core_mode};
 
 use crate::bases::Bases;
 use crate::copies::put_modes;

@@ -3,7 +3,7 @@
 ghost use Rattle.std.specs.Prelude.{◌≡◌, ◌∷◌, [], OnOk, IfOk};
 ghost use Rattle.setl_names.specs.Names.{with_names};
 ghost use Rattle.setl_names.specs.Procedures.{param_names};
-ghost use Rattle.setl_declarations.specs.Taken as spec;
+ghost use Rattle.setl_declarations.specs.code.Taken as spec;
 
 use setl_names::{BodyNames, Names, names_of_vars};
 use setl_tree::{Declared, Param, Text};

@@ -1,7 +1,7 @@
 -- What a chain stands for.
 use Rattle.std.specs.Prelude.{map}
 use Rattle.setl_program.specs.Program as plain
-use Rattle.setl_program.specs.Plain.{plain_expr, plain_link}
+use Rattle.setl_program.specs.code.Plain.{plain_expr, plain_link}
 use Rattle.setl_program.specs.Lists.{chained}
 use Rattle.setl_elaborate.specs.declared.chain.Chain.{Chain}
 

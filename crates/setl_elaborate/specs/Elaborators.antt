@@ -3,7 +3,7 @@ use Rattle.std.specs.Prelude.{ℕ, List, map}
 use Rattle.setl_names.specs.Names.{Name}
 use Rattle.setl_program.specs.declared.expr.Expr.{Expr}
 use Rattle.setl_program.specs.declared.kinds.Source.{Source}
-use Rattle.setl_program.specs.Plain.{plain_expr}
+use Rattle.setl_program.specs.code.Plain.{plain_expr}
 use Rattle.setl_program.specs.Expressions.{Range}
 use Rattle.setl_program.specs.Numbered.{Numbered}
 use Rattle.setl_program.specs.Scope.{Scope, in_former}

@@ -3,7 +3,7 @@
 ghost use Rattle.std.specs.Prelude.{◌≡◌, option_map, IfOk, OnOk};
 ghost use Rattle.setl_program.specs.Expressions as spec;
 ghost use Rattle.setl_program.specs.Operators.{one, two, binary};
-ghost use Rattle.setl_program.specs.Plain.{plain_expr, plain_link};
+ghost use Rattle.setl_program.specs.code.Plain.{plain_expr, plain_link};
 ghost use Rattle.setl_elaborate.specs.Chains.{plain_chain};
 
 use crate::operators;

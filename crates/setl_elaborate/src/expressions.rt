@@ -3,7 +3,7 @@
 ghost use Rattle.std.specs.Prelude.{◌≡◌, Some, map, option_map, IfSome, OnOk, IfOk};
 ghost use Rattle.setl_program.specs.Expressions as spec;
 ghost use Rattle.setl_program.specs.Expressions.{part_of, term_of, inner_of, turn_of, behind_of};
-ghost use Rattle.setl_program.specs.Plain.{plain_expr};
+ghost use Rattle.setl_program.specs.code.Plain.{plain_expr};
 ghost use Rattle.setl_elaborate.specs.Elaborators.{made, past, plain_range};
 
 use crate::chain::Chain;

@@ -4,7 +4,7 @@ ghost use Rattle.std.specs.Prelude.{◌≡◌, [], ◌∷◌, ◌++◌, Some, ma
 ghost use Rattle.setl_names.specs.Names.{with_names, in_order};
 ghost use Rattle.setl_program.specs.Expressions as spec;
 ghost use Rattle.setl_program.specs.Expressions.{part_of, term_of, turn_of};
-ghost use Rattle.setl_program.specs.Plain.{plain_expr, plain_iterator};
+ghost use Rattle.setl_program.specs.code.Plain.{plain_expr, plain_iterator};
 ghost use Rattle.setl_program.specs.Scope.{in_former};
 ghost use Rattle.setl_elaborate.specs.Elaborators.{made, past};
 

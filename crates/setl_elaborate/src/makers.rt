@@ -5,7 +5,7 @@ ghost use Rattle.setl_value.specs.Datum as datum;
 ghost use Rattle.setl_program.specs.Operators as spec;
 ghost use Rattle.setl_program.specs.Expressions as terms;
 ghost use Rattle.setl_program.specs.Program as plain;
-ghost use Rattle.setl_program.specs.Plain.{plain_variable, plain_binding, plain_expr, plain_exprs, plain_iterators, plain_arguments, condition_of};
+ghost use Rattle.setl_program.specs.code.Plain.{plain_variable, plain_binding, plain_expr, plain_exprs, plain_iterators, plain_arguments, condition_of};
 
 use crate::chain::Chain;
 use crate::operators;

@@ -2,7 +2,7 @@
 
 ghost use Rattle.std.specs.Prelude.{◌≡◌, ◌∷◌, [], map, option_map, IfOk};
 ghost use Rattle.setl_program.specs.Expressions as spec;
-ghost use Rattle.setl_program.specs.Plain.{plain_expr};
+ghost use Rattle.setl_program.specs.code.Plain.{plain_expr};
 ghost use Rattle.setl_elaborate.specs.Elaborators.{plain_range};
 
 use crate::{makers, operators};

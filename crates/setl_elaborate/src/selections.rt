@@ -3,7 +3,7 @@
 ghost use Rattle.std.specs.Prelude.{◌≡◌, [], ◌∷◌, ◌++◌, map, option_map, OnOk, IfOk};
 ghost use Rattle.setl_program.specs.Expressions as spec;
 ghost use Rattle.setl_program.specs.Expressions.{part_of, behind_of};
-ghost use Rattle.setl_program.specs.Plain.{plain_expr, plain_argument};
+ghost use Rattle.setl_program.specs.code.Plain.{plain_expr, plain_argument};
 ghost use Rattle.setl_program.specs.Scope.{procedure_of};
 ghost use Rattle.setl_elaborate.specs.Chains.{plain_chain};
 ghost use Rattle.setl_elaborate.specs.Elaborators.{made, past};

@@ -3,7 +3,7 @@
 ghost use Rattle.std.specs.Prelude.{◌≡◌, map, option_map, OnOk, IfOk};
 ghost use Rattle.setl_program.specs.Expressions as terms;
 ghost use Rattle.setl_program.specs.Expressions.{part_of, turn_of, behind_of};
-ghost use Rattle.setl_program.specs.Plain.{plain_expr, plain_selector, plain_place, plain_stmt, plain_branch};
+ghost use Rattle.setl_program.specs.code.Plain.{plain_expr, plain_selector, plain_place, plain_stmt, plain_branch};
 ghost use Rattle.setl_program.specs.Statements as spec;
 ghost use Rattle.setl_program.specs.Statements.{kind_of, branch_of, lined};
 ghost use Rattle.setl_elaborate.specs.Elaborators.{made, past};

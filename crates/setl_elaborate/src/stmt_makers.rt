@@ -3,7 +3,7 @@
 ghost use Rattle.std.specs.Prelude.{◌≡◌, map, option_map};
 ghost use Rattle.setl_program.specs.Program as plain;
 ghost use Rattle.setl_program.specs.Statements as spec;
-ghost use Rattle.setl_program.specs.Plain.{plain_variable, plain_slots, plain_expr, plain_exprs, plain_iterators, condition_of, otherwise, plain_place, plain_stmt, plain_block, plain_branch};
+ghost use Rattle.setl_program.specs.code.Plain.{plain_variable, plain_slots, plain_expr, plain_exprs, plain_iterators, condition_of, otherwise, plain_place, plain_stmt, plain_block, plain_branch};
 
 use setl_map::Operator;
 use setl_program::{Branch, Expr, Iterator, Place, Stmt, StmtKind, Taking, Variable};

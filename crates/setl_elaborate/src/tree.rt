@@ -4,7 +4,7 @@ ghost use Rattle.std.specs.Prelude.{◌≡◌, suc, map, OnOk, IfOk};
 ghost use Rattle.setl_modes.specs.Modes.{mode_of};
 ghost use Rattle.setl_modes.specs.Declarations.{variables_of};
 ghost use Rattle.setl_names.specs.Variables.{var_names};
-ghost use Rattle.setl_program.specs.Plain.{plain_variable, plain_block, plain_procedure, plain_program};
+ghost use Rattle.setl_program.specs.code.Plain.{plain_variable, plain_block, plain_procedure, plain_program};
 ghost use Rattle.setl_program.specs.ProgramOf.{main_scope, in_body, procedure_of_tree, procedures_from, declaration_of, program_of};
 ghost use Rattle.setl_program.specs.Statements.{body_of};
 

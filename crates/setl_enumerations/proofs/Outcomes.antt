@@ -7,7 +7,7 @@ use Rattle.std.proofs.Common.{ap, sym, ◌∙◌, arith}
 use Rattle.std.proofs.lemmas.Bool.Decides.{nat_tests}
 use Rattle.std.proofs.lemmas.Int.{ints}
 use Rattle.setl_value.specs.declared.Value.{Value}
-use Rattle.setl_value.specs.DatumOf.{datum, part}
+use Rattle.setl_value.specs.code.DatumOf.{datum, part}
 use Rattle.setl_value.specs.Datum.{Datum, int, depth, elements_depth, elements_of, parts_depth, parts_of, set_of, tuple_of, element_list-elements_of}
 use Rattle.setl_value.specs.Order.{datum_cmp}
 use Rattle.setl_value.specs.OrderLaws.{same_datum}

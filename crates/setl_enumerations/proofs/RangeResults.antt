@@ -13,7 +13,7 @@ use Rattle.setl_map.specs.Ranges.{spread, range_size, range_from, is_past, step_
 use Rattle.setl_map.specs.RangeRows.{range_of_integers, stepped_integers}
 use Rattle.setl_map.specs.declared.Answer.{Answer}
 use Rattle.setl_map.specs.declared.OpFault.{OpFault}
-use Rattle.setl_map.specs.Answers.{Tells}
+use Rattle.setl_map.specs.code.Answers.{Tells}
 use Rattle.setl_enumerations.specs.Integers.{AreWide}
 use Rattle.setl_enumerations.proofs.Spreads.{rising, falling}
 use Rattle.setl_enumerations.proofs.Outcomes.{paid, spent}

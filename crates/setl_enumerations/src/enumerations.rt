@@ -3,10 +3,10 @@
 ghost use Rattle.std.specs.Prelude.{◌≡◌, ◌++◌, ◌∷◌, ◌≤◌, [], map, nat_lt, IfOk, OnOk};
 ghost use Rattle.std.specs.Option.{option_map};
 ghost use Rattle.setl_value.specs.Datum.{depth, part_depth, set_of, tuple_of};
-ghost use Rattle.setl_value.specs.DatumOf.{datum, part};
+ghost use Rattle.setl_value.specs.code.DatumOf.{datum, part};
 ghost use Rattle.setl_map.specs.Collections.{enumerate_set, enumerate_tuple};
 ghost use Rattle.setl_map.specs.Outcome.{all_values};
-ghost use Rattle.setl_map.specs.Answers.{Tells};
+ghost use Rattle.setl_map.specs.code.Answers.{Tells};
 ghost use Rattle.setl_enumerations.specs.ValueData.{value_data};
 
 use setl_map::answers::{shallow_set, shallow_tuple};

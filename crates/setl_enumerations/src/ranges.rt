@@ -3,11 +3,11 @@
 ghost use Rattle.std.specs.Prelude.{◌≡◌, ℤ, map, IfOk, Some};
 ghost use Rattle.std.specs.Int.{int_wrap, w128};
 ghost use Rattle.setl_value.specs.Datum.{int};
-ghost use Rattle.setl_value.specs.DatumOf.{datum};
+ghost use Rattle.setl_value.specs.code.DatumOf.{datum};
 ghost use Rattle.setl_map.specs.Outcome.{adding};
 ghost use Rattle.setl_map.specs.Ranges.{spread};
 ghost use Rattle.setl_map.specs.RangeRows.{as_set, as_tuple, range_of_integers, stepped_integers};
-ghost use Rattle.setl_map.specs.Answers.{Tells};
+ghost use Rattle.setl_map.specs.code.Answers.{Tells};
 ghost use Rattle.setl_enumerations.specs.Integers.{AreWide};
 
 use crate::counts::{range_count, step_count};

@@ -1,12 +1,12 @@
 //! The sets of subsets `pow s` and `n npow s`.
 
 ghost use Rattle.std.specs.Prelude.{◌≡◌, ◌≤◌, length, pos};
-ghost use Rattle.setl_value.specs.Body.{Members};
+ghost use Rattle.setl_value.specs.code.Body.{Members};
 ghost use Rattle.setl_value.specs.Datum.{int, set_of};
-ghost use Rattle.setl_value.specs.DatumOf.{datum};
+ghost use Rattle.setl_value.specs.code.DatumOf.{datum};
 ghost use Rattle.setl_map.specs.Collections.{all_subsets, some_subsets};
 ghost use Rattle.setl_map.specs.Outcome.{adding, within_depth};
-ghost use Rattle.setl_map.specs.Answers.{Tells};
+ghost use Rattle.setl_map.specs.code.Answers.{Tells};
 
 use crate::counts::{power_count, subset_count};
 use setl_map::answers::shallow_set;

@@ -3,7 +3,7 @@ use Rattle.std.proofs.Common.{◌≡◌, ℕ, zero, suc, Bool, true, false, if�
 use Rattle.std.proofs.lemmas.List.{append_assoc, append-nil}
 use Rattle.setl_tree.specs.declared.kind.Kind.{Kind}
 use Rattle.setl_tree.specs.Tokens.{Tokens}
-use Rattle.setl_reading.specs.Reading.{Outcome, Reader, ◌>>=◌, and_then, pure, next_kind, many_from}
+use Rattle.setl_reading.specs.code.Reading.{Outcome, Reader, ◌>>=◌, and_then, pure, next_kind, many_from}
 
 module _ {A : Type 0} (begins : Kind → Bool) (item : Reader A) (items : List A) where
   -- what was found is put behind the items

@@ -8,7 +8,7 @@ use Rattle.setl_token.specs.Text.{Lexed}
 use Rattle.setl_tree.specs.declared.kind.Kind.{Kind}
 use Rattle.setl_tree.specs.declared.kind.Kind.TheVariants.{SourceEnd}
 use Rattle.setl_reading.specs.declared.fault.Fault.TheVariants.{Syntax, Nesting}
-use Rattle.setl_reading.specs.Reading.{next_kind, rest_of, sees, take_if, expect, opening}
+use Rattle.setl_reading.specs.code.Reading.{next_kind, rest_of, sees, take_if, expect, opening}
 use Rattle.setl_expressions.specs.Plain.{plain_token, plain_tokens, next_token}
 
 abbrev some_lexeme : Lexeme → Option Lexeme

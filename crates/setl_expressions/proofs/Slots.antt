@@ -6,10 +6,10 @@ use Rattle.setl_tree.specs.declared.kind.Kind.{Kind}
 use Rattle.setl_tree.specs.declared.kind.Kind.TheVariants as k
 use Rattle.setl_reading.specs.declared.ahead.Ahead.{Ahead}
 use Rattle.setl_reading.specs.declared.ahead.Ahead.TheVariants.{Expression, Pattern}
-use Rattle.setl_reading.specs.Reading.{next_kind, same_kind, rest_of}
+use Rattle.setl_reading.specs.code.Reading.{next_kind, same_kind, rest_of}
 use Rattle.setl_tree.specs.declared.expr.Slot.{Slot}
 use Rattle.setl_tree.specs.declared.expr.Expr.{Expr}
-use Rattle.setl_reading.specs.Scan.{slot_expr, slot_exprs, slots_ahead, after_name, ends_slot}
+use Rattle.setl_reading.specs.code.Scan.{slot_expr, slot_exprs, slots_ahead, after_name, ends_slot}
 
 pub rest_is_drop : (toks : Tokens) → rest_of toks ≡ drop 1 toks
 rest_is_drop [] = refl

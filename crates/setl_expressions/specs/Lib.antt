@@ -1,3 +1,2 @@
 pub mod Plain
-pub mod Nests
-pub mod Behind
+pub mod code

@@ -2,8 +2,8 @@
 
 ghost use Rattle.std.specs.Prelude.{◌≡◌, IfOk, drop, if◌then◌else◌};
 ghost use Rattle.setl_tree.specs.declared.kind.Kind.TheVariants as k;
-ghost use Rattle.setl_reading.specs.Reading as spec;
-ghost use Rattle.setl_reading.specs.Scan as scan;
+ghost use Rattle.setl_reading.specs.code.Reading as spec;
+ghost use Rattle.setl_reading.specs.code.Scan as scan;
 
 use crate::cursor::{Cursor, same_kind};
 use setl_reading::Ahead;
@@ -21,7 +21,7 @@ fn either_at(kind: Kind) -> Ahead
 }
 
 /// Whether a slot ends before a token of this kind.
-#[tactic(auto, unfolding(setl_reading::specs::Scan::ends_slot))]
+#[tactic(auto, unfolding(setl_reading::specs::code::Scan::ends_slot))]
 fn ends_slot(kind: Kind) -> bool
     ensures { result ≡ scan.ends_slot kind }
 {
@@ -75,7 +75,7 @@ fn slots_ahead(tokens: &Cursor<'_>) -> Ahead
 }
 
 /// What the inside of a brace or bracket begins with.
-#[tactic(auto, using(crate::proofs::Slots::rest_is_drop), unfolding(setl_reading::specs::Scan::ahead))]
+#[tactic(auto, using(crate::proofs::Slots::rest_is_drop), unfolding(setl_reading::specs::code::Scan::ahead))]
 pub fn ahead(tokens: &Cursor<'_>) -> Ahead
     ensures { result ≡ scan.ahead tokens.now }
 {

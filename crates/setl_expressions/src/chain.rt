@@ -1,8 +1,8 @@
 //! Prefixes and levels of operators.
 
 ghost use Rattle.std.specs.Prelude.{◌≡◌};
-ghost use Rattle.setl_reading.specs.Reading.{Reads};
-ghost use Rattle.setl_reading.specs.ReadExpressions as spec;
+ghost use Rattle.setl_reading.specs.code.Reading.{Reads};
+ghost use Rattle.setl_reading.specs.code.ReadExpressions as spec;
 
 use crate::cursor::{Cursor, same_kind};
 use crate::operators::{chain_of, fold_sign, not_sign, op_at, prefix_op};
@@ -20,13 +20,13 @@ struct Operand<'r, R> {
 impl<'r, R: Rule<Out = Expr>> Rule for Operand<'r, R> {
     type Out = (BinaryOp, Expr);
 
-    ghost use Rattle.setl_reading.specs.ReadExpressions.{operand};
+    ghost use Rattle.setl_reading.specs.code.ReadExpressions.{operand};
 
     ghost can_read = { λ s. R.can_read s.item.now };
 
     ghost reader = { λ s. operand s.level (R.reader s.item.now) };
 
-    #[tactic(auto, unfolding(setl_reading::specs::Reading::one_of))]
+    #[tactic(auto, unfolding(setl_reading::specs::code::Reading::one_of))]
     fn read(&self, tokens: &mut Cursor<'_>) -> Result<(BinaryOp, Expr), Fault> {
         let Some(op) = op_at(self.level, tokens.kind()) else {
             return Err(tokens.refuse());
@@ -39,7 +39,7 @@ impl<'r, R: Rule<Out = Expr>> Rule for Operand<'r, R> {
 
 impl<'r, R: Rule<Out = Expr>> Repeated for Operand<'r, R> {
     ghost use Rattle.setl_tree.specs.Operators.{op_at};
-    ghost use Rattle.setl_reading.specs.Reading.{begins_as};
+    ghost use Rattle.setl_reading.specs.code.Reading.{begins_as};
 
     ghost begins_with = { λ s. begins_as (op_at s.level) };
 
@@ -49,7 +49,7 @@ impl<'r, R: Rule<Out = Expr>> Repeated for Operand<'r, R> {
 }
 
 /// What goes on from the first operand of a level.
-#[tactic(auto, unfolding(setl_reading::specs::ReadExpressions::operands))]
+#[tactic(auto, unfolding(setl_reading::specs::code::ReadExpressions::operands))]
 pub fn chain_from<R: Rule<Out = Expr>>(
     level: u8,
     item: &R,
@@ -73,7 +73,7 @@ pub struct Chain<R> {
 impl<R: Rule<Out = Expr>> Rule for Chain<R> {
     type Out = Expr;
 
-    ghost use Rattle.setl_reading.specs.ReadExpressions.{chain};
+    ghost use Rattle.setl_reading.specs.code.ReadExpressions.{chain};
 
     ghost can_read = { λ s. R.can_read s.item };
 
@@ -86,7 +86,7 @@ impl<R: Rule<Out = Expr>> Rule for Chain<R> {
 }
 
 /// Reads the sign of a fold and the `/` behind it.
-#[tactic(auto, unfolding(setl_reading::specs::ReadExpressions::fold, setl_reading::specs::Reading::one_of))]
+#[tactic(auto, unfolding(setl_reading::specs::code::ReadExpressions::fold, setl_reading::specs::code::Reading::one_of))]
 fn fold(tokens: &mut Cursor<'_>) -> Result<Prefix, Fault>
     ensures { Reads (spec.fold tokens.old) result tokens.new }
 {
@@ -104,13 +104,13 @@ pub struct PrefixRule;
 impl Rule for PrefixRule {
     type Out = Prefix;
 
-    ghost use Rattle.setl_reading.specs.ReadExpressions.{prefix};
+    ghost use Rattle.setl_reading.specs.code.ReadExpressions.{prefix};
 
     ghost can_read = { λ s. Unit {0} };
 
     ghost reader = { λ s. prefix };
 
-    #[tactic(auto, unfolding(setl_reading::specs::ReadExpressions::prefix, setl_reading::specs::Reading::one_of))]
+    #[tactic(auto, unfolding(setl_reading::specs::code::ReadExpressions::prefix, setl_reading::specs::code::Reading::one_of))]
     fn read(&self, tokens: &mut Cursor<'_>) -> Result<Prefix, Fault> {
         if fold_sign(tokens.kind()).is_some() {
             return fold(tokens);
@@ -124,11 +124,11 @@ impl Rule for PrefixRule {
 }
 
 impl Repeated for PrefixRule {
-    ghost use Rattle.setl_reading.specs.ReadExpressions.{begins_prefix};
+    ghost use Rattle.setl_reading.specs.code.ReadExpressions.{begins_prefix};
 
     ghost begins_with = { λ s. begins_prefix };
 
-    #[tactic(auto, unfolding(setl_reading::specs::ReadExpressions::begins_prefix))]
+    #[tactic(auto, unfolding(setl_reading::specs::code::ReadExpressions::begins_prefix))]
     fn begins(&self, kind: Kind) -> bool {
         fold_sign(kind).is_some() || prefix_op(kind).is_some()
     }
@@ -141,13 +141,13 @@ impl Rule for NotRule {
     type Out = Prefix;
 
     ghost use Rattle.setl_tree.specs.Operators.{not_sign};
-    ghost use Rattle.setl_reading.specs.Reading.{one_of};
+    ghost use Rattle.setl_reading.specs.code.Reading.{one_of};
 
     ghost can_read = { λ s. Unit {0} };
 
     ghost reader = { λ s. one_of not_sign };
 
-    #[tactic(auto, unfolding(setl_reading::specs::Reading::one_of))]
+    #[tactic(auto, unfolding(setl_reading::specs::code::Reading::one_of))]
     fn read(&self, tokens: &mut Cursor<'_>) -> Result<Prefix, Fault> {
         let Some(sign) = not_sign(tokens.kind()) else {
             return Err(tokens.refuse());
@@ -159,7 +159,7 @@ impl Rule for NotRule {
 
 impl Repeated for NotRule {
     ghost use Rattle.setl_tree.specs.Operators.{not_sign};
-    ghost use Rattle.setl_reading.specs.Reading.{begins_as};
+    ghost use Rattle.setl_reading.specs.code.Reading.{begins_as};
 
     ghost begins_with = { λ s. begins_as not_sign };
 

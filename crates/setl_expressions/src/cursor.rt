@@ -2,8 +2,8 @@
 
 ghost use Rattle.std.specs.Prelude.{◌≡◌, ◌<◌, IfOk, IfErr, Ok, Err, drop, length};
 ghost use Rattle.setl_tree.specs.Lang.{line_of};
-ghost use Rattle.setl_reading.specs.Reading as spec;
-ghost use Rattle.setl_reading.specs.Reading.{Reads};
+ghost use Rattle.setl_reading.specs.code.Reading as spec;
+ghost use Rattle.setl_reading.specs.code.Reading.{Reads};
 ghost use Rattle.setl_expressions.specs.Plain.{plain_tokens, next_token};
 
 use crate::content::content;
@@ -25,7 +25,7 @@ pub struct Cursor<'a> {
 impl<'a> Model for Cursor<'a> {
     ghost use Rattle.std.specs.Prelude.{◌≡◌, ◌≤◌, drop, length};
     ghost use Rattle.setl_tree.specs.Tokens.{Tokens};
-    ghost use Rattle.setl_reading.specs.Reading.{next_kind};
+    ghost use Rattle.setl_reading.specs.code.Reading.{next_kind};
     ghost use Rattle.setl_expressions.specs.Plain.{plain_tokens};
 
     ghost Value = { Tokens };
@@ -190,7 +190,7 @@ impl<'a> Cursor<'a> {
     }
 
     /// Reads a name, in lower case.
-    #[tactic(auto, unfolding(setl_reading::specs::Reading::name))]
+    #[tactic(auto, unfolding(setl_reading::specs::code::Reading::name))]
     pub fn name(&mut self) -> Result<Text, Fault>
         ensures { Reads (spec.name self.old) result self.new }
     {

@@ -2,10 +2,10 @@
 
 ghost use Rattle.std.specs.Prelude.{◌≡◌};
 ghost use Rattle.setl_tree.specs.declared.kind.Kind.TheVariants as k;
-ghost use Rattle.setl_reading.specs.Reading.{Reads};
-ghost use Rattle.setl_reading.specs.ReadExpressions.{nested};
-ghost use Rattle.setl_expressions.specs.Behind as behind;
-ghost use Rattle.setl_expressions.specs.Nests.{Nests};
+ghost use Rattle.setl_reading.specs.code.Reading.{Reads};
+ghost use Rattle.setl_reading.specs.code.ReadExpressions.{nested};
+ghost use Rattle.setl_expressions.specs.code.Behind as behind;
+ghost use Rattle.setl_expressions.specs.code.Nests.{Nests};
 
 use crate::cursor::Cursor;
 use crate::rule::followed;

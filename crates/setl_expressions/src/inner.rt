@@ -1,12 +1,12 @@
 //! What stands inside braces and brackets.
 
 ghost use Rattle.std.specs.Prelude.{◌≡◌, ◌-◌, IfOk, IfErr};
-ghost use Rattle.setl_reading.specs.Reading.{Reads};
-ghost use Rattle.setl_reading.specs.ReadExpressions as spec;
-ghost use Rattle.setl_reading.specs.ReadExpressions.{nested};
-ghost use Rattle.setl_expressions.specs.Behind as behind;
-ghost use Rattle.setl_expressions.specs.Nests.{Nests};
-ghost use Rattle.setl_reading.specs.Scan.{bound_expr};
+ghost use Rattle.setl_reading.specs.code.Reading.{Reads};
+ghost use Rattle.setl_reading.specs.code.ReadExpressions as spec;
+ghost use Rattle.setl_reading.specs.code.ReadExpressions.{nested};
+ghost use Rattle.setl_expressions.specs.code.Behind as behind;
+ghost use Rattle.setl_expressions.specs.code.Nests.{Nests};
+ghost use Rattle.setl_reading.specs.code.Scan.{bound_expr};
 
 use crate::ahead::{ahead, bound_as_expr};
 use crate::cursor::{Cursor, same_kind};
@@ -27,8 +27,8 @@ impl<'g, F: Fn(&mut Cursor<'_>, usize, Part) -> Result<Expr, Fault>> Rule for Ex
     type Out = Expr;
 
     ghost use Rattle.std.specs.Prelude.{◌-◌};
-    ghost use Rattle.setl_reading.specs.ReadExpressions.{nested};
-    ghost use Rattle.setl_expressions.specs.Nests.{Nests};
+    ghost use Rattle.setl_reading.specs.code.ReadExpressions.{nested};
+    ghost use Rattle.setl_expressions.specs.code.Nests.{Nests};
 
     ghost can_read = { λ s. Nests s.grammar.now.room (F.pre s.grammar.now.inside) (F.post s.grammar.now.inside) };
 
@@ -49,14 +49,14 @@ impl<'g, F: Fn(&mut Cursor<'_>, usize, Part) -> Result<Expr, Fault>> Rule for Co
     type Out = Boxed<Expr>;
 
     ghost use Rattle.std.specs.Prelude.{◌-◌};
-    ghost use Rattle.setl_reading.specs.ReadExpressions.{nested, condition};
-    ghost use Rattle.setl_expressions.specs.Nests.{Nests};
+    ghost use Rattle.setl_reading.specs.code.ReadExpressions.{nested, condition};
+    ghost use Rattle.setl_expressions.specs.code.Nests.{Nests};
 
     ghost can_read = { λ s. Nests s.grammar.now.room (F.pre s.grammar.now.inside) (F.post s.grammar.now.inside) };
 
     ghost reader = { λ s. condition (s.grammar.now.room - 1) (nested s.grammar.now.room) };
 
-    #[tactic(auto, unfolding(setl_reading::specs::ReadExpressions::condition))]
+    #[tactic(auto, unfolding(setl_reading::specs::code::ReadExpressions::condition))]
     fn read(&self, tokens: &mut Cursor<'_>) -> Result<Boxed<Expr>, Fault> {
         tokens.expect(Kind::Bar)?;
         self.grammar.boxed(tokens)
@@ -66,7 +66,7 @@ impl<'g, F: Fn(&mut Cursor<'_>, usize, Part) -> Result<Expr, Fault>> Rule for Co
 impl<'g, F: Fn(&mut Cursor<'_>, usize, Part) -> Result<Expr, Fault>> Repeated
     for ConditionRule<'g, F> {
     ghost use Rattle.setl_tree.specs.declared.kind.Kind.TheVariants as k;
-    ghost use Rattle.setl_reading.specs.Reading.{is};
+    ghost use Rattle.setl_reading.specs.code.Reading.{is};
 
     ghost begins_with = { λ s. is k.Bar };
 
@@ -93,7 +93,7 @@ fn stepped(alloc: Global, between: (Expr, Expr), last: Boxed<Expr>) -> Result<In
 }
 
 /// The closing signs that an empty list may stand before.
-#[tactic(auto, unfolding(setl_reading::specs::ReadExpressions::closes))]
+#[tactic(auto, unfolding(setl_reading::specs::code::ReadExpressions::closes))]
 fn closes(kind: Kind) -> bool
     ensures { result ≡ spec.closes kind }
 {
@@ -120,7 +120,7 @@ impl<F: Fn(&mut Cursor<'_>, usize, Part) -> Result<Expr, Fault>> Grammar<F> {
     }
 
     /// A former behind `value :`.
-    #[tactic(auto, unfolding(setl_reading::specs::ReadExpressions::former))]
+    #[tactic(auto, unfolding(setl_reading::specs::code::ReadExpressions::former))]
     fn former(&self, value: Expr, tokens: &mut Cursor<'_>) -> Result<Inner, Fault>
         requires { Nests self.now.room (F.pre self.now.inside) (F.post self.now.inside) }
         ensures { Reads (spec.former (self.now.room - 1) (nested self.now.room) value tokens.old) result tokens.new }
@@ -140,7 +140,7 @@ impl<F: Fn(&mut Cursor<'_>, usize, Part) -> Result<Expr, Fault>> Grammar<F> {
     }
 
     /// What stands behind `a, b`.
-    #[tactic(auto, unfolding(setl_reading::specs::ReadExpressions::third))]
+    #[tactic(auto, unfolding(setl_reading::specs::code::ReadExpressions::third))]
     fn third(&self, a: Expr, b: Expr, tokens: &mut Cursor<'_>) -> Result<Inner, Fault>
         requires { Nests self.now.room (F.pre self.now.inside) (F.post self.now.inside) }
         ensures { Reads (spec.third (self.now.room - 1) (nested self.now.room) a b tokens.old) result tokens.new }
@@ -153,7 +153,7 @@ impl<F: Fn(&mut Cursor<'_>, usize, Part) -> Result<Expr, Fault>> Grammar<F> {
     }
 
     /// What stands behind `a`, where no `:` or `..` does.
-    #[tactic(auto, unfolding(setl_reading::specs::ReadExpressions::second))]
+    #[tactic(auto, unfolding(setl_reading::specs::code::ReadExpressions::second))]
     fn second(&self, a: Expr, tokens: &mut Cursor<'_>) -> Result<Inner, Fault>
         requires { Nests self.now.room (F.pre self.now.inside) (F.post self.now.inside) }
         ensures { Reads (spec.second (self.now.room - 1) (nested self.now.room) a tokens.old) result tokens.new }
@@ -166,7 +166,7 @@ impl<F: Fn(&mut Cursor<'_>, usize, Part) -> Result<Expr, Fault>> Grammar<F> {
     }
 
     /// What stands behind the first expression, where no `..` does.
-    #[tactic(auto, unfolding(setl_reading::specs::ReadExpressions::unranged))]
+    #[tactic(auto, unfolding(setl_reading::specs::code::ReadExpressions::unranged))]
     fn unranged(&self, a: Expr, tokens: &mut Cursor<'_>) -> Result<Inner, Fault>
         requires { Nests self.now.room (F.pre self.now.inside) (F.post self.now.inside) }
         ensures { Reads (spec.unranged (self.now.room - 1) (nested self.now.room) a tokens.old) result tokens.new }
@@ -179,7 +179,7 @@ impl<F: Fn(&mut Cursor<'_>, usize, Part) -> Result<Expr, Fault>> Grammar<F> {
     }
 
     /// What stands behind the first expression.
-    #[tactic(auto, unfolding(setl_reading::specs::ReadExpressions::rest_of_inner))]
+    #[tactic(auto, unfolding(setl_reading::specs::code::ReadExpressions::rest_of_inner))]
     fn rest_of_inner(&self, a: Expr, tokens: &mut Cursor<'_>) -> Result<Inner, Fault>
         requires { Nests self.now.room (F.pre self.now.inside) (F.post self.now.inside) }
         ensures { Reads (spec.rest_of_inner (self.now.room - 1) (nested self.now.room) a tokens.old) result tokens.new }
@@ -192,7 +192,7 @@ impl<F: Fn(&mut Cursor<'_>, usize, Part) -> Result<Expr, Fault>> Grammar<F> {
     }
 
     /// An expression in front, or nothing.
-    #[tactic(auto, unfolding(setl_reading::specs::ReadExpressions::plain))]
+    #[tactic(auto, unfolding(setl_reading::specs::code::ReadExpressions::plain))]
     fn plain(&self, tokens: &mut Cursor<'_>) -> Result<Inner, Fault>
         requires { Nests self.now.room (F.pre self.now.inside) (F.post self.now.inside) }
         ensures { Reads (spec.plain (self.now.room - 1) (nested self.now.room) tokens.old) result tokens.new }
@@ -205,7 +205,7 @@ impl<F: Fn(&mut Cursor<'_>, usize, Part) -> Result<Expr, Fault>> Grammar<F> {
     }
 
     /// A filter behind `bound in source`.
-    #[tactic(auto, unfolding(setl_reading::specs::ReadExpressions::filter, setl_reading::specs::ReadExpressions::condition))]
+    #[tactic(auto, unfolding(setl_reading::specs::code::ReadExpressions::filter, setl_reading::specs::code::ReadExpressions::condition))]
     fn filter(
         &self,
         bound: Bound,
@@ -220,7 +220,7 @@ impl<F: Fn(&mut Cursor<'_>, usize, Part) -> Result<Expr, Fault>> Grammar<F> {
     }
 
     /// What stands behind `bound in source`, which may be the left side of an expression.
-    #[tactic(auto, unfolding(setl_reading::specs::ReadExpressions::filter_or_plain))]
+    #[tactic(auto, unfolding(setl_reading::specs::code::ReadExpressions::filter_or_plain))]
     fn filter_or_plain(
         &self,
         bound: Bound,
@@ -249,7 +249,7 @@ impl<F: Fn(&mut Cursor<'_>, usize, Part) -> Result<Expr, Fault>> Grammar<F> {
     }
 
     /// `bound in source`, and what goes on from them, where the bound may be an expression.
-    #[tactic(auto, unfolding(setl_reading::specs::ReadExpressions::bound_first))]
+    #[tactic(auto, unfolding(setl_reading::specs::code::ReadExpressions::bound_first))]
     fn either(&self, tokens: &mut Cursor<'_>) -> Result<Inner, Fault>
         requires { Nests self.now.room (F.pre self.now.inside) (F.post self.now.inside) }
         ensures { Reads (spec.bound_first (self.now.room - 1) (nested self.now.room) (spec.filter_or_plain (self.now.room - 1) (nested self.now.room)) tokens.old) result tokens.new }
@@ -259,7 +259,7 @@ impl<F: Fn(&mut Cursor<'_>, usize, Part) -> Result<Expr, Fault>> Grammar<F> {
     }
 
     /// A filter whose bound is no expression.
-    #[tactic(auto, unfolding(setl_reading::specs::ReadExpressions::bound_first))]
+    #[tactic(auto, unfolding(setl_reading::specs::code::ReadExpressions::bound_first))]
     fn pattern_filter(&self, tokens: &mut Cursor<'_>) -> Result<Inner, Fault>
         requires { Nests self.now.room (F.pre self.now.inside) (F.post self.now.inside) }
         ensures { Reads (spec.bound_first (self.now.room - 1) (nested self.now.room) (spec.filter (self.now.room - 1) (nested self.now.room)) tokens.old) result tokens.new }
@@ -269,7 +269,7 @@ impl<F: Fn(&mut Cursor<'_>, usize, Part) -> Result<Expr, Fault>> Grammar<F> {
     }
 
     /// What stands inside braces or brackets.
-    #[tactic(auto, unfolding(setl_reading::specs::ReadExpressions::inner))]
+    #[tactic(auto, unfolding(setl_reading::specs::code::ReadExpressions::inner))]
     pub fn inner(&self, tokens: &mut Cursor<'_>) -> Result<Inner, Fault>
         requires { Nests self.now.room (F.pre self.now.inside) (F.post self.now.inside) }
         ensures { Reads (spec.inner (self.now.room - 1) (nested self.now.room) tokens.old) result tokens.new }

@@ -1,11 +1,11 @@
 //! What iterators bind, and iterators.
 
 ghost use Rattle.std.specs.Prelude.{◌≡◌, ◌-◌};
-ghost use Rattle.setl_reading.specs.Reading.{Reads};
-ghost use Rattle.setl_reading.specs.ReadExpressions as spec;
-ghost use Rattle.setl_reading.specs.ReadExpressions.{nested};
-ghost use Rattle.setl_expressions.specs.Behind as behind;
-ghost use Rattle.setl_expressions.specs.Nests.{Nests};
+ghost use Rattle.setl_reading.specs.code.Reading.{Reads};
+ghost use Rattle.setl_reading.specs.code.ReadExpressions as spec;
+ghost use Rattle.setl_reading.specs.code.ReadExpressions.{nested};
+ghost use Rattle.setl_expressions.specs.code.Behind as behind;
+ghost use Rattle.setl_expressions.specs.code.Nests.{Nests};
 
 use crate::cursor::{Cursor, same_kind};
 use crate::grammar::{Grammar, Part};
@@ -20,13 +20,13 @@ struct SlotRule;
 impl Rule for SlotRule {
     type Out = Slot;
 
-    ghost use Rattle.setl_reading.specs.ReadExpressions.{slot};
+    ghost use Rattle.setl_reading.specs.code.ReadExpressions.{slot};
 
     ghost can_read = { λ s. Unit {0} };
 
     ghost reader = { λ s. slot };
 
-    #[tactic(auto, unfolding(setl_reading::specs::ReadExpressions::slot))]
+    #[tactic(auto, unfolding(setl_reading::specs::code::ReadExpressions::slot))]
     fn read(&self, tokens: &mut Cursor<'_>) -> Result<Slot, Fault> {
         if same_kind(tokens.kind(), Kind::Name) {
             return Ok(Slot::Name(tokens.name()?));
@@ -37,7 +37,7 @@ impl Rule for SlotRule {
 }
 
 /// Reads a tuple pattern: one or more names and `-` in brackets, where so many nestings may still open.
-#[tactic(auto, unfolding(setl_reading::specs::ReadExpressions::pattern))]
+#[tactic(auto, unfolding(setl_reading::specs::code::ReadExpressions::pattern))]
 pub fn pattern(room: usize, tokens: &mut Cursor<'_>) -> Result<Items<Slot>, Fault>
     ensures { Reads (spec.pattern room tokens.old) result tokens.new }
 {
@@ -46,7 +46,7 @@ pub fn pattern(room: usize, tokens: &mut Cursor<'_>) -> Result<Items<Slot>, Faul
 }
 
 /// What an iterator binds.
-#[tactic(auto, unfolding(setl_reading::specs::ReadExpressions::bound))]
+#[tactic(auto, unfolding(setl_reading::specs::code::ReadExpressions::bound))]
 pub fn bound(room: usize, tokens: &mut Cursor<'_>) -> Result<Bound, Fault>
     ensures { Reads (spec.bound room tokens.old) result tokens.new }
 {
@@ -66,7 +66,7 @@ fn argument(room: usize, tokens: &mut Cursor<'_>) -> Result<Text, Fault>
 }
 
 /// The map and its argument behind `value =`.
-#[tactic(auto, unfolding(setl_reading::specs::ReadExpressions::image))]
+#[tactic(auto, unfolding(setl_reading::specs::code::ReadExpressions::image))]
 fn image(room: usize, value: Text, tokens: &mut Cursor<'_>) -> Result<Iter, Fault>
     ensures { Reads (spec.image room value tokens.old) result tokens.new }
 {
@@ -85,14 +85,14 @@ impl<'g, F: Fn(&mut Cursor<'_>, usize, Part) -> Result<Expr, Fault>> Rule for It
     type Out = Iter;
 
     ghost use Rattle.std.specs.Prelude.{◌-◌};
-    ghost use Rattle.setl_reading.specs.ReadExpressions.{nested, iter};
-    ghost use Rattle.setl_expressions.specs.Nests.{Nests};
+    ghost use Rattle.setl_reading.specs.code.ReadExpressions.{nested, iter};
+    ghost use Rattle.setl_expressions.specs.code.Nests.{Nests};
 
     ghost can_read = { λ s. Nests s.grammar.now.room (F.pre s.grammar.now.inside) (F.post s.grammar.now.inside) };
 
     ghost reader = { λ s. iter (s.grammar.now.room - 1) (nested s.grammar.now.room).source };
 
-    #[tactic(auto, unfolding(setl_reading::specs::ReadExpressions::iter))]
+    #[tactic(auto, unfolding(setl_reading::specs::code::ReadExpressions::iter))]
     fn read(&self, tokens: &mut Cursor<'_>) -> Result<Iter, Fault> {
         if same_kind(tokens.kind(), Kind::Name) {
             let name = tokens.name()?;
@@ -104,7 +104,7 @@ impl<'g, F: Fn(&mut Cursor<'_>, usize, Part) -> Result<Expr, Fault>> Rule for It
 
 impl<F: Fn(&mut Cursor<'_>, usize, Part) -> Result<Expr, Fault>> Grammar<F> {
     /// An iterator behind its name.
-    #[tactic(auto, unfolding(setl_reading::specs::ReadExpressions::named_iter))]
+    #[tactic(auto, unfolding(setl_reading::specs::code::ReadExpressions::named_iter))]
     fn named_iter(&self, name: Text, tokens: &mut Cursor<'_>) -> Result<Iter, Fault>
         requires { Nests self.now.room (F.pre self.now.inside) (F.post self.now.inside) }
         ensures { Reads (spec.named_iter (self.now.room - 1) (nested self.now.room).source name tokens.old) result tokens.new }
@@ -118,7 +118,7 @@ impl<F: Fn(&mut Cursor<'_>, usize, Part) -> Result<Expr, Fault>> Grammar<F> {
     }
 
     /// An iterator that binds the components of a pattern.
-    #[tactic(auto, unfolding(setl_reading::specs::ReadExpressions::pattern_iter))]
+    #[tactic(auto, unfolding(setl_reading::specs::code::ReadExpressions::pattern_iter))]
     fn pattern_iter(&self, tokens: &mut Cursor<'_>) -> Result<Iter, Fault>
         requires { Nests self.now.room (F.pre self.now.inside) (F.post self.now.inside) }
         ensures { Reads (spec.pattern_iter (self.now.room - 1) (nested self.now.room).source tokens.old) result tokens.new }
@@ -129,7 +129,7 @@ impl<F: Fn(&mut Cursor<'_>, usize, Part) -> Result<Expr, Fault>> Grammar<F> {
     }
 
     /// Iterators one nesting deeper, with commas between.
-    #[tactic(auto, unfolding(setl_reading::specs::ReadExpressions::iters))]
+    #[tactic(auto, unfolding(setl_reading::specs::code::ReadExpressions::iters))]
     pub fn iters(&self, tokens: &mut Cursor<'_>) -> Result<Items<Iter>, Fault>
         requires { Nests self.now.room (F.pre self.now.inside) (F.post self.now.inside) }
         ensures { Reads (spec.iters (self.now.room - 1) (nested self.now.room).source tokens.old) result tokens.new }

@@ -1,9 +1,9 @@
 //! Expressions with at most so many nestings.
 
 ghost use Rattle.std.specs.Prelude.{◌-◌};
-ghost use Rattle.setl_reading.specs.Reading.{Reads};
-ghost use Rattle.setl_reading.specs.ReadExpressions as spec;
-ghost use Rattle.setl_expressions.specs.Nests.{reader_of};
+ghost use Rattle.setl_reading.specs.code.Reading.{Reads};
+ghost use Rattle.setl_reading.specs.code.ReadExpressions as spec;
+ghost use Rattle.setl_expressions.specs.code.Nests.{reader_of};
 
 use crate::cursor::{Cursor, same_kind};
 use crate::grammar::{Grammar, Part};
@@ -26,7 +26,7 @@ fn nested(tokens: &mut Cursor<'_>, room: usize, part: Part) -> Result<Expr, Faul
 }
 
 /// Reads an expression with at most so many nestings inside one another.
-#[tactic(auto, unfolding(setl_reading::specs::ReadExpressions::expr))]
+#[tactic(auto, unfolding(setl_reading::specs::code::ReadExpressions::expr))]
 pub fn expr(room: usize, tokens: &mut Cursor<'_>) -> Result<Expr, Fault>
     ensures { Reads (spec.expr room tokens.old) result tokens.new }
 {
@@ -53,7 +53,7 @@ pub struct NestedExpr {
 impl Rule for NestedExpr {
     type Out = Expr;
 
-    ghost use Rattle.setl_reading.specs.ReadExpressions.{nested};
+    ghost use Rattle.setl_reading.specs.code.ReadExpressions.{nested};
 
     ghost can_read = { λ s. Unit {0} };
 
@@ -73,13 +73,13 @@ pub struct Condition {
 impl Rule for Condition {
     type Out = Expr;
 
-    ghost use Rattle.setl_reading.specs.ReadExpressions.{nested, condition};
+    ghost use Rattle.setl_reading.specs.code.ReadExpressions.{nested, condition};
 
     ghost can_read = { λ s. Unit {0} };
 
     ghost reader = { λ s. condition s.room (nested s.room) };
 
-    #[tactic(auto, unfolding(setl_reading::specs::ReadExpressions::condition))]
+    #[tactic(auto, unfolding(setl_reading::specs::code::ReadExpressions::condition))]
     fn read(&self, tokens: &mut Cursor<'_>) -> Result<Expr, Fault> {
         tokens.expect(Kind::Bar)?;
         nested_expr(self.room, tokens)
@@ -88,7 +88,7 @@ impl Rule for Condition {
 
 impl Repeated for Condition {
     ghost use Rattle.setl_tree.specs.declared.kind.Kind.TheVariants as k;
-    ghost use Rattle.setl_reading.specs.Reading.{is};
+    ghost use Rattle.setl_reading.specs.code.Reading.{is};
 
     ghost begins_with = { λ s. is k.Bar };
 

@@ -3,11 +3,11 @@
 ghost use Rattle.std.specs.Prelude.{◌≡◌, ◌-◌, suc};
 ghost use Rattle.setl_tree.specs.declared.kind.Kind.TheVariants as k;
 ghost use Rattle.setl_tree.specs.Operators.{quantifier};
-ghost use Rattle.setl_reading.specs.Reading.{Reads, opening_one_of};
-ghost use Rattle.setl_reading.specs.ReadExpressions as spec;
-ghost use Rattle.setl_reading.specs.ReadExpressions.{nested};
-ghost use Rattle.setl_expressions.specs.Behind as behind;
-ghost use Rattle.setl_expressions.specs.Nests.{Nests, reader_of};
+ghost use Rattle.setl_reading.specs.code.Reading.{Reads, opening_one_of};
+ghost use Rattle.setl_reading.specs.code.ReadExpressions as spec;
+ghost use Rattle.setl_reading.specs.code.ReadExpressions.{nested};
+ghost use Rattle.setl_expressions.specs.code.Behind as behind;
+ghost use Rattle.setl_expressions.specs.code.Nests.{Nests, reader_of};
 
 use crate::chain::{Chain, NotRule, PrefixRule, chain_from};
 use crate::cursor::{Cursor, same_kind};
@@ -22,7 +22,7 @@ use setl_reading::Fault;
 use setl_tree::{Boxed, Expr, Items, Kind, Quantifier, Selector};
 
 /// Whether a token of this kind opens a selector: `(` or `{`.
-#[tactic(auto, unfolding(setl_reading::specs::ReadExpressions::begins_selector))]
+#[tactic(auto, unfolding(setl_reading::specs::code::ReadExpressions::begins_selector))]
 pub fn begins_selector(kind: Kind) -> bool
     ensures { result ≡ spec.begins_selector kind }
 {
@@ -30,7 +30,7 @@ pub fn begins_selector(kind: Kind) -> bool
 }
 
 /// The word of a quantifier, where so many nestings may still open and it opens one.
-#[tactic(auto, unfolding(setl_reading::specs::Reading::opening_one_of))]
+#[tactic(auto, unfolding(setl_reading::specs::code::Reading::opening_one_of))]
 fn open_quantifier(room: usize, tokens: &mut Cursor<'_>) -> Result<Quantifier, Fault>
     ensures { Reads (opening_one_of room quantifier tokens.old) result tokens.new }
 {
@@ -54,8 +54,8 @@ impl<'g, F: Fn(&mut Cursor<'_>, usize, Part) -> Result<Expr, Fault>> Rule for Se
     type Out = Selector;
 
     ghost use Rattle.std.specs.Prelude.{◌-◌};
-    ghost use Rattle.setl_reading.specs.ReadExpressions.{nested, selector};
-    ghost use Rattle.setl_expressions.specs.Nests.{Nests};
+    ghost use Rattle.setl_reading.specs.code.ReadExpressions.{nested, selector};
+    ghost use Rattle.setl_expressions.specs.code.Nests.{Nests};
 
     ghost can_read = { λ s. Nests s.grammar.now.room (F.pre s.grammar.now.inside) (F.post s.grammar.now.inside) };
 
@@ -68,7 +68,7 @@ impl<'g, F: Fn(&mut Cursor<'_>, usize, Part) -> Result<Expr, Fault>> Rule for Se
 
 impl<'g, F: Fn(&mut Cursor<'_>, usize, Part) -> Result<Expr, Fault>> Repeated
     for SelectorRule<'g, F> {
-    ghost use Rattle.setl_reading.specs.ReadExpressions.{begins_selector};
+    ghost use Rattle.setl_reading.specs.code.ReadExpressions.{begins_selector};
 
     ghost begins_with = { λ s. begins_selector };
 
@@ -87,8 +87,8 @@ impl<'g, F: Fn(&mut Cursor<'_>, usize, Part) -> Result<Expr, Fault>> Rule for Pr
     type Out = Expr;
 
     ghost use Rattle.std.specs.Prelude.{◌-◌};
-    ghost use Rattle.setl_reading.specs.ReadExpressions.{nested, e11};
-    ghost use Rattle.setl_expressions.specs.Nests.{Nests};
+    ghost use Rattle.setl_reading.specs.code.ReadExpressions.{nested, e11};
+    ghost use Rattle.setl_expressions.specs.code.Nests.{Nests};
 
     ghost can_read = { λ s. Nests s.grammar.now.room (F.pre s.grammar.now.inside) (F.post s.grammar.now.inside) };
 
@@ -109,8 +109,8 @@ impl<'g, F: Fn(&mut Cursor<'_>, usize, Part) -> Result<Expr, Fault>> Rule for Co
     type Out = Expr;
 
     ghost use Rattle.std.specs.Prelude.{◌-◌};
-    ghost use Rattle.setl_reading.specs.ReadExpressions.{nested, e5};
-    ghost use Rattle.setl_expressions.specs.Nests.{Nests};
+    ghost use Rattle.setl_reading.specs.code.ReadExpressions.{nested, e5};
+    ghost use Rattle.setl_expressions.specs.code.Nests.{Nests};
 
     ghost can_read = { λ s. Nests s.grammar.now.room (F.pre s.grammar.now.inside) (F.post s.grammar.now.inside) };
 
@@ -123,7 +123,7 @@ impl<'g, F: Fn(&mut Cursor<'_>, usize, Part) -> Result<Expr, Fault>> Rule for Co
 
 impl<F: Fn(&mut Cursor<'_>, usize, Part) -> Result<Expr, Fault>> Grammar<F> {
     /// A slice behind `( expr ..`.
-    #[tactic(auto, unfolding(setl_reading::specs::ReadExpressions::slice))]
+    #[tactic(auto, unfolding(setl_reading::specs::code::ReadExpressions::slice))]
     fn slice(&self, from: Expr, tokens: &mut Cursor<'_>) -> Result<Selector, Fault>
         requires { Nests self.now.room (F.pre self.now.inside) (F.post self.now.inside) }
         ensures { Reads (spec.slice self.now.room (nested self.now.room) from tokens.old) result tokens.new }
@@ -138,7 +138,7 @@ impl<F: Fn(&mut Cursor<'_>, usize, Part) -> Result<Expr, Fault>> Grammar<F> {
     }
 
     /// What stands behind `( expr`.
-    #[tactic(auto, unfolding(setl_reading::specs::ReadExpressions::arguments))]
+    #[tactic(auto, unfolding(setl_reading::specs::code::ReadExpressions::arguments))]
     fn arguments(&self, first: Expr, tokens: &mut Cursor<'_>) -> Result<Selector, Fault>
         requires { Nests self.now.room (F.pre self.now.inside) (F.post self.now.inside) }
         ensures { Reads (spec.arguments self.now.room (nested self.now.room) first tokens.old) result tokens.new }
@@ -153,7 +153,7 @@ impl<F: Fn(&mut Cursor<'_>, usize, Part) -> Result<Expr, Fault>> Grammar<F> {
     }
 
     /// What stands behind `(`.
-    #[tactic(auto, unfolding(setl_reading::specs::ReadExpressions::round))]
+    #[tactic(auto, unfolding(setl_reading::specs::code::ReadExpressions::round))]
     fn round(&self, tokens: &mut Cursor<'_>) -> Result<Selector, Fault>
         requires { Nests self.now.room (F.pre self.now.inside) (F.post self.now.inside) }
         ensures { Reads (spec.round self.now.room (nested self.now.room) tokens.old) result tokens.new }
@@ -167,7 +167,7 @@ impl<F: Fn(&mut Cursor<'_>, usize, Part) -> Result<Expr, Fault>> Grammar<F> {
     }
 
     /// `{x, ..}` behind a primary expression.
-    #[tactic(auto, unfolding(setl_reading::specs::ReadExpressions::braces))]
+    #[tactic(auto, unfolding(setl_reading::specs::code::ReadExpressions::braces))]
     pub fn braces(&self, tokens: &mut Cursor<'_>) -> Result<Selector, Fault>
         requires { Nests self.now.room (F.pre self.now.inside) (F.post self.now.inside) }
         ensures { Reads (spec.braces self.now.room (nested self.now.room) tokens.old) result tokens.new }
@@ -180,7 +180,7 @@ impl<F: Fn(&mut Cursor<'_>, usize, Part) -> Result<Expr, Fault>> Grammar<F> {
     }
 
     /// A selector.
-    #[tactic(auto, unfolding(setl_reading::specs::ReadExpressions::selector))]
+    #[tactic(auto, unfolding(setl_reading::specs::code::ReadExpressions::selector))]
     fn selector(&self, tokens: &mut Cursor<'_>) -> Result<Selector, Fault>
         requires { Nests self.now.room (F.pre self.now.inside) (F.post self.now.inside) }
         ensures { Reads (spec.selector self.now.room (nested self.now.room) tokens.old) result tokens.new }
@@ -193,7 +193,7 @@ impl<F: Fn(&mut Cursor<'_>, usize, Part) -> Result<Expr, Fault>> Grammar<F> {
     }
 
     /// An expression in round brackets.
-    #[tactic(auto, unfolding(setl_reading::specs::ReadExpressions::parenthesized))]
+    #[tactic(auto, unfolding(setl_reading::specs::code::ReadExpressions::parenthesized))]
     fn parenthesized(&self, tokens: &mut Cursor<'_>) -> Result<Expr, Fault>
         requires { Nests self.now.room (F.pre self.now.inside) (F.post self.now.inside) }
         ensures { Reads (spec.parenthesized self.now.room (nested self.now.room) tokens.old) result tokens.new }
@@ -219,7 +219,7 @@ impl<F: Fn(&mut Cursor<'_>, usize, Part) -> Result<Expr, Fault>> Grammar<F> {
     }
 
     /// `if condition then value else other end`
-    #[tactic(auto, unfolding(setl_reading::specs::ReadExpressions::if_expr))]
+    #[tactic(auto, unfolding(setl_reading::specs::code::ReadExpressions::if_expr))]
     fn if_expr(&self, tokens: &mut Cursor<'_>) -> Result<Expr, Fault>
         requires { Nests self.now.room (F.pre self.now.inside) (F.post self.now.inside) }
         ensures { Reads (spec.if_expr self.now.room (nested self.now.room) tokens.old) result tokens.new }
@@ -231,7 +231,7 @@ impl<F: Fn(&mut Cursor<'_>, usize, Part) -> Result<Expr, Fault>> Grammar<F> {
     }
 
     /// A set in its brackets.
-    #[tactic(auto, unfolding(setl_reading::specs::ReadExpressions::set))]
+    #[tactic(auto, unfolding(setl_reading::specs::code::ReadExpressions::set))]
     fn set(&self, tokens: &mut Cursor<'_>) -> Result<Expr, Fault>
         requires { Nests self.now.room (F.pre self.now.inside) (F.post self.now.inside) }
         ensures { Reads (spec.set self.now.room (nested self.now.room) tokens.old) result tokens.new }
@@ -243,7 +243,7 @@ impl<F: Fn(&mut Cursor<'_>, usize, Part) -> Result<Expr, Fault>> Grammar<F> {
     }
 
     /// A tuple in its brackets.
-    #[tactic(auto, unfolding(setl_reading::specs::ReadExpressions::tuple))]
+    #[tactic(auto, unfolding(setl_reading::specs::code::ReadExpressions::tuple))]
     fn tuple(&self, tokens: &mut Cursor<'_>) -> Result<Expr, Fault>
         requires { Nests self.now.room (F.pre self.now.inside) (F.post self.now.inside) }
         ensures { Reads (spec.tuple self.now.room (nested self.now.room) tokens.old) result tokens.new }
@@ -283,7 +283,7 @@ impl<F: Fn(&mut Cursor<'_>, usize, Part) -> Result<Expr, Fault>> Grammar<F> {
     }
 
     /// A primary expression.
-    #[tactic(auto, unfolding(setl_reading::specs::ReadExpressions::primary, setl_reading::specs::Reading::one_of))]
+    #[tactic(auto, unfolding(setl_reading::specs::code::ReadExpressions::primary, setl_reading::specs::code::Reading::one_of))]
     fn primary(&self, tokens: &mut Cursor<'_>) -> Result<Expr, Fault>
         requires { Nests self.now.room (F.pre self.now.inside) (F.post self.now.inside) }
         ensures { Reads (spec.primary self.now.room (nested self.now.room) tokens.old) result tokens.new }
@@ -307,7 +307,7 @@ impl<F: Fn(&mut Cursor<'_>, usize, Part) -> Result<Expr, Fault>> Grammar<F> {
     }
 
     /// A primary expression with its selectors.
-    #[tactic(auto, unfolding(setl_reading::specs::ReadExpressions::e12, setl_reading::specs::ReadExpressions::selectors))]
+    #[tactic(auto, unfolding(setl_reading::specs::code::ReadExpressions::e12, setl_reading::specs::code::ReadExpressions::selectors))]
     fn e12(&self, tokens: &mut Cursor<'_>) -> Result<Expr, Fault>
         requires { Nests self.now.room (F.pre self.now.inside) (F.post self.now.inside) }
         ensures { Reads (spec.e12 self.now.room (nested self.now.room) tokens.old) result tokens.new }
@@ -318,7 +318,7 @@ impl<F: Fn(&mut Cursor<'_>, usize, Part) -> Result<Expr, Fault>> Grammar<F> {
     }
 
     /// An operand with its prefixes.
-    #[tactic(auto, unfolding(setl_reading::specs::ReadExpressions::e11, setl_reading::specs::ReadExpressions::prefixes))]
+    #[tactic(auto, unfolding(setl_reading::specs::code::ReadExpressions::e11, setl_reading::specs::code::ReadExpressions::prefixes))]
     fn e11(&self, tokens: &mut Cursor<'_>) -> Result<Expr, Fault>
         requires { Nests self.now.room (F.pre self.now.inside) (F.post self.now.inside) }
         ensures { Reads (spec.e11 self.now.room (nested self.now.room) tokens.old) result tokens.new }
@@ -329,7 +329,7 @@ impl<F: Fn(&mut Cursor<'_>, usize, Part) -> Result<Expr, Fault>> Grammar<F> {
     }
 
     /// What comparisons compare.
-    #[tactic(auto, unfolding(setl_reading::specs::ReadExpressions::e7))]
+    #[tactic(auto, unfolding(setl_reading::specs::code::ReadExpressions::e7))]
     pub fn e7(&self, tokens: &mut Cursor<'_>) -> Result<Expr, Fault>
         requires { Nests self.now.room (F.pre self.now.inside) (F.post self.now.inside) }
         ensures { Reads (spec.e7 self.now.room (nested self.now.room) tokens.old) result tokens.new }
@@ -367,7 +367,7 @@ impl<F: Fn(&mut Cursor<'_>, usize, Part) -> Result<Expr, Fault>> Grammar<F> {
     }
 
     /// What goes on from the left side of a comparison.
-    #[tactic(auto, unfolding(setl_reading::specs::ReadExpressions::compared, setl_reading::specs::Reading::one_of))]
+    #[tactic(auto, unfolding(setl_reading::specs::code::ReadExpressions::compared, setl_reading::specs::code::Reading::one_of))]
     fn compared(&self, a: Expr, tokens: &mut Cursor<'_>) -> Result<Expr, Fault>
         requires { Nests self.now.room (F.pre self.now.inside) (F.post self.now.inside) }
         ensures { Reads (spec.compared self.now.room (nested self.now.room) a tokens.old) result tokens.new }
@@ -381,7 +381,7 @@ impl<F: Fn(&mut Cursor<'_>, usize, Part) -> Result<Expr, Fault>> Grammar<F> {
     }
 
     /// A comparison, or what comparisons compare.
-    #[tactic(auto, unfolding(setl_reading::specs::ReadExpressions::e6))]
+    #[tactic(auto, unfolding(setl_reading::specs::code::ReadExpressions::e6))]
     fn e6(&self, tokens: &mut Cursor<'_>) -> Result<Expr, Fault>
         requires { Nests self.now.room (F.pre self.now.inside) (F.post self.now.inside) }
         ensures { Reads (spec.e6 self.now.room (nested self.now.room) tokens.old) result tokens.new }
@@ -391,7 +391,7 @@ impl<F: Fn(&mut Cursor<'_>, usize, Part) -> Result<Expr, Fault>> Grammar<F> {
     }
 
     /// A comparison with its prefixes `not`.
-    #[tactic(auto, unfolding(setl_reading::specs::ReadExpressions::e5, setl_reading::specs::ReadExpressions::nots))]
+    #[tactic(auto, unfolding(setl_reading::specs::code::ReadExpressions::e5, setl_reading::specs::code::ReadExpressions::nots))]
     fn e5(&self, tokens: &mut Cursor<'_>) -> Result<Expr, Fault>
         requires { Nests self.now.room (F.pre self.now.inside) (F.post self.now.inside) }
         ensures { Reads (spec.e5 self.now.room (nested self.now.room) tokens.old) result tokens.new }
@@ -402,7 +402,7 @@ impl<F: Fn(&mut Cursor<'_>, usize, Part) -> Result<Expr, Fault>> Grammar<F> {
     }
 
     /// An expression that is no quantifier.
-    #[tactic(auto, unfolding(setl_reading::specs::ReadExpressions::e2))]
+    #[tactic(auto, unfolding(setl_reading::specs::code::ReadExpressions::e2))]
     fn e2(&self, tokens: &mut Cursor<'_>) -> Result<Expr, Fault>
         requires { Nests self.now.room (F.pre self.now.inside) (F.post self.now.inside) }
         ensures { Reads (spec.e2 self.now.room (nested self.now.room) tokens.old) result tokens.new }
@@ -423,7 +423,7 @@ impl<F: Fn(&mut Cursor<'_>, usize, Part) -> Result<Expr, Fault>> Grammar<F> {
     }
 
     /// What goes on from an operand of `and`.
-    #[tactic(auto, unfolding(setl_reading::specs::ReadExpressions::after))]
+    #[tactic(auto, unfolding(setl_reading::specs::code::ReadExpressions::after))]
     pub fn after_comparison(&self, a: Expr, tokens: &mut Cursor<'_>) -> Result<Expr, Fault>
         requires { Nests self.now.room (F.pre self.now.inside) (F.post self.now.inside) }
         ensures { Reads (spec.after self.now.room (nested self.now.room) a tokens.old) result tokens.new }
@@ -454,7 +454,7 @@ impl<F: Fn(&mut Cursor<'_>, usize, Part) -> Result<Expr, Fault>> Grammar<F> {
     }
 
     /// `exists iterators | condition` and the like.
-    #[tactic(auto, unfolding(setl_reading::specs::ReadExpressions::quantified, setl_reading::specs::Reading::opening_one_of))]
+    #[tactic(auto, unfolding(setl_reading::specs::code::ReadExpressions::quantified, setl_reading::specs::code::Reading::opening_one_of))]
     fn quantified(&self, tokens: &mut Cursor<'_>) -> Result<Expr, Fault>
         requires { Nests self.now.room (F.pre self.now.inside) (F.post self.now.inside) }
         ensures { Reads (spec.quantified self.now.room (nested self.now.room) tokens.old) result tokens.new }
@@ -466,7 +466,7 @@ impl<F: Fn(&mut Cursor<'_>, usize, Part) -> Result<Expr, Fault>> Grammar<F> {
     }
 
     /// An expression.
-    #[tactic(auto, unfolding(setl_reading::specs::ReadExpressions::whole))]
+    #[tactic(auto, unfolding(setl_reading::specs::code::ReadExpressions::whole))]
     pub fn whole(&self, tokens: &mut Cursor<'_>) -> Result<Expr, Fault>
         requires { Nests self.now.room (F.pre self.now.inside) (F.post self.now.inside) }
         ensures { Reads (spec.whole self.now.room (nested self.now.room) tokens.old) result tokens.new }
@@ -478,7 +478,7 @@ impl<F: Fn(&mut Cursor<'_>, usize, Part) -> Result<Expr, Fault>> Grammar<F> {
     }
 
     /// A part of expressions.
-    #[tactic(auto, unfolding(setl_reading::specs::ReadExpressions::nested))]
+    #[tactic(auto, unfolding(setl_reading::specs::code::ReadExpressions::nested))]
     pub fn part(&self, part: Part, tokens: &mut Cursor<'_>) -> Result<Expr, Fault>
         requires { Nests self.now.room (F.pre self.now.inside) (F.post self.now.inside) }
         ensures { Reads (reader_of (nested (suc self.now.room)) part tokens.old) result tokens.new }

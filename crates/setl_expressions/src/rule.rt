@@ -1,9 +1,9 @@
 //! Rules of the grammar, and lists of them.
 
 ghost use Rattle.std.specs.Prelude.{◌≡◌, IfOk, IfErr, [], ◌∷◌, ◌++◌};
-ghost use Rattle.setl_reading.specs.Reading as spec;
-ghost use Rattle.setl_reading.specs.Reading.{Reads};
-ghost use Rattle.setl_expressions.specs.Behind as behind;
+ghost use Rattle.setl_reading.specs.code.Reading as spec;
+ghost use Rattle.setl_reading.specs.code.Reading.{Reads};
+ghost use Rattle.setl_expressions.specs.code.Behind as behind;
 
 use crate::cursor::{Cursor, same_kind};
 use setl_reading::Fault;
@@ -15,7 +15,7 @@ pub trait Rule {
     /// What is read.
     type Out: Drop;
 
-    ghost use Rattle.setl_reading.specs.Reading.{Reader, Reads};
+    ghost use Rattle.setl_reading.specs.code.Reading.{Reader, Reads};
 
     /// What reading needs.
     ghost can_read: { Self → Type 0 };
@@ -176,7 +176,7 @@ pub fn boxed_second<A: Drop, B: Drop>(
 }
 
 /// One or more parts in their order, with commas between. No comma stands behind the last.
-#[tactic(auto, unfolding(setl_reading::specs::Reading::separated))]
+#[tactic(auto, unfolding(setl_reading::specs::code::Reading::separated))]
 pub fn separated<R: Rule>(rule: &R, tokens: &mut Cursor<'_>) -> Result<Items<R::Out>, Fault>
     requires { R.can_read rule.now }
     ensures { Reads (spec.separated (R.reader rule.now) tokens.old) result tokens.new }
@@ -195,7 +195,7 @@ impl<'r, R: Rule> Rule for BehindComma<'r, R> {
     type Out = R::Out;
 
     ghost use Rattle.setl_tree.specs.declared.kind.Kind.TheVariants as k;
-    ghost use Rattle.setl_reading.specs.Reading.{expect, ◌>>◌};
+    ghost use Rattle.setl_reading.specs.code.Reading.{expect, ◌>>◌};
 
     ghost can_read = { λ s. R.can_read s.part.now };
 
@@ -209,7 +209,7 @@ impl<'r, R: Rule> Rule for BehindComma<'r, R> {
 
 impl<'r, R: Rule> Repeated for BehindComma<'r, R> {
     ghost use Rattle.setl_tree.specs.declared.kind.Kind.TheVariants as k;
-    ghost use Rattle.setl_reading.specs.Reading.{is};
+    ghost use Rattle.setl_reading.specs.code.Reading.{is};
 
     ghost begins_with = { λ s. is k.Comma };
 
@@ -219,7 +219,7 @@ impl<'r, R: Rule> Repeated for BehindComma<'r, R> {
 }
 
 /// Items, and behind them any number of parts in their order, each behind a comma.
-#[tactic(auto, unfolding(setl_reading::specs::Reading::more))]
+#[tactic(auto, unfolding(setl_reading::specs::code::Reading::more))]
 pub fn more_onto<R: Rule>(
     items: Items<R::Out>,
     rule: &R,
@@ -233,7 +233,7 @@ pub fn more_onto<R: Rule>(
 
 /// Parts in their order with commas between, or none where the next token is the one that closes them. That token is
 /// left.
-#[tactic(auto, unfolding(setl_reading::specs::Reading::listed))]
+#[tactic(auto, unfolding(setl_reading::specs::code::Reading::listed))]
 pub fn listed<R: Rule>(
     close: Kind,
     rule: &R,
@@ -257,7 +257,7 @@ pub struct SeparatedRule<R> {
 impl<R: Rule> Rule for SeparatedRule<R> {
     type Out = Items<R::Out>;
 
-    ghost use Rattle.setl_reading.specs.Reading.{separated};
+    ghost use Rattle.setl_reading.specs.code.Reading.{separated};
 
     ghost can_read = { λ s. R.can_read s.item };
 
@@ -278,7 +278,7 @@ pub struct ListedRule<R> {
 impl<R: Rule> Rule for ListedRule<R> {
     type Out = Items<R::Out>;
 
-    ghost use Rattle.setl_reading.specs.Reading.{listed};
+    ghost use Rattle.setl_reading.specs.code.Reading.{listed};
 
     ghost can_read = { λ s. R.can_read s.item };
 

@@ -2,7 +2,7 @@
 
 ghost use Rattle.std.specs.Prelude.{◌≡◌};
 ghost use Rattle.std.specs.Option.{option_map};
-ghost use Rattle.setl_value.specs.DatumOf.{datum, lent};
+ghost use Rattle.setl_value.specs.code.DatumOf.{datum, lent};
 ghost use Rattle.setl_value.specs.Pairs.{pair_parts};
 ghost use Rattle.setl_modes.specs.Modes.{mode_of};
 ghost use Rattle.setl_fit.specs.Neighbours.{follows, go_together, images_at_one_point, pair_data};

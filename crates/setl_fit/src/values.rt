@@ -3,8 +3,8 @@
 ghost use Rattle.std.specs.Prelude.{◌≡◌, slice_get, None};
 ghost use Rattle.std.specs.List.{list_all};
 ghost use Rattle.std.specs.Option.{unwrap_or};
-ghost use Rattle.setl_value.specs.Body.{Members};
-ghost use Rattle.setl_value.specs.DatumOf.{datum};
+ghost use Rattle.setl_value.specs.code.Body.{Members};
+ghost use Rattle.setl_value.specs.code.DatumOf.{datum};
 ghost use Rattle.setl_value.specs.Order.{IsRising};
 ghost use Rattle.setl_modes.specs.Fits.{datum_fits, part_fits};
 ghost use Rattle.setl_modes.specs.Modes.{mode_of};

@@ -10,7 +10,7 @@ use Rattle.setl_program.specs.declared.program.Procedure.{Procedure}
 use Rattle.setl_program.specs.declared.program.Program.{Program}
 use Rattle.setl_program.specs.Program.{Block}
 use Rattle.setl_program.specs.ProgramOf.{parameter_of}
-use Rattle.setl_program.specs.Plain.{plain_block, plain_procedure, plain_program}
+use Rattle.setl_program.specs.code.Plain.{plain_block, plain_procedure, plain_program}
 use Rattle.setl_code.specs.declared.code.OwnName.{OwnName}
 use Rattle.setl_code.specs.declared.code.Step as rust_step
 use Rattle.setl_code.specs.declared.code.Body as rust
@@ -20,7 +20,7 @@ use Rattle.setl_code.specs.CodeOf.{main_body, procedure_body, code_of}
 use Rattle.setl_code.specs.Generated.{block, main_code, procedure_code}
 use Rattle.setl_code.specs.Names.{is_among, is_own, first_among, in_block}
 use Rattle.setl_code.specs.Piece.{Laid, one, no_loop, steps_of}
-use Rattle.setl_code.specs.Plain.{plain_name, plain_step, plain_body, plain_bodies, plain_code}
+use Rattle.setl_code.specs.code.Plain.{plain_name, plain_step, plain_body, plain_bodies, plain_code}
 use Rattle.setl_gen.specs.declared.hole.Hole.{Hole}
 use Rattle.setl_gen.specs.Table.{Table, variables, with_all, all_noted}
 use Rattle.setl_gen.specs.Emitted.{Emitted, after}

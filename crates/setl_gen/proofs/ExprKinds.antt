@@ -11,7 +11,7 @@ use Rattle.setl_program.specs.declared.expr.Link.{Link}
 use Rattle.setl_program.specs.declared.expr.Argument.TheOpen.{Expr-F}
 use Rattle.setl_program.specs.Program as plain
 use Rattle.setl_program.specs.Lists.{chained}
-use Rattle.setl_program.specs.Plain.{plain_expr, plain_link, plain_exprs, plain_iterators, plain_binding, condition_of, argument_step, expr_step, link_step, iterator_step}
+use Rattle.setl_program.specs.code.Plain.{plain_expr, plain_link, plain_exprs, plain_iterators, plain_binding, condition_of, argument_step, expr_step, link_step, iterator_step}
 use Rattle.setl_code.specs.Generated.{expr}
 use Rattle.setl_gen.specs.Emitted.{Emitted, after}
 

@@ -10,7 +10,7 @@ use Rattle.setl_program.specs.declared.stmt.Stmt.{Stmt}
 use Rattle.setl_program.specs.declared.stmt.StmtKind.{StmtKind}
 use Rattle.setl_program.specs.declared.stmt.StmtKind.TheVariants as kind
 use Rattle.setl_program.specs.Program as plain
-use Rattle.setl_program.specs.Plain.{plain_expr, plain_iterators, condition_of, plain_block, plain_branch, otherwise}
+use Rattle.setl_program.specs.code.Plain.{plain_expr, plain_iterators, condition_of, plain_block, plain_branch, otherwise}
 use Rattle.setl_code.specs.Names.{in_expr, in_iterators, in_condition, in_stmt, in_block}
 use Rattle.setl_gen.specs.StmtKinds.{plain_kind}
 use Rattle.setl_gen.specs.Found.{branch_variables}

@@ -14,7 +14,7 @@ use Rattle.setl_program.specs.declared.expr.Argument.TheOpen.{Link-F}
 use Rattle.setl_program.specs.Program.{Binding, Expr, Undefined, Apply, Connect, Exprs, no_expr, more_exprs, Arguments}
 use Rattle.setl_program.specs.Operators as program
 use Rattle.setl_program.specs.Lists.{exprs_of, chained}
-use Rattle.setl_program.specs.Plain.{plain_expr, plain_link, argument_step, expr_step, link_step, iterator_step}
+use Rattle.setl_program.specs.code.Plain.{plain_expr, plain_link, argument_step, expr_step, link_step, iterator_step}
 use Rattle.setl_code.specs.Code.{Operate, Decides, TestBool}
 use Rattle.setl_code.specs.Piece.{◌⨾◌, nothing, one}
 use Rattle.setl_code.specs.Generated.{expr}

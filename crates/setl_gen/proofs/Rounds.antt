@@ -18,7 +18,7 @@ use Rattle.setl_program.specs.declared.expr.Iterator.{out-Iterator, fold_out-Ite
 use Rattle.setl_program.specs.declared.expr.Argument.TheOpen.{Argument-F}
 use Rattle.std.specs.Option.{option_map}
 use Rattle.setl_program.specs.Program.{Slots, Binding, begin_of, Expr, Exprs, Arguments, no_argument, rd_argument}
-use Rattle.setl_program.specs.Plain.{plain_variable, plain_slots, plain_binding, plain_expr, plain_exprs, plain_iterator, plain_iterators, plain_argument, plain_arguments, argument_step, expr_step, link_step, iterator_step}
+use Rattle.setl_program.specs.code.Plain.{plain_variable, plain_slots, plain_binding, plain_expr, plain_exprs, plain_iterator, plain_iterators, plain_argument, plain_arguments, argument_step, expr_step, link_step, iterator_step}
 use Rattle.setl_code.specs.Code.{Push, Load, DropTop, StoreIn, PartsOf, BeginOver, NextOr}
 use Rattle.setl_code.specs.Piece.{Laid, ◌⨾◌, nothing, one}
 use Rattle.setl_code.specs.Generated.{store_slots, parts, bind, set_by, arguments, clear, count_from, count, levels, expr, exprs}

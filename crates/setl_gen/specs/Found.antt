@@ -5,7 +5,7 @@ use Rattle.setl_program.specs.declared.stmt.Branch.{Branch, out-Branch}
 use Rattle.setl_program.specs.declared.stmt.Selector.{Selector}
 use Rattle.setl_program.specs.declared.stmt.Selector.TheVariants as s
 use Rattle.setl_program.specs.Program.{Binding, Member, Components, Point, Exprs, Arguments, no_argument, rd_argument, wr_argument, rw_argument}
-use Rattle.setl_program.specs.Plain.{plain_expr, plain_block}
+use Rattle.setl_program.specs.code.Plain.{plain_expr, plain_block}
 use Rattle.setl_model.specs.Slots.{variables_in}
 use Rattle.setl_code.specs.Names.{in_expr, in_block}
 use Rattle.setl_code.specs.Names as names

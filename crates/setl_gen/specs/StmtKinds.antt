@@ -2,7 +2,7 @@
 use Rattle.std.specs.Prelude.{◌≡◌, ℕ, suc, List, [], ◌∷◌, ◌++◌, map}
 use Rattle.setl_program.specs.declared.stmt.StmtKind.{StmtKind, fold-StmtKind}
 use Rattle.setl_program.specs.Program as plain
-use Rattle.setl_program.specs.Plain.{plain_expr, plain_block, plain_branch, otherwise, kind_step, branch_step, stmt_step}
+use Rattle.setl_program.specs.code.Plain.{plain_expr, plain_block, plain_branch, otherwise, kind_step, branch_step, stmt_step}
 use Rattle.setl_program.specs.declared.stmt.Branch.{Branch, out-Branch}
 use Rattle.setl_program.specs.declared.stmt.Selector.{Selector}
 use Rattle.setl_program.specs.declared.stmt.Selector.TheVariants as s

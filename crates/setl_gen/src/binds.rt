@@ -3,7 +3,7 @@
 ghost use Rattle.std.specs.Prelude.{◌≡◌, OnOk};
 ghost use Rattle.std.specs.Option.{option_map};
 ghost use Rattle.setl_program.specs.Program.{no_argument};
-ghost use Rattle.setl_program.specs.Plain.{plain_slots, plain_binding, plain_argument, plain_arguments, plain_iterators, plain_variable};
+ghost use Rattle.setl_program.specs.code.Plain.{plain_slots, plain_binding, plain_argument, plain_arguments, plain_iterators, plain_variable};
 ghost use Rattle.setl_model.specs.Slots.{variables_in};
 ghost use Rattle.setl_model.specs.Iterations.{all_bound, bound_by};
 ghost use Rattle.setl_code.specs.Generated as code;

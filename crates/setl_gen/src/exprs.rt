@@ -5,7 +5,7 @@ ghost use Rattle.std.specs.Option.{option_map};
 ghost use Rattle.setl_program.specs.Program.{Apply, Connect, Call, only_if, no_argument};
 ghost use Rattle.setl_program.specs.Operators.{one, two};
 ghost use Rattle.setl_program.specs.Lists.{chained};
-ghost use Rattle.setl_program.specs.Plain.{plain_expr, plain_link, plain_exprs, plain_iterator, plain_iterators, plain_argument, plain_arguments, condition_of};
+ghost use Rattle.setl_program.specs.code.Plain.{plain_expr, plain_link, plain_exprs, plain_iterator, plain_iterators, plain_argument, plain_arguments, condition_of};
 ghost use Rattle.setl_code.specs.Generated as code;
 ghost use Rattle.setl_gen.specs.Emitted.{held, here, after};
 ghost use Rattle.setl_gen.specs.Heads.{CodeGoesOn, begun, next, opened, argument_code};

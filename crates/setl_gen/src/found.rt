@@ -4,7 +4,7 @@ ghost use Rattle.std.specs.Prelude.{◌≡◌, ◌++◌, ◌∷◌, [], OnOk, ma
 ghost use Rattle.std.specs.Option.{option_map};
 ghost use Rattle.setl_program.specs.Program.{Undefined, no_argument};
 ghost use Rattle.setl_program.specs.Lists.{chained};
-ghost use Rattle.setl_program.specs.Plain.{plain_variable, plain_slots, plain_binding, plain_expr, plain_link, plain_exprs, plain_iterator, plain_iterators, plain_argument, plain_arguments, plain_place, plain_block, plain_stmt, selectors_of, condition_of};
+ghost use Rattle.setl_program.specs.code.Plain.{plain_variable, plain_slots, plain_binding, plain_expr, plain_link, plain_exprs, plain_iterator, plain_iterators, plain_argument, plain_arguments, plain_place, plain_block, plain_stmt, selectors_of, condition_of};
 ghost use Rattle.setl_model.specs.Slots.{variables_in};
 ghost use Rattle.setl_code.specs.Names as names;
 ghost use Rattle.setl_gen.specs.StmtKinds.{plain_kind};
@@ -27,7 +27,7 @@ pub struct Found<'p> {
 impl<'p> Model for Found<'p> {
     ghost use Rattle.std.specs.Prelude.{List, map};
     ghost use Rattle.setl_run.specs.Variable.{Variable};
-    ghost use Rattle.setl_program.specs.Plain.{plain_variable};
+    ghost use Rattle.setl_program.specs.code.Plain.{plain_variable};
 
     ghost Value = { List Variable };
 

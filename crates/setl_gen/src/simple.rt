@@ -3,7 +3,7 @@
 ghost use Rattle.std.specs.Prelude.{◌≡◌, OnOk, IfOk, Some};
 ghost use Rattle.setl_value.specs.Datum.{bool};
 ghost use Rattle.setl_program.specs.Program.{begin_of};
-ghost use Rattle.setl_program.specs.Plain.{plain_binding, plain_iterators};
+ghost use Rattle.setl_program.specs.code.Plain.{plain_binding, plain_iterators};
 ghost use Rattle.setl_model.specs.Iterations as model;
 ghost use Rattle.setl_code.specs.Code.{BeginOver, Push, AddBelow, Jump, NextOr, DupTop, Unless, LeaveAll};
 ghost use Rattle.setl_code.specs.Piece.{◌⨾◌, one, jumps_out};

@@ -2,7 +2,7 @@
 
 ghost use Rattle.std.specs.Prelude.{◌≡◌, OnOk};
 ghost use Rattle.setl_program.specs.Program.{Assign, Update, AssignParts, TakeFrom, Perform, Return, Print};
-ghost use Rattle.setl_program.specs.Plain.{plain_variable, plain_slots, plain_place, plain_expr, plain_exprs};
+ghost use Rattle.setl_program.specs.code.Plain.{plain_variable, plain_slots, plain_place, plain_expr, plain_exprs};
 ghost use Rattle.setl_code.specs.Generated as code;
 ghost use Rattle.setl_gen.specs.Emitted.{held, after};
 

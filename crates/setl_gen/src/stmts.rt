@@ -3,7 +3,7 @@
 ghost use Rattle.std.specs.Prelude.{◌≡◌, OnOk};
 ghost use Rattle.std.specs.Option.{option_map};
 ghost use Rattle.setl_program.specs.Program.{For, While};
-ghost use Rattle.setl_program.specs.Plain.{plain_expr, plain_iterators, plain_block, plain_stmt, condition_of};
+ghost use Rattle.setl_program.specs.code.Plain.{plain_expr, plain_iterators, plain_block, plain_stmt, condition_of};
 ghost use Rattle.setl_code.specs.Generated as code;
 ghost use Rattle.setl_gen.specs.Emitted.{held, after};
 ghost use Rattle.setl_gen.specs.StmtKinds.{plain_kind, looped, IsGuarded, IsBranch, AreBranches};

@@ -10,7 +10,7 @@ use Rattle.std.specs.Map.{lookup}
 use Rattle.std.specs.HashMap.{HashMap, get_by_text}
 use Rattle.std.specs.FinMap as map
 use Rattle.std.proofs.lemmas.Map.Text.{is_eq-slice_cmp}
-use Rattle.setl_io.specs.TextMap.{text_map}
+use Rattle.setl_io.specs.code.TextMap.{text_map}
 use Rattle.setl_io.proofs.Cond.{through_cond}
 
 -- the text that an entry of the name has

@@ -1,6 +1,6 @@
 //! Which calls of an object in memory fail.
 ghost use Rattle.std.specs.Prelude.{◌≡◌, ◌≤◌};
-ghost use Rattle.setl_io.specs.Plan.{Plan, new_plan, is_to_fail, after_call};
+ghost use Rattle.setl_io.specs.code.Plan.{Plan, new_plan, is_to_fail, after_call};
 
 use std::marker::Model;
 

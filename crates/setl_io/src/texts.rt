@@ -2,7 +2,7 @@
 ghost use Rattle.std.specs.Prelude.{◌≡◌, IfOk, OnOk, OnErr, string_bytes};
 ghost use Rattle.std.specs.Option.{option_map};
 ghost use Rattle.std.specs.FinMap as map;
-ghost use Rattle.setl_io.specs.TextMap.{TextMap, text_map_code, text_map};
+ghost use Rattle.setl_io.specs.code.TextMap.{TextMap, text_map_code, text_map};
 
 use crate::Memory;
 use indexmap::IndexMap;

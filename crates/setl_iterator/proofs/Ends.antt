@@ -1,7 +1,7 @@
 -- When nothing is left.
 use Rattle.std.specs.Prelude.{◌≡◌, ◌⊎◌, ℕ, ◌==◌, nat_le, length}
 use Rattle.std.proofs.Common.{ap, sym, ◌∙◌, subst, inl, inr}
-use Rattle.setl_value.specs.Body.{Body, Members}
+use Rattle.setl_value.specs.code.Body.{Body, Members}
 use Rattle.setl_value.specs.declared.TupleBody.{TupleBody}
 use Rattle.setl_value.specs.declared.string.Text.{Text}
 use Rattle.setl_iterator.specs.Rests.{IsSound, left_of}

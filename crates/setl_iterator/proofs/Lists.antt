@@ -8,7 +8,7 @@ use Rattle.std.proofs.Math.Seq.{drop-nil}
 use Rattle.std.proofs.lemmas.Bool.Decides.{nat_tests}
 use Rattle.setl_value.specs.Datum.{Datum, int}
 use Rattle.setl_value.specs.declared.Value.{Value}
-use Rattle.setl_value.specs.DatumOf.{datum, lent}
+use Rattle.setl_value.specs.code.DatumOf.{datum, lent}
 use Rattle.setl_model.specs.Core.{Two}
 use Rattle.setl_model.specs.Iterations.{members, singles, letters, place_points}
 

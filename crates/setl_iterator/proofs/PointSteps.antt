@@ -15,7 +15,7 @@ use Rattle.std.proofs.lemmas.List.Sums.{prefix_len-drop_all}
 use Rattle.std.specs.Option.{unwrap_or}
 use Rattle.setl_value.specs.declared.Value.{Value}
 use Rattle.setl_value.specs.declared.Value.TheVariants.{Bool as boolean, Int, Text, Atom, Tuple, Set}
-use Rattle.setl_value.specs.DatumOf.{datum}
+use Rattle.setl_value.specs.code.DatumOf.{datum}
 use Rattle.setl_value.specs.Datum.{Datum, tuple, tuple_of, part_then, no_part, part_list, part_list-parts_of, element_list-elements_of}
 use Rattle.setl_value.specs.Order.{datum_cmp, IsRising}
 use Rattle.setl_value.specs.OrderLaws.{datum_cmp_total, same_datum, equal_iff_same}
@@ -23,7 +23,7 @@ use Rattle.setl_value.specs.Pairs.{pair, pair_parts, second_of, is_map, pairs_at
 use Rattle.setl_value.specs.WellFormed.{IsSetList}
 use Rattle.setl_set.specs.Sets.{insert_datum, insert_by}
 use Rattle.setl_map.specs.Maps.{image, domain_of, only}
-use Rattle.setl_map.specs.Points.{is_at}
+use Rattle.setl_map.specs.code.Points.{is_at}
 use Rattle.setl_model.specs.Core.{Two}
 use Rattle.setl_model.specs.Iterations.{map_points}
 use Rattle.setl_iterator.specs.Points.{points}

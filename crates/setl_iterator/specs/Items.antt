@@ -1,6 +1,6 @@
 -- What an item stands for.
 use Rattle.std.specs.Prelude.{Bool, true, false}
-use Rattle.setl_value.specs.DatumOf.{part}
+use Rattle.setl_value.specs.code.DatumOf.{part}
 use Rattle.setl_model.specs.Core as core
 use Rattle.setl_iterator.specs.declared.iterator.Item.{Item}
 use Rattle.setl_iterator.specs.declared.iterator.Item.TheVariants.{One, Two}

@@ -1,6 +1,6 @@
 -- What the rest of a source stands for. No public clause cites this module.
 use Rattle.std.specs.Prelude.{◌≡◌, ◌+◌, Bool, true, false, List, drop}
-use Rattle.setl_value.specs.Body.{Members}
+use Rattle.setl_value.specs.code.Body.{Members}
 use Rattle.setl_value.specs.Pairs.{is_map}
 use Rattle.setl_model.specs.Core.{Item}
 use Rattle.setl_model.specs.Iterations.{members, singles, letters, place_points}

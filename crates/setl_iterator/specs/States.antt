@@ -3,7 +3,7 @@ use Rattle.std.specs.Prelude.{Bool, true, false, List, Option, None, refl}
 use Rattle.std.specs.Coded.{Coded, code_by, coded×, coded_bool, coded_list, coded_option}
 use Rattle.std.proofs.Common.{◌≡◌}
 use Rattle.setl_value.specs.Datum.{Datum}
-use Rattle.setl_value.specs.DatumCode.{coded_datum}
+use Rattle.setl_value.specs.code.DatumCode.{coded_datum}
 use Rattle.setl_model.specs.Core.{Item, One, Two}
 
 -- whether its items are pairs, and the items that are left

@@ -2,10 +2,10 @@
 
 ghost use Rattle.std.specs.Prelude.{◌≡◌, ◌∷◌, ◌<◌, ◌≤◌, ◌+◌, ◌==◌, true, drop, length, slice_get, if◌then◌else◌, Some, None, IfOk, OnErr};
 ghost use Rattle.std.specs.List.{prefix_len};
-ghost use Rattle.setl_value.specs.Body.{Members};
-ghost use Rattle.setl_value.specs.DatumOf.{datum, lent};
+ghost use Rattle.setl_value.specs.code.Body.{Members};
+ghost use Rattle.setl_value.specs.code.DatumOf.{datum, lent};
 ghost use Rattle.setl_value.specs.Pairs.{is_map, pair};
-ghost use Rattle.setl_map.specs.Points.{is_at};
+ghost use Rattle.setl_map.specs.code.Points.{is_at};
 ghost use Rattle.setl_model.specs.Core.{Two};
 ghost use Rattle.setl_iterator.specs.Items.{plain_item, is_pair};
 ghost use Rattle.setl_iterator.specs.Points.{points};

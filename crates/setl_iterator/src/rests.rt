@@ -1,9 +1,9 @@
 //! What is left of the source of an iterator.
 
 ghost use Rattle.std.specs.Prelude.{◌≡◌, ◌∷◌, ◌+◌, ◌<◌, ◌==◌, [], true, false, drop, length, get_or, slice_get, Some, IfOk, OnErr};
-ghost use Rattle.setl_value.specs.Body.{Members};
+ghost use Rattle.setl_value.specs.code.Body.{Members};
 ghost use Rattle.setl_value.specs.Datum.{text};
-ghost use Rattle.setl_value.specs.DatumOf.{datum, lent, part};
+ghost use Rattle.setl_value.specs.code.DatumOf.{datum, lent, part};
 ghost use Rattle.setl_model.specs.Iterations.{members, singles, letters, place_points};
 ghost use Rattle.setl_iterator.specs.Items.{plain_item, is_pair};
 ghost use Rattle.setl_iterator.specs.Rests.{IsSound, left_of, pairs_of, state_of};

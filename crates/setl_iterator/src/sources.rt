@@ -2,7 +2,7 @@
 
 ghost use Rattle.std.specs.Prelude.{◌≡◌, ◌∷◌, [], List, Some, None, map, MatchResult};
 ghost use Rattle.setl_value.specs.Datum.{Datum};
-ghost use Rattle.setl_value.specs.DatumOf.{datum, part};
+ghost use Rattle.setl_value.specs.code.DatumOf.{datum, part};
 ghost use Rattle.setl_map.specs.Outcome.{all_values};
 ghost use Rattle.setl_model.specs.Iterations.{Started, of_values, one_source, integers_between, integers_stepped};
 ghost use Rattle.setl_iterator.specs.Operands.{fault_of, Refused};

@@ -5,11 +5,11 @@ use Rattle.std.proofs.lemmas.List.{map-append, length-map}
 use Rattle.std.proofs.lemmas.Result.{IfOk-weaker}
 use Rattle.std.specs.Option.{option_map, unwrap_or}
 use Rattle.setl_value.specs.Datum.{Datum}
-use Rattle.setl_value.specs.DatumOf.{part}
+use Rattle.setl_value.specs.code.DatumOf.{part}
 use Rattle.setl_value.specs.declared.Value.{Value}
 use Rattle.setl_map.specs.declared.OpFault.{OpFault}
 use Rattle.setl_map.specs.declared.OpFault.TheVariants as fault
-use Rattle.setl_map.specs.Answers.{Tells}
+use Rattle.setl_map.specs.code.Answers.{Tells}
 use Rattle.setl_map.specs.Outcome.{Outcome, Gives, Fails, Overspends}
 use Rattle.setl_run.specs.Run.{Move, settle}
 use Rattle.setl_run.specs.Variable.{Variable, Global, Own, Bound, is_variable}
@@ -25,8 +25,8 @@ use Rattle.setl_code.specs.declared.code.Slot.{Slot}
 use Rattle.setl_code.specs.declared.code.Slot.TheVariants as slot
 use Rattle.setl_code.specs.Code as plain
 use Rattle.setl_code.specs.Code.{Alteration, TakingOut, Code, Alter}
-use Rattle.setl_code.specs.Plain.{plain_code, plain_slot, plain_bracket, plain_alteration}
-use Rattle.setl_code.specs.MayRun.{HasSlot}
+use Rattle.setl_code.specs.code.Plain.{plain_code, plain_slot, plain_bracket, plain_alteration}
+use Rattle.setl_code.specs.code.MayRun.{HasSlot}
 use Rattle.setl_code.specs.CodeCore.{Held, There, Gone, Cells, held, with_held, write, Operand, Result as Holds, value_of, Pops, popped, CodeCore}
 use Rattle.setl_code.specs.Machine.{machine, at_step, next, on_value, on_top, on_popped, on_held, with_outcome, store_in, store_whole, take_from, alter, selected_by}
 use Rattle.setl_store.specs.Standing.{Standing, over, at_place, top_of, variables}

@@ -4,10 +4,10 @@ use Rattle.std.specs.Prelude.{Result, MatchOption}
 use Rattle.std.specs.Io.KnownBytes.{Consumes}
 use Rattle.std.proofs.lemmas.List.{append-nil}
 use Rattle.setl_value.specs.Datum.{Datum}
-use Rattle.setl_value.specs.DatumOf.{datum}
+use Rattle.setl_value.specs.code.DatumOf.{datum}
 use Rattle.setl_value.specs.declared.Value as values
 use Rattle.setl_text.specs.Reading.{Reading, Denotes, AtEnd, NotForm, TooWide, TooDeep, read_denotation}
-use Rattle.setl_text.specs.Reads.{Answered, Answers, KeepsFault, IsAll}
+use Rattle.setl_text.specs.code.Reads.{Answered, Answers, KeepsFault, IsAll}
 use Rattle.setl_text.specs.declared.Got.{Got}
 use Rattle.setl_text.specs.declared.Got.TheVariants.{Value, Om, End}
 use Rattle.setl_text.specs.declared.ReadFault.{ReadFault}

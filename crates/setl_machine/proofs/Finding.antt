@@ -8,7 +8,7 @@ use Rattle.indexmap.specs.IndexMap.{IndexMap, insert_entry}
 use Rattle.setl_modes.specs.Modes.{Mode}
 use Rattle.setl_run.specs.Variable.{Variable, Global, Own, Bound}
 use Rattle.setl_program.specs.declared.program.Declared.{Declared}
-use Rattle.setl_program.specs.Plain.{plain_declared}
+use Rattle.setl_program.specs.code.Plain.{plain_declared}
 use Rattle.setl_code.specs.declared.code.Code.{Code}
 use Rattle.setl_code.specs.declared.code.OwnName.{OwnName}
 use Rattle.setl_code.specs.declared.code.OwnName.TheVariants as name

@@ -4,7 +4,7 @@ use Rattle.setl_run.specs.Run.{step}
 use Rattle.setl_code.specs.Code.{Code}
 use Rattle.setl_code.specs.CodeCore.{CodeCore}
 use Rattle.setl_code.specs.Machine.{machine}
-use Rattle.setl_text.specs.Reads.{ahead, StaysHonest, TakesOff}
+use Rattle.setl_text.specs.code.Reads.{ahead, StaysHonest, TakesOff}
 use Rattle.setl_machine.specs.Control.{ControlState, stood_for, IsRest}
 use Rattle.setl_machine.specs.Declaring.{Modes, tested}
 use Rattle.setl_machine.specs.Outcome.{start, Seen, seen, Steps, AtPrint, AtRead, Ran, ReadsOnly}

@@ -6,7 +6,7 @@ use Rattle.setl_run.specs.Run.{step}
 use Rattle.setl_code.specs.Code.{Code}
 use Rattle.setl_code.specs.CodeCore.{CodeCore}
 use Rattle.setl_code.specs.Machine.{machine}
-use Rattle.setl_text.specs.Reads.{StaysHonest, TakesOff}
+use Rattle.setl_text.specs.code.Reads.{StaysHonest, TakesOff}
 use Rattle.setl_machine.specs.Declaring.{Modes, tested}
 use Rattle.setl_machine.specs.Outcome.{start, said, Seen, Ran}
 use Rattle.setl_machine.specs.declared.end.End.TheVariants.{Paused, NoMemory}

@@ -1,14 +1,14 @@
 -- What updates of a variable in place did.
 use Rattle.std.specs.Prelude.{◌≡◌, ◌⊎◌, ℕ, suc, ◌-◌, true, List, Option, Some, None, Result, Ok, Err}
 use Rattle.setl_value.specs.Datum.{Datum}
-use Rattle.setl_value.specs.DatumOf.{part}
+use Rattle.setl_value.specs.code.DatumOf.{part}
 use Rattle.setl_value.specs.declared.Value.{Value}
 use Rattle.setl_map.specs.declared.OpFault.{OpFault}
 use Rattle.setl_run.specs.Run.{settle}
 use Rattle.setl_run.specs.Variable.{Variable}
 use Rattle.setl_model.specs.Core.{Selected}
 use Rattle.setl_code.specs.Code.{Alteration}
-use Rattle.setl_code.specs.Plain.{plain_code}
+use Rattle.setl_code.specs.code.Plain.{plain_code}
 use Rattle.setl_code.specs.CodeCore.{There, Gone, Operand, held, write}
 use Rattle.setl_code.specs.Machine.{machine, on_held, alter}
 use Rattle.setl_store.specs.Standing.{Standing, over, at_place}

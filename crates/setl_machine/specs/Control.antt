@@ -1,6 +1,6 @@
 -- What contracts see of a control.
 use Rattle.std.specs.Prelude.{◌≡◌, ℕ, ◌+◌, Bool, true, false, List, [], ◌++◌, Option, Some, None, ⊤}
-use Rattle.setl_text.specs.Reads.{ReaderState}
+use Rattle.setl_text.specs.code.Reads.{ReaderState}
 use Rattle.setl_text.specs.declared.ReadFault.{ReadFault}
 use Rattle.setl_run.specs.Turns.{left_after}
 use Rattle.setl_model.specs.World.{World}

@@ -2,12 +2,12 @@
 
 ghost use Rattle.std.specs.Prelude.{◌≡◌, ◌∷◌, ℕ, suc, List, [], map, length, slice_get, option_map, IfOk, OnOk};
 ghost use Rattle.std.specs.Option.{option_flatten};
-ghost use Rattle.setl_code.specs.Plain.{plain_slot};
+ghost use Rattle.setl_code.specs.code.Plain.{plain_slot};
 ghost use Rattle.setl_modes.specs.Modes.{Mode as PlainMode};
-ghost use Rattle.setl_program.specs.Plain.{plain_declared, plain_variable};
+ghost use Rattle.setl_program.specs.code.Plain.{plain_declared, plain_variable};
 ghost use Rattle.setl_run.specs.Variable.{Variable as PlainVariable};
 ghost use Rattle.setl_store.specs.Standing.{variables};
-ghost use Rattle.setl_value.specs.DatumOf.{part};
+ghost use Rattle.setl_value.specs.code.DatumOf.{part};
 ghost use Rattle.setl_machine.specs.Declaring.{Modes, modes_of, place_of, Serves, Tests, Keeps};
 ghost use Rattle.setl_machine.specs.Tables.{Finds, Puts, place_in, names_by, name_place, IsDeclared};
 
@@ -38,7 +38,7 @@ impl<'p> Model for Declarations<'p> {
     ghost use Rattle.std.specs.Coded.{codes};
     ghost use Rattle.setl_modes.specs.contracts.mode.Mode as mode;
     ghost use Rattle.setl_modes.specs.Modes.{Mode as PlainMode};
-    ghost use Rattle.setl_program.specs.Plain.{plain_declared};
+    ghost use Rattle.setl_program.specs.code.Plain.{plain_declared};
     ghost use Rattle.setl_machine.specs.Declaring.{DeclarationTable};
     ghost use Rattle.setl_machine.specs.Tables.{KnowsSlots};
 

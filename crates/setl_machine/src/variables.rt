@@ -2,11 +2,11 @@
 
 ghost use Rattle.std.specs.Prelude.{ℕ, ◌<◌, ◌+◌, ◌^◌, length, Some, IfOk};
 ghost use Rattle.setl_code.specs.Code.{Push, Load, Take, StoreIn};
-ghost use Rattle.setl_code.specs.MayRun.{HasSlot};
-ghost use Rattle.setl_code.specs.Plain.{plain_slot};
+ghost use Rattle.setl_code.specs.code.MayRun.{HasSlot};
+ghost use Rattle.setl_code.specs.code.Plain.{plain_slot};
 ghost use Rattle.setl_store.specs.Standing.{variables};
 ghost use Rattle.setl_value.specs.Datum.{int, text};
-ghost use Rattle.setl_value.specs.DatumOf.{part};
+ghost use Rattle.setl_value.specs.code.DatumOf.{part};
 ghost use Rattle.setl_machine.specs.Declaring.{modes_of, Serves};
 ghost use Rattle.setl_machine.specs.Working.{Works, WorksBy};
 

@@ -14,9 +14,9 @@ use Rattle.setl_value.specs.Order.{datum_cmp, IsRising}
 use Rattle.setl_value.specs.OrderLaws.{datum_cmp_total, same_datum}
 use Rattle.setl_value.specs.Pairs.{pair}
 use Rattle.setl_value.specs.WellFormed.{IsSetList}
-use Rattle.setl_value.specs.Places as place
-use Rattle.setl_value.specs.Places.{point}
-use Rattle.setl_map.specs.Points.{is_at, is_before, comes_before, IsBound}
+use Rattle.setl_value.specs.code.Places as place
+use Rattle.setl_value.specs.code.Places.{point}
+use Rattle.setl_map.specs.code.Points.{is_at, is_before, comes_before, IsBound}
 use Rattle.setl_map.proofs.PairFacts.{pair_of, IsPair}
 
 pub rising_from_set : (ds : List Datum) → IsSetList ds → IsRising ds

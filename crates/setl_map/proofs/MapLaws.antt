@@ -11,7 +11,7 @@ use Rattle.setl_value.specs.Pairs.{pair, pair_parts, second_of, pairs_at, images
 use Rattle.setl_set.specs.Sets.{has_datum}
 use Rattle.setl_set.specs.Laws.{TestsMembership}
 use Rattle.setl_map.specs.Laws.{ImagesByPairs}
-use Rattle.setl_map.specs.Points.{is_at}
+use Rattle.setl_map.specs.code.Points.{is_at}
 
 never_greater : (o : Ordering) → is_eq (ordering_then o Greater) ≡ false
 never_greater Less = refl

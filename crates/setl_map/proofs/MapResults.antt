@@ -14,14 +14,14 @@ use Rattle.std.proofs.lemmas.List.Folds.{list_any-append}
 use Rattle.std.proofs.lemmas.List.Kept.{IsStrictlySortedBy-filter}
 use Rattle.setl_value.specs.declared.Value.{Value}
 use Rattle.setl_value.specs.Datum.{Datum, tuple, no_part, part_then, depth, part_depth, elements_depth, elements_of, set_of}
-use Rattle.setl_value.specs.DatumOf.{datum, part}
+use Rattle.setl_value.specs.code.DatumOf.{datum, part}
 use Rattle.setl_value.specs.Order.{datum_cmp, IsRising}
 use Rattle.setl_value.specs.OrderLaws.{datum_cmp_total, same_if_eq, equal_iff_same}
 use Rattle.setl_value.specs.Pairs.{pair, pair_parts, second_of, pairs_at, images}
 use Rattle.setl_set.specs.Sets.{has_datum, insert_datum, insert_by, set_from}
 use Rattle.setl_set.specs.Laws.{RisingListsAgree, TestsMembership, Gathers, Inserts}
 use Rattle.setl_map.specs.Maps.{only, without_point, put_image, put_images}
-use Rattle.setl_map.specs.Points.{is_at, is_before, comes_before, IsBound, part_at, pair_depth}
+use Rattle.setl_map.specs.code.Points.{is_at, is_before, comes_before, IsBound, part_at, pair_depth}
 use Rattle.setl_map.proofs.PairFacts.{pair_of, IsPair}
 use Rattle.setl_map.proofs.Spans.{IsSplit}
 use Rattle.setl_map.proofs.Gathering.{depth_insert, depth_set_from, is_set_from}

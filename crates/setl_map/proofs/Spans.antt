@@ -11,7 +11,7 @@ use Rattle.setl_value.specs.Order.{datum_cmp}
 use Rattle.setl_value.specs.OrderLaws.{datum_cmp_total}
 use Rattle.setl_value.specs.Pairs.{pair_parts, first_of, is_datum, pairs_at}
 use Rattle.setl_map.specs.Maps.{without_point}
-use Rattle.setl_map.specs.Points.{is_at, is_before, comes_before, IsBound}
+use Rattle.setl_map.specs.code.Points.{is_at, is_before, comes_before, IsBound}
 use Rattle.setl_map.proofs.PairFacts.{pair_of, IsPair}
 
 -- ---- one pair, by how its first part stands to x

@@ -1,8 +1,6 @@
 pub mod Outcome
 pub mod Takes
-pub mod Answers
 pub mod Maps
-pub mod Points
 pub mod Laws
 pub mod Ranges
 pub mod Numbers
@@ -14,3 +12,4 @@ pub mod Puts
 pub mod Folds
 pub mod Operators
 pub mod OperatorRows
+pub mod code

@@ -1,13 +1,13 @@
 //! The calls on maps.
 
 ghost use Rattle.std.specs.Prelude.{◌≡◌, ◌↔◌, ◌⊎◌, ◌<◌, ◌∷◌, [], true, false, map, length, Some, IfOk, OnErr, OnOk, IsTrue, Err, nat_le, nat_lt};
-ghost use Rattle.setl_value.specs.Body.{Members};
+ghost use Rattle.setl_value.specs.code.Body.{Members};
 ghost use Rattle.setl_value.specs.Datum.{depth, set_of};
-ghost use Rattle.setl_value.specs.DatumOf.{datum, part};
+ghost use Rattle.setl_value.specs.code.DatumOf.{datum, part};
 ghost use Rattle.setl_value.specs.Pairs.{is_map, images, pair};
 ghost use Rattle.std.specs.List.{filter_map};
 ghost use Rattle.setl_set.specs.Sets.{set_from};
-ghost use Rattle.setl_map.specs.Points.{part_at, pair_depth};
+ghost use Rattle.setl_map.specs.code.Points.{part_at, pair_depth};
 ghost use Rattle.setl_map.specs.Maps.{image, domain_of, range_of, without_point, put_image, put_images};
 
 use crate::MapFault;

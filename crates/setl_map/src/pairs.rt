@@ -3,12 +3,12 @@
 ghost use Rattle.std.specs.Prelude.{◌≡◌, ◌<◌, ◌+◌, ◌++◌, true, false, take, drop, map, IfOk, OnOk, IsTrue};
 ghost use Rattle.std.specs.List.{filter_map, prefix_len};
 ghost use Rattle.std.specs.Option.{option_map, option_to_list};
-ghost use Rattle.setl_value.specs.Body.{Members};
+ghost use Rattle.setl_value.specs.code.Body.{Members};
 ghost use Rattle.setl_value.specs.Datum.{depth};
-ghost use Rattle.setl_value.specs.DatumOf.{datum};
+ghost use Rattle.setl_value.specs.code.DatumOf.{datum};
 ghost use Rattle.setl_value.specs.Pairs.{is_map, pair, pair_parts};
-ghost use Rattle.setl_value.specs.Places.{HasPlace, rank};
-ghost use Rattle.setl_map.specs.Points.{is_at, IsBound, part_at, pair_data};
+ghost use Rattle.setl_value.specs.code.Places.{HasPlace, rank};
+ghost use Rattle.setl_map.specs.code.Points.{is_at, IsBound, part_at, pair_data};
 
 use setl_value::{Cursor, MemberIter, Memory, SetBody, TupleBody, Value};
 use std::alloc::Global;

@@ -12,7 +12,7 @@ use Rattle.setl_names.specs.Breaks.{broken, occurrence_breaks}
 use Rattle.setl_names.specs.Names.{Name}
 use Rattle.setl_names.specs.Procedures.{params_of}
 use Rattle.setl_names.specs.Rules.{is_stored, stored, is_no_variable, is_bound_around, argument_names, is_empty, has_other_count, stores_no_variable, is_empty_selection, stores_bound_around, stores_twice}
-use Rattle.setl_names.specs.Stores.{with_store, with_argument, stores_from, applied_by, applied_breaks}
+use Rattle.setl_names.specs.code.Stores.{with_store, with_argument, stores_from, applied_by, applied_breaks}
 
 by_params : (line : ℕ) (o : Option (List Param)) (xs : List Argument) →
     broken line 10 (has_other_count o xs) ++ (broken line 11 (stores_no_variable o xs) ++ (broken line 12 (is_empty_selection o xs)

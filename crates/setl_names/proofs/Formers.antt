@@ -14,8 +14,8 @@ use Rattle.setl_names.specs.declared.walk.Walk.{Walk}
 use Rattle.setl_names.specs.Names.{Name, with_names}
 use Rattle.setl_names.specs.Occurrences.{Part, Standing, Turn, Behind, expr_step, inner_step, iter_step, selector_step, inner_standing, names_of_bound, turn, part, names_of_turns, own_turns, optional_part, bound, bound_names, former, filter}
 use Rattle.setl_names.specs.Places.{Place}
-use Rattle.setl_names.specs.Scopes.{mark_of, back_to}
-use Rattle.setl_names.specs.Walks.{here, after, with_own, inside_former, with_filter}
+use Rattle.setl_names.specs.code.Scopes.{mark_of, back_to}
+use Rattle.setl_names.specs.code.Walks.{here, after, with_own, inside_former, with_filter}
 use Rattle.setl_names.proofs.NameLists.{taken_back, with_names_append}
 
 -- a walk with another scope

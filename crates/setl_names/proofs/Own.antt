@@ -4,7 +4,7 @@ use Rattle.std.specs.Cmp.Lexicographic.{bytes_decides}
 use Rattle.setl_tree.specs.declared.tree.Proc.{Proc}
 use Rattle.setl_names.specs.Names.{Name, has, with_name, with_names, in_order}
 use Rattle.setl_names.specs.Procedures.{is_procedure}
-use Rattle.setl_names.specs.Stores.{is_own_name}
+use Rattle.setl_names.specs.code.Stores.{is_own_name}
 use Rattle.setl_names.specs.Variables.{OfFormer, OfParameter, OfProgram, OfBody, if_variable, of_body, is_of_body}
 
 -- ---- names put behind names

@@ -8,7 +8,7 @@ use Rattle.indexmap.specs.IndexMap.{IndexMap, insert_entry}
 use Rattle.setl_tree.specs.declared.tree.Param.{Param}
 use Rattle.setl_tree.specs.declared.tree.Proc.{Proc}
 use Rattle.setl_names.specs.Procedures.{params_of, found_from}
-use Rattle.setl_names.specs.Tables.{value_at, Finds}
+use Rattle.setl_names.specs.code.Tables.{value_at, Finds}
 
 abbrev same_key : Vec ℕ → Vec ℕ → Bool
 same_key x y = bytes_eq x.items y.items

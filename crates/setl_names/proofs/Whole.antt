@@ -9,7 +9,7 @@ use Rattle.setl_names.specs.declared.program.Found.{Found}
 use Rattle.setl_names.specs.Names.{Name, in_order}
 use Rattle.setl_names.specs.Bodies.{Body, bodies, occurrences}
 use Rattle.setl_names.specs.Breaks.{earlier, body_breaks, all_body_breaks, head_breaks, breaks, first_break, break_at}
-use Rattle.setl_names.specs.Found.{with_body, with_bodies, whole_program}
+use Rattle.setl_names.specs.code.Found.{with_body, with_bodies, whole_program}
 use Rattle.setl_names.specs.Procedures.{param_names}
 use Rattle.setl_names.specs.Resolves.{all_names}
 use Rattle.setl_names.specs.Variables.{variables, body_names, var_names}

@@ -3,7 +3,7 @@
 ghost use Rattle.std.specs.Prelude.{◌≡◌, [], IfOk, OnOk};
 ghost use Rattle.setl_names.specs.Names.{in_order, with_names};
 ghost use Rattle.setl_names.specs.Procedures.{param_names};
-ghost use Rattle.setl_names.specs.Stores as found;
+ghost use Rattle.setl_names.specs.code.Stores as found;
 ghost use Rattle.setl_names.specs.Variables as spec;
 
 use crate::name::Name;

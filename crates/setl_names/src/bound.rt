@@ -3,8 +3,8 @@
 ghost use Rattle.std.specs.Prelude.{◌≡◌, ◌++◌, map, OnOk, OnErr, IfOk};
 ghost use Rattle.setl_names.specs.Occurrences as spec;
 ghost use Rattle.setl_names.specs.Occurrences.{turn};
-ghost use Rattle.setl_names.specs.Walks.{here, after, with_own, inside_former, with_filter};
-ghost use Rattle.setl_names.specs.Scopes.{mark_of};
+ghost use Rattle.setl_names.specs.code.Walks.{here, after, with_own, inside_former, with_filter};
+ghost use Rattle.setl_names.specs.code.Scopes.{mark_of};
 
 use crate::name::Name;
 use crate::occurrence::What;

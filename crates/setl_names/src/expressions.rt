@@ -3,8 +3,8 @@
 ghost use Rattle.std.specs.Prelude.{◌≡◌, ◌++◌, map, option_map, OnOk, OnErr, IfOk, IfSome};
 ghost use Rattle.setl_names.specs.Occurrences as spec;
 ghost use Rattle.setl_names.specs.Occurrences.{part, turn, behind, standing_in, inner_standing, names_of_turns};
-ghost use Rattle.setl_names.specs.Scopes.{place};
-ghost use Rattle.setl_names.specs.Walks.{here, after, with_own};
+ghost use Rattle.setl_names.specs.code.Scopes.{place};
+ghost use Rattle.setl_names.specs.code.Walks.{here, after, with_own};
 
 use crate::bound::{
     bind_bound, bind_turns, bound, bound_name, enter_filter, enter_former, named, put_bound,

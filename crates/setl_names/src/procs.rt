@@ -2,7 +2,7 @@
 
 ghost use Rattle.std.specs.Prelude.{◌≡◌, suc, List, ◌∷◌, IfOk, OnOk, OnErr, option_map};
 ghost use Rattle.setl_tree.specs.declared.tree.Proc.{Proc as TreeProc};
-ghost use Rattle.setl_names.specs.Tables.{Finds};
+ghost use Rattle.setl_names.specs.code.Tables.{Finds};
 ghost use Rattle.setl_names.specs.Procedures as spec;
 
 use indexmap::IndexMap;
@@ -22,7 +22,7 @@ impl<'t> Model for Procs<'t> {
     ghost use Rattle.std.specs.Coded.{codes};
     ghost use Rattle.setl_tree.specs.contracts.stmt.Stmt as stmt;
     ghost use Rattle.setl_tree.specs.declared.tree.Proc.{Proc as TreeProc};
-    ghost use Rattle.setl_names.specs.Tables.{Finds};
+    ghost use Rattle.setl_names.specs.code.Tables.{Finds};
 
     ghost Value = { List TreeProc };
 

@@ -3,7 +3,7 @@
 ghost use Rattle.std.specs.Prelude.{◌≡◌, ◌∷◌, map, IfOk, OnOk, OnErr};
 ghost use Rattle.setl_names.specs.Bodies.{main_body, proc_body, bodies, occurrences};
 ghost use Rattle.setl_names.specs.Resolves.{Resolves, all_names};
-ghost use Rattle.setl_names.specs.Found.{body_of, with_occurrences, with_body, with_bodies, heads_found, whole_program};
+ghost use Rattle.setl_names.specs.code.Found.{body_of, with_occurrences, with_body, with_bodies, heads_found, whole_program};
 
 use crate::around::Around;
 use crate::bodies::{BodyNames, body_names, names_of_vars};

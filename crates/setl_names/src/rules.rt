@@ -4,8 +4,8 @@ ghost use Rattle.std.specs.Prelude.{◌≡◌, fold, IfOk, OnOk};
 ghost use Rattle.setl_names.specs.Breaks as spec;
 ghost use Rattle.setl_names.specs.Breaks.{earlier};
 ghost use Rattle.setl_names.specs.Rules as rules;
-ghost use Rattle.setl_names.specs.Stores as found;
-ghost use Rattle.setl_names.specs.Stores.{stores_of};
+ghost use Rattle.setl_names.specs.code.Stores as found;
+ghost use Rattle.setl_names.specs.code.Stores.{stores_of};
 
 use crate::broken::{Break, noted, noted_if};
 use crate::name::Name;

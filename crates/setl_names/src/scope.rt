@@ -2,7 +2,7 @@
 
 ghost use Rattle.std.specs.Prelude.{◌≡◌, length, take, OnOk, OnErr, IfOk};
 ghost use Rattle.setl_names.specs.Names.{with_names};
-ghost use Rattle.setl_names.specs.Scopes.{no_scope, mark_of, back_to};
+ghost use Rattle.setl_names.specs.code.Scopes.{no_scope, mark_of, back_to};
 
 use crate::name::Name;
 use crate::names::Names;

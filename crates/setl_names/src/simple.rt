@@ -4,7 +4,7 @@ ghost use Rattle.std.specs.Prelude.{◌≡◌, ◌++◌, map, OnOk};
 ghost use Rattle.setl_names.specs.Occurrences as spec;
 ghost use Rattle.setl_names.specs.Occurrences.{turn, standing_in};
 ghost use Rattle.setl_names.specs.Statements as told;
-ghost use Rattle.setl_names.specs.Walks.{here, after};
+ghost use Rattle.setl_names.specs.code.Walks.{here, after};
 
 use crate::bound::{add_slots, bound_name, bound_names, named};
 use crate::expressions::{applied, expr, ordinary_turns, selectors};

@@ -4,8 +4,8 @@ ghost use Rattle.std.specs.Prelude.{◌≡◌, map, OnOk, OnErr};
 ghost use Rattle.setl_names.specs.Statements as spec;
 ghost use Rattle.setl_names.specs.Statements.{stmt_told, kind_told, branch_told};
 ghost use Rattle.setl_names.specs.Occurrences.{turn};
-ghost use Rattle.setl_names.specs.Scopes.{no_scope};
-ghost use Rattle.setl_names.specs.Walks.{here, after};
+ghost use Rattle.setl_names.specs.code.Scopes.{no_scope};
+ghost use Rattle.setl_names.specs.code.Walks.{here, after};
 
 use crate::around::Around;
 use crate::expressions::{expr, exprs};

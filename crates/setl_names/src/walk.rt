@@ -1,7 +1,7 @@
 //! What a walk over statements keeps.
 
 ghost use Rattle.std.specs.Prelude.{◌≡◌, ◌∷◌, [], OnOk, OnErr};
-ghost use Rattle.setl_names.specs.Walks.{no_walk, after};
+ghost use Rattle.setl_names.specs.code.Walks.{no_walk, after};
 
 use crate::occurrence::{Occurrence, What};
 use crate::scope::Scope;

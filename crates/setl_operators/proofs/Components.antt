@@ -2,7 +2,7 @@
 use Rattle.std.proofs.Common.{◌≡◌, ◌∙◌, ap, sym, ℕ, ◌-◌, ◌<◌, ◌⊎◌, inl, inr, arith, List, [], ◌∷◌, drop, length, map, slice_get, Option, Some, None, MatchOption, Bor}
 use Rattle.std.proofs.lemmas.Option.{slice_get-get_or, none-some}
 use Rattle.setl_value.specs.declared.Value.{Value}
-use Rattle.setl_value.specs.DatumOf.{datum, lent}
+use Rattle.setl_value.specs.code.DatumOf.{datum, lent}
 use Rattle.setl_value.specs.Datum.{Datum, set_of, tuple_of, element_list-elements_of, part_list-parts_of}
 use Rattle.setl_map.specs.Folds.{fold_on, fold_list, fold_datum}
 use Rattle.setl_map.specs.Outcome.{Outcome, adding}

@@ -7,7 +7,7 @@ use Rattle.setl_value.specs.Datum.{Datum}
 use Rattle.setl_map.specs.declared.OpFault.{OpFault}
 use Rattle.setl_map.specs.declared.OpFault.TheVariants.{Kind, Om, Wide, Zero, Range, Deep, Spent, NoMemory}
 use Rattle.setl_map.specs.Outcome.{Outcome, Gives, Fails, Overspends, adding, then_with}
-use Rattle.setl_map.specs.Answers.{Tells}
+use Rattle.setl_map.specs.code.Answers.{Tells}
 use Rattle.setl_map.specs.Folds.{combined, fold_on}
 
 pub adding_none : (o : Outcome) → adding 0 o ≡ o

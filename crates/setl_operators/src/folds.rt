@@ -1,9 +1,9 @@
 //! The folds `op/ v`: the members or components combined from the left.
 
 ghost use Rattle.std.specs.Prelude.{◌≡◌, ◌≤◌, ◌-◌, map, IfOk, None, Some};
-ghost use Rattle.setl_value.specs.Body.{Members};
-ghost use Rattle.setl_value.specs.DatumOf.{datum, lent, part};
-ghost use Rattle.setl_map.specs.Answers.{Tells};
+ghost use Rattle.setl_value.specs.code.Body.{Members};
+ghost use Rattle.setl_value.specs.code.DatumOf.{datum, lent, part};
+ghost use Rattle.setl_map.specs.code.Answers.{Tells};
 ghost use Rattle.setl_map.specs.Folds.{combined, fold_list, fold_datum};
 ghost use Rattle.setl_map.specs.Numbers.{plus};
 ghost use Rattle.setl_map.specs.Outcome.{adding};

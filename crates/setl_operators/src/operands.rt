@@ -1,7 +1,7 @@
 //! The operands of a call, taken apart.
 
 ghost use Rattle.std.specs.Prelude.{◌≡◌, ◌∷◌, [], ◌++◌, ◌<◌, Some, None, MatchResult, length, map};
-ghost use Rattle.setl_value.specs.DatumOf.{datum, lent, part};
+ghost use Rattle.setl_value.specs.code.DatumOf.{datum, lent, part};
 ghost use Rattle.setl_map.specs.Outcome.{all_values};
 
 use setl_map::OpFault;

@@ -2,8 +2,8 @@
 
 ghost use Rattle.std.specs.Prelude.{◌≡◌, ◌∷◌, [], Some, IsTrue, length, map};
 ghost use Rattle.setl_value.specs.Datum.{text};
-ghost use Rattle.setl_value.specs.DatumOf.{datum, lent, part};
-ghost use Rattle.setl_map.specs.Answers.{Tells};
+ghost use Rattle.setl_value.specs.code.DatumOf.{datum, lent, part};
+ghost use Rattle.setl_map.specs.code.Answers.{Tells};
 ghost use Rattle.setl_map.specs.Operators.{op_of, operand_count, TakesOperands};
 ghost use Rattle.setl_map.specs.Outcome.{value};
 ghost use Rattle.setl_map.specs.Puts.{put};

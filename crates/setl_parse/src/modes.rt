@@ -3,10 +3,10 @@
 ghost use Rattle.std.specs.Prelude.{◌≡◌};
 ghost use Rattle.setl_tree.specs.declared.kind.Kind.TheVariants as k;
 ghost use Rattle.setl_tree.specs.Modes as grammar;
-ghost use Rattle.setl_reading.specs.Reading.{Reads};
-ghost use Rattle.setl_reading.specs.ReadModes as spec;
-ghost use Rattle.setl_reading.specs.ReadModes.{nested_mode};
-ghost use Rattle.setl_parse.specs.Nests.{NestsModes};
+ghost use Rattle.setl_reading.specs.code.Reading.{Reads};
+ghost use Rattle.setl_reading.specs.code.ReadModes as spec;
+ghost use Rattle.setl_reading.specs.code.ReadModes.{nested_mode};
+ghost use Rattle.setl_parse.specs.code.Nests.{NestsModes};
 
 use crate::statements::ended;
 use setl_expressions::{
@@ -46,7 +46,7 @@ fn simple_core(kind: Kind) -> Option<Core>
 }
 
 /// The tokens that begin a line.
-#[tactic(auto, unfolding(setl_reading::specs::ReadModes::begins_line))]
+#[tactic(auto, unfolding(setl_reading::specs::code::ReadModes::begins_line))]
 fn begins_line(kind: Kind) -> bool
     ensures { result ≡ spec.begins_line kind }
 {
@@ -63,13 +63,13 @@ pub struct DeclaredRule;
 impl Rule for DeclaredRule {
     type Out = Declared;
 
-    ghost use Rattle.setl_reading.specs.ReadModes.{declared};
+    ghost use Rattle.setl_reading.specs.code.ReadModes.{declared};
 
     ghost can_read = { λ s. Unit {0} };
 
     ghost reader = { λ s. declared };
 
-    #[tactic(auto, unfolding(setl_reading::specs::ReadModes::declared))]
+    #[tactic(auto, unfolding(setl_reading::specs::code::ReadModes::declared))]
     fn read(&self, tokens: &mut Cursor<'_>) -> Result<Declared, Fault> {
         let line = tokens.line();
         let name = tokens.text()?;
@@ -85,13 +85,13 @@ impl Rule for AttributeRule {
     type Out = Attribute;
 
     ghost use Rattle.setl_tree.specs.Modes.{attribute};
-    ghost use Rattle.setl_reading.specs.Reading.{one_of};
+    ghost use Rattle.setl_reading.specs.code.Reading.{one_of};
 
     ghost can_read = { λ s. Unit {0} };
 
     ghost reader = { λ s. one_of attribute };
 
-    #[tactic(auto, unfolding(setl_reading::specs::Reading::one_of))]
+    #[tactic(auto, unfolding(setl_reading::specs::code::Reading::one_of))]
     fn read(&self, tokens: &mut Cursor<'_>) -> Result<Attribute, Fault> {
         let Some(word) = attribute(tokens.kind()) else {
             return Err(tokens.refuse());
@@ -103,7 +103,7 @@ impl Rule for AttributeRule {
 
 impl Repeated for AttributeRule {
     ghost use Rattle.setl_tree.specs.Modes.{attribute};
-    ghost use Rattle.setl_reading.specs.Reading.{begins_as};
+    ghost use Rattle.setl_reading.specs.code.Reading.{begins_as};
 
     ghost begins_with = { λ s. begins_as attribute };
 
@@ -113,7 +113,7 @@ impl Repeated for AttributeRule {
 }
 
 /// `elmt base`
-#[tactic(auto, unfolding(setl_reading::specs::ReadModes::element, setl_reading::specs::Reading::name))]
+#[tactic(auto, unfolding(setl_reading::specs::code::ReadModes::element, setl_reading::specs::code::Reading::name))]
 fn element(tokens: &mut Cursor<'_>) -> Result<Core, Fault>
     ensures { Reads (spec.element tokens.old) result tokens.new }
 {
@@ -140,8 +140,8 @@ struct DeepMode<'m, H> {
 impl<'m, H: Fn(&mut Cursor<'_>, usize) -> Result<WrittenMode, Fault>> Rule for DeepMode<'m, H> {
     type Out = Boxed<WrittenMode>;
 
-    ghost use Rattle.setl_reading.specs.ReadModes.{nested_mode};
-    ghost use Rattle.setl_parse.specs.Nests.{NestsModes};
+    ghost use Rattle.setl_reading.specs.code.ReadModes.{nested_mode};
+    ghost use Rattle.setl_parse.specs.code.Nests.{NestsModes};
 
     ghost can_read = { λ s. NestsModes s.modes.now.room (H.pre s.modes.now.deep) (H.post s.modes.now.deep) };
 
@@ -163,7 +163,7 @@ impl<H: Fn(&mut Cursor<'_>, usize) -> Result<WrittenMode, Fault>> Modes<H> {
     }
 
     /// A mode in brackets.
-    #[tactic(auto, unfolding(setl_reading::specs::ReadModes::round_mode))]
+    #[tactic(auto, unfolding(setl_reading::specs::code::ReadModes::round_mode))]
     fn round_mode(&self, tokens: &mut Cursor<'_>) -> Result<Boxed<WrittenMode>, Fault>
         requires { NestsModes self.now.room (H.pre self.now.deep) (H.post self.now.deep) }
         ensures { Reads (spec.round_mode self.now.room (nested_mode self.now.room) tokens.old) result tokens.new }
@@ -173,7 +173,7 @@ impl<H: Fn(&mut Cursor<'_>, usize) -> Result<WrittenMode, Fault>> Modes<H> {
     }
 
     /// A mode in brackets.
-    #[tactic(auto, unfolding(setl_reading::specs::ReadModes::braced_mode))]
+    #[tactic(auto, unfolding(setl_reading::specs::code::ReadModes::braced_mode))]
     fn braced_mode(&self, tokens: &mut Cursor<'_>) -> Result<Boxed<WrittenMode>, Fault>
         requires { NestsModes self.now.room (H.pre self.now.deep) (H.post self.now.deep) }
         ensures { Reads (spec.braced_mode self.now.room (nested_mode self.now.room) tokens.old) result tokens.new }
@@ -223,7 +223,7 @@ impl<H: Fn(&mut Cursor<'_>, usize) -> Result<WrittenMode, Fault>> Modes<H> {
     }
 
     /// A mode without its attribute.
-    #[tactic(auto, unfolding(setl_reading::specs::ReadModes::core, setl_reading::specs::Reading::one_of))]
+    #[tactic(auto, unfolding(setl_reading::specs::code::ReadModes::core, setl_reading::specs::code::Reading::one_of))]
     fn core(&self, tokens: &mut Cursor<'_>) -> Result<Core, Fault>
         requires { NestsModes self.now.room (H.pre self.now.deep) (H.post self.now.deep) }
         ensures { Reads (spec.core self.now.room (nested_mode self.now.room) tokens.old) result tokens.new }
@@ -245,7 +245,7 @@ impl<H: Fn(&mut Cursor<'_>, usize) -> Result<WrittenMode, Fault>> Modes<H> {
     }
 
     /// A mode.
-    #[tactic(auto, unfolding(setl_reading::specs::ReadModes::mode_in, setl_reading::specs::ReadModes::with_attribute))]
+    #[tactic(auto, unfolding(setl_reading::specs::code::ReadModes::mode_in, setl_reading::specs::code::ReadModes::with_attribute))]
     fn mode(&self, tokens: &mut Cursor<'_>) -> Result<WrittenMode, Fault>
         requires { NestsModes self.now.room (H.pre self.now.deep) (H.post self.now.deep) }
         ensures { Reads (spec.mode_in self.now.room (nested_mode self.now.room) tokens.old) result tokens.new }
@@ -276,7 +276,7 @@ fn nested(tokens: &mut Cursor<'_>, room: usize) -> Result<WrittenMode, Fault>
 }
 
 /// A mode with at most so many nestings inside one another.
-#[tactic(auto, unfolding(setl_reading::specs::ReadModes::mode))]
+#[tactic(auto, unfolding(setl_reading::specs::code::ReadModes::mode))]
 fn mode(room: usize, tokens: &mut Cursor<'_>) -> Result<WrittenMode, Fault>
     ensures { Reads (spec.mode room tokens.old) result tokens.new }
 {
@@ -292,13 +292,13 @@ struct ColonMode {
 impl Rule for ColonMode {
     type Out = WrittenMode;
 
-    ghost use Rattle.setl_reading.specs.ReadModes.{colon_mode};
+    ghost use Rattle.setl_reading.specs.code.ReadModes.{colon_mode};
 
     ghost can_read = { λ s. Unit {0} };
 
     ghost reader = { λ s. colon_mode s.room };
 
-    #[tactic(auto, unfolding(setl_reading::specs::ReadModes::colon_mode))]
+    #[tactic(auto, unfolding(setl_reading::specs::code::ReadModes::colon_mode))]
     fn read(&self, tokens: &mut Cursor<'_>) -> Result<WrittenMode, Fault> {
         tokens.expect(Kind::Colon)?;
         mode(self.room, tokens)
@@ -307,7 +307,7 @@ impl Rule for ColonMode {
 
 impl Repeated for ColonMode {
     ghost use Rattle.setl_tree.specs.declared.kind.Kind.TheVariants as k;
-    ghost use Rattle.setl_reading.specs.Reading.{is};
+    ghost use Rattle.setl_reading.specs.code.Reading.{is};
 
     ghost begins_with = { λ s. is k.Colon };
 
@@ -317,7 +317,7 @@ impl Repeated for ColonMode {
 }
 
 /// `base name, .. : mode;`
-#[tactic(auto, unfolding(setl_reading::specs::ReadModes::base_line))]
+#[tactic(auto, unfolding(setl_reading::specs::code::ReadModes::base_line))]
 fn base_line(room: usize, tokens: &mut Cursor<'_>) -> Result<ReprLine, Fault>
     ensures { Reads (spec.base_line room tokens.old) result tokens.new }
 {
@@ -330,7 +330,7 @@ fn base_line(room: usize, tokens: &mut Cursor<'_>) -> Result<ReprLine, Fault>
 }
 
 /// `name, .. : mode;`
-#[tactic(auto, unfolding(setl_reading::specs::ReadModes::variables_line))]
+#[tactic(auto, unfolding(setl_reading::specs::code::ReadModes::variables_line))]
 fn variables_line(room: usize, tokens: &mut Cursor<'_>) -> Result<ReprLine, Fault>
     ensures { Reads (spec.variables_line room tokens.old) result tokens.new }
 {
@@ -350,13 +350,13 @@ struct LineRule {
 impl Rule for LineRule {
     type Out = ReprLine;
 
-    ghost use Rattle.setl_reading.specs.ReadModes.{repr_line};
+    ghost use Rattle.setl_reading.specs.code.ReadModes.{repr_line};
 
     ghost can_read = { λ s. Unit {0} };
 
     ghost reader = { λ s. repr_line s.room };
 
-    #[tactic(auto, unfolding(setl_reading::specs::ReadModes::repr_line))]
+    #[tactic(auto, unfolding(setl_reading::specs::code::ReadModes::repr_line))]
     fn read(&self, tokens: &mut Cursor<'_>) -> Result<ReprLine, Fault> {
         if same_kind(tokens.kind(), Kind::Base) {
             return base_line(self.room, tokens);
@@ -366,7 +366,7 @@ impl Rule for LineRule {
 }
 
 impl Repeated for LineRule {
-    ghost use Rattle.setl_reading.specs.ReadModes.{begins_line};
+    ghost use Rattle.setl_reading.specs.code.ReadModes.{begins_line};
 
     ghost begins_with = { λ s. begins_line };
 
@@ -384,13 +384,13 @@ pub struct ReprRule {
 impl Rule for ReprRule {
     type Out = Items<ReprLine>;
 
-    ghost use Rattle.setl_reading.specs.ReadModes.{repr};
+    ghost use Rattle.setl_reading.specs.code.ReadModes.{repr};
 
     ghost can_read = { λ s. Unit {0} };
 
     ghost reader = { λ s. repr s.room };
 
-    #[tactic(auto, unfolding(setl_reading::specs::ReadModes::repr))]
+    #[tactic(auto, unfolding(setl_reading::specs::code::ReadModes::repr))]
     fn read(&self, tokens: &mut Cursor<'_>) -> Result<Items<ReprLine>, Fault> {
         tokens.expect(Kind::Repr)?;
         let lines = many(&LineRule { room: self.room }, tokens)?;
@@ -400,7 +400,7 @@ impl Rule for ReprRule {
 
 impl Repeated for ReprRule {
     ghost use Rattle.setl_tree.specs.declared.kind.Kind.TheVariants as k;
-    ghost use Rattle.setl_reading.specs.Reading.{is};
+    ghost use Rattle.setl_reading.specs.code.Reading.{is};
 
     ghost begins_with = { λ s. is k.Repr };
 

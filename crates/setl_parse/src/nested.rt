@@ -1,11 +1,11 @@
 //! Statements that hold statements.
 
 ghost use Rattle.std.specs.Prelude.{◌≡◌};
-ghost use Rattle.setl_reading.specs.Reading.{Reads};
-ghost use Rattle.setl_reading.specs.ReadStatements as spec;
-ghost use Rattle.setl_reading.specs.ReadStatements.{nested_stmts};
-ghost use Rattle.setl_parse.specs.Nests.{NestsStmts};
-ghost use Rattle.setl_parse.specs.Parts as parts;
+ghost use Rattle.setl_reading.specs.code.Reading.{Reads};
+ghost use Rattle.setl_reading.specs.code.ReadStatements as spec;
+ghost use Rattle.setl_reading.specs.code.ReadStatements.{nested_stmts};
+ghost use Rattle.setl_parse.specs.code.Nests.{NestsStmts};
+ghost use Rattle.setl_parse.specs.code.Parts as parts;
 
 use crate::statements::{
     behind_name, ended, print_stmt, read_stmt, return_stmt, simple_stmt, tuple_assign,
@@ -25,7 +25,7 @@ pub struct Statements<G> {
     pub deep: G,
 }
 
-#[tactic(auto, unfolding(setl_reading::specs::ReadStatements::begins_stmt))]
+#[tactic(auto, unfolding(setl_reading::specs::code::ReadStatements::begins_stmt))]
 fn begins_stmt(kind: Kind) -> bool
     ensures { result ≡ spec.begins_stmt kind }
 {
@@ -56,9 +56,9 @@ impl<'s, G: Fn(&mut Cursor<'_>, usize) -> Result<Items<Stmt>, Fault>> Rule for E
     type Out = Branch;
 
     ghost use Rattle.setl_tree.specs.declared.kind.Kind.TheVariants as k;
-    ghost use Rattle.setl_reading.specs.Reading.{expect, ◌>>◌};
-    ghost use Rattle.setl_reading.specs.ReadStatements.{nested_stmts, branch};
-    ghost use Rattle.setl_parse.specs.Nests.{NestsStmts};
+    ghost use Rattle.setl_reading.specs.code.Reading.{expect, ◌>>◌};
+    ghost use Rattle.setl_reading.specs.code.ReadStatements.{nested_stmts, branch};
+    ghost use Rattle.setl_parse.specs.code.Nests.{NestsStmts};
 
     ghost can_read = { λ s. NestsStmts s.statements.now.room (G.pre s.statements.now.deep) (G.post s.statements.now.deep) };
 
@@ -73,7 +73,7 @@ impl<'s, G: Fn(&mut Cursor<'_>, usize) -> Result<Items<Stmt>, Fault>> Rule for E
 impl<'s, G: Fn(&mut Cursor<'_>, usize) -> Result<Items<Stmt>, Fault>> Repeated
     for ElseifRule<'s, G> {
     ghost use Rattle.setl_tree.specs.declared.kind.Kind.TheVariants as k;
-    ghost use Rattle.setl_reading.specs.Reading.{is};
+    ghost use Rattle.setl_reading.specs.code.Reading.{is};
 
     ghost begins_with = { λ s. is k.Elseif };
 
@@ -92,9 +92,9 @@ impl<'s, G: Fn(&mut Cursor<'_>, usize) -> Result<Items<Stmt>, Fault>> Rule for E
     type Out = Items<Stmt>;
 
     ghost use Rattle.setl_tree.specs.declared.kind.Kind.TheVariants as k;
-    ghost use Rattle.setl_reading.specs.Reading.{expect, ◌>>◌};
-    ghost use Rattle.setl_reading.specs.ReadStatements.{nested_stmts};
-    ghost use Rattle.setl_parse.specs.Nests.{NestsStmts};
+    ghost use Rattle.setl_reading.specs.code.Reading.{expect, ◌>>◌};
+    ghost use Rattle.setl_reading.specs.code.ReadStatements.{nested_stmts};
+    ghost use Rattle.setl_parse.specs.code.Nests.{NestsStmts};
 
     ghost can_read = { λ s. NestsStmts s.statements.now.room (G.pre s.statements.now.deep) (G.post s.statements.now.deep) };
 
@@ -108,7 +108,7 @@ impl<'s, G: Fn(&mut Cursor<'_>, usize) -> Result<Items<Stmt>, Fault>> Rule for E
 
 impl<'s, G: Fn(&mut Cursor<'_>, usize) -> Result<Items<Stmt>, Fault>> Repeated for ElseRule<'s, G> {
     ghost use Rattle.setl_tree.specs.declared.kind.Kind.TheVariants as k;
-    ghost use Rattle.setl_reading.specs.Reading.{is};
+    ghost use Rattle.setl_reading.specs.code.Reading.{is};
 
     ghost begins_with = { λ s. is k.Else };
 
@@ -127,9 +127,9 @@ impl<'s, G: Fn(&mut Cursor<'_>, usize) -> Result<Items<Stmt>, Fault>> Rule for S
     type Out = Stmt;
 
     ghost use Rattle.setl_tree.specs.declared.kind.Kind.TheVariants as k;
-    ghost use Rattle.setl_reading.specs.Reading.{is};
-    ghost use Rattle.setl_reading.specs.ReadStatements.{nested_stmts, stmt};
-    ghost use Rattle.setl_parse.specs.Nests.{NestsStmts};
+    ghost use Rattle.setl_reading.specs.code.Reading.{is};
+    ghost use Rattle.setl_reading.specs.code.ReadStatements.{nested_stmts, stmt};
+    ghost use Rattle.setl_parse.specs.code.Nests.{NestsStmts};
 
     ghost can_read = { λ s. NestsStmts s.statements.now.room (G.pre s.statements.now.deep) (G.post s.statements.now.deep) };
 
@@ -141,7 +141,7 @@ impl<'s, G: Fn(&mut Cursor<'_>, usize) -> Result<Items<Stmt>, Fault>> Rule for S
 }
 
 impl<'s, G: Fn(&mut Cursor<'_>, usize) -> Result<Items<Stmt>, Fault>> Repeated for StmtRule<'s, G> {
-    ghost use Rattle.setl_reading.specs.ReadStatements.{begins_stmt};
+    ghost use Rattle.setl_reading.specs.code.ReadStatements.{begins_stmt};
 
     ghost begins_with = { λ s. begins_stmt };
 
@@ -193,7 +193,7 @@ impl<G: Fn(&mut Cursor<'_>, usize) -> Result<Items<Stmt>, Fault>> Statements<G> 
     }
 
     /// A condition with the statements that it guards.
-    #[tactic(auto, unfolding(setl_reading::specs::ReadStatements::branch))]
+    #[tactic(auto, unfolding(setl_reading::specs::code::ReadStatements::branch))]
     fn branch(&self, tokens: &mut Cursor<'_>) -> Result<Branch, Fault>
         requires { NestsStmts self.now.room (G.pre self.now.deep) (G.post self.now.deep) }
         ensures { Reads (spec.branch self.now.room (nested_stmts self.now.room) tokens.old) result tokens.new }
@@ -204,7 +204,7 @@ impl<G: Fn(&mut Cursor<'_>, usize) -> Result<Items<Stmt>, Fault>> Statements<G> 
     }
 
     /// The first branch of a conditional statement, and what stands behind it.
-    #[tactic(auto, unfolding(setl_reading::specs::ReadStatements::elseifs, setl_reading::specs::ReadStatements::else_part))]
+    #[tactic(auto, unfolding(setl_reading::specs::code::ReadStatements::elseifs, setl_reading::specs::code::ReadStatements::else_part))]
     fn branching<T: Drop>(
         &self,
         first: T,
@@ -220,7 +220,7 @@ impl<G: Fn(&mut Cursor<'_>, usize) -> Result<Items<Stmt>, Fault>> Statements<G> 
     }
 
     /// A conditional statement.
-    #[tactic(auto, unfolding(setl_reading::specs::ReadStatements::if_stmt))]
+    #[tactic(auto, unfolding(setl_reading::specs::code::ReadStatements::if_stmt))]
     fn if_stmt(&self, tokens: &mut Cursor<'_>) -> Result<StmtKind, Fault>
         requires { NestsStmts self.now.room (G.pre self.now.deep) (G.post self.now.deep) }
         ensures { Reads (spec.if_stmt self.now.room (nested_stmts self.now.room) tokens.old) result tokens.new }
@@ -232,7 +232,7 @@ impl<G: Fn(&mut Cursor<'_>, usize) -> Result<Items<Stmt>, Fault>> Statements<G> 
     }
 
     /// A loop over iterators behind `(`.
-    #[tactic(auto, unfolding(setl_reading::specs::ReadStatements::for_loop))]
+    #[tactic(auto, unfolding(setl_reading::specs::code::ReadStatements::for_loop))]
     fn for_loop(&self, tokens: &mut Cursor<'_>) -> Result<StmtKind, Fault>
         requires { NestsStmts self.now.room (G.pre self.now.deep) (G.post self.now.deep) }
         ensures { Reads (spec.for_loop self.now.room (nested_stmts self.now.room) tokens.old) result tokens.new }
@@ -243,7 +243,7 @@ impl<G: Fn(&mut Cursor<'_>, usize) -> Result<Items<Stmt>, Fault>> Statements<G> 
     }
 
     /// A loop under a condition behind `(`.
-    #[tactic(auto, unfolding(setl_reading::specs::ReadStatements::while_loop))]
+    #[tactic(auto, unfolding(setl_reading::specs::code::ReadStatements::while_loop))]
     fn while_loop(&self, tokens: &mut Cursor<'_>) -> Result<StmtKind, Fault>
         requires { NestsStmts self.now.room (G.pre self.now.deep) (G.post self.now.deep) }
         ensures { Reads (spec.while_loop self.now.room (nested_stmts self.now.room) tokens.old) result tokens.new }
@@ -255,7 +255,7 @@ impl<G: Fn(&mut Cursor<'_>, usize) -> Result<Items<Stmt>, Fault>> Statements<G> 
     }
 
     /// A loop.
-    #[tactic(auto, unfolding(setl_reading::specs::ReadStatements::for_or_while))]
+    #[tactic(auto, unfolding(setl_reading::specs::code::ReadStatements::for_or_while))]
     fn loop_stmt(&self, tokens: &mut Cursor<'_>) -> Result<StmtKind, Fault>
         requires { NestsStmts self.now.room (G.pre self.now.deep) (G.post self.now.deep) }
         ensures { Reads (spec.loop self.now.room (nested_stmts self.now.room) tokens.old) result tokens.new }
@@ -268,7 +268,7 @@ impl<G: Fn(&mut Cursor<'_>, usize) -> Result<Items<Stmt>, Fault>> Statements<G> 
     }
 
     /// A statement without its line.
-    #[tactic(auto, unfolding(setl_reading::specs::ReadStatements::stmt_kind))]
+    #[tactic(auto, unfolding(setl_reading::specs::code::ReadStatements::stmt_kind))]
     fn stmt_kind(&self, tokens: &mut Cursor<'_>) -> Result<StmtKind, Fault>
         requires { NestsStmts self.now.room (G.pre self.now.deep) (G.post self.now.deep) }
         ensures { Reads (spec.stmt_kind self.now.room (nested_stmts self.now.room) tokens.old) result tokens.new }
@@ -289,7 +289,7 @@ impl<G: Fn(&mut Cursor<'_>, usize) -> Result<Items<Stmt>, Fault>> Statements<G> 
     }
 
     /// A statement.
-    #[tactic(auto, unfolding(setl_reading::specs::ReadStatements::stmt))]
+    #[tactic(auto, unfolding(setl_reading::specs::code::ReadStatements::stmt))]
     fn stmt(&self, tokens: &mut Cursor<'_>) -> Result<Stmt, Fault>
         requires { NestsStmts self.now.room (G.pre self.now.deep) (G.post self.now.deep) }
         ensures { Reads (spec.stmt self.now.room (nested_stmts self.now.room) tokens.old) result tokens.new }
@@ -300,7 +300,7 @@ impl<G: Fn(&mut Cursor<'_>, usize) -> Result<Items<Stmt>, Fault>> Statements<G> 
     }
 
     /// Statements.
-    #[tactic(auto, unfolding(setl_reading::specs::ReadStatements::stmts))]
+    #[tactic(auto, unfolding(setl_reading::specs::code::ReadStatements::stmts))]
     pub fn all(&self, tokens: &mut Cursor<'_>) -> Result<Items<Stmt>, Fault>
         requires { NestsStmts self.now.room (G.pre self.now.deep) (G.post self.now.deep) }
         ensures { Reads (spec.stmts self.now.room tokens.old) result tokens.new }

@@ -3,12 +3,12 @@
 ghost use Rattle.std.specs.Prelude.{◌≡◌, IfOk, IfErr, Ok, Err};
 ghost use Rattle.setl_tree.specs.Programs as grammar;
 ghost use Rattle.setl_tree.specs.declared.kind.Kind.TheVariants as k;
-ghost use Rattle.setl_reading.specs.Reading.{Reads, is, expect};
-ghost use Rattle.setl_reading.specs.ReadPrograms as spec;
+ghost use Rattle.setl_reading.specs.code.Reading.{Reads, is, expect};
+ghost use Rattle.setl_reading.specs.code.ReadPrograms as spec;
 ghost use Rattle.setl_expressions.specs.Plain.{next_token};
-ghost use Rattle.setl_expressions.specs.Behind.{beside};
-ghost use Rattle.setl_parse.specs.Parts as parts;
-ghost use Rattle.setl_parse.specs.Parts.{proc_from, program_from};
+ghost use Rattle.setl_expressions.specs.code.Behind.{beside};
+ghost use Rattle.setl_parse.specs.code.Parts as parts;
+ghost use Rattle.setl_parse.specs.code.Parts.{proc_from, program_from};
 
 use crate::modes::{DeclaredRule, ReprRule};
 use crate::nested::stmts;
@@ -35,7 +35,7 @@ fn passing(kind: Kind) -> Option<Passing>
 }
 
 /// The words that begin a procedure.
-#[tactic(auto, unfolding(setl_reading::specs::ReadPrograms::begins_proc))]
+#[tactic(auto, unfolding(setl_reading::specs::code::ReadPrograms::begins_proc))]
 fn begins_proc(kind: Kind) -> bool
     ensures { result ≡ spec.begins_proc kind }
 {
@@ -53,13 +53,13 @@ impl Rule for PassingRule {
     type Out = Passing;
 
     ghost use Rattle.setl_tree.specs.Programs.{passing};
-    ghost use Rattle.setl_reading.specs.Reading.{one_of};
+    ghost use Rattle.setl_reading.specs.code.Reading.{one_of};
 
     ghost can_read = { λ s. Unit {0} };
 
     ghost reader = { λ s. one_of passing };
 
-    #[tactic(auto, unfolding(setl_reading::specs::Reading::one_of))]
+    #[tactic(auto, unfolding(setl_reading::specs::code::Reading::one_of))]
     fn read(&self, tokens: &mut Cursor<'_>) -> Result<Passing, Fault> {
         let Some(word) = passing(tokens.kind()) else {
             return Err(tokens.refuse());
@@ -71,7 +71,7 @@ impl Rule for PassingRule {
 
 impl Repeated for PassingRule {
     ghost use Rattle.setl_tree.specs.Programs.{passing};
-    ghost use Rattle.setl_reading.specs.Reading.{begins_as};
+    ghost use Rattle.setl_reading.specs.code.Reading.{begins_as};
 
     ghost begins_with = { λ s. begins_as passing };
 
@@ -87,13 +87,13 @@ struct ParamRule;
 impl Rule for ParamRule {
     type Out = Param;
 
-    ghost use Rattle.setl_reading.specs.ReadPrograms.{param};
+    ghost use Rattle.setl_reading.specs.code.ReadPrograms.{param};
 
     ghost can_read = { λ s. Unit {0} };
 
     ghost reader = { λ s. param };
 
-    #[tactic(auto, unfolding(setl_reading::specs::ReadPrograms::param, setl_reading::specs::ReadPrograms::passed))]
+    #[tactic(auto, unfolding(setl_reading::specs::code::ReadPrograms::param, setl_reading::specs::code::ReadPrograms::passed))]
     fn read(&self, tokens: &mut Cursor<'_>) -> Result<Param, Fault> {
         let line = tokens.line();
         let passing = optional(&PassingRule, tokens)?.unwrap_or(Passing::Rd);
@@ -115,13 +115,13 @@ struct ParamsRule {
 impl Rule for ParamsRule {
     type Out = Items<Param>;
 
-    ghost use Rattle.setl_reading.specs.ReadPrograms.{params};
+    ghost use Rattle.setl_reading.specs.code.ReadPrograms.{params};
 
     ghost can_read = { λ s. Unit {0} };
 
     ghost reader = { λ s. params s.room };
 
-    #[tactic(auto, unfolding(setl_reading::specs::ReadPrograms::params))]
+    #[tactic(auto, unfolding(setl_reading::specs::code::ReadPrograms::params))]
     fn read(&self, tokens: &mut Cursor<'_>) -> Result<Items<Param>, Fault> {
         let all = ListedRule {
             close: Kind::RightParen,
@@ -133,7 +133,7 @@ impl Rule for ParamsRule {
 
 impl Repeated for ParamsRule {
     ghost use Rattle.setl_tree.specs.declared.kind.Kind.TheVariants as k;
-    ghost use Rattle.setl_reading.specs.Reading.{is};
+    ghost use Rattle.setl_reading.specs.code.Reading.{is};
 
     ghost begins_with = { λ s. is k.LeftParen };
 
@@ -148,13 +148,13 @@ struct VarRule;
 impl Rule for VarRule {
     type Out = Items<Declared>;
 
-    ghost use Rattle.setl_reading.specs.ReadPrograms.{var};
+    ghost use Rattle.setl_reading.specs.code.ReadPrograms.{var};
 
     ghost can_read = { λ s. Unit {0} };
 
     ghost reader = { λ s. var };
 
-    #[tactic(auto, unfolding(setl_reading::specs::ReadPrograms::var))]
+    #[tactic(auto, unfolding(setl_reading::specs::code::ReadPrograms::var))]
     fn read(&self, tokens: &mut Cursor<'_>) -> Result<Items<Declared>, Fault> {
         tokens.expect(Kind::Var)?;
         let names = separated(&DeclaredRule, tokens)?;
@@ -164,7 +164,7 @@ impl Rule for VarRule {
 
 impl Repeated for VarRule {
     ghost use Rattle.setl_tree.specs.declared.kind.Kind.TheVariants as k;
-    ghost use Rattle.setl_reading.specs.Reading.{is};
+    ghost use Rattle.setl_reading.specs.code.Reading.{is};
 
     ghost begins_with = { λ s. is k.Var };
 
@@ -186,7 +186,7 @@ fn joined(alloc: Global, lists: Items<Items<Declared>>) -> Result<Items<Declared
 }
 
 /// The word that begins a procedure.
-#[tactic(auto, unfolding(setl_reading::specs::ReadPrograms::proc_word))]
+#[tactic(auto, unfolding(setl_reading::specs::code::ReadPrograms::proc_word))]
 fn proc_word(tokens: &mut Cursor<'_>) -> Result<(), Fault>
     ensures ok { IfOk result (λ _. spec.proc_word tokens.old ≡ Ok (next_token tokens.old, tokens.new)) }
     ensures err { IfErr result (λ e. spec.proc_word tokens.old ≡ Err e) }
@@ -198,7 +198,7 @@ fn proc_word(tokens: &mut Cursor<'_>) -> Result<(), Fault>
 }
 
 /// The word behind the `end` of a procedure, with its name; both may be left out.
-#[tactic(auto, unfolding(setl_reading::specs::ReadPrograms::optional_name))]
+#[tactic(auto, unfolding(setl_reading::specs::code::ReadPrograms::optional_name))]
 fn proc_name(tokens: &mut Cursor<'_>) -> Result<Option<Text>, Fault>
     ensures { Reads (parts.name_behind_end spec.begins_proc spec.proc_word tokens.old) result tokens.new }
 {
@@ -210,7 +210,7 @@ fn proc_name(tokens: &mut Cursor<'_>) -> Result<Option<Text>, Fault>
 }
 
 /// The end of a procedure.
-#[tactic(auto, unfolding(setl_reading::specs::ReadPrograms::named_ending))]
+#[tactic(auto, unfolding(setl_reading::specs::code::ReadPrograms::named_ending))]
 fn proc_end(tokens: &mut Cursor<'_>) -> Result<(u32, Option<Text>), Fault>
     ensures { Reads (spec.named_ending spec.begins_proc spec.proc_word tokens.old) result tokens.new }
 {
@@ -221,7 +221,7 @@ fn proc_end(tokens: &mut Cursor<'_>) -> Result<(u32, Option<Text>), Fault>
 }
 
 /// The word behind the `end` of a program, with its name; both may be left out.
-#[tactic(auto, unfolding(setl_reading::specs::ReadPrograms::optional_name))]
+#[tactic(auto, unfolding(setl_reading::specs::code::ReadPrograms::optional_name))]
 fn program_name(tokens: &mut Cursor<'_>) -> Result<Option<Text>, Fault>
     ensures { Reads (parts.name_behind_end (is k.Program) (expect k.Program) tokens.old) result tokens.new }
 {
@@ -233,7 +233,7 @@ fn program_name(tokens: &mut Cursor<'_>) -> Result<Option<Text>, Fault>
 }
 
 /// The end of a program.
-#[tactic(auto, unfolding(setl_reading::specs::ReadPrograms::program_end, setl_reading::specs::ReadPrograms::named_ending))]
+#[tactic(auto, unfolding(setl_reading::specs::code::ReadPrograms::program_end, setl_reading::specs::code::ReadPrograms::named_ending))]
 fn program_end(tokens: &mut Cursor<'_>) -> Result<(u32, Option<Text>), Fault>
     ensures { Reads (spec.program_end tokens.old) result tokens.new }
 {
@@ -309,13 +309,13 @@ struct ProcRule {
 impl Rule for ProcRule {
     type Out = Proc;
 
-    ghost use Rattle.setl_reading.specs.ReadPrograms.{proc};
+    ghost use Rattle.setl_reading.specs.code.ReadPrograms.{proc};
 
     ghost can_read = { λ s. Unit {0} };
 
     ghost reader = { λ s. proc s.room };
 
-    #[tactic(auto, unfolding(setl_reading::specs::ReadPrograms::proc))]
+    #[tactic(auto, unfolding(setl_reading::specs::code::ReadPrograms::proc))]
     fn read(&self, tokens: &mut Cursor<'_>) -> Result<Proc, Fault> {
         let line = tokens.line();
         proc_word(tokens)?;
@@ -328,7 +328,7 @@ impl Rule for ProcRule {
 }
 
 impl Repeated for ProcRule {
-    ghost use Rattle.setl_reading.specs.ReadPrograms.{begins_proc};
+    ghost use Rattle.setl_reading.specs.code.ReadPrograms.{begins_proc};
 
     ghost begins_with = { λ s. begins_proc };
 
@@ -338,7 +338,7 @@ impl Repeated for ProcRule {
 }
 
 /// What was read of a program, and behind it its statements, its procedures and its end.
-#[tactic(auto, unfolding(setl_reading::specs::ReadPrograms::procs))]
+#[tactic(auto, unfolding(setl_reading::specs::code::ReadPrograms::procs))]
 fn program_parts<T: Drop>(
     head: T,
     room: usize,
@@ -389,13 +389,13 @@ struct VarsRule;
 impl Rule for VarsRule {
     type Out = Items<Declared>;
 
-    ghost use Rattle.setl_parse.specs.Parts.{joined_vars};
+    ghost use Rattle.setl_parse.specs.code.Parts.{joined_vars};
 
     ghost can_read = { λ s. Unit {0} };
 
     ghost reader = { λ s. joined_vars };
 
-    #[tactic(auto, unfolding(setl_reading::specs::ReadPrograms::vars))]
+    #[tactic(auto, unfolding(setl_reading::specs::code::ReadPrograms::vars))]
     fn read(&self, tokens: &mut Cursor<'_>) -> Result<Items<Declared>, Fault> {
         let lists = many(&VarRule, tokens)?;
         Ok(joined(tokens.alloc(), lists)?)
@@ -403,7 +403,7 @@ impl Rule for VarsRule {
 }
 
 /// A program.
-#[tactic(auto, unfolding(setl_reading::specs::ReadPrograms::program, setl_reading::specs::ReadPrograms::vars))]
+#[tactic(auto, unfolding(setl_reading::specs::code::ReadPrograms::program, setl_reading::specs::code::ReadPrograms::vars))]
 pub fn program(room: usize, tokens: &mut Cursor<'_>) -> Result<Tree, Fault>
     ensures { Reads (spec.program room tokens.old) result tokens.new }
 {

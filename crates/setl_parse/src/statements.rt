@@ -4,9 +4,9 @@ ghost use Rattle.std.specs.Prelude.{◌≡◌, IfOk, IfErr, Ok, Err, [], ◌∷�
 ghost use Rattle.setl_tree.specs.Operators as table;
 ghost use Rattle.setl_tree.specs.Statements as grammar;
 ghost use Rattle.setl_tree.specs.Tokens.{Token};
-ghost use Rattle.setl_reading.specs.Reading.{Reads, begins_as};
-ghost use Rattle.setl_reading.specs.ReadStatements as spec;
-ghost use Rattle.setl_parse.specs.Parts as parts;
+ghost use Rattle.setl_reading.specs.code.Reading.{Reads, begins_as};
+ghost use Rattle.setl_reading.specs.code.ReadStatements as spec;
+ghost use Rattle.setl_parse.specs.code.Parts as parts;
 
 use setl_expressions::{
     Cursor, ListedRule, NestedExpr, Repeated, Rule, SeparatedRule, begins_selector, beside, braces,
@@ -77,7 +77,7 @@ fn is_simple(kind: Kind) -> bool
 }
 
 /// Reads `end`, maybe this word, and `;`.
-#[tactic(auto, unfolding(setl_reading::specs::ReadStatements::ending))]
+#[tactic(auto, unfolding(setl_reading::specs::code::ReadStatements::ending))]
 pub fn ending(word: Kind, tokens: &mut Cursor<'_>) -> Result<(), Fault>
     ensures ok { IfOk result (λ _. (t : Token) × (spec.ending word tokens.old ≡ Ok (t, tokens.new))) }
     ensures err { IfErr result (λ e. spec.ending word tokens.old ≡ Err e) }
@@ -123,7 +123,7 @@ fn command<R: Rule>(
 }
 
 /// Expressions in the round brackets of a place.
-#[tactic(auto, unfolding(setl_reading::specs::ReadStatements::place_round))]
+#[tactic(auto, unfolding(setl_reading::specs::code::ReadStatements::place_round))]
 fn place_round(room: usize, tokens: &mut Cursor<'_>) -> Result<Selector, Fault>
     ensures { Reads (spec.place_round room tokens.old) result tokens.new }
 {
@@ -143,13 +143,13 @@ struct PlaceSelector {
 impl Rule for PlaceSelector {
     type Out = Selector;
 
-    ghost use Rattle.setl_reading.specs.ReadStatements.{place_selector};
+    ghost use Rattle.setl_reading.specs.code.ReadStatements.{place_selector};
 
     ghost can_read = { λ s. Unit {0} };
 
     ghost reader = { λ s. place_selector s.room };
 
-    #[tactic(auto, unfolding(setl_reading::specs::ReadStatements::place_selector))]
+    #[tactic(auto, unfolding(setl_reading::specs::code::ReadStatements::place_selector))]
     fn read(&self, tokens: &mut Cursor<'_>) -> Result<Selector, Fault> {
         if same_kind(tokens.kind(), Kind::LeftParen) {
             return place_round(self.room, tokens);
@@ -159,7 +159,7 @@ impl Rule for PlaceSelector {
 }
 
 impl Repeated for PlaceSelector {
-    ghost use Rattle.setl_reading.specs.ReadExpressions.{begins_selector};
+    ghost use Rattle.setl_reading.specs.code.ReadExpressions.{begins_selector};
 
     ghost begins_with = { λ s. begins_selector };
 
@@ -177,13 +177,13 @@ struct PlaceRule {
 impl Rule for PlaceRule {
     type Out = Place;
 
-    ghost use Rattle.setl_reading.specs.ReadStatements.{place};
+    ghost use Rattle.setl_reading.specs.code.ReadStatements.{place};
 
     ghost can_read = { λ s. Unit {0} };
 
     ghost reader = { λ s. place s.room };
 
-    #[tactic(auto, unfolding(setl_reading::specs::ReadStatements::place, setl_reading::specs::ReadStatements::place_selectors))]
+    #[tactic(auto, unfolding(setl_reading::specs::code::ReadStatements::place, setl_reading::specs::code::ReadStatements::place_selectors))]
     fn read(&self, tokens: &mut Cursor<'_>) -> Result<Place, Fault> {
         let name = tokens.name()?;
         let (name, selectors) = with_many(name, &PlaceSelector { room: self.room }, tokens)?;
@@ -192,7 +192,7 @@ impl Rule for PlaceRule {
 }
 
 /// `:= value;` behind a place.
-#[tactic(auto, unfolding(setl_reading::specs::ReadStatements::assigned))]
+#[tactic(auto, unfolding(setl_reading::specs::code::ReadStatements::assigned))]
 fn assigned(room: usize, place: Place, tokens: &mut Cursor<'_>) -> Result<StmtKind, Fault>
     ensures { Reads (spec.assigned room place tokens.old) result tokens.new }
 {
@@ -201,7 +201,7 @@ fn assigned(room: usize, place: Place, tokens: &mut Cursor<'_>) -> Result<StmtKi
 }
 
 /// `op := value;` behind a place.
-#[tactic(auto, unfolding(setl_reading::specs::ReadStatements::updated, setl_reading::specs::Reading::one_of))]
+#[tactic(auto, unfolding(setl_reading::specs::code::ReadStatements::updated, setl_reading::specs::code::Reading::one_of))]
 fn updated(room: usize, place: Place, tokens: &mut Cursor<'_>) -> Result<StmtKind, Fault>
     ensures { Reads (spec.updated room place tokens.old) result tokens.new }
 {
@@ -214,7 +214,7 @@ fn updated(room: usize, place: Place, tokens: &mut Cursor<'_>) -> Result<StmtKin
 }
 
 /// What stands behind a place.
-#[tactic(auto, unfolding(setl_reading::specs::ReadStatements::stored))]
+#[tactic(auto, unfolding(setl_reading::specs::code::ReadStatements::stored))]
 fn stored(room: usize, place: Place, tokens: &mut Cursor<'_>) -> Result<StmtKind, Fault>
     ensures { Reads (spec.stored room place tokens.old) result tokens.new }
 {
@@ -225,7 +225,7 @@ fn stored(room: usize, place: Place, tokens: &mut Cursor<'_>) -> Result<StmtKind
 }
 
 /// What was read, and beside it the selectors of a place, of which these were read.
-#[tactic(auto, unfolding(setl_reading::specs::ReadStatements::place_selectors))]
+#[tactic(auto, unfolding(setl_reading::specs::code::ReadStatements::place_selectors))]
 fn with_selectors<T: Drop>(
     head: T,
     room: usize,
@@ -239,7 +239,7 @@ fn with_selectors<T: Drop>(
 }
 
 /// What stands behind the first selector of a place.
-#[tactic(auto, unfolding(setl_reading::specs::ReadStatements::selected_place, setl_reading::specs::ReadStatements::place_selectors))]
+#[tactic(auto, unfolding(setl_reading::specs::code::ReadStatements::selected_place, setl_reading::specs::code::ReadStatements::place_selectors))]
 fn selected_place(
     room: usize,
     name: Text,
@@ -254,7 +254,7 @@ fn selected_place(
 }
 
 /// What stands behind `name(x, ..)`.
-#[tactic(auto, unfolding(setl_reading::specs::ReadStatements::after_arguments))]
+#[tactic(auto, unfolding(setl_reading::specs::code::ReadStatements::after_arguments))]
 fn after_arguments(
     room: usize,
     name: Text,
@@ -271,7 +271,7 @@ fn after_arguments(
 }
 
 /// What stands behind `name(` where `)` does.
-#[tactic(auto, unfolding(setl_reading::specs::ReadStatements::no_arguments))]
+#[tactic(auto, unfolding(setl_reading::specs::code::ReadStatements::no_arguments))]
 fn no_arguments(room: usize, name: Text, tokens: &mut Cursor<'_>) -> Result<StmtKind, Fault>
     ensures { Reads (spec.no_arguments room name tokens.old) result tokens.new }
 {
@@ -281,7 +281,7 @@ fn no_arguments(room: usize, name: Text, tokens: &mut Cursor<'_>) -> Result<Stmt
 }
 
 /// What stands behind `name(`.
-#[tactic(auto, unfolding(setl_reading::specs::ReadStatements::called))]
+#[tactic(auto, unfolding(setl_reading::specs::code::ReadStatements::called))]
 fn called(room: usize, name: Text, tokens: &mut Cursor<'_>) -> Result<StmtKind, Fault>
     ensures { Reads (spec.called room name tokens.old) result tokens.new }
 {
@@ -297,7 +297,7 @@ fn called(room: usize, name: Text, tokens: &mut Cursor<'_>) -> Result<StmtKind, 
 }
 
 /// What stands behind a name with no round bracket.
-#[tactic(auto, unfolding(setl_reading::specs::ReadStatements::braced_or_alone))]
+#[tactic(auto, unfolding(setl_reading::specs::code::ReadStatements::braced_or_alone))]
 fn braced_or_alone(room: usize, name: Text, tokens: &mut Cursor<'_>) -> Result<StmtKind, Fault>
     ensures { Reads (spec.braced_or_alone room name tokens.old) result tokens.new }
 {
@@ -310,7 +310,7 @@ fn braced_or_alone(room: usize, name: Text, tokens: &mut Cursor<'_>) -> Result<S
 }
 
 /// A call or a place behind its name.
-#[tactic(auto, unfolding(setl_reading::specs::ReadStatements::called_or_stored))]
+#[tactic(auto, unfolding(setl_reading::specs::code::ReadStatements::called_or_stored))]
 fn called_or_stored(room: usize, name: Text, tokens: &mut Cursor<'_>) -> Result<StmtKind, Fault>
     ensures { Reads (spec.called_or_stored room name tokens.old) result tokens.new }
 {
@@ -322,7 +322,7 @@ fn called_or_stored(room: usize, name: Text, tokens: &mut Cursor<'_>) -> Result<
 }
 
 /// `from place;` behind a name.
-#[tactic(auto, unfolding(setl_reading::specs::ReadStatements::taken, setl_reading::specs::Reading::one_of))]
+#[tactic(auto, unfolding(setl_reading::specs::code::ReadStatements::taken, setl_reading::specs::code::Reading::one_of))]
 fn taken(room: usize, name: Text, tokens: &mut Cursor<'_>) -> Result<StmtKind, Fault>
     ensures { Reads (spec.taken room name tokens.old) result tokens.new }
 {
@@ -336,7 +336,7 @@ fn taken(room: usize, name: Text, tokens: &mut Cursor<'_>) -> Result<StmtKind, F
 }
 
 /// What stands behind a name.
-#[tactic(auto, unfolding(setl_reading::specs::ReadStatements::behind_name))]
+#[tactic(auto, unfolding(setl_reading::specs::code::ReadStatements::behind_name))]
 pub fn behind_name(room: usize, name: Text, tokens: &mut Cursor<'_>) -> Result<StmtKind, Fault>
     ensures { Reads (spec.behind_name room name tokens.old) result tokens.new }
 {
@@ -347,7 +347,7 @@ pub fn behind_name(room: usize, name: Text, tokens: &mut Cursor<'_>) -> Result<S
 }
 
 /// `[slot, ..] := value;`
-#[tactic(auto, unfolding(setl_reading::specs::ReadStatements::tuple_assign))]
+#[tactic(auto, unfolding(setl_reading::specs::code::ReadStatements::tuple_assign))]
 pub fn tuple_assign(room: usize, tokens: &mut Cursor<'_>) -> Result<StmtKind, Fault>
     ensures { Reads (spec.tuple_assign room tokens.old) result tokens.new }
 {
@@ -357,7 +357,7 @@ pub fn tuple_assign(room: usize, tokens: &mut Cursor<'_>) -> Result<StmtKind, Fa
 }
 
 /// `return value;`, where the value may be left out.
-#[tactic(auto, unfolding(setl_reading::specs::ReadStatements::return_stmt))]
+#[tactic(auto, unfolding(setl_reading::specs::code::ReadStatements::return_stmt))]
 pub fn return_stmt(room: usize, tokens: &mut Cursor<'_>) -> Result<StmtKind, Fault>
     ensures { Reads (spec.return_stmt room tokens.old) result tokens.new }
 {
@@ -371,7 +371,7 @@ pub fn return_stmt(room: usize, tokens: &mut Cursor<'_>) -> Result<StmtKind, Fau
 }
 
 /// `print(x, ..);`
-#[tactic(auto, unfolding(setl_reading::specs::ReadStatements::print_stmt))]
+#[tactic(auto, unfolding(setl_reading::specs::code::ReadStatements::print_stmt))]
 pub fn print_stmt(room: usize, tokens: &mut Cursor<'_>) -> Result<StmtKind, Fault>
     ensures { Reads (spec.print_stmt room tokens.old) result tokens.new }
 {
@@ -389,7 +389,7 @@ pub struct NameRule;
 impl Rule for NameRule {
     type Out = Text;
 
-    ghost use Rattle.setl_reading.specs.Reading.{name};
+    ghost use Rattle.setl_reading.specs.code.Reading.{name};
 
     ghost can_read = { λ s. Unit {0} };
 
@@ -402,7 +402,7 @@ impl Rule for NameRule {
 
 impl Repeated for NameRule {
     ghost use Rattle.setl_tree.specs.declared.kind.Kind.TheVariants as k;
-    ghost use Rattle.setl_reading.specs.Reading.{is};
+    ghost use Rattle.setl_reading.specs.code.Reading.{is};
 
     ghost begins_with = { λ s. is k.Name };
 
@@ -412,7 +412,7 @@ impl Repeated for NameRule {
 }
 
 /// `read(name, ..);`
-#[tactic(auto, unfolding(setl_reading::specs::ReadStatements::read_stmt))]
+#[tactic(auto, unfolding(setl_reading::specs::code::ReadStatements::read_stmt))]
 pub fn read_stmt(room: usize, tokens: &mut Cursor<'_>) -> Result<StmtKind, Fault>
     ensures { Reads (spec.read_stmt room tokens.old) result tokens.new }
 {
@@ -421,7 +421,7 @@ pub fn read_stmt(room: usize, tokens: &mut Cursor<'_>) -> Result<StmtKind, Fault
 }
 
 /// A statement of one word.
-#[tactic(auto, unfolding(setl_reading::specs::ReadStatements::simple_stmt, setl_reading::specs::Reading::one_of))]
+#[tactic(auto, unfolding(setl_reading::specs::code::ReadStatements::simple_stmt, setl_reading::specs::code::Reading::one_of))]
 pub fn simple_stmt(room: usize, tokens: &mut Cursor<'_>) -> Result<StmtKind, Fault>
     ensures { Reads (spec.simple_stmt room tokens.old) result tokens.new }
 {

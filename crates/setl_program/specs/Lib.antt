@@ -10,5 +10,5 @@ pub mod Operators
 pub mod Expressions
 pub mod Statements
 pub mod ProgramOf
-pub mod Plain
 pub mod Samples
+pub mod code

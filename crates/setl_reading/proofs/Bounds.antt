@@ -14,8 +14,8 @@ use Rattle.setl_tree.specs.Lang as lang
 use Rattle.setl_tree.specs.Operators.{level_of}
 use Rattle.setl_tree.specs.Expressions as grammar
 use Rattle.setl_reading.specs.Fronts.{opens_nesting}
-use Rattle.setl_reading.specs.Reading.{Reader, ◌>>=◌, pure, expect, is, same_kind}
-use Rattle.setl_reading.specs.ReadExpressions as r
+use Rattle.setl_reading.specs.code.Reading.{Reader, ◌>>=◌, pure, expect, is, same_kind}
+use Rattle.setl_reading.specs.code.ReadExpressions as r
 use Rattle.setl_reading.proofs.EveryKind.{kinds}
 use Rattle.setl_reading.proofs.Laws.{Law, Within, Begins, always, anything, within, within_always, same, law_then, law_map, law_stops, law_expect, law_choose, law_as, law_opening, law_separated, law_name, begins_name, begins_token, begins_then, begins_or, begins_within, begins_opening, begins_separated, follows_begins, follows_token}
 use Rattle.setl_reading.proofs.Exact.{Exact, weak, exact_then, exact_map, exact_expect, exact_choose, exact_either, exact_as, exact_opening, exact_separated, exact_name}

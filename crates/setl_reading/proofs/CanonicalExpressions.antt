@@ -9,7 +9,7 @@ use Rattle.setl_tree.specs.Lang.{Lang}
 use Rattle.setl_tree.specs.Expressions as x
 use Rattle.setl_tree.specs.Expressions.{Inside}
 use Rattle.setl_tree.specs.Canonical.{Shown, shown, alone, operation, selection, sign, bracketed, as_operand, as_primary, expr_tokens}
-use Rattle.setl_reading.specs.Reading.{same_kind}
+use Rattle.setl_reading.specs.code.Reading.{same_kind}
 use Rattle.setl_reading.proofs.EveryKind.{kinds, every, all_of as all_kinds, same_kind_is}
 use Rattle.setl_reading.proofs.Building.{Spells, seq, then_token, then_opening, ends, outside}
 

@@ -21,7 +21,7 @@ use Rattle.setl_tree.specs.Operators.{level_of, binary_op, op_at, relation_op, n
 use Rattle.setl_tree.specs.Expressions as x
 use Rattle.setl_tree.specs.Expressions.{Inside}
 use Rattle.setl_tree.specs.Canonical.{shown, alone, sign, name_token, bracketed, with_commas, all_of, as_operand, as_primary, all_prefixes, prefix_tokens, op_kind, relation_kind, fold_kind, quantifier_kind, expr_tokens, inner_tokens, iter_tokens, selector_tokens}
-use Rattle.setl_reading.specs.Reading.{same_kind}
+use Rattle.setl_reading.specs.code.Reading.{same_kind}
 use Rattle.setl_reading.proofs.EveryKind.{kinds}
 use Rattle.setl_reading.proofs.Building.{last, then_opening_one, opened_means, some_is, Spells, seq, then_token, then_name, then_opening, then_one_of, ends, outside, AllOf, from_many, from_optional, from_separated, from_listed, spells_many, spells_several, spells_listed, all_to, several_to}
 use Rattle.setl_reading.proofs.ShownParts as parts

@@ -14,7 +14,7 @@ use Rattle.setl_tree.specs.Canonical.{sign_at, sign, name_token, bracketed, attr
 use Rattle.setl_tree.specs.Tokens.{Tokens}
 use Rattle.setl_tree.specs.Lang.{Lang, Then, line_of}
 use Rattle.setl_tree.specs.Lang as lang
-use Rattle.setl_reading.specs.Reading.{same_kind}
+use Rattle.setl_reading.specs.code.Reading.{same_kind}
 use Rattle.setl_reading.proofs.EveryKind.{kinds}
 use Rattle.setl_reading.proofs.Building.{last, some_is, Spells, seq, then_token, then_name, then_opening, then_nothing, then_some, ends}
 use Rattle.setl_reading.proofs.CanonicalExpressions.{means_back}

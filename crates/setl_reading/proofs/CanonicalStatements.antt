@@ -22,7 +22,7 @@ use Rattle.setl_tree.specs.Expressions as x
 use Rattle.setl_tree.specs.Statements as s
 use Rattle.setl_tree.specs.Statements.{from_word, simple}
 use Rattle.setl_tree.specs.Canonical.{sign_at, sign, name_at, bracketed, with_commas, all_of, op_kind, from_kind, slots_tokens, slot_tokens, place_tokens, expr_tokens, iter_tokens, selector_tokens, in_round, elseif_tokens, ending_tokens, bar_tokens, result_tokens, single, stmt_tokens}
-use Rattle.setl_reading.specs.Reading.{same_kind}
+use Rattle.setl_reading.specs.code.Reading.{same_kind}
 use Rattle.setl_reading.proofs.EveryKind.{kinds}
 use Rattle.setl_reading.proofs.Building.{last, some_is, Spells, seq, then_token, then_name, then_opening, then_one_of, then_some, ends, outside, AllOf, OfSome, from_many, from_optional, from_separated, from_listed, spells_many, spells_several, spells_listed, all_to, several_to}
 use Rattle.setl_reading.proofs.ShownParts as parts

@@ -4,7 +4,7 @@ use denote.Enum.Bare.{same_true}
 use Rattle.setl_tree.specs.declared.kind.Kind.{Kind}
 use Rattle.setl_tree.specs.declared.kind.Kind.TheVariants as k
 use Rattle.setl_tree.specs.contracts.kind.Kind.{the_type}
-use Rattle.setl_reading.specs.Reading.{same_kind}
+use Rattle.setl_reading.specs.code.Reading.{same_kind}
 
 pub same_kind_is : (a b : Kind) → same_kind a b ≡ true → a ≡ b
 unfolding same_kind

@@ -10,7 +10,7 @@ use Rattle.setl_tree.specs.Lang as lang
 use Rattle.setl_reading.specs.declared.fault.Fault.{Fault}
 use Rattle.setl_reading.specs.declared.fault.Fault.TheVariants.{Syntax}
 use Rattle.setl_reading.specs.Fronts.{opens_nesting}
-use Rattle.setl_reading.specs.Reading.{Outcome, Reader, next_kind, is, begins_as, and_then, ◌>>=◌, pure, peek, take_if, open_if, open_meant, expect, opening, opening_one_of, meant, one_of, is_some, many_from, many, more, separated, listed, optional, lined, name}
+use Rattle.setl_reading.specs.code.Reading.{Outcome, Reader, next_kind, is, begins_as, and_then, ◌>>=◌, pure, peek, take_if, open_if, open_meant, expect, opening, opening_one_of, meant, one_of, is_some, many_from, many, more, separated, listed, optional, lined, name}
 use Rattle.setl_reading.proofs.EveryKind.{same_kind_is, same_kind_self}
 use Rattle.setl_reading.proofs.Laws.{no_room, no_meaning, line_begins, took_at, Took, Sound, Begins, Within, NotEnd, bind_ok, ok_parts, took_then, took_as, law_pure, law_expect, law_one_of, begins_then, begins_token}
 use Rattle.setl_reading.proofs.Reach.{left, Extends, Fits, Reach, reach_then, reach_pure, reach_by, reach_choose, reach_expect, reach_one_of, reach_opening, reach_opening_one_of, reach_lower, reach_lined, reach_many, eats_begins, many_within}

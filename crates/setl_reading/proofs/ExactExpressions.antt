@@ -17,8 +17,8 @@ use Rattle.setl_tree.specs.Lang as lang
 use Rattle.setl_tree.specs.Operators.{relation_op, not_sign, prefix_op, fold_sign, quantifier, constant, prefixed, selected}
 use Rattle.setl_tree.specs.Expressions as grammar
 use Rattle.setl_reading.specs.Fronts.{opens_nesting}
-use Rattle.setl_reading.specs.Reading.{open_if, ◌>>=◌, pure, expect, opening, one_of, is, begins_as}
-use Rattle.setl_reading.specs.ReadExpressions as r
+use Rattle.setl_reading.specs.code.Reading.{open_if, ◌>>=◌, pure, expect, opening, one_of, is, begins_as}
+use Rattle.setl_reading.specs.code.ReadExpressions as r
 use Rattle.setl_reading.proofs.EveryKind.{kinds}
 use Rattle.setl_reading.proofs.Laws.{always, goes_to, many_none, within, begins_one_of}
 use Rattle.setl_reading.specs.declared.fault.Fault.TheVariants.{Nesting}

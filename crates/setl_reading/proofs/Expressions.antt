@@ -16,9 +16,9 @@ use Rattle.setl_tree.specs.Lang as lang
 use Rattle.setl_tree.specs.Operators.{level_of, op_at, binary_op, relation_op, not_sign, prefix_op, fold_sign, quantifier, constant, chain_of, prefixed, selected}
 use Rattle.setl_tree.specs.Expressions as grammar
 use Rattle.setl_reading.specs.declared.ahead.Ahead.TheVariants.{Pattern}
-use Rattle.setl_reading.specs.Reading.{but, Outcome, Reader, ◌>>=◌, and_then, pure, peek, expect, opening, one_of, meant, is, begins_as, next_kind, rest_of, same_kind}
-use Rattle.setl_reading.specs.Scan.{ends_slot, slots_ahead}
-use Rattle.setl_reading.specs.ReadExpressions as r
+use Rattle.setl_reading.specs.code.Reading.{but, Outcome, Reader, ◌>>=◌, and_then, pure, peek, expect, opening, one_of, meant, is, begins_as, next_kind, rest_of, same_kind}
+use Rattle.setl_reading.specs.code.Scan.{ends_slot, slots_ahead}
+use Rattle.setl_reading.specs.code.ReadExpressions as r
 use Rattle.setl_reading.proofs.EveryKind.{kinds}
 use Rattle.setl_reading.proofs.Laws.{Took, Law, Follows, Within, Begins, Fails, always, anything, took_as, fails_then, fails_at, takes, passes, goes_to, opening_fails, opening_takes, many_none, same_outcome, bind_assoc, law_of, chosen, next_of, not_is, within, within_always, same, law_pure, law_then, law_map, law_stops, law_expect, law_one_of, law_choose, law_as, law_opening, law_opening_one_of, law_many, law_more, law_separated, law_name, begins_name, begins_token, begins_then, begins_or, begins_within, begins_one_of, begins_many, begins_opening, begins_opening_one_of, follows_begins, follows_token, follows_or, follows_then, follows_map, follows_more, follows_pure, follows_opening}
 use Rattle.setl_reading.proofs.Regroup.{more_l, behind, with_second, optional_none, optional_some, optional_to, listed_none, listed_some, listed_to}

@@ -19,9 +19,9 @@ use Rattle.setl_reading.specs.declared.ahead.Ahead.{Ahead}
 use Rattle.setl_reading.specs.declared.ahead.Ahead.TheVariants.{Expression, Either, Pattern}
 use Rattle.setl_reading.specs.declared.fault.Fault.TheVariants.{Syntax, Nesting}
 use Rattle.setl_reading.specs.Fronts.{opens_nesting}
-use Rattle.setl_reading.specs.Reading.{open_if, but, Outcome, Reader, ◌>>=◌, ◌>>◌, and_then, pure, expect, opening, is, next_kind, rest_of, same_kind, many_from, more, separated}
-use Rattle.setl_reading.specs.Scan.{either_at, slots_ahead, ahead, bound_expr}
-use Rattle.setl_reading.specs.ReadExpressions as r
+use Rattle.setl_reading.specs.code.Reading.{open_if, but, Outcome, Reader, ◌>>=◌, ◌>>◌, and_then, pure, expect, opening, is, next_kind, rest_of, same_kind, many_from, more, separated}
+use Rattle.setl_reading.specs.code.Scan.{either_at, slots_ahead, ahead, bound_expr}
+use Rattle.setl_reading.specs.code.ReadExpressions as r
 use Rattle.setl_reading.proofs.EveryKind.{kinds, same_kind_is, same_kind_self}
 use Rattle.setl_reading.proofs.Laws.{Took, Law, Follows, Within, Begins, Fails, anything, bind_ok, ok_parts, took_as, fails_then, fails_at, takes, passes, goes_to, bind_assoc, law_of, not_is, within, within_always, same, law_pure, law_then, law_map, law_stops, law_expect, law_choose, law_as, law_more, law_optional, begins_token, begins_then, follows_begins, follows_token, follows_or, follows_map, follows_more, follows_optional, follows_pure}
 use Rattle.setl_reading.proofs.Reach.{left, Extends, Reach, ends, and_left, left_none, far, fails_to, reach_then, reach_expect, reach_choose}

@@ -14,9 +14,9 @@ use Rattle.setl_tree.specs.Operators.{not_sign, quantifier}
 use Rattle.setl_tree.specs.Expressions as grammar
 use Rattle.setl_reading.specs.declared.ahead.Ahead.TheVariants.{Expression, Pattern}
 use Rattle.setl_reading.specs.declared.fault.Fault.TheVariants.{Nesting}
-use Rattle.setl_reading.specs.Reading.{◌>>=◌, pure, expect, opening, is, begins_as, next_kind, same_kind, separated}
-use Rattle.setl_reading.specs.Scan.{either_at, ends_slot, slots_ahead}
-use Rattle.setl_reading.specs.ReadExpressions as r
+use Rattle.setl_reading.specs.code.Reading.{◌>>=◌, pure, expect, opening, is, begins_as, next_kind, same_kind, separated}
+use Rattle.setl_reading.specs.code.Scan.{either_at, ends_slot, slots_ahead}
+use Rattle.setl_reading.specs.code.ReadExpressions as r
 use Rattle.setl_reading.proofs.Laws.{Law, Begins, Fails, fails_then, fails_at, passes, opening_fails}
 use Rattle.setl_reading.proofs.Reach.{Reach}
 use Rattle.setl_reading.proofs.Exact.{Exact}

@@ -8,7 +8,7 @@ use Rattle.setl_reading.specs.declared.fault.Fault.{Fault}
 use Rattle.setl_tree.specs.Lang.{Lang, Then, Split, IsToken, Means}
 use Rattle.setl_tree.specs.Lang as lang
 use Rattle.setl_tree.specs.Lang.{line_of}
-use Rattle.setl_reading.specs.Reading.{Outcome, Reader, next_kind, same_kind, is, but, rest_of, and_then, ◌>>=◌, pure, peek, take_if, open_if, open_meant, expect, opening, opening_one_of, meant, one_of, is_some, begins_as, many_from, many, more, separated, listed, optional, lined, name}
+use Rattle.setl_reading.specs.code.Reading.{Outcome, Reader, next_kind, same_kind, is, but, rest_of, and_then, ◌>>=◌, pure, peek, take_if, open_if, open_meant, expect, opening, opening_one_of, meant, one_of, is_some, begins_as, many_from, many, more, separated, listed, optional, lined, name}
 use Rattle.setl_reading.proofs.EveryKind.{same_kind_is, same_kind_self, every, all_of, kinds}
 
 -- what was read, and the tokens that spell it

@@ -11,8 +11,8 @@ use Rattle.setl_tree.specs.Lang as lang
 use Rattle.setl_tree.specs.Operators.{op_at, level_of, binary_op, chain_of}
 use Rattle.setl_tree.specs.Expressions as grammar
 use Rattle.setl_reading.specs.Fronts.{opens_nesting}
-use Rattle.setl_reading.specs.Reading.{Reader, begins_as, same_kind}
-use Rattle.setl_reading.specs.ReadExpressions as r
+use Rattle.setl_reading.specs.code.Reading.{Reader, begins_as, same_kind}
+use Rattle.setl_reading.specs.code.ReadExpressions as r
 use Rattle.setl_reading.proofs.EveryKind.{kinds}
 use Rattle.setl_reading.proofs.Laws.{Law, Within, NotEnd, anything, within, law_then, law_map, law_one_of, law_many, begins_one_of, begins_then, follows_map, follows_many}
 use Rattle.setl_reading.proofs.Bounds.{below, below_more}

@@ -14,8 +14,8 @@ use Rattle.setl_tree.specs.Lang as lang
 use Rattle.setl_tree.specs.Modes as grammar
 use Rattle.setl_tree.specs.Modes.{attribute, simple_core}
 use Rattle.setl_reading.specs.Fronts.{opens_nesting}
-use Rattle.setl_reading.specs.Reading.{Reader, ◌>>=◌, pure, opening, expect, peek, one_of, is, but, begins_as, next_kind, same_kind, separated}
-use Rattle.setl_reading.specs.ReadModes as m
+use Rattle.setl_reading.specs.code.Reading.{Reader, ◌>>=◌, pure, opening, expect, peek, one_of, is, but, begins_as, next_kind, same_kind, separated}
+use Rattle.setl_reading.specs.code.ReadModes as m
 use Rattle.setl_reading.proofs.EveryKind.{kinds}
 use Rattle.setl_reading.proofs.Laws.{Took, Law, Within, Begins, always, anything, took_as, law_of, chosen, within, within_always, same, law_then, law_map, law_expect, law_one_of, law_choose, law_as, law_opening, law_many, law_separated, law_optional, law_lined, law_name, bind_assoc, begins_token, begins_then, begins_or, begins_within, begins_one_of, begins_lined, begins_separated, follows_begins, follows_token, follows_then, follows_map, follows_optional, begins_optional, bind_ok}
 use Rattle.setl_reading.proofs.Regroup.{behind, assoc, unassoc, pure_then, then_pure, with_second}

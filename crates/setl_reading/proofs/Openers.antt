@@ -3,7 +3,7 @@ use Rattle.std.proofs.Common.{◌≡◌, ℕ, zero, suc, ◌≤◌, true, [], �
 use Rattle.setl_tree.specs.Tokens.{Token, Tokens}
 use Rattle.setl_reading.specs.declared.fault.Fault.TheVariants.{Memory, Syntax, Nesting}
 use Rattle.setl_reading.specs.Fronts.{opens_nesting}
-use Rattle.setl_reading.specs.Reading.{Outcome, Reader, and_then, pure}
+use Rattle.setl_reading.specs.code.Reading.{Outcome, Reader, and_then, pure}
 use Rattle.setl_reading.proofs.Laws.{Took}
 use Rattle.setl_reading.proofs.Reach.{left}
 

@@ -12,9 +12,9 @@ use Rattle.setl_tree.specs.Statements.{stmts}
 use Rattle.setl_tree.specs.Programs as grammar
 use Rattle.setl_tree.specs.Programs.{passing, joined, name_behind}
 use Rattle.setl_reading.specs.Fronts.{opens_nesting}
-use Rattle.setl_reading.specs.Reading.{Reader, expect, is, but, begins_as, same_kind}
-use Rattle.setl_reading.specs.ReadPrograms as p
-use Rattle.setl_reading.specs.ReadStatements.{begins_stmt}
+use Rattle.setl_reading.specs.code.Reading.{Reader, expect, is, but, begins_as, same_kind}
+use Rattle.setl_reading.specs.code.ReadPrograms as p
+use Rattle.setl_reading.specs.code.ReadStatements.{begins_stmt}
 use Rattle.setl_reading.proofs.EveryKind.{kinds}
 use Rattle.setl_reading.proofs.Laws.{Law, Follows, Within, Begins, always, anything, within, within_always, same, law_then, law_map, law_expect, law_one_of, law_choose, law_opening, law_many, law_listed, law_optional, law_lined, law_name, begins_name, begins_token, begins_then, begins_or, begins_one_of, begins_optional, begins_opening, begins_lined, follows_begins, follows_token, follows_then, follows_map, follows_many, follows_optional, follows_within}
 use Rattle.setl_reading.proofs.Exact.{Exact, exact_then, exact_map, exact_expect, exact_one_of, exact_choose, exact_opening, exact_many, exact_optional, exact_separated, exact_listed, exact_lined, exact_name}

@@ -7,7 +7,7 @@ use Rattle.setl_tree.specs.Lang.{Lang, Then, IsToken}
 use Rattle.setl_tree.specs.Lang as lang
 use Rattle.setl_reading.specs.declared.fault.Fault.{Fault}
 use Rattle.setl_reading.specs.declared.fault.Fault.TheVariants.{Memory, Syntax, Nesting}
-use Rattle.setl_reading.specs.Reading.{Outcome, Reader, next_kind, is, and_then, ◌>>=◌, pure, peek, take_if, open_if, open_meant, expect, opening, opening_one_of, meant, one_of, many_from, many, lined}
+use Rattle.setl_reading.specs.code.Reading.{Outcome, Reader, next_kind, is, and_then, ◌>>=◌, pure, peek, take_if, open_if, open_meant, expect, opening, opening_one_of, meant, one_of, many_from, many, lined}
 use Rattle.setl_reading.proofs.Laws.{Sound, Begins, NotEnd}
 
 -- ---- how many tokens are left

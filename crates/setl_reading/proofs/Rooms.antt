@@ -24,14 +24,14 @@ use Rattle.setl_reading.specs.declared.fault.Fault.TheVariants.{Syntax, Nesting}
 use Rattle.setl_reading.specs.declared.ahead.Ahead.{Ahead}
 use Rattle.setl_reading.specs.declared.ahead.Ahead.TheVariants.{Expression, Either, Pattern}
 use Rattle.setl_reading.specs.Claims.{IsTooDeep}
-use Rattle.setl_reading.specs.Reading.{same_kind, Outcome, Reader, next_kind, and_then, ◌>>=◌, peek, sees, open_if, open_meant, is, but, begins_as}
-use Rattle.setl_reading.specs.Reading as reading
-use Rattle.setl_reading.specs.ReadExpressions as r
-use Rattle.setl_reading.specs.ReadExpressions.{Inside}
-use Rattle.setl_reading.specs.ReadStatements as s
-use Rattle.setl_reading.specs.ReadModes as m
-use Rattle.setl_reading.specs.ReadPrograms as p
-use Rattle.setl_reading.specs.Scan.{ahead}
+use Rattle.setl_reading.specs.code.Reading.{same_kind, Outcome, Reader, next_kind, and_then, ◌>>=◌, peek, sees, open_if, open_meant, is, but, begins_as}
+use Rattle.setl_reading.specs.code.Reading as reading
+use Rattle.setl_reading.specs.code.ReadExpressions as r
+use Rattle.setl_reading.specs.code.ReadExpressions.{Inside}
+use Rattle.setl_reading.specs.code.ReadStatements as s
+use Rattle.setl_reading.specs.code.ReadModes as m
+use Rattle.setl_reading.specs.code.ReadPrograms as p
+use Rattle.setl_reading.specs.code.Scan.{ahead}
 use Rattle.setl_reading.proofs.Reach.{left, and_left, open_within, open_meant_within, take_within, meant_within, reach_pure}
 use Rattle.setl_reading.proofs.ExactExpressions.{nested_exact}
 use Rattle.setl_reading.proofs.Statements as statements

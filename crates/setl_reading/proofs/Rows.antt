@@ -15,17 +15,17 @@ use Rattle.setl_tree.specs.Tokens.{Token, Tokens}
 use Rattle.setl_tree.specs.Operators.{level_of, binary_op, op_at, update_op, relation_op, not_sign, prefix_op, fold_sign, quantifier, constant}
 use Rattle.setl_reading.specs.declared.fault.Fault.TheVariants.{Syntax, Nesting}
 use Rattle.setl_tree.specs.declared.expr.Fold.TheVariants as fold
-use Rattle.setl_reading.specs.Reading.{Outcome, same_kind, expect, opening, one_of, opening_one_of, many_from, more, separated, listed, name}
-use Rattle.setl_reading.specs.Scan.{ends_slot, slots_ahead, ahead}
-use Rattle.setl_reading.specs.ReadExpressions as r
-use Rattle.setl_reading.specs.ReadStatements as s
-use Rattle.setl_reading.specs.ReadPrograms as p
+use Rattle.setl_reading.specs.code.Reading.{Outcome, same_kind, expect, opening, one_of, opening_one_of, many_from, more, separated, listed, name}
+use Rattle.setl_reading.specs.code.Scan.{ends_slot, slots_ahead, ahead}
+use Rattle.setl_reading.specs.code.ReadExpressions as r
+use Rattle.setl_reading.specs.code.ReadStatements as s
+use Rattle.setl_reading.specs.code.ReadPrograms as p
 use Rattle.setl_tree.specs.declared.expr.Selector.TheVariants as se
 use Rattle.setl_tree.specs.declared.stmt.Stmt.{Stmt, roll-Stmt}
 use Rattle.setl_tree.specs.declared.stmt.StmtKind.{StmtKind}
 use Rattle.setl_tree.specs.declared.stmt.StmtKind.TheVariants as st
 use Rattle.setl_tree.specs.Statements.{from_word, simple}
-use Rattle.setl_reading.specs.ReadExpressions.{expr}
+use Rattle.setl_reading.specs.code.ReadExpressions.{expr}
 
 abbrev sign : Kind → Token
 sign kind = record { kind = kind; text = []; value = pos 0; line = 1 }

@@ -14,8 +14,8 @@ use Rattle.setl_tree.specs.Lang as lang
 use Rattle.setl_tree.specs.Expressions as grammar
 use Rattle.setl_reading.specs.declared.ahead.Ahead.{Ahead}
 use Rattle.setl_reading.specs.declared.ahead.Ahead.TheVariants.{Expression, Either, Pattern}
-use Rattle.setl_reading.specs.Reading.{next_kind, same_kind, rest_of}
-use Rattle.setl_reading.specs.Scan.{either_at, ends_slot, after_name, slots_ahead, ahead, slot_exprs}
+use Rattle.setl_reading.specs.code.Reading.{next_kind, same_kind, rest_of}
+use Rattle.setl_reading.specs.code.Scan.{either_at, ends_slot, after_name, slots_ahead, ahead, slot_exprs}
 use Rattle.setl_reading.proofs.EveryKind.{same_kind_is, same_kind_self}
 use Rattle.setl_reading.proofs.Regroup.{more_l, more_one}
 

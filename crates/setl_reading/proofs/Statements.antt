@@ -20,10 +20,10 @@ use Rattle.setl_tree.specs.Expressions.{nested, expr, pattern, iters}
 use Rattle.setl_tree.specs.Statements as grammar
 use Rattle.setl_tree.specs.Statements.{from_word, simple}
 use Rattle.setl_reading.specs.Fronts.{opens_nesting}
-use Rattle.setl_reading.specs.Reading.{Reader, ◌>>=◌, peek, is, but, begins_as, next_kind, same_kind, many, name}
-use Rattle.setl_reading.specs.ReadExpressions as r
-use Rattle.setl_reading.specs.ReadStatements as s
-use Rattle.setl_reading.specs.ReadStatements.{begins_stmt}
+use Rattle.setl_reading.specs.code.Reading.{Reader, ◌>>=◌, peek, is, but, begins_as, next_kind, same_kind, many, name}
+use Rattle.setl_reading.specs.code.ReadExpressions as r
+use Rattle.setl_reading.specs.code.ReadStatements as s
+use Rattle.setl_reading.specs.code.ReadStatements.{begins_stmt}
 use Rattle.setl_reading.proofs.EveryKind.{kinds, same_kind_self}
 use Rattle.setl_reading.proofs.Laws.{Took, Law, Follows, Within, Begins, always, anything, took_as, law_of, chosen, within, within_always, same, law_then, law_map, law_expect, law_one_of, law_choose, law_opening, law_many, law_separated, law_listed, law_optional, law_lined, law_name, begins_name, begins_token, begins_then, begins_or, begins_within, begins_one_of, begins_many, begins_lined, begins_opening, begins_separated, follows_begins, follows_token, follows_then, follows_many, follows_optional, follows_opening}
 use Rattle.setl_reading.proofs.Regroup.{behind, assoc, unassoc, pure_then, then_pure, map_then, then_map, with_second, then_or, in_left, in_right, listed_none, many_nil, many_cons, many_to}

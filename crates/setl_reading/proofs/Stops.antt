@@ -7,10 +7,10 @@ use Rattle.setl_tree.specs.Programs as grammar
 use Rattle.setl_tree.specs.Programs.{Derives}
 use Rattle.setl_reading.specs.declared.fault.Fault.{Fault}
 use Rattle.setl_reading.specs.declared.fault.Fault.TheVariants.{Memory, Syntax, Nesting}
-use Rattle.setl_reading.specs.Reading.{Outcome}
+use Rattle.setl_reading.specs.code.Reading.{Outcome}
 use Rattle.setl_reading.specs.Fronts.{Begins, GoesWrong, Opens, FaultOf, opens_nesting}
 use Rattle.setl_reading.specs.Claims.{IsTooDeep, FaultIsExact, LeftoverIsExact, FaultIsUnique, ProgramsHaveNoFault}
-use Rattle.setl_reading.specs.ReadPrograms as reading
+use Rattle.setl_reading.specs.code.ReadPrograms as reading
 use Rattle.setl_reading.proofs.Laws.{ok_parts}
 use Rattle.setl_reading.proofs.Reach.{left, Extends}
 use Rattle.setl_reading.proofs.Openers.{Opener, Shows}

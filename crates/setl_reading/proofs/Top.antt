@@ -5,7 +5,7 @@ use Rattle.setl_tree.specs.Tokens.{Tokens}
 use Rattle.setl_tree.specs.Programs as grammar
 use Rattle.setl_tree.specs.Programs.{Derives}
 use Rattle.setl_reading.specs.Claims.{ReadingIsSound, ReadingIsComplete, NestingsMayBeMore, TreeIsUnique}
-use Rattle.setl_reading.specs.ReadPrograms as reading
+use Rattle.setl_reading.specs.code.ReadPrograms as reading
 use Rattle.setl_reading.proofs.Laws.{ok_parts}
 use Rattle.setl_reading.proofs.Programs.{law_program}
 use Rattle.setl_reading.proofs.Growth.{program}

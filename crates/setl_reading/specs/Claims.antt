@@ -7,9 +7,9 @@ use Rattle.setl_tree.specs.Programs.{Derives}
 use Rattle.setl_tree.specs.Canonical.{canonical}
 use Rattle.setl_reading.specs.declared.fault.Fault.{Fault}
 use Rattle.setl_reading.specs.declared.fault.Fault.TheVariants.{Syntax, Nesting}
-use Rattle.setl_reading.specs.Reading.{Outcome}
+use Rattle.setl_reading.specs.code.Reading.{Outcome}
 use Rattle.setl_reading.specs.Fronts.{FaultOf}
-use Rattle.setl_reading.specs.ReadPrograms as reading
+use Rattle.setl_reading.specs.code.ReadPrograms as reading
 
 -- a tree that is read to the end of the tokens is one that they derive with so many nestings
 abbrev pub ReadingIsSound : Type 0

@@ -1,8 +1,3 @@
-pub mod Reading
-pub mod Scan
-pub mod ReadExpressions
-pub mod ReadStatements
-pub mod ReadModes
-pub mod ReadPrograms
 pub mod Fronts
 pub mod Claims
+pub mod code

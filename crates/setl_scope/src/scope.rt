@@ -2,7 +2,7 @@
 
 ghost use Rattle.std.specs.Prelude.{◌≡◌, ℕ, List, suc, None, map, option_map, IfOk, OnOk};
 ghost use Rattle.setl_names.specs.Names.{Name};
-ghost use Rattle.setl_program.specs.Plain.{plain_variable, plain_slots, plain_binding};
+ghost use Rattle.setl_program.specs.code.Plain.{plain_variable, plain_slots, plain_binding};
 ghost use Rattle.setl_program.specs.ProgramOf.{main_scope, in_body};
 ghost use Rattle.setl_program.specs.Scope as spec;
 ghost use Rattle.setl_program.specs.Program.{Point};

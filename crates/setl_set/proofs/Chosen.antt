@@ -10,8 +10,8 @@ use Rattle.std.proofs.lemmas.List.Elements.{filter_map-append}
 use Rattle.std.proofs.lemmas.Option.{none-some}
 use Rattle.setl_value.specs.Datum.{Datum, depth, set_of, elements_depth, elements_of}
 use Rattle.setl_value.specs.Order.{datum_cmp, IsRising}
-use Rattle.setl_set.specs.Choice.{members_at, ArePlaces, IsFull}
-use Rattle.setl_set.specs.Merge.{kept_if}
+use Rattle.setl_set.specs.code.Choice.{members_at, ArePlaces, IsFull}
+use Rattle.setl_set.specs.code.Merge.{kept_if}
 use Rattle.setl_set.proofs.Choices.{the_empty, longer, choices}
 use Rattle.setl_set.proofs.Members.{IsBelow}
 use Rattle.setl_set.proofs.Places.{all_at, some_same, depths_in, depths_out}

@@ -10,9 +10,9 @@ use Rattle.std.proofs.lemmas.Bool.{or_left}
 use Rattle.setl_value.specs.Datum.{Datum}
 use Rattle.setl_value.specs.Order.{datum_cmp, IsRising}
 use Rattle.setl_value.specs.OrderLaws.{same_datum}
-use Rattle.setl_value.specs.DatumOf.{datum}
+use Rattle.setl_value.specs.code.DatumOf.{datum}
 use Rattle.setl_value.specs.declared.Value.{Value}
-use Rattle.setl_set.specs.Merge.{front}
+use Rattle.setl_set.specs.code.Merge.{front}
 use Rattle.setl_set.specs.Sets.{has_datum, is_subset}
 use Rattle.setl_set.proofs.Members.{IsBelow, turned, turned_back, below_cons, none_above}
 

@@ -10,12 +10,12 @@ use Rattle.std.proofs.Common.{ap, sym, ◌∙◌, subst, inl, inr, append_assoc,
 use Rattle.std.proofs.lemmas.List.Folds.{list_any-append}
 use Rattle.std.proofs.lemmas.Option.{none-some}
 use Rattle.setl_value.specs.Datum.{Datum, depth, elements_depth, elements_of}
-use Rattle.setl_value.specs.DatumOf.{datum}
+use Rattle.setl_value.specs.code.DatumOf.{datum}
 use Rattle.setl_value.specs.declared.Value.{Value}
 use Rattle.setl_value.specs.Order.{datum_cmp, IsRising}
 use Rattle.setl_value.specs.OrderLaws.{same_datum, same_if_eq}
 use Rattle.setl_set.specs.declared.merge.Keep.{Keep}
-use Rattle.setl_set.specs.Merge.{is_kept, kept_if, front, IsMerge}
+use Rattle.setl_set.specs.code.Merge.{is_kept, kept_if, front, IsMerge}
 use Rattle.setl_set.specs.Sets.{has_datum, union_of, minus_of, meet_of, symm_of}
 use Rattle.setl_set.proofs.Members.{IsBelow, turned, below_cons, none_above, rising_unique}
 use Rattle.setl_set.proofs.Places.{depths_in, depths_out}

@@ -9,13 +9,13 @@ use Rattle.std.proofs.Common.{ap, sym, ◌∙◌, subst, arith}
 use Rattle.std.proofs.lemmas.Bool.{or_left, or_right, or_from, or_parts, not_from_false, cond-true, cond-false, not_from_true}
 use Rattle.std.proofs.lemmas.Option.{none-some, slice_get_within}
 use Rattle.setl_value.specs.declared.places.Cursor.{Cursor}
-use Rattle.setl_value.specs.Body.{Body, Members}
+use Rattle.setl_value.specs.code.Body.{Body, Members}
 use Rattle.setl_value.specs.Datum.{Datum, depth, elements_depth, elements_of, element_list-elements_of}
 use Rattle.setl_value.specs.Order.{datum_cmp, IsRising}
 use Rattle.setl_value.specs.OrderLaws.{same_if_eq}
 use Rattle.setl_value.specs.WellFormed.{IsSetList}
 use Rattle.setl_set.specs.Sets.{has_datum, insert_datum, insert_by, remove_datum}
-use Rattle.setl_value.specs.Places.{rank, IsPlace}
+use Rattle.setl_value.specs.code.Places.{rank, IsPlace}
 use Rattle.setl_set.proofs.Members.{IsBelow, turned_back, none_above, rising_unique, eq_decides}
 use Rattle.setl_set.proofs.Results.{has_insert, rising_insert, all_insert}
 

@@ -6,7 +6,7 @@ use Rattle.std.proofs.lemmas.Bool.{cases_lt}
 use Rattle.std.proofs.lemmas.List.{map-append, drop_all, length-drop}
 use Rattle.std.proofs.lemmas.Option.{none-some}
 use Rattle.setl_value.specs.Datum.{Datum}
-use Rattle.setl_set.specs.Choice.{members_at, IsFull}
+use Rattle.setl_set.specs.code.Choice.{members_at, IsFull}
 use Rattle.setl_set.proofs.Choices.{less_one, the_empty, longer, nothing_longer}
 use Rattle.setl_set.proofs.Places.{some_same}
 

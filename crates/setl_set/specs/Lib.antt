@@ -1,5 +1,4 @@
 pub mod Sets
 pub mod Subsets
 pub mod Laws
-pub mod Merge
-pub mod Choice
+pub mod code

@@ -1,9 +1,9 @@
 //! Union, difference, intersection and symmetric difference, by one merge of two rising lists.
 
 ghost use Rattle.std.specs.Prelude.{◌≡◌, ◌∷◌, ◌++◌, [], map, IfOk, OnOk};
-ghost use Rattle.setl_value.specs.Body.{Members};
-ghost use Rattle.setl_value.specs.DatumOf.{datum};
-ghost use Rattle.setl_set.specs.Merge.{IsMerge, kept_if, front};
+ghost use Rattle.setl_value.specs.code.Body.{Members};
+ghost use Rattle.setl_value.specs.code.DatumOf.{datum};
+ghost use Rattle.setl_set.specs.code.Merge.{IsMerge, kept_if, front};
 ghost use Rattle.setl_set.specs.Sets.{union_of, minus_of, meet_of, symm_of};
 
 use crate::Memory;

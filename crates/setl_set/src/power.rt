@@ -2,11 +2,11 @@
 
 ghost use Rattle.std.specs.Prelude.{◌≡◌, ◌↔◌, ◌<◌, ◌≤◌, ◌∷◌, ◌++◌, [], nat_le, length, map, All, IfOk, IsTrue, OnOk};
 ghost use Rattle.std.specs.Bool.{OnTrue, OnFalse};
-ghost use Rattle.setl_value.specs.Body.{Members};
+ghost use Rattle.setl_value.specs.code.Body.{Members};
 ghost use Rattle.setl_value.specs.Datum.{depth, set_of};
-ghost use Rattle.setl_value.specs.DatumOf.{datum};
-ghost use Rattle.setl_set.specs.Choice.{members_at, ArePlaces, IsFull};
-ghost use Rattle.setl_set.specs.Merge.{kept_if};
+ghost use Rattle.setl_value.specs.code.DatumOf.{datum};
+ghost use Rattle.setl_set.specs.code.Choice.{members_at, ArePlaces, IsFull};
+ghost use Rattle.setl_set.specs.code.Merge.{kept_if};
 ghost use Rattle.setl_set.specs.Subsets.{pow_of, npow_of, set_of_sets, subsets_between};
 
 use crate::merge::copy_all;

@@ -1,7 +1,7 @@
 //! The members in order.
 
 ghost use Rattle.std.specs.Prelude.{◌≡◌};
-ghost use Rattle.setl_value.specs.Body.{Members};
+ghost use Rattle.setl_value.specs.code.Body.{Members};
 ghost use Rattle.setl_value.specs.Order.{IsRising};
 ghost use Rattle.setl_set.specs.Sets.{is_subset};
 

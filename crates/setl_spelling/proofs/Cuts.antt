@@ -8,7 +8,7 @@ use Rattle.setl_token.specs.declared.pieces.Piece.{Piece}
 use Rattle.setl_token.specs.Bytes.{is_blank}
 use Rattle.setl_token.specs.Form.{IsForm, IsLongest}
 use Rattle.setl_token.specs.Lex.{CutsInto, tokens_of}
-use Rattle.setl_token.specs.Pieces.{piece_at, piece}
+use Rattle.setl_token.specs.code.Pieces.{piece_at, piece}
 use Rattle.setl_show.specs.Text.{bytes_of, behind, text_of}
 use Rattle.setl_spelling.specs.Reading.{Reads, AreRead, AllLegal, AreLegal, IsSpelledAs}
 use Rattle.setl_spelling.proofs.Forms.{sort_of, behind_blank, form, reads}

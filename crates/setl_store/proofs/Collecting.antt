@@ -5,7 +5,7 @@ use Rattle.std.proofs.lemmas.List.{map-append, reverse-append, reverse-reverse}
 use Rattle.std.proofs.lemmas.Bool.Decides.{nat_tests}
 use Rattle.setl_value.specs.declared.Value.{Value}
 use Rattle.setl_value.specs.Datum.{Datum, depth, parts_depth, parts_of, elements_depth, elements_of, set_of, tuple_of}
-use Rattle.setl_value.specs.DatumOf.{datum, part}
+use Rattle.setl_value.specs.code.DatumOf.{datum, part}
 use Rattle.setl_value.specs.WellFormed.{trim}
 use Rattle.setl_set.specs.Sets.{set_from}
 use Rattle.setl_map.specs.Outcome.{OmFault, DeepFault, all_values, one_more}

@@ -4,7 +4,7 @@ use Rattle.std.specs.Prelude.{slice_get, cond, ◌||◌, IfSome}
 use Rattle.std.specs.Option.{option_map}
 use Rattle.std.proofs.lemmas.List.{length-map, length-append, length-replicate, length_push, append_assoc, take-append-le, take_at, take_all, drop_at, drop_all, reverse-append}
 use Rattle.setl_value.specs.Datum.{Datum}
-use Rattle.setl_value.specs.DatumOf.{part}
+use Rattle.setl_value.specs.code.DatumOf.{part}
 use Rattle.setl_value.specs.declared.Value.{Value}
 use Rattle.setl_tree.specs.declared.tree.Param.{Param}
 use Rattle.setl_run.specs.Run.{Store}
@@ -19,9 +19,9 @@ use Rattle.setl_code.specs.Code as plain
 use Rattle.setl_code.specs.CodeCore as core
 use Rattle.setl_code.specs.CodeCore.{Cells, Held, There, CodeCore, cleared, variables_of, with_held}
 use Rattle.setl_code.specs.CodeMeans.{main_slots}
-use Rattle.setl_code.specs.MayRun.{Differ, MayRun}
+use Rattle.setl_code.specs.code.MayRun.{Differ, MayRun}
 use Rattle.setl_code.specs.Names.{is_among}
-use Rattle.setl_code.specs.Plain.{plain_body, plain_code, plain_name}
+use Rattle.setl_code.specs.code.Plain.{plain_body, plain_code, plain_name}
 use Rattle.setl_store.specs.declared.cells.Frame.{Frame}
 use Rattle.setl_store.specs.declared.cells.Held.{Held as Slot}
 use Rattle.setl_store.specs.Bodies.{with_stores, entered}

@@ -3,7 +3,7 @@ use Rattle.std.proofs.Common.{◌≡◌, ℕ, ◌+◌, ◌-◌, ◌<◌, Bool, t
 use Rattle.std.specs.Prelude.{slice_get, nat_eq}
 use Rattle.std.proofs.lemmas.List.{length-set, take_all, take_more_set}
 use Rattle.std.proofs.lemmas.Option.{slice_get-get_or}
-use Rattle.setl_value.specs.DatumOf.{part}
+use Rattle.setl_value.specs.code.DatumOf.{part}
 use Rattle.setl_value.specs.declared.Value.{Value}
 use Rattle.setl_model.specs.Core as model
 use Rattle.setl_iterator.specs.States.{IteratorState}
@@ -13,8 +13,8 @@ use Rattle.setl_iterator.specs.declared.iterator.Item.TheVariants as item
 use Rattle.setl_code.specs.declared.code.Code.{Code}
 use Rattle.setl_code.specs.CodeCore as core
 use Rattle.setl_code.specs.CodeCore.{CodeCore, Result as Holds}
-use Rattle.setl_code.specs.MayRun.{MayRun}
-use Rattle.setl_code.specs.Plain.{plain_code}
+use Rattle.setl_code.specs.code.MayRun.{MayRun}
+use Rattle.setl_code.specs.code.Plain.{plain_code}
 use Rattle.setl_store.specs.declared.cells.Member.{Member}
 use Rattle.setl_store.specs.declared.cells.Operand.{Operand}
 use Rattle.setl_store.specs.declared.cells.Operand.TheVariants as operand

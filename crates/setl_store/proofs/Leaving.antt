@@ -5,7 +5,7 @@ use Rattle.std.specs.Option.{option_map}
 use Rattle.std.proofs.lemmas.List.{reverse-append, map-append, append_assoc, append-nil, length-map, length-reverse, length-take-le, length_push, take-map, take-take, length-drop, drop_all, drop-append-le}
 use Rattle.std.proofs.lemmas.Option.{same_Some, slice_get_read}
 use Rattle.setl_value.specs.Datum.{Datum}
-use Rattle.setl_value.specs.DatumOf.{part}
+use Rattle.setl_value.specs.code.DatumOf.{part}
 use Rattle.setl_value.specs.declared.Value.{Value}
 use Rattle.setl_tree.specs.declared.tree.Param.{Param}
 use Rattle.setl_tree.specs.declared.tree.Passing.{Passing}
@@ -21,9 +21,9 @@ use Rattle.setl_code.specs.Code as plain
 use Rattle.setl_code.specs.CodeCore as core
 use Rattle.setl_code.specs.CodeCore.{Held, There, Gone, Cells, held_in, CodeCore}
 use Rattle.setl_code.specs.Machine.{hand, push_held, handed_back}
-use Rattle.setl_code.specs.MayRun.{Differ, MayRun}
+use Rattle.setl_code.specs.code.MayRun.{Differ, MayRun}
 use Rattle.setl_code.specs.Names.{is_among}
-use Rattle.setl_code.specs.Plain.{plain_body, plain_code, plain_name}
+use Rattle.setl_code.specs.code.Plain.{plain_body, plain_code, plain_name}
 use Rattle.setl_store.specs.declared.cells.Frame.{Frame}
 use Rattle.setl_store.specs.declared.cells.Held.{Held as Slot}
 use Rattle.setl_store.specs.declared.cells.Operand.{Operand}

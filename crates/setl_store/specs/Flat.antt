@@ -1,7 +1,7 @@
 -- How the activations lie in flat lists of slots, operands and members. No public clause cites this module.
 use Rattle.std.specs.Prelude.{◌≡◌, false, ℕ, zero, suc, ◌+◌, ◌-◌, ◌<◌, ◌≤◌, List, [], ◌∷◌, ◌++◌, length, take, drop, map, reverse, Option, Some, None, slice_get, slice_set}
 use Rattle.setl_value.specs.Datum.{Datum, bool}
-use Rattle.setl_value.specs.DatumOf.{datum, part}
+use Rattle.setl_value.specs.code.DatumOf.{datum, part}
 use Rattle.setl_run.specs.Variable.{Variable}
 use Rattle.setl_program.specs.declared.kinds.Collection.{Collection}
 use Rattle.setl_model.specs.Core.{Item}
@@ -14,7 +14,7 @@ use Rattle.setl_code.specs.declared.code.Step.{Step}
 use Rattle.setl_code.specs.declared.code.Slot.{Slot}
 use Rattle.setl_code.specs.declared.code.Slot.TheVariants as slot
 use Rattle.setl_code.specs.Code as plain
-use Rattle.setl_code.specs.Plain.{plain_code}
+use Rattle.setl_code.specs.code.Plain.{plain_code}
 use Rattle.setl_code.specs.CodeCore as core
 use Rattle.setl_code.specs.CodeCore.{Cells, Activation, Copy, CodeCore}
 use Rattle.setl_store.specs.declared.cells.Held.{Held}

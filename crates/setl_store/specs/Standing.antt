@@ -2,14 +2,14 @@
 use Rattle.std.specs.Prelude.{◌≡◌, ℕ, suc, Bool, true, false, List, [], ◌∷◌, map, Option, Some, None, slice_get}
 use Rattle.std.specs.Option.{option_map}
 use Rattle.setl_value.specs.Datum.{Datum, bool}
-use Rattle.setl_value.specs.DatumOf.{datum}
+use Rattle.setl_value.specs.code.DatumOf.{datum}
 use Rattle.setl_model.specs.Core.{Item}
 use Rattle.setl_model.specs.World.{World}
 use Rattle.setl_code.specs.declared.code.Code.{Code}
 use Rattle.setl_run.specs.Variable.{Variable}
 use Rattle.setl_code.specs.Code as plain
 use Rattle.setl_code.specs.Code.{Body}
-use Rattle.setl_code.specs.Plain.{Variables, plain_code}
+use Rattle.setl_code.specs.code.Plain.{Variables, plain_code}
 use Rattle.setl_code.specs.CodeCore.{cleared, variables_of, Copy, Held, There, Gone, Operand, Result as Holds, Iterator, PairIterator, Collecting, value_of, CodeCore}
 use Rattle.setl_store.specs.declared.store.Content.{Content}
 use Rattle.setl_store.specs.declared.store.Content.TheVariants as content

@@ -2,7 +2,7 @@
 
 ghost use Rattle.std.specs.Prelude.{◌≡◌, ◌<◌, ◌-◌, ◌+◌, ◌≤◌, [], ◌∷◌, ◌++◌, None, map, length, take, reverse, replicate, IfSome, OnOk, OnErr};
 ghost use Rattle.setl_code.specs.CodeCore.{There};
-ghost use Rattle.setl_value.specs.DatumOf.{part};
+ghost use Rattle.setl_value.specs.code.DatumOf.{part};
 ghost use Rattle.setl_store.specs.Flat.{helds, HasMembers, members_below};
 ghost use Rattle.setl_store.specs.Returning.{operand_by};
 

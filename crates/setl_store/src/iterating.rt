@@ -3,7 +3,7 @@
 ghost use Rattle.std.specs.Prelude.{◌≡◌, ◌<◌, ◌≤◌, ◌-◌, ◌+◌, ◌∷◌, ◌++◌, [], Some, None, length, drop, reverse, slice_get, slice_set, IfSome, IfNone, IfOk, IfErr, OnOk, OnErr, true, false};
 ghost use Rattle.setl_model.specs.Collections.{refusal};
 ghost use Rattle.setl_code.specs.Machine.{added, Nowhere};
-ghost use Rattle.setl_value.specs.DatumOf.{part};
+ghost use Rattle.setl_value.specs.code.DatumOf.{part};
 ghost use Rattle.setl_store.specs.Flat.{lowest_in, now_operands, operand_of};
 ghost use Rattle.setl_store.specs.Iterating.{IsAtItem, IsFirst, advanced, with_item, AreIterators, Refuses};
 ghost use Rattle.setl_store.specs.Operands.{IsAhead, Advances, TellsAdded};

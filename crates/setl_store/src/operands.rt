@@ -2,7 +2,7 @@
 
 ghost use Rattle.std.specs.Prelude.{◌≡◌, map, Some, IsSome, IfOk, OnOk};
 ghost use Rattle.std.specs.Option.{option_map};
-ghost use Rattle.setl_value.specs.DatumOf.{part};
+ghost use Rattle.setl_value.specs.code.DatumOf.{part};
 ghost use Rattle.setl_store.specs.Operands.{TakesOff, DropsIterators};
 ghost use Rattle.setl_store.specs.Standing.{over, top_of};
 ghost use Rattle.setl_store.specs.HasValues.{has_values};

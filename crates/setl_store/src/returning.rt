@@ -4,7 +4,7 @@ ghost use Rattle.std.specs.Prelude.{◌<◌, ◌+◌, ◌≤◌, ◌≡◌, ◌�
 ghost use Rattle.std.specs.Option.{option_map};
 ghost use Rattle.setl_code.specs.CodeCore.{Result as Holds};
 ghost use Rattle.setl_code.specs.Machine.{hand, push_held};
-ghost use Rattle.setl_value.specs.DatumOf.{part};
+ghost use Rattle.setl_value.specs.code.DatumOf.{part};
 ghost use Rattle.setl_store.specs.Flat.{held_of, helds, body_in, slots_in};
 ghost use Rattle.setl_store.specs.Returning.{Hands, handed, handed_in, parameter_count_of, pushed_on};
 

@@ -2,9 +2,9 @@
 
 ghost use Rattle.std.specs.Prelude.{◌≡◌, ◌<◌, ◌≤◌, ◌-◌, ◌+◌, [], ◌∷◌, length, reverse, IfOk, OnOk};
 ghost use Rattle.setl_code.specs.CodeCore.{Result as Holds, Collecting, There, Gone, held, write};
-ghost use Rattle.setl_code.specs.MayRun.{HasSlot};
-ghost use Rattle.setl_code.specs.Plain.{plain_slot};
-ghost use Rattle.setl_value.specs.DatumOf.{part};
+ghost use Rattle.setl_code.specs.code.MayRun.{HasSlot};
+ghost use Rattle.setl_code.specs.code.Plain.{plain_slot};
+ghost use Rattle.setl_value.specs.code.DatumOf.{part};
 ghost use Rattle.setl_store.specs.Flat.{operand_of, held_of, lowest_in, slots_in, place_in, HasMembers};
 ghost use Rattle.setl_store.specs.Operands.{IsThere};
 ghost use Rattle.setl_store.specs.Returning.{operand_by};
@@ -31,15 +31,15 @@ pub struct Store<'c> {
 
 impl<'c> Model for Store<'c> {
     ghost use Rattle.std.specs.Coded.{codes};
-    ghost use Rattle.setl_value.specs.DatumCode.{coded_datum};
+    ghost use Rattle.setl_value.specs.code.DatumCode.{coded_datum};
     ghost use Rattle.setl_store.specs.Standing.{Standing};
 
     ghost Value = { Standing };
 
     ghost coded = { Prim.hlevel (codes, coded_datum) };
 
-    ghost use Rattle.setl_code.specs.MayRun.{MayRun};
-    ghost use Rattle.setl_code.specs.Plain.{plain_code};
+    ghost use Rattle.setl_code.specs.code.MayRun.{MayRun};
+    ghost use Rattle.setl_code.specs.code.Plain.{plain_code};
     ghost use Rattle.setl_store.specs.Flat.{stands, IsSound, AllSound};
 
     ghost view = { λ s. stands s.code.now s.at s.environment.now s.environment.kept };

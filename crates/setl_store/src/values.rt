@@ -1,9 +1,9 @@
 //! Operands, and members of collections, as values.
 
 ghost use Rattle.std.specs.Prelude.{◌≡◌, ◌∷◌, ◌++◌, [], map, reverse, is_some, IfOk, OnOk};
-ghost use Rattle.setl_value.specs.Body.{Members};
+ghost use Rattle.setl_value.specs.code.Body.{Members};
 ghost use Rattle.setl_value.specs.Datum.{set_of, tuple_of};
-ghost use Rattle.setl_value.specs.DatumOf.{datum, part};
+ghost use Rattle.setl_value.specs.code.DatumOf.{datum, part};
 ghost use Rattle.setl_model.specs.Collections.{collection};
 ghost use Rattle.setl_code.specs.CodeCore.{Result as Holds, value_of};
 ghost use Rattle.setl_program.specs.declared.kinds.Collection.TheVariants as kind;

@@ -4,7 +4,7 @@ use Rattle.setl_value.specs.Datum.{Datum, int}
 use Rattle.setl_text.specs.Bytes.{Bracket, signed}
 use Rattle.setl_text.specs.Denoted.{Fault, Form, Wide, Deep, IsDecided}
 use Rattle.setl_text.specs.Reading.{Denotes, AtEnd, NotForm, TooWide, Token, Between, AfterMinus, InNumber, InWord, InString, AfterQuote, Open, opened, failing, within, finish, resume, read_denotation}
-use Rattle.setl_text.specs.Scans.{token_of, TokenFits, IsShallow}
+use Rattle.setl_text.specs.code.Scans.{token_of, TokenFits, IsShallow}
 use Rattle.setl_text.specs.declared.scan.Piece.{Piece}
 use Rattle.setl_text.proofs.Runs.{denoted_runs}
 use Rattle.setl_text.proofs.Fails.{read_fails}

@@ -4,10 +4,10 @@ use Rattle.std.proofs.lemmas.List.{drop-take, drop-drop, drop_all}
 use Rattle.std.specs.Io.KnownBytes.{Consumes, Keeps, IsAtEnd}
 use Rattle.std.proofs.KnownBytes.{Consumes-nil, Consumes-trans, Consumes-kept}
 use Rattle.setl_value.specs.declared.Value.{Value}
-use Rattle.setl_value.specs.DatumOf.{part}
+use Rattle.setl_value.specs.code.DatumOf.{part}
 use Rattle.setl_text.specs.Reading.{Reading, Denotes, Token, Between, Open, finish, resume, read_denotation}
-use Rattle.setl_text.specs.Scans.{token_of, reading_of, Scans, Finishes}
-use Rattle.setl_text.specs.Reads.{ahead, StaysHonest, TakesOff, Answered, Answers, AnswersTold, IsAll, ScansKept, Fills}
+use Rattle.setl_text.specs.code.Scans.{token_of, reading_of, Scans, Finishes}
+use Rattle.setl_text.specs.code.Reads.{ahead, StaysHonest, TakesOff, Answered, Answers, AnswersTold, IsAll, ScansKept, Fills}
 use Rattle.setl_text.specs.declared.scan.Piece.{Piece}
 use Rattle.setl_text.specs.declared.read.Scanned.TheVariants.{Onward, Found}
 use Rattle.setl_text.specs.declared.Got.{Got}

@@ -11,7 +11,7 @@ use Rattle.setl_set.specs.Sets.{set_from}
 use Rattle.setl_set.specs.Laws.{RisingListsAgree, Gathers}
 use Rattle.setl_value.specs.declared.Value.{Value}
 use Rattle.setl_value.specs.Datum.{Datum}
-use Rattle.setl_value.specs.DatumOf.{datum}
+use Rattle.setl_value.specs.code.DatumOf.{datum}
 use Rattle.setl_value.specs.Order.{datum_cmp, IsRising}
 use Rattle.setl_value.specs.OrderLaws.{datum_cmp_total, same_if_eq}
 

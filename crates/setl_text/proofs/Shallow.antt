@@ -6,13 +6,13 @@ use Rattle.std.specs.declared.cmp.Ordering.TheVariants.{Less, Equal, Greater}
 use Rattle.setl_set.specs.Sets.{set_from, insert_datum, insert_by}
 use Rattle.setl_value.specs.declared.Value.{Value}
 use Rattle.setl_value.specs.Datum.{Datum, depth, part_depth, parts_depth, parts_of, elements_depth, elements_of}
-use Rattle.setl_value.specs.DatumOf.{datum}
+use Rattle.setl_value.specs.code.DatumOf.{datum}
 use Rattle.setl_value.specs.Order.{datum_cmp}
 use Rattle.setl_value.specs.WellFormed.{trim, trim_onto}
 use Rattle.setl_text.specs.Bytes.{Bracket, Brace, Square}
 use Rattle.setl_text.specs.Denoted.{present}
 use Rattle.setl_text.specs.Reading.{Open, opened, Inside, put_value}
-use Rattle.setl_text.specs.Scans.{open_of, opens, IsShallow}
+use Rattle.setl_text.specs.code.Scans.{open_of, opens, IsShallow}
 use Rattle.setl_text.specs.declared.place.Collection.{Collection}
 
 pub opens-push : (cs : List Collection) (c : Collection) → opens (cs ++ c ∷ []) ≡ open_of c ∷ opens cs

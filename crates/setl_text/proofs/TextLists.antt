@@ -5,7 +5,7 @@ use Rattle.std.proofs.lemmas.List.{map-append, append-nil}
 use Rattle.std.proofs.lemmas.Option.{slice_get-get_or}
 use Rattle.setl_value.specs.Datum.{Datum, depth, elements_depth, elements_of, parts_of, set_of, tuple_of}
 use Rattle.setl_text.specs.Texts.{spaced, doubled, inner_text, element_texts, part_texts, enclosed}
-use Rattle.setl_text.specs.TextParts.{blank_before, component_text}
+use Rattle.setl_text.specs.code.TextParts.{blank_before, component_text}
 
 spaced-push : (t : List ℕ) (ts : List (List ℕ)) (u : List ℕ) → spaced ((t ∷ ts) ++ u ∷ []) ≡ spaced (t ∷ ts) ++ (32 ∷ u)
 spaced-push t [] u = refl

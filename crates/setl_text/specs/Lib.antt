@@ -1,9 +1,7 @@
 pub mod Texts
-pub mod TextParts
 pub mod Bytes
 pub mod Denoted
 pub mod Reading
 pub mod Laws
 pub mod Samples
-pub mod Scans
-pub mod Reads
+pub mod code

@@ -3,11 +3,11 @@
 ghost use Rattle.std.specs.Prelude.{◌≡◌, ◌≤◌, ◌+◌, ◌++◌, ◌∷◌, [], IfOk, IfErr, OnOk, length, map};
 ghost use Rattle.setl_set.specs.Sets.{set_from};
 ghost use Rattle.setl_value.specs.Datum.{depth, part_depth, set_of};
-ghost use Rattle.setl_value.specs.DatumOf.{datum, part};
+ghost use Rattle.setl_value.specs.code.DatumOf.{datum, part};
 ghost use Rattle.setl_text.specs.Bytes.{Brace, Square};
 ghost use Rattle.setl_text.specs.Reading as spec;
 ghost use Rattle.setl_text.specs.Reading.{put_value, taken, open_bracket, close_bracket};
-ghost use Rattle.setl_text.specs.Scans.{open_of, opens, IsShallow, Places, Grows, Feeds};
+ghost use Rattle.setl_text.specs.code.Scans.{open_of, opens, IsShallow, Places, Grows, Feeds};
 
 use crate::ReadFault;
 use crate::scan::{Fed, Piece};

@@ -1,11 +1,11 @@
 //! The reader of denotations.
 
 ghost use Rattle.std.specs.Prelude.{◌≡◌, ◌≤◌, [], true, false, Err, None, IfOk, MatchOption};
-ghost use Rattle.setl_value.specs.DatumOf.{part};
+ghost use Rattle.setl_value.specs.code.DatumOf.{part};
 ghost use Rattle.setl_text.specs.Denoted.{IsDecided};
 ghost use Rattle.setl_text.specs.Reading.{Denotes};
-ghost use Rattle.setl_text.specs.Scans.{token_of, opens, reading_of, TokenFits, IsShallow, Scans};
-ghost use Rattle.setl_text.specs.Reads.{ahead, StaysHonest, TakesOff, Answers, AnswersTold, KeepsFault, SourceCounts, ScansKept, Fills};
+ghost use Rattle.setl_text.specs.code.Scans.{token_of, opens, reading_of, TokenFits, IsShallow, Scans};
+ghost use Rattle.setl_text.specs.code.Reads.{ahead, StaysHonest, TakesOff, Answers, AnswersTold, KeepsFault, SourceCounts, ScansKept, Fills};
 
 use crate::place::Collection;
 use crate::scan::{Fed, Piece, feed, finish};
@@ -30,7 +30,7 @@ pub struct Reader {
 
 impl Model for Reader {
     ghost use Rattle.std.specs.Prelude.{drop, take, ◌≤◌, ◌<◌, vec_len};
-    ghost use Rattle.setl_text.specs.Reads.{ReaderState};
+    ghost use Rattle.setl_text.specs.code.Reads.{ReaderState};
 
     ghost Value = { ReaderState };
 

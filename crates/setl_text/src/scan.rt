@@ -3,11 +3,11 @@
 ghost use Rattle.std.specs.Prelude.{◌≡◌, ◌<◌, ◌+◌, ◌*◌, ◌++◌, ◌∷◌, [], true, List, Some};
 ghost use Rattle.std.specs.List.{All, AllByRecursion};
 ghost use Rattle.setl_value.specs.Datum.{depth};
-ghost use Rattle.setl_value.specs.DatumOf.{datum};
+ghost use Rattle.setl_value.specs.code.DatumOf.{datum};
 ghost use Rattle.setl_text.specs.Bytes.{IsLow, is_digit, is_letter, lower, signed};
 ghost use Rattle.setl_text.specs.Reading as spec;
 ghost use Rattle.setl_text.specs.Reading.{Open};
-ghost use Rattle.setl_text.specs.Scans.{token_of, opens, TokenFits, IsShallow, Feeds, Finishes, begin_mark};
+ghost use Rattle.setl_text.specs.code.Scans.{token_of, opens, TokenFits, IsShallow, Feeds, Finishes, begin_mark};
 
 use crate::place::{Collection, Put, close_set, close_tuple, open, place, push, take_through};
 use crate::{Got, ReadFault};

@@ -3,11 +3,11 @@
 ghost use Rattle.std.specs.Prelude.{◌≡◌, ◌<◌, ◌++◌, ◌∷◌, [], Some, IfOk, OnOk, length, map, slice_get, decimal};
 ghost use Rattle.std.specs.Fmt.{signed_decimal};
 ghost use Rattle.std.specs.List.{All};
-ghost use Rattle.setl_value.specs.Body.{Members};
+ghost use Rattle.setl_value.specs.code.Body.{Members};
 ghost use Rattle.setl_value.specs.Datum.{bool, set_of, text, tuple_of};
-ghost use Rattle.setl_value.specs.DatumOf.{datum, part};
+ghost use Rattle.setl_value.specs.code.DatumOf.{datum, part};
 ghost use Rattle.setl_text.specs.Texts.{argument_text, doubled, inner_text, part_texts, print_line, spaced};
-ghost use Rattle.setl_text.specs.TextParts.{blank_before, component_text};
+ghost use Rattle.setl_text.specs.code.TextParts.{blank_before, component_text};
 
 use itoa::Buffer;
 use setl_value::{Memory, SetBody, Text, TupleBody, Value};

@@ -14,7 +14,7 @@ use Rattle.setl_token.specs.declared.pieces.PieceKind.TheVariants as is
 use Rattle.setl_token.specs.declared.pieces.Piece.{Piece}
 use Rattle.setl_token.specs.Bytes.{is_blank, is_in_line, is_in_word, lower, value_of, limit}
 use Rattle.setl_token.specs.Spellings.{spellings, listed, signs, is_reserved}
-use Rattle.setl_token.specs.Pieces.{piece_at, piece, word_kind, string_end, string_piece, sign_piece, number_piece, within_limit}
+use Rattle.setl_token.specs.code.Pieces.{piece_at, piece, word_kind, string_end, string_piece, sign_piece, number_piece, within_limit}
 use Rattle.setl_token.specs.Form.{IsForm, IsWordText, IsNumberText, IsStringText, doubled}
 use Rattle.setl_token.proofs.Runs.{run_covers, run_first, run_is}
 use Rattle.setl_token.proofs.Strings.{string_end_step}

@@ -7,7 +7,7 @@ use Rattle.std.specs.List.{prefix_len}
 use Rattle.setl_token.specs.declared.Cause.{Cause}
 use Rattle.setl_token.specs.declared.pieces.Piece.{Piece}
 use Rattle.setl_token.specs.Bytes.{is_blank, is_in_line, is_in_word, value_of}
-use Rattle.setl_token.specs.Pieces.{piece_at, string_end, string_piece, sign_len, sign_piece, number_piece, within_limit}
+use Rattle.setl_token.specs.code.Pieces.{piece_at, string_end, string_piece, sign_len, sign_piece, number_piece, within_limit}
 
 -- what holds of both branches holds of a choice
 pub by_test : {A : Type 0} (P : A → Type 0) (b : Bool) (x y : A) → (b ≡ true → P x) → (b ≡ false → P y) → P (cond b x y)

@@ -16,7 +16,7 @@ use Rattle.setl_token.specs.declared.pieces.PieceKind.TheVariants as is
 use Rattle.setl_token.specs.declared.pieces.Piece.{Piece}
 use Rattle.setl_token.specs.Bytes.{is_blank, is_in_line, is_in_word, lower, value_of, limit}
 use Rattle.setl_token.specs.Spellings.{spellings, listed, signs, is_reserved}
-use Rattle.setl_token.specs.Pieces.{piece_at, word_kind, string_end, string_piece, sign_len, sign_piece, number_piece, within_limit, is_sign_pair, is_single_sign}
+use Rattle.setl_token.specs.code.Pieces.{piece_at, word_kind, string_end, string_piece, sign_len, sign_piece, number_piece, within_limit, is_sign_pair, is_single_sign}
 use Rattle.setl_token.specs.Form.{IsForm, IsWordText, IsStringText, doubled}
 use Rattle.setl_token.proofs.Runs.{run_passes, run_ends}
 use Rattle.setl_token.proofs.Fits.{by_test, prefix_some}

@@ -7,7 +7,7 @@ use Rattle.setl_token.specs.declared.Cause.{Cause}
 use Rattle.setl_token.specs.declared.Cause.TheVariants as cause
 use Rattle.setl_token.specs.declared.pieces.Piece.{Piece}
 use Rattle.setl_token.specs.Bytes.{is_blank, value_of, limit}
-use Rattle.setl_token.specs.Pieces.{piece_at, string_end, string_piece, sign_len, sign_piece, number_piece, within_limit}
+use Rattle.setl_token.specs.code.Pieces.{piece_at, string_end, string_piece, sign_len, sign_piece, number_piece, within_limit}
 use Rattle.setl_token.specs.Form.{BeginsWith, IsLongest, BeginsNone, IsCause}
 use Rattle.setl_token.proofs.Fits.{by_test, piece_fits, Fits}
 use Rattle.setl_token.proofs.Formed.{piece_formed, Formed}

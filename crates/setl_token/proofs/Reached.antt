@@ -13,7 +13,7 @@ use Rattle.setl_token.specs.declared.pieces.Piece.{Piece}
 use Rattle.setl_token.specs.Form.{IsLongest, IsCause}
 use Rattle.setl_token.specs.Lex.{CutsInto, tokens_of, token_of, line_at, Spelled, LexFails, Tells, fault_of}
 use Rattle.setl_token.proofs.Longest.{bare, longest_of, one_cause, one_piece, piece_some, stands_of}
-use Rattle.setl_token.specs.Pieces.{piece_at}
+use Rattle.setl_token.specs.code.Pieces.{piece_at}
 use Rattle.std.proofs.lemmas.Bool.{cases_lt}
 
 abbrev pub width : List Piece → ℕ

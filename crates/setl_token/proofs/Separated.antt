@@ -11,7 +11,7 @@ use Rattle.setl_token.specs.declared.Cause.{Cause}
 use Rattle.setl_token.specs.declared.pieces.PieceKind.TheVariants as is
 use Rattle.setl_token.specs.declared.pieces.Piece.{Piece}
 use Rattle.setl_token.specs.Bytes.{is_blank, is_in_word}
-use Rattle.setl_token.specs.Pieces.{piece_at, piece, word_kind, sign_piece, is_sign_pair}
+use Rattle.setl_token.specs.code.Pieces.{piece_at, piece, word_kind, sign_piece, is_sign_pair}
 use Rattle.setl_token.specs.Form.{IsForm, IsWordText, IsLongest}
 use Rattle.setl_token.specs.Spellings.{spellings, listed, signs}
 use Rattle.setl_token.proofs.Runs.{run_is}

@@ -1,7 +1,7 @@
 -- How a string is read on.
 use Rattle.std.proofs.Common.{◌≡◌, ℕ, ◌+◌, ◌<◌, ◌==◌, if◌then◌else◌, List, [], ◌∷◌, length, get_or, drop, Some, None, refl, arith, ap, ◌∙◌}
 use Rattle.std.proofs.lemmas.List.{at_drop_more, get_or-drop, drop-drop}
-use Rattle.setl_token.specs.Pieces.{string_end}
+use Rattle.setl_token.specs.code.Pieces.{string_end}
 
 -- one step, by the byte at the front and the one behind it, which is 0 where there is none
 pub string_end_step : (at b : ℕ) (z : List ℕ) → string_end at (b ∷ z) ≡ (if b == 39 then (if get_or z 0 0 == 39 then string_end (at + 2) (drop 1 z) else Some (at + 1)) else (if b == 10 then None else string_end (at + 1) z))

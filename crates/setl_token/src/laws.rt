@@ -9,7 +9,7 @@ ghost use Rattle.setl_token.specs.declared.pieces.PieceKind.TheVariants as is;
 ghost use Rattle.setl_token.specs.Bytes.{is_blank};
 ghost use Rattle.setl_token.specs.Form.{IsForm, IsLongest, IsCause};
 ghost use Rattle.setl_token.specs.Lex.{Spelled, LexFails};
-ghost use Rattle.setl_token.specs.Pieces.{piece_at, piece};
+ghost use Rattle.setl_token.specs.code.Pieces.{piece_at, piece};
 
 /// A source is spelled of one list of tokens, or it has one first fault, and not both.
 pub fn lexing_is_determined()

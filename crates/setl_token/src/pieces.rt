@@ -3,7 +3,7 @@
 ghost use Rattle.std.specs.Prelude.{◌≡◌, ◌<◌, ◌≤◌, length, drop, slice_index, IfOk, IfSome};
 ghost use Rattle.std.specs.List.{prefix_len};
 ghost use Rattle.setl_token.specs.Bytes as bytes;
-ghost use Rattle.setl_token.specs.Pieces as spec;
+ghost use Rattle.setl_token.specs.code.Pieces as spec;
 
 use crate::spellings::spelled_kind;
 use crate::{Cause, TokenKind};
@@ -131,7 +131,7 @@ fn sign_len(b: u8, next: u8) -> usize
 }
 
 /// The piece that begins at the front, or why none does.
-#[tactic(auto, unfolding(crate::specs::Pieces::piece_at))]
+#[tactic(auto, unfolding(crate::specs::code::Pieces::piece_at))]
 pub fn cut(z: &[u8]) -> Result<Piece, Cause>
     requires { 0 < length z.now }
     ensures value { result ≡ spec.piece_at z.now }

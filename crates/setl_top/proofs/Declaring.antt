@@ -8,15 +8,15 @@ use Rattle.setl_program.specs.Program.{Program}
 use Rattle.setl_program.specs.ProgramOf.{main_scope, declaration_of, program_of}
 use Rattle.setl_program.specs.Scope.{variable_of, variable_by}
 use Rattle.setl_program.specs.declared.program.Declared.{Declared}
-use Rattle.setl_program.specs.Plain.{plain_declared}
+use Rattle.setl_program.specs.code.Plain.{plain_declared}
 use Rattle.setl_tree.specs.declared.tree.Tree.{Tree}
 use Rattle.setl_code.specs.declared.code.Code.{Code as RustCode}
 use Rattle.setl_code.specs.Code.{Code}
 use Rattle.setl_code.specs.CodeOf.{code_of}
-use Rattle.setl_code.specs.Plain.{plain_code}
+use Rattle.setl_code.specs.code.Plain.{plain_code}
 use Rattle.setl_store.specs.Standing.{Standing, started}
 use Rattle.setl_machine.specs.Declaring.{Modes, DeclarationTable, modes_of, IsOfMain, AreOfMain, IsBare, Serves}
-use Rattle.setl_top.specs.Runs.{IsMeant, counted}
+use Rattle.setl_top.specs.code.Runs.{IsMeant, counted}
 use Rattle.setl_words.specs.Words.{Options}
 
 -- the variable of a name in the main program's scope is one of the main program

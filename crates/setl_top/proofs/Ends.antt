@@ -12,11 +12,11 @@ use Rattle.setl_machine.specs.declared.end.End.{End}
 use Rattle.setl_machine.specs.declared.end.End.TheVariants as end
 use Rattle.setl_top.specs.Lines.{AppendsFront, AppendsFronts}
 use Rattle.setl_top.specs.Listings.{listing_of}
-use Rattle.setl_top.specs.Lists.{gain, Written, all_written, write_failed, write_starved, no_text, Lists, listed_so, not_listed}
-use Rattle.setl_top.specs.Loads.{Loaded, NotLoaded, not_accepted, not_read, no_room, sides, Checks, checked_so, not_checked}
+use Rattle.setl_top.specs.code.Lists.{gain, Written, all_written, write_failed, write_starved, no_text, Lists, listed_so, not_listed}
+use Rattle.setl_top.specs.code.Loads.{Loaded, NotLoaded, not_accepted, not_read, no_room, sides, Checks, checked_so, not_checked}
 use Rattle.setl_top.specs.Reasons.{reason_line}
-use Rattle.setl_top.specs.Runs.{Streams, streams, counted, RunsTo, RunsInto, RunsToRead, RunsUpTo, Runs, TakesInput}
-use Rattle.setl_top.specs.Tells.{Tells, whole, failed, no_memory, TellsEnd}
+use Rattle.setl_top.specs.code.Runs.{Streams, streams, counted, RunsTo, RunsInto, RunsToRead, RunsUpTo, Runs, TakesInput}
+use Rattle.setl_top.specs.code.Tells.{Tells, whole, failed, no_memory, TellsEnd}
 use Rattle.setl_top.specs.Headline.{Moment, Job, IsInput, IsToRun, IsToList, status_for, Answers, faulty_words, refused, checked, listed, run_ended, UpToWrite, UpToAny, no_program, at_state, in_write, at_print, in_listing, load_failed, read_failed, TellsFault, LeavesRest, LeavesInput, Ended, ReadFailed, WriteFailed, MemoryFailed, out_failed, err_failed, InputLeft, untouched, read_from, Headline}
 use Rattle.setl_top.specs.declared.status.Status.{Status}
 use Rattle.setl_top.specs.declared.status.Status.TheVariants.{Done, Refused, Words}

@@ -5,10 +5,10 @@ use Rattle.setl_tree.specs.declared.tree.Tree.{Tree}
 use Rattle.setl_top.specs.Accepted.{IsRefusedFor}
 use Rattle.setl_top.specs.Lines.{AppendsFront}
 use Rattle.setl_top.specs.Listings.{listing_of}
-use Rattle.setl_top.specs.Lists.{Gain, Written, Lists, listed_so}
-use Rattle.setl_top.specs.Loads.{Loaded, Sides, sides, IsStill, NotLoaded, not_accepted, no_room}
+use Rattle.setl_top.specs.code.Lists.{Gain, Written, Lists, listed_so}
+use Rattle.setl_top.specs.code.Loads.{Loaded, Sides, sides, IsStill, NotLoaded, not_accepted, no_room}
 use Rattle.setl_top.specs.Reasons.{reason_line}
-use Rattle.setl_top.specs.Tells.{Tells}
+use Rattle.setl_top.specs.code.Tells.{Tells}
 use Rattle.setl_top.specs.declared.reason.Reason.{Reason}
 use Rattle.setl_top.specs.declared.status.Status.{Status}
 use Rattle.setl_top.specs.declared.status.Status.TheVariants as status

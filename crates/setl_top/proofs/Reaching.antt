@@ -21,7 +21,7 @@ use Rattle.setl_simulation.specs.Claims.{CodeMeansAlike, CodeEndsInTheSameState,
 use Rattle.setl_simulation.specs.States.{CodeReaches}
 use Rattle.setl_top.specs.Moments.{AtState}
 use Rattle.setl_top.specs.Moments as moments
-use Rattle.setl_top.specs.Runs.{counted}
+use Rattle.setl_top.specs.code.Runs.{counted}
 use Rattle.setl_words.specs.Words.{Options}
 
 -- ---- the end of a run

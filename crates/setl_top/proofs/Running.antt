@@ -4,14 +4,14 @@ use Rattle.std.proofs.lemmas.List.{append-nil}
 use Rattle.std.specs.Result.{result_unwrap_or}
 use Rattle.std.specs.Io.KnownBytes.{Appends, append_known}
 use Rattle.setl_io.specs.Sink.{AppendsPart}
-use Rattle.setl_text.specs.Reads.{TakesOff, StaysHonest, ahead}
+use Rattle.setl_text.specs.code.Reads.{TakesOff, StaysHonest, ahead}
 use Rattle.setl_run.specs.Events as run
 use Rattle.setl_run.specs.Run.{State, Next, Goes, Ends}
 use Rattle.setl_program.specs.Program.{Program}
 use Rattle.setl_program.specs.Formed.{Formed}
 use Rattle.setl_model.specs.Means.{Means, first}
 use Rattle.setl_code.specs.declared.code.Code.{Code as RustCode}
-use Rattle.setl_code.specs.Plain.{plain_code}
+use Rattle.setl_code.specs.code.Plain.{plain_code}
 use Rattle.setl_code.specs.Code.{Code}
 use Rattle.setl_code.specs.CodeCore.{CodeCore}
 use Rattle.setl_code.specs.CodeMeans.{CodeMeans, code_first}
@@ -25,11 +25,11 @@ use Rattle.setl_machine.specs.Outcome as outcome
 use Rattle.setl_machine.specs.declared.end.End.{End}
 use Rattle.setl_machine.specs.declared.end.End.TheVariants as end
 use Rattle.setl_machine.specs.declared.end.StopKind.{StopKind}
-use Rattle.setl_top.specs.CodeRuns.{RunsCode, seen_before, seen_now}
+use Rattle.setl_top.specs.code.CodeRuns.{RunsCode, seen_before, seen_now}
 use Rattle.setl_top.specs.Headline.{IsInput, IsLeft}
 use Rattle.setl_top.specs.Moments as moments
 use Rattle.setl_top.specs.Moments.{AtState}
-use Rattle.setl_top.specs.Runs.{Streams, counted, RunsTo, RunsInto, RunsToRead, RunsUpTo, Runs, TakesInput}
+use Rattle.setl_top.specs.code.Runs.{Streams, counted, RunsTo, RunsInto, RunsToRead, RunsUpTo, Runs, TakesInput}
 use Rattle.setl_words.specs.Words.{Options}
 use Rattle.setl_top.proofs.Fronts.{appends_none}
 use Rattle.setl_top.proofs.Reaching.{CodeLaws, Taken, coded, as_meant, Came, ends_at, came_at_state, came_at_read, came_at_print}

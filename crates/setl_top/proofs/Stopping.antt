@@ -4,7 +4,7 @@ use Rattle.std.specs.Prelude.{slice_get}
 use Rattle.setl_run.specs.Variable.{Bound, name_of}
 use Rattle.setl_model.specs.Answers.{stop_text}
 use Rattle.setl_program.specs.declared.program.Declared.{Declared}
-use Rattle.setl_program.specs.Plain.{plain_variable, plain_declared}
+use Rattle.setl_program.specs.code.Plain.{plain_variable, plain_declared}
 use Rattle.setl_machine.specs.Declaring.{declared_at}
 use Rattle.setl_machine.specs.Outcome.{kind_of}
 use Rattle.setl_machine.specs.declared.end.StopKind.{StopKind}

@@ -7,9 +7,5 @@ pub mod Accepted
 pub mod Moments
 pub mod Listings
 pub mod Headline
-pub mod Runs
-pub mod CodeRuns
-pub mod Tells
-pub mod Loads
-pub mod Lists
 pub mod Laws
+pub mod code

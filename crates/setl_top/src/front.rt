@@ -5,7 +5,7 @@ ghost use Rattle.setl_names.specs.Breaks as names;
 ghost use Rattle.setl_declarations.specs.Declares as declarations;
 ghost use Rattle.setl_token.specs.Lex.{Spelled};
 ghost use Rattle.setl_top.specs.Accepted.{IsParsed};
-ghost use Rattle.setl_top.specs.Loads.{IsChecked, TellsWhy};
+ghost use Rattle.setl_top.specs.code.Loads.{IsChecked, TellsWhy};
 ghost use Rattle.setl_top.specs.Rules.{AreModes, KeepsRules, earlier_of};
 
 use crate::reason::Reason;

@@ -1,8 +1,8 @@
 //! Listings of programs.
 ghost use Rattle.std.specs.Prelude.{◌≡◌, IfOk};
 ghost use Rattle.setl_top.specs.Listings.{listing_of};
-ghost use Rattle.setl_top.specs.Lists.{Lists, Written, gain};
-ghost use Rattle.setl_top.specs.Loads.{sides};
+ghost use Rattle.setl_top.specs.code.Lists.{Lists, Written, gain};
+ghost use Rattle.setl_top.specs.code.Loads.{sides};
 ghost use Rattle.setl_top.specs.Rules.{AreModes};
 
 use crate::Status;

@@ -1,8 +1,8 @@
 //! Sources that are loaded and read.
 ghost use Rattle.std.specs.Prelude.{IfOk, IfErr, OnOk};
-ghost use Rattle.setl_top.specs.Loads.{HasText, Loaded, LoadedAs, NotLoaded, Checks, IsStill, sides};
+ghost use Rattle.setl_top.specs.code.Loads.{HasText, Loaded, LoadedAs, NotLoaded, Checks, IsStill, sides};
 ghost use Rattle.setl_top.specs.Rules.{AreModes};
-ghost use Rattle.setl_program.specs.Plain.{plain_program};
+ghost use Rattle.setl_program.specs.code.Plain.{plain_program};
 
 use crate::Status;
 use crate::coding::program_of_source;

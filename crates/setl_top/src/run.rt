@@ -1,12 +1,12 @@
 //! Runs of programs.
 ghost use Rattle.std.specs.Prelude.{◌≡◌, ◌<◌, ◌^◌, map, IfOk, OnErr};
-ghost use Rattle.setl_code.specs.MayRun.{MayRun};
-ghost use Rattle.setl_code.specs.Plain.{plain_code};
+ghost use Rattle.setl_code.specs.code.MayRun.{MayRun};
+ghost use Rattle.setl_code.specs.code.Plain.{plain_code};
 ghost use Rattle.setl_machine.specs.Declaring.{IsBare, AreOfMain};
-ghost use Rattle.setl_program.specs.Plain.{plain_declared, plain_program};
-ghost use Rattle.setl_top.specs.CodeRuns.{RunsCode};
-ghost use Rattle.setl_top.specs.Runs.{IsMeant, Runs, TakesInput, counted, streams};
-ghost use Rattle.setl_words.specs.Commands.{options_now};
+ghost use Rattle.setl_program.specs.code.Plain.{plain_declared, plain_program};
+ghost use Rattle.setl_top.specs.code.CodeRuns.{RunsCode};
+ghost use Rattle.setl_top.specs.code.Runs.{IsMeant, Runs, TakesInput, counted, streams};
+ghost use Rattle.setl_words.specs.code.Commands.{options_now};
 
 use setl_code::Code;
 use setl_gen::emit;

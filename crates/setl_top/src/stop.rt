@@ -3,7 +3,7 @@ ghost use Rattle.std.specs.Prelude.{◌≡◌, ◌++◌, [], map, slice_get, Som
 ghost use Rattle.setl_run.specs.Events.{Stopped};
 ghost use Rattle.setl_model.specs.Answers.{stop_text, error_line};
 ghost use Rattle.setl_machine.specs.Outcome.{kind_of};
-ghost use Rattle.setl_program.specs.Plain.{plain_declared, plain_variable};
+ghost use Rattle.setl_program.specs.code.Plain.{plain_declared, plain_variable};
 ghost use Rattle.setl_run.specs.Variable.{name_of};
 
 use crate::reason::at_line;

@@ -1,8 +1,8 @@
 //! The last line of a call.
 ghost use Rattle.std.specs.Prelude.{◌≡◌, ◌∷◌, ◌++◌, List, ℕ, [], map, string_bytes, IfOk};
-ghost use Rattle.setl_program.specs.Plain.{plain_declared};
+ghost use Rattle.setl_program.specs.code.Plain.{plain_declared};
 ghost use Rattle.setl_top.specs.Reasons.{reason_line};
-ghost use Rattle.setl_top.specs.Tells.{Tells, TellsEnd};
+ghost use Rattle.setl_top.specs.code.Tells.{Tells, TellsEnd};
 ghost use Rattle.setl_words.specs.Told.{TellsFaulty};
 
 use crate::Status;

@@ -1,7 +1,7 @@
 //! The program as one call.
 ghost use Rattle.std.specs.Prelude.{ℕ, ◌<◌, ◌^◌, List, map, string_bytes};
 ghost use Rattle.setl_top.specs.Headline.{Headline, InputLeft, CheckLeavesRest, ListingLeavesInput, moment};
-ghost use Rattle.setl_words.specs.Commands.{options_now};
+ghost use Rattle.setl_words.specs.code.Commands.{options_now};
 ghost use Rattle.setl_words.specs.Words.{Run, Spells};
 
 use crate::Status;

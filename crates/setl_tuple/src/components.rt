@@ -2,7 +2,7 @@
 ghost use Rattle.std.specs.Prelude.{◌≡◌, ◌≤◌, ◌<◌, ◌↔◌, ◌-◌, ◌++◌, ◌∷◌, [], map, replicate, None, IfOk, pos, ◌≤ℤ◌, ◌<ℤ◌, length, IfErr, OnOk, OnErr, MatchResult, Ok, Err, Some};
 ghost use Rattle.std.specs.Option.{option_map};
 ghost use Rattle.setl_value.specs.Datum.{depth, part_depth};
-ghost use Rattle.setl_value.specs.DatumOf.{datum, part};
+ghost use Rattle.setl_value.specs.code.DatumOf.{datum, part};
 ghost use Rattle.setl_tuple.specs.Tuples.{index_of, get_of, put_of, with_of};
 
 use crate::TupleFault;

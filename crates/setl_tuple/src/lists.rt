@@ -1,6 +1,6 @@
 //! Whole tuples: joined, repeated and cut.
 ghost use Rattle.std.specs.Prelude.{◌≡◌, ◌≤◌, ◌<◌, ◌++◌, ◌↔◌, length, map, Some, None, slice_get, replicate, slice_range, IfOk, OnOk, Ok, Err};
-ghost use Rattle.setl_value.specs.DatumOf.{part};
+ghost use Rattle.setl_value.specs.code.DatumOf.{part};
 ghost use Rattle.setl_value.specs.Copies.{copies};
 ghost use Rattle.setl_tuple.specs.Tuples.{repeat_of, slice_of};
 

@@ -5,7 +5,7 @@ use Rattle.std.specs.Prelude.{Result, Err}
 use Rattle.setl_value.specs.Datum.{Datum}
 use Rattle.setl_map.specs.declared.OpFault.{OpFault}
 use Rattle.setl_map.specs.Outcome.{Outcome, then_with}
-use Rattle.setl_map.specs.Answers.{Tells}
+use Rattle.setl_map.specs.code.Answers.{Tells}
 use Rattle.setl_model.specs.Core.{Selected}
 use Rattle.setl_model.specs.Places.{part_of, part_at_all, with_part_at, with_part_at_all, combined}
 use Rattle.setl_update.specs.declared.selectors.Selector.{Selector}

@@ -5,11 +5,11 @@ use Rattle.setl_value.specs.Datum.{Datum}
 use Rattle.setl_map.specs.declared.OpFault.{OpFault}
 use Rattle.setl_map.specs.declared.OpFault.TheVariants.{Kind, Om, Wide, Zero, Range, Deep, Spent, NoMemory}
 use Rattle.setl_map.specs.Outcome.{Outcome, Gives, Fails, Overspends, adding, then_with}
-use Rattle.setl_map.specs.Answers.{Tells}
+use Rattle.setl_map.specs.code.Answers.{Tells}
 use Rattle.setl_update.specs.Updates.{Leaves, Updates}
 use Rattle.setl_update.specs.declared.selectors.Part.{Part}
 use Rattle.setl_update.specs.Parts.{Reads}
-use Rattle.setl_value.specs.DatumOf.{part}
+use Rattle.setl_value.specs.code.DatumOf.{part}
 
 -- an outcome that gives nothing tells no other fault with a charge before it
 charged_fault : (o : Outcome) (n : ℕ) (e : OpFault) → Tells (Err e) o → Tells (Err e) (adding n o)

@@ -11,7 +11,7 @@ use Rattle.setl_map.specs.declared.OpFault.{OpFault}
 use Rattle.setl_map.specs.declared.OpFault.TheVariants.{Kind, Om, Wide, Zero, Range, Deep, Spent, NoMemory}
 use Rattle.setl_map.specs.declared.Taken.{Taken}
 use Rattle.setl_map.specs.Outcome.{KindFault}
-use Rattle.setl_map.specs.Answers.{Takes}
+use Rattle.setl_map.specs.code.Answers.{Takes}
 use Rattle.setl_map.specs.Takes as call
 use Rattle.setl_program.specs.declared.kinds.Taking.TheVariants.{TakeFirst, TakeLast}
 use Rattle.setl_model.specs.Places.{TakesOut, IsEmpty, CannotTake, take_first, take_last, take_out}

@@ -1,11 +1,11 @@
 -- What calls tell that read a part, or take a value out of one that stands alone. No public clause cites this module.
 use Rattle.std.specs.Prelude.{◌≡◌, ℕ, true, false, Result, Ok, Err, Option, Some, None}
 use Rattle.setl_value.specs.Datum.{Datum}
-use Rattle.setl_value.specs.DatumOf.{part}
+use Rattle.setl_value.specs.code.DatumOf.{part}
 use Rattle.setl_map.specs.declared.OpFault.{OpFault}
 use Rattle.setl_map.specs.declared.OpFault.TheVariants.{NoMemory}
 use Rattle.setl_map.specs.declared.Taken.{Taken}
-use Rattle.setl_map.specs.Answers.{Tells}
+use Rattle.setl_map.specs.code.Answers.{Tells}
 use Rattle.setl_map.specs.Outcome.{Outcome, Fails}
 use Rattle.setl_model.specs.Places.{TakesOut, IsEmpty, CannotTake}
 use Rattle.setl_model.specs.Places as places

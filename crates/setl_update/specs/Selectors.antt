@@ -1,5 +1,5 @@
 -- The plain selectors that selectors stand for.
-use Rattle.setl_value.specs.DatumOf.{part}
+use Rattle.setl_value.specs.code.DatumOf.{part}
 use Rattle.setl_model.specs.Core as core
 use Rattle.setl_update.specs.declared.selectors.Selector.{Selector}
 use Rattle.setl_update.specs.declared.selectors.Selector.TheVariants.{Round, Brace}

@@ -1,10 +1,10 @@
 -- What a call tells that takes a value out of the part at some selectors.
 use Rattle.std.specs.Prelude.{◌≡◌, ℕ, ◌-◌, true, false, List, Result, Ok, Err, Option, Some, None}
 use Rattle.setl_value.specs.Datum.{Datum}
-use Rattle.setl_value.specs.DatumOf.{part}
+use Rattle.setl_value.specs.code.DatumOf.{part}
 use Rattle.setl_map.specs.declared.OpFault.{OpFault}
 use Rattle.setl_map.specs.declared.OpFault.TheVariants.{NoMemory}
-use Rattle.setl_map.specs.Answers.{Tells}
+use Rattle.setl_map.specs.code.Answers.{Tells}
 use Rattle.setl_map.specs.Outcome.{Outcome, Gives, Fails, Overspends}
 use Rattle.setl_program.specs.declared.kinds.Taking.{Taking}
 use Rattle.setl_model.specs.Core.{Selected}

@@ -2,7 +2,7 @@
 use Rattle.std.specs.Prelude.{◌≡◌, ℕ, ◌-◌, Result, Ok, Err, Option}
 use Rattle.setl_value.specs.Datum.{Datum}
 use Rattle.setl_map.specs.declared.OpFault.{OpFault}
-use Rattle.setl_map.specs.Answers.{Tells}
+use Rattle.setl_map.specs.code.Answers.{Tells}
 use Rattle.setl_map.specs.Outcome.{Outcome, Gives, Fails, Overspends}
 
 -- the outcome gives this value, and this many of the turns are left

@@ -1,7 +1,7 @@
 //! Selectors, and the part at one.
 
 ghost use Rattle.std.specs.Prelude.{◌≡◌, ◌∷◌, [], Some, IfOk, OnErr, map};
-ghost use Rattle.setl_value.specs.DatumOf.{datum, lent, part};
+ghost use Rattle.setl_value.specs.code.DatumOf.{datum, lent, part};
 ghost use Rattle.setl_map.specs.declared.Operator.TheVariants.{Put, PutImages};
 ghost use Rattle.setl_map.specs.Operators.{op_of, operand_count};
 ghost use Rattle.setl_model.specs.Places.{part_of, part_at_all, with_part_at};

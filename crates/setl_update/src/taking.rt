@@ -1,7 +1,7 @@
 //! Taking a value out of a part.
 
 ghost use Rattle.std.specs.Prelude.{◌≡◌, [], false, Some, IfOk, OnErr, map};
-ghost use Rattle.setl_value.specs.DatumOf.{datum, part};
+ghost use Rattle.setl_value.specs.code.DatumOf.{datum, part};
 ghost use Rattle.setl_program.specs.declared.kinds.Taking.TheVariants.{TakeLeast, TakeFirst, TakeLast};
 ghost use Rattle.setl_model.specs.Places.{take_out};
 ghost use Rattle.setl_update.specs.Parts.{TakesOne};

@@ -1,7 +1,7 @@
 //! Putting a part, and combining it with a value.
 
 ghost use Rattle.std.specs.Prelude.{◌≡◌, ◌∷◌, [], Some, OnErr, map};
-ghost use Rattle.setl_value.specs.DatumOf.{part};
+ghost use Rattle.setl_value.specs.code.DatumOf.{part};
 ghost use Rattle.setl_map.specs.declared.Operator.TheVariants.{Add, With, Less, Lessf};
 ghost use Rattle.setl_map.specs.Operators.{op_of, operand_count};
 ghost use Rattle.setl_model.specs.Places.{with_part_at_all, combined};

@@ -3,13 +3,13 @@ use Rattle.std.specs.Prelude.{◌≡◌, ℕ, suc, ◌+◌, ◌-◌, ◌<◌, �
 use Rattle.std.specs.List.{AllByRecursion, insert, remove}
 use Rattle.std.proofs.Common.{arith, ap, sym, ◌∙◌, subst, length-append}
 use Rattle.std.proofs.lemmas.List.{length-take, length-drop}
-use Rattle.setl_value.specs.Body.{joined}
-use Rattle.setl_value.specs.Counted.{IsCounted}
+use Rattle.setl_value.specs.code.Body.{joined}
+use Rattle.setl_value.specs.code.Counted.{IsCounted}
 use Rattle.setl_value.specs.Datum.{Datum, depth, set_of}
-use Rattle.setl_value.specs.Exchange.{Exchanges}
+use Rattle.setl_value.specs.code.Exchange.{Exchanges}
 use Rattle.setl_value.specs.Order.{IsRising}
 use Rattle.setl_value.specs.Pairs.{other_count}
-use Rattle.setl_value.specs.Places.{page_at, rank_in}
+use Rattle.setl_value.specs.code.Places.{page_at, rank_in}
 use Rattle.setl_value.specs.WellFormed.{IsValue, IsSetList, IsWellFormed}
 use Rattle.setl_value.proofs.Bodies.{replaced, set_insert, set_remove, set_replaced, depth_insert, depth_drop, depth_exchanged}
 use Rattle.setl_value.proofs.Others.{counted, counted_at_most_length, count_insert, count_remove, count_replaced}

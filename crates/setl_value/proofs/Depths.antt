@@ -6,7 +6,7 @@ use Rattle.std.proofs.lemmas.List.{map-append}
 use Rattle.std.proofs.lemmas.Option.{none-some}
 use Rattle.setl_value.specs.declared.Value.{Value}
 use Rattle.setl_value.specs.Datum.{Datum, depth, elements_depth, elements_of, part_depth, parts_depth, parts_of, set_of, tuple_of}
-use Rattle.setl_value.specs.DatumOf.{datum, part}
+use Rattle.setl_value.specs.code.DatumOf.{datum, part}
 use Rattle.setl_value.specs.WellFormed.{trim, put}
 use Rattle.setl_value.proofs.Trim.{trim_depth}
 

@@ -8,7 +8,7 @@ use Rattle.std.proofs.lemmas.List.{append-nil, drop-append-le, drop-map, drop-se
 use Rattle.std.proofs.lemmas.Option.{none-some}
 use Rattle.setl_value.specs.declared.Value.{Value}
 use Rattle.setl_value.specs.Datum.{Datum, depth, part_depth, parts_depth, parts_of, part_list, part_list-parts_of, tuple_of}
-use Rattle.setl_value.specs.DatumOf.{part}
+use Rattle.setl_value.specs.code.DatumOf.{part}
 use Rattle.setl_value.specs.WellFormed.{put, trim, EndsIn, IsTrimmed, IsTupleList, PartsAreWellFormed}
 use Rattle.setl_value.proofs.Depths.{parts_cons, parts_put}
 use Rattle.setl_value.proofs.Trim.{last_taken, last_cut}

@@ -3,9 +3,9 @@ use Rattle.std.specs.Prelude.{◌≡◌, List, [], ◌∷◌, ◌++◌, map, max
 use Rattle.std.proofs.Common.{arith, ap}
 use Rattle.std.proofs.lemmas.List.{map-append, append-nil}
 use Rattle.setl_value.specs.declared.Value.{Value}
-use Rattle.setl_value.specs.Body.{joined}
+use Rattle.setl_value.specs.code.Body.{joined}
 use Rattle.setl_value.specs.Datum.{depth, set_of}
-use Rattle.setl_value.specs.DatumOf.{datum, page}
+use Rattle.setl_value.specs.code.DatumOf.{datum, page}
 use Rattle.setl_value.proofs.Bodies.{depth_append}
 use Rattle.setl_value.proofs.Paging.{Shared, joined_append}
 

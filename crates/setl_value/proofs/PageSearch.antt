@@ -5,10 +5,10 @@ use Rattle.std.specs.List.Sorted.{IsStrictlySortedBy}
 use Rattle.std.specs.Ordering.{is_lt}
 use Rattle.std.specs.declared.cmp.Ordering.TheVariants.{Less}
 use Rattle.std.proofs.Common.{arith, inl, inr, ap, sym, ◌∙◌, subst, length-append}
-use Rattle.setl_value.specs.Body.{joined, IsPage}
+use Rattle.setl_value.specs.code.Body.{joined, IsPage}
 use Rattle.setl_value.specs.Datum.{Datum}
 use Rattle.setl_value.specs.Order.{datum_cmp, IsRising}
-use Rattle.setl_value.specs.Places.{page_at, rank_in, IsBound, IsBetween}
+use Rattle.setl_value.specs.code.Places.{page_at, rank_in, IsBound, IsBetween}
 use Rattle.setl_value.proofs.Bodies.{all_append}
 use Rattle.setl_value.proofs.Halving.{raised, lowered, all_between}
 use Rattle.setl_value.proofs.Paging.{taken, dropped, pages_before, pages_behind, rank_within, rank_next, rank_from, none_left, member_of}

@@ -8,11 +8,11 @@ use Rattle.std.specs.declared.rc.Rc.{Rc}
 use Rattle.std.specs.declared.vec.Vec.{Vec}
 use Rattle.std.specs.declared.alloc.Global.{Global}
 use Rattle.setl_value.specs.declared.Value.{Value}
-use Rattle.setl_value.specs.Body.{Body, joined, IsPage}
+use Rattle.setl_value.specs.code.Body.{Body, joined, IsPage}
 use Rattle.setl_value.specs.Datum.{Datum}
-use Rattle.setl_value.specs.DatumOf.{datum, page}
-use Rattle.setl_value.specs.Exchange.{Exchanges}
-use Rattle.setl_value.specs.Places.{page_at, rank_in}
+use Rattle.setl_value.specs.code.DatumOf.{datum, page}
+use Rattle.setl_value.specs.code.Exchange.{Exchanges}
+use Rattle.setl_value.specs.code.Places.{page_at, rank_in}
 use Rattle.setl_value.proofs.Bodies.{replaced, map-replaced, all_take, all_drop, all_append}
 
 take_none : {X : Type 0} (n : ℕ) → ◌≡◌ {A = List X} (take n []) []

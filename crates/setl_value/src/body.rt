@@ -1,15 +1,15 @@
 //! The body of a set without its owner: pages, and what is kept beside them.
-#![tactic(auto, unfolding(crate::specs::Places::HasPlace, crate::specs::Places::rank))]
+#![tactic(auto, unfolding(crate::specs::code::Places::HasPlace, crate::specs::code::Places::rank))]
 
 ghost use Rattle.std.specs.Prelude.{◌≡◌, ◌<◌, ◌≤◌, ◌+◌, ◌^◌, ◌++◌, ◌⊎◌, [], length, slice_get, take, drop, map, IfOk, OnErr, OnOk, Some};
 ghost use Rattle.std.specs.List.{insert, remove, AllByRecursion};
-ghost use Rattle.setl_value.specs.Body.{Members, IsPage, joined};
+ghost use Rattle.setl_value.specs.code.Body.{Members, IsPage, joined};
 ghost use Rattle.setl_value.specs.Datum.{depth, set_of};
-ghost use Rattle.setl_value.specs.DatumOf.{datum, page};
+ghost use Rattle.setl_value.specs.code.DatumOf.{datum, page};
 ghost use Rattle.setl_value.specs.Order.{IsRising};
 ghost use Rattle.setl_value.specs.Pairs.{is_map};
-ghost use Rattle.setl_value.specs.Places.{HasPlace, IsIn, rank, rank_in, IsBound, page_at};
-ghost use Rattle.setl_value.specs.Sought.{sought};
+ghost use Rattle.setl_value.specs.code.Places.{HasPlace, IsIn, rank, rank_in, IsBound, page_at};
+ghost use Rattle.setl_value.specs.code.Sought.{sought};
 ghost use Rattle.setl_value.specs.WellFormed.{IsValue, IsSetList};
 
 use crate::counts::{depth_of, depth_without, learn_members, leaving, other, others_in};

@@ -2,9 +2,9 @@
 
 ghost use Rattle.std.specs.Prelude.{◌≡◌, ◌≤◌, ◌+◌, take, map, max, is_some, slice_get, if◌then◌else◌};
 ghost use Rattle.std.specs.List.{AllByRecursion};
-ghost use Rattle.setl_value.specs.Body.{joined};
+ghost use Rattle.setl_value.specs.code.Body.{joined};
 ghost use Rattle.setl_value.specs.Datum.{Datum, depth, set_of, tuple_of};
-ghost use Rattle.setl_value.specs.DatumOf.{datum, page};
+ghost use Rattle.setl_value.specs.code.DatumOf.{datum, page};
 ghost use Rattle.setl_value.specs.Pairs.{other_count, pair_parts, is_there};
 ghost use Rattle.setl_value.specs.WellFormed.{IsWellFormed};
 

@@ -2,10 +2,10 @@
 
 ghost use Rattle.std.specs.Prelude.{◌≡◌, fold};
 ghost use Rattle.std.proofs.Common.{ap};
-ghost use Rattle.setl_value.specs.Body.{Members};
+ghost use Rattle.setl_value.specs.code.Body.{Members};
 ghost use Rattle.setl_value.specs.Datum.{elements_of, parts_of};
-ghost use Rattle.setl_value.specs.DatumOf.{datum, part};
-ghost use Rattle.setl_value.specs.HashInput.{writes, elements_writes, parts_writes, part_writes};
+ghost use Rattle.setl_value.specs.code.DatumOf.{datum, part};
+ghost use Rattle.setl_value.specs.code.HashInput.{writes, elements_writes, parts_writes, part_writes};
 ghost use Rattle.setl_value.specs.OrderLaws.{same_if_eq};
 
 use crate::{SetBody, TupleBody, Value};

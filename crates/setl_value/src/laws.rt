@@ -5,8 +5,8 @@ ghost use Rattle.std.specs.Cmp.{IsTotalOrder};
 ghost use Rattle.std.specs.declared.cmp.Ordering.TheVariants.{Equal};
 ghost use Rattle.std.specs.Ordering.{on, eq_by_cmp};
 ghost use Rattle.setl_value.specs.Datum.{Datum};
-ghost use Rattle.setl_value.specs.DatumOf.{datum};
-ghost use Rattle.setl_value.specs.HashInput.{writes};
+ghost use Rattle.setl_value.specs.code.DatumOf.{datum};
+ghost use Rattle.setl_value.specs.code.HashInput.{writes};
 ghost use Rattle.setl_value.specs.Order.{datum_cmp};
 ghost use Rattle.setl_value.specs.declared.Value.{Value};
 

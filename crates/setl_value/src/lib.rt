@@ -12,7 +12,7 @@
 ghost use Rattle.std.specs.Prelude.{◌≡◌, IfOk};
 ghost use Rattle.setl_value.specs.WellFormed.{IsValue};
 ghost use Rattle.setl_value.specs.Datum.{depth};
-ghost use Rattle.setl_value.specs.DatumOf.{datum};
+ghost use Rattle.setl_value.specs.code.DatumOf.{datum};
 
 mod body;
 mod counts;
@@ -76,7 +76,7 @@ pub struct TupleBody {
 impl Model for SetBody {
     ghost use Rattle.std.specs.Prelude.{◌+◌, ◌*◌};
     ghost use Rattle.setl_value.specs.Datum.{set_of, depth};
-    ghost use Rattle.setl_value.specs.Body.{Body, coded_body, Members};
+    ghost use Rattle.setl_value.specs.code.Body.{Body, coded_body, Members};
 
     ghost Value = { Body };
 
@@ -94,14 +94,14 @@ impl Model for SetBody {
 impl Model for Pages {
     ghost use Rattle.std.specs.Prelude.{List, map, ◌*◌};
     ghost use Rattle.setl_value.specs.Datum.{Datum, set_of, depth};
-    ghost use Rattle.setl_value.specs.Body.{Body, coded_body, Members};
+    ghost use Rattle.setl_value.specs.code.Body.{Body, coded_body, Members};
 
     ghost Value = { Body };
 
     ghost coded = { coded_body };
 
-    ghost use Rattle.setl_value.specs.DatumOf.{page};
-    ghost use Rattle.setl_value.specs.Counted.{IsCounted};
+    ghost use Rattle.setl_value.specs.code.DatumOf.{page};
+    ghost use Rattle.setl_value.specs.code.Counted.{IsCounted};
 
     ghost view = { λ s. record { pages = map page s.list.items } };
 
@@ -110,7 +110,7 @@ impl Model for Pages {
     ghost size = { λ b. 2 * depth (set_of (Members b)) };
 
     ghost use Rattle.std.proofs.Common.{arith};
-    ghost use Rattle.setl_value.specs.Falls.{pages_fall};
+    ghost use Rattle.setl_value.specs.code.Falls.{pages_fall};
 
     ghost size_decreases = { λ a h. omega (arith, pages_fall a.list.items) };
 }
@@ -119,13 +119,13 @@ impl Model for TupleBody {
     ghost use Rattle.std.specs.Prelude.{List, map, drop, length, Option, ◌≡◌, ◌≤◌, ◌*◌};
     ghost use Rattle.std.specs.Coded.{coded_list, coded_option};
     ghost use Rattle.setl_value.specs.Datum.{Datum, tuple_of, depth};
-    ghost use Rattle.setl_value.specs.DatumCode.{coded_datum};
+    ghost use Rattle.setl_value.specs.code.DatumCode.{coded_datum};
 
     ghost Value = { List (Option Datum) };
 
     ghost coded = { coded_list (coded_option coded_datum) };
 
-    ghost use Rattle.setl_value.specs.DatumOf.{part};
+    ghost use Rattle.setl_value.specs.code.DatumOf.{part};
     ghost use Rattle.setl_value.specs.WellFormed.{IsTupleList};
 
     ghost view = { λ s. map part (drop s.start s.parts.value.items) };
@@ -136,7 +136,7 @@ impl Model for TupleBody {
     ghost size = { λ ps. 2 * depth (tuple_of ps) };
 
     ghost use Rattle.std.proofs.Common.{arith};
-    ghost use Rattle.setl_value.specs.Falls.{parts_fall};
+    ghost use Rattle.setl_value.specs.code.Falls.{parts_fall};
 
     ghost size_decreases = { λ a h. omega (arith, parts_fall a.parts.value.items) };
 }

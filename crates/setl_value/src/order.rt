@@ -7,12 +7,12 @@ ghost use Rattle.std.specs.Cmp.{partial_equiv_from_equiv, on_equiv, on_total, eq
 ghost use Rattle.std.specs.Cmp.Lexicographic.{slice_cmp};
 ghost use Rattle.std.specs.Option.{option_cmp};
 ghost use Rattle.std.specs.Ordering.{on, eq_by_cmp, as_partial_cmp, is_lt};
-ghost use Rattle.setl_value.specs.Body.{Members};
+ghost use Rattle.setl_value.specs.code.Body.{Members};
 ghost use Rattle.setl_value.specs.Datum.{tuple_of};
-ghost use Rattle.setl_value.specs.DatumOf.{datum, part};
+ghost use Rattle.setl_value.specs.code.DatumOf.{datum, part};
 ghost use Rattle.setl_value.specs.Order.{datum_cmp, kind_of};
 ghost use Rattle.setl_value.specs.OrderLaws.{datum_cmp_total};
-ghost use Rattle.setl_value.specs.Places.{point};
+ghost use Rattle.setl_value.specs.code.Places.{point};
 
 use crate::{SetBody, TupleBody, Value};
 use std::cmp::Ordering;

@@ -4,10 +4,10 @@
 ghost use Rattle.std.specs.Prelude.{◌≡◌, ◌<◌, ◌≤◌, ◌+◌, ◌-◌, ◌++◌, ◌∷◌, ◌⊎◌, [], length, take, drop, map, slice_get, IfOk, OnErr, OnOk, Some};
 ghost use Rattle.std.specs.Bool.{OnTrue};
 ghost use Rattle.std.specs.List.{AllByRecursion};
-ghost use Rattle.setl_value.specs.Body.{IsPage, joined};
-ghost use Rattle.setl_value.specs.DatumOf.{datum, page};
-ghost use Rattle.setl_value.specs.Exchange.{Exchanges};
-ghost use Rattle.setl_value.specs.Places.{IsIn, page_at};
+ghost use Rattle.setl_value.specs.code.Body.{IsPage, joined};
+ghost use Rattle.setl_value.specs.code.DatumOf.{datum, page};
+ghost use Rattle.setl_value.specs.code.Exchange.{Exchanges};
+ghost use Rattle.setl_value.specs.code.Places.{IsIn, page_at};
 
 use crate::shared::{cut_in, put_in, replace_between, replace_in};
 use crate::{Memory, Value};

@@ -1,16 +1,16 @@
 //! Places among the members of a set: searching them, and changes there.
-#![tactic(auto, unfolding(crate::specs::Places::HasPlace, crate::specs::Places::rank))]
+#![tactic(auto, unfolding(crate::specs::code::Places::HasPlace, crate::specs::code::Places::rank))]
 
 ghost use Rattle.std.specs.Prelude.{suc, ◌≡◌, ◌<◌, ◌≤◌, ◌+◌, ◌-◌, ◌++◌, length, slice_get, take, drop, map, IfOk, IfErr, MatchResult, OnErr, OnOk, Some};
 ghost use Rattle.std.specs.List.{insert, remove, AllByRecursion};
 ghost use Rattle.std.specs.Option.{option_map};
 ghost use Rattle.std.specs.Ordering.{is_lt};
-ghost use Rattle.setl_value.specs.Body.{Members, IsPage, joined};
+ghost use Rattle.setl_value.specs.code.Body.{Members, IsPage, joined};
 ghost use Rattle.setl_value.specs.Datum.{depth, set_of};
-ghost use Rattle.setl_value.specs.DatumOf.{datum, page};
+ghost use Rattle.setl_value.specs.code.DatumOf.{datum, page};
 ghost use Rattle.setl_value.specs.Order.{datum_cmp, IsRising};
-ghost use Rattle.setl_value.specs.Places.{HasPlace, rank, rank_in, IsPlace, IsBound, IsBetween, point};
-ghost use Rattle.setl_value.specs.Sought.{sought};
+ghost use Rattle.setl_value.specs.code.Places.{HasPlace, rank, rank_in, IsPlace, IsBound, IsBetween, point};
+ghost use Rattle.setl_value.specs.code.Sought.{sought};
 
 use crate::page_list::{Page, first_at};
 use crate::{MemberIter, Memory, SetBody, Value};

@@ -1,15 +1,15 @@
 //! The body of a set: a strictly rising list of members in shared pages, and its depth.
-#![tactic(auto, unfolding(crate::specs::Places::HasPlace, crate::specs::Places::rank))]
+#![tactic(auto, unfolding(crate::specs::code::Places::HasPlace, crate::specs::code::Places::rank))]
 
 ghost use Rattle.std.specs.Prelude.{◌≡◌, ◌<◌, ◌≤◌, ◌+◌, ◌++◌, [], length, slice_get, take, drop, map, IfOk, OnErr, OnOk, Some};
 ghost use Rattle.std.specs.List.{insert, remove, AllByRecursion};
 ghost use Rattle.std.specs.Iterator.{YieldsFirstBy, item_count};
-ghost use Rattle.setl_value.specs.Body.{Members, IsPage};
+ghost use Rattle.setl_value.specs.code.Body.{Members, IsPage};
 ghost use Rattle.setl_value.specs.Datum.{depth, set_of};
-ghost use Rattle.setl_value.specs.DatumOf.{datum};
+ghost use Rattle.setl_value.specs.code.DatumOf.{datum};
 ghost use Rattle.setl_value.specs.Order.{IsRising};
 ghost use Rattle.setl_value.specs.Pairs.{is_map};
-ghost use Rattle.setl_value.specs.Places.{HasPlace, rank};
+ghost use Rattle.setl_value.specs.code.Places.{HasPlace, rank};
 ghost use Rattle.setl_value.specs.WellFormed.{IsValue, IsSetList};
 
 use crate::places::{Cursor, START};
@@ -179,15 +179,15 @@ impl<'a> Model for MemberIter<'a> {
     ghost use Rattle.std.specs.Prelude.{List, map, ◌++◌};
     ghost use Rattle.std.specs.Coded.{coded_list};
     ghost use Rattle.std.specs.List.{AllByRecursion};
-    ghost use Rattle.setl_value.specs.Body.{IsPage, joined};
+    ghost use Rattle.setl_value.specs.code.Body.{IsPage, joined};
     ghost use Rattle.setl_value.specs.Datum.{Datum};
-    ghost use Rattle.setl_value.specs.DatumCode.{coded_datum};
+    ghost use Rattle.setl_value.specs.code.DatumCode.{coded_datum};
 
     ghost Value = { List Datum };
 
     ghost coded = { coded_list coded_datum };
 
-    ghost use Rattle.setl_value.specs.DatumOf.{datum, page};
+    ghost use Rattle.setl_value.specs.code.DatumOf.{datum, page};
 
     ghost view = { λ s. map datum s.rest.now ++ joined (map page s.pages.now) };
 

@@ -4,7 +4,7 @@
 ghost use Rattle.std.specs.Prelude.{◌≡◌, ◌<◌, ◌≤◌, ◌+◌, ◌-◌, ◌++◌, ◌∷◌, ◌⊎◌, length, slice_get, slice_set, take, drop, map, max, unwrap_or, is_none, IfOk, OnErr, OnOk, MatchOption, Some, None};
 ghost use Rattle.std.specs.List.{remove, AllByRecursion};
 ghost use Rattle.setl_value.specs.Datum.{depth, part_depth, tuple_of};
-ghost use Rattle.setl_value.specs.DatumOf.{datum, part};
+ghost use Rattle.setl_value.specs.code.DatumOf.{datum, part};
 ghost use Rattle.setl_value.specs.WellFormed.{IsTupleList, PartIsWellFormed, trim, put};
 
 use crate::shared::{append_in, drop_front};

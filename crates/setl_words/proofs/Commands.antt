@@ -2,7 +2,7 @@
 use Rattle.std.proofs.Common.{subst, ◌≡◌, ◌≢◌, ◌∙◌, ℕ, false, List, [], ◌∷◌, ◌++◌, length, None, codes, refl, sym, ap, ap₂, rules, arith}
 use Rattle.std.specs.List.{flat_map}
 use Rattle.setl_words.specs.Words.{Command, Run, Check, Code, Options, option_words, options_of, Spells, SpellsRun, IsFile, IsFaulty}
-use Rattle.setl_words.specs.Reading.{Leads, LeadsNowhere}
+use Rattle.setl_words.specs.code.Reading.{Leads, LeadsNowhere}
 use Rattle.setl_words.specs.declared.given.Given.{Given}
 use Rattle.setl_words.proofs.Order.{head_of, tail_of, one_list, first_gives, options_from, comes_to}
 

@@ -3,7 +3,7 @@ use Rattle.std.proofs.Common.{◌≡◌, ◌≢◌, ◌^◌, ◌-◌, ◌∙◌,
 use Rattle.std.proofs.lemmas.Fmt.{decimal_injective}
 use Rattle.std.specs.List.{flat_map, fold}
 use Rattle.setl_words.specs.Words.{RunOption, Unbased, Turns, option_words, IsInRange, IsSameKind, IsOther, AreOptions, Options, with_option, options_of}
-use Rattle.setl_words.specs.Reading.{IsFree, AreFree, with_given, Gives, Leads, LeadsNowhere}
+use Rattle.setl_words.specs.code.Reading.{IsFree, AreFree, with_given, Gives, Leads, LeadsNowhere}
 use Rattle.setl_words.specs.declared.given.Given.{Given}
 
 -- what holds holds also where something isn't there

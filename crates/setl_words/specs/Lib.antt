@@ -1,5 +1,4 @@
 pub mod Words
-pub mod Commands
-pub mod Reading
 pub mod Line
 pub mod Told
+pub mod code

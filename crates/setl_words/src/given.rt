@@ -1,7 +1,7 @@
 //! The options of a run.
 ghost use Rattle.std.specs.Prelude.{◌≡◌, ◌<◌, ◌-◌, ◌^◌, ◌++◌, List, ℕ, length, map, string_bytes, true, false, not, None, unwrap_or, IfSome, IfNone};
 ghost use Rattle.setl_words.specs.Words.{RunOption as Asked, IsInRange, option_words};
-ghost use Rattle.setl_words.specs.Reading.{Leads, LeadsNowhere, IsFree, option_of, with_given};
+ghost use Rattle.setl_words.specs.code.Reading.{Leads, LeadsNowhere, IsFree, option_of, with_given};
 
 use crate::number::read_number;
 use crate::reading::Options;

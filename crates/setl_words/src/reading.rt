@@ -1,6 +1,6 @@
 //! What the words ask for.
 ghost use Rattle.std.specs.Prelude.{◌≡◌, ◌≢◌, ◌∷◌, ◌++◌, [], List, ℕ, map, string_bytes, IfSome, IfNone};
-ghost use Rattle.setl_words.specs.Commands.{command_of};
+ghost use Rattle.setl_words.specs.code.Commands.{command_of};
 ghost use Rattle.setl_words.specs.Words.{Spells, IsFaulty};
 
 use crate::given::{Given, read_options};

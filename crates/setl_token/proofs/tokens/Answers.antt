@@ -1,6 +1,6 @@
 use Rattle.std.proofs.Common.{◌≡◌, ℕ, take, drop, ◌-◌, ◌+◌, [], ◌++◌, sym, ap, subst, ◌∙◌, arith, length-drop, count_by, ◌==◌, inl}
 use Rattle.std.proofs.lemmas.List.{take_rest}
-use Rattle.setl_token.specs.Pieces.{piece_at}
+use Rattle.setl_token.specs.code.Pieces.{piece_at}
 use Rattle.setl_token.specs.Lex.{token_of, fault_of}
 use Rattle.setl_token.proofs.Longest.{longest_of, stands_of}
 use Rattle.setl_token.proofs.Reached.{Found, found_push, found_all, found_fault, one_spelling, one_fault, spelled_or_fails, tells, line_more, push_token, push_none}

@@ -5,8 +5,8 @@ use Rattle.setl_value.specs.declared.Value.{Value}
 use Rattle.std.specs.Option.{option_cmp}
 use Rattle.std.specs.Cmp.Lexicographic.{slice_cmp}
 use Rattle.setl_value.proofs.Lex.{lex_end}
-use Rattle.setl_value.specs.Body.{Members}
-use Rattle.setl_value.specs.DatumOf.{part}
+use Rattle.setl_value.specs.code.Body.{Members}
+use Rattle.setl_value.specs.code.DatumOf.{part}
 use Rattle.setl_value.specs.Order.{datum_cmp}
 use Rattle.setl_value.specs.OrderLaws.{elements_cmp_as_lists, parts_cmp_as_lists}
 use Rattle.setl_value.proofs.+comparing.Goals as goal

@@ -1,9 +1,9 @@
 use Rattle.std.specs.Prelude.{◌≡◌, ◌≤◌, drop, map}
 use Rattle.std.specs.Cmp.Lexicographic.{slice_cmp}
 use Rattle.std.specs.Option.{option_cmp}
-use Rattle.setl_value.specs.Body.{Members}
+use Rattle.setl_value.specs.code.Body.{Members}
 use Rattle.setl_value.specs.Datum.{depth, set_of}
-use Rattle.setl_value.specs.DatumOf.{part}
+use Rattle.setl_value.specs.code.DatumOf.{part}
 use Rattle.setl_value.specs.Order.{datum_cmp}
 use Rattle.setl_value.proofs.+comparing.Given as goal
 

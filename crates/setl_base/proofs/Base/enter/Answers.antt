@@ -1,5 +1,5 @@
 use Rattle.std.proofs.Common.{sym, arith, ap, ◌∙◌}
-use Rattle.setl_value.specs.DatumOf.{datum}
+use Rattle.setl_value.specs.code.DatumOf.{datum}
 use Rattle.setl_base.specs.Base.{find}
 use Rattle.setl_base.specs.Tables.{base_of}
 use Rattle.setl_base.proofs.Found.{found_lives, none_left}

@@ -1,5 +1,5 @@
 use Rattle.std.proofs.Common.{sym, ◌∙◌}
-use Rattle.setl_value.specs.DatumOf.{datum}
+use Rattle.setl_value.specs.code.DatumOf.{datum}
 use Rattle.setl_base.proofs.Found.{none_found, found_at, found_lives}
 use Rattle.setl_base.proofs.Base.find.Goals as goal
 

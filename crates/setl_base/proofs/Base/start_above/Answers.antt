@@ -1,7 +1,7 @@
 use Rattle.std.proofs.Common.{Bor, sym, ap, ◌∙◌}
 use Rattle.std.specs.Option.{option_map}
 use Rattle.setl_value.specs.declared.Value.{Value}
-use Rattle.setl_value.specs.DatumOf.{datum}
+use Rattle.setl_value.specs.code.DatumOf.{datum}
 use Rattle.setl_base.proofs.Ranking.{from_first, from_after}
 use Rattle.setl_base.proofs.Base.start_above.Goals as goal
 

@@ -1,7 +1,7 @@
 use Rattle.std.proofs.Common.{◌∙◌, ap, ◌++◌, ◌∷◌, []}
 use Rattle.std.specs.Map.{lookup}
 use Rattle.indexmap.proofs.CallerLemmas.{insert_entry-new}
-use Rattle.setl_value.specs.DatumOf.{datum}
+use Rattle.setl_value.specs.code.DatumOf.{datum}
 use Rattle.setl_base.proofs.Found.{none_in_table, same_key}
 use Rattle.setl_base.proofs.Ranked.{ranks_put}
 use Rattle.setl_base.proofs.tables.append.Goals as goal

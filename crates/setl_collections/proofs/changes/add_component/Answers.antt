@@ -1,6 +1,6 @@
 use Rattle.std.proofs.Common.{ap, sym, ◌∙◌}
 use Rattle.setl_value.specs.Datum.{tuple_of}
-use Rattle.setl_value.specs.DatumOf.{datum}
+use Rattle.setl_value.specs.code.DatumOf.{datum}
 use Rattle.setl_tuple.specs.Tuples.{with_of}
 use Rattle.setl_map.specs.Outcome.{within_depth}
 use Rattle.setl_collections.proofs.Depths.{deep_last}

@@ -1,7 +1,7 @@
 use Rattle.std.proofs.Common.{ap, sym, ◌∙◌}
-use Rattle.setl_value.specs.Body.{Members}
+use Rattle.setl_value.specs.code.Body.{Members}
 use Rattle.setl_value.specs.Datum.{set_of}
-use Rattle.setl_value.specs.DatumOf.{datum}
+use Rattle.setl_value.specs.code.DatumOf.{datum}
 use Rattle.setl_set.specs.Sets.{insert_datum}
 use Rattle.setl_map.specs.Outcome.{within_depth}
 use Rattle.setl_collections.proofs.Depths.{deep_member}

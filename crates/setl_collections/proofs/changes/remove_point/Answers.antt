@@ -1,6 +1,6 @@
 use Rattle.std.proofs.Common.{ap, sym, ◌∙◌}
-use Rattle.setl_value.specs.Body.{Members}
-use Rattle.setl_value.specs.DatumOf.{datum}
+use Rattle.setl_value.specs.code.Body.{Members}
+use Rattle.setl_value.specs.code.DatumOf.{datum}
 use Rattle.setl_map.specs.Maps.{without_point}
 use Rattle.setl_map.specs.Outcome.{set_value}
 use Rattle.setl_collections.proofs.Rows.{map_row, no_map_row}

@@ -3,10 +3,10 @@ use Rattle.std.proofs.lemmas.Int.{ints, to_z-of_z}
 use mir.Syntax.{w128}
 use mir.Val.{SFits}
 use Rattle.setl_value.specs.Datum.{tuple_of}
-use Rattle.setl_value.specs.DatumOf.{part}
+use Rattle.setl_value.specs.code.DatumOf.{part}
 use Rattle.setl_tuple.specs.Tuples.{index_of}
 use Rattle.setl_map.specs.Puts.{put_part}
-use Rattle.setl_map.specs.Answers.{Changes}
+use Rattle.setl_map.specs.code.Answers.{Changes}
 use Rattle.setl_collections.proofs.Rows.{place_row}
 use Rattle.setl_collections.proofs.puts.put_component.Goals as goal
 

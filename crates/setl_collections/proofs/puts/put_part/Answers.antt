@@ -3,7 +3,7 @@ use Rattle.std.proofs.lemmas.Int.{to_z-of_z}
 use mir.Syntax.{w128}
 use mir.Val.{SFits}
 use Rattle.setl_value.specs.Datum.{tuple_of}
-use Rattle.setl_value.specs.DatumOf.{datum}
+use Rattle.setl_value.specs.code.DatumOf.{datum}
 use Rattle.setl_tuple.specs.Tuples.{index_of, put_of}
 use Rattle.setl_collections.proofs.Depths.{deep_part}
 use Rattle.setl_collections.proofs.Rows.{paid_deep}

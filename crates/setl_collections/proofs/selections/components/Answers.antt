@@ -4,7 +4,7 @@ use mir.Syntax.{w128}
 use mir.Val.{SFits}
 use Rattle.setl_tuple.specs.Tuples.{slice_of}
 use Rattle.setl_map.specs.Selections.{part_of_tuple}
-use Rattle.setl_map.specs.Answers.{Tells}
+use Rattle.setl_map.specs.code.Answers.{Tells}
 use Rattle.setl_collections.proofs.Rows.{parts_back}
 use Rattle.setl_collections.proofs.selections.components.Goals as goal
 

@@ -1,5 +1,5 @@
 use Rattle.std.proofs.Common.{◌∙◌, sym, refl}
-use Rattle.setl_value.specs.DatumOf.{part}
+use Rattle.setl_value.specs.code.DatumOf.{part}
 use Rattle.setl_collections.proofs.Takings.{told, none_told, last_empty, last_taken}
 use Rattle.setl_collections.proofs.takes.take_back.Goals as goal
 

@@ -1,7 +1,7 @@
 use Rattle.std.proofs.Common.{◌≡◌, drop, fold}
 use Rattle.setl_names.specs.Breaks.{earlier, tagged}
 use Rattle.setl_declarations.specs.Rules.{lines_of_names}
-use Rattle.setl_declarations.specs.Taken.{is_none_of}
+use Rattle.setl_declarations.specs.code.Taken.{is_none_of}
 use Rattle.setl_declarations.proofs.names.undeclarable.Given as goal
 
 abbrev pub invariant-loop-variable : goal.invariant-loop-variable

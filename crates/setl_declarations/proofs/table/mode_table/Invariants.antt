@@ -1,7 +1,7 @@
 use Rattle.std.proofs.Common.{◌≡◌, ◌++◌, drop}
 use Rattle.setl_modes.specs.Declarations.{bases_from, variables_from, bases_of, variables_of}
 use Rattle.setl_declarations.specs.Declares.{named_modes}
-use Rattle.setl_declarations.specs.Elements.{Finds}
+use Rattle.setl_declarations.specs.code.Elements.{Finds}
 use Rattle.setl_declarations.proofs.table.mode_table.Given as goal
 
 abbrev pub invariant-loop-line : goal.invariant-loop-line

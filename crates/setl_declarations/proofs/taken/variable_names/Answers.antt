@@ -1,4 +1,4 @@
-use Rattle.setl_declarations.specs.Taken.{variable_names}
+use Rattle.setl_declarations.specs.code.Taken.{variable_names}
 use Rattle.setl_declarations.proofs.NameLists.{body_put}
 use Rattle.setl_declarations.proofs.taken.variable_names.Goals as goal
 

@@ -1,5 +1,5 @@
 use Rattle.std.proofs.Common.{arith, ap, sym, ◌∙◌, map, Some}
-use Rattle.setl_value.specs.DatumOf.{datum, part}
+use Rattle.setl_value.specs.code.DatumOf.{datum, part}
 use Rattle.setl_map.specs.Outcome.{all_values}
 use Rattle.setl_enumerations.proofs.Lists.{take_whole}
 use Rattle.setl_enumerations.proofs.Operands.{some_none, one_value_more}

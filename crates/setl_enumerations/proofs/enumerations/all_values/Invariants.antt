@@ -1,5 +1,5 @@
 use Rattle.std.proofs.Common.{◌≡◌, Some, map, take}
-use Rattle.setl_value.specs.DatumOf.{datum, part}
+use Rattle.setl_value.specs.code.DatumOf.{datum, part}
 use Rattle.setl_map.specs.Outcome.{all_values}
 use Rattle.setl_enumerations.proofs.enumerations.all_values.Given as goal
 

@@ -1,7 +1,7 @@
 use Rattle.std.proofs.Common.{arith, ap, map}
 use Rattle.std.proofs.lemmas.Bool.Decides.{nat_tests}
 use Rattle.setl_value.specs.Datum.{elements_depth, elements_of}
-use Rattle.setl_value.specs.DatumOf.{datum}
+use Rattle.setl_value.specs.code.DatumOf.{datum}
 use Rattle.setl_enumerations.proofs.Lists.{take_whole}
 use Rattle.setl_enumerations.proofs.Operands.{depth_at, depth_more}
 use Rattle.setl_enumerations.proofs.enumerations.are_deep.Goals as goal

@@ -2,7 +2,7 @@ use Rattle.std.proofs.Common.{arith, ap, sym, ◌∙◌, map}
 use Rattle.std.specs.Option.{option_map}
 use Rattle.std.proofs.lemmas.Bool.{ltb-true}
 use Rattle.setl_value.specs.Datum.{depth, set_of}
-use Rattle.setl_value.specs.DatumOf.{datum}
+use Rattle.setl_value.specs.code.DatumOf.{datum}
 use Rattle.setl_set.specs.Sets.{set_from}
 use Rattle.setl_map.specs.Collections.{enumerate_set}
 use Rattle.setl_enumerations.specs.ValueData.{value_data}

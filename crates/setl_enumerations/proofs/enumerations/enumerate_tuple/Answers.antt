@@ -1,7 +1,7 @@
 use Rattle.std.proofs.Common.{arith, ap, sym, ◌∙◌, map}
 use Rattle.std.proofs.lemmas.Bool.{ltb-true}
 use Rattle.setl_value.specs.Datum.{depth, tuple_of}
-use Rattle.setl_value.specs.DatumOf.{part}
+use Rattle.setl_value.specs.code.DatumOf.{part}
 use Rattle.setl_value.specs.WellFormed.{trim}
 use Rattle.setl_enumerations.proofs.Operands.{trim_depth}
 use Rattle.setl_enumerations.proofs.Outcomes.{too_deep}

@@ -1,7 +1,7 @@
 use Rattle.std.proofs.Common.{arith, ap, map}
 use Rattle.std.proofs.lemmas.Bool.Decides.{nat_tests}
 use Rattle.setl_value.specs.Datum.{parts_depth, parts_of}
-use Rattle.setl_value.specs.DatumOf.{part}
+use Rattle.setl_value.specs.code.DatumOf.{part}
 use Rattle.setl_enumerations.proofs.Lists.{take_whole}
 use Rattle.setl_enumerations.proofs.Operands.{parts_at, parts_more}
 use Rattle.setl_enumerations.proofs.enumerations.has_deep.Goals as goal

@@ -3,7 +3,7 @@ use Rattle.std.specs.Int.{int_wrap, w128}
 use Rattle.std.proofs.lemmas.Int.{to_z-of_z, wrapping_add_onto}
 use Rattle.std.proofs.lemmas.List.{map-append}
 use Rattle.setl_value.specs.Datum.{int, elements_depth, elements_of}
-use Rattle.setl_value.specs.DatumOf.{datum}
+use Rattle.setl_value.specs.code.DatumOf.{datum}
 use Rattle.setl_enumerations.proofs.Spreads.{IsOnWay, on_way_more, shallow_more}
 use Rattle.setl_enumerations.proofs.integers.integers.Goals as goal
 

@@ -1,6 +1,6 @@
 use Rattle.std.proofs.Common.{◌≡◌, ◌-◌, map}
 use Rattle.setl_value.specs.Datum.{elements_depth, elements_of}
-use Rattle.setl_value.specs.DatumOf.{datum}
+use Rattle.setl_value.specs.code.DatumOf.{datum}
 use Rattle.setl_enumerations.proofs.Spreads.{IsOnWay}
 use Rattle.setl_enumerations.proofs.integers.integers.Given as goal
 

@@ -2,7 +2,7 @@ use Rattle.std.proofs.Common.{◌≡◌, arith, ap, sym, subst, ◌∙◌, map}
 use Rattle.std.specs.Int.{w128}
 use Rattle.std.proofs.lemmas.Int.{to_z-of_z}
 use Rattle.setl_value.specs.Datum.{parts_depth, parts_of}
-use Rattle.setl_value.specs.DatumOf.{datum, part}
+use Rattle.setl_value.specs.code.DatumOf.{datum, part}
 use Rattle.setl_map.specs.Ranges.{spread}
 use Rattle.setl_enumerations.specs.Integers.{AreWide}
 use Rattle.setl_enumerations.proofs.Outcomes.{depth_all, some_data, tuple_charged}

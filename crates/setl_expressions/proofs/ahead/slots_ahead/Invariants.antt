@@ -1,5 +1,5 @@
 use Rattle.std.proofs.Common.{◌≡◌, ◌-◌, drop}
-use Rattle.setl_reading.specs.Scan as scan
+use Rattle.setl_reading.specs.code.Scan as scan
 use Rattle.setl_expressions.proofs.ahead.slots_ahead.Given as goal
 
 abbrev pub invariant-slots : goal.invariant-slots

@@ -1,5 +1,5 @@
 use Rattle.std.proofs.Common.{◌≡◌}
-use Rattle.setl_reading.specs.Scan as scan
+use Rattle.setl_reading.specs.code.Scan as scan
 use Rattle.setl_expressions.proofs.ahead.slots_as_exprs.Given as goal
 
 abbrev pub invariant-loop-slot : goal.invariant-loop-slot

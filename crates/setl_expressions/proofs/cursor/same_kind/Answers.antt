@@ -1,5 +1,5 @@
 use Rattle.std.proofs.Common.{rules}
-use Rattle.setl_reading.specs.Reading.{same_kind}
+use Rattle.setl_reading.specs.code.Reading.{same_kind}
 use Rattle.setl_expressions.proofs.cursor.same_kind.Goals as goal
 
 pub returns : goal.returns

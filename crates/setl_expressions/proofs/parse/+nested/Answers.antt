@@ -1,5 +1,5 @@
 use Rattle.std.proofs.Common.{◌≡◌, arith}
-use Rattle.setl_reading.specs.ReadExpressions.{nested}
+use Rattle.setl_reading.specs.code.ReadExpressions.{nested}
 use Rattle.setl_expressions.proofs.Turns.{deeper}
 use Rattle.setl_expressions.proofs.Deeper.{refuses}
 use Rattle.setl_expressions.proofs.parse.+nested.Goals as goal

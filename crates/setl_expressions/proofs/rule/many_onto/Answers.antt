@@ -1,6 +1,6 @@
 use Rattle.std.proofs.Common.{◌≡◌, ◌-◌, length, ap, ◌∙◌, rules, arith}
 use Rattle.std.proofs.lemmas.Grind.{common_steps}
-use Rattle.setl_reading.specs.Reading as r
+use Rattle.setl_reading.specs.code.Reading as r
 use Rattle.setl_expressions.proofs.Onto.{starts}
 use Rattle.setl_expressions.proofs.Turns.{one_more, no_more}
 use Rattle.setl_expressions.proofs.rule.many_onto.Goals as goal

@@ -1,6 +1,6 @@
 use Rattle.std.proofs.Common.{◌≡◌, ◌-◌}
-use Rattle.setl_reading.specs.Reading as r
-use Rattle.setl_expressions.specs.Behind.{many_onto}
+use Rattle.setl_reading.specs.code.Reading as r
+use Rattle.setl_expressions.specs.code.Behind.{many_onto}
 use Rattle.setl_expressions.proofs.rule.many_onto.Given as goal
 
 abbrev pub invariant-loop-turn : goal.invariant-loop-turn

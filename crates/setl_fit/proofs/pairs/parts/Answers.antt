@@ -1,5 +1,5 @@
 use Rattle.std.proofs.Common.{sym, ap, ◌∙◌}
-use Rattle.setl_value.specs.DatumOf.{datum}
+use Rattle.setl_value.specs.code.DatumOf.{datum}
 use Rattle.setl_value.specs.Pairs.{pair_parts}
 use Rattle.setl_fit.proofs.PairFacts.{not_two, no_first, no_second, two}
 use Rattle.setl_fit.proofs.pairs.parts.Goals as goal

@@ -1,8 +1,8 @@
 use Rattle.std.proofs.Common.{sym, ap, ◌∙◌, true, ◌≡◌, []}
 use Rattle.std.specs.List.{list_all}
-use Rattle.setl_value.specs.Body.{Members}
+use Rattle.setl_value.specs.code.Body.{Members}
 use Rattle.setl_value.specs.Datum.{part_list-parts_of, set_of, tuple_of}
-use Rattle.setl_value.specs.DatumOf.{datum}
+use Rattle.setl_value.specs.code.DatumOf.{datum}
 use Rattle.setl_modes.specs.Fits.{datum_fits, part_fits}
 use Rattle.setl_modes.specs.Modes.{mode_of}
 use Rattle.setl_fit.proofs.Components.{stops}

@@ -1,7 +1,7 @@
 use Rattle.std.specs.Prelude.{◌≡◌, drop, None}
 use Rattle.std.specs.List.{list_all}
-use Rattle.setl_value.specs.Body.{Members}
-use Rattle.setl_value.specs.DatumOf.{lent}
+use Rattle.setl_value.specs.code.Body.{Members}
+use Rattle.setl_value.specs.code.DatumOf.{lent}
 use Rattle.setl_modes.specs.Fits.{datum_fits, part_fits}
 use Rattle.setl_modes.specs.Modes.{mode_of}
 use Rattle.setl_fit.specs.Neighbours.{member_fits, go_together, all_follow}

@@ -1,6 +1,6 @@
 use Rattle.std.proofs.Common.{◌∙◌, List, Option}
 use Rattle.setl_program.specs.declared.expr.Variable.{Variable}
-use Rattle.setl_program.specs.Plain.{plain_slots}
+use Rattle.setl_program.specs.code.Plain.{plain_slots}
 use Rattle.setl_model.specs.Slots.{variables_in}
 use Rattle.setl_code.specs.Generated.{clear}
 use Rattle.setl_gen.specs.Emitted.{held, after}

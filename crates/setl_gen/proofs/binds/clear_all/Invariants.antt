@@ -1,5 +1,5 @@
 use Rattle.std.proofs.Common.{◌≡◌, drop}
-use Rattle.setl_program.specs.Plain.{plain_iterators}
+use Rattle.setl_program.specs.code.Plain.{plain_iterators}
 use Rattle.setl_model.specs.Iterations.{all_bound}
 use Rattle.setl_code.specs.Generated.{clear}
 use Rattle.setl_gen.specs.Emitted.{held, after}

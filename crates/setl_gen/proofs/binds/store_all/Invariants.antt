@@ -1,5 +1,5 @@
 use Rattle.std.proofs.Common.{◌≡◌, drop}
-use Rattle.setl_program.specs.Plain.{plain_slots}
+use Rattle.setl_program.specs.code.Plain.{plain_slots}
 use Rattle.setl_code.specs.Generated.{store_slots}
 use Rattle.setl_gen.specs.Emitted.{held, after}
 use Rattle.setl_gen.proofs.binds.store_all.Given as goal

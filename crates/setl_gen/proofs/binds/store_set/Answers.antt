@@ -1,6 +1,6 @@
 use Rattle.std.proofs.Common.{◌∙◌, List}
 use Rattle.setl_program.specs.declared.expr.Argument.{Argument}
-use Rattle.setl_program.specs.Plain.{plain_arguments}
+use Rattle.setl_program.specs.code.Plain.{plain_arguments}
 use Rattle.setl_code.specs.Generated.{store_slots, set_by}
 use Rattle.setl_gen.specs.Emitted.{held, after}
 use Rattle.setl_gen.proofs.Emitting.{after_nothing}

@@ -1,5 +1,5 @@
 use Rattle.std.proofs.Common.{◌≡◌, drop}
-use Rattle.setl_program.specs.Plain.{plain_arguments}
+use Rattle.setl_program.specs.code.Plain.{plain_arguments}
 use Rattle.setl_code.specs.Generated.{store_slots, set_by}
 use Rattle.setl_gen.specs.Emitted.{held, after}
 use Rattle.setl_gen.proofs.binds.store_set.Given as goal

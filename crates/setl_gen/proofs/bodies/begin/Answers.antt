@@ -1,5 +1,5 @@
 use Rattle.std.proofs.Common.{map}
-use Rattle.setl_program.specs.Plain.{plain_block, plain_variable}
+use Rattle.setl_program.specs.code.Plain.{plain_block, plain_variable}
 use Rattle.setl_gen.specs.Bodies.{table_of}
 use Rattle.setl_gen.proofs.BodyLemmas.{table_made, blank_made}
 use Rattle.setl_gen.proofs.bodies.begin.Goals as goal

@@ -1,5 +1,5 @@
 use Rattle.std.proofs.Common.{[], refl}
-use Rattle.setl_program.specs.Plain.{plain_block}
+use Rattle.setl_program.specs.code.Plain.{plain_block}
 use Rattle.setl_code.specs.Generated.{main_code}
 use Rattle.setl_gen.specs.Emitted.{held}
 use Rattle.setl_gen.specs.Bodies.{table_of}

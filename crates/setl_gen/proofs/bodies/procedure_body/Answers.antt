@@ -1,4 +1,4 @@
-use Rattle.setl_program.specs.Plain.{plain_block}
+use Rattle.setl_program.specs.code.Plain.{plain_block}
 use Rattle.setl_code.specs.Generated.{procedure_code}
 use Rattle.setl_gen.specs.Emitted.{held}
 use Rattle.setl_gen.specs.Bodies.{table_of}

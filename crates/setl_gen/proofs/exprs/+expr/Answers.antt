@@ -6,7 +6,7 @@ use Rattle.setl_program.specs.declared.expr.Argument.{Argument}
 use Rattle.setl_program.specs.Program as plain
 use Rattle.setl_program.specs.Program.{Connect}
 use Rattle.setl_program.specs.Operators.{one as alone, two}
-use Rattle.setl_program.specs.Plain.{plain_expr, plain_exprs, plain_iterators, plain_binding, plain_arguments, condition_of}
+use Rattle.setl_program.specs.code.Plain.{plain_expr, plain_exprs, plain_iterators, plain_binding, plain_arguments, condition_of}
 use Rattle.setl_code.specs.Code.{Unless}
 use Rattle.setl_code.specs.Piece.{one}
 use Rattle.setl_code.specs.Generated as code

@@ -1,5 +1,5 @@
 use Rattle.std.proofs.Common.{◌≡◌, drop, map}
-use Rattle.setl_program.specs.Plain.{plain_link, plain_exprs, plain_iterators, plain_arguments}
+use Rattle.setl_program.specs.code.Plain.{plain_link, plain_exprs, plain_iterators, plain_arguments}
 use Rattle.setl_program.specs.Lists.{chained}
 use Rattle.setl_code.specs.Generated as code
 use Rattle.setl_gen.specs.Emitted.{Emitted, held, after}

@@ -1,7 +1,7 @@
 use Rattle.std.proofs.Common.{◌≡◌, ◌++◌, drop, map}
 use Rattle.setl_program.specs.Program.{Undefined}
 use Rattle.setl_program.specs.Lists.{chained}
-use Rattle.setl_program.specs.Plain.{plain_link, plain_exprs, plain_iterators, plain_arguments}
+use Rattle.setl_program.specs.code.Plain.{plain_link, plain_exprs, plain_iterators, plain_arguments}
 use Rattle.setl_code.specs.Names.{in_expr, in_exprs, in_iterators, in_arguments}
 use Rattle.setl_gen.proofs.found.+found.Given as goal
 

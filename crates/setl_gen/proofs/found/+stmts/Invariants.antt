@@ -1,5 +1,5 @@
 use Rattle.std.proofs.Common.{◌≡◌, ◌++◌, drop}
-use Rattle.setl_program.specs.Plain.{plain_block}
+use Rattle.setl_program.specs.code.Plain.{plain_block}
 use Rattle.setl_code.specs.Names.{in_block}
 use Rattle.setl_gen.specs.Found.{branch_variables}
 use Rattle.setl_gen.proofs.found.+stmts.Given as goal

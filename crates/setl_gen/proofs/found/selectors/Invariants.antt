@@ -1,5 +1,5 @@
 use Rattle.std.proofs.Common.{◌≡◌, ◌++◌, drop}
-use Rattle.setl_program.specs.Plain.{selectors_of}
+use Rattle.setl_program.specs.code.Plain.{selectors_of}
 use Rattle.setl_code.specs.Names.{in_selectors}
 use Rattle.setl_gen.proofs.found.selectors.Given as goal
 

@@ -1,5 +1,5 @@
 use Rattle.std.proofs.Common.{◌≡◌, ◌++◌, drop}
-use Rattle.setl_program.specs.Plain.{plain_slots}
+use Rattle.setl_program.specs.code.Plain.{plain_slots}
 use Rattle.setl_model.specs.Slots.{variables_in}
 use Rattle.setl_gen.proofs.found.slots.Given as goal
 

@@ -1,5 +1,5 @@
 use Rattle.std.proofs.Common.{◌≡◌, ◌++◌, drop, map}
-use Rattle.setl_program.specs.Plain.{plain_variable}
+use Rattle.setl_program.specs.code.Plain.{plain_variable}
 use Rattle.setl_gen.proofs.found.variables.Given as goal
 
 abbrev pub invariant-loop-x : goal.invariant-loop-x

@@ -1,5 +1,5 @@
 use Rattle.std.proofs.Common.{◌∙◌}
-use Rattle.setl_program.specs.Plain.{selectors_of}
+use Rattle.setl_program.specs.code.Plain.{selectors_of}
 use Rattle.setl_code.specs.Generated as code
 use Rattle.setl_gen.proofs.StmtRounds.{brackets_round, brackets_done}
 use Rattle.setl_gen.proofs.places.brackets.Goals as goal

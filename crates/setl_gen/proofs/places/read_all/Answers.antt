@@ -1,6 +1,6 @@
 use Rattle.std.proofs.Common.{◌∙◌, List, map}
 use Rattle.setl_program.specs.declared.expr.Variable.{Variable}
-use Rattle.setl_program.specs.Plain.{plain_variable}
+use Rattle.setl_program.specs.code.Plain.{plain_variable}
 use Rattle.setl_code.specs.Generated.{read_all}
 use Rattle.setl_gen.specs.Emitted.{held, after}
 use Rattle.setl_gen.proofs.Emitting.{after_nothing}

@@ -1,4 +1,4 @@
-use Rattle.setl_program.specs.Plain.{plain_variable}
+use Rattle.setl_program.specs.code.Plain.{plain_variable}
 use Rattle.setl_code.specs.Code.{ReadOne, StoreIn}
 use Rattle.setl_code.specs.Piece.{one}
 use Rattle.setl_gen.specs.Emitted.{held}

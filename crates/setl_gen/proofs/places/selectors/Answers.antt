@@ -1,6 +1,6 @@
 use Rattle.std.proofs.Common.{◌∙◌, List}
 use Rattle.setl_program.specs.declared.stmt.Selector.{Selector}
-use Rattle.setl_program.specs.Plain.{selectors_of}
+use Rattle.setl_program.specs.code.Plain.{selectors_of}
 use Rattle.setl_code.specs.Generated.{selectors}
 use Rattle.setl_gen.specs.Emitted.{held, after}
 use Rattle.setl_gen.proofs.Emitting.{after_nothing}

@@ -1,5 +1,5 @@
 use Rattle.std.proofs.Common.{◌≡◌, drop}
-use Rattle.setl_program.specs.Plain.{selectors_of}
+use Rattle.setl_program.specs.code.Plain.{selectors_of}
 use Rattle.setl_code.specs.Generated.{selectors}
 use Rattle.setl_gen.specs.Emitted.{held, after}
 use Rattle.setl_gen.proofs.places.selectors.Given as goal

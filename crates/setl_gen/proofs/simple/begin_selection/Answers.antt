@@ -1,6 +1,6 @@
 use Rattle.std.proofs.Common.{◌∙◌, ap}
 use Rattle.setl_program.specs.Program.{begin_of}
-use Rattle.setl_program.specs.Plain.{plain_binding}
+use Rattle.setl_program.specs.code.Plain.{plain_binding}
 use Rattle.setl_code.specs.Code.{BeginOver, NextOr, DupTop}
 use Rattle.setl_code.specs.Piece.{◌⨾◌, one}
 use Rattle.setl_code.specs.Generated.{bind}

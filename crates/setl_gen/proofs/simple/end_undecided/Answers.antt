@@ -1,6 +1,6 @@
 use Rattle.std.proofs.Common.{◌∙◌, ap, Some}
 use Rattle.setl_value.specs.Datum.{bool}
-use Rattle.setl_program.specs.Plain.{plain_iterators}
+use Rattle.setl_program.specs.code.Plain.{plain_iterators}
 use Rattle.setl_model.specs.Iterations.{undecided, all_bound}
 use Rattle.setl_code.specs.Code.{Push}
 use Rattle.setl_code.specs.Piece.{one}

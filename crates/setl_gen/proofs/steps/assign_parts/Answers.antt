@@ -1,4 +1,4 @@
-use Rattle.setl_program.specs.Plain.{plain_slots, plain_expr}
+use Rattle.setl_program.specs.code.Plain.{plain_slots, plain_expr}
 use Rattle.setl_code.specs.Generated as code
 use Rattle.setl_gen.specs.Emitted.{held}
 use Rattle.setl_gen.proofs.Emitting.{then_made}

@@ -1,4 +1,4 @@
-use Rattle.setl_program.specs.Plain.{plain_expr}
+use Rattle.setl_program.specs.code.Plain.{plain_expr}
 use Rattle.setl_code.specs.Code.{DropTop}
 use Rattle.setl_code.specs.Piece.{one}
 use Rattle.setl_code.specs.Generated as code

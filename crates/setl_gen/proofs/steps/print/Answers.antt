@@ -1,5 +1,5 @@
 use Rattle.std.proofs.Common.{◌∙◌, ap}
-use Rattle.setl_program.specs.Plain.{plain_exprs}
+use Rattle.setl_program.specs.code.Plain.{plain_exprs}
 use Rattle.setl_code.specs.Code.{PrintTop}
 use Rattle.setl_code.specs.Piece.{one}
 use Rattle.setl_code.specs.Generated as code

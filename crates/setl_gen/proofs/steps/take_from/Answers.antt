@@ -1,5 +1,5 @@
 use Rattle.std.proofs.Common.{[], ◌∷◌, Some}
-use Rattle.setl_program.specs.Plain.{plain_variable, selectors_of}
+use Rattle.setl_program.specs.code.Plain.{plain_variable, selectors_of}
 use Rattle.setl_code.specs.Code.{TakingOut}
 use Rattle.setl_code.specs.Generated as code
 use Rattle.setl_gen.specs.Emitted.{held}

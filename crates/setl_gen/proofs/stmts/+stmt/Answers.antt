@@ -1,7 +1,7 @@
 use Rattle.std.proofs.Common.{◌∙◌, List, map}
 use Rattle.std.specs.Option.{option_map}
 use Rattle.setl_program.specs.declared.stmt.Stmt.{Stmt}
-use Rattle.setl_program.specs.Plain.{plain_expr, plain_iterators, plain_block, plain_branch, otherwise, condition_of}
+use Rattle.setl_program.specs.code.Plain.{plain_expr, plain_iterators, plain_block, plain_branch, otherwise, condition_of}
 use Rattle.setl_code.specs.Generated as code
 use Rattle.setl_gen.specs.Emitted.{held, after, closed}
 use Rattle.setl_gen.proofs.Emitting.{after_nothing}

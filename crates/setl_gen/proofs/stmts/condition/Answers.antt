@@ -1,6 +1,6 @@
 use Rattle.std.proofs.Common.{◌∙◌, ap, sym}
 use Rattle.std.specs.Option.{option_map}
-use Rattle.setl_program.specs.Plain.{plain_expr, condition_of}
+use Rattle.setl_program.specs.code.Plain.{plain_expr, condition_of}
 use Rattle.setl_code.specs.Generated as code
 use Rattle.setl_gen.specs.Emitted.{held, after}
 use Rattle.setl_gen.proofs.Emitting.{after_nothing}

@@ -1,6 +1,6 @@
 use Rattle.std.proofs.Common.{◌≡◌, ap, sym, ◌∙◌, arith, is_eq, true, false}
-use Rattle.setl_value.specs.Body.{Members}
-use Rattle.setl_value.specs.DatumOf.{datum}
+use Rattle.setl_value.specs.code.Body.{Members}
+use Rattle.setl_value.specs.code.DatumOf.{datum}
 use Rattle.setl_value.specs.Order.{datum_cmp}
 use Rattle.setl_iterator.proofs.PointSteps.{run_more, run_ends}
 use Rattle.setl_iterator.proofs.points.end_of.Goals as goal

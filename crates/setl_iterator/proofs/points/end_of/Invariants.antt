@@ -1,8 +1,8 @@
 use Rattle.std.proofs.Common.{◌≡◌, ◌+◌, drop}
 use Rattle.std.specs.List.{prefix_len}
-use Rattle.setl_value.specs.Body.{Members}
-use Rattle.setl_value.specs.DatumOf.{datum}
-use Rattle.setl_map.specs.Points.{is_at}
+use Rattle.setl_value.specs.code.Body.{Members}
+use Rattle.setl_value.specs.code.DatumOf.{datum}
+use Rattle.setl_map.specs.code.Points.{is_at}
 use Rattle.setl_iterator.proofs.points.end_of.Given as goal
 
 abbrev pub invariant-loop-end : goal.invariant-loop-end

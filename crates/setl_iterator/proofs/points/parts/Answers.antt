@@ -1,6 +1,6 @@
 use Rattle.std.proofs.Common.{ap, ◌∙◌, Some}
-use Rattle.setl_value.specs.Body.{Members}
-use Rattle.setl_value.specs.DatumOf.{datum}
+use Rattle.setl_value.specs.code.Body.{Members}
+use Rattle.setl_value.specs.code.DatumOf.{datum}
 use Rattle.setl_iterator.proofs.PointSteps.{member_is_pair, member_parts, pair_is_tuple, pair_is, first_there, second_there}
 use Rattle.setl_iterator.proofs.points.parts.Goals as goal
 

@@ -1,5 +1,5 @@
 use Rattle.std.proofs.Common.{◌∷◌, ◌+◌, ap, sym, ◌∙◌, drop, refl}
-use Rattle.setl_value.specs.DatumOf.{lent}
+use Rattle.setl_value.specs.code.DatumOf.{lent}
 use Rattle.setl_model.specs.Core.{One}
 use Rattle.setl_model.specs.Iterations.{singles}
 use Rattle.setl_iterator.proofs.Lists.{drop_at, component_at}

@@ -1,7 +1,7 @@
 use Rattle.std.proofs.Common.{◌+◌, ◌<◌, ◌^◌, arith}
 use Rattle.std.specs.Int.{w128}
 use Rattle.std.proofs.lemmas.Int.{to_z_pos}
-use Rattle.setl_value.specs.DatumOf.{lent, part}
+use Rattle.setl_value.specs.code.DatumOf.{lent, part}
 use Rattle.setl_iterator.proofs.Lists.{component_at, place_at}
 use Rattle.setl_iterator.proofs.rests.next_place.Goals as goal
 

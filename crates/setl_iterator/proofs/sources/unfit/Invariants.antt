@@ -1,5 +1,5 @@
 use Rattle.std.proofs.Common.{◌≡◌, drop, map}
-use Rattle.setl_value.specs.DatumOf.{part}
+use Rattle.setl_value.specs.code.DatumOf.{part}
 use Rattle.setl_map.specs.Outcome.{all_values}
 use Rattle.setl_iterator.specs.Operands.{fault_of}
 use Rattle.setl_iterator.proofs.sources.unfit.Given as goal

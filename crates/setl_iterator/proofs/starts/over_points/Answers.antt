@@ -1,6 +1,6 @@
 use Rattle.std.proofs.Common.{ap, sym, ◌∙◌}
-use Rattle.setl_value.specs.Body.{Members}
-use Rattle.setl_value.specs.DatumOf.{datum}
+use Rattle.setl_value.specs.code.Body.{Members}
+use Rattle.setl_value.specs.code.DatumOf.{datum}
 use Rattle.setl_model.specs.Iterations.{Starts, place_points, points_of}
 use Rattle.setl_iterator.specs.Points.{points}
 use Rattle.setl_iterator.proofs.Wholes.{map_points_of, no_points_of, tuple_points}

@@ -1,6 +1,6 @@
 use Rattle.std.proofs.Common.{ap, sym, ◌∙◌}
-use Rattle.setl_value.specs.Body.{Members}
-use Rattle.setl_value.specs.DatumOf.{datum}
+use Rattle.setl_value.specs.code.Body.{Members}
+use Rattle.setl_value.specs.code.DatumOf.{datum}
 use Rattle.setl_model.specs.Iterations.{Starts, members, singles, values_of}
 use Rattle.setl_iterator.proofs.Wholes.{set_values, tuple_values}
 use Rattle.setl_iterator.proofs.starts.over_values.Goals as goal

@@ -1,5 +1,5 @@
 use Rattle.std.proofs.Common.{◌∙◌, ap, inl, inr, Some, None}
-use Rattle.setl_value.specs.DatumOf.{datum}
+use Rattle.setl_value.specs.code.DatumOf.{datum}
 use Rattle.setl_machine.proofs.Components.{component_there, component_behind}
 use Rattle.setl_machine.proofs.iterating.component.Goals as goal
 

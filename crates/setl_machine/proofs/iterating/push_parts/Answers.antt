@@ -1,4 +1,4 @@
-use Rattle.setl_value.specs.DatumOf.{part}
+use Rattle.setl_value.specs.code.DatumOf.{part}
 use Rattle.setl_machine.proofs.Components.{pushed_one}
 use Rattle.setl_machine.proofs.iterating.push_parts.Goals as goal
 

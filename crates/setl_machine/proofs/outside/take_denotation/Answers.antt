@@ -1,5 +1,5 @@
 use Rattle.std.proofs.Common.{true, Ok, Err, refl, ap}
-use Rattle.setl_text.specs.Reads.{ahead}
+use Rattle.setl_text.specs.code.Reads.{ahead}
 use Rattle.setl_text.specs.declared.Got.TheVariants.{Value, Om, End}
 use Rattle.setl_machine.specs.Control.{ControlState}
 use Rattle.setl_machine.proofs.Denotations.{taken_in}

@@ -1,7 +1,7 @@
 use Rattle.std.proofs.Common.{◌≡◌, ◌∙◌, ap, sym, subst, arith, map}
 use Rattle.std.proofs.lemmas.List.Filters.{dedup_is}
 use Rattle.setl_value.specs.Datum.{depth, set_of}
-use Rattle.setl_value.specs.DatumOf.{datum}
+use Rattle.setl_value.specs.code.DatumOf.{datum}
 use Rattle.setl_value.specs.Order.{IsRising}
 use Rattle.setl_set.specs.Sets.{set_from}
 use Rattle.setl_map.proofs.Gathering.{same_values, rising_dedup, deduped, depth_set_from}

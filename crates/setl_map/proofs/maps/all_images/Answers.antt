@@ -1,15 +1,15 @@
 use Rattle.std.proofs.Common.{arith, ◌+◌, ◌∙◌, ap, sym, subst}
-use Rattle.setl_value.specs.Body.{Members}
+use Rattle.setl_value.specs.code.Body.{Members}
 use Rattle.setl_value.specs.Datum.{depth, set_of}
-use Rattle.setl_value.specs.DatumOf.{datum}
+use Rattle.setl_value.specs.code.DatumOf.{datum}
 use Rattle.setl_value.specs.Order.{IsRising}
-use Rattle.setl_value.specs.Places.{rank}
+use Rattle.setl_value.specs.code.Places.{rank}
 use Rattle.setl_map.proofs.Bounds.{rising_from_set}
 use Rattle.setl_map.proofs.PairFacts.{all_pairs}
 use Rattle.setl_map.proofs.Spans.{split_by_bounds}
 use Rattle.std.proofs.Common.{◌≡◌, map, slice_range, false}
 use Rattle.std.specs.List.{filter_map}
-use Rattle.setl_map.specs.Points.{part_at}
+use Rattle.setl_map.specs.code.Points.{part_at}
 use Rattle.setl_map.proofs.MapResults.{images_between, rising_images, depth_parts, depth_range, span_is}
 use Rattle.setl_map.proofs.maps.all_images.Goals as goal
 

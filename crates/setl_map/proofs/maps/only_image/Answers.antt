@@ -1,14 +1,14 @@
 use Rattle.std.proofs.Common.{arith, ◌+◌, ◌≡◌, ◌∙◌, ap, sym}
-use Rattle.setl_value.specs.Body.{Members}
-use Rattle.setl_value.specs.DatumOf.{datum}
+use Rattle.setl_value.specs.code.Body.{Members}
+use Rattle.setl_value.specs.code.DatumOf.{datum}
 use Rattle.setl_map.proofs.PairFacts.{all_pairs}
 use Rattle.setl_map.proofs.Spans.{split_by_bounds}
 use Rattle.std.proofs.Common.{length, map, slice_range, false}
 use Rattle.std.specs.List.{filter_map}
 use Rattle.std.proofs.lemmas.List.{length-map}
-use Rattle.setl_value.specs.Places.{rank}
+use Rattle.setl_value.specs.code.Places.{rank}
 use Rattle.setl_map.specs.Maps.{only}
-use Rattle.setl_map.specs.Points.{part_at}
+use Rattle.setl_map.specs.code.Points.{part_at}
 use Rattle.setl_map.proofs.MapResults.{images_between, length_images, not_only, only_popped, span_is}
 use Rattle.setl_map.proofs.maps.only_image.Goals as goal
 

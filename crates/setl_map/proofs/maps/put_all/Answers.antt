@@ -1,7 +1,7 @@
 use Rattle.std.proofs.Common.{arith, ◌≡◌, sym, ◌∙◌, rules, true, refl, Err}
 use Rattle.std.proofs.lemmas.Bool.{ltb-true, ltb-false}
-use Rattle.setl_value.specs.Body.{Members}
-use Rattle.setl_value.specs.DatumOf.{datum}
+use Rattle.setl_value.specs.code.Body.{Members}
+use Rattle.setl_value.specs.code.DatumOf.{datum}
 use Rattle.setl_value.specs.Pairs.{is_map}
 use Rattle.setl_map.specs.declared.MapFault.TheVariants.{Deep}
 use Rattle.setl_map.proofs.MapResults.{deep_put_all}

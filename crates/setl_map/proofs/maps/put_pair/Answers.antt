@@ -1,9 +1,9 @@
 use Rattle.std.proofs.Common.{arith, ◌+◌, ◌≡◌, ◌∙◌, ap, sym, subst, take, drop, map, ◌++◌, OnOk, Some}
-use Rattle.setl_value.specs.Body.{Members}
+use Rattle.setl_value.specs.code.Body.{Members}
 use Rattle.setl_value.specs.Datum.{depth, set_of}
-use Rattle.setl_value.specs.DatumOf.{datum}
+use Rattle.setl_value.specs.code.DatumOf.{datum}
 use Rattle.setl_value.specs.Order.{IsRising}
-use Rattle.setl_value.specs.Places.{rank}
+use Rattle.setl_value.specs.code.Places.{rank}
 use Rattle.setl_map.proofs.Bounds.{rising_from_set}
 use Rattle.setl_map.proofs.PairFacts.{all_pairs}
 use Rattle.setl_map.proofs.Spans.{split_by_bounds}

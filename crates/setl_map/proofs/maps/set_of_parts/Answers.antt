@@ -1,9 +1,9 @@
 use Rattle.std.proofs.Common.{arith, ◌∙◌, ap, take}
-use Rattle.setl_value.specs.Body.{Members}
+use Rattle.setl_value.specs.code.Body.{Members}
 use Rattle.setl_value.specs.Datum.{depth, set_of}
 use Rattle.std.specs.List.{filter_map}
 use Rattle.setl_set.specs.Sets.{set_from}
-use Rattle.setl_map.specs.Points.{part_at}
+use Rattle.setl_map.specs.code.Points.{part_at}
 use Rattle.setl_map.proofs.MapResults.{depth_parts, depth_take, take_whole}
 use Rattle.setl_map.proofs.maps.set_of_parts.Goals as goal
 

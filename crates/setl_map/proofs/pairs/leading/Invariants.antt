@@ -1,9 +1,9 @@
 use Rattle.std.proofs.Common.{◌≡◌, ◌≤◌, ◌+◌, drop, length}
 use Rattle.std.specs.List.{prefix_len}
-use Rattle.setl_value.specs.Body.{Members}
-use Rattle.setl_value.specs.DatumOf.{datum}
-use Rattle.setl_value.specs.Places.{rank}
-use Rattle.setl_map.specs.Points.{is_at}
+use Rattle.setl_value.specs.code.Body.{Members}
+use Rattle.setl_value.specs.code.DatumOf.{datum}
+use Rattle.setl_value.specs.code.Places.{rank}
+use Rattle.setl_map.specs.code.Points.{is_at}
 use Rattle.setl_map.proofs.pairs.leading.Given as goal
 
 abbrev pub invariant-loop-count : goal.invariant-loop-count

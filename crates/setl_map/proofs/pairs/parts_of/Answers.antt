@@ -1,7 +1,7 @@
 use Rattle.std.proofs.Common.{◌≡◌, ◌+◌, ◌-◌, ◌++◌, ◌∷◌, ◌∙◌, suc, ap, sym, arith, map, take}
 use Rattle.std.specs.List.{filter_map}
-use Rattle.setl_value.specs.DatumOf.{datum}
-use Rattle.setl_map.specs.Points.{part_at}
+use Rattle.setl_value.specs.code.DatumOf.{datum}
+use Rattle.setl_map.specs.code.Points.{part_at}
 use Rattle.setl_map.proofs.Lists.{one_more_part}
 use Rattle.setl_map.proofs.pairs.parts_of.Goals as goal
 

@@ -1,7 +1,7 @@
 use Rattle.std.proofs.Common.{◌≡◌, ◌++◌, ◌-◌, map, take}
 use Rattle.std.specs.List.{filter_map}
-use Rattle.setl_value.specs.DatumOf.{datum}
-use Rattle.setl_map.specs.Points.{part_at}
+use Rattle.setl_value.specs.code.DatumOf.{datum}
+use Rattle.setl_map.specs.code.Points.{part_at}
 use Rattle.setl_map.proofs.pairs.parts_of.Given as goal
 
 abbrev pub invariant-loop : goal.invariant-loop

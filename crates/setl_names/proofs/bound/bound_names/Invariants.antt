@@ -1,6 +1,6 @@
 use Rattle.std.proofs.Common.{◌≡◌, drop}
 use Rattle.setl_names.specs.Occurrences as spec
-use Rattle.setl_names.specs.Walks.{here, after}
+use Rattle.setl_names.specs.code.Walks.{here, after}
 use Rattle.setl_names.proofs.bound.bound_names.Given as goal
 
 abbrev pub invariant-loop-name : goal.invariant-loop-name

@@ -5,7 +5,7 @@ use Rattle.setl_tree.specs.declared.expr.Iter.{Iter}
 use Rattle.setl_names.specs.declared.occurrence.Occurrence.{Occurrence}
 use Rattle.setl_names.specs.declared.walk.Walk.{Walk}
 use Rattle.setl_names.specs.Occurrences.{part, turn, standing_in, own_turns, names_of_turns, names_of_bound, bound}
-use Rattle.setl_names.specs.Walks.{here, after, with_own, inside_former}
+use Rattle.setl_names.specs.code.Walks.{here, after, with_own, inside_former}
 use Rattle.setl_names.proofs.Formers.{scoped, owning, turned, turn_walked, former_walked, filter_walked, is_former, is_filter}
 use Rattle.setl_names.proofs.expressions.+standing.Goals as goal
 

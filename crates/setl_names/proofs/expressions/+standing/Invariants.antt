@@ -1,6 +1,6 @@
 use Rattle.std.proofs.Common.{◌≡◌, drop, map}
 use Rattle.setl_names.specs.Occurrences as spec
-use Rattle.setl_names.specs.Walks.{here, after, with_own}
+use Rattle.setl_names.specs.code.Walks.{here, after, with_own}
 use Rattle.setl_names.proofs.expressions.+standing.Given as goal
 
 abbrev pub invariant-exprs-loop-x : goal.invariant-exprs-loop-x

@@ -1,6 +1,6 @@
 use Rattle.std.proofs.Common.{◌≡◌, ◌++◌, drop, map}
 use Rattle.setl_names.specs.Occurrences as spec
-use Rattle.setl_names.specs.Scopes.{place}
+use Rattle.setl_names.specs.code.Scopes.{place}
 use Rattle.setl_names.proofs.expressions.arguments.Given as goal
 
 abbrev pub invariant-loop-x : goal.invariant-loop-x

@@ -1,6 +1,6 @@
 use Rattle.std.proofs.Common.{◌≡◌, drop, map}
 use Rattle.setl_names.specs.Bodies.{proc_body}
-use Rattle.setl_names.specs.Found.{with_bodies}
+use Rattle.setl_names.specs.code.Found.{with_bodies}
 use Rattle.setl_names.proofs.program.resolve_procs.Given as goal
 
 abbrev pub invariant-loop-proc : goal.invariant-loop-proc

@@ -1,5 +1,5 @@
 use Rattle.setl_names.specs.Rules.{stored}
-use Rattle.setl_names.specs.Stores.{stores_of}
+use Rattle.setl_names.specs.code.Stores.{stores_of}
 use Rattle.setl_names.proofs.Calls.{stores_end, stores_step}
 use Rattle.setl_names.proofs.rules.find_stores.Goals as goal
 

@@ -1,7 +1,7 @@
 use Rattle.std.proofs.Common.{◌≡◌, drop, map}
-use Rattle.setl_names.specs.Scopes.{no_scope}
+use Rattle.setl_names.specs.code.Scopes.{no_scope}
 use Rattle.setl_names.specs.Statements as spec
-use Rattle.setl_names.specs.Walks.{here, after}
+use Rattle.setl_names.specs.code.Walks.{here, after}
 use Rattle.setl_names.proofs.statements.+statements.Given as goal
 
 abbrev pub invariant-stmts-loop-x : goal.invariant-stmts-loop-x

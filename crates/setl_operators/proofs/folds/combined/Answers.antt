@@ -1,5 +1,5 @@
 use Rattle.std.proofs.Common.{arith, ◌-◌}
-use Rattle.setl_value.specs.DatumOf.{datum, part}
+use Rattle.setl_value.specs.code.DatumOf.{datum, part}
 use Rattle.setl_operators.proofs.Charges.{within_left}
 use Rattle.setl_operators.proofs.folds.combined.Goals as goal
 

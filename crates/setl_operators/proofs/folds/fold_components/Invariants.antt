@@ -1,5 +1,5 @@
 use Rattle.std.proofs.Common.{◌≡◌, ◌-◌, ◌≤◌, drop}
-use Rattle.setl_value.specs.DatumOf.{part}
+use Rattle.setl_value.specs.code.DatumOf.{part}
 use Rattle.setl_map.specs.Folds.{fold_on, fold_list}
 use Rattle.setl_map.specs.Outcome.{adding}
 use Rattle.setl_operators.specs.Combinations.{combination}

@@ -1,6 +1,6 @@
 use Rattle.std.proofs.Common.{◌≡◌, ◌-◌, ◌≤◌, map, Some}
-use Rattle.setl_value.specs.Body.{Members}
-use Rattle.setl_value.specs.DatumOf.{part}
+use Rattle.setl_value.specs.code.Body.{Members}
+use Rattle.setl_value.specs.code.DatumOf.{part}
 use Rattle.setl_map.specs.Folds.{fold_on, fold_list}
 use Rattle.setl_map.specs.Outcome.{adding}
 use Rattle.setl_operators.specs.Combinations.{combination}

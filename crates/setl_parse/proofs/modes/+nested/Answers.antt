@@ -1,5 +1,5 @@
 use Rattle.std.proofs.Common.{◌≡◌, refl, arith}
-use Rattle.setl_reading.specs.ReadModes.{nested_mode}
+use Rattle.setl_reading.specs.code.ReadModes.{nested_mode}
 use Rattle.setl_parse.proofs.Deeper.{deeper}
 use Rattle.setl_parse.proofs.modes.+nested.Goals as goal
 

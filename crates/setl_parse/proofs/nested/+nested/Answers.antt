@@ -1,5 +1,5 @@
 use Rattle.std.proofs.Common.{◌≡◌, refl, arith}
-use Rattle.setl_reading.specs.ReadStatements.{nested_stmts, stmts}
+use Rattle.setl_reading.specs.code.ReadStatements.{nested_stmts, stmts}
 use Rattle.setl_parse.proofs.Deeper.{deeper}
 use Rattle.setl_parse.proofs.nested.+nested.Goals as goal
 

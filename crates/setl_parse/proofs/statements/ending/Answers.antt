@@ -1,6 +1,6 @@
 use Rattle.std.proofs.Common.{arith, rules}
 use Rattle.std.proofs.lemmas.Grind.{common_steps}
-use Rattle.setl_reading.specs.ReadStatements.{ending}
+use Rattle.setl_reading.specs.code.ReadStatements.{ending}
 use Rattle.setl_expressions.specs.Plain.{next_token}
 use Rattle.setl_parse.proofs.statements.ending.Goals as goal
 

@@ -1,5 +1,5 @@
 use Rattle.std.proofs.Common.{◌∙◌}
-use Rattle.setl_value.specs.DatumOf.{datum}
+use Rattle.setl_value.specs.code.DatumOf.{datum}
 use Rattle.setl_set.proofs.Places.{found_or_absent}
 use Rattle.setl_set.proofs.member.has.Goals as goal
 

@@ -1,7 +1,7 @@
 use Rattle.std.proofs.Common.{◌∙◌}
-use Rattle.setl_value.specs.Body.{Members}
-use Rattle.setl_value.specs.DatumOf.{datum}
-use Rattle.setl_value.specs.Places.{rank}
+use Rattle.setl_value.specs.code.Body.{Members}
+use Rattle.setl_value.specs.code.DatumOf.{datum}
+use Rattle.setl_value.specs.code.Places.{rank}
 use Rattle.setl_set.proofs.Places.{rising_from_set, removed, remove_absent, absent, found_within}
 use Rattle.setl_set.proofs.member.less.Goals as goal
 

@@ -1,9 +1,9 @@
 use Rattle.std.proofs.Common.{◌≤◌, ◌+◌, ◌∙◌, arith, sym, subst}
-use Rattle.setl_value.specs.Body.{Members}
+use Rattle.setl_value.specs.code.Body.{Members}
 use Rattle.setl_value.specs.Datum.{elements_depth, elements_of}
-use Rattle.setl_value.specs.DatumOf.{datum}
+use Rattle.setl_value.specs.code.DatumOf.{datum}
 use Rattle.setl_value.specs.Order.{IsRising}
-use Rattle.setl_value.specs.Places.{rank}
+use Rattle.setl_value.specs.code.Places.{rank}
 use Rattle.setl_set.proofs.Places.{rising_from_set, inserted, insert_there, there, depth_insert}
 use Rattle.setl_set.proofs.Results.{rising_insert}
 use Rattle.setl_set.proofs.member.with.Goals as goal

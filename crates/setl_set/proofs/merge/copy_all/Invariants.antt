@@ -1,5 +1,5 @@
 use Rattle.std.proofs.Common.{◌≡◌, ◌++◌, map}
-use Rattle.setl_value.specs.DatumOf.{datum}
+use Rattle.setl_value.specs.code.DatumOf.{datum}
 use Rattle.setl_set.proofs.merge.copy_all.Given as goal
 
 abbrev pub invariant-loop-v : goal.invariant-loop-v

@@ -1,11 +1,11 @@
 use Rattle.std.proofs.Common.{◌≡◌, ◌≤◌, ◌+◌, None, ◌∙◌, sym, subst, map, arith, inl, inr}
 use Rattle.std.specs.Prelude.{◌⊎◌}
 use Rattle.std.proofs.lemmas.Result.{IfOk-weaker}
-use Rattle.setl_value.specs.Body.{Members}
+use Rattle.setl_value.specs.code.Body.{Members}
 use Rattle.setl_value.specs.Datum.{elements_depth, elements_of}
-use Rattle.setl_value.specs.DatumOf.{datum}
+use Rattle.setl_value.specs.code.DatumOf.{datum}
 use Rattle.setl_value.specs.Order.{IsRising}
-use Rattle.setl_set.specs.Merge.{IsMerge}
+use Rattle.setl_set.specs.code.Merge.{IsMerge}
 use Rattle.setl_set.proofs.Merging.{merged, merged_whole, is_merge, depth_merged}
 use Rattle.setl_set.proofs.Places.{rising_from_set}
 use Rattle.setl_set.proofs.merge.merge.Goals.{in_default, in_default-2}

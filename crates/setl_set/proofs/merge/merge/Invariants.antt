@@ -1,7 +1,7 @@
 use Rattle.std.proofs.Common.{◌≡◌, ◌++◌, ◌+◌, length, map}
-use Rattle.setl_value.specs.Body.{Members}
-use Rattle.setl_value.specs.DatumOf.{datum}
-use Rattle.setl_set.specs.Merge.{front}
+use Rattle.setl_value.specs.code.Body.{Members}
+use Rattle.setl_value.specs.code.DatumOf.{datum}
+use Rattle.setl_set.specs.code.Merge.{front}
 use Rattle.setl_set.proofs.Merging.{merged}
 use Rattle.setl_set.proofs.merge.merge.Given as goal
 

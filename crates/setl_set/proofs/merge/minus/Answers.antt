@@ -1,7 +1,7 @@
 use Rattle.std.proofs.Common.{◌≡◌, true, false}
 use Rattle.std.proofs.lemmas.Result.{IfOk-weaker}
-use Rattle.setl_value.specs.Body.{Members}
-use Rattle.setl_set.specs.Merge.{IsMerge}
+use Rattle.setl_value.specs.code.Body.{Members}
+use Rattle.setl_set.specs.code.Merge.{IsMerge}
 use Rattle.setl_set.specs.Sets.{minus_of}
 use Rattle.setl_set.proofs.Merging.{is_minus}
 use Rattle.setl_set.proofs.Places.{rising_from_set}

@@ -1,6 +1,6 @@
 use Rattle.std.proofs.Common.{◌≡◌, map, take}
-use Rattle.setl_value.specs.DatumOf.{datum}
-use Rattle.setl_set.specs.Choice.{members_at}
+use Rattle.setl_value.specs.code.DatumOf.{datum}
+use Rattle.setl_set.specs.code.Choice.{members_at}
 use Rattle.setl_set.proofs.power.copies_at.Given as goal
 
 abbrev pub invariant-loop-i : goal.invariant-loop-i

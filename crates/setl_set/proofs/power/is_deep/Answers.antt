@@ -1,6 +1,6 @@
 use Rattle.std.proofs.Common.{◌≡◌, ◌<◌, ◌≤◌, ◌∙◌, sym, arith, length}
 use Rattle.std.proofs.lemmas.Bool.{false≢true, eqb-true, eq-eqb}
-use Rattle.setl_value.specs.Body.{Members}
+use Rattle.setl_value.specs.code.Body.{Members}
 use Rattle.setl_value.specs.Datum.{depth, set_of}
 use Rattle.setl_set.specs.Subsets.{set_of_sets, subsets_between}
 use Rattle.setl_set.proofs.Depths.{deep_when, deep_only}

@@ -1,6 +1,6 @@
 use Rattle.std.proofs.Common.{◌≡◌, ◌<◌, Err, subst}
 use Rattle.std.specs.Prelude.{◌↔◌}
-use Rattle.setl_value.specs.Body.{Members}
+use Rattle.setl_value.specs.code.Body.{Members}
 use Rattle.setl_value.specs.Datum.{depth, set_of}
 use Rattle.setl_set.specs.declared.SetFault.TheVariants.{Deep}
 use Rattle.setl_set.proofs.Depths.{npow_is}

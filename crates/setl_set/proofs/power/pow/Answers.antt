@@ -1,7 +1,7 @@
 use Rattle.std.proofs.Common.{◌≡◌, ◌<◌, ◌∙◌, Err, subst, ap}
 use Rattle.std.specs.Prelude.{◌↔◌}
 use Rattle.std.specs.Result.{IfOk}
-use Rattle.setl_value.specs.Body.{Members}
+use Rattle.setl_value.specs.code.Body.{Members}
 use Rattle.setl_value.specs.Datum.{depth, set_of}
 use Rattle.setl_set.specs.Subsets.{set_of_sets, subsets_between, pow_of}
 use Rattle.setl_set.specs.declared.SetFault.TheVariants.{Deep}

@@ -1,10 +1,10 @@
 use Rattle.std.proofs.Common.{◌≡◌, ◌≤◌, ◌<◌, ◌+◌, ◌∷◌, ◌++◌, [], ◌∙◌, ap, sym, subst, arith, length, map}
 use Rattle.std.proofs.lemmas.Result.{IfOk-weaker}
-use Rattle.setl_value.specs.Body.{Members}
+use Rattle.setl_value.specs.code.Body.{Members}
 use Rattle.setl_value.specs.Datum.{elements_depth, elements_of, set_of}
-use Rattle.setl_value.specs.DatumOf.{datum}
+use Rattle.setl_value.specs.code.DatumOf.{datum}
 use Rattle.setl_value.specs.Order.{IsRising}
-use Rattle.setl_set.specs.Choice.{ArePlaces}
+use Rattle.setl_set.specs.code.Choice.{ArePlaces}
 use Rattle.setl_set.specs.Subsets.{set_of_sets, subsets_between}
 use Rattle.setl_set.proofs.Choices.{choices_are}
 use Rattle.setl_set.proofs.Chosen.{IsSearch, search_chooses, search_goes_back, search_ends, places_chosen, places_wider, last_below, full_at, nothing_chosen, given}

@@ -1,6 +1,6 @@
 use Rattle.std.proofs.Common.{map}
-use Rattle.setl_value.specs.Body.{Members}
-use Rattle.setl_value.specs.DatumOf.{datum}
+use Rattle.setl_value.specs.code.Body.{Members}
+use Rattle.setl_value.specs.code.DatumOf.{datum}
 use Rattle.setl_set.proofs.Chosen.{IsSearch}
 use Rattle.setl_set.proofs.Search.{steps}
 use Rattle.setl_set.proofs.power.subsets.Given as goal

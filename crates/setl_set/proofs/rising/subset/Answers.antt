@@ -1,5 +1,5 @@
 use Rattle.std.proofs.Common.{◌∙◌, sym}
-use Rattle.setl_value.specs.Body.{Members}
+use Rattle.setl_value.specs.code.Body.{Members}
 use Rattle.setl_set.proofs.Included.{included, included_is, none_left, none_right, first_less}
 use Rattle.setl_set.proofs.Places.{rising_from_set}
 use Rattle.setl_set.proofs.rising.subset.Goals as goal

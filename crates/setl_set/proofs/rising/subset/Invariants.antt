@@ -1,6 +1,6 @@
 use Rattle.std.proofs.Common.{◌≡◌, ◌+◌, length}
-use Rattle.setl_value.specs.Body.{Members}
-use Rattle.setl_set.specs.Merge.{front}
+use Rattle.setl_value.specs.code.Body.{Members}
+use Rattle.setl_set.specs.code.Merge.{front}
 use Rattle.setl_set.proofs.Included.{included}
 use Rattle.setl_set.proofs.rising.subset.Given as goal
 

@@ -1,5 +1,5 @@
 use Rattle.std.proofs.Common.{sym, subst}
-use Rattle.setl_value.specs.Body.{Members}
+use Rattle.setl_value.specs.code.Body.{Members}
 use Rattle.setl_value.specs.Order.{IsRising}
 use Rattle.setl_set.proofs.Places.{rising_from_set}
 use Rattle.setl_set.proofs.rising.walk.Goals as goal

@@ -2,7 +2,7 @@ use Rattle.std.proofs.Common.{◌≡◌, ℕ, ◌+◌, [], Ok, refl, sym, ap, su
 use Rattle.setl_tree.specs.Canonical.{canonical}
 use Rattle.setl_tree.specs.Tokens.{Tokens}
 use Rattle.setl_reading.specs.declared.fault.Fault.TheVariants.{Nesting}
-use Rattle.setl_reading.specs.ReadPrograms as reading
+use Rattle.setl_reading.specs.code.ReadPrograms as reading
 use Rattle.setl_show.specs.Text.{text_of}
 use Rattle.setl_expressions.specs.Plain.{plain_tokens}
 use Rattle.setl_spelling.specs.Lines.{bare_tree}

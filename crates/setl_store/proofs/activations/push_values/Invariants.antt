@@ -1,6 +1,6 @@
 use Rattle.std.proofs.Common.{◌≡◌, ◌+◌, ◌-◌, ◌≤◌, ◌++◌, length, map}
 use Rattle.setl_code.specs.CodeCore.{There}
-use Rattle.setl_value.specs.DatumOf.{part}
+use Rattle.setl_value.specs.code.DatumOf.{part}
 use Rattle.setl_store.specs.Flat.{helds}
 use Rattle.setl_store.proofs.activations.push_values.Given as goal
 

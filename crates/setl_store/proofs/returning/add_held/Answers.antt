@@ -1,5 +1,5 @@
 use Rattle.std.proofs.Common.{None, Some, ◌∙◌, sym, ap}
-use Rattle.setl_value.specs.DatumOf.{part}
+use Rattle.setl_value.specs.code.DatumOf.{part}
 use Rattle.setl_code.specs.CodeCore.{There}
 use Rattle.setl_store.specs.Flat.{held_of}
 use Rattle.setl_store.proofs.Leaving.{held_added}

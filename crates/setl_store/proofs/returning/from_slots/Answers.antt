@@ -1,5 +1,5 @@
 use Rattle.std.proofs.Common.{◌-◌, ◌∷◌, length, map, get_or, ap, refl}
-use Rattle.setl_value.specs.DatumOf.{part}
+use Rattle.setl_value.specs.code.DatumOf.{part}
 use Rattle.setl_code.specs.CodeCore as core
 use Rattle.setl_store.proofs.Leaving.{handed_on, handed_none}
 use Rattle.setl_store.proofs.returning.from_slots.Goals as goal

@@ -1,5 +1,5 @@
 use Rattle.std.proofs.Common.{◌≡◌, ◌-◌, List, ◌∷◌, length, map, drop, Some}
-use Rattle.setl_value.specs.DatumOf.{part}
+use Rattle.setl_value.specs.code.DatumOf.{part}
 use Rattle.setl_code.specs.CodeCore as core
 use Rattle.setl_store.specs.Flat.{helds}
 use Rattle.setl_store.specs.Returning.{handed, pushed_on}

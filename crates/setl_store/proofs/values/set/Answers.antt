@@ -1,8 +1,8 @@
 use Rattle.std.proofs.Common.{◌≡◌, ◌∙◌, ap, map, reverse, arith}
 use Rattle.std.proofs.lemmas.Result.{IfOk-weaker}
-use Rattle.setl_value.specs.Body.{Members}
+use Rattle.setl_value.specs.code.Body.{Members}
 use Rattle.setl_value.specs.Datum.{elements_depth, elements_of, set_of}
-use Rattle.setl_value.specs.DatumOf.{datum}
+use Rattle.setl_value.specs.code.DatumOf.{datum}
 use Rattle.setl_set.specs.Sets.{set_from}
 use Rattle.setl_program.specs.declared.kinds.Collection.TheVariants.{OfSet}
 use Rattle.setl_model.specs.Collections.{collection}

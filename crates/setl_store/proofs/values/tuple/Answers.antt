@@ -1,7 +1,7 @@
 use Rattle.std.proofs.Common.{◌≡◌, ◌∙◌, ap, map, reverse, arith}
 use Rattle.std.proofs.lemmas.Result.{IfOk-weaker}
 use Rattle.setl_value.specs.Datum.{parts_depth, parts_of, tuple_of}
-use Rattle.setl_value.specs.DatumOf.{part}
+use Rattle.setl_value.specs.code.DatumOf.{part}
 use Rattle.setl_value.specs.WellFormed.{trim}
 use Rattle.setl_program.specs.declared.kinds.Collection.TheVariants.{OfTuple}
 use Rattle.setl_model.specs.Collections.{collection}

@@ -1,10 +1,10 @@
 use Rattle.std.proofs.Common.{arith, ap, sym, ◌∙◌, subst, Some, map}
 use Rattle.setl_set.specs.Sets.{set_from}
 use Rattle.setl_value.specs.Datum.{depth, set_of}
-use Rattle.setl_value.specs.DatumOf.{datum}
+use Rattle.setl_value.specs.code.DatumOf.{datum}
 use Rattle.setl_text.specs.Bytes.{Brace}
 use Rattle.setl_text.specs.Reading.{close_bracket, taken, put_value}
-use Rattle.setl_text.specs.Scans.{open_of, opens, Feeds}
+use Rattle.setl_text.specs.code.Scans.{open_of, opens, Feeds}
 use Rattle.setl_text.proofs.Shallow.{closed_bound, closed_is, depth_values, depth_set_from, present-values}
 use Rattle.setl_text.proofs.place.close_set.Goals as goal
 

@@ -1,8 +1,8 @@
 use Rattle.std.proofs.Common.{arith, ap, map}
 use Rattle.setl_value.specs.Datum.{parts_depth, parts_of}
-use Rattle.setl_value.specs.DatumOf.{part}
+use Rattle.setl_value.specs.code.DatumOf.{part}
 use Rattle.setl_text.specs.Bytes.{Square}
-use Rattle.setl_text.specs.Scans.{open_of}
+use Rattle.setl_text.specs.code.Scans.{open_of}
 use Rattle.setl_text.proofs.Shallow.{closed_bound, depth_trim}
 use Rattle.setl_text.proofs.place.close_tuple.Goals as goal
 

@@ -1,6 +1,6 @@
 use Rattle.std.proofs.Common.{arith, ap, map}
 use Rattle.setl_value.specs.Datum.{elements_depth, elements_of}
-use Rattle.setl_value.specs.DatumOf.{datum}
+use Rattle.setl_value.specs.code.DatumOf.{datum}
 use Rattle.setl_text.proofs.Shallow.{depth_set_from}
 use Rattle.setl_text.proofs.place.make_set.Goals as goal
 

@@ -1,4 +1,4 @@
-use Rattle.setl_value.specs.DatumOf.{part}
+use Rattle.setl_value.specs.code.DatumOf.{part}
 use Rattle.setl_text.proofs.Shallow.{placed_inside}
 use Rattle.setl_text.proofs.place.place.Goals as goal
 

@@ -1,6 +1,6 @@
 use Rattle.std.proofs.Common.{◌≡◌, ◌≤◌, ◌-◌, ◌++◌, ℕ, List, length, drop}
 use Rattle.setl_text.specs.Reading.{resume}
-use Rattle.setl_text.specs.Scans.{token_of, opens, TokenFits, IsShallow}
+use Rattle.setl_text.specs.code.Scans.{token_of, opens, TokenFits, IsShallow}
 use Rattle.setl_text.proofs.read.scan.Given as goal
 
 abbrev pub invariant-bytes : goal.invariant-bytes

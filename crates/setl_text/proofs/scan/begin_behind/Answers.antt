@@ -1,5 +1,5 @@
 use Rattle.setl_value.specs.Datum.{depth}
-use Rattle.setl_value.specs.DatumOf.{datum}
+use Rattle.setl_value.specs.code.DatumOf.{datum}
 use Rattle.setl_text.proofs.Shallow.{flat_fits}
 use Rattle.setl_text.proofs.scan.begin_behind.Goals as goal
 

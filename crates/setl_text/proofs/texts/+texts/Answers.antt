@@ -1,10 +1,10 @@
 use Rattle.std.proofs.Common.{◌≡◌, ◌∷◌, ◌++◌, ◌∙◌, ap, sym, subst, append_assoc, map, arith, Some, None, slice_get, get_or}
 use Rattle.std.proofs.lemmas.Option.{slice_get-get_or}
-use Rattle.setl_value.specs.Body.{Members}
-use Rattle.setl_value.specs.DatumOf.{datum}
+use Rattle.setl_value.specs.code.Body.{Members}
+use Rattle.setl_value.specs.code.DatumOf.{datum}
 use Rattle.setl_value.specs.Datum.{depth, set_of}
 use Rattle.setl_text.specs.Texts.{inner_text, spaced}
-use Rattle.setl_text.specs.TextParts.{component_text}
+use Rattle.setl_text.specs.code.TextParts.{component_text}
 use Rattle.setl_text.proofs.TextLists.{spaced_more, enclosed_is, members_text, components_text, members_fall, component_falls, behind, spaced_first, AllLess}
 use Rattle.setl_text.proofs.texts.+texts.Goals as goal
 

@@ -1,9 +1,9 @@
 use Rattle.std.proofs.Common.{◌≡◌, ◌+◌, ◌*◌, ◌++◌, take, map}
-use Rattle.setl_value.specs.Body.{Members}
+use Rattle.setl_value.specs.code.Body.{Members}
 use Rattle.setl_value.specs.Datum.{depth, set_of, tuple_of}
-use Rattle.setl_value.specs.DatumOf.{datum}
+use Rattle.setl_value.specs.code.DatumOf.{datum}
 use Rattle.setl_text.specs.Texts.{inner_text, spaced}
-use Rattle.setl_text.specs.TextParts.{component_text}
+use Rattle.setl_text.specs.code.TextParts.{component_text}
 use Rattle.setl_text.proofs.TextLists.{behind, AllLess}
 use Rattle.setl_text.proofs.texts.+texts.Given as goal
 

@@ -1,7 +1,7 @@
 use Rattle.std.proofs.Common.{◌≡◌, [], ap, ◌∙◌, Some, slice_get, map, length}
 use Rattle.std.proofs.lemmas.Option.{slice_get_read, slice_get-map}
 use Rattle.std.specs.Option.{option_map}
-use Rattle.setl_value.specs.DatumOf.{part}
+use Rattle.setl_value.specs.code.DatumOf.{part}
 use Rattle.setl_text.specs.Texts.{argument_text}
 use Rattle.setl_text.proofs.TextLists.{spaced_more}
 use Rattle.setl_text.proofs.texts.line.Goals as goal

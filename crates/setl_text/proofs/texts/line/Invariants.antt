@@ -1,5 +1,5 @@
 use Rattle.std.proofs.Common.{◌≡◌, take, map}
-use Rattle.setl_value.specs.DatumOf.{part}
+use Rattle.setl_value.specs.code.DatumOf.{part}
 use Rattle.setl_text.specs.Texts.{argument_text, spaced}
 use Rattle.setl_text.proofs.texts.line.Given as goal
 

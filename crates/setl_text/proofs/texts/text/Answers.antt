@@ -1,5 +1,5 @@
 use Rattle.std.proofs.Common.{◌++◌, ◌∙◌, ap}
-use Rattle.setl_value.specs.DatumOf.{datum}
+use Rattle.setl_value.specs.code.DatumOf.{datum}
 use Rattle.setl_text.specs.Texts.{inner_text}
 use Rattle.setl_text.proofs.PlainTexts.{no_line_end}
 use Rattle.setl_text.proofs.texts.text.Goals as goal

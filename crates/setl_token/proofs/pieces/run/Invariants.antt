@@ -1,6 +1,6 @@
 use Rattle.std.proofs.Common.{◌≡◌, ◌+◌, ◌-◌, ◌≤◌, length, drop}
 use Rattle.std.specs.List.{prefix_len}
-use Rattle.setl_token.specs.Pieces.{is_in}
+use Rattle.setl_token.specs.code.Pieces.{is_in}
 use Rattle.setl_token.proofs.pieces.run.Given as goal
 
 abbrev pub invariant-loop-end : goal.invariant-loop-end

@@ -1,5 +1,5 @@
 use Rattle.std.proofs.Common.{◌≡◌, ◌-◌, ◌≤◌, ◌<◌, length, drop}
-use Rattle.setl_token.specs.Pieces.{string_end}
+use Rattle.setl_token.specs.code.Pieces.{string_end}
 use Rattle.setl_token.proofs.pieces.string_end.Given as goal
 
 abbrev pub invariant-loop-at : goal.invariant-loop-at

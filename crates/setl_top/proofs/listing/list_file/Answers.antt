@@ -1,5 +1,5 @@
 use Rattle.std.proofs.Common.{refl}
-use Rattle.setl_top.specs.Lists.{not_listed}
+use Rattle.setl_top.specs.code.Lists.{not_listed}
 use Rattle.setl_top.proofs.Loading.{listed_then}
 use Rattle.setl_top.proofs.listing.list_file.Goals as goal
 

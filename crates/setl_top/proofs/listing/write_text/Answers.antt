@@ -1,5 +1,5 @@
 use Rattle.std.proofs.Common.{refl}
-use Rattle.setl_top.specs.Lists.{all_written, write_failed, write_starved}
+use Rattle.setl_top.specs.code.Lists.{all_written, write_failed, write_starved}
 use Rattle.setl_top.proofs.listing.write_text.Goals as goal
 
 pub returns-in-Ok : goal.returns-in-Ok

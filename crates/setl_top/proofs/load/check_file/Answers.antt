@@ -1,4 +1,4 @@
-use Rattle.setl_top.specs.Loads.{checked_so, not_checked}
+use Rattle.setl_top.specs.code.Loads.{checked_so, not_checked}
 use Rattle.setl_top.proofs.load.check_file.Goals as goal
 
 pub returns-in-Err : goal.returns-in-Err

@@ -1,4 +1,4 @@
-use Rattle.setl_top.specs.Loads.{not_accepted, not_read, no_room}
+use Rattle.setl_top.specs.code.Loads.{not_accepted, not_read, no_room}
 use Rattle.setl_top.specs.declared.reason.Reason.TheVariants as reason
 use Rattle.setl_top.proofs.load.load_source.Goals as goal
 

@@ -1,10 +1,10 @@
 use Rattle.std.proofs.Common.{ap, subst, map}
-use Rattle.setl_code.specs.Plain.{plain_code}
+use Rattle.setl_code.specs.code.Plain.{plain_code}
 use Rattle.setl_machine.specs.Control.{ControlState}
 use Rattle.setl_machine.specs.Declaring.{modes_of}
-use Rattle.setl_program.specs.Plain.{plain_declared}
-use Rattle.setl_top.specs.CodeRuns.{RunsCode}
-use Rattle.setl_top.specs.Runs.{streams}
+use Rattle.setl_program.specs.code.Plain.{plain_declared}
+use Rattle.setl_top.specs.code.CodeRuns.{RunsCode}
+use Rattle.setl_top.specs.code.Runs.{streams}
 use Rattle.setl_top.proofs.Declaring.{serves}
 use Rattle.setl_top.proofs.Running.{code_ran}
 use Rattle.setl_top.proofs.run.run_code.Goals as goal

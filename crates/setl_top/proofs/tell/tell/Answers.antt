@@ -1,5 +1,5 @@
 use Rattle.std.proofs.Common.{refl}
-use Rattle.setl_top.specs.Tells.{whole, failed, no_memory}
+use Rattle.setl_top.specs.code.Tells.{whole, failed, no_memory}
 use Rattle.setl_top.proofs.tell.tell.Goals as goal
 
 pub returns-in-Ok : goal.returns-in-Ok

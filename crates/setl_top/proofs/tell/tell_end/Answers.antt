@@ -1,5 +1,5 @@
 use Rattle.std.proofs.Common.{refl}
-use Rattle.setl_top.specs.Tells.{whole}
+use Rattle.setl_top.specs.code.Tells.{whole}
 use Rattle.setl_top.proofs.Fronts.{appends_none}
 use Rattle.setl_top.proofs.tell.tell_end.Goals as goal
 

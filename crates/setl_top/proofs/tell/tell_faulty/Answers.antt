@@ -1,5 +1,5 @@
 use Rattle.std.proofs.Common.{◌++◌, ◌∷◌, [], codes}
-use Rattle.setl_top.specs.Tells.{no_memory}
+use Rattle.setl_top.specs.code.Tells.{no_memory}
 use Rattle.setl_top.proofs.Asked.{line_told}
 use Rattle.setl_top.proofs.Fronts.{front_alone}
 use Rattle.setl_top.proofs.tell.tell_faulty.Goals as goal

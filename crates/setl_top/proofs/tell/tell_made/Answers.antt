@@ -1,5 +1,5 @@
 use Rattle.std.proofs.Common.{◌∙◌, ℕ, List, subst}
-use Rattle.setl_top.specs.Tells.{Tells, no_memory}
+use Rattle.setl_top.specs.code.Tells.{Tells, no_memory}
 use Rattle.setl_top.proofs.Fronts.{front_alone}
 use Rattle.setl_top.proofs.tell.tell_made.Goals as goal
 

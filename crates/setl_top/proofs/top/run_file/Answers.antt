@@ -1,9 +1,9 @@
 use Rattle.std.proofs.Common.{◌∙◌, arith, refl, ap}
-use Rattle.setl_program.specs.Plain.{plain_program}
-use Rattle.setl_words.specs.Commands.{options_now}
+use Rattle.setl_program.specs.code.Plain.{plain_program}
+use Rattle.setl_words.specs.code.Commands.{options_now}
 use Rattle.setl_words.specs.Words.{Run}
 use Rattle.setl_top.specs.Headline.{untouched}
-use Rattle.setl_top.specs.Runs.{counted}
+use Rattle.setl_top.specs.code.Runs.{counted}
 use Rattle.setl_top.proofs.Accepting.{is_accepted}
 use Rattle.setl_top.proofs.Ends.{not_loaded, run_ends, run_takes, tells_then, tells_as}
 use Rattle.setl_top.proofs.Fronts.{appends_none}

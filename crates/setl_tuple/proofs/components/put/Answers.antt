@@ -2,7 +2,7 @@ use Rattle.std.proofs.Common.{◌≡◌, ◌∙◌, ◌-◌, ap, sym, arith, Fit
 use Rattle.std.specs.Int.{w128}
 use Rattle.std.proofs.lemmas.Int.{to_z-of_z}
 use Rattle.std.specs.Prelude.{unsigned_abs}
-use Rattle.setl_value.specs.DatumOf.{part}
+use Rattle.setl_value.specs.code.DatumOf.{part}
 use Rattle.setl_tuple.specs.Tuples.{index_of, put_of}
 use Rattle.setl_tuple.proofs.Depths.{greatest-put}
 use Rattle.setl_tuple.proofs.Puts.{put_inside, put_om_past}

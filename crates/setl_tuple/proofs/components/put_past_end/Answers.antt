@@ -1,6 +1,6 @@
 use Rattle.std.proofs.Common.{◌++◌, ◌∷◌, ◌-◌, [], ap, arith, length, List, Option, Some, None, replicate}
 use Rattle.setl_value.specs.Datum.{Datum}
-use Rattle.setl_value.specs.DatumOf.{datum}
+use Rattle.setl_value.specs.code.DatumOf.{datum}
 use Rattle.setl_tuple.proofs.Depths.{greatest, greatest-append, greatest-om}
 use Rattle.setl_tuple.proofs.components.put_past_end.Goals as goal
 

@@ -1,5 +1,5 @@
 use Rattle.std.proofs.Common.{◌∙◌, ap, arith, Some}
-use Rattle.setl_value.specs.DatumOf.{datum}
+use Rattle.setl_value.specs.code.DatumOf.{datum}
 use Rattle.setl_value.specs.WellFormed.{put, trim}
 use Rattle.setl_tuple.proofs.Depths.{greatest-put}
 use Rattle.setl_tuple.proofs.Puts.{put_end}

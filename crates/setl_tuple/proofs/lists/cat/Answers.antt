@@ -1,6 +1,6 @@
 use Rattle.std.proofs.Common.{◌≡◌, ◌∙◌, ◌++◌, ap, arith, map}
 use Rattle.std.proofs.lemmas.Result.{IfOk-weaker}
-use Rattle.setl_value.specs.DatumOf.{part}
+use Rattle.setl_value.specs.code.DatumOf.{part}
 use Rattle.setl_value.specs.WellFormed.{trim}
 use Rattle.setl_tuple.proofs.Depths.{greatest, greatest-append}
 use Rattle.setl_tuple.proofs.Trimmed.{trimmed_tuple, trimmed-append, trim-trimmed}

@@ -1,6 +1,6 @@
 use Rattle.std.proofs.Common.{◌∙◌, ◌++◌, ap, map}
 use Rattle.std.proofs.lemmas.Result.{on_ok_weaker}
-use Rattle.setl_value.specs.DatumOf.{part}
+use Rattle.setl_value.specs.code.DatumOf.{part}
 use Rattle.setl_tuple.proofs.Puts.{whole_part}
 use Rattle.setl_tuple.proofs.lists.push_all.Goals as goal
 

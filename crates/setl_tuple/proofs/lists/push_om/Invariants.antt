@@ -1,5 +1,5 @@
 use Rattle.std.proofs.Common.{◌≡◌, ◌++◌, map, None, replicate}
-use Rattle.setl_value.specs.DatumOf.{part}
+use Rattle.setl_value.specs.code.DatumOf.{part}
 use Rattle.setl_tuple.proofs.lists.push_om.Given as goal
 
 abbrev pub invariant-loop : goal.invariant-loop

@@ -1,6 +1,6 @@
 use Rattle.std.proofs.Common.{◌∙◌, ◌++◌, ◌∷◌, [], ap, sym, map, slice_range}
 use Rattle.std.proofs.lemmas.List.{map-append, append_assoc}
-use Rattle.setl_value.specs.DatumOf.{part}
+use Rattle.setl_value.specs.code.DatumOf.{part}
 use Rattle.setl_tuple.proofs.Puts.{part_more}
 use Rattle.setl_tuple.proofs.lists.push_part.Goals as goal
 

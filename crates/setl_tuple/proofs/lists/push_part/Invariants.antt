@@ -1,5 +1,5 @@
 use Rattle.std.proofs.Common.{◌≡◌, ◌++◌, map, slice_range}
-use Rattle.setl_value.specs.DatumOf.{part}
+use Rattle.setl_value.specs.code.DatumOf.{part}
 use Rattle.setl_tuple.proofs.lists.push_part.Given as goal
 
 abbrev pub invariant-loop-i : goal.invariant-loop-i

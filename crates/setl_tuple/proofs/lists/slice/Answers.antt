@@ -1,5 +1,5 @@
 use Rattle.std.proofs.Common.{ap, arith, map}
-use Rattle.setl_value.specs.DatumOf.{part}
+use Rattle.setl_value.specs.code.DatumOf.{part}
 use Rattle.setl_tuple.proofs.Depths.{part_shallow}
 use Rattle.setl_tuple.proofs.lists.slice.Goals as goal
 

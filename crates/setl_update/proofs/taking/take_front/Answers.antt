@@ -1,4 +1,4 @@
-use Rattle.setl_value.specs.DatumOf.{datum}
+use Rattle.setl_value.specs.code.DatumOf.{datum}
 use Rattle.setl_update.proofs.Takings.{front_taken}
 use Rattle.setl_update.proofs.taking.take_front.Goals as goal
 

@@ -4,9 +4,9 @@ use Rattle.std.proofs.lemmas.Option.{slice_get-map}
 use Rattle.std.proofs.lemmas.List.{length-map}
 use Rattle.setl_value.proofs.Bodies.{set_at, member_there}
 use Rattle.setl_value.proofs.Paging.{member_of}
-use Rattle.setl_value.specs.Body.{Members, joined}
-use Rattle.setl_value.specs.DatumOf.{datum, page}
-use Rattle.setl_value.specs.Places.{page_at, rank_in}
+use Rattle.setl_value.specs.code.Body.{Members, joined}
+use Rattle.setl_value.specs.code.DatumOf.{datum, page}
+use Rattle.setl_value.specs.code.Places.{page_at, rank_in}
 use Rattle.setl_value.specs.WellFormed.{IsSetList}
 use Rattle.setl_value.proofs.Pages.at.Goals as goal
 

@@ -1,9 +1,9 @@
 use Rattle.std.proofs.Common.{sym, subst, map}
-use Rattle.setl_value.specs.Body.{Members, joined}
-use Rattle.setl_value.specs.DatumOf.{page}
+use Rattle.setl_value.specs.code.Body.{Members, joined}
+use Rattle.setl_value.specs.code.DatumOf.{page}
 use Rattle.setl_value.specs.Order.{IsRising}
-use Rattle.setl_value.specs.Places.{IsBound, page_at, rank, rank_in}
-use Rattle.setl_value.specs.Sought.{sought}
+use Rattle.setl_value.specs.code.Places.{IsBound, page_at, rank, rank_in}
+use Rattle.setl_value.specs.code.Sought.{sought}
 use Rattle.setl_value.proofs.Bodies.{set_facts}
 use Rattle.setl_value.proofs.PageSearch.{bound_in_page, rising_page}
 use Rattle.setl_value.proofs.Pages.bound.Goals as goal

@@ -4,10 +4,10 @@ use Rattle.setl_value.proofs.Counting.{cut_joined, cut_counted}
 use Rattle.setl_value.proofs.Depths.{set_without}
 use Rattle.setl_value.proofs.Others.{count_remove}
 use Rattle.setl_value.proofs.Paging.{member_of}
-use Rattle.setl_value.specs.Body.{Members, joined}
+use Rattle.setl_value.specs.code.Body.{Members, joined}
 use Rattle.setl_value.specs.Datum.{depth, set_of}
-use Rattle.setl_value.specs.DatumOf.{datum, page}
-use Rattle.setl_value.specs.Places.{HasPlace, page_at, rank, rank_in}
+use Rattle.setl_value.specs.code.DatumOf.{datum, page}
+use Rattle.setl_value.specs.code.Places.{HasPlace, page_at, rank, rank_in}
 use Rattle.setl_value.proofs.Pages.cut_in.Goals as goal
 
 pub depth_without-self-inside-requires-clause-cut : goal.depth_without-self-inside-requires-clause-cut

@@ -3,7 +3,7 @@ use Rattle.std.specs.List.{AllByRecursion}
 use Rattle.std.proofs.lemmas.List.{length-map}
 use Rattle.setl_value.proofs.Bodies.{set_from}
 use Rattle.setl_value.specs.Datum.{depth, set_of}
-use Rattle.setl_value.specs.DatumOf.{datum}
+use Rattle.setl_value.specs.code.DatumOf.{datum}
 use Rattle.setl_value.specs.Pairs.{other_count}
 use Rattle.setl_value.specs.WellFormed.{IsSetList, IsWellFormed}
 use Rattle.setl_value.proofs.Pages.from_rising.Goals as goal

@@ -1,7 +1,7 @@
 use Rattle.std.proofs.Common.{sym, subst, map}
 use Rattle.std.specs.Prelude.{refl}
-use Rattle.setl_value.specs.Counted.{IsCounted}
-use Rattle.setl_value.specs.DatumOf.{page}
+use Rattle.setl_value.specs.code.Counted.{IsCounted}
+use Rattle.setl_value.specs.code.DatumOf.{page}
 use Rattle.setl_value.proofs.Bodies.{set_empty}
 use Rattle.setl_value.proofs.Pages.new.Goals as goal
 

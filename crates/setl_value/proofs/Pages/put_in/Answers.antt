@@ -3,12 +3,12 @@ use Rattle.std.specs.Prelude.{is_some}
 use Rattle.std.specs.List.{insert}
 use Rattle.setl_value.proofs.Counting.{put_joined, put_counted}
 use Rattle.setl_value.proofs.Others.{counted_at_most_length, at_most_one}
-use Rattle.setl_value.specs.Body.{Members, joined}
+use Rattle.setl_value.specs.code.Body.{Members, joined}
 use Rattle.setl_value.specs.Datum.{depth, set_of}
-use Rattle.setl_value.specs.DatumOf.{datum, page}
+use Rattle.setl_value.specs.code.DatumOf.{datum, page}
 use Rattle.setl_value.specs.Order.{IsRising}
 use Rattle.setl_value.specs.Pairs.{pair_parts}
-use Rattle.setl_value.specs.Places.{HasPlace, rank}
+use Rattle.setl_value.specs.code.Places.{HasPlace, rank}
 use Rattle.setl_value.proofs.Pages.put_in.Goals as goal
 
 pub overflow_add-self : goal.overflow_add-self

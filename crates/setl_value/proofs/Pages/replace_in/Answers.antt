@@ -4,12 +4,12 @@ use Rattle.std.proofs.lemmas.List.{length-map}
 use Rattle.setl_value.proofs.Bodies.{replaced, depth_replaced}
 use Rattle.setl_value.proofs.Counting.{part_counted, gone_few, gone_shallow, others_fit, depth_left}
 use Rattle.setl_value.proofs.Paging.{exchanged_between}
-use Rattle.setl_value.specs.Body.{Members, joined}
+use Rattle.setl_value.specs.code.Body.{Members, joined}
 use Rattle.setl_value.specs.Datum.{depth, set_of}
-use Rattle.setl_value.specs.DatumOf.{datum, page}
+use Rattle.setl_value.specs.code.DatumOf.{datum, page}
 use Rattle.setl_value.specs.Order.{IsRising}
 use Rattle.setl_value.specs.Pairs.{other_count}
-use Rattle.setl_value.specs.Places.{HasPlace, page_at, rank, rank_in}
+use Rattle.setl_value.specs.code.Places.{HasPlace, page_at, rank, rank_in}
 use Rattle.setl_value.specs.WellFormed.{IsWellFormed}
 use Rattle.setl_value.proofs.Pages.replace_in.Goals as goal
 

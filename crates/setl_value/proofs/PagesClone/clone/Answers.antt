@@ -1,5 +1,5 @@
 use Rattle.std.proofs.Common.{ap, sym, subst, ◌∙◌}
-use Rattle.setl_value.specs.Counted.{IsCounted}
+use Rattle.setl_value.specs.code.Counted.{IsCounted}
 use Rattle.setl_value.proofs.Paging.{body_of, cloned}
 use Rattle.setl_value.proofs.PagesClone.clone.Goals as goal
 

@@ -1,9 +1,9 @@
 use Rattle.std.proofs.Common.{◌∙◌, ap, sym, Some}
 use Rattle.std.specs.Ordering.{is_eq}
-use Rattle.setl_value.specs.Body.{Members}
-use Rattle.setl_value.specs.DatumOf.{datum}
+use Rattle.setl_value.specs.code.Body.{Members}
+use Rattle.setl_value.specs.code.DatumOf.{datum}
 use Rattle.setl_value.specs.OrderLaws.{same_if_eq}
-use Rattle.setl_value.specs.Places.{rank}
+use Rattle.setl_value.specs.code.Places.{rank}
 use Rattle.setl_value.proofs.Bodies.{set_facts}
 use Rattle.setl_value.proofs.Halving.{absent_there}
 use Rattle.setl_value.proofs.SetBody.search.Goals as goal

@@ -5,7 +5,7 @@ use Rattle.setl_value.proofs.Depths.{tuple_without}
 use Rattle.setl_value.proofs.Fronts.{deep_of, end_taken, end_cut, settles}
 use Rattle.setl_value.proofs.Trim.{tuple_remove}
 use Rattle.setl_value.specs.Datum.{Datum, depth, part_depth, tuple_of}
-use Rattle.setl_value.specs.DatumOf.{part}
+use Rattle.setl_value.specs.code.DatumOf.{part}
 use Rattle.setl_value.specs.WellFormed.{IsTupleList, trim}
 use Rattle.setl_value.proofs.TupleBody.cut_back.Goals as goal
 

@@ -3,7 +3,7 @@ use Rattle.std.proofs.lemmas.Bool.{ltb-false}
 use Rattle.std.proofs.lemmas.Option.{slice_get_within}
 use Rattle.setl_value.specs.Datum.{Datum, depth, part_depth, tuple_of}
 use Rattle.std.specs.Prelude.{slice_get, unwrap_or, None}
-use Rattle.setl_value.specs.DatumOf.{part}
+use Rattle.setl_value.specs.code.DatumOf.{part}
 use Rattle.setl_value.specs.WellFormed.{IsTupleList}
 use Rattle.setl_value.proofs.Fronts.{behind_front, deep_of, drop_less, front_depth, front_there, left_behind, left_less, left_long, tuple_tail}
 use Rattle.setl_value.proofs.TupleBody.cut_front.Goals.{then-deep-self, else-deep-self}

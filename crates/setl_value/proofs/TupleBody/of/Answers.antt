@@ -3,7 +3,7 @@ use Rattle.std.specs.List.{AllByRecursion}
 use Rattle.setl_value.proofs.Fronts.{deep_of}
 use Rattle.setl_value.proofs.Trim.{tuple_made, trim_depth}
 use Rattle.setl_value.specs.Datum.{depth, tuple_of}
-use Rattle.setl_value.specs.DatumOf.{part}
+use Rattle.setl_value.specs.code.DatumOf.{part}
 use Rattle.setl_value.specs.WellFormed.{IsTupleList, PartIsWellFormed, trim}
 use Rattle.setl_value.proofs.TupleBody.of.Goals as goal
 

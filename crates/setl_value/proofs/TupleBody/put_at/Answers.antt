@@ -4,7 +4,7 @@ use Rattle.setl_value.proofs.Depths.{tuple_with, part_in_tuple}
 use Rattle.setl_value.proofs.Fronts.{deep_of, settles}
 use Rattle.setl_value.proofs.Trim.{tuple_put, trim_depth}
 use Rattle.setl_value.specs.Datum.{depth, part_depth, tuple_of}
-use Rattle.setl_value.specs.DatumOf.{part}
+use Rattle.setl_value.specs.code.DatumOf.{part}
 use Rattle.setl_value.specs.WellFormed.{IsTupleList, trim, put}
 use Rattle.setl_value.proofs.TupleBody.put_at.Goals as goal
 

@@ -2,8 +2,8 @@ use Rattle.std.proofs.Common.{◌≡◌, ◌+◌, arith, ap, ◌∙◌, sym, sub
 use Rattle.std.specs.Prelude.{suc}
 use Rattle.std.specs.List.{AllByRecursion}
 use Rattle.std.proofs.lemmas.List.{drop-map}
-use Rattle.setl_value.specs.Body.{IsPage, joined}
-use Rattle.setl_value.specs.DatumOf.{page}
+use Rattle.setl_value.specs.code.Body.{IsPage, joined}
+use Rattle.setl_value.specs.code.DatumOf.{page}
 use Rattle.setl_value.proofs.Bodies.{all_drop}
 use Rattle.setl_value.proofs.Paging.{dropped}
 use Rattle.setl_value.proofs.body.members_behind.Goals as goal

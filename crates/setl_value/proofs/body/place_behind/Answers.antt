@@ -1,7 +1,7 @@
 use Rattle.std.proofs.Common.{◌≡◌, ◌≤◌, ◌<◌, ◌+◌, ◌⊎◌, ℕ, arith, ap, map, length, inl, inr, take}
 use Rattle.std.specs.Prelude.{suc}
-use Rattle.setl_value.specs.Body.{joined}
-use Rattle.setl_value.specs.DatumOf.{page}
+use Rattle.setl_value.specs.code.Body.{joined}
+use Rattle.setl_value.specs.code.DatumOf.{page}
 use Rattle.setl_value.proofs.PageSearch.{stepped}
 use Rattle.setl_value.proofs.body.place_behind.Goals as goal
 

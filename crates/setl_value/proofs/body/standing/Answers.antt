@@ -1,8 +1,8 @@
 use Rattle.std.proofs.Common.{◌+◌, arith, ap, ◌∙◌, map}
 use Rattle.std.specs.Prelude.{suc}
 use Rattle.std.proofs.lemmas.List.{length-map}
-use Rattle.setl_value.specs.DatumOf.{page}
-use Rattle.setl_value.specs.Places.{rank_in}
+use Rattle.setl_value.specs.code.DatumOf.{page}
+use Rattle.setl_value.specs.code.Places.{rank_in}
 use Rattle.setl_value.proofs.Paging.{page_there}
 use Rattle.setl_value.proofs.PageSearch.{stood}
 use Rattle.setl_value.proofs.body.standing.Goals as goal

@@ -1,8 +1,8 @@
 use Rattle.std.specs.Prelude.{map, ◌≡◌, ◌≤◌, drop, fold}
-use Rattle.setl_value.specs.Body.{Members}
+use Rattle.setl_value.specs.code.Body.{Members}
 use Rattle.setl_value.specs.Datum.{depth, elements_of, parts_of, set_of}
-use Rattle.setl_value.specs.HashInput.{elements_writes, parts_writes}
-use Rattle.setl_value.specs.DatumOf.{part}
+use Rattle.setl_value.specs.code.HashInput.{elements_writes, parts_writes}
+use Rattle.setl_value.specs.code.DatumOf.{part}
 use Rattle.setl_value.proofs.hashing.+feeding.Given as goal
 
 abbrev pub invariant-feed_members-loop-v : goal.invariant-feed_members-loop-v

@@ -1,5 +1,5 @@
 use Rattle.setl_value.specs.OrderLaws.{eq_iff_same}
-use Rattle.setl_value.specs.DatumOf.{datum}
+use Rattle.setl_value.specs.code.DatumOf.{datum}
 use Rattle.setl_value.proofs.laws.eq_is_the_same.Goals as goal
 
 pub returns : goal.returns

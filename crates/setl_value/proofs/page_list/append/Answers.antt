@@ -1,9 +1,9 @@
 use Rattle.std.proofs.Common.{arith, ◌≡◌, ◌+◌, length, map, ap, ◌∙◌, subst, [], ◌∷◌}
 use Rattle.std.proofs.lemmas.List.{length-map}
 use Rattle.std.proofs.lemmas.Result.{on_ok_weaker}
-use Rattle.setl_value.specs.DatumOf.{datum, page}
-use Rattle.setl_value.specs.Exchange.{Exchanges}
-use Rattle.setl_value.specs.Places.{page_at}
+use Rattle.setl_value.specs.code.DatumOf.{datum, page}
+use Rattle.setl_value.specs.code.Exchange.{Exchanges}
+use Rattle.setl_value.specs.code.Places.{page_at}
 use Rattle.setl_value.proofs.Paging.{appended, page_added, size_there}
 use Rattle.setl_value.proofs.page_list.append.Goals as goal
 

@@ -1,6 +1,6 @@
 use Rattle.std.proofs.Common.{ap, ◌∙◌, sym, map, drop}
 use Rattle.std.proofs.lemmas.List.{take_rest, drop-map}
-use Rattle.setl_value.specs.DatumOf.{datum}
+use Rattle.setl_value.specs.code.DatumOf.{datum}
 use Rattle.setl_value.proofs.page_list.back.Goals as goal
 
 pub returns : goal.returns

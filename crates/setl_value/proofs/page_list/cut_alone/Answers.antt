@@ -1,4 +1,4 @@
-use Rattle.setl_value.specs.DatumOf.{page}
+use Rattle.setl_value.specs.code.DatumOf.{page}
 use Rattle.setl_value.proofs.Bodies.{map-remove}
 use Rattle.setl_value.proofs.Paging.{no_page}
 use Rattle.std.proofs.Common.{ap, ◌∙◌, map}

@@ -1,7 +1,7 @@
 use Rattle.std.proofs.Common.{arith, ap, ◌∙◌, ◌++◌, [], map, take, drop, ◌+◌}
 use Rattle.std.specs.Prelude.{suc}
 use Rattle.std.proofs.lemmas.Result.{on_ok_weaker, on_err_weaker}
-use Rattle.setl_value.specs.DatumOf.{datum}
+use Rattle.setl_value.specs.code.DatumOf.{datum}
 use Rattle.setl_value.proofs.Bodies.{map-remove}
 use Rattle.setl_value.proofs.Paging.{written, unwritten}
 use Rattle.setl_value.proofs.page_list.cut_from_page.Goals as goal

@@ -1,6 +1,6 @@
 use Rattle.std.proofs.Common.{ap, ◌∙◌, sym, take}
 use Rattle.std.proofs.lemmas.List.{take-map}
-use Rattle.setl_value.specs.DatumOf.{datum}
+use Rattle.setl_value.specs.code.DatumOf.{datum}
 use Rattle.setl_value.proofs.page_list.front.Goals as goal
 
 pub returns : goal.returns

@@ -1,8 +1,8 @@
 use Rattle.std.proofs.Common.{◌≡◌, ap, ◌∙◌, sym, map, ◌++◌, ◌∷◌, [], take, drop}
 use Rattle.std.proofs.lemmas.List.{append-nil, map-append, take-append-drop}
 use Rattle.std.proofs.lemmas.Result.{IfOk-weaker}
-use Rattle.setl_value.specs.Body.{joined}
-use Rattle.setl_value.specs.DatumOf.{datum, page}
+use Rattle.setl_value.specs.code.Body.{joined}
+use Rattle.setl_value.specs.code.DatumOf.{datum, page}
 use Rattle.setl_value.proofs.Bodies.{map-insert}
 use Rattle.setl_value.proofs.page_list.halves.Goals as goal
 

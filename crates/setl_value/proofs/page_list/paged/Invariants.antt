@@ -1,8 +1,8 @@
 use Rattle.std.proofs.Common.{◌≡◌, ◌++◌, map}
 use Rattle.std.specs.List.{AllByRecursion}
 use Rattle.std.specs.Vec.Iter.{into_iter_items}
-use Rattle.setl_value.specs.Body.{IsPage, joined}
-use Rattle.setl_value.specs.DatumOf.{datum, page}
+use Rattle.setl_value.specs.code.Body.{IsPage, joined}
+use Rattle.setl_value.specs.code.DatumOf.{datum, page}
 use Rattle.setl_value.proofs.page_list.paged.Given as goal
 
 abbrev pub invariant-loop-v : goal.invariant-loop-v

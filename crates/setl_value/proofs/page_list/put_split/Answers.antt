@@ -1,7 +1,7 @@
 use Rattle.std.proofs.Common.{ap, map, ◌∙◌, take, drop, ◌++◌, ◌∷◌, []}
 use Rattle.std.proofs.lemmas.Result.{on_ok_weaker}
-use Rattle.setl_value.specs.DatumOf.{datum, page}
-use Rattle.setl_value.specs.Places.{page_at}
+use Rattle.setl_value.specs.code.DatumOf.{datum, page}
+use Rattle.setl_value.specs.code.Places.{page_at}
 use Rattle.setl_value.proofs.Paging.{rebuilt}
 use Rattle.setl_value.proofs.page_list.put_split.Goals as goal
 

@@ -1,8 +1,8 @@
 use Rattle.std.proofs.Common.{ap, ◌∙◌, map, ◌++◌, take, drop}
 use Rattle.std.proofs.lemmas.List.{append_assoc}
 use Rattle.std.proofs.lemmas.Result.{on_ok_weaker}
-use Rattle.setl_value.specs.DatumOf.{datum, page}
-use Rattle.setl_value.specs.Places.{page_at}
+use Rattle.setl_value.specs.code.DatumOf.{datum, page}
+use Rattle.setl_value.specs.code.Places.{page_at}
 use Rattle.setl_value.proofs.Paging.{rebuilt}
 use Rattle.setl_value.proofs.page_list.replace_whole.Goals as goal
 

@@ -2,8 +2,8 @@ use Rattle.std.proofs.Common.{◌≡◌, ◌∙◌, ap, sym, arith, map, slice_g
 use Rattle.std.specs.Option.{option_map}
 use Rattle.std.proofs.lemmas.List.{length-map}
 use Rattle.std.proofs.lemmas.Option.{slice_get-map}
-use Rattle.setl_value.specs.DatumOf.{datum}
-use Rattle.setl_value.specs.Sought.{sought}
+use Rattle.setl_value.specs.code.DatumOf.{datum}
+use Rattle.setl_value.specs.code.Sought.{sought}
 use Rattle.setl_value.proofs.Bodies.{member_there}
 use Rattle.setl_value.proofs.Halving.{raised, lowered}
 use Rattle.setl_value.proofs.places.bound_in.Goals as goal

@@ -1,7 +1,7 @@
 use Rattle.std.proofs.Common.{◌-◌, map}
-use Rattle.setl_value.specs.DatumOf.{datum}
-use Rattle.setl_value.specs.Sought.{sought}
-use Rattle.setl_value.specs.Places.{IsBetween}
+use Rattle.setl_value.specs.code.DatumOf.{datum}
+use Rattle.setl_value.specs.code.Sought.{sought}
+use Rattle.setl_value.specs.code.Places.{IsBetween}
 use Rattle.setl_value.proofs.places.bound_in.Given as goal
 
 abbrev pub invariant-loop-low : goal.invariant-loop-low

@@ -1,7 +1,7 @@
 use Rattle.std.proofs.Common.{◌≡◌, ◌∙◌, sym, arith, map, ◌+◌, ◌-◌, ◌/◌, ◌⊎◌, ℕ, inl, inr}
 use Rattle.std.proofs.lemmas.List.{length-map}
-use Rattle.setl_value.specs.DatumOf.{datum, page}
-use Rattle.setl_value.specs.Sought.{sought}
+use Rattle.setl_value.specs.code.DatumOf.{datum, page}
+use Rattle.setl_value.specs.code.Sought.{sought}
 use Rattle.setl_value.proofs.Paging.{page_there}
 use Rattle.setl_value.proofs.PageSearch.{page_raised, page_lowered, one_between}
 use Rattle.setl_value.proofs.places.page_in.Goals as goal

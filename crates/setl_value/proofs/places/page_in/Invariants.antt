@@ -1,8 +1,8 @@
 use Rattle.std.proofs.Common.{◌≡◌, ◌<◌, ◌≤◌, ◌-◌, ◌⊎◌, map, length}
-use Rattle.setl_value.specs.Body.{joined}
-use Rattle.setl_value.specs.DatumOf.{page}
-use Rattle.setl_value.specs.Places.{IsBetween, rank_in}
-use Rattle.setl_value.specs.Sought.{sought}
+use Rattle.setl_value.specs.code.Body.{joined}
+use Rattle.setl_value.specs.code.DatumOf.{page}
+use Rattle.setl_value.specs.code.Places.{IsBetween, rank_in}
+use Rattle.setl_value.specs.code.Sought.{sought}
 use Rattle.setl_value.proofs.places.page_in.Given as goal
 
 abbrev pub invariant-loop-high : goal.invariant-loop-high

@@ -1,6 +1,6 @@
 use Rattle.std.specs.Prelude.{map, take, ◌≡◌, ◌≤◌, length}
 use Rattle.setl_value.specs.WellFormed.{trim}
-use Rattle.setl_value.specs.DatumOf.{part}
+use Rattle.setl_value.specs.code.DatumOf.{part}
 use Rattle.setl_value.proofs.tuples.kept.Given as goal
 
 abbrev pub invariant-loop-n : goal.invariant-loop-n

@@ -1,7 +1,7 @@
 use Rattle.std.proofs.Common.{◌≡◌, ◌+◌, ◌≤◌, ◌∙◌, ap, arith, sym, map, drop, length}
 use Rattle.std.proofs.lemmas.List.{drop-map, length-map}
 use Rattle.setl_value.specs.Datum.{depth, tuple_of}
-use Rattle.setl_value.specs.DatumOf.{part}
+use Rattle.setl_value.specs.code.DatumOf.{part}
 use Rattle.setl_value.specs.WellFormed.{trim, put}
 use Rattle.setl_value.proofs.Fronts.{put_less, put_more, drop_put}
 use Rattle.setl_value.proofs.tuples.put_behind.Goals as goal

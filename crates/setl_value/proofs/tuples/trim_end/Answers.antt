@@ -1,5 +1,5 @@
 use Rattle.std.proofs.Common.{◌≡◌, ◌+◌, ◌∙◌, ap, arith, subst, map, take, drop}
-use Rattle.setl_value.specs.DatumOf.{part}
+use Rattle.setl_value.specs.code.DatumOf.{part}
 use Rattle.setl_value.specs.WellFormed.{trim}
 use Rattle.setl_value.proofs.Fronts.{deep_of, drop_take, take_less}
 use Rattle.setl_value.proofs.tuples.trim_end.Goals as goal

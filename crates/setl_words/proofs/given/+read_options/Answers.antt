@@ -1,6 +1,6 @@
 use Rattle.std.proofs.Common.{rules, map, string_bytes}
 use Rattle.std.proofs.lemmas.Option.{IfSome_then}
-use Rattle.setl_words.specs.Reading.{option_of}
+use Rattle.setl_words.specs.code.Reading.{option_of}
 use Rattle.setl_words.proofs.Order.{always, so_if_none, some_words, nowhere_else, nowhere_again, nowhere_on, leads_on}
 use Rattle.setl_words.proofs.given.+read_options.Goals as goal
 

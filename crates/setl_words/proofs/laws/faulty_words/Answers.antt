@@ -3,7 +3,7 @@ use Rattle.std.proofs.lemmas.Fmt.{decimal_digit, decimal_injective, decimal_is_I
 use Rattle.std.specs.Fmt.{digits}
 use Rattle.std.specs.Str.Parse.{digits_value}
 use Rattle.setl_words.specs.Words.{RunOption, Unbased, Turns, IsInRange, IsFaulty, option_words}
-use Rattle.setl_words.specs.Reading.{LeadsNowhere, with_given}
+use Rattle.setl_words.specs.code.Reading.{LeadsNowhere, with_given}
 use Rattle.setl_words.specs.declared.given.Given.{Given}
 use Rattle.setl_words.proofs.Order.{head_of, tail_of, nowhere_on, nowhere_again, nowhere_else}
 use Rattle.setl_words.proofs.Commands.{no_end, few_are_faulty, run_is_faulty, dash_is_faulty}

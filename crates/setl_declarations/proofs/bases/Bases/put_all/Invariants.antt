@@ -2,7 +2,7 @@ use Rattle.std.proofs.Common.{◌≡◌, ◌++◌, drop}
 use Rattle.setl_modes.specs.Modes.{mode_of}
 use Rattle.setl_modes.specs.Declarations.{all_with}
 use Rattle.setl_declarations.specs.Declares.{named_modes}
-use Rattle.setl_declarations.specs.Elements.{Finds}
+use Rattle.setl_declarations.specs.code.Elements.{Finds}
 use Rattle.setl_declarations.proofs.bases.Bases.put_all.Given as goal
 
 abbrev pub invariant-loop-name : goal.invariant-loop-name

@@ -2,7 +2,7 @@ use Rattle.std.proofs.Common.{◌≡◌, ◌∙◌, List, map, Some, IfOk, OnOk,
 use Rattle.setl_names.specs.Names.{Name, with_names}
 use Rattle.setl_program.specs.Program as plain
 use Rattle.setl_program.specs.Expressions.{term_of, turn_of}
-use Rattle.setl_program.specs.Plain.{plain_expr, plain_argument, plain_iterator}
+use Rattle.setl_program.specs.code.Plain.{plain_expr, plain_argument, plain_iterator}
 use Rattle.setl_elaborate.specs.declared.elaborator.Elaborator.{Elaborator}
 use Rattle.setl_elaborate.proofs.Walks.{within, chain_walked, arguments_made, arguments_past, turn_made, turn_past}
 use Rattle.setl_elaborate.proofs.elaborator.Elaborator.+expressions.Goals as goal

@@ -1,7 +1,7 @@
 use Rattle.std.proofs.Common.{◌≡◌, [], ◌++◌, drop, map}
 use Rattle.setl_program.specs.Expressions as spec
 use Rattle.setl_program.specs.Expressions.{part_of, behind_of, turn_of}
-use Rattle.setl_program.specs.Plain.{plain_expr, plain_iterator, plain_argument}
+use Rattle.setl_program.specs.code.Plain.{plain_expr, plain_iterator, plain_argument}
 use Rattle.setl_elaborate.specs.Chains.{plain_chain}
 use Rattle.setl_elaborate.specs.Elaborators.{made, past}
 use Rattle.setl_elaborate.proofs.elaborator.Elaborator.+expressions.Given as goal

@@ -1,5 +1,5 @@
 use Rattle.std.proofs.Common.{◌≡◌, ◌++◌, drop, map}
-use Rattle.setl_program.specs.Plain.{plain_stmt, plain_branch}
+use Rattle.setl_program.specs.code.Plain.{plain_stmt, plain_branch}
 use Rattle.setl_program.specs.Statements as spec
 use Rattle.setl_program.specs.Statements.{branch_of, lined}
 use Rattle.setl_elaborate.specs.Elaborators.{made, past}

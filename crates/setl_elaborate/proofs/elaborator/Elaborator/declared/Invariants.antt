@@ -1,6 +1,6 @@
 use Rattle.std.proofs.Common.{◌≡◌, map}
 use Rattle.setl_modes.specs.Modes.{mode_of}
-use Rattle.setl_program.specs.Plain.{plain_variable}
+use Rattle.setl_program.specs.code.Plain.{plain_variable}
 use Rattle.setl_program.specs.ProgramOf.{declaration_of}
 use Rattle.setl_elaborate.proofs.elaborator.Elaborator.declared.Given as goal
 

@@ -1,5 +1,5 @@
 use Rattle.std.proofs.Common.{◌≡◌, ◌++◌, suc, drop, map}
-use Rattle.setl_program.specs.Plain.{plain_procedure}
+use Rattle.setl_program.specs.code.Plain.{plain_procedure}
 use Rattle.setl_program.specs.ProgramOf.{procedures_from}
 use Rattle.setl_elaborate.proofs.elaborator.Elaborator.procedures.Given as goal
 

@@ -1,6 +1,6 @@
 use Rattle.std.proofs.Common.{◌≡◌, ◌++◌, drop, map}
 use Rattle.setl_program.specs.Expressions.{behind_of}
-use Rattle.setl_program.specs.Plain.{plain_selector}
+use Rattle.setl_program.specs.code.Plain.{plain_selector}
 use Rattle.setl_program.specs.Statements as spec
 use Rattle.setl_elaborate.specs.Elaborators.{made, past}
 use Rattle.setl_elaborate.proofs.elaborator.Elaborator.selectors.Given as goal

@@ -1,5 +1,5 @@
 use Rattle.std.proofs.Common.{None}
-use Rattle.setl_program.specs.Plain.{plain_variable}
+use Rattle.setl_program.specs.code.Plain.{plain_variable}
 use Rattle.setl_code.specs.Code.{Push, StoreIn}
 use Rattle.setl_code.specs.Piece.{one}
 use Rattle.setl_gen.specs.Emitted.{held}

@@ -1,5 +1,5 @@
 use Rattle.std.proofs.Common.{◌≡◌, map, drop}
-use Rattle.setl_program.specs.Plain.{plain_variable}
+use Rattle.setl_program.specs.code.Plain.{plain_variable}
 use Rattle.setl_gen.specs.Table.{all_noted}
 use Rattle.setl_gen.proofs.names.Names.note_all.Given as goal
 

@@ -1,6 +1,6 @@
 use Rattle.std.proofs.Common.{◌≡◌, ◌<◌, ◌+◌, ◌-◌, ◌∙◌, suc, map, drop, length, get_or, ap, sym, subst, arith, add-one}
 use Rattle.setl_modes.specs.Modes.{mode_of}
-use Rattle.setl_program.specs.Plain.{plain_declared}
+use Rattle.setl_program.specs.code.Plain.{plain_declared}
 use Rattle.setl_machine.specs.Tables.{Finds}
 use Rattle.setl_machine.proofs.Finding.{finds_before}
 use Rattle.setl_machine.proofs.declarations.Declarations.new.Goals as goal

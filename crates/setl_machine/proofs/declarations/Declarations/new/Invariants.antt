@@ -1,5 +1,5 @@
 use Rattle.std.proofs.Common.{◌≤◌, drop, length, map}
-use Rattle.setl_program.specs.Plain.{plain_declared}
+use Rattle.setl_program.specs.code.Plain.{plain_declared}
 use Rattle.setl_machine.specs.Tables.{Finds}
 use Rattle.setl_machine.proofs.declarations.Declarations.new.Given as goal
 

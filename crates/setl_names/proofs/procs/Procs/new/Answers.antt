@@ -1,6 +1,6 @@
 use Rattle.std.proofs.Common.{◌≡◌, ◌<◌, ◌+◌, ◌-◌, ℕ, suc, sym, subst, arith, length, drop, List, add-one, ◌∙◌}
 use Rattle.setl_tree.specs.declared.tree.Proc.{Proc}
-use Rattle.setl_names.specs.Tables.{Finds}
+use Rattle.setl_names.specs.code.Tables.{Finds}
 use Rattle.setl_names.proofs.Tables.{one_before}
 use Rattle.setl_names.proofs.procs.Procs.new.Goals as goal
 

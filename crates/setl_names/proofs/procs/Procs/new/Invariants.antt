@@ -1,5 +1,5 @@
 use Rattle.std.proofs.Common.{◌≤◌, drop, length}
-use Rattle.setl_names.specs.Tables.{Finds}
+use Rattle.setl_names.specs.code.Tables.{Finds}
 use Rattle.setl_names.proofs.procs.Procs.new.Given as goal
 
 abbrev pub decreases-loop-at : goal.decreases-loop-at

@@ -1,6 +1,6 @@
 use Rattle.std.proofs.Common.{arith, rules}
 use Rattle.std.proofs.lemmas.Grind.{common_steps}
-use Rattle.setl_reading.specs.ReadStatements as spec
+use Rattle.setl_reading.specs.code.ReadStatements as spec
 use Rattle.setl_parse.proofs.nested.Statements.loop_stmt.Goals as goal
 
 pub returns-in_err-open : goal.returns-in_err-open

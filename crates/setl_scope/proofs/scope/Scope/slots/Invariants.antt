@@ -1,5 +1,5 @@
 use Rattle.std.proofs.Common.{◌≡◌, map, take}
-use Rattle.setl_program.specs.Plain.{plain_slots}
+use Rattle.setl_program.specs.code.Plain.{plain_slots}
 use Rattle.setl_program.specs.Scope.{slot_variable, bound_by}
 use Rattle.setl_scope.proofs.scope.Scope.slots.Given as goal
 

@@ -1,5 +1,5 @@
 use Rattle.std.proofs.Common.{◌≡◌, map, take}
-use Rattle.setl_program.specs.Plain.{plain_variable}
+use Rattle.setl_program.specs.code.Plain.{plain_variable}
 use Rattle.setl_program.specs.Scope.{variable_of}
 use Rattle.setl_scope.proofs.scope.Scope.variables.Given as goal
 

@@ -1,5 +1,5 @@
 use Rattle.std.proofs.Common.{◌∙◌, ap, sym, subst, map, reverse, Some}
-use Rattle.setl_value.specs.DatumOf.{datum, part}
+use Rattle.setl_value.specs.code.DatumOf.{datum, part}
 use Rattle.setl_store.specs.Flat.{GotAll, member_of, operands_in, results}
 use Rattle.setl_store.proofs.Popping.{collection_there, collection_taken, plain_there, plain_taken, made_of}
 use Rattle.setl_store.proofs.store.Store.pop.Goals as goal

@@ -1,6 +1,6 @@
 use Rattle.std.proofs.Common.{◌∙◌, ◌+◌, ◌-◌, List, [], Option, ap, sym, map, reverse, arith}
 use Rattle.setl_value.specs.declared.Value.{Value}
-use Rattle.setl_value.specs.DatumOf.{part}
+use Rattle.setl_value.specs.code.DatumOf.{part}
 use Rattle.setl_code.specs.CodeCore.{Pops, popped}
 use Rattle.setl_store.specs.Standing.{Standing, over}
 use Rattle.setl_store.proofs.Lists.{map_reverse}

@@ -1,5 +1,5 @@
 use Rattle.std.proofs.Common.{◌≡◌, ◌-◌, [], map, reverse}
-use Rattle.setl_value.specs.DatumOf.{part}
+use Rattle.setl_value.specs.code.DatumOf.{part}
 use Rattle.setl_code.specs.CodeCore.{popped}
 use Rattle.setl_store.specs.Standing.{over}
 use Rattle.setl_store.proofs.store.Store.pop_values.Given as goal

@@ -1,5 +1,5 @@
 use Rattle.std.proofs.Common.{◌∙◌, ◌<◌, length, sym, subst, refl}
-use Rattle.setl_value.specs.DatumOf.{part}
+use Rattle.setl_value.specs.code.DatumOf.{part}
 use Rattle.setl_code.specs.CodeCore.{There, Gone}
 use Rattle.setl_store.specs.declared.cells.Held.TheVariants as held
 use Rattle.setl_store.specs.Operands.{IsThere}

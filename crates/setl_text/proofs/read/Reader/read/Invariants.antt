@@ -1,7 +1,7 @@
 use Rattle.std.proofs.Common.{◌≡◌, true}
 use Rattle.setl_text.specs.Denoted.{IsDecided}
-use Rattle.setl_text.specs.Reads.{ahead, StaysHonest, TakesOff}
-use Rattle.setl_text.specs.Scans.{token_of, opens, TokenFits, IsShallow}
+use Rattle.setl_text.specs.code.Reads.{ahead, StaysHonest, TakesOff}
+use Rattle.setl_text.specs.code.Scans.{token_of, opens, TokenFits, IsShallow}
 use Rattle.setl_text.proofs.Going.{Went}
 use Rattle.setl_text.proofs.read.Reader.read.Given as goal
 

@@ -1,5 +1,5 @@
 use Rattle.std.proofs.Common.{◌-◌, ap, ◌∙◌, take, drop}
-use Rattle.setl_text.specs.Scans.{token_of, opens}
+use Rattle.setl_text.specs.code.Scans.{token_of, opens}
 use Rattle.setl_text.proofs.Going.{kept_found, kept_onward, kept_wrong, window, window_rest, window_none}
 use Rattle.setl_text.proofs.read.Reader.scan_kept.Goals as goal
 

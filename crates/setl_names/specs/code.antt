@@ -1,0 +1,5 @@
+pub mod Scopes
+pub mod Walks
+pub mod Tables
+pub mod Stores
+pub mod Found

@@ -1,0 +1,3 @@
+pub mod TextParts
+pub mod Scans
+pub mod Reads

@@ -1,0 +1,5 @@
+pub mod Runs
+pub mod CodeRuns
+pub mod Tells
+pub mod Loads
+pub mod Lists

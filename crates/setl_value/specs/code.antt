@@ -1,0 +1,9 @@
+pub mod DatumCode
+pub mod Body
+pub mod Counted
+pub mod DatumOf
+pub mod Falls
+pub mod HashInput
+pub mod Places
+pub mod Exchange
+pub mod Sought
