@@ -1,4 +1,4 @@
-//! One table of modes, values and what fits. A mode is written with its words in their order and no brackets, as
+//! One table of values, modes and what fits, a line each. A mode is written with its words in their order and no brackets, as
 //! `mmap int set int` for mmap{int} set(int), and `elmt int` for the members of a base of mode int. A value is written
 //! as a denotation.
 
@@ -11,106 +11,76 @@ use setl_value::{Memory, Value};
 use std::alloc::Global;
 use std::test::Fail;
 
-const ROWS: [(&str, &str, bool); 70] = [
-    ("int", "*", true),
-    ("mmap int int", "*", true),
-    ("general", "1", true),
-    ("general", "{[1 2] 3}", true),
-    ("int", "-5", true),
-    ("int", "'a'", false),
-    ("int", "{}", false),
-    ("int", "[]", false),
-    ("string", "'a'", true),
-    ("string", "1", false),
-    ("boolean", "false", true),
-    ("boolean", "1", false),
-    ("atom", "1", false),
-    ("elmt string", "'a'", true),
-    ("elmt string", "1", false),
-    ("set elmt int", "{1 2}", true),
-    ("set elmt int", "{1 'a'}", false),
-    ("elmt smap int int", "{[1 1] [1 2]}", false),
-    ("smap elmt int elmt string", "{[1 'a'] [2 'b']}", true),
-    ("smap elmt int elmt string", "{['a' 'b']}", false),
-    ("set int", "{}", true),
-    ("set int", "{1 2 3}", true),
-    ("set int", "{1 2 'a'}", false),
-    ("set int", "[1]", false),
-    ("set set int", "{{} {1}}", true),
-    ("set set int", "{{} {'a'}}", false),
-    ("tuple int", "[]", true),
-    ("tuple int", "[1 * 2]", true),
-    ("tuple int", "[* 'a']", false),
-    ("tuple int", "{1}", false),
-    (
-        "tuple set smap int int",
-        "[{{[1 2]} {}} * {{[1 1] [2 1]}}]",
-        true,
-    ),
-    ("tuple set smap int int", "[{} {{[1 1] [1 2]}}]", false),
-    ("smap int int", "{}", true),
-    ("smap int int", "{[1 2] [2 2]}", true),
-    ("smap int int", "{[1 1] [1 2]}", false),
-    ("smap int int", "{[1 1] [2 1] [2 5] [3 1]}", false),
-    ("smap int int", "{1}", false),
-    ("smap int int", "{[1 2] [3]}", false),
-    ("smap int int", "{[1 2] [1 2 3]}", false),
-    ("smap int int", "{[1 *]}", false),
-    ("smap int int", "{[* 1]}", false),
-    ("smap int string", "{[1 'a'] [2 3]}", false),
-    ("smap string int", "{['a' 1] [2 3]}", false),
-    ("smap general general", "{[{1} 1] [{2} 1]}", true),
-    ("smap general general", "{[{1} 1] [{1} 2]}", false),
-    ("smap int int", "[[1 2]]", false),
-    ("mmap int set int", "{}", true),
-    ("mmap int set int", "{[1 1] [1 2] [2 1]}", true),
-    ("mmap int set int", "{[1 1] [1 'a']}", false),
-    ("mmap int set int", "{[1 1] ['a' 1]}", false),
-    ("mmap int set int", "{[1 1] [2 *]}", false),
-    ("mmap int general", "{[1 1] [1 'a']}", true),
-    ("mmap int general", "{[1 1] 2}", false),
-    ("mmap int general", "[]", false),
-    ("mmap int int", "{}", true),
-    ("mmap int int", "{[1 1]}", false),
-    ("mmap int tuple int", "{[1 [1]]}", false),
-    ("mmap int elmt set int", "{[1 1] [1 2]}", true),
-    (
-        "mmap int smap int int",
-        "{[1 [1 1]] [1 [2 1]] [2 [1 5]]}",
-        true,
-    ),
-    ("mmap int smap int int", "{[1 [1 1]] [1 [1 2]]}", false),
-    ("mmap int smap int int", "{[1 1]}", false),
-    ("mmap int smap int string", "{[1 [1 2]]}", false),
-    ("mmap int elmt smap int int", "{[1 [1 1]] [1 [1 2]]}", false),
-    (
-        "mmap int mmap int set int",
-        "{[1 [1 1]] [1 [1 2]] [2 [1 1]]}",
-        true,
-    ),
-    (
-        "mmap int mmap int set int",
-        "{[1 [1 1]] [1 [1 'a']]}",
-        false,
-    ),
-    (
-        "mmap int mmap int set int",
-        "{[1 [1 1]] [1 ['a' 1]]}",
-        false,
-    ),
-    ("mmap int mmap int int", "{[1 [1 1]]}", false),
-    ("mmap int mmap int int", "{}", true),
-    (
-        "mmap int mmap int smap int int",
-        "{[1 [1 [1 1]]] [1 [1 [2 1]]] [1 [2 [1 2]]] [2 [1 [1 2]]]}",
-        true,
-    ),
-    (
-        "mmap int mmap int smap int int",
-        "{[1 [1 [1 1]]] [1 [1 [1 2]]]}",
-        false,
-    ),
-];
+const ROWS: &str = "fits | int | *
+fits | mmap int int | *
+fits | general | 1
+fits | general | {[1 2] 3}
+fits | int | -5
+misfits | int | 'a'
+misfits | int | {}
+misfits | int | []
+fits | string | 'a'
+misfits | string | 1
+fits | boolean | false
+misfits | boolean | 1
+misfits | atom | 1
+fits | elmt string | 'a'
+misfits | elmt string | 1
+fits | set elmt int | {1 2}
+misfits | set elmt int | {1 'a'}
+misfits | elmt smap int int | {[1 1] [1 2]}
+fits | smap elmt int elmt string | {[1 'a'] [2 'b']}
+misfits | smap elmt int elmt string | {['a' 'b']}
+fits | set int | {}
+fits | set int | {1 2 3}
+misfits | set int | {1 2 'a'}
+misfits | set int | [1]
+fits | set set int | {{} {1}}
+misfits | set set int | {{} {'a'}}
+fits | tuple int | []
+fits | tuple int | [1 * 2]
+misfits | tuple int | [* 'a']
+misfits | tuple int | {1}
+fits | tuple set smap int int | [{{[1 2]} {}} * {{[1 1] [2 1]}}]
+misfits | tuple set smap int int | [{} {{[1 1] [1 2]}}]
+fits | smap int int | {}
+fits | smap int int | {[1 2] [2 2]}
+misfits | smap int int | {[1 1] [1 2]}
+misfits | smap int int | {[1 1] [2 1] [2 5] [3 1]}
+misfits | smap int int | {1}
+misfits | smap int int | {[1 2] [3]}
+misfits | smap int int | {[1 2] [1 2 3]}
+misfits | smap int int | {[1 *]}
+misfits | smap int int | {[* 1]}
+misfits | smap int string | {[1 'a'] [2 3]}
+misfits | smap string int | {['a' 1] [2 3]}
+fits | smap general general | {[{1} 1] [{2} 1]}
+misfits | smap general general | {[{1} 1] [{1} 2]}
+misfits | smap int int | [[1 2]]
+fits | mmap int set int | {}
+fits | mmap int set int | {[1 1] [1 2] [2 1]}
+misfits | mmap int set int | {[1 1] [1 'a']}
+misfits | mmap int set int | {[1 1] ['a' 1]}
+misfits | mmap int set int | {[1 1] [2 *]}
+fits | mmap int general | {[1 1] [1 'a']}
+misfits | mmap int general | {[1 1] 2}
+misfits | mmap int general | []
+fits | mmap int int | {}
+misfits | mmap int int | {[1 1]}
+misfits | mmap int tuple int | {[1 [1]]}
+fits | mmap int elmt set int | {[1 1] [1 2]}
+fits | mmap int smap int int | {[1 [1 1]] [1 [2 1]] [2 [1 5]]}
+misfits | mmap int smap int int | {[1 [1 1]] [1 [1 2]]}
+misfits | mmap int smap int int | {[1 1]}
+misfits | mmap int smap int string | {[1 [1 2]]}
+misfits | mmap int elmt smap int int | {[1 [1 1]] [1 [1 2]]}
+fits | mmap int mmap int set int | {[1 [1 1]] [1 [1 2]] [2 [1 1]]}
+misfits | mmap int mmap int set int | {[1 [1 1]] [1 [1 'a']]}
+misfits | mmap int mmap int set int | {[1 [1 1]] [1 ['a' 1]]}
+misfits | mmap int mmap int int | {[1 [1 1]]}
+fits | mmap int mmap int int | {}
+fits | mmap int mmap int smap int int | {[1 [1 [1 1]]] [1 [1 [2 1]]] [1 [2 [1 2]]] [2 [1 [1 2]]]}
+misfits | mmap int mmap int smap int int | {[1 [1 [1 1]]] [1 [1 [1 2]]]}";
 
 // The last mode that was made, taken out.
 fn taken(alloc: Global, made: &mut Vec<Mode>) -> Result<Boxed<Mode>, Memory> {
@@ -168,11 +138,13 @@ fn answer(alloc: Global, words: &str, denotation: &str) -> Result<Option<bool>, 
 #[test]
 fn values_fit_modes(rt: HostRuntime) -> Result<(), Fail> {
     let alloc = rt.alloc();
-    for (words, denotation, expected) in ROWS {
+    for row in ROWS.lines() {
+        let (fitting, rest) = row.split_once(" | ").unwrap_or((row, ""));
+        let (words, denotation) = rest.split_once(" | ").unwrap_or((rest, ""));
         assert_eq!(rt;
             answer(alloc, words, denotation)?,
-            Some(expected),
-            "{denotation} as {words}"
+            Some(fitting == "fits"),
+            "{row}"
         );
     }
     let atom = Some(Value::Atom(7));

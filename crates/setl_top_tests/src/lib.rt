@@ -29,3 +29,5 @@ mod rows;
 mod searches;
 #[cfg(test)]
 mod stops;
+#[cfg(test)]
+mod words;

@@ -20,27 +20,23 @@ fn letter(fault: ReadFault) -> u8 {
     }
 }
 
-// Adds the text of an answer and a blank, a full stop at the end of the input, or the letter of a fault, and says
-// whether the next answer may be another one.
-fn add_answer(
-    alloc: Global,
-    all: &mut Vec<u8>,
-    answer: Result<Got, ReadFault>,
-) -> Result<bool, Memory> {
+// The text of an answer and a blank, a full stop at the end of the input, or the letter of a fault.
+fn answer_text(alloc: Global, answer: &Result<Got, ReadFault>) -> Result<Vec<u8>, Memory> {
     match answer {
-        Ok(Got::Value(v)) => all.extend_from_slice(text(alloc, &v)?.as_slice())?,
-        Ok(Got::Om) => all.push(b'*')?,
-        Ok(Got::End) => {
-            all.push(b'.')?;
-            return Ok(false);
+        Ok(Got::Value(v)) => {
+            let mut all = text(alloc, v)?;
+            all.push(b' ')?;
+            Ok(all)
         }
-        Err(fault) => {
-            all.push(letter(fault))?;
-            return Ok(false);
-        }
+        Ok(Got::Om) => b"* ".to_vec(alloc),
+        Ok(Got::End) => b".".to_vec(alloc),
+        Err(fault) => vec![in alloc; letter(*fault); 1],
     }
-    all.push(b' ')?;
-    Ok(true)
+}
+
+// Whether the next answer may be another one.
+fn goes_on(answer: &Result<Got, ReadFault>) -> bool {
+    matches!(answer, Ok(Got::Value(_) | Got::Om))
 }
 
 // The answers up to the first that ends the reading, and the one after it.
@@ -49,12 +45,13 @@ fn answers<I: Source>(alloc: Global, input: &mut I) -> Result<Vec<u8>, Memory> {
     let mut all = Vec::new(alloc);
     for _ in 0..20 {
         let answer = reader.next(input);
-        if !add_answer(alloc, &mut all, answer)? {
+        all.extend_from_slice(&answer_text(alloc, &answer)?)?;
+        if !goes_on(&answer) {
             break;
         }
     }
     let answer = reader.next(input);
-    add_answer(alloc, &mut all, answer)?;
+    all.extend_from_slice(&answer_text(alloc, &answer)?)?;
     Ok(all)
 }
 

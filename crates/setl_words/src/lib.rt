@@ -10,8 +10,6 @@ mod line;
 mod number;
 mod reading;
 mod single;
-#[cfg(test)]
-mod tests;
 mod told;
 
 pub use laws::{faulty_words, one_command, plain_words};

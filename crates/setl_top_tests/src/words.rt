@@ -1,0 +1,128 @@
+//! Lines of words, what they ask for, and what is told of those that are faulty.
+
+use setl_words::{Command, fault_text, faulty_words, one_command, plain_words, read_words};
+use std::alloc::Global;
+use std::test::Fail;
+
+/// The words of a line, which stand between single blanks.
+fn words_of(alloc: Global, line: &str) -> Result<Vec<String>, Fail> {
+    let mut words = Vec::new(alloc);
+    for word in line.split(' ') {
+        words.push(String::from_str(alloc, word)?)?;
+    }
+    Ok(words)
+}
+
+/// The command of a line as a text: of a run its bound on turns, whether declarations count, and its file.
+fn asked(alloc: Global, line: &str) -> Result<String, Fail> {
+    let words = words_of(alloc, line)?;
+    let text = match read_words(words.as_slice()) {
+        Some(Command::Run(options, file)) => {
+            format!(in alloc; "run {} {} {file}", options.turns, options.based)?
+        }
+        Some(Command::Check(file)) => format!(in alloc; "check {file}")?,
+        Some(Command::Code(file)) => format!(in alloc; "code {file}")?,
+        None => String::from_str(alloc, "faulty")?,
+    };
+    Ok(text)
+}
+
+/// What lines ask for, and the lines.
+const LINES: &str = "run 9223372036854775807 true q.setl: run q.setl
+run 9223372036854775807 false q.setl: run --unbased q.setl
+run 0 true q.setl: run --turns 0 q.setl
+run 50 false q.setl: run --turns 50 --unbased q.setl
+run 9223372036854775807 false q.setl: run --unbased --turns 9223372036854775807 q.setl
+check q.setl: check q.setl
+code q.setl: code q.setl
+faulty: run --turns 9223372036854775808 q.setl
+faulty: run --turns 1000000000000000000000000000000000000000 q.setl
+faulty: run --turns 07 q.setl
+faulty: run --turns +1 q.setl
+faulty: run --turns 1e3 q.setl
+faulty: run --turns -1 q.setl
+faulty: run --turns  q.setl
+faulty: run --turns=5 q.setl
+faulty: run --turns q.setl
+faulty: run --turns 5 --turns 5 q.setl
+faulty: run --unbased --unbased q.setl
+faulty: run q.setl --unbased
+faulty: run q.setl q.setl
+faulty: run -- q.setl
+faulty: run -
+faulty: run\x20
+faulty: run
+faulty: Run q.setl
+faulty: check --unbased q.setl
+faulty: --help
+faulty: --version
+faulty:\x20";
+
+#[test]
+fn each_line_is_what_it_is(rt: HostRuntime) -> Result<(), Fail> {
+    let alloc = rt.alloc();
+    for row in LINES.split('\n') {
+        let (wanted, line) = row.split_once(": ").unwrap_or((row, ""));
+        assert_eq!(rt; asked(alloc, line)?.as_str(), wanted, "at {line}");
+    }
+    assert_eq!(rt; read_words(&[]), None);
+    one_command();
+    plain_words();
+    faulty_words();
+    Ok(())
+}
+
+/// Faulty lines, and below each what is told of it. A line `====` stands between two rows.
+const TOLD: &str = "run --turns 07 q
+not of the plain form
+====
+run --turns=5 q
+not of the plain form
+====
+run -- q
+not of the plain form
+====
+go q
+error: unrecognized subcommand 'go'
+
+Usage: setl <COMMAND>
+
+For more information, try '--help'.
+====
+run
+error: the following required arguments were not provided:
+  <FILE>
+
+Usage: setl run <FILE>
+
+For more information, try '--help'.
+====
+run --unbased --unbased q
+error: the argument '--unbased' cannot be used multiple times
+
+Usage: setl run [OPTIONS] <FILE>
+
+For more information, try '--help'.
+====
+code --help
+List the code of a program
+
+Usage: setl code <FILE>
+
+Arguments:
+  <FILE>  The source
+
+Options:
+  -h, --help  Print help
+";
+
+#[test]
+fn faulty_words_are_told(rt: HostRuntime) -> Result<(), Fail> {
+    let alloc = rt.alloc();
+    for row in TOLD.split("====\n") {
+        let (line, wanted) = row.split_once("\n").unwrap_or((row, ""));
+        let text = fault_text(alloc, words_of(alloc, line)?.as_slice())?;
+        assert_eq!(rt; text.as_str(), wanted, "at {line}");
+    }
+    Ok(())
+}
