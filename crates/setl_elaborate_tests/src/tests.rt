@@ -29,27 +29,8 @@ fn former(alloc: Global) -> Result<TreeExpr, Memory> {
     Ok(TreeExpr::Set(Inner::Former(sum(alloc)?, turns, None)))
 }
 
-/// `{z : z in x}`
-fn copied(alloc: Global) -> Result<TreeExpr, Memory> {
-    let mut turns = Items::new(alloc);
-    let bound = Bound::Name(Text::of(alloc, b"z")?);
-    let source = TreeExpr::Name(Text::of(alloc, b"x")?);
-    turns.push(Iter::Over(bound, source))?;
-    let value = Boxed::new(alloc, TreeExpr::Name(Text::of(alloc, b"z")?))?;
-    Ok(TreeExpr::Set(Inner::Former(value, turns, None)))
-}
-
-/// `{{z : z in x} : x in {z : z in x}}`
-fn nested(alloc: Global) -> Result<TreeExpr, Memory> {
-    let mut turns = Items::new(alloc);
-    let bound = Bound::Name(Text::of(alloc, b"x")?);
-    turns.push(Iter::Over(bound, copied(alloc)?))?;
-    let value = Boxed::new(alloc, copied(alloc)?)?;
-    Ok(TreeExpr::Set(Inner::Former(value, turns, None)))
-}
-
-/// `x := value;` on line 2.
-fn statements(alloc: Global, value: TreeExpr) -> Result<Items<TreeStmt>, Memory> {
+/// `x := {x + y : x in x};` on line 2.
+fn statements(alloc: Global) -> Result<Items<TreeStmt>, Memory> {
     let place = Place {
         name: Text::of(alloc, b"x")?,
         selectors: Items::new(alloc),
@@ -57,13 +38,13 @@ fn statements(alloc: Global, value: TreeExpr) -> Result<Items<TreeStmt>, Memory>
     let mut all = Items::new(alloc);
     all.push(TreeStmt {
         line: 2,
-        kind: TreeKind::Assign(place, value),
+        kind: TreeKind::Assign(place, former(alloc)?),
     })?;
     Ok(all)
 }
 
-/// `program p; var y;`, `x := value;` on line 2, and `end;` on line 3.
-fn tree(alloc: Global, value: TreeExpr) -> Result<Tree, Memory>
+/// `program p; var y;`, the statements, and `end;` on line 3.
+fn tree(alloc: Global) -> Result<Tree, Memory>
     ensures { IfOk result (λ t. t.modes ≡ []) }
 {
     let mut vars = Items::new(alloc);
@@ -73,7 +54,7 @@ fn tree(alloc: Global, value: TreeExpr) -> Result<Tree, Memory>
         name: Text::of(alloc, b"p")?,
         vars,
         modes: Items::new(alloc),
-        body: statements(alloc, value)?,
+        body: statements(alloc)?,
         procs: Items::new(alloc),
         end_name: None,
         end_line: 3,
@@ -144,33 +125,10 @@ fn is_assignment(xs: &[Stmt], own: &Variable, bound: &Variable, global: &Variabl
     }
 }
 
-/// Whether this is `{z : z in x}` with these variables.
-fn is_copied(x: &Expr, z: &Variable, source: &Variable) -> bool {
-    match x {
-        Expr::Former(Collection::OfSet, value, iterators, None) => {
-            is_name(value.get(), z) && is_over(iterators.as_slice(), z, source)
-        }
-        _ => false,
-    }
-}
-
-/// Whether these are one iterator over `{z : z in x}` with these variables.
-fn is_over_copied(xs: &[Iterator], bound: &Variable, z: &Variable, source: &Variable) -> bool {
-    match xs {
-        [only] => match (&only.binding, only.sources.as_slice()) {
-            (Binding::Member(Source::Values, variable), [from]) => {
-                is_variable(variable, bound) && is_copied(from, z, source)
-            }
-            _ => false,
-        },
-        _ => false,
-    }
-}
-
 #[test]
 fn names_become_their_variables(rt: HostRuntime) -> Result<(), Fail> {
     let alloc = rt.alloc();
-    let tree = tree(alloc, former(alloc)?)?;
+    let tree = tree(alloc)?;
     let program = elaborate(alloc, &tree, Items::new(alloc))?;
     let own = Variable::Own(0, Text::of(alloc, b"x")?);
     let bound = Variable::Former(1, Text::of(alloc, b"x")?);
@@ -178,36 +136,5 @@ fn names_become_their_variables(rt: HostRuntime) -> Result<(), Fail> {
     assert!(rt; is_assignment(program.main.as_slice(), &own, &bound, &global));
     assert_eq!(rt; program.name.bytes(), b"p".as_slice());
     assert_eq!(rt; program.end_line, 3);
-    Ok(())
-}
-
-/// The value of the one assignment.
-fn assigned(xs: &[Stmt]) -> Option<&Expr> {
-    match xs {
-        [only] => match &only.kind {
-            StmtKind::Assign(_, value) => Some(value),
-            _ => None,
-        },
-        _ => None,
-    }
-}
-
-#[test]
-fn formers_of_the_value_count_before_those_of_the_iterators(rt: HostRuntime) -> Result<(), Fail> {
-    let alloc = rt.alloc();
-    let tree = tree(alloc, nested(alloc)?)?;
-    let program = elaborate(alloc, &tree, Items::new(alloc))?;
-    let own = Variable::Own(0, Text::of(alloc, b"x")?);
-    let bound = Variable::Former(1, Text::of(alloc, b"x")?);
-    let first = Variable::Former(2, Text::of(alloc, b"z")?);
-    let second = Variable::Former(3, Text::of(alloc, b"z")?);
-    let holds = match assigned(program.main.as_slice()) {
-        Some(Expr::Former(Collection::OfSet, value, iterators, None)) => {
-            is_copied(value.get(), &first, &bound)
-                && is_over_copied(iterators.as_slice(), &bound, &second, &own)
-        }
-        _ => false,
-    };
-    assert!(rt; holds);
     Ok(())
 }
