@@ -42,7 +42,7 @@ impl Watcher for Counting {
     }
 }
 
-fn counting(name: u8, most: u8) -> Counting {
+fn new_counting(name: u8, most: u8) -> Counting {
     Counting {
         name,
         told: 0,
@@ -64,7 +64,7 @@ fn reports_come_in_the_order_in_which_watchers_have_enough(rt: HostRuntime) -> R
     let alloc = rt.alloc();
     let mut watchers: Vec<Box<dyn Watcher>> = Vec::new(alloc);
     for most in [3, 2, 1, 9, 2] {
-        watchers.push(Box::new(alloc, counting(most + 10, most))?)?;
+        watchers.push(Box::new(alloc, new_counting(most + 10, most))?)?;
     }
     let mut reports = Vec::new(alloc);
     tell(&mut watchers, &Event::Kept, &mut reports)?;
