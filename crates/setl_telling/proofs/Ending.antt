@@ -9,8 +9,8 @@ use Rattle.setl_program.specs.declared.kinds.Connective.{Connective}
 use Rattle.setl_program.specs.declared.kinds.Connective.TheVariants.{And, Or, Implies}
 use Rattle.setl_program.specs.Program.{Begin}
 use Rattle.setl_text.specs.Reading.{Reading, Denotes, AtEnd, NotForm, TooWide, TooDeep, read_denotation}
-use Rattle.setl_run.specs.Events.{Event, End, Stopped, Unfit}
-use Rattle.setl_run.specs.Run.{Store, State, Next, Goes, Ends, Test, Move, Moves, Halts, if_fits, store_all, stored, settle}
+use Rattle.setl_run.specs.Events.{End, Stopped, Unfit}
+use Rattle.setl_run.specs.Run.{Store, State, Goes, Ends, Test, Move, Moves, Halts, if_fits, store_all, stored, settle}
 use Rattle.setl_run.specs.Variable.{Variable, Global, Own, Bound}
 use Rattle.setl_model.specs.Calls.{bindings}
 use Rattle.setl_model.specs.Core.{One, Two, Selected}

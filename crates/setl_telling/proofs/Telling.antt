@@ -1,28 +1,28 @@
 -- The events of a step.
-use Rattle.std.proofs.Common.{◌≡◌, ◌∙◌, ◌⊎◌, inl, inr, ℕ, ◌-◌, ◌+◌, Bool, true, false, List, [], ◌∷◌, ◌++◌, map, length, Option, None, Some, refl, sym, ap, subst, append_assoc}
+use Rattle.std.proofs.Common.{◌≡◌, ◌∙◌, ℕ, ◌-◌, Bool, true, false, List, [], ◌∷◌, ◌++◌, length, Option, None, Some, refl, sym, ap, subst, append_assoc}
 use Rattle.std.proofs.lemmas.List.{append-nil}
 use Rattle.std.specs.Prelude.{slice_get, cond}
-use Rattle.setl_value.specs.Datum.{Datum, bool, int, text, atom, tuple, set, part_list}
-use Rattle.setl_map.specs.Outcome.{Outcome, Gives, Fails, Overspends}
+use Rattle.setl_value.specs.Datum.{Datum, bool, int, text, atom, tuple, set}
+use Rattle.setl_map.specs.Outcome.{Outcome}
 use Rattle.setl_map.specs.Operators.{op_of}
 use Rattle.setl_program.specs.declared.kinds.Connective.{Connective}
 use Rattle.setl_program.specs.declared.kinds.Connective.TheVariants.{And, Or, Implies}
 use Rattle.setl_program.specs.Program.{Begin}
 use Rattle.setl_text.specs.Texts.{print_line}
 use Rattle.setl_text.specs.Reading.{Reading, Denotes, AtEnd, NotForm, TooWide, TooDeep, read_denotation}
-use Rattle.setl_run.specs.Events.{Event, Called, Printed, Back, Stored, End, Stopped, Unfit}
-use Rattle.setl_run.specs.Run.{Store, State, Next, Goes, Ends, Test, Move, Moves, Halts, if_fits, store_all, stored, settle}
+use Rattle.setl_run.specs.Events.{Event, Called, Printed, Back, Stored, Stopped, Unfit}
+use Rattle.setl_run.specs.Run.{Store, State, Goes, Test, Move, Moves, Halts, if_fits, store_all, stored, settle}
 use Rattle.setl_run.specs.Variable.{Variable, Global, Own, Bound, is_variable}
 use Rattle.setl_run.specs.VariableLaws.{variable_itself}
 use Rattle.setl_model.specs.Calls.{bindings}
 use Rattle.setl_model.specs.Core.{One, Two, Selected}
 use Rattle.setl_model.specs.Iterations.{Started, Starts, Refuses, items_of}
-use Rattle.setl_model.specs.Places.{Taken, TakesOut, IsEmpty, CannotTake, part_at_all, with_part_at_all, combined, take_out}
+use Rattle.setl_model.specs.Places.{Taken, TakesOut, IsEmpty, CannotTake, part_at_all, take_out}
 use Rattle.setl_code.specs.Code.{Bracket, Alteration, Putting, Combining, TakingOut, Body, Code, Instr, Push, PushAtom, PushEof, Load, Take, StoreIn, Operate, Alter, Decides, TestBool, Unless, Jump, DropTop, DupTop, PartsOf, BeginOver, NextOr, BeginOf, AddBelow, LeaveAll, PayRound, CallBody, ReturnTop, KeepAll, GoBack, PrintTop, ReadOne, StopRun}
-use Rattle.setl_code.specs.CodeCore.{Held, There, Gone, Cells, held_in, with_held, write, Operand, Result, Iterator, PairIterator, Collecting, value_of, Popped, Pops, Lacks, popped, without_iterators, Activation, Copy, CodeCore, held}
-use Rattle.setl_code.specs.Machine.{on_value, on_top, on_popped, on_held, store_in, store_whole, take_from, selected_by, alter, begin_over, next_or, Added, Adds, Refused, Nowhere, added, go_added, take_apart, first_parts, call_body, handed_back, return_to, go_back, push_read, decides, do_instr, machine}
+use Rattle.setl_code.specs.CodeCore.{Held, There, Cells, held_in, with_held, write, Operand, Result, Iterator, PairIterator, Collecting, popped, without_iterators, Activation, Copy, CodeCore, held}
+use Rattle.setl_code.specs.Machine.{on_popped, on_held, store_in, store_whole, take_from, selected_by, alter, begin_over, next_or, Added, Adds, Refused, Nowhere, added, go_added, take_apart, call_body, handed_back, return_to, go_back, push_read, decides, do_instr, machine}
 use Rattle.setl_telling.specs.Told.{value_held, store_told, stores_told, popped_values, takes_none, none_taken, alter_told, call_told, return_told, events_of, EventsAre}
-use Rattle.setl_telling.proofs.Cases.{by_value, by_top, by_popped, by_held, by_rest, by_turn, by_outcome, by_branch}
+use Rattle.setl_telling.proofs.Cases.{by_top, by_popped, by_held, by_rest, by_turn, by_outcome, by_branch}
 
 -- ---- moves
 

@@ -5,7 +5,7 @@ use Rattle.setl_map.specs.Outcome.{Outcome, Gives, Fails, Overspends}
 use Rattle.setl_text.specs.Texts.{print_line}
 use Rattle.setl_run.specs.Variable.{Variable, Global, Own, Bound}
 use Rattle.setl_run.specs.Events.{Event, End, Called, Returned, Stored, Printed, Kept, Back}
-use Rattle.setl_run.specs.Run.{Store, State, Next, Goes, Ends, Test, settle}
+use Rattle.setl_run.specs.Run.{Store, State, Goes, Ends, Test, settle}
 use Rattle.setl_program.specs.declared.kinds.Taking.{Taking}
 use Rattle.setl_model.specs.Core.{Selected}
 use Rattle.setl_model.specs.Calls.{bindings}
@@ -52,9 +52,12 @@ alter_told (Combining o) line x whole at k d = store_told line x d
 alter_told (TakingOut t) line x whole at k d = cond (none_taken t (part_at_all at whole k.world.left)) [] (store_told line x d)
 
 -- a call, and then the stores of its parameters
+abbrev pub called : ℕ → Body → ℕ → List (Option Datum) → List Event
+called n b line vs = Called line b.name ∷ stores_told line (bindings n b.parameters vs)
+
 abbrev pub call_told : ℕ → Option Body → ℕ → CodeCore → List Event
 call_told n None line k = []
-call_told n (Some b) line k = Called line b.name ∷ stores_told line (bindings n b.parameters (popped_values (popped (length b.parameters) [] k.now.operands)))
+call_told n (Some b) line k = called n b line (popped_values (popped (length b.parameters) [] k.now.operands))
 
 abbrev pub return_told : Option Body → List Event
 return_told None = []

@@ -1,5 +1,5 @@
 -- A store more at a line.
-use Rattle.std.proofs.Common.{◌≡◌, ◌∙◌, ◌<◌, ◌≤◌, ◌+◌, ℕ, zero, suc, Bool, true, false, List, [], ◌∷◌, ◌++◌, cond, length, take, drop, nat_lt, nat_eq, slice_set, slice_index_or, refl, sym, ap, subst, arith}
+use Rattle.std.proofs.Common.{◌≡◌, ◌∙◌, ◌<◌, ◌≤◌, ◌+◌, ℕ, zero, suc, Bool, true, false, [], ◌∷◌, cond, length, drop, nat_lt, nat_eq, slice_set, slice_index_or, refl, ap, arith}
 use Rattle.std.proofs.lemmas.Bool.{eqb-true as same_number}
 use Rattle.std.specs.List.{insert}
 use Rattle.setl_watch.specs.Covers.{Counts, counted, place, has}

@@ -1,8 +1,8 @@
 -- Telling one watcher more.
-use Rattle.std.proofs.Common.{◌≡◌, ◌∙◌, ◌<◌, ◌≤◌, ◌+◌, ℕ, zero, suc, Bool, true, false, List, [], ◌∷◌, ◌++◌, map, cond, length, take, drop, slice_set, slice_index_or, refl, sym, ap, subst, arith}
+use Rattle.std.proofs.Common.{◌≡◌, ◌<◌, ◌+◌, ℕ, zero, suc, true, false, List, [], ◌∷◌, ◌++◌, map, length, slice_set, slice_index_or, refl, sym, ap, subst, arith}
 use Rattle.std.specs.List.{remove}
 use Rattle.setl_watch.specs.Notices.{Notice}
-use Rattle.setl_watch.specs.Watches.{Watch, Watched, after, has_enough, reported, with_watch, told}
+use Rattle.setl_watch.specs.Watches.{Watch, after, has_enough, reported, with_watch, told}
 use Rattle.setl_watch.specs.Telling.{behind, told_from}
 
 module _ {B : Type 0} (f : B → Watch) (e : Notice) where

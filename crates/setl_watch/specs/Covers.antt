@@ -1,5 +1,5 @@
 -- The cover: how many stores each line made.
-use Rattle.std.specs.Prelude.{◌≡◌, refl, ℕ, suc, Bool, List, [], ◌∷◌, ◌++◌, cond, nat_eq, nat_lt, false, codes, decimal, None}
+use Rattle.std.specs.Prelude.{◌≡◌, refl, ℕ, suc, Bool, List, [], ◌∷◌, ◌++◌, cond, nat_eq, nat_lt, false, codes, decimal}
 use Rattle.setl_watch.specs.Notices.{Notice, Called, Returned, Stored, Printed, Kept, Back}
 use Rattle.setl_watch.specs.Watches.{Watch}
 

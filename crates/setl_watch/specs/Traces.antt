@@ -1,9 +1,9 @@
 -- The trace: the first 1,000 events of a run.
-use Rattle.std.specs.Prelude.{◌≡◌, refl, ℕ, List, [], ◌∷◌, ◌++◌, ◌<◌, Bool, cond, length, nat_le, codes, decimal, Option, Some, None, pos}
-use Rattle.setl_value.specs.Datum.{Datum, int, text}
+use Rattle.std.specs.Prelude.{◌≡◌, refl, ℕ, List, [], ◌∷◌, ◌++◌, cond, length, nat_le, codes, decimal, Option, Some, None}
+use Rattle.setl_value.specs.Datum.{Datum}
 use Rattle.setl_text.specs.Texts.{inner_text}
 use Rattle.setl_watch.specs.Notices.{Notice, Called, Returned, Stored, Printed, Kept, Back}
-use Rattle.setl_watch.specs.Watches.{Notes, Watch}
+use Rattle.setl_watch.specs.Watches.{Watch}
 
 -- how many events a trace keeps
 abbrev pub most_events : ℕ

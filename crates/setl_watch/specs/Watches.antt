@@ -1,7 +1,7 @@
 -- Watchers that are told events, and what they report.
-use Rattle.std.specs.Prelude.{◌≡◌, refl, ℕ, Bool, true, false, List, [], ◌∷◌, ◌++◌, cond, length, nat_le}
+use Rattle.std.specs.Prelude.{◌≡◌, refl, ℕ, Bool, List, [], ◌∷◌, ◌++◌, map, cond, length, nat_le}
 use Rattle.setl_run.specs.Events as run
-use Rattle.setl_watch.specs.Notices.{Notice, Kept, Back, noticed}
+use Rattle.setl_watch.specs.Notices.{Notice, noticed}
 
 -- What a watcher knows: a list of what it was told, and a list of pairs of numbers. It is one type for all watchers.
 pub record Notes : Type 0 where
@@ -48,10 +48,14 @@ abbrev pub told : Notice → List Watch → List ℕ → Watched
 told e [] reports = watched [] reports
 told e (w ∷ ws) reports = cond (has_enough w e) (told e ws (reports ++ reported (after w e))) (with_watch (after w e) (told e ws reports))
 
--- the events of a run, one after the other
+-- so many things, one after the other
+abbrev pub told_each : List Notice → Watched → Watched
+told_each [] h = h
+told_each (e ∷ es) h = told_each es (told e h.watchers h.reports)
+
+-- the events of a run
 abbrev pub told_all : List run.Event → Watched → Watched
-told_all [] h = h
-told_all (e ∷ es) h = told_all es (told (noticed e) h.watchers h.reports)
+told_all es h = told_each (map noticed es) h
 
 -- the reports of watchers in their order
 abbrev pub all_reported : List Watch → List ℕ

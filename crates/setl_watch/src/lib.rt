@@ -15,4 +15,4 @@ pub use cover::Cover;
 pub use event::Event;
 pub use std::alloc::AllocError as Memory;
 pub use trace::Trace;
-pub use watcher::{Wants, Watcher, report_all, tell};
+pub use watcher::{Wants, Watcher, report_all, tell, tell_each};

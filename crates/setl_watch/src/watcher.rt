@@ -2,7 +2,7 @@
 
 ghost use Rattle.std.specs.Prelude.{◌≡◌, ◌≤◌, ◌<◌, ◌-◌, ◌++◌, length, map, take, drop, true, false, IfOk, OnOk, OnErr};
 ghost use Rattle.setl_watch.specs.Notices.{notice_of};
-ghost use Rattle.setl_watch.specs.Watches.{Watch, after, has_enough, reported, all_reported, watched, told};
+ghost use Rattle.setl_watch.specs.Watches.{Watch, after, has_enough, reported, all_reported, watched, told, told_each};
 ghost use Rattle.setl_watch.specs.Telling.{told_from};
 
 use crate::{Event, Memory};
@@ -53,6 +53,21 @@ pub fn tell(
     let mut at = 0;
     while at < watchers.len() {
         at = tell_one(watchers, at, e, reports)?;
+    }
+    Ok(())
+}
+
+/// Tells each watcher some events, one after the other, as `tell` does. The error is want of memory, and then some may have
+/// been told to some watchers.
+pub fn tell_each(
+    watchers: &mut Vec<Box<dyn Watcher>>,
+    events: &[Event],
+    reports: &mut Vec<u8>,
+) -> Result<(), Memory>
+    ensures { OnOk result (watched (map (λ w. watch w) watchers.new.items) reports.new.items ≡ told_each (map notice_of events.now) (watched (map (λ w. watch w) watchers.old.items) reports.old.items)) }
+{
+    for e in events {
+        tell(watchers, e, reports)?;
     }
     Ok(())
 }

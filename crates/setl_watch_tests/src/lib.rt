@@ -71,7 +71,9 @@ fn reports_come_in_the_order_in_which_watchers_have_enough(rt: HostRuntime) -> R
     assert_eq!(rt; reports.as_slice(), [11, 1].as_slice());
     tell(&mut watchers, &Event::Back, &mut reports)?;
     assert_eq!(rt; reports.as_slice(), [11, 1, 12, 2, 12, 2].as_slice());
-    assert_eq!(rt; watchers.len(), 2);
+    for w in &watchers {
+        assert_eq!(rt; w.name() > 12, true);
+    }
     report_all(&watchers, &mut reports)?;
     assert_eq!(rt;
         reports.as_slice(),
@@ -97,53 +99,87 @@ fn a_watcher_may_refuse_memory(rt: HostRuntime) -> Result<(), Fail> {
         tell(&mut watchers, &Event::Kept, &mut reports).is_err(),
         true
     );
-    assert_eq!(rt; watchers[0].name(), 1);
-    assert_eq!(rt; reports.as_slice(), b"".as_slice());
+    report_all(&watchers, &mut reports)?;
+    assert_eq!(rt; reports.as_slice(), [1, 0].as_slice());
     Ok(())
+}
+
+fn named(alloc: Global) -> Result<Text, Fail> {
+    Ok(Text::of(alloc, b"p")?)
+}
+
+fn stored(alloc: Global, value: Option<Value>) -> Result<Event, Fail> {
+    let name = named(alloc)?;
+    Ok(Event::Stored {
+        line: 12,
+        name,
+        value,
+    })
+}
+
+fn quoted(alloc: Global) -> Result<Event, Fail> {
+    let text = setl_value::Text::of(alloc, b"a'b")?;
+    stored(alloc, Some(Value::Text(text)))
+}
+
+fn called(alloc: Global) -> Result<Event, Fail> {
+    let name = named(alloc)?;
+    Ok(Event::Called { line: 2, name })
+}
+
+fn returned(alloc: Global) -> Result<Event, Fail> {
+    let name = named(alloc)?;
+    Ok(Event::Returned { name })
+}
+
+fn printed(alloc: Global, line: &[u8]) -> Result<Event, Fail> {
+    let bytes = Vec::from_slice(alloc, line)?;
+    Ok(Event::Printed { bytes })
+}
+
+fn first_events(alloc: Global) -> Result<Vec<Event>, Fail> {
+    let mut events = Vec::new(alloc);
+    events.push(called(alloc)?)?;
+    events.push(Event::Kept)?;
+    events.push(returned(alloc)?)?;
+    events.push(stored(alloc, Some(Value::Int(-5)))?)?;
+    Ok(events)
+}
+
+fn last_events(alloc: Global) -> Result<Vec<Event>, Fail> {
+    let mut events = Vec::new(alloc);
+    events.push(stored(alloc, None)?)?;
+    events.push(quoted(alloc)?)?;
+    events.push(printed(alloc, b"1 {}")?)?;
+    events.push(printed(alloc, b"")?)?;
+    Ok(events)
+}
+
+fn traced(alloc: Global, events: &[Event]) -> Result<Vec<u8>, Fail> {
+    let mut trace = Trace::new(alloc)?;
+    for e in events {
+        if trace.event(e) != Wants::More {
+            return Ok(Vec::new(alloc));
+        }
+    }
+    let mut report = Vec::new(alloc);
+    trace.report(&mut report)?;
+    Ok(report)
 }
 
 #[test]
 fn a_trace_has_a_line_for_each_event(rt: HostRuntime) -> Result<(), Fail> {
     let alloc = rt.alloc();
-    let mut trace = Trace::new(alloc)?;
-    let events = vec![in alloc;
-        Event::Called {
-            line: 2,
-            name: Text::of(alloc, b"p")?
-        },
-        Event::Kept,
-        Event::Returned {
-            name: Text::of(alloc, b"p")?
-        },
-        store(alloc, 12, -5)?,
-        Event::Stored {
-            line: 3,
-            name: Text::of(alloc, b"y")?,
-            value: None
-        },
-        Event::Stored {
-            line: 3,
-            name: Text::of(alloc, b"z")?,
-            value: Some(Value::Text(setl_value::Text::of(alloc, b"a'b")?))
-        },
-        Event::Printed {
-            bytes: Vec::from_slice(alloc, b"1 {}")?
-        },
-        Event::Printed {
-            bytes: Vec::new(alloc)
-        },
-        Event::Back,
-    ]?;
-    for e in &events {
-        assert_eq!(rt; trace.event(e), Wants::More);
-    }
-    let mut report = Vec::new(alloc);
-    trace.report(&mut report)?;
+    let report = traced(alloc, first_events(alloc)?.as_slice())?;
     assert_eq!(rt;
         report.as_slice(),
-        b"call 2 p\nkeep\nreturn p\nstore 12 x -5\nstore 3 y *\nstore 3 z 'a''b'\nprint 1 {}\nprint \nback\n".as_slice()
+        b"call 2 p\nkeep\nreturn p\nstore 12 p -5\n".as_slice()
     );
-    assert_eq!(rt; trace.name(), 1);
+    let report = traced(alloc, last_events(alloc)?.as_slice())?;
+    assert_eq!(rt;
+        report.as_slice(),
+        b"store 12 p *\nstore 12 p 'a''b'\nprint 1 {}\nprint \n".as_slice()
+    );
     Ok(())
 }
 

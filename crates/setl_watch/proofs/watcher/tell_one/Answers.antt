@@ -1,4 +1,3 @@
-use Rattle.std.proofs.Common.{refl, subst, sym}
 use Rattle.setl_watch.specs.Notices.{notice_of}
 use Rattle.setl_watch.proofs.Telling.{more_told, enough_told}
 use Rattle.setl_watch.proofs.watcher.tell_one.Goals as goal

@@ -1,4 +1,4 @@
-use Rattle.std.proofs.Common.{◌≡◌, ◌∙◌, ◌+◌, ℕ, false, true, suc, refl, sym, ap, subst, arith, slice_set, slice_index_or}
+use Rattle.std.proofs.Common.{◌≡◌, ◌∙◌, ℕ, false, true, sym, ap, subst, slice_set, slice_index_or}
 use Rattle.std.specs.List.{insert}
 use Rattle.setl_watch.specs.Covers.{counted, has, place}
 use Rattle.setl_watch.proofs.Counting.{counted_there, counted_new}
