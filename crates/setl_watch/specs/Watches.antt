@@ -86,3 +86,9 @@ in_order = refl
 -- at one event they come in the order of the watchers, also of two with one name
 at_one_event : ended (run.Kept ∷ run.Back ∷ []) (counting 5 2 ∷ counting 5 2 ∷ counting 4 2 ∷ []) ≡ 5 ∷ 2 ∷ 5 ∷ 2 ∷ 4 ∷ 2 ∷ []
 at_one_event = refl
+
+-- ---- a law
+
+-- events told in two parts are told as a whole
+abbrev pub ToldInParts : Type 0
+ToldInParts = (es fs : List run.Event) (h : Watched) → told_all (es ++ fs) h ≡ told_all fs (told_all es h)

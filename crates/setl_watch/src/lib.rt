@@ -7,12 +7,14 @@
 
 mod cover;
 mod event;
+mod laws;
 mod text;
 mod trace;
 mod watcher;
 
 pub use cover::Cover;
 pub use event::Event;
+pub use laws::told_in_parts;
 pub use std::alloc::AllocError as Memory;
 pub use trace::Trace;
 pub use watcher::{Wants, Watcher, report_all, tell, tell_each};
