@@ -1,0 +1,4 @@
+mod Cases
+mod Telling
+mod Ending
+mod Names

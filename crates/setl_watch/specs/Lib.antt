@@ -1,0 +1,5 @@
+pub mod Notices
+pub mod Watches
+pub mod Traces
+pub mod Covers
+pub mod Telling

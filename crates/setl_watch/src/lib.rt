@@ -1,0 +1,20 @@
+//! Watchers: who is told the events of a run, and reports what it was told.
+//!
+//! A watcher is told each event once, in order, up to the one where it has enough. Contracts see a watcher as a `Watch`:
+//! a name, plain data that it knows, how an event changes this and whether the watcher has enough then, and the bytes
+//! that it reports. `Trace` keeps the first 1,000 events, and `Cover` counts the stores of each line.
+#![tactic(auto)]
+
+mod cover;
+mod event;
+mod laws;
+mod text;
+mod trace;
+mod watcher;
+
+pub use cover::Cover;
+pub use event::Event;
+pub use laws::told_in_parts;
+pub use std::alloc::AllocError as Memory;
+pub use trace::Trace;
+pub use watcher::{Wants, Watcher, report_all, tell, tell_each};
