@@ -691,6 +691,7 @@ fn reserve_entries<E>(trail: &mut Trail<E>, n: usize) -> Result<(), Memory>
 }
 
 // Notes what a change replaced, where something is kept.
+#[inline(always)]
 fn note<E: Drop>(trail: &mut Trail<E>, e: E)
     requires { 1 ≤ ready_of (mark_count trail.old.items) trail.old.spare }
     ensures noted { trail.new.items ≡ noted e trail.old.items }
