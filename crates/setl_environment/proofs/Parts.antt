@@ -1,15 +1,29 @@
 -- A change of one part of an environment.
-use Rattle.std.proofs.Common.{◌≡◌, ℕ, ◌-◌, ◌≤◌, List, ◌∷◌, length, refl, ap, sym, subst, ◌∙◌, arith, take}
-use Rattle.std.proofs.lemmas.List.{length-take-le, take-take}
-use Rattle.setl_trail.specs.Trail.{Item, entry, mark_count}
+use Rattle.std.proofs.Common.{◌≡◌, ℕ, zero, suc, ◌+◌, ◌-◌, ◌<◌, ◌≤◌, List, [], ◌∷◌, ◌++◌, length, set, drop, refl, ap, sym, subst, ◌∙◌, arith, take, Option, Some, None, Ok, Err}
+use Rattle.std.proofs.lemmas.List.{length-set, length_push, length-take-le, take-append-le, take-set-le, take-take, take_all}
+use Rattle.std.specs.Prelude.{Result, OnOk, OnErr}
+use Rattle.setl_trail.specs.Trail.{Item, entry, mark, mark_count, latest, without_latest}
 use Rattle.setl_environment.specs.declared.environment.Old.{Old}
 use Rattle.setl_environment.specs.declared.environment.Old.TheVariants.{Slot, Operand, Activation, Member}
 use Rattle.setl_environment.specs.declared.stack.Place.{Place}
-use Rattle.setl_environment.specs.Stack.{StackState, LeadsBack}
+use Rattle.setl_environment.specs.Stack.{StackState, LeadsBack, Fits, IsNear, placed, placed_at}
 use Rattle.setl_environment.specs.Environment.{Contents, Room, EnvironmentState}
-use Rattle.setl_environment.specs.Kept.{noted, IsUndoable, kept_of}
-use Rattle.setl_environment.specs.Undo.{Parts, contents_of, undone, FitsIn, IsTrailOf, kept_contents, HasMore}
-use Rattle.setl_environment.proofs.Undoing.{Changed, changed, changed_freely, undoable_still, unmarked, kept_counted}
+use Rattle.setl_environment.specs.Kept.{base_of, noted, IsUndoable, kept_of}
+use Rattle.setl_environment.specs.Undo.{Parts, contents_of, undone, cut, Reaches, FitsIn, IsTrailOf, kept_contents, HasMore}
+use Rattle.setl_environment.proofs.Undoing.{changed, undoable_still, unmarked, unmarked_base, kept_counted, mark_latest}
+
+-- the lowest n with one of them put back
+cut_placed : {T : Type 0} (n at : ℕ) (o : Option T) (xs : List T) → at < n → at < length xs → placed_at (take n xs) at o ≡ take n (placed_at xs at o)
+cut_placed n at None xs low there =
+    take-take at n xs (omega (arith, low)) ∙ sym (take_all n (take at xs) (omega (arith, low, there, length-take-le at xs)))
+cut_placed n at (Some x) [] low there = absurd (omega (arith, there))
+cut_placed zero at (Some x) (y ∷ xs) low there = absurd (omega (arith, low))
+cut_placed (suc n) zero (Some x) (y ∷ xs) low there = refl
+cut_placed (suc n) (suc at) (Some x) (y ∷ xs) low there = ap (λ l. y ∷ l) (cut_placed n at (Some x) xs (omega (arith, low)) (omega (arith, there)))
+
+cut_near : {T : Type 0} (n at : ℕ) (o : Option T) (xs : List T) → at < n → n ≤ length xs → IsNear xs at o → IsNear (take n xs) at o
+cut_near n at None xs low there near = omega (arith, low, there, near, length-take-le n xs there)
+cut_near n at (Some x) xs low there near = omega (arith, low, there, length-take-le n xs there)
 
 module _ {S O A M : Type 0} where
   still_fits : (q r : Parts S O A M) → HasMore q r → (c : Contents S O A M) (e : Old S O A M) → FitsIn q c e → FitsIn r c e
@@ -34,12 +48,11 @@ module _ {S O A M : Type 0} where
   with_members c xs = record c { members = xs }
 
   -- the trail after more memory was reserved
-  pub roomier : (q r : Parts S O A M) (items : List (Item (Old S O A M))) → HasMore q r → contents_of r ≡ contents_of q → IsTrailOf q items → IsTrailOf r items
-  roomier q r items more same h =
-      subst (λ c. IsUndoable undone (FitsIn r) c items) (sym same) (undoable_still undone (FitsIn q) (FitsIn r) (contents_of q) items (still_fits q r more) h)
-
-  still_none : (q r : Parts S O A M) (items : List (Item (Old S O A M))) → mark_count items ≡ 0 → IsTrailOf q items → IsUndoable undone (FitsIn r) (contents_of q) items
-  still_none q r items none h = subst (IsUndoable undone (FitsIn r) (contents_of q)) (sym (unmarked undone (FitsIn q) (contents_of q) items h none)) tt
+  pub roomier : (q r : Parts S O A M) (n : ℕ) (ns : List ℕ) (items : List (Item (Old S O A M))) → HasMore q r → contents_of r ≡ contents_of q → IsTrailOf q n ns items → IsTrailOf r n ns items
+  roomier q r n ns items more same h = (
+    subst (Reaches n) (sym same) h.0,
+    subst (λ c. IsUndoable undone cut Reaches (FitsIn r) n (cut n c) items ns) (sym same) (undoable_still undone cut Reaches (FitsIn q) (FitsIn r) n (cut n (contents_of q)) items ns (still_fits q r more) h.1),
+  )
 
 abbrev pub room_of_slots : Room → ℕ → Room
 room_of_slots r n = record r { slots = n }
@@ -57,56 +70,148 @@ module _ {S O A M K : Type 0} where
   abbrev pub state : Contents S O A M → List (Contents S O A M × K) → ℕ → Room → EnvironmentState S O A M K
   state c kept ready room = record { now = c; kept = kept; ready = ready; room = room }
 
-  -- the trail, what was kept and the number of marks after a change of q to r
-  abbrev pub IsNoted : Parts S O A M → Parts S O A M → List (Item (Old S O A M)) → List (Item (Old S O A M)) → List K → Type 0
-  IsNoted q r items now ks = Changed undone (FitsIn r) (contents_of q) (contents_of r) items now ks
+  -- the trail, what was kept and the number of marks after a change of q to r, where the lowest n operands, and then m,
+  -- are as they were kept or noted
+  pub record IsNoted (q r : Parts S O A M) (n m : ℕ) (ns : List ℕ) (items now : List (Item (Old S O A M))) (ks : List K) : Type 0 where
+    pub undoable : IsTrailOf r m ns now
+    pub kept : kept_contents r m ns now ks ≡ kept_contents q n ns items ks
+    pub marks : mark_count now ≡ mark_count items
 
-  part_changed : (q r : Parts S O A M) (e : Old S O A M) (items now : List (Item (Old S O A M))) (ks : List K) → HasMore q r → FitsIn r (contents_of r) e → undone (contents_of r) e ≡ contents_of q → now ≡ noted e items → IsTrailOf q items → IsNoted q r items now ks
-  part_changed q r e items now ks more there back is h =
-      changed undone (FitsIn r) (contents_of q) (contents_of r) e items now ks there back is
-      (undoable_still undone (FitsIn q) (FitsIn r) (contents_of q) items (still_fits q r more) h)
+  part_changed : (q r : Parts S O A M) (n m : ℕ) (ns : List ℕ) (e : Old S O A M) (items now : List (Item (Old S O A M))) (ks : List K) → HasMore q r → m ≤ n → Reaches m (contents_of r) →
+      FitsIn r (cut m (contents_of r)) e → undone (cut m (contents_of r)) e ≡ cut n (contents_of q) → now ≡ noted e items → IsTrailOf q n ns items → IsNoted q r n m ns items now ks
+  part_changed q r n m ns e items now ks more less there fits back is h =
+      let done = changed undone cut Reaches (FitsIn r) n m (cut n (contents_of q)) (cut m (contents_of r)) e items now ns ks less fits back is
+      (undoable_still undone cut Reaches (FitsIn q) (FitsIn r) n (cut n (contents_of q)) items ns (still_fits q r more) h.1) in
+      record { undoable = (there, done.undoable); kept = done.kept; marks = done.marks }
 
-  pub slot_changed : (q : Parts S O A M) (new : StackState S) (p : Place S) (items now : List (Item (Old S O A M))) (ks : List K) → LeadsBack S q.slots new p → now ≡ noted (Slot p) items → IsTrailOf q items → IsNoted q (record q { slots = new }) items now ks
-  slot_changed q new p items now ks back is h =
-      part_changed q (record q { slots = new }) (Slot p) items now ks (record { slots = omega (arith, back.room); operands = omega arith; activations = omega arith; members = omega arith }) back.fits
-      (ap (λ l. contents l q.operands.items q.activations.items q.members.items) back.undone) is h
+  pub slot_changed : (q : Parts S O A M) (n : ℕ) (ns : List ℕ) (new : StackState S) (p : Place S) (items now : List (Item (Old S O A M))) (ks : List K) → LeadsBack S q.slots new p → now ≡ noted (Slot p) items → IsTrailOf q n ns items → IsNoted q (record q { slots = new }) n n ns items now ks
+  slot_changed q n ns new p items now ks back is h =
+      part_changed q (record q { slots = new }) n n ns (Slot p) items now ks (record { slots = omega (arith, back.room); operands = omega arith; activations = omega arith; members = omega arith }) (omega arith) h.0 back.fits
+      (ap (λ l. contents l (take n q.operands.items) q.activations.items q.members.items) back.undone) is h
 
-  pub operand_changed : (q : Parts S O A M) (new : StackState O) (p : Place O) (items now : List (Item (Old S O A M))) (ks : List K) → LeadsBack O q.operands new p → now ≡ noted (Operand p) items → IsTrailOf q items → IsNoted q (record q { operands = new }) items now ks
-  operand_changed q new p items now ks back is h =
-      part_changed q (record q { operands = new }) (Operand p) items now ks (record { slots = omega arith; operands = omega (arith, back.room); activations = omega arith; members = omega arith }) back.fits
-      (ap (λ l. contents q.slots.items l q.activations.items q.members.items) back.undone) is h
+  -- operands that change above the lowest n
+  pub operands_hidden : (q : Parts S O A M) (n : ℕ) (ns : List ℕ) (new : StackState O) (items : List (Item (Old S O A M))) (ks : List K) → new.room ≡ q.operands.room → n ≤ length new.items → take n new.items ≡ take n q.operands.items → IsTrailOf q n ns items → IsNoted q (record q { operands = new }) n n ns items items ks
+  operands_hidden q n ns new items ks room there same h =
+      let r = record q { operands = new } in
+      let more : HasMore q r = record { slots = omega arith; operands = omega (arith, room); activations = omega arith; members = omega arith } in
+      record {
+        undoable = (
+          there,
+          subst (λ l. IsUndoable undone cut Reaches (FitsIn r) n (contents q.slots.items l q.activations.items q.members.items) items ns) (sym same)
+              (undoable_still undone cut Reaches (FitsIn q) (FitsIn r) n (cut n (contents_of q)) items ns (still_fits q r more) h.1),
+        );
+        kept = ap (λ l. kept_of undone cut (contents q.slots.items l q.activations.items q.members.items) items ns ks) same;
+        marks = refl;
+      }
 
-  pub activation_changed : (q : Parts S O A M) (new : StackState A) (p : Place A) (items now : List (Item (Old S O A M))) (ks : List K) → LeadsBack A q.activations new p → now ≡ noted (Activation p) items → IsTrailOf q items → IsNoted q (record q { activations = new }) items now ks
-  activation_changed q new p items now ks back is h =
-      part_changed q (record q { activations = new }) (Activation p) items now ks (record { slots = omega arith; operands = omega arith; activations = omega (arith, back.room); members = omega arith }) back.fits
-      (ap (λ l. contents q.slots.items q.operands.items l q.members.items) back.undone) is h
+  -- the last of the lowest n is taken off, and nothing is above it
+  pub operand_popped : (q : Parts S O A M) (n : ℕ) (ns : List ℕ) (new : StackState O) (p : Place O) (items now : List (Item (Old S O A M))) (ks : List K) → LeadsBack O q.operands new p → p.at < n → p.at ≡ length new.items → length q.operands.items ≡ p.at + 1 →
+      now ≡ noted (Operand p) items → IsTrailOf q n ns items → IsNoted q (record q { operands = new }) n p.at ns items now ks
+  operand_popped q n ns new p items now ks back low at_end long is h =
+      let r = record q { operands = new } in
+      let whole : take p.at new.items ≡ new.items = take_all p.at new.items (omega (arith, at_end)) in
+      let all : take n q.operands.items ≡ q.operands.items = take_all n q.operands.items (omega (arith, low, long)) in
+      part_changed q r n p.at ns (Operand p) items now ks (record { slots = omega arith; operands = omega (arith, back.room); activations = omega arith; members = omega arith }) (omega (arith, low)) (omega (arith, at_end))
+      (subst (λ l. Fits O l new.room p) (sym whole) back.fits)
+      (ap (λ l. contents q.slots.items l q.activations.items q.members.items) (ap (λ l. placed l p) whole ∙ back.undone ∙ sym all)) is h
 
-  pub member_changed : (q : Parts S O A M) (new : StackState M) (p : Place M) (items now : List (Item (Old S O A M))) (ks : List K) → LeadsBack M q.members new p → now ≡ noted (Member p) items → IsTrailOf q items → IsNoted q (record q { members = new }) items now ks
-  member_changed q new p items now ks back is h =
-      part_changed q (record q { members = new }) (Member p) items now ks (record { slots = omega arith; operands = omega arith; activations = omega arith; members = omega (arith, back.room) }) back.fits
-      (ap (λ l. contents q.slots.items q.operands.items q.activations.items l) back.undone) is h
+  -- one of the lowest n is another now
+  pub operand_set : (q : Parts S O A M) (n : ℕ) (ns : List ℕ) (new : StackState O) (p : Place O) (items now : List (Item (Old S O A M))) (ks : List K) → LeadsBack O q.operands new p → p.at < n → length new.items ≡ length q.operands.items →
+      now ≡ noted (Operand p) items → IsTrailOf q n ns items → IsNoted q (record q { operands = new }) n n ns items now ks
+  operand_set q n ns new p items now ks back low long is h =
+      let r = record q { operands = new } in
+      part_changed q r n n ns (Operand p) items now ks (record { slots = omega arith; operands = omega (arith, back.room); activations = omega arith; members = omega arith }) (omega arith) (omega (arith, h.0, long))
+      (record { inside = back.fits.inside; near = cut_near n p.at p.content new.items low (omega (arith, h.0, long)) back.fits.near })
+      (ap (λ l. contents q.slots.items l q.activations.items q.members.items) (cut_placed n p.at p.content new.items low (omega (arith, low, h.0, long)) ∙ ap (take n) back.undone)) is h
 
-  -- any change where nothing is kept
-  pub freely_changed : (q r : Parts S O A M) (items : List (Item (Old S O A M))) (ks : List K) → length (kept_contents q items ks) ≡ 0 → mark_count items ≡ length ks → IsTrailOf q items → IsNoted q r items items ks
-  freely_changed q r items ks none counted h =
-      let unmarked : mark_count items ≡ 0 = sym (kept_counted undone (contents_of q) items ks counted) ∙ none in
-      let empty = changed_freely undone (FitsIn q) (contents_of q) (contents_of r) items ks h unmarked in
-      record { undoable = (changed_freely undone (FitsIn r) (contents_of q) (contents_of r) items ks (still_none q r items unmarked h) unmarked).undoable; kept = empty.kept; marks = refl }
+  -- one above them is another now
+  pub operand_set_above : (q : Parts S O A M) (n : ℕ) (ns : List ℕ) (new : StackState O) (at : ℕ) (v : O) (items : List (Item (Old S O A M))) (ks : List K) → new.items ≡ set q.operands.items at v → new.room ≡ q.operands.room → n ≤ at → IsTrailOf q n ns items → IsNoted q (record q { operands = new }) n n ns items items ks
+  operand_set_above q n ns new at v items ks is room low h =
+      operands_hidden q n ns new items ks room (omega (arith, h.0, ap length is, length-set q.operands.items at v)) (ap (take n) is ∙ take-set-le n q.operands.items at v low) h
+
+  -- one more
+  pub operand_added : (q : Parts S O A M) (n : ℕ) (ns : List ℕ) (new : StackState O) (v : O) (items : List (Item (Old S O A M))) (ks : List K) → new.items ≡ q.operands.items ++ v ∷ [] → new.room ≡ q.operands.room → IsTrailOf q n ns items → IsNoted q (record q { operands = new }) n n ns items items ks
+  operand_added q n ns new v items ks is room h =
+      operands_hidden q n ns new items ks room (omega (arith, h.0, ap length is, length_push q.operands.items v)) (ap (take n) is ∙ take-append-le n q.operands.items (v ∷ []) h.0) h
+
+  -- some above them are taken off
+  pub operands_cut : (q : Parts S O A M) (n : ℕ) (ns : List ℕ) (new : StackState O) (k : ℕ) (items : List (Item (Old S O A M))) (ks : List K) → new.items ≡ take k q.operands.items → new.room ≡ q.operands.room → n ≤ k → k ≤ length q.operands.items → IsTrailOf q n ns items → IsNoted q (record q { operands = new }) n n ns items items ks
+  operands_cut q n ns new k items ks is room low there h =
+      operands_hidden q n ns new items ks room (omega (arith, low, ap length is, length-take-le k q.operands.items there)) (ap (take n) is ∙ take-take n k q.operands.items low) h
+
+  -- the same where this may be refused
+  pub operands_left : {E V : Type 0} (q : Parts S O A M) (n : ℕ) (ns : List ℕ) (new : StackState O) (k : ℕ) (items : List (Item (Old S O A M))) (ks : List K) (r : Result V E) → OnOk r (new.items ≡ take k q.operands.items) → OnErr r (new ≡ q.operands) → new.room ≡ q.operands.room → n ≤ k → k ≤ length q.operands.items → IsTrailOf q n ns items → IsNoted q (record q { operands = new }) n n ns items items ks
+  operands_left q n ns new k items ks (Ok v) taken refused room low there h = operands_cut q n ns new k items ks taken room low there h
+  operands_left q n ns new k items ks (Err e) taken refused room low there h =
+      operands_cut q n ns new (length q.operands.items) items ks (ap (λ (s : StackState O). s.items) refused ∙ sym (take_all (length q.operands.items) q.operands.items (omega arith))) room h.0 (omega arith) h
+
+  -- where nothing is kept nothing needs a note
+  pub unkept_base : (q : Parts S O A M) (n : ℕ) (ns : List ℕ) (items : List (Item (Old S O A M))) (ks : List K) → length (kept_contents q n ns items ks) ≡ 0 → mark_count items ≡ length ks → IsTrailOf q n ns items → n ≡ 0
+  unkept_base q n ns items ks none counted h =
+      unmarked_base undone cut Reaches (FitsIn q) n (cut n (contents_of q)) items ns h.1 (sym (kept_counted undone cut (cut n (contents_of q)) items ns ks counted) ∙ none)
+
+  pub activation_changed : (q : Parts S O A M) (n : ℕ) (ns : List ℕ) (new : StackState A) (p : Place A) (items now : List (Item (Old S O A M))) (ks : List K) → LeadsBack A q.activations new p → now ≡ noted (Activation p) items → IsTrailOf q n ns items → IsNoted q (record q { activations = new }) n n ns items now ks
+  activation_changed q n ns new p items now ks back is h =
+      part_changed q (record q { activations = new }) n n ns (Activation p) items now ks (record { slots = omega arith; operands = omega arith; activations = omega (arith, back.room); members = omega arith }) (omega arith) h.0 back.fits
+      (ap (λ l. contents q.slots.items (take n q.operands.items) l q.members.items) back.undone) is h
+
+  pub member_changed : (q : Parts S O A M) (n : ℕ) (ns : List ℕ) (new : StackState M) (p : Place M) (items now : List (Item (Old S O A M))) (ks : List K) → LeadsBack M q.members new p → now ≡ noted (Member p) items → IsTrailOf q n ns items → IsNoted q (record q { members = new }) n n ns items now ks
+  member_changed q n ns new p items now ks back is h =
+      part_changed q (record q { members = new }) n n ns (Member p) items now ks (record { slots = omega arith; operands = omega arith; activations = omega arith; members = omega (arith, back.room) }) (omega arith) h.0 back.fits
+      (ap (λ l. contents q.slots.items (take n q.operands.items) q.activations.items l) back.undone) is h
+
+  -- any change where nothing is kept, of which the lowest n operands are told
+  pub freely_changed : (q r : Parts S O A M) (n : ℕ) (ns : List ℕ) (items : List (Item (Old S O A M))) (ks : List K) → length (kept_contents q n ns items ks) ≡ 0 → mark_count items ≡ length ks → IsTrailOf q n ns items → IsNoted q r n n ns items items ks
+  freely_changed q r n ns items ks none counted h =
+      let bare : mark_count items ≡ 0 = sym (kept_counted undone cut (cut n (contents_of q)) items ns ks counted) ∙ none in
+      let base = unmarked_base undone cut Reaches (FitsIn q) n (cut n (contents_of q)) items ns h.1 bare in
+      let empty = unmarked undone cut Reaches (FitsIn q) n (cut n (contents_of q)) items ns h.1 bare in
+      subst (λ l. IsNoted q r n n ns l l ks) (sym empty) (record { undoable = (omega (arith, base), base); kept = refl; marks = refl })
 
   -- after the latest entry was put back into q, which makes r, the rest of the trail leads on
-  pub record StepBack (q r : Parts S O A M) (items rest : List (Item (Old S O A M))) (ks : List K) : Type 0 where
-    pub undoable : IsTrailOf r rest
-    pub kept : kept_contents r rest ks ≡ kept_contents q items ks
+  pub record StepBack (q r : Parts S O A M) (n : ℕ) (ns : List ℕ) (items rest : List (Item (Old S O A M))) (ks : List K) : Type 0 where
+    pub undoable : IsUndoable undone cut Reaches (FitsIn r) n (contents_of r) rest ns
+    pub kept : kept_of undone cut (contents_of r) rest ns ks ≡ kept_of undone cut (contents_of q) items ns ks
     pub marks : mark_count rest ≡ mark_count items
 
-  pub step_back : (q r : Parts S O A M) (e : Old S O A M) (items rest : List (Item (Old S O A M))) (ks : List K) → items ≡ entry e ∷ rest → contents_of r ≡ undone (contents_of q) e → HasMore q r → IsTrailOf q items → StepBack q r items rest ks
-  step_back q r e items rest ks is back more h =
-      let below : IsTrailOf q (entry e ∷ rest) = subst (IsTrailOf q) is h in
+  -- what was kept is what the entries lead to
+  pub record StepBegun (q r : Parts S O A M) (n : ℕ) (ns : List ℕ) (items : List (Item (Old S O A M))) (ks : List K) : Type 0 where
+    pub undoable : IsUndoable undone cut Reaches (FitsIn r) n (contents_of r) items ns
+    pub kept : kept_of undone cut (contents_of r) items ns ks ≡ kept_contents q n ns items ks
+
+  -- once the operands of which nothing is noted were cut off
+  pub step_begun : (q : Parts S O A M) (n : ℕ) (ns : List ℕ) (new : StackState O) (items : List (Item (Old S O A M))) (ks : List K) → new.items ≡ take n q.operands.items → new.room ≡ q.operands.room → IsTrailOf q n ns items → StepBegun q (record q { operands = new }) n ns items ks
+  step_begun q n ns new items ks is room h =
+      let r = record q { operands = new } in
+      let same : contents_of r ≡ cut n (contents_of q) = ap (with_operands (contents_of q)) is in
       record {
-        undoable = subst (λ c. IsUndoable undone (FitsIn r) c rest) (sym back) (undoable_still undone (FitsIn q) (FitsIn r) (undone (contents_of q) e) rest (still_fits q r more) below.2);
-        kept = ap (λ c. kept_of undone c rest ks) back ∙ sym (ap (λ l. kept_contents q l ks) is);
+        undoable = subst (λ c. IsUndoable undone cut Reaches (FitsIn r) n c items ns) (sym same) (undoable_still undone cut Reaches (FitsIn q) (FitsIn r) n (cut n (contents_of q)) items ns (still_fits q r (record { slots = omega arith; operands = omega (arith, room); activations = omega arith; members = omega arith })) h.1);
+        kept = ap (λ c. kept_of undone cut c items ns ks) same;
+      }
+
+  pub step_back : (q r : Parts S O A M) (n : ℕ) (ns : List ℕ) (e : Old S O A M) (items rest : List (Item (Old S O A M))) (ks : List K) → items ≡ entry e ∷ rest → contents_of r ≡ undone (contents_of q) e → HasMore q r → IsUndoable undone cut Reaches (FitsIn q) n (contents_of q) items ns → StepBack q r n ns items rest ks
+  step_back q r n ns e items rest ks is back more h =
+      let below : IsUndoable undone cut Reaches (FitsIn q) n (contents_of q) (entry e ∷ rest) ns = subst (λ l. IsUndoable undone cut Reaches (FitsIn q) n (contents_of q) l ns) is h in
+      record {
+        undoable = subst (λ c. IsUndoable undone cut Reaches (FitsIn r) n c rest ns) (sym back) (undoable_still undone cut Reaches (FitsIn q) (FitsIn r) n (undone (contents_of q) e) rest ns (still_fits q r more) below.2);
+        kept = ap (λ c. kept_of undone cut c rest ns ks) back ∙ sym (ap (λ l. kept_of undone cut (contents_of q) l ns ks) is);
         marks = sym (ap mark_count is);
       }
+
+module _ {S O A M K : Type 0} where
+  -- where no entry is latest, that is what was kept last
+  pub record AtMark (q : Parts S O A M) (m : ℕ) (ms ns : List ℕ) (items rest : List (Item (Old S O A M))) (k : K) (ks : List K) : Type 0 where
+    pub undoable : IsTrailOf q m ms rest
+    pub kept : kept_of undone cut (contents_of q) items ns (k ∷ ks) ≡ (contents_of q, k) ∷ kept_contents q m ms rest ks
+    pub marks : mark_count items ≡ suc (mark_count rest)
+
+  pub at_mark : (q : Parts S O A M) (n m : ℕ) (ms ns : List ℕ) (items rest : List (Item (Old S O A M))) (k : K) (ks : List K) → latest items ≡ None → 0 < mark_count items → rest ≡ without_latest items → m ≡ base_of ns → ms ≡ drop 1 ns →
+      IsUndoable undone cut Reaches (FitsIn q) n (contents_of q) items ns → AtMark q m ms ns items rest k ks
+  at_mark q n m ms ns items rest k ks none some left base bases h =
+      let is : items ≡ mark ∷ rest = mark_latest items none some ∙ ap (λ l. mark ∷ l) (sym left) in
+      let below : IsUndoable undone cut Reaches (FitsIn q) n (contents_of q) (mark ∷ rest) ns = subst (λ l. IsUndoable undone cut Reaches (FitsIn q) n (contents_of q) l ns) is h in
+      let there : AtMark q (base_of ns) (drop 1 ns) ns (mark ∷ rest) rest k ks = record { undoable = below; kept = refl; marks = refl } in
+      subst (λ l. AtMark q m ms ns l rest k ks) (sym is) (subst (λ b. AtMark q b ms ns (mark ∷ rest) rest k ks) (sym base) (subst (λ b. AtMark q (base_of ns) b ns (mark ∷ rest) rest k ks) (sym bases) there))
 
 -- one value less
 pub one_less : {T : Type 0} (xs : List T) (n m : ℕ) → n ≤ length xs → m ≡ n - 1 → take (length (take n xs) - 1) (take n xs) ≡ take m xs

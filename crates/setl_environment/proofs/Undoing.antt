@@ -1,9 +1,9 @@
 -- What a change that is noted leaves of what was kept.
-use Rattle.std.proofs.Common.{◌≡◌, ℕ, zero, suc, ◌<◌, List, [], ◌∷◌, length, refl, ap, sym, ◌∙◌, subst, arith, Some, None}
+use Rattle.std.proofs.Common.{◌≡◌, ℕ, zero, suc, ◌<◌, ◌≤◌, List, [], ◌∷◌, length, drop, refl, ap, sym, ◌∙◌, subst, arith, Some, None}
 use Rattle.std.proofs.lemmas.Option.{none-some}
 use Rattle.setl_trail.specs.Trail.{Item, entry, mark, mark_count, latest, without_latest}
 use Rattle.setl_environment.proofs.Places.{some_same}
-use Rattle.setl_environment.specs.Kept.{IsUndoable, noted, noted_by, kept_of}
+use Rattle.setl_environment.specs.Kept.{base_of, IsUndoable, noted, noted_by, kept_of}
 
 module _ {E : Type 0} where
   marks_noted_by : (n : ℕ) (e : E) (items : List (Item E)) → mark_count (noted_by n e items) ≡ mark_count items
@@ -21,63 +21,82 @@ module _ {E : Type 0} where
   mark_latest (entry f ∷ items) h m = absurd (none-some f (sym h))
   mark_latest (mark ∷ items) h m = refl
 
-module _ {C E : Type 0} (undone : C → E → C) where
-  module _ (fits : C → E → Type 0) where
-    -- where there is no mark there is no entry
-    pub unmarked : (c : C) (items : List (Item E)) → IsUndoable undone fits c items → mark_count items ≡ 0 → items ≡ []
-    unmarked c [] h none = refl
-    unmarked c (entry e ∷ items) h none = absurd (omega (arith, h.0, none))
-    unmarked c (mark ∷ items) h none = absurd (omega (arith, none))
+module _ {C E : Type 0} (undone : C → E → C) (cut : ℕ → C → C) where
+  module _ (reaches : ℕ → C → Type 0) where
+    module _ (fits : C → E → Type 0) where
+      abbrev Leads : ℕ → C → List (Item E) → List ℕ → Type 0
+      Leads n c items ns = IsUndoable undone cut reaches fits n c items ns
 
-    noted_undoable : (n : ℕ) (c d : C) (e : E) (items : List (Item E)) → mark_count items ≡ n → fits d e → undone d e ≡ c → IsUndoable undone fits c items → IsUndoable undone fits d (noted_by n e items)
-    noted_undoable zero c d e items marks there back h = subst (IsUndoable undone fits d) (sym (unmarked c items h marks)) tt
-    noted_undoable (suc n) c d e items marks there back h = (omega (arith, marks), there, subst (λ b. IsUndoable undone fits b items) (sym back) h)
+      -- where there is no mark there is no entry
+      pub unmarked : (n : ℕ) (c : C) (items : List (Item E)) (ns : List ℕ) → IsUndoable undone cut reaches fits n c items ns → mark_count items ≡ 0 → items ≡ []
+      unmarked n c [] ns h none = refl
+      unmarked n c (entry e ∷ items) ns h none = absurd (omega (arith, h.0, none))
+      unmarked n c (mark ∷ items) ns h none = absurd (omega (arith, none))
 
-    noted_kept : {K : Type 0} (n : ℕ) (c d : C) (e : E) (items : List (Item E)) (ks : List K) → mark_count items ≡ n → undone d e ≡ c → IsUndoable undone fits c items → kept_of undone d (noted_by n e items) ks ≡ kept_of undone c items ks
-    noted_kept zero c d e items ks marks back h =
-        let none = unmarked c items h marks in
-        ap (λ l. kept_of undone d l ks) none ∙ sym (ap (λ l. kept_of undone c l ks) none)
-    noted_kept (suc n) c d e items ks marks back h = ap (λ b. kept_of undone b items ks) back
+      -- and nothing of what is there needs a note
+      pub unmarked_base : (n : ℕ) (c : C) (items : List (Item E)) (ns : List ℕ) → IsUndoable undone cut reaches fits n c items ns → mark_count items ≡ 0 → n ≡ 0
+      unmarked_base n c [] ns h none = h
+      unmarked_base n c (entry e ∷ items) ns h none = absurd (omega (arith, h.0, none))
+      unmarked_base n c (mark ∷ items) ns h none = absurd (omega (arith, none))
 
-    -- after a change: each entry can still be put back, and what was kept and the number of marks stay
-    pub record Changed {K : Type 0} (c d : C) (items now : List (Item E)) (ks : List K) : Type 0 where
-      pub undoable : IsUndoable undone fits d now
-      pub kept : kept_of undone d now ks ≡ kept_of undone c items ks
-      pub marks : mark_count now ≡ mark_count items
+      -- under a mark another number does as well
+      rebased : (n m : ℕ) (c : C) (items : List (Item E)) (ns : List ℕ) → 0 < mark_count items → Leads n c items ns → Leads m c items ns
+      rebased n m c [] ns some h = absurd (omega (arith, some))
+      rebased n m c (entry e ∷ items) ns some h = (h.0, h.1, rebased n m (undone c e) items ns some h.2)
+      rebased n m c (mark ∷ items) ns some h = h
 
-    -- a change that is noted
-    pub changed : {K : Type 0} (c d : C) (e : E) (items now : List (Item E)) (ks : List K) → fits d e → undone d e ≡ c → now ≡ noted e items → IsUndoable undone fits c items → Changed c d items now ks
-    changed c d e items now ks there back is h =
-        subst (λ l. Changed c d items l ks) (sym is) (record {
-          undoable = noted_undoable (mark_count items) c d e items refl there back h;
-          kept = noted_kept (mark_count items) c d e items ks refl back h;
-          marks = marks_noted_by (mark_count items) e items;
-        })
+      noted_undoable : (k n m : ℕ) (c d : C) (e : E) (items : List (Item E)) (ns : List ℕ) → mark_count items ≡ k → m ≤ n → fits d e → undone d e ≡ c → Leads n c items ns → Leads m d (noted_by k e items) ns
+      noted_undoable zero n m c d e items ns marks less there back h =
+          let base = unmarked_base n c items ns h marks in
+          subst (λ l. Leads m d l ns) (sym (unmarked n c items ns h marks)) (omega (arith, less, base))
+      noted_undoable (suc k) n m c d e items ns marks less there back h =
+          (omega (arith, marks), there, rebased n m (undone d e) items ns (omega (arith, marks)) (subst (λ b. Leads n b items ns) (sym back) h))
 
-    -- any change where nothing is kept
-    pub changed_freely : {K : Type 0} (c d : C) (items : List (Item E)) (ks : List K) → IsUndoable undone fits c items → mark_count items ≡ 0 → Changed c d items items ks
-    changed_freely c d items ks h none =
-        let empty : items ≡ [] = unmarked c items h none in
-        subst (λ l. Changed c d l l ks) (sym empty) (record { undoable = tt; kept = refl; marks = refl })
+      noted_kept : {K : Type 0} (k n : ℕ) (c d : C) (e : E) (items : List (Item E)) (ns : List ℕ) (ks : List K) → mark_count items ≡ k → undone d e ≡ c → Leads n c items ns → kept_of undone cut d (noted_by k e items) ns ks ≡ kept_of undone cut c items ns ks
+      noted_kept zero n c d e items ns ks marks back h =
+          let none = unmarked n c items ns h marks in
+          ap (λ l. kept_of undone cut d l ns ks) none ∙ sym (ap (λ l. kept_of undone cut c l ns ks) none)
+      noted_kept (suc k) n c d e items ns ks marks back h = ap (λ b. kept_of undone cut b items ns ks) back
 
-  -- what fits less fits more
-  pub undoable_still : (fits more : C → E → Type 0) (c : C) (items : List (Item E)) → ((d : C) (e : E) → fits d e → more d e) → IsUndoable undone fits c items → IsUndoable undone more c items
-  undoable_still fits more c [] wider h = tt
-  undoable_still fits more c (entry e ∷ items) wider h = (h.0, wider c e h.1, undoable_still fits more (undone c e) items wider h.2)
-  undoable_still fits more c (mark ∷ items) wider h = undoable_still fits more c items wider h
+      -- after a change: each entry can still be put back, and what was kept and the number of marks stay
+      pub record Changed {K : Type 0} (m : ℕ) (c d : C) (items now : List (Item E)) (ns : List ℕ) (ks : List K) : Type 0 where
+        pub undoable : IsUndoable undone cut reaches fits m d now ns
+        pub kept : kept_of undone cut d now ns ks ≡ kept_of undone cut c items ns ks
+        pub marks : mark_count now ≡ mark_count items
+
+      -- a change that is noted
+      pub changed : {K : Type 0} (n m : ℕ) (c d : C) (e : E) (items now : List (Item E)) (ns : List ℕ) (ks : List K) → m ≤ n → fits d e → undone d e ≡ c → now ≡ noted e items → IsUndoable undone cut reaches fits n c items ns → Changed m c d items now ns ks
+      changed n m c d e items now ns ks less there back is h =
+          subst (λ l. Changed m c d items l ns ks) (sym is) (record {
+            undoable = noted_undoable (mark_count items) n m c d e items ns refl less there back h;
+            kept = noted_kept (mark_count items) n c d e items ns ks refl back h;
+            marks = marks_noted_by (mark_count items) e items;
+          })
+
+      -- any change where nothing is kept
+      pub changed_freely : {K : Type 0} (n : ℕ) (c d : C) (items : List (Item E)) (ns : List ℕ) (ks : List K) → IsUndoable undone cut reaches fits n c items ns → mark_count items ≡ 0 → Changed n c d items items ns ks
+      changed_freely n c d items ns ks h none =
+          let empty : items ≡ [] = unmarked n c items ns h none in
+          subst (λ l. Changed n c d l l ns ks) (sym empty) (record { undoable = unmarked_base n c items ns h none; kept = refl; marks = refl })
+
+    -- what fits less fits more
+    pub undoable_still : (fits more : C → E → Type 0) (n : ℕ) (c : C) (items : List (Item E)) (ns : List ℕ) → ((d : C) (e : E) → fits d e → more d e) → IsUndoable undone cut reaches fits n c items ns → IsUndoable undone cut reaches more n c items ns
+    undoable_still fits more n c [] ns wider h = h
+    undoable_still fits more n c (entry e ∷ items) ns wider h = (h.0, wider c e h.1, undoable_still fits more n (undone c e) items ns wider h.2)
+    undoable_still fits more n c (mark ∷ items) ns wider h = (h.0, undoable_still fits more (base_of ns) (cut (base_of ns) c) items (drop 1 ns) wider h.1)
 
   -- as many are kept as there are marks
-  pub kept_counted : {K : Type 0} (c : C) (items : List (Item E)) (ks : List K) → mark_count items ≡ length ks → length (kept_of undone c items ks) ≡ mark_count items
-  kept_counted c [] ks h = refl
-  kept_counted c (entry e ∷ items) ks h = kept_counted (undone c e) items ks h
-  kept_counted c (mark ∷ items) [] h = absurd (omega (arith, h))
-  kept_counted c (mark ∷ items) (k ∷ ks) h = ap suc (kept_counted c items ks (omega (arith, h)))
+  pub kept_counted : {K : Type 0} (c : C) (items : List (Item E)) (ns : List ℕ) (ks : List K) → mark_count items ≡ length ks → length (kept_of undone cut c items ns ks) ≡ mark_count items
+  kept_counted c [] ns ks h = refl
+  kept_counted c (entry e ∷ items) ns ks h = kept_counted (undone c e) items ns ks h
+  kept_counted c (mark ∷ items) ns [] h = absurd (omega (arith, h))
+  kept_counted c (mark ∷ items) ns (k ∷ ks) h = ap suc (kept_counted (cut (base_of ns) c) items (drop 1 ns) ks (omega (arith, h)))
 
   -- with no record nothing is kept
-  pub none_kept : (K : Type 0) (c : C) (items : List (Item E)) → kept_of {K = K} undone c items [] ≡ []
-  none_kept K c [] = refl
-  none_kept K c (entry e ∷ items) = none_kept K (undone c e) items
-  none_kept K c (mark ∷ items) = refl
+  pub none_kept : (K : Type 0) (c : C) (items : List (Item E)) (ns : List ℕ) → kept_of {K = K} undone cut c items ns [] ≡ []
+  none_kept K c [] ns = refl
+  none_kept K c (entry e ∷ items) ns = none_kept K (undone c e) items ns
+  none_kept K c (mark ∷ items) ns = refl
 
 pub no_items : {T : Type 0} (xs : List T) (n : ℕ) → n ≡ length xs → n ≡ 0 → xs ≡ []
 no_items [] n h e = refl

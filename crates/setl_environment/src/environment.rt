@@ -1,9 +1,9 @@
 //! Slots, operands, activations and members of collections, with a trail: to keep them puts a mark on it, and each
 //! later change notes what it replaced.
 
-ghost use Rattle.std.specs.Prelude.{◌≡◌, ◌+◌, ◌-◌, ◌<◌, ◌≤◌, [], ◌∷◌, ◌++◌, nat_lt, length, take, drop, Some, IfOk, IsOk, OnOk, OnErr, IfSome, IfNone, slice_get, slice_set};
+ghost use Rattle.std.specs.Prelude.{◌≡◌, ◌+◌, ◌-◌, ◌<◌, ◌≤◌, [], ◌∷◌, ◌++◌, nat_lt, length, take, drop, reverse, Some, IfOk, IsOk, OnOk, OnErr, IfSome, IfNone, slice_get, slice_set};
 ghost use Rattle.setl_trail.specs.Trail.{mark_count};
-ghost use Rattle.setl_environment.specs.Kept.{noted};
+ghost use Rattle.setl_environment.specs.Kept.{base_of, noted};
 ghost use Rattle.setl_environment.specs.Undo.{undone, FitsIn, parts, contents_of, ready_of};
 
 use crate::stack::{Place, Stack};
@@ -34,6 +34,11 @@ pub struct Environment<S, O, A, M, K> {
     activations: Stack<A>,
     members: Stack<M>,
     trail: Trail<Old<S, O, A, M>>,
+    // How many of the lowest operands are as they were last kept, or have what they were in the trail. Those above came
+    // later, so nothing of them is noted; where nothing is kept it is 0.
+    base: usize,
+    // The same number of each mark of the trail below the latest one, and below these 0.
+    bases: Vec<usize>,
     // What was kept beside the four lists, one record for each mark of the trail.
     records: Vec<K>,
 }
@@ -51,13 +56,13 @@ impl<S, O, A, M, K> Model for Environment<S, O, A, M, K> {
 
     ghost view = { λ e. record {
       now = contents_of (parts e.slots e.operands e.activations e.members);
-      kept = kept_contents (parts e.slots e.operands e.activations e.members) e.trail.items (reverse e.records.items);
+      kept = kept_contents (parts e.slots e.operands e.activations e.members) e.base (reverse e.bases.items) e.trail.items (reverse e.records.items);
       ready = ready_of (mark_count e.trail.items) e.trail.spare;
       room = room_of (parts e.slots e.operands e.activations e.members);
     } };
 
     ghost invariant = { λ e.
-        IsTrailOf (parts e.slots e.operands e.activations e.members) e.trail.items
+        IsTrailOf (parts e.slots e.operands e.activations e.members) e.base (reverse e.bases.items) e.trail.items
         × (mark_count e.trail.items ≡ length e.records.items) };
 }
 
@@ -75,6 +80,8 @@ impl<S: Drop, O: Drop, A: Drop, M: Drop, K: Drop> Environment<S, O, A, M, K> {
             activations: Stack::new(alloc)?,
             members: Stack::new(alloc)?,
             trail: Trail::new(alloc)?,
+            base: 0,
+            bases: Vec::with_capacity(alloc, 1)?,
             records: Vec::with_capacity(alloc, 1)?,
         })
     }
@@ -270,11 +277,15 @@ impl<S: Drop, O: Drop, A: Drop, M: Drop, K: Drop> Environment<S, O, A, M, K> {
         ensures ready { self.old.ready ≤ self.new.ready + 1 }
         ensures room { self.new.room ≡ self.old.room }
     {
-        let before = self.operands.set(at, value);
-        note(&mut self.trail, Old::Operand(before));
+        if at < self.base {
+            let before = self.operands.set(at, value);
+            note(&mut self.trail, Old::Operand(before));
+        } else {
+            self.operands.put(at, value);
+        }
     }
 
-    /// Puts a value in the place of an operand, and gives what was there: moved out where nothing is kept, else a copy.
+    /// Puts a value in the place of an operand, and gives what was there: a copy where that is kept, else moved out.
     ///
     /// The error is want of memory, and then all is as before. Where nothing is kept, it takes none.
     pub fn replace_operand(&mut self, at: usize, value: O) -> Result<O, Memory>
@@ -290,26 +301,13 @@ impl<S: Drop, O: Drop, A: Drop, M: Drop, K: Drop> Environment<S, O, A, M, K> {
         ensures unkept { length self.old.kept ≡ 0 → IsOk result }
         ensures refused { OnErr result (self.new ≡ self.old) }
     {
-        if self.is_kept() {
+        if at < self.base {
             let before = self.operand(at).copied()?;
             self.set_operand(at, value);
             Ok(before)
         } else {
-            Ok(self.swap_operand(at, value))
+            Ok(self.operands.replace(at, value))
         }
-    }
-
-    // Puts a value in the place of an operand, and gives what was there.
-    fn swap_operand(&mut self, at: usize, value: O) -> O
-        requires there { at < length self.old.now.operands }
-        requires unkept { length self.old.kept ≡ 0 }
-        ensures value { Some result ≡ slice_get self.old.now.operands at }
-        ensures now { self.new.now ≡ record self.old.now { operands = slice_set self.old.now.operands at value } }
-        ensures kept { self.new.kept ≡ self.old.kept }
-        ensures ready { self.new.ready ≡ self.old.ready }
-        ensures room { self.new.room ≡ self.old.room }
-    {
-        self.operands.replace(at, value)
     }
 
     /// Adds an operand at the end. It takes no memory.
@@ -321,11 +319,10 @@ impl<S: Drop, O: Drop, A: Drop, M: Drop, K: Drop> Environment<S, O, A, M, K> {
         ensures ready { self.old.ready ≤ self.new.ready + 1 }
         ensures room { self.new.room ≡ record self.old.room { operands = self.old.room.operands - 1 } }
     {
-        let before = self.operands.push(value);
-        note(&mut self.trail, Old::Operand(before));
+        self.operands.add(value);
     }
 
-    /// Takes off the last operand, and gives it: moved out where nothing is kept, else a copy.
+    /// Takes off the last operand, and gives it: a copy where it is kept, else moved out.
     ///
     /// The error is want of memory, and then all is as before. Where nothing is kept, it takes none.
     pub fn pop_operand(&mut self) -> Result<O, Memory>
@@ -341,26 +338,14 @@ impl<S: Drop, O: Drop, A: Drop, M: Drop, K: Drop> Environment<S, O, A, M, K> {
         ensures unkept { length self.old.kept ≡ 0 → IsOk result }
         ensures refused { OnErr result (self.new ≡ self.old) }
     {
-        if self.is_kept() {
-            let value = self.operand(self.operands() - 1).copied()?;
+        let last = self.operands() - 1;
+        if last < self.base {
+            let value = self.operand(last).copied()?;
             self.drop_operand();
             Ok(value)
         } else {
-            Ok(self.take_operand())
+            Ok(self.operands.take_last())
         }
-    }
-
-    // Takes off the last operand, and gives it.
-    fn take_operand(&mut self) -> O
-        requires some { 0 < length self.old.now.operands }
-        requires unkept { length self.old.kept ≡ 0 }
-        ensures value { Some result ≡ slice_get self.old.now.operands (length self.old.now.operands - 1) }
-        ensures now { self.new.now ≡ record self.old.now { operands = take (length self.old.now.operands - 1) self.old.now.operands } }
-        ensures kept { self.new.kept ≡ self.old.kept }
-        ensures ready { self.new.ready ≡ self.old.ready }
-        ensures room { self.new.room ≡ record self.old.room { operands = self.old.room.operands + 1 } }
-    {
-        self.operands.take_last()
     }
 
     /// Drops the last operand. It takes no memory.
@@ -372,12 +357,18 @@ impl<S: Drop, O: Drop, A: Drop, M: Drop, K: Drop> Environment<S, O, A, M, K> {
         ensures ready { self.old.ready ≤ self.new.ready + 1 }
         ensures room { self.new.room ≡ record self.old.room { operands = self.old.room.operands + 1 } }
     {
-        let before = self.operands.pop();
-        note(&mut self.trail, Old::Operand(before));
+        let last = self.operands.len() - 1;
+        if last < self.base {
+            let before = self.operands.pop();
+            self.base = last;
+            note(&mut self.trail, Old::Operand(before));
+        } else {
+            self.operands.drop_last();
+        }
     }
 
-    /// Takes off the operands above the lowest `n`, and gives them, the lowest first: moved out where nothing is kept, else
-    /// copies.
+    /// Takes off the operands above the lowest `n`, and gives them, the lowest first: copies where one of them is kept, else
+    /// moved out.
     ///
     /// The error is want of memory, and then all is as before.
     pub fn pop_operands(&mut self, n: usize) -> Result<Vec<O>, Memory>
@@ -392,12 +383,12 @@ impl<S: Drop, O: Drop, A: Drop, M: Drop, K: Drop> Environment<S, O, A, M, K> {
         ensures room { OnOk result (self.new.room ≡ record self.old.room { operands = self.old.room.operands + (length self.old.now.operands - n) }) }
         ensures refused { OnErr result (self.new ≡ self.old) }
     {
-        if self.is_kept() {
+        if n < self.base {
             let values = self.copied_operands(n)?;
             self.cut_operands(n);
             Ok(values)
         } else {
-            self.split_operands(n)
+            self.operands.split_off(n)
         }
     }
 
@@ -409,20 +400,6 @@ impl<S: Drop, O: Drop, A: Drop, M: Drop, K: Drop> Environment<S, O, A, M, K> {
         ensures { IfOk result (λ values. values.items ≡ drop n self.now.now.operands) }
     {
         self.operands.copied_from(n)
-    }
-
-    // Takes off the operands above the lowest `n`, and gives them.
-    fn split_operands(&mut self, n: usize) -> Result<Vec<O>, Memory>
-        requires fewer { n ≤ length self.old.now.operands }
-        requires unkept { length self.old.kept ≡ 0 }
-        ensures values { IfOk result (λ values. values.items ≡ drop n self.old.now.operands) }
-        ensures now { OnOk result (self.new.now ≡ record self.old.now { operands = take n self.old.now.operands }) }
-        ensures kept { self.new.kept ≡ self.old.kept }
-        ensures ready { self.new.ready ≡ self.old.ready }
-        ensures room { OnOk result (self.new.room ≡ record self.old.room { operands = self.old.room.operands + (length self.old.now.operands - n) }) }
-        ensures refused { OnErr result (self.new ≡ self.old) }
-    {
-        self.operands.split_off(n)
     }
 
     /// Drops the operands above the lowest `n`, the last one first. It takes no memory.
@@ -626,7 +603,10 @@ impl<S: Drop, O: Drop, A: Drop, M: Drop, K: Drop> Environment<S, O, A, M, K> {
         ensures refused { OnErr result (self.new ≡ self.old) }
     {
         self.records.reserve(1)?;
+        self.bases.reserve(1)?;
         self.trail.mark()?;
+        self.bases.push_reserved(self.base);
+        self.base = self.operands.len();
         self.records.push_reserved(beside);
         Ok(())
     }
@@ -640,6 +620,7 @@ impl<S: Drop, O: Drop, A: Drop, M: Drop, K: Drop> Environment<S, O, A, M, K> {
         let Some(beside) = self.records.pop() else {
             return None;
         };
+        self.operands.cut(self.base);
         while let Some(old) = self.trail.pop() {
             put_back(
                 &mut self.slots,
@@ -649,7 +630,19 @@ impl<S: Drop, O: Drop, A: Drop, M: Drop, K: Drop> Environment<S, O, A, M, K> {
                 old,
             );
         }
+        self.base = pop_base(&mut self.bases);
         Some(beside)
+    }
+}
+
+// Takes the last number off, and gives it; where there is none it is 0.
+fn pop_base(bases: &mut Vec<usize>) -> usize
+    ensures base { result ≡ base_of (reverse bases.old.items) }
+    ensures rest { reverse bases.new.items ≡ drop 1 (reverse bases.old.items) }
+{
+    match bases.pop() {
+        Some(base) => base,
+        None => 0,
     }
 }
 
@@ -691,6 +684,7 @@ fn reserve_entries<E>(trail: &mut Trail<E>, n: usize) -> Result<(), Memory>
 }
 
 // Notes what a change replaced, where something is kept.
+#[inline(always)]
 fn note<E: Drop>(trail: &mut Trail<E>, e: E)
     requires { 1 ≤ ready_of (mark_count trail.old.items) trail.old.spare }
     ensures noted { trail.new.items ≡ noted e trail.old.items }

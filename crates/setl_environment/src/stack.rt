@@ -78,6 +78,7 @@ impl<T> Stack<T> {
         requires { at < length self.old.items }
         ensures set { self.new.items ≡ slice_set self.old.items at value }
         ensures back { LeadsBack T self.old self.new result }
+        ensures at { result.at ≡ at }
     {
         let before = replaced(&mut self.items, at, value);
         Place {
@@ -107,11 +108,21 @@ impl<T> Stack<T> {
         Place { at, content: None }
     }
 
+    /// Adds a value at the end, where there is room. It takes no memory.
+    pub fn add(&mut self, value: T)
+        requires { length self.old.items < self.old.room }
+        ensures added { self.new.items ≡ self.old.items ++ value ∷ [] }
+        ensures room { self.new.room ≡ self.old.room }
+    {
+        self.items.push_reserved(value);
+    }
+
     /// Takes off the last value. Its answer leads back. It takes no memory.
     pub fn pop(&mut self) -> Place<T>
         requires { 0 < length self.old.items }
         ensures popped { self.new.items ≡ take (length self.old.items - 1) self.old.items }
         ensures back { LeadsBack T self.old self.new result }
+        ensures at { result.at ≡ length self.new.items }
     {
         let last = self.items.take_last();
         Place {
@@ -147,6 +158,33 @@ impl<T> Stack<T> {
 }
 
 impl<T: Drop> Stack<T> {
+    /// Puts a value in the place of another, which it drops. It takes no memory.
+    pub fn put(&mut self, at: usize, value: T)
+        requires { at < length self.old.items }
+        ensures set { self.new.items ≡ slice_set self.old.items at value }
+        ensures room { self.new.room ≡ self.old.room }
+    {
+        self.items[at] = value;
+    }
+
+    /// Drops the last value. It takes no memory.
+    pub fn drop_last(&mut self)
+        requires { 0 < length self.old.items }
+        ensures dropped { self.new.items ≡ take (length self.old.items - 1) self.old.items }
+        ensures room { self.new.room ≡ self.old.room }
+        ensures memory { length self.old.items ≤ self.old.room }
+    {
+        let _last = self.items.take_last();
+    }
+
+    /// Drops the values above the lowest `n`. It takes no memory.
+    pub fn cut(&mut self, n: usize)
+        ensures cut { self.new.items ≡ take n self.old.items }
+        ensures room { self.new.room ≡ self.old.room }
+    {
+        self.items.truncate(n);
+    }
+
     /// Gives a place its content. It takes no memory.
     pub fn place(&mut self, p: Place<T>)
         requires { Fits T self.old.items self.old.room p }

@@ -111,7 +111,7 @@ over_written (Global name) h xs k = refl
 over_written (Own body name) h xs k = refl
 over_written (Bound former name) h xs k = refl
 
-held_in_world : (x : Variable) (w : World) (xs : List Operand) (k : CodeCore) → held x (in_world w (over xs k)) ≡ held x k
+pub held_in_world : (x : Variable) (w : World) (xs : List Operand) (k : CodeCore) → held x (in_world w (over xs k)) ≡ held x k
 held_in_world (Global name) w xs k = refl
 held_in_world (Own body name) w xs k = refl
 held_in_world (Bound former name) w xs k = refl

@@ -14,3 +14,4 @@ pub mod Altered
 pub mod Places
 pub mod Finding
 pub mod Ending
+pub mod Freely

@@ -59,9 +59,15 @@ stops_unfit modes c line (Bound former name) v place xs k d to t l = absurd t.2
 
 -- ---- the whole instruction
 
--- the variable of a slot is the same where an operand was popped
-slot_same : (old mid : Standing) (slot : Slot) → mid ≡ record old { core = over mid.core.now.operands old.core } → plain_slot (variables mid.core) slot ≡ plain_slot (variables old.core) slot
-slot_same old mid slot m = ap (λ (s : Standing). plain_slot (variables s.core) slot) m
+-- a value is stored where some operands are left
+pub stored_is : (old mid put new : Standing) (slot : Slot) (v : Option Datum) (ys : List Operand) → mid ≡ record old { core = over ys old.core } → put ≡ record mid { core = write (plain_slot (variables mid.core) slot) (There v) mid.core } →
+    new ≡ record put { core = at_place (suc put.core.now.at) put.core } → new ≡ record old { core = at_place (suc old.core.now.at) (write (plain_slot (variables old.core) slot) (There v) (over ys old.core)) }
+stored_is old mid put new slot v ys m p n =
+    let x = plain_slot (variables old.core) slot in
+    let put_is : put ≡ record old { core = write x (There v) (over ys old.core) } =
+    p ∙ ap (λ (s : Standing). record s { core = write (plain_slot (variables s.core) slot) (There v) s.core }) m in
+    n ∙ ap (λ (s : Standing). record s { core = at_place (suc s.core.now.at) s.core }) put_is
+    ∙ ap (λ at. record old { core = at_place (suc at) (write x (There v) (over ys old.core)) }) (at_written x (There v) (over ys old.core))
 
 pub store_goes : (modes : Modes) (old mid put new : Standing) (line : ℕ) (slot : Slot) (v : Option Value) → PopsTop old (Some v) mid → tested modes (plain_slot (variables old.core) slot) (part v) ≡ true →
     put ≡ record mid { core = write (plain_slot (variables mid.core) slot) (There (part v)) mid.core } → new ≡ record put { core = at_place (suc put.core.now.at) put.core } → WorksBy modes old line (StoreIn (plain_slot (variables old.core) slot)) new end.Paused
@@ -69,11 +75,7 @@ store_goes modes old mid put new line slot v pops t p n =
     let x = plain_slot (variables old.core) slot in
     let ys = mid.core.now.operands in
     let c = plain_code old.code in
-    let put_is : put ≡ record old { core = write x (There (part v)) (over ys old.core) } =
-    p ∙ ap (λ y. record mid { core = write y (There (part v)) mid.core }) (slot_same old mid slot pops.1) ∙ ap (λ (s : Standing). record s { core = write x (There (part v)) s.core }) pops.1 in
-    let new_is : new ≡ record old { core = at_place (suc old.core.now.at) (write x (There (part v)) (over ys old.core)) } =
-    n ∙ ap (λ (s : Standing). record s { core = at_place (suc s.core.now.at) s.core }) put_is
-    ∙ ap (λ at. record old { core = at_place (suc at) (write x (There (part v)) (over ys old.core)) }) (at_written x (There (part v)) (over ys old.core)) in (
+    let new_is = stored_is old mid put new slot (part v) ys pops.1 p n in (
       ap (λ s. s.code) new_is,
       λ w.
           let k = in_world w old.core in

@@ -4,3 +4,4 @@ pub mod Tables
 pub mod Outcome
 pub mod Working
 pub mod Altered
+pub mod Freely

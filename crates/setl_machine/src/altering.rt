@@ -34,6 +34,7 @@ struct Target<'p> {
 
 /// Pops the operands of the selectors, and does to the part of a variable at them what the alteration says. A new whole
 /// that the variable's declaration refuses leaves the variable as it was, and stops the run.
+#[inline(never)]
 pub(crate) fn alter(
     what: Alteration,
     slot: Slot,

@@ -15,6 +15,7 @@ use setl_store::Store;
 
 /// Takes one turn and has the body of this number at work, with its arguments taken off the operands. No parameter is
 /// declared, so each takes every value.
+#[inline(never)]
 pub(crate) fn call(
     body: u32,
     line: u32,
@@ -59,6 +60,7 @@ fn body_of(code: &Code, body: u32) -> Option<&Body>
 }
 
 /// Ends the activation, and pushes the result and what the `wr` and `rw` parameters hold.
+#[inline(never)]
 pub(crate) fn leave_body(store: &mut Store<'_>) -> Result<End, Memory>
     ensures { (line : ℕ) → IfOk result (λ end. Works store.old line ReturnTop store.new end) }
 {
@@ -73,6 +75,7 @@ pub(crate) fn leave_body(store: &mut Store<'_>) -> Result<End, Memory>
 }
 
 /// `ok`
+#[inline(never)]
 pub(crate) fn keep(store: &mut Store<'_>) -> Result<End, Memory>
     requires { store.old.core.now.at + 1 < 2 ^ 64 }
     ensures { (line : ℕ) → IfOk result (λ end. Works store.old line KeepAll store.new end) }
@@ -82,6 +85,7 @@ pub(crate) fn keep(store: &mut Store<'_>) -> Result<End, Memory>
 }
 
 /// `fail`
+#[inline(never)]
 pub(crate) fn back(line: u32, store: &mut Store<'_>, control: &mut Control) -> Result<End, Memory>
     ensures did { IfOk result (λ end. Does store.old control.old line GoBack store.new control.new end) }
     ensures reader { control.new.reader ≡ control.old.reader }

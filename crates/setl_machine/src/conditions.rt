@@ -1,6 +1,6 @@
 //! Conditions, jumps, and what is done to the top operand.
 
-ghost use Rattle.std.specs.Prelude.{◌≡◌, ℕ, ◌<◌, ◌+◌, ◌^◌, IfOk};
+ghost use Rattle.std.specs.Prelude.{◌≡◌, ℕ, ◌<◌, ◌+◌, ◌^◌, IfOk, IsOk};
 ghost use Rattle.setl_code.specs.Code.{Decides, TestBool, Unless, Jump, DropTop, DupTop};
 ghost use Rattle.setl_machine.specs.Working.{Works, decided};
 
@@ -25,12 +25,12 @@ pub(crate) fn decide(
         Ok(truth) => truth,
         Err(end) => return Ok(end),
     };
-    store.pop()?;
     let Some(answer) = answer(what, truth) else {
+        store.drop_top()?;
         go_on(store);
         return Ok(End::Paused);
     };
-    store.push(Some(Value::Bool(answer)))?;
+    store.put_top(Some(Value::Bool(answer)))?;
     store.go_to(to as usize);
     Ok(End::Paused)
 }
@@ -49,7 +49,8 @@ fn answer(what: Connective, left: bool) -> Option<bool>
 /// Stops the run unless a truth value is on top.
 pub(crate) fn test(line: u32, store: &mut Store<'_>) -> Result<End, Memory>
     requires { store.old.core.now.at + 1 < 2 ^ 64 }
-    ensures { IfOk result (λ end. Works store.old line TestBool store.new end) }
+    ensures did { IfOk result (λ end. Works store.old line TestBool store.new end) }
+    ensures sure { IsOk result }
 {
     match truth_on_top(store, line) {
         Ok(_) => {
@@ -69,7 +70,7 @@ pub(crate) fn unless(to: u32, line: u32, store: &mut Store<'_>) -> Result<End, M
         Ok(truth) => truth,
         Err(end) => return Ok(end),
     };
-    store.pop()?;
+    store.drop_top()?;
     if truth {
         go_on(store);
     } else {
@@ -80,7 +81,8 @@ pub(crate) fn unless(to: u32, line: u32, store: &mut Store<'_>) -> Result<End, M
 
 /// Goes to the target.
 pub(crate) fn jump(to: u32, store: &mut Store<'_>) -> Result<End, Memory>
-    ensures { (line : ℕ) → IfOk result (λ end. Works store.old line (Jump to) store.new end) }
+    ensures did { (line : ℕ) → IfOk result (λ end. Works store.old line (Jump to) store.new end) }
+    ensures sure { IsOk result }
 {
     store.go_to(to as usize);
     Ok(End::Paused)
@@ -99,6 +101,7 @@ pub(crate) fn discard(store: &mut Store<'_>) -> Result<End, Memory>
 }
 
 /// Pushes the top again.
+#[inline(never)]
 pub(crate) fn duplicate(store: &mut Store<'_>) -> Result<End, Memory>
     requires { store.old.core.now.at + 1 < 2 ^ 64 }
     ensures { (line : ℕ) → IfOk result (λ end. Works store.old line DupTop store.new end) }

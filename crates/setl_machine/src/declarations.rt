@@ -84,12 +84,16 @@ impl<'p> Declarations<'p> {
         })
     }
 
-    /// The declaration of a slot's variable, where it has one. It costs one look into a table.
+    /// The declaration of a slot's variable, where it has one. It costs one look into a table, and none where nothing is
+    /// declared.
     pub(crate) fn of_slot(&self, slot: Slot, store: &Store<'_>) -> Option<Declaration<'p>>
         requires { Serves self.now store.now.code }
         ensures { IsDeclared (modes_of self.now) (plain_slot (variables store.now.core) slot) result }
     {
         let declared: &'p [Declared] = self.declared;
+        if declared.is_empty() {
+            return None;
+        }
         match self.place(slot, store) {
             None => None,
             Some(place) => Some(Declaration {

@@ -10,12 +10,12 @@ ghost use Rattle.setl_machine.specs.Declaring.{modes_of, Serves};
 ghost use Rattle.setl_machine.specs.declared.end.End.{End};
 ghost use Rattle.setl_machine.specs.Working.{Works, Does, DoesBy, IsQuiet, IsUntested, IsAlone};
 
-use crate::altering::alter;
 use crate::calling::{back, call, keep, leave_body};
 use crate::conditions::{decide, discard, duplicate, jump, test, unless};
 use crate::control::Control;
 use crate::declarations::Declarations;
 use crate::end::End;
+use crate::in_place::update;
 use crate::iterating::{add, begin_over, collect, leave, next, take_apart};
 use crate::operating::{operate, push_atom, push_eof, round};
 use crate::variables::{load, push, push_integer, push_text, store_in, take};
@@ -64,7 +64,7 @@ fn do_quiet(
 {
     match what {
         Instr::Store(slot) => store_in(*slot, line, declarations, store),
-        Instr::Alter(what, slot, brackets) => alter(
+        Instr::Alter(what, slot, brackets) => update(
             *what,
             *slot,
             brackets.as_slice(),

@@ -19,6 +19,7 @@ use setl_store::{Ahead, Store};
 use setl_value::{TupleBody, Value};
 
 /// Pops a tuple and pushes its first components, so many, the first one on top.
+#[inline(never)]
 pub(crate) fn take_apart(count: u32, line: u32, store: &mut Store<'_>) -> Result<End, Memory>
     requires { store.old.core.now.at + 1 < 2 ^ 64 }
     ensures { IfOk result (λ end. Works store.old line (PartsOf count) store.new end) }
@@ -56,6 +57,7 @@ fn component(tuple: &TupleBody, at: usize) -> Result<Option<Value>, Memory>
 }
 
 /// Pops the parts of a source, so many, and pushes the iterator over its items.
+#[inline(never)]
 pub(crate) fn begin_over(
     how: Begin,
     count: u32,
@@ -79,6 +81,7 @@ pub(crate) fn begin_over(
 }
 
 /// At the end of the iterator on top drops it and goes to the target; else takes one turn and pushes the next item.
+#[inline(never)]
 pub(crate) fn next(to: u32, store: &mut Store<'_>, control: &mut Control) -> Result<End, Memory>
     requires { store.old.core.now.at + 1 < 2 ^ 64 }
     ensures did { (line : ℕ) → IfOk result (λ end. Does store.old control.old line (NextOr to) store.new control.new end) }
@@ -106,6 +109,7 @@ pub(crate) fn next(to: u32, store: &mut Store<'_>, control: &mut Control) -> Res
 }
 
 /// Pushes an empty collection.
+#[inline(never)]
 pub(crate) fn collect(what: Collection, store: &mut Store<'_>) -> Result<End, Memory>
     requires { store.old.core.now.at + 1 < 2 ^ 64 }
     ensures { (line : ℕ) → IfOk result (λ end. Works store.old line (BeginOf what) store.new end) }
@@ -116,6 +120,7 @@ pub(crate) fn collect(what: Collection, store: &mut Store<'_>) -> Result<End, Me
 }
 
 /// Pops a value, and adds it to the collection below so many iterators.
+#[inline(never)]
 pub(crate) fn add(count: u32, line: u32, store: &mut Store<'_>) -> Result<End, Memory>
     requires { store.old.core.now.at + 1 < 2 ^ 64 }
     ensures { IfOk result (λ end. Works store.old line (AddBelow count) store.new end) }
@@ -134,6 +139,7 @@ pub(crate) fn add(count: u32, line: u32, store: &mut Store<'_>) -> Result<End, M
 }
 
 /// Drops so many iterators.
+#[inline(never)]
 pub(crate) fn leave(count: u32, store: &mut Store<'_>) -> Result<End, Memory>
     requires { store.old.core.now.at + 1 < 2 ^ 64 }
     ensures { (line : ℕ) → IfOk result (λ end. Works store.old line (LeaveAll count) store.new end) }

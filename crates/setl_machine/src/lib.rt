@@ -8,6 +8,8 @@ mod control;
 mod declarations;
 mod dispatch;
 mod end;
+mod in_place;
+mod integers;
 mod iterating;
 mod laws;
 mod machine;

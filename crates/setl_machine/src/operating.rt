@@ -1,20 +1,200 @@
 //! Instructions that ask the control: operators, atoms, the end of the input, and rounds.
 
-ghost use Rattle.std.specs.Prelude.{◌≡◌, ℕ, ◌<◌, ◌+◌, ◌^◌, IfOk};
+ghost use Rattle.std.specs.Prelude.{◌≡◌, ℕ, ◌<◌, ◌+◌, ◌^◌, true, Some, IfOk, IsOk};
 ghost use Rattle.setl_code.specs.Code.{Operate, PushAtom, PushEof, PayRound};
-ghost use Rattle.setl_map.specs.Operators.{TakesOperands};
+ghost use Rattle.setl_map.specs.Operators.{operand_count, TakesOperands};
+ghost use Rattle.setl_value.specs.code.DatumOf.{part};
+ghost use Rattle.setl_store.specs.Operands.{IsPlainTop};
+ghost use Rattle.setl_machine.specs.Freely.{AreTwo, PutsForTwo, PutsForOne};
 ghost use Rattle.setl_machine.specs.Working.{Does};
 
 use crate::control::Control;
 use crate::end::End;
+use crate::integers::freely_of_top;
 use crate::operands::{end_by, go_on};
 use setl_environment::Memory;
-use setl_operators::{Operator, op};
+use setl_operators::{Operator, op, op_one, op_two};
 use setl_store::Store;
 use setl_value::Value;
 
 /// Pops so many operands, and pushes what the operator makes of them for its charge.
 pub(crate) fn operate(
+    what: Operator,
+    count: u32,
+    line: u32,
+    store: &mut Store<'_>,
+    control: &mut Control,
+) -> Result<End, Memory>
+    requires few { store.old.core.now.at + 1 < 2 ^ 64 }
+    requires fits { TakesOperands what count }
+    ensures did { IfOk result (λ end. Does store.old control.old line (Operate what count) store.new control.new end) }
+    ensures reader { control.new.reader ≡ control.old.reader }
+{
+    match freely_of_top(what, store) {
+        Some(value) => put_for_two(Some(value), store),
+        None => operate_any(what, count, line, store, control),
+    }
+}
+
+/// Puts a value in the place of the two on top.
+fn put_for_two(value: Option<Value>, store: &mut Store<'_>) -> Result<End, Memory>
+    requires few { store.old.core.now.at + 1 < 2 ^ 64 }
+    requires two { AreTwo store.old.core.now.operands }
+    ensures { IfOk result (λ end. PutsForTwo store.old (part value) store.new end) }
+{
+    store.drop_top()?;
+    store.put_top(value)?;
+    go_on(store);
+    Ok(End::Paused)
+}
+
+/// Puts a value in the place of the one on top.
+fn put_for_one(value: Option<Value>, store: &mut Store<'_>) -> Result<End, Memory>
+    requires few { store.old.core.now.at + 1 < 2 ^ 64 }
+    requires one { IsPlainTop store.old.core.now.operands }
+    ensures { IfOk result (λ end. PutsForOne store.old (part value) store.new end) }
+{
+    store.put_top(value)?;
+    go_on(store);
+    Ok(End::Paused)
+}
+
+/// The same, whatever the operands are.
+#[inline(never)]
+fn operate_any(
+    what: Operator,
+    count: u32,
+    line: u32,
+    store: &mut Store<'_>,
+    control: &mut Control,
+) -> Result<End, Memory>
+    requires few { store.old.core.now.at + 1 < 2 ^ 64 }
+    requires fits { TakesOperands what count }
+    ensures did { IfOk result (λ end. Does store.old control.old line (Operate what count) store.new control.new end) }
+    ensures reader { control.new.reader ≡ control.old.reader }
+{
+    if is_lent_two(what) {
+        operate_on_two(what, count, line, store, control)
+    } else if is_lent_one(what) {
+        operate_on_one(what, count, line, store, control)
+    } else {
+        operate_listed(what, count, line, store, control)
+    }
+}
+
+/// Whether an operator reads two operands, and changes none in place.
+fn is_lent_two(what: Operator) -> bool
+    ensures { result ≡ true → operand_count what ≡ Some 2 }
+{
+    match what {
+        Operator::Add
+        | Operator::Subtract
+        | Operator::Multiply
+        | Operator::Power
+        | Operator::Divide
+        | Operator::Modulo
+        | Operator::Max
+        | Operator::Min
+        | Operator::Npow
+        | Operator::Equal
+        | Operator::NotEqual
+        | Operator::Below
+        | Operator::AtMost
+        | Operator::Above
+        | Operator::AtLeast
+        | Operator::In
+        | Operator::NotIn
+        | Operator::Subset
+        | Operator::Includes
+        | Operator::Get
+        | Operator::Images
+        | Operator::Tail
+        | Operator::SetRange
+        | Operator::TupleRange => true,
+        _ => false,
+    }
+}
+
+/// Whether an operator reads one operand.
+fn is_lent_one(what: Operator) -> bool
+    ensures { result ≡ true → operand_count what ≡ Some 1 }
+{
+    match what {
+        Operator::Negate
+        | Operator::Abs
+        | Operator::Even
+        | Operator::Odd
+        | Operator::Size
+        | Operator::Not
+        | Operator::Domain
+        | Operator::Range
+        | Operator::Arb
+        | Operator::Str
+        | Operator::IsInteger
+        | Operator::IsString
+        | Operator::IsBoolean
+        | Operator::IsAtom
+        | Operator::IsTuple
+        | Operator::IsSet
+        | Operator::IsMap => true,
+        _ => false,
+    }
+}
+
+/// The same of an operator with one operand, which it is lent where that is a value.
+fn operate_on_one(
+    what: Operator,
+    count: u32,
+    line: u32,
+    store: &mut Store<'_>,
+    control: &mut Control,
+) -> Result<End, Memory>
+    requires few { store.old.core.now.at + 1 < 2 ^ 64 }
+    requires fits { TakesOperands what count }
+    requires one { operand_count what ≡ Some 1 }
+    ensures did { IfOk result (λ end. Does store.old control.old line (Operate what count) store.new control.new end) }
+    ensures reader { control.new.reader ≡ control.old.reader }
+{
+    let Some(a) = store.one() else {
+        return operate_listed(what, count, line, store, control);
+    };
+    match op_one(control.alloc, what, Some(a), control.turns) {
+        Ok(answer) => {
+            control.charge(answer.charged);
+            put_for_one(answer.value, store)
+        }
+        Err(fault) => end_by(fault, line),
+    }
+}
+
+/// The same of an operator with two operands, which it is lent where both are values.
+fn operate_on_two(
+    what: Operator,
+    count: u32,
+    line: u32,
+    store: &mut Store<'_>,
+    control: &mut Control,
+) -> Result<End, Memory>
+    requires few { store.old.core.now.at + 1 < 2 ^ 64 }
+    requires fits { TakesOperands what count }
+    requires two { operand_count what ≡ Some 2 }
+    ensures did { IfOk result (λ end. Does store.old control.old line (Operate what count) store.new control.new end) }
+    ensures reader { control.new.reader ≡ control.old.reader }
+{
+    let Some((a, b)) = store.two() else {
+        return operate_listed(what, count, line, store, control);
+    };
+    match op_two(control.alloc, what, Some(a), Some(b), control.turns) {
+        Ok(answer) => {
+            control.charge(answer.charged);
+            put_for_two(answer.value, store)
+        }
+        Err(fault) => end_by(fault, line),
+    }
+}
+
+/// The same with a list of the operands.
+fn operate_listed(
     what: Operator,
     count: u32,
     line: u32,
@@ -41,6 +221,7 @@ pub(crate) fn operate(
 }
 
 /// Pushes the next atom, for one turn.
+#[inline(never)]
 pub(crate) fn push_atom(store: &mut Store<'_>, control: &mut Control) -> Result<End, Memory>
     requires { store.old.core.now.at + 1 < 2 ^ 64 }
     ensures did { (line : ℕ) → IfOk result (λ end. Does store.old control.old line PushAtom store.new control.new end) }
@@ -55,6 +236,7 @@ pub(crate) fn push_atom(store: &mut Store<'_>, control: &mut Control) -> Result<
 }
 
 /// Pushes whether a read met the end of the input.
+#[inline(never)]
 pub(crate) fn push_eof(store: &mut Store<'_>, control: &Control) -> Result<End, Memory>
     requires { store.old.core.now.at + 1 < 2 ^ 64 }
     ensures { (line : ℕ) → IfOk result (λ end. Does store.old control.now line PushEof store.new control.now end) }
@@ -69,6 +251,7 @@ pub(crate) fn round(store: &mut Store<'_>, control: &mut Control) -> Result<End,
     requires { store.old.core.now.at + 1 < 2 ^ 64 }
     ensures did { (line : ℕ) → IfOk result (λ end. Does store.old control.old line PayRound store.new control.new end) }
     ensures reader { control.new.reader ≡ control.old.reader }
+    ensures sure { IsOk result }
 {
     if !control.turn() {
         return Ok(End::Spent);

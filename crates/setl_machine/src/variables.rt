@@ -41,6 +41,7 @@ pub(crate) fn push_integer(value: &i128, store: &mut Store<'_>) -> Result<End, M
 }
 
 /// Pushes a string.
+#[inline(never)]
 pub(crate) fn push_text(alloc: Global, bytes: &Name, store: &mut Store<'_>) -> Result<End, Memory>
     requires { store.old.core.now.at + 1 < 2 ^ 64 }
     ensures { (line : ℕ) → IfOk result (λ end. Works store.old line (Push (Some (text bytes.now))) store.new end) }
@@ -68,6 +69,7 @@ pub(crate) fn load(slot: Slot, store: &mut Store<'_>) -> Result<End, Memory>
 }
 
 /// Pushes what a variable holds, and leaves nothing there.
+#[inline(never)]
 pub(crate) fn take(slot: Slot, store: &mut Store<'_>) -> Result<End, Memory>
     requires few { store.old.core.now.at + 1 < 2 ^ 64 }
     requires there { HasSlot (length store.old.core.globals) (length store.old.core.now.own) slot }

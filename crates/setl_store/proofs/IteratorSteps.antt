@@ -25,6 +25,7 @@ use Rattle.setl_store.specs.Iterating.{IsAtItem, IsFirst, advanced, with_item}
 use Rattle.setl_store.specs.Returning.{operand_by}
 use Rattle.setl_store.specs.Operands.{IsAhead, Advances}
 use Rattle.setl_store.proofs.NewOperands.{NowHas, now_has}
+use Rattle.setl_store.proofs.LastOperand.{behind, operand_set}
 use Rattle.setl_store.proofs.OperandLists.{Changed, top_is, some_below, lowest_of, lowest_below, pops, pushes, got_iterator}
 
 -- ---- what is ahead
@@ -94,10 +95,6 @@ item_off : (x : Item) (rest : List model.Item) (xs : List core.Operand) → Adva
 item_off (item.One v) rest xs = refl
 item_off (item.Two x y) rest xs = refl
 
--- a list with its last one replaced
-last_set : {A : Type 0} (xs : List A) (n : ℕ) (x : A) → length xs ≡ n + 1 → set xs n x ≡ take n xs ++ x ∷ []
-last_set xs n x long = sym (take_all (n + 1) (set xs n x) (omega (arith, length-set xs n x))) ∙ take_more_set xs n x (omega arith)
-
 value_members : (v : Option Value) (os : List Operand) (n : ℕ) → HasMembers os n → HasMembers (operand_by v ∷ os) n
 value_members None os n h = h
 value_members (Some v) os n h = h
@@ -105,10 +102,6 @@ value_members (Some v) os n h = h
 value_stands : (v : Option Value) (members : List Member) → operand_of members (operand_by v) ≡ Holds (part v)
 value_stands None members = refl
 value_stands (Some v) members = refl
-
--- a change behind another
-behind : (code : Code) (at : ℕ) (e : Here) (kept : List (Here × ℕ)) (s : Standing) (j k : CodeCore) → Changed code at e kept (record s { core = j }) k → Changed code at e kept s k
-behind code at e kept s j k h = record { stands = h.stands; holds = h.holds }
 
 -- a value pushed
 value_pushed : (code : Code) (at : ℕ) (e : Here) (kept : List (Here × ℕ)) (s : Standing) (v : Option Value) →
@@ -135,14 +128,8 @@ module _ (code : Code) (at : ℕ) (e : Here) (kept : List (Here × ℕ)) (s : St
   iterator_set : (i j : IteratorState) (n : ℕ) → length e.operands ≡ n + 1 → lowest_of e < length e.operands → Some (operand.Iterator i) ≡ slice_get e.operands n →
       Changed code at (record e { operands = set e.operands n (operand.Iterator j) }) kept s (over (iterator_of j ∷ drop 1 s.core.now.operands) s.core)
   iterator_set i j n long some last =
-      let cut = cut_to e n (length e.members) in
-      let below = pops code at e cut kept kept s n (operand.Iterator i) holds is long (omega arith) last refl refl in
-      let k = over (drop 1 s.core.now.operands) s.core in
-      let to = behind code at (with_operand cut (operand.Iterator j)) kept s k (over (iterator_of j ∷ drop 1 s.core.now.operands) s.core) (pushes code at cut (with_operand cut (operand.Iterator j)) kept kept (record s { core = k }) (operand.Iterator j) (iterator_of j) below.holds below.stands refl refl below.holds.1.members (got_iterator j.pairs j.left) refl) in
-      let members = take_all (length e.members) e.members (omega arith) in
-      let operands = last_set e.operands n (operand.Iterator j) long in
-      let same : with_operand cut (operand.Iterator j) ≡ record e { operands = set e.operands n (operand.Iterator j) } = λ k. record e { operands = sym operands k; members = members k } in
-      subst (λ x. Changed code at x kept s (over (iterator_of j ∷ drop 1 s.core.now.operands) s.core)) same to
+      operand_set code at e (record e { operands = set e.operands n (operand.Iterator j) }) kept kept s (operand.Iterator i) (operand.Iterator j) (iterator_of j) n holds is long (omega arith) last refl refl refl
+      (λ os m h. h) (got_iterator j.pairs j.left) refl
 
   last_of : IsAhead s.core.now.operands ahead.AtItem → Some (get_or e.operands (length e.operands - 1) operand.Om) ≡ slice_get e.operands (length e.operands - 1)
   last_of h = sym (slice_get-get_or e.operands (length e.operands - 1) operand.Om (omega (arith, some_below code at e kept s is (some_ahead s.core.now.operands h))))

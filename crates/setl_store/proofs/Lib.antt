@@ -3,6 +3,7 @@ pub mod OperandLists
 pub mod Bodies
 pub mod Slots
 pub mod NewOperands
+pub mod LastOperand
 pub mod IteratorSteps
 pub mod Adding
 pub mod Collecting

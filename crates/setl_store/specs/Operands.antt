@@ -20,6 +20,11 @@ abbrev pub TakesOff : ℕ → List Operand → Option (List (Option Datum)) → 
 TakesOff n old None new = popped n [] old ≡ Lacks
 TakesOff n old (Some vs) new = popped n [] old ≡ Pops vs new
 
+-- a result that is no collection is on top
+abbrev pub IsPlainTop : List Operand → Type 0
+IsPlainTop (Holds v ∷ xs) = Unit {0}
+IsPlainTop xs = ⊥
+
 -- what is ahead of the iterator on top, if one is on top
 abbrev pub IsAhead : List Operand → Ahead → Type 0
 IsAhead [] ahead.NoIterator = Unit {0}

@@ -1,6 +1,6 @@
 //! Changes of the environment of a store, with the memory that they take.
 
-ghost use Rattle.std.specs.Prelude.{◌≡◌, ◌<◌, ◌-◌, ◌+◌, ◌≤◌, length, slice_get, drop, Some, IfOk, OnOk, OnErr};
+ghost use Rattle.std.specs.Prelude.{◌≡◌, ◌<◌, ◌-◌, ◌+◌, ◌≤◌, length, slice_get, slice_set, drop, Some, IfOk, OnOk, OnErr};
 ghost use Rattle.setl_store.specs.Flat.{with_operand, with_slot, cut_to};
 
 use crate::cells::{Contents, Held, Member, Operand};
@@ -60,6 +60,19 @@ pub(crate) fn drop_operand(environment: &mut Contents, lowest: usize) -> Result<
     reserve_one_more(environment, environment.members() - lowest)?;
     environment.cut_members(lowest);
     environment.drop_operand();
+    Ok(())
+}
+
+/// Puts an operand in the place of the last one.
+pub(crate) fn put_operand(environment: &mut Contents, operand: Operand) -> Result<(), Memory>
+    requires { 0 < length environment.old.now.operands }
+    ensures now { OnOk result (environment.new.now ≡ record environment.old.now { operands = slice_set environment.old.now.operands (length environment.old.now.operands - 1) operand }) }
+    ensures kept { environment.new.kept ≡ environment.old.kept }
+    ensures refused { OnErr result (environment.new.now ≡ environment.old.now) }
+{
+    let last = environment.operands() - 1;
+    environment.reserve(1)?;
+    environment.set_operand(last, operand);
     Ok(())
 }
 

@@ -7,6 +7,7 @@ mod calls;
 mod cells;
 mod changes;
 mod iterating;
+mod lent;
 mod operands;
 mod returning;
 mod store;

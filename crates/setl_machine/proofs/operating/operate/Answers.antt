@@ -1,14 +1,19 @@
-use Rattle.std.proofs.Common.{◌≡◌, [], map, length, subst, arith}
-use Rattle.std.proofs.lemmas.List.{length-map}
-use Rattle.setl_value.specs.code.DatumOf.{part}
-use Rattle.setl_map.specs.Operators.{TakesOperands}
-use Rattle.setl_code.specs.CodeCore.{popped, Pops}
-use Rattle.setl_machine.proofs.Entering.{popped_count}
+use Rattle.std.proofs.Common.{Some}
+use Rattle.std.proofs.lemmas.Result.{IfOk-weaker}
+use Rattle.setl_code.specs.Code.{Operate}
+use Rattle.setl_value.specs.code.DatumOf.{datum}
+use Rattle.setl_machine.specs.Freely.{PutsForTwo}
+use Rattle.setl_machine.specs.Working.{Does}
+use Rattle.setl_machine.proofs.Freely.{two_on_top, operated_freely}
 use Rattle.setl_machine.proofs.operating.operate.Goals as goal
 
-pub op-requires : goal.op-requires
-op-requires c =
-    let values = c.in-Some.values.items in
-    let off : popped c.args.count [] c.args.store.now.core.now.operands ≡ Pops (map part values) c.pop_values.new.self.core.now.operands = rw c.in-Some.is at c.in_ok-values.ensures.values in
-    let many : c.args.count ≡ length values = omega (arith, length-map values part, popped_count c.args.count [] (map part values) c.args.store.now.core.now.operands c.pop_values.new.self.core.now.operands off) in
-    subst (TakesOperands c.args.what) many c.requires.fits
+pub put_for_two-requires-clause-two : goal.put_for_two-requires-clause-two
+put_for_two-requires-clause-two c = two_on_top c.args.what c.args.store.now.core.now.operands (datum c.in-Some.value) c.in-Some.ensures
+
+pub returns-in-Some-clause-did : goal.returns-in-Some-clause-did
+returns-in-Some-clause-did c =
+    let old = c.args.store.now in
+    let new = c.put_for_two.new.store in
+    let d = datum c.in-Some.value in
+    IfOk-weaker c.put_for_two.result (λ e. PutsForTwo old (Some d) new e) (λ e. Does old c.args.control.now c.args.line (Operate c.args.what c.args.count) new c.args.control.now e)
+    (λ e h. operated_freely old new c.args.control.now c.args.line c.args.count c.args.what d e c.requires.fits c.in-Some.ensures h) c.put_for_two.ensures

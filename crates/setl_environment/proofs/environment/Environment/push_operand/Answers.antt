@@ -1,14 +1,14 @@
 use Rattle.std.proofs.Common.{◌∙◌, ap, reverse}
 use Rattle.setl_environment.specs.Undo.{parts}
-use Rattle.setl_environment.proofs.Parts.{IsNoted, operand_changed}
+use Rattle.setl_environment.proofs.Parts.{IsNoted, operand_added}
 use Rattle.setl_environment.proofs.environment.Environment.push_operand.Goals as goal
-use Rattle.setl_environment.proofs.environment.Environment.push_operand.Goals.{After-note}
+use Rattle.setl_environment.proofs.environment.Environment.push_operand.Goals.{After-add}
 
--- the change is noted
-here : (g : _) (c : After-note g) → IsNoted (parts c.self.inside.slots c.self.inside.operands c.self.inside.activations c.self.inside.members) (parts c.self.inside.slots c.push-before.new.self c.self.inside.activations c.self.inside.members) c.self.inside.trail.items c.note.new.trail.items (reverse c.self.inside.records.items)
+-- it came later than what was kept
+here : (g : _) (c : After-add g) → IsNoted (parts c.self.inside.slots c.self.inside.operands c.self.inside.activations c.self.inside.members) (parts c.self.inside.slots c.add.new.self c.self.inside.activations c.self.inside.members) c.self.inside.base c.self.inside.base (reverse c.self.inside.bases.items) c.self.inside.trail.items c.self.inside.trail.items (reverse c.self.inside.records.items)
 here g c =
     let t = c.self.inside in
-    operand_changed (parts t.slots t.operands t.activations t.members) c.push-before.new.self c.push-before.result t.trail.items c.note.new.trail.items (reverse t.records.items) c.push-before.ensures.back c.note.ensures.noted c.self.invariant.0
+    operand_added (parts t.slots t.operands t.activations t.members) t.base (reverse t.bases.items) c.add.new.self c.args.value t.trail.items (reverse t.records.items) c.add.ensures.added c.add.ensures.room c.self.invariant.0
 
 pub invariant_of-self : goal.invariant_of-self
 invariant_of-self g c = ((here g c).undoable, (here g c).marks ∙ c.self.invariant.1)

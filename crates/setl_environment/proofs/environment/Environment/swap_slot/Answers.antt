@@ -6,10 +6,10 @@ use Rattle.setl_environment.proofs.environment.Environment.swap_slot.Goals as go
 use Rattle.setl_environment.proofs.environment.Environment.swap_slot.Goals.{After-replace}
 
 -- nothing is kept, so nothing is to be noted
-here : (g : _) (c : After-replace g) → IsNoted (parts c.self.inside.slots c.self.inside.operands c.self.inside.activations c.self.inside.members) (parts c.replace.new.self c.self.inside.operands c.self.inside.activations c.self.inside.members) c.self.inside.trail.items c.self.inside.trail.items (reverse c.self.inside.records.items)
+here : (g : _) (c : After-replace g) → IsNoted (parts c.self.inside.slots c.self.inside.operands c.self.inside.activations c.self.inside.members) (parts c.replace.new.self c.self.inside.operands c.self.inside.activations c.self.inside.members) c.self.inside.base c.self.inside.base (reverse c.self.inside.bases.items) c.self.inside.trail.items c.self.inside.trail.items (reverse c.self.inside.records.items)
 here g c =
     let t = c.self.inside in
-    freely_changed (parts t.slots t.operands t.activations t.members) (parts c.replace.new.self t.operands t.activations t.members) t.trail.items (reverse t.records.items)
+    freely_changed (parts t.slots t.operands t.activations t.members) (parts c.replace.new.self t.operands t.activations t.members) t.base (reverse t.bases.items) t.trail.items (reverse t.records.items)
     (ap (λ e. length e.kept) c.self.view_is ∙ c.requires.unkept) (c.self.invariant.1 ∙ sym (length-reverse t.records.items)) c.self.invariant.0
 
 pub invariant_of-self : goal.invariant_of-self

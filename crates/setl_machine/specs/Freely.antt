@@ -1,0 +1,43 @@
+-- Operators that charge nothing.
+use Rattle.std.specs.Prelude.{◌≡◌, ℕ, suc, List, [], ◌∷◌, drop, Option, Some, None}
+use Rattle.setl_value.specs.Datum.{Datum}
+use Rattle.setl_map.specs.declared.Operator.{Operator}
+use Rattle.setl_map.specs.Operators.{op_of, operand_count}
+use Rattle.setl_map.specs.Outcome.{Gives}
+use Rattle.setl_run.specs.Variable.{Variable}
+use Rattle.setl_model.specs.Step.{declared_mode}
+use Rattle.setl_code.specs.Code.{Bracket, Alteration, Combining}
+use Rattle.setl_code.specs.CodeCore.{There, Operand, Result as Holds, CodeCore, held}
+use Rattle.setl_store.specs.Standing.{Standing, over, at_place}
+use Rattle.setl_machine.specs.Declaring.{Modes}
+use Rattle.setl_machine.specs.declared.end.End.{End}
+use Rattle.setl_machine.specs.declared.end.End.TheVariants as end
+
+-- the operator has two operands, and of these it gives that for no turn, however many are left
+abbrev pub GivesFreely : Operator → (a b d : Datum) → Type 0
+GivesFreely o a b d = (operand_count o ≡ Some 2) × ((left : ℕ) → op_of o (Some a ∷ Some b ∷ []) left ≡ Gives (Some d) 0)
+
+-- it gives this so of the two values on top
+abbrev pub OnTop : Operator → List Operand → Datum → Type 0
+OnTop o xs d = (a : Datum) × (b : Datum) × (xs ≡ Holds (Some b) ∷ Holds (Some a) ∷ drop 2 xs) × GivesFreely o a b d
+
+-- two results that are no collections are on top
+abbrev pub AreTwo : List Operand → Type 0
+AreTwo (Holds v ∷ Holds u ∷ xs) = Unit {0}
+AreTwo xs = ⊥
+
+-- this stands in the place of the two on top, and the code is at the next step
+abbrev pub PutsForTwo : Standing → Option Datum → Standing → End → Type 0
+PutsForTwo old v new e = (e ≡ end.Paused) × (new ≡ record old { core = at_place (suc old.core.now.at) (over (Holds v ∷ drop 2 old.core.now.operands) old.core) })
+
+-- the same in the place of the one on top
+abbrev pub PutsForOne : Standing → Option Datum → Standing → End → Type 0
+PutsForOne old v new e = (e ≡ end.Paused) × (new ≡ record old { core = at_place (suc old.core.now.at) (over (Holds v ∷ drop 1 old.core.now.operands) old.core) })
+
+-- an operator gives this so of what a variable holds and the value on top
+abbrev pub InPlace : Operator → Variable → CodeCore → Datum → Type 0
+InPlace o x k d = (a : Datum) × (b : Datum) × (held x k ≡ There (Some a)) × (k.now.operands ≡ Holds (Some b) ∷ drop 1 k.now.operands) × GivesFreely o a b d
+
+-- an update without selectors combines so, and the variable isn't declared
+abbrev pub AltersFreely : Modes → Alteration → Variable → List Bracket → CodeCore → Datum → Type 0
+AltersFreely modes what x bs k d = (declared_mode modes x ≡ None) × (bs ≡ []) × ((o : Operator) × (what ≡ Combining o) × InPlace o x k d)
