@@ -76,3 +76,9 @@ no_places ps n i m e = ap (λ k. nat_le k i) e ∙ none_left ps i ∙ ap (λ k. 
 
 pub no_letter_places : (bs : List ℕ) (n i m : ℕ) → n ≡ length bs → nat_le n i ≡ (length (place_points m (letters (drop i bs))) == 0)
 no_letter_places bs n i m e = ap (λ k. nat_le k i) e ∙ none_left bs i ∙ ap (λ k. k == 0) (sym (length_places m (letters (drop i bs)) ∙ length_letters (drop i bs)))
+
+-- an index inside has an element
+pub is_there : {X : Type 0} (xs : List X) (i : ℕ) → i < length xs → None ≡ slice_get xs i → ⊥
+is_there [] i h e = absurd (omega (arith, h))
+is_there (x ∷ xs) zero h e = cc
+is_there (x ∷ xs) (suc i) h e = is_there xs i (omega (arith, h)) e

@@ -1,6 +1,6 @@
 //! The arguments of a map with their images.
 
-ghost use Rattle.std.specs.Prelude.{◌≡◌, ◌∷◌, ◌<◌, ◌≤◌, ◌+◌, ◌==◌, true, drop, length, slice_get, if◌then◌else◌, Some, None, IfOk, OnErr};
+ghost use Rattle.std.specs.Prelude.{◌≡◌, ◌∷◌, ◌<◌, ◌≤◌, ◌+◌, ◌==◌, true, drop, length, slice_get, if◌then◌else◌, Some, None, IfOk, OnOk, OnErr};
 ghost use Rattle.std.specs.List.{prefix_len};
 ghost use Rattle.setl_value.specs.code.Body.{Members};
 ghost use Rattle.setl_value.specs.code.DatumOf.{datum, lent};
@@ -9,23 +9,26 @@ ghost use Rattle.setl_map.specs.code.Points.{is_at};
 ghost use Rattle.setl_model.specs.Core.{Two};
 ghost use Rattle.setl_iterator.specs.Items.{plain_item, is_pair};
 ghost use Rattle.setl_iterator.specs.Points.{points};
+ghost use Rattle.setl_iterator.specs.Rests.{Stands};
 
 use crate::iterator::Item;
-use crate::rests::copied;
+use crate::rests::{MemberAt, after, copied, member_at};
 use setl_value::{Memory, SetBody, Value};
 
 /// Takes the first of the arguments that are left, with its image: `om` where it has several.
-pub(crate) fn next_point(f: &SetBody, at: &mut usize) -> Result<Item, Memory>
-    requires inside { at.old < length (Members f.now) }
+pub(crate) fn next_point(f: &SetBody, at: &mut MemberAt) -> Result<Item, Memory>
+    requires inside { at.old.index < length (Members f.now) }
+    requires stands { Stands f.now at.old }
     requires map { is_map (Members f.now) ≡ true }
-    ensures first { IfOk result (λ item. points (drop at.old (Members f.now)) ≡ plain_item item ∷ points (drop at.new (Members f.now))) }
+    ensures first { IfOk result (λ item. points (drop at.old.index (Members f.now)) ≡ plain_item item ∷ points (drop at.new.index (Members f.now))) }
     ensures kind { IfOk result (λ item. is_pair item ≡ true) }
+    ensures stands { OnOk result (Stands f.now at.new) }
     ensures refused { OnErr result (at.new ≡ at.old) }
 {
     f.learn();
     let (x, y) = parts(f, *at);
     let end = end_of(f, *at, x);
-    let item = point(x, only(y, end - *at))?;
+    let item = point(x, only(y, end.index - at.index))?;
     *at = end;
     Ok(item)
 }
@@ -50,12 +53,13 @@ fn only(y: &Value, count: usize) -> Option<&Value>
 }
 
 // The two parts of the pair at a place of a map.
-fn parts(f: &SetBody, at: usize) -> (&Value, &Value)
-    requires inside { at < length (Members f.now) }
+fn parts(f: &SetBody, at: MemberAt) -> (&Value, &Value)
+    requires inside { at.index < length (Members f.now) }
+    requires stands { Stands f.now at }
     requires map { is_map (Members f.now) ≡ true }
-    ensures { slice_get (Members f.now) at ≡ Some (pair (datum result.0.now) (datum result.1.now)) }
+    ensures { slice_get (Members f.now) at.index ≡ Some (pair (datum result.0.now) (datum result.1.now)) }
 {
-    let Value::Tuple(t) = f.at(at) else {
+    let Value::Tuple(t) = member_at(f, at) else {
         unreachable!();
     };
     let Some(x) = t.at(0) else {
@@ -68,16 +72,20 @@ fn parts(f: &SetBody, at: usize) -> (&Value, &Value)
 }
 
 // Where the pairs of `x` end that stand at a place of a map, one after the other.
-fn end_of(f: &SetBody, from: usize, x: &Value) -> usize
-    requires inside { from < length (Members f.now) }
+fn end_of(f: &SetBody, from: MemberAt, x: &Value) -> MemberAt
+    requires inside { from.index < length (Members f.now) }
+    requires stands { Stands f.now from }
     requires map { is_map (Members f.now) ≡ true }
-    ensures { result ≡ from + prefix_len (is_at (datum x.now)) (drop from (Members f.now)) }
+    ensures end { result.index ≡ from.index + prefix_len (is_at (datum x.now)) (drop from.index (Members f.now)) }
+    ensures stands { Stands f.now result }
 {
-    for end in from..f.len() {
+    let mut end = from;
+    while end.index < f.len() {
         let (a, _) = parts(f, end);
         if !x.compare(a).is_eq() {
             return end;
         }
+        end = after(f, end);
     }
-    f.len()
+    end
 }

@@ -1,27 +1,34 @@
 //! What is left of the source of an iterator.
 
-ghost use Rattle.std.specs.Prelude.{◌≡◌, ◌∷◌, ◌+◌, ◌<◌, ◌==◌, [], true, false, drop, length, get_or, slice_get, Some, IfOk, OnErr};
+ghost use Rattle.std.specs.Prelude.{◌≡◌, ◌∷◌, ◌+◌, ◌<◌, ◌==◌, [], true, false, drop, length, get_or, slice_get, Some, IfOk, OnOk, OnErr};
 ghost use Rattle.setl_value.specs.code.Body.{Members};
 ghost use Rattle.setl_value.specs.Datum.{text};
 ghost use Rattle.setl_value.specs.code.DatumOf.{datum, lent, part};
 ghost use Rattle.setl_model.specs.Iterations.{members, singles, letters, place_points};
 ghost use Rattle.setl_iterator.specs.Items.{plain_item, is_pair};
-ghost use Rattle.setl_iterator.specs.Rests.{IsSound, left_of, pairs_of, state_of};
+ghost use Rattle.setl_iterator.specs.Rests.{IsSound, Stands, left_of, pairs_of, state_of};
 
 use crate::integers::Steps;
 use crate::iterator::Item;
-use setl_value::{Memory, SetBody, Text, TupleBody, Value};
+use setl_value::{Cursor, Memory, SetBody, Text, TupleBody, Value};
 use std::alloc::Global;
+
+/// An index of a set, and the place of the member there.
+#[derive(Clone, Copy)]
+pub(crate) struct MemberAt {
+    pub(crate) index: usize,
+    pub(crate) place: Cursor,
+}
 
 /// What is left: of a set, a tuple or a string what stands from an index on.
 #[derive(Drop)]
 pub(crate) enum Rest {
-    Members(SetBody, usize),
+    Members(SetBody, MemberAt),
     Components(TupleBody, usize),
     Letters(Text, usize),
     Integers(Option<Steps>),
     /// The arguments of a map, whose pairs stand one after the other, with their images.
-    Points(SetBody, usize),
+    Points(SetBody, MemberAt),
     /// Places with what stands there.
     Places(TupleBody, usize),
     LetterPlaces(Text, usize),
@@ -33,7 +40,7 @@ pub(crate) fn is_over(rest: &Rest) -> bool
     ensures { result ≡ (length (left_of rest.now) == 0) }
 {
     match rest {
-        Rest::Members(s, at) | Rest::Points(s, at) => *at >= s.len(),
+        Rest::Members(s, at) | Rest::Points(s, at) => at.index >= s.len(),
         Rest::Components(t, at) | Rest::Places(t, at) => *at >= t.len(),
         Rest::Letters(t, at) | Rest::LetterPlaces(t, at) => *at >= t.bytes().len(),
         Rest::Integers(steps) => steps.is_none(),
@@ -67,16 +74,43 @@ pub(crate) fn copied_rest(rest: &Rest) -> Result<Rest, Memory>
 }
 
 /// Takes the first of the members that are left.
-pub(crate) fn next_member(s: &SetBody, at: &mut usize) -> Result<Item, Memory>
-    requires { at.old < length (Members s.now) }
-    ensures first { IfOk result (λ item. members (drop at.old (Members s.now)) ≡ plain_item item ∷ members (drop at.new (Members s.now))) }
+pub(crate) fn next_member(s: &SetBody, at: &mut MemberAt) -> Result<Item, Memory>
+    requires inside { at.old.index < length (Members s.now) }
+    requires stands { Stands s.now at.old }
+    ensures first { IfOk result (λ item. members (drop at.old.index (Members s.now)) ≡ plain_item item ∷ members (drop at.new.index (Members s.now))) }
     ensures kind { IfOk result (λ item. is_pair item ≡ false) }
+    ensures stands { OnOk result (Stands s.now at.new) }
     ensures refused { OnErr result (at.new ≡ at.old) }
 {
-    prove!(*at < s.len());
-    let member = s.at(*at).copy()?;
-    *at += 1;
+    let member = member_at(s, *at).copy()?;
+    *at = after(s, *at);
     Ok(Item::One(Some(member)))
+}
+
+/// The member at an index.
+pub(crate) fn member_at(s: &SetBody, at: MemberAt) -> &Value
+    requires inside { at.index < length (Members s.now) }
+    requires stands { Stands s.now at }
+    ensures { slice_get (Members s.now) at.index ≡ Some (datum result.now) }
+{
+    let Some(v) = s.member(at.place) else {
+        unreachable!();
+    };
+    v
+}
+
+/// The next index.
+pub(crate) fn after(s: &SetBody, at: MemberAt) -> MemberAt
+    requires inside { at.index < length (Members s.now) }
+    requires stands { Stands s.now at }
+    ensures index { result.index ≡ at.index + 1 }
+    ensures stands { Stands s.now result }
+{
+    prove!(at.index < s.len());
+    MemberAt {
+        index: at.index + 1,
+        place: s.after(at.place),
+    }
 }
 
 /// Takes the first of the components that are left.

@@ -12,7 +12,7 @@ ghost use Rattle.setl_iterator.specs.Starts.{Tells, gives_pairs};
 
 use crate::integers::{between, stepped, stepped_rising};
 use crate::iterator::Iterator;
-use crate::rests::Rest;
+use crate::rests::{MemberAt, Rest};
 use crate::sources::{one, three, two};
 use setl_code::Begin;
 use setl_map::OpFault;
@@ -48,7 +48,13 @@ fn over_values(v: &Value) -> Result<Iterator, OpFault>
     ensures { Tells result false (values_of (datum v.now)) }
 {
     match v {
-        Value::Set(s) => Ok(Iterator::over(Rest::Members(s.copy()?, 0))),
+        Value::Set(s) => Ok(Iterator::over(Rest::Members(
+            s.copy()?,
+            MemberAt {
+                index: 0,
+                place: s.start(),
+            },
+        ))),
         Value::Tuple(t) => Ok(Iterator::over(Rest::Components(t.copy()?, 0))),
         Value::Text(t) => Ok(Iterator::over(Rest::Letters(t.copy()?, 0))),
         _ => Err(OpFault::Kind),
@@ -62,7 +68,13 @@ fn over_points(v: &Value) -> Result<Iterator, OpFault>
     match v {
         Value::Set(s) => {
             if s.is_map() {
-                Ok(Iterator::over(Rest::Points(s.copy()?, 0)))
+                Ok(Iterator::over(Rest::Points(
+                    s.copy()?,
+                    MemberAt {
+                        index: 0,
+                        place: s.start(),
+                    },
+                )))
             } else {
                 Err(OpFault::Kind)
             }

@@ -9,7 +9,7 @@ use Rattle.setl_iterator.proofs.points.next_point.Goals as goal
 pub returns-clause-first : goal.returns-clause-first
 returns-clause-first c =
     let f = Members c.args.f.now in
-    let end = c.end_of-end.result in
+    let end = c.end_of-end.result.index in
     let x = datum c.parts.result.0.now in
-    step_at f c.args.at.now end x (datum c.parts.result.1.now) c.learn.ensures c.requires.map c.parts.ensures c.end_of-end.ensures
+    step_at f c.args.at.now.index end x (datum c.parts.result.1.now) c.learn.ensures c.requires.map c.parts.ensures c.end_of-end.ensures.end
     ∙ ap (λ i. i ∷ points (drop end f)) (sym (c.in_ok-item.ensures.point ∙ ap (Two (Some x)) c.only.ensures))

@@ -6,22 +6,22 @@ use Rattle.setl_iterator.proofs.points.parts.Goals as goal
 
 pub unreachable-requires : goal.unreachable-requires
 unreachable-requires c =
-    let v = c.at.result.now in
-    let p = member_is_pair (Members c.args.f.now) c.args.at (datum v) c.requires.map c.at.ensures.member in
+    let v = c.member_at.result.now in
+    let p = member_is_pair (Members c.args.f.now) c.args.at.index (datum v) c.requires.map c.member_at.ensures in
     pair_is_tuple v p.0 p.1 c.in_default.not-Tuple
 
 pub unreachable-requires-in_default-at : goal.unreachable-requires-in_default-at
 unreachable-requires-in_default-at c =
-    let p = member_parts (Members c.args.f.now) c.args.at c.at.result.now c.in-Tuple.t c.requires.map c.at.ensures.member c.in-Tuple.is in
+    let p = member_parts (Members c.args.f.now) c.args.at.index c.member_at.result.now c.in-Tuple.t c.requires.map c.member_at.ensures c.in-Tuple.is in
     first_there c.in-Tuple.t p.0 p.1 c.in_default-at.ensures
 
 pub unreachable-requires-in_default-at-2 : goal.unreachable-requires-in_default-at-2
 unreachable-requires-in_default-at-2 c =
-    let p = member_parts (Members c.args.f.now) c.args.at c.at.result.now c.in-Tuple.t c.requires.map c.at.ensures.member c.in-Tuple.is in
+    let p = member_parts (Members c.args.f.now) c.args.at.index c.member_at.result.now c.in-Tuple.t c.requires.map c.member_at.ensures c.in-Tuple.is in
     second_there c.in-Tuple.t p.0 p.1 c.in_default-at-2.ensures
 
 pub returns : goal.returns
 returns c =
-    let p = member_parts (Members c.args.f.now) c.args.at c.at.result.now c.in-Tuple.t c.requires.map c.at.ensures.member c.in-Tuple.is in
-    c.at.ensures.member
+    let p = member_parts (Members c.args.f.now) c.args.at.index c.member_at.result.now c.in-Tuple.t c.requires.map c.member_at.ensures c.in-Tuple.is in
+    c.member_at.ensures
     ∙ ap (λ d. Some d) (ap datum c.in-Tuple.is ∙ pair_is c.in-Tuple.t p.0 (datum c.in-Some.x.now) (datum c.in-Some-at.y.now) p.1 c.in-Some.ensures c.in-Some-at.ensures)

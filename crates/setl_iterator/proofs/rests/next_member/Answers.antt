@@ -1,4 +1,4 @@
-use Rattle.std.proofs.Common.{◌∷◌, ◌+◌, ap, sym, ◌∙◌, drop, Some, refl}
+use Rattle.std.proofs.Common.{◌∷◌, ap, sym, ◌∙◌, drop, Some}
 use Rattle.setl_value.specs.code.Body.{Members}
 use Rattle.setl_value.specs.code.DatumOf.{datum}
 use Rattle.setl_model.specs.Core.{One}
@@ -9,6 +9,7 @@ use Rattle.setl_iterator.proofs.rests.next_member.Goals as goal
 pub returns-clause-first : goal.returns-clause-first
 returns-clause-first c =
     let ds = Members c.args.s.now in
-    let i = c.args.at.now in
-    ap members (drop_at ds i (i + 1) (datum c.at.result.now) refl c.at.ensures.member)
-    ∙ ap (λ v. One (Some (datum v)) ∷ members (drop (i + 1) ds)) (sym c.in_ok-member.ensures.same)
+    let i = c.args.at.now.index in
+    let j = c.after.result.index in
+    ap members (drop_at ds i j (datum c.member_at.result.now) c.after.ensures.index c.member_at.ensures)
+    ∙ ap (λ v. One (Some (datum v)) ∷ members (drop j ds)) (sym c.in_ok-member.ensures.same)
