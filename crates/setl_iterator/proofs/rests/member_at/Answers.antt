@@ -13,4 +13,4 @@ pub unreachable-requires : goal.unreachable-requires
 unreachable-requires c =
     let ds = Members c.args.s.now in
     is_there ds c.args.at.index c.requires.inside
-      (ap (λ o. option_map {T = Bor Value} {U = Datum} (λ v. datum v.now) o) (sym c.in_default.is) ∙ c.member.ensures ∙ ap (slice_get ds) c.requires.stands.1)
+    (ap (λ o. option_map {T = Bor Value} {U = Datum} (λ v. datum v.now) o) (sym c.in_default.is) ∙ c.member.ensures ∙ ap (slice_get ds) c.requires.stands.1)
