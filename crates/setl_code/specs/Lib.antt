@@ -12,5 +12,6 @@ pub mod CodeMeans
 pub mod Shapes
 pub mod Sound
 pub mod Ready
+pub mod Plain
+pub mod MayRun
 pub mod Worked
-pub mod code

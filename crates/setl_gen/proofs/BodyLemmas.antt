@@ -20,7 +20,7 @@ use Rattle.setl_code.specs.CodeOf.{main_body, procedure_body, code_of}
 use Rattle.setl_code.specs.Generated.{block, main_code, procedure_code}
 use Rattle.setl_code.specs.Names.{is_among, is_own, first_among, in_block}
 use Rattle.setl_code.specs.Piece.{Laid, one, no_loop, steps_of}
-use Rattle.setl_code.specs.code.Plain.{plain_name, plain_step, plain_body, plain_bodies, plain_code}
+use Rattle.setl_code.specs.Plain.{plain_name, plain_step, plain_body, plain_bodies, plain_code}
 use Rattle.setl_gen.specs.declared.hole.Hole.{Hole}
 use Rattle.setl_gen.specs.Table.{Table, variables, with_all, all_noted}
 use Rattle.setl_gen.specs.Emitted.{Emitted, after}

@@ -15,7 +15,7 @@ use Rattle.setl_run.specs.VariableLaws.{same_variable}
 use Rattle.setl_program.specs.ProgramOf.{parameter_of}
 use Rattle.setl_code.specs.Names.{is_among, is_own, is_parameter}
 use Rattle.setl_code.specs.declared.code.OwnName.{OwnName}
-use Rattle.setl_code.specs.code.Plain.{variable_at, plain_name}
+use Rattle.setl_code.specs.Plain.{variable_at, plain_name}
 use Rattle.setl_gen.specs.Table.{Table, with_own}
 use Rattle.setl_gen.specs.Slots.{own_variable, own_key, own_of, AreSlots, is_key, IsSlot, AreAll, IsAdded, AreOwn}
 

@@ -5,7 +5,7 @@ use Rattle.std.specs.Prelude.{slice_set}
 use Rattle.setl_code.specs.declared.code.Step as rust
 use Rattle.setl_code.specs.Code.{Instr, Jump, Step}
 use Rattle.setl_code.specs.Piece.{one, jumps_out, jumps_on}
-use Rattle.setl_code.specs.code.Plain.{Variables, plain_step}
+use Rattle.setl_code.specs.Plain.{Variables, plain_step}
 use Rattle.setl_gen.specs.declared.hole.Hole.{Hole}
 use Rattle.setl_gen.specs.Emitted.{Emitted, here, hole, after, with_step}
 

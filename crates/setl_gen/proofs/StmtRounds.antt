@@ -22,7 +22,7 @@ use Rattle.setl_program.specs.Program as plain
 use Rattle.setl_program.specs.Program.{Selectors, Iterators, Condition, Update, TakeFrom, If, For, While, more_stmts, no_stmt, Block}
 use Rattle.setl_program.specs.code.Plain.{plain_variable, plain_place, plain_expr, plain_iterators, condition_of, plain_stmt, plain_block, plain_branch, selectors_of, otherwise, kind_step, branch_step, stmt_step}
 use Rattle.setl_code.specs.declared.code.Bracket as rust
-use Rattle.setl_code.specs.code.Plain.{plain_bracket}
+use Rattle.setl_code.specs.Plain.{plain_bracket}
 use Rattle.setl_code.specs.Code.{Alteration, Putting, Bracket, Unless, Jump, Alter, StoreIn, ReadOne, NextOr, PayRound, LeaveAll}
 use Rattle.setl_code.specs.Piece.{Laid, ◌⨾◌, nothing, one, over, either, jumps_out, going_on, with_end, with_start}
 use Rattle.setl_code.specs.Generated.{expr, selectors, brackets, alter, put, read_all, stmt, block, quit, levels, iterators, condition}

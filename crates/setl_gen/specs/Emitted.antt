@@ -2,7 +2,7 @@
 use Rattle.std.specs.Prelude.{ℕ, List, [], ◌∷◌, ◌++◌, length, map, slice_set}
 use Rattle.setl_code.specs.Code.{Instr, Jump, Step}
 use Rattle.setl_code.specs.Piece.{Piece, empty, step, jump_out, jump_on, join, ending_at, going_on_at, past, Labels, steps_of, Laid}
-use Rattle.setl_code.specs.code.Plain.{plain_step}
+use Rattle.setl_code.specs.Plain.{plain_step}
 use Rattle.setl_gen.specs.declared.hole.Hole.{Hole}
 use Rattle.setl_gen.specs.declared.emitter.Emitter.{Emitter}
 use Rattle.setl_gen.specs.Table.{Table, variables}

@@ -4,7 +4,7 @@ use Rattle.setl_tree.specs.declared.tree.Param.{Param}
 use Rattle.setl_run.specs.Variable.{Variable, Global, Own}
 use Rattle.setl_program.specs.ProgramOf.{parameter_of}
 use Rattle.setl_code.specs.Names.{is_own, is_among}
-use Rattle.setl_code.specs.code.Plain.{Variables}
+use Rattle.setl_code.specs.Plain.{Variables}
 
 -- The number of the body, the names in `var`, the parameters, and the own names so far.
 pub record Table : Type 0 where

@@ -4,7 +4,7 @@ ghost use Rattle.std.specs.Prelude.{◌≡◌, ◌++◌, IfOk, OnOk, map};
 ghost use Rattle.setl_run.specs.Variable as run;
 ghost use Rattle.setl_program.specs.code.Plain.{plain_block, plain_procedure, plain_program};
 ghost use Rattle.setl_code.specs.CodeOf as code;
-ghost use Rattle.setl_code.specs.code.Plain.{plain_body, plain_bodies, plain_code};
+ghost use Rattle.setl_code.specs.Plain.{plain_body, plain_bodies, plain_code};
 ghost use Rattle.setl_gen.specs.Emitted.{held};
 ghost use Rattle.setl_gen.specs.Bodies.{table_of, blank, finished};
 

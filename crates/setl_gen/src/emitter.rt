@@ -5,7 +5,7 @@ ghost use Rattle.setl_program.specs.code.Plain.{plain_variable};
 ghost use Rattle.setl_value.specs.Datum.{text};
 ghost use Rattle.setl_code.specs.Code.{Push, Load, StoreIn, Decides, Unless, Jump, NextOr};
 ghost use Rattle.setl_code.specs.Piece.{◌⨾◌, one, jumps_out, jumps_on};
-ghost use Rattle.setl_code.specs.code.Plain.{plain_instr};
+ghost use Rattle.setl_code.specs.Plain.{plain_instr};
 ghost use Rattle.setl_gen.specs.Table.{variables};
 ghost use Rattle.setl_gen.specs.Emitted.{held, here, after, with_step, with_exits, with_again, all_filled, closed};
 

@@ -3,7 +3,7 @@
 ghost use Rattle.std.specs.Prelude.{◌≡◌, ◌<◌, ◌+◌, ◌^◌, ◌++◌, ◌∷◌, [], IfOk, OnOk, OnErr, IfSome, map, ℕ, is_some};
 ghost use Rattle.setl_run.specs.Variable as run;
 ghost use Rattle.setl_program.specs.code.Plain.{plain_variable};
-ghost use Rattle.setl_code.specs.code.Plain.{plain_slot, plain_name};
+ghost use Rattle.setl_code.specs.Plain.{plain_slot, plain_name};
 ghost use Rattle.setl_gen.specs.Table.{variables, with_own, noted, all_noted};
 ghost use Rattle.setl_gen.specs.Slots.{global_key, own_key, own_variable, is_key, AreSlots, IsSlot, IsAdded, AreOwn};
 
@@ -33,7 +33,7 @@ pub struct Names<'p> {
 
 impl<'p> Model for Names<'p> {
     ghost use Rattle.std.specs.Prelude.{map};
-    ghost use Rattle.setl_code.specs.code.Plain.{plain_name};
+    ghost use Rattle.setl_code.specs.Plain.{plain_name};
     ghost use Rattle.setl_gen.specs.Table.{Table};
 
     ghost Value = { Table };

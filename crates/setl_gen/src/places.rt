@@ -5,7 +5,7 @@ ghost use Rattle.setl_program.specs.code.Plain.{plain_variable, selectors_of};
 ghost use Rattle.setl_code.specs.Code.{ReadOne, StoreIn};
 ghost use Rattle.setl_code.specs.Piece.{◌⨾◌, one};
 ghost use Rattle.setl_code.specs.Generated as code;
-ghost use Rattle.setl_code.specs.code.Plain.{plain_alteration, plain_bracket};
+ghost use Rattle.setl_code.specs.Plain.{plain_alteration, plain_bracket};
 ghost use Rattle.setl_gen.specs.Emitted.{held, after};
 ghost use Rattle.setl_gen.specs.StmtKinds.{selector_code, bracket_of};
 

@@ -6,7 +6,7 @@ ghost use Rattle.setl_value.specs.code.DatumOf.{datum, part};
 ghost use Rattle.setl_program.specs.Program as program;
 ghost use Rattle.setl_map.specs.Outcome.{all_values};
 ghost use Rattle.setl_model.specs.Iterations.{items_of, values_of, points_of, of_values, integers_stepped};
-ghost use Rattle.setl_code.specs.code.Plain.{plain_begin};
+ghost use Rattle.setl_code.specs.Plain.{plain_begin};
 ghost use Rattle.setl_iterator.specs.Operands.{AreBounds, Refused};
 ghost use Rattle.setl_iterator.specs.Starts.{Tells, gives_pairs};
 

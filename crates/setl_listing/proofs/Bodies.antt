@@ -4,7 +4,7 @@ use Rattle.setl_run.specs.Variable.{Variable}
 use Rattle.setl_code.specs.declared.code.Body.{Body}
 use Rattle.setl_code.specs.Code as plain
 use Rattle.setl_code.specs.Listing.{body_text, procedures_text}
-use Rattle.setl_code.specs.code.Plain.{plain_bodies, plain_body}
+use Rattle.setl_code.specs.Plain.{plain_bodies, plain_body}
 use Rattle.setl_listing.proofs.Variables.{body_same}
 
 drop_next : {A : Type 0} (xs : List A) (n : ℕ) (x : A) → slice_get xs n ≡ Some x → drop n xs ≡ x ∷ drop (suc n) xs

@@ -12,7 +12,7 @@ use Rattle.setl_code.specs.declared.code.Step.{Step}
 use Rattle.setl_code.specs.declared.code.Body.{Body}
 use Rattle.setl_code.specs.Code as plain
 use Rattle.setl_code.specs.Listing.{alteration_word, body_text, brackets_text, instr_text, name_at, steps_text, variable_text}
-use Rattle.setl_code.specs.code.Plain.{Variables, own_variables, plain_alteration, plain_bodies, plain_body, plain_bracket, plain_instr, plain_name, plain_slot, plain_step, variable_at}
+use Rattle.setl_code.specs.Plain.{Variables, own_variables, plain_alteration, plain_bodies, plain_body, plain_bracket, plain_instr, plain_name, plain_slot, plain_step, variable_at}
 
 module _ {A : Type 0} (f : A → Variable) where
   -- a place within a list, and one past it

@@ -4,7 +4,7 @@ use Rattle.setl_run.specs.Variable.{Global}
 use Rattle.setl_code.specs.declared.code.Body.{Body}
 use Rattle.setl_code.specs.declared.code.Code.{Code}
 use Rattle.setl_code.specs.Code as plain
-use Rattle.setl_code.specs.code.Plain.{Variables, own_variables, plain_bodies, plain_body}
+use Rattle.setl_code.specs.Plain.{Variables, own_variables, plain_bodies, plain_body}
 
 -- all bodies
 abbrev pub bodies_of : Code → List plain.Body

@@ -2,7 +2,7 @@
 
 ghost use Rattle.std.specs.Prelude.{◌≡◌, ◌++◌, ◌∷◌, codes, map, OnOk};
 ghost use Rattle.setl_code.specs.Listing.{alteration_word, brackets_text, instr_text, name_at, operate_text, variable_text};
-ghost use Rattle.setl_code.specs.code.Plain.{plain_alteration, plain_bracket, plain_instr, plain_slot};
+ghost use Rattle.setl_code.specs.Plain.{plain_alteration, plain_bracket, plain_instr, plain_slot};
 ghost use Rattle.setl_listing.specs.Parts.{bodies_of, variables_of};
 
 use crate::names::{push_body_name, push_variable};

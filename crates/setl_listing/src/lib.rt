@@ -9,7 +9,7 @@ mod words;
 
 ghost use Rattle.std.specs.Prelude.{◌≡◌, ◌++◌, ◌∷◌, [], codes, decimal, IfOk, OnOk};
 ghost use Rattle.setl_code.specs.Listing.{body_text, instr_text, listing, steps_text};
-ghost use Rattle.setl_code.specs.code.Plain.{plain_code, plain_instr};
+ghost use Rattle.setl_code.specs.Plain.{plain_code, plain_instr};
 ghost use Rattle.setl_listing.specs.Parts.{bodies_of, body_of, variables_of};
 
 use crate::instructions::push_instr;

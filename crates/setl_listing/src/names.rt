@@ -3,7 +3,7 @@
 ghost use Rattle.std.specs.Prelude.{◌≡◌, ◌++◌, [], map, OnOk};
 ghost use Rattle.setl_run.specs.Variable.{Bound, Global};
 ghost use Rattle.setl_code.specs.Listing.{name_at, variable_text};
-ghost use Rattle.setl_code.specs.code.Plain.{own_variables, plain_name, plain_slot, variable_at};
+ghost use Rattle.setl_code.specs.Plain.{own_variables, plain_name, plain_slot, variable_at};
 ghost use Rattle.setl_listing.specs.Parts.{bodies_of, variables_of};
 
 use crate::texts::push_decimal;

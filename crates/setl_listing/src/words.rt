@@ -2,7 +2,7 @@
 
 ghost use Rattle.std.specs.Prelude.{◌≡◌};
 ghost use Rattle.setl_code.specs.Listing as spec;
-ghost use Rattle.setl_code.specs.code.Plain.{plain_alteration, plain_begin};
+ghost use Rattle.setl_code.specs.Plain.{plain_alteration, plain_begin};
 
 use setl_code::{Alteration, Begin};
 use setl_map::Operator;

@@ -25,8 +25,8 @@ use Rattle.setl_code.specs.declared.code.Slot.{Slot}
 use Rattle.setl_code.specs.declared.code.Slot.TheVariants as slot
 use Rattle.setl_code.specs.Code as plain
 use Rattle.setl_code.specs.Code.{Alteration, TakingOut, Code, Alter}
-use Rattle.setl_code.specs.code.Plain.{plain_code, plain_slot, plain_bracket, plain_alteration}
-use Rattle.setl_code.specs.code.MayRun.{HasSlot}
+use Rattle.setl_code.specs.Plain.{plain_code, plain_slot, plain_bracket, plain_alteration}
+use Rattle.setl_code.specs.MayRun.{HasSlot}
 use Rattle.setl_code.specs.CodeCore.{Held, There, Gone, Cells, held, with_held, write, Operand, Result as Holds, value_of, Pops, popped, CodeCore}
 use Rattle.setl_code.specs.Machine.{machine, at_step, next, on_value, on_top, on_popped, on_held, with_outcome, store_in, store_whole, take_from, alter, selected_by}
 use Rattle.setl_store.specs.Standing.{Standing, over, at_place, top_of, variables}

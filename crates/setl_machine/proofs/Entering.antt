@@ -13,7 +13,7 @@ use Rattle.setl_model.specs.Calls.{bindings}
 use Rattle.setl_model.specs.World.{World, go_with}
 use Rattle.setl_code.specs.declared.code.Body as declared
 use Rattle.setl_code.specs.Code.{Body, Code, CallBody}
-use Rattle.setl_code.specs.code.Plain.{plain_body, plain_bodies, plain_code}
+use Rattle.setl_code.specs.Plain.{plain_body, plain_bodies, plain_code}
 use Rattle.setl_code.specs.CodeCore.{There, Operand, value_of, Pops, pop_before, popped, CodeCore, holding, cleared, variables_of, write}
 use Rattle.setl_code.specs.Machine.{machine, turn, call_body, on_popped}
 use Rattle.setl_store.specs.Bodies.{with_stores, entered}

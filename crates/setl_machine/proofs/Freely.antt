@@ -18,7 +18,7 @@ use Rattle.setl_model.specs.World.{World}
 use Rattle.setl_code.specs.declared.code.Bracket as declared
 use Rattle.setl_code.specs.declared.code.Slot.{Slot}
 use Rattle.setl_code.specs.Code.{Alteration, Bracket, Operate, Alter, Combining}
-use Rattle.setl_code.specs.code.Plain.{plain_code, plain_slot, plain_bracket}
+use Rattle.setl_code.specs.Plain.{plain_code, plain_slot, plain_bracket}
 use Rattle.setl_code.specs.CodeCore.{Held, There, Gone, Operand, Result as Holds, Iterator, PairIterator, Collecting, Pops, popped, CodeCore, held, write}
 use Rattle.setl_code.specs.Machine.{machine, do_instr, next, at_step, on_popped, on_held, on_top, with_outcome, store_in, store_whole, alter}
 use Rattle.setl_store.specs.Operands.{IsPlainTop}

@@ -17,7 +17,7 @@ use Rattle.setl_code.specs.declared.code.OwnName.{OwnName}
 use Rattle.setl_code.specs.declared.code.OwnName.TheVariants as name
 use Rattle.setl_code.specs.declared.code.Slot.{Slot}
 use Rattle.setl_code.specs.declared.code.Slot.TheVariants as slot
-use Rattle.setl_code.specs.code.Plain.{Variables, variable_at, plain_slot, plain_name, plain_body, plain_bodies, plain_code}
+use Rattle.setl_code.specs.Plain.{Variables, variable_at, plain_slot, plain_name, plain_body, plain_bodies, plain_code}
 use Rattle.setl_store.specs.Standing.{Standing, variables, variables_by, variables_in}
 use Rattle.setl_machine.specs.Declaring.{Modes, DeclarationTable, modes_of, declared_at, place_from, place_of, IsOfMain, AreOfMain, IsBare, Serves}
 use Rattle.setl_machine.specs.Tables.{name_place, names_by, KnowsSlots}

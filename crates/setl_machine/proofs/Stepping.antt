@@ -5,7 +5,7 @@ use Rattle.setl_run.specs.Run.{Next, Goes, Ends, settle, step}
 use Rattle.setl_code.specs.declared.code.Instr as declared_instr
 use Rattle.setl_code.specs.declared.code.Step as declared
 use Rattle.setl_code.specs.Code.{Code, Instr}
-use Rattle.setl_code.specs.code.Plain.{Variables, plain_instr, plain_step}
+use Rattle.setl_code.specs.Plain.{Variables, plain_instr, plain_step}
 use Rattle.setl_code.specs.CodeCore.{CodeCore}
 use Rattle.setl_code.specs.Machine.{do_step, fetch, machine}
 use Rattle.setl_text.specs.code.Reads.{ReaderState, StaysHonest}

@@ -9,7 +9,7 @@ use Rattle.setl_run.specs.Variable.{Variable, Global, Own, Bound}
 use Rattle.setl_model.specs.World.{World}
 use Rattle.setl_code.specs.declared.code.Slot.{Slot}
 use Rattle.setl_code.specs.Code.{Code, StoreIn}
-use Rattle.setl_code.specs.code.Plain.{plain_code, plain_slot}
+use Rattle.setl_code.specs.Plain.{plain_code, plain_slot}
 use Rattle.setl_code.specs.CodeCore.{Held, There, Operand, CodeCore, write}
 use Rattle.setl_code.specs.Machine.{machine, at_step, on_top, store_in}
 use Rattle.setl_store.specs.Standing.{Standing, over, at_place, variables}

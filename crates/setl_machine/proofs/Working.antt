@@ -10,7 +10,7 @@ use Rattle.setl_run.specs.Run.{Move, Moves, Halts, settle}
 use Rattle.setl_run.specs.Variable.{Variable, Global, Own, Bound}
 use Rattle.setl_model.specs.World.{World}
 use Rattle.setl_code.specs.Code.{Code, Instr}
-use Rattle.setl_code.specs.code.Plain.{plain_code}
+use Rattle.setl_code.specs.Plain.{plain_code}
 use Rattle.setl_code.specs.CodeCore.{Held, Operand, Result as Holds, value_of, CodeCore, write}
 use Rattle.setl_code.specs.Machine.{machine, do_instr, next, go_to, on_value, on_top, decides}
 use Rattle.setl_store.specs.Standing.{Standing, over, at_place, top_of}

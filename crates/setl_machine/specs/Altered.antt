@@ -8,7 +8,7 @@ use Rattle.setl_run.specs.Run.{settle}
 use Rattle.setl_run.specs.Variable.{Variable}
 use Rattle.setl_model.specs.Core.{Selected}
 use Rattle.setl_code.specs.Code.{Alteration}
-use Rattle.setl_code.specs.code.Plain.{plain_code}
+use Rattle.setl_code.specs.Plain.{plain_code}
 use Rattle.setl_code.specs.CodeCore.{There, Gone, Operand, held, write}
 use Rattle.setl_code.specs.Machine.{machine, on_held, alter}
 use Rattle.setl_store.specs.Standing.{Standing, over, at_place}

@@ -10,7 +10,7 @@ use Rattle.setl_program.specs.code.Plain.{plain_declared}
 use Rattle.setl_model.specs.Step.{test_of, declared_mode}
 use Rattle.setl_code.specs.declared.code.Code as code
 use Rattle.setl_code.specs.Code.{Code}
-use Rattle.setl_code.specs.code.Plain.{variable_at, plain_code}
+use Rattle.setl_code.specs.Plain.{variable_at, plain_code}
 
 -- the declared variables with their modes, in the order of the declarations
 abbrev pub Modes : Type 0

@@ -16,7 +16,7 @@ use Rattle.setl_model.specs.World.{World, branch}
 use Rattle.setl_code.specs.declared.code.Instr as code
 use Rattle.setl_code.specs.declared.code.Instr.TheVariants as i
 use Rattle.setl_code.specs.Code.{Body, Instr}
-use Rattle.setl_code.specs.code.Plain.{plain_code}
+use Rattle.setl_code.specs.Plain.{plain_code}
 use Rattle.setl_code.specs.CodeCore.{Operand, Result as Holds, CodeCore}
 use Rattle.setl_code.specs.Machine.{next, on_top, push_read}
 use Rattle.setl_store.specs.Standing.{Standing, over, top_of}

@@ -3,8 +3,8 @@
 ghost use Rattle.std.specs.Prelude.{◌≡◌, ◌≤◌, ◌<◌, ◌+◌, ◌^◌, ◌∷◌, [], Some, None, cond, map, option_map, length, IfOk};
 ghost use Rattle.setl_code.specs.Code.{Alter, Putting, Combining, TakingOut};
 ghost use Rattle.setl_code.specs.Machine.{selected_by};
-ghost use Rattle.setl_code.specs.code.MayRun.{HasSlot, CanAlter};
-ghost use Rattle.setl_code.specs.code.Plain.{plain_slot, plain_bracket, plain_alteration};
+ghost use Rattle.setl_code.specs.MayRun.{HasSlot, CanAlter};
+ghost use Rattle.setl_code.specs.Plain.{plain_slot, plain_bracket, plain_alteration};
 ghost use Rattle.setl_map.specs.Operators.{operand_count};
 ghost use Rattle.setl_store.specs.Standing.{variables};
 ghost use Rattle.setl_update.specs.Selectors.{selected};

@@ -2,7 +2,7 @@
 
 ghost use Rattle.std.specs.Prelude.{◌≡◌, ℕ, ◌<◌, ◌+◌, ◌^◌, length, slice_get, Some, None, IfSome, IfNone, IfOk};
 ghost use Rattle.setl_code.specs.Code.{CallBody, ReturnTop, KeepAll, GoBack};
-ghost use Rattle.setl_code.specs.code.Plain.{plain_code};
+ghost use Rattle.setl_code.specs.Plain.{plain_code};
 ghost use Rattle.setl_machine.specs.Declaring.{Modes, AreOfMain, IsBare};
 ghost use Rattle.setl_machine.specs.Working.{Works, Does, DoesBy, HasParameters};
 

@@ -2,7 +2,7 @@
 
 ghost use Rattle.std.specs.Prelude.{◌≡◌, ◌∷◌, ℕ, suc, List, [], map, length, slice_get, option_map, IfOk, OnOk};
 ghost use Rattle.std.specs.Option.{option_flatten};
-ghost use Rattle.setl_code.specs.code.Plain.{plain_slot};
+ghost use Rattle.setl_code.specs.Plain.{plain_slot};
 ghost use Rattle.setl_modes.specs.Modes.{Mode as PlainMode};
 ghost use Rattle.setl_program.specs.code.Plain.{plain_declared, plain_variable};
 ghost use Rattle.setl_run.specs.Variable.{Variable as PlainVariable};

@@ -1,8 +1,8 @@
 //! Which function does which instruction.
 
 ghost use Rattle.std.specs.Prelude.{◌≡◌, ◌<◌, ◌+◌, ◌^◌, ℕ, List, length, IfOk};
-ghost use Rattle.setl_code.specs.code.MayRun.{InstrFits};
-ghost use Rattle.setl_code.specs.code.Plain.{plain_code, plain_instr};
+ghost use Rattle.setl_code.specs.MayRun.{InstrFits};
+ghost use Rattle.setl_code.specs.Plain.{plain_code, plain_instr};
 ghost use Rattle.setl_store.specs.Standing.{variables};
 ghost use Rattle.setl_machine.specs.Control.{stood_for};
 ghost use Rattle.setl_machine.specs.Outcome.{next_of, Quiet};

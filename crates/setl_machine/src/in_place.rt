@@ -2,8 +2,8 @@
 
 ghost use Rattle.std.specs.Prelude.{◌≡◌, ℕ, ◌<◌, ◌+◌, ◌^◌, List, map, length, IfSome, IsSome, IfOk};
 ghost use Rattle.setl_code.specs.Code.{Alter};
-ghost use Rattle.setl_code.specs.code.MayRun.{HasSlot, CanAlter};
-ghost use Rattle.setl_code.specs.code.Plain.{plain_slot, plain_bracket, plain_alteration};
+ghost use Rattle.setl_code.specs.MayRun.{HasSlot, CanAlter};
+ghost use Rattle.setl_code.specs.Plain.{plain_slot, plain_bracket, plain_alteration};
 ghost use Rattle.setl_store.specs.Standing.{variables, top_of};
 ghost use Rattle.setl_value.specs.code.DatumOf.{datum};
 ghost use Rattle.setl_machine.specs.Declaring.{Modes, modes_of, Serves};

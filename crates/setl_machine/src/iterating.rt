@@ -3,7 +3,7 @@
 ghost use Rattle.std.specs.Prelude.{◌≡◌, ℕ, ◌<◌, ◌+◌, ◌^◌, IfOk, OnOk};
 ghost use Rattle.setl_code.specs.Code.{PartsOf, BeginOver, NextOr, BeginOf, AddBelow, LeaveAll};
 ghost use Rattle.setl_code.specs.Machine.{first_parts};
-ghost use Rattle.setl_code.specs.code.Plain.{plain_begin};
+ghost use Rattle.setl_code.specs.Plain.{plain_begin};
 ghost use Rattle.setl_store.specs.Standing.{over};
 ghost use Rattle.setl_value.specs.code.DatumOf.{part};
 ghost use Rattle.setl_machine.specs.Working.{Works, Does, component_of};

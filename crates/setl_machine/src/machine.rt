@@ -3,7 +3,7 @@
 ghost use Rattle.std.specs.Prelude.{◌≡◌, ◌⊎◌, List, ℕ, None};
 ghost use Rattle.setl_run.specs.Run.{step};
 ghost use Rattle.setl_code.specs.Machine.{machine};
-ghost use Rattle.setl_code.specs.code.Plain.{plain_code};
+ghost use Rattle.setl_code.specs.Plain.{plain_code};
 ghost use Rattle.setl_text.specs.code.Reads.{ahead, StaysHonest, TakesOff};
 ghost use Rattle.setl_machine.specs.Control.{stood_for, IsRest};
 ghost use Rattle.setl_machine.specs.Declaring.{modes_of, tested, Serves};

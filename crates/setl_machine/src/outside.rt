@@ -5,7 +5,7 @@ ghost use Rattle.setl_value.specs.code.DatumOf.{part};
 ghost use Rattle.setl_code.specs.CodeCore.{Result as Holds};
 ghost use Rattle.setl_store.specs.Standing.{at_place, over};
 ghost use Rattle.setl_code.specs.Code.{PrintTop, ReadOne};
-ghost use Rattle.setl_code.specs.code.Plain.{plain_code};
+ghost use Rattle.setl_code.specs.Plain.{plain_code};
 ghost use Rattle.setl_model.specs.World.{World};
 ghost use Rattle.setl_text.specs.code.Reads.{ahead, SourceCounts, StaysHonest, TakesOff};
 ghost use Rattle.setl_machine.specs.Control.{world_of, in_world, stood_for, IsRest};

@@ -2,8 +2,8 @@
 
 ghost use Rattle.std.specs.Prelude.{ℕ, ◌<◌, ◌+◌, ◌^◌, length, Some, IfOk};
 ghost use Rattle.setl_code.specs.Code.{Push, Load, Take, StoreIn};
-ghost use Rattle.setl_code.specs.code.MayRun.{HasSlot};
-ghost use Rattle.setl_code.specs.code.Plain.{plain_slot};
+ghost use Rattle.setl_code.specs.MayRun.{HasSlot};
+ghost use Rattle.setl_code.specs.Plain.{plain_slot};
 ghost use Rattle.setl_store.specs.Standing.{variables};
 ghost use Rattle.setl_value.specs.Datum.{int, text};
 ghost use Rattle.setl_value.specs.code.DatumOf.{part};

@@ -8,7 +8,7 @@ use Rattle.setl_run.specs.VariableLaws.{same_variable, variable_itself}
 use Rattle.setl_program.specs.Program.{Block, Parameter}
 use Rattle.setl_program.specs.Placed.{NamesDiffer}
 use Rattle.setl_code.specs.Names.{is_among, is_parameter, is_own, in_block, first_among, own_names}
-use Rattle.setl_code.specs.code.MayRun.{Differ}
+use Rattle.setl_code.specs.MayRun.{Differ}
 
 neither : (a b : Bool) → a ≡ false → b ≡ false → a || b ≡ false
 neither false b h g = g

@@ -5,7 +5,7 @@ use Rattle.setl_program.specs.Placed.{PlacedProcedures, Placed}
 use Rattle.setl_code.specs.Piece.{no_loop}
 use Rattle.setl_code.specs.Generated.{main_code, procedure_code}
 use Rattle.setl_code.specs.CodeOf.{main_body, procedure_body}
-use Rattle.setl_code.specs.code.MayRun.{Differ}
+use Rattle.setl_code.specs.MayRun.{Differ}
 use Rattle.setl_slots.specs.Claims.{CodeMayRun}
 use Rattle.setl_slots.proofs.Pieces.{steps_placed}
 use Rattle.setl_slots.proofs.Statements.{main_placed, procedure_placed}

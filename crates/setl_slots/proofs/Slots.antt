@@ -15,8 +15,8 @@ use Rattle.setl_code.specs.declared.code.Instr.TheVariants as i
 use Rattle.setl_code.specs.declared.code.Step.{Step}
 use Rattle.setl_code.specs.declared.code.Body.{Body}
 use Rattle.setl_code.specs.Code as plain
-use Rattle.setl_code.specs.code.Plain.{plain_name, own_variables, variable_at, Variables, plain_slot, plain_alteration, plain_instr, plain_step, plain_bodies}
-use Rattle.setl_code.specs.code.MayRun.{HasSlot, CanAlter, InstrFits, StepsFit, Differ, BodiesFit}
+use Rattle.setl_code.specs.Plain.{plain_name, own_variables, variable_at, Variables, plain_slot, plain_alteration, plain_instr, plain_step, plain_bodies}
+use Rattle.setl_code.specs.MayRun.{HasSlot, CanAlter, InstrFits, StepsFit, Differ, BodiesFit}
 use Rattle.setl_slots.proofs.Pieces.{PlacedAlteration, PlacedInstr, PlacedSteps}
 
 -- ---- bodies as plain data

@@ -3,9 +3,9 @@ use Rattle.std.specs.Prelude.{◌≡◌}
 use Rattle.setl_program.specs.Program.{Program}
 use Rattle.setl_program.specs.Placed.{Placed}
 use Rattle.setl_code.specs.declared.code.Code.{Code}
-use Rattle.setl_code.specs.code.Plain.{plain_code}
+use Rattle.setl_code.specs.Plain.{plain_code}
 use Rattle.setl_code.specs.CodeOf.{code_of}
-use Rattle.setl_code.specs.code.MayRun.{MayRun}
+use Rattle.setl_code.specs.MayRun.{MayRun}
 
 -- code that stands for the code of a program may run
 abbrev pub CodeMayRun : Type 0

@@ -14,8 +14,8 @@ use Rattle.setl_map.specs.declared.OpFault.TheVariants as fault
 use Rattle.setl_code.specs.declared.code.Code.{Code}
 use Rattle.setl_code.specs.CodeCore as core
 use Rattle.setl_code.specs.Machine.{Added, Adds, Refused, Nowhere, add_by, below, added}
-use Rattle.setl_code.specs.code.MayRun.{MayRun}
-use Rattle.setl_code.specs.code.Plain.{plain_code}
+use Rattle.setl_code.specs.MayRun.{MayRun}
+use Rattle.setl_code.specs.Plain.{plain_code}
 use Rattle.setl_store.specs.declared.cells.Frame.{Frame}
 use Rattle.setl_store.specs.declared.cells.Member.{Member}
 use Rattle.setl_store.specs.declared.cells.Operand.{Operand}

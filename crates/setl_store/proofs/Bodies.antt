@@ -13,8 +13,8 @@ use Rattle.setl_code.specs.declared.code.OwnName.{OwnName}
 use Rattle.setl_code.specs.declared.code.OwnName.TheVariants as name
 use Rattle.setl_code.specs.Code as plain
 use Rattle.setl_code.specs.CodeCore.{Held, CodeCore, held, held_in, with_held, write, variables_of}
-use Rattle.setl_code.specs.code.Plain.{plain_name, own_variables, variable_at, plain_body, plain_bodies, plain_code}
-use Rattle.setl_code.specs.code.MayRun.{Differ, StepsFit, BodiesFit, MayRun}
+use Rattle.setl_code.specs.Plain.{plain_name, own_variables, variable_at, plain_body, plain_bodies, plain_code}
+use Rattle.setl_code.specs.MayRun.{Differ, StepsFit, BodiesFit, MayRun}
 use Rattle.setl_store.specs.Flat.{names_of}
 use Rattle.setl_store.specs.Standing.{variables_by}
 

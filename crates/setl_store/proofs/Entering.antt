@@ -19,9 +19,9 @@ use Rattle.setl_code.specs.Code as plain
 use Rattle.setl_code.specs.CodeCore as core
 use Rattle.setl_code.specs.CodeCore.{Cells, Held, There, CodeCore, cleared, variables_of, with_held}
 use Rattle.setl_code.specs.CodeMeans.{main_slots}
-use Rattle.setl_code.specs.code.MayRun.{Differ, MayRun}
+use Rattle.setl_code.specs.MayRun.{Differ, MayRun}
 use Rattle.setl_code.specs.Names.{is_among}
-use Rattle.setl_code.specs.code.Plain.{plain_body, plain_code, plain_name}
+use Rattle.setl_code.specs.Plain.{plain_body, plain_code, plain_name}
 use Rattle.setl_store.specs.declared.cells.Frame.{Frame}
 use Rattle.setl_store.specs.declared.cells.Held.{Held as Slot}
 use Rattle.setl_store.specs.Bodies.{with_stores, entered}

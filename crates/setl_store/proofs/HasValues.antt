@@ -8,7 +8,7 @@ use Rattle.setl_value.specs.declared.Value.{Value}
 use Rattle.setl_value.specs.Datum.{Datum}
 use Rattle.setl_value.specs.code.DatumOf.{part}
 use Rattle.setl_code.specs.declared.code.Code.{Code}
-use Rattle.setl_code.specs.code.Plain.{plain_code}
+use Rattle.setl_code.specs.Plain.{plain_code}
 use Rattle.setl_code.specs.CodeCore as core
 use Rattle.setl_code.specs.CodeCore.{Pops, Lacks, value_of, pop_before, popped}
 use Rattle.setl_store.specs.declared.cells.Frame.{Frame}

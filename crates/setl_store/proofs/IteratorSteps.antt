@@ -13,8 +13,8 @@ use Rattle.setl_iterator.specs.declared.iterator.Item.TheVariants as item
 use Rattle.setl_code.specs.declared.code.Code.{Code}
 use Rattle.setl_code.specs.CodeCore as core
 use Rattle.setl_code.specs.CodeCore.{CodeCore, Result as Holds}
-use Rattle.setl_code.specs.code.MayRun.{MayRun}
-use Rattle.setl_code.specs.code.Plain.{plain_code}
+use Rattle.setl_code.specs.MayRun.{MayRun}
+use Rattle.setl_code.specs.Plain.{plain_code}
 use Rattle.setl_store.specs.declared.cells.Member.{Member}
 use Rattle.setl_store.specs.declared.cells.Operand.{Operand}
 use Rattle.setl_store.specs.declared.cells.Operand.TheVariants as operand

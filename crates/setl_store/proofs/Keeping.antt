@@ -5,8 +5,8 @@ use Rattle.setl_value.specs.declared.Value.TheVariants as value
 use Rattle.setl_code.specs.declared.code.Code.{Code}
 use Rattle.setl_code.specs.Code as plain
 use Rattle.setl_code.specs.CodeCore.{Result as Holds, Copy, CodeCore}
-use Rattle.setl_code.specs.code.MayRun.{MayRun}
-use Rattle.setl_code.specs.code.Plain.{plain_code}
+use Rattle.setl_code.specs.MayRun.{MayRun}
+use Rattle.setl_code.specs.Plain.{plain_code}
 use Rattle.setl_store.specs.declared.cells.Operand.{Operand}
 use Rattle.setl_store.specs.declared.cells.Operand.TheVariants as operand
 use Rattle.setl_store.specs.Standing.{Standing, over, at_place, kept as with_kept}

@@ -21,9 +21,9 @@ use Rattle.setl_code.specs.Code as plain
 use Rattle.setl_code.specs.CodeCore as core
 use Rattle.setl_code.specs.CodeCore.{Held, There, Gone, Cells, held_in, CodeCore}
 use Rattle.setl_code.specs.Machine.{hand, push_held, handed_back}
-use Rattle.setl_code.specs.code.MayRun.{Differ, MayRun}
+use Rattle.setl_code.specs.MayRun.{Differ, MayRun}
 use Rattle.setl_code.specs.Names.{is_among}
-use Rattle.setl_code.specs.code.Plain.{plain_body, plain_code, plain_name}
+use Rattle.setl_code.specs.Plain.{plain_body, plain_code, plain_name}
 use Rattle.setl_store.specs.declared.cells.Frame.{Frame}
 use Rattle.setl_store.specs.declared.cells.Held.{Held as Slot}
 use Rattle.setl_store.specs.declared.cells.Operand.{Operand}

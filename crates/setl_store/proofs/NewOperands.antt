@@ -2,8 +2,8 @@
 use Rattle.std.proofs.Common.{◌≡◌, ℕ, List, sym, ap, ◌∙◌, subst}
 use Rattle.setl_code.specs.declared.code.Code.{Code}
 use Rattle.setl_code.specs.CodeCore as core
-use Rattle.setl_code.specs.code.MayRun.{MayRun}
-use Rattle.setl_code.specs.code.Plain.{plain_code}
+use Rattle.setl_code.specs.MayRun.{MayRun}
+use Rattle.setl_code.specs.Plain.{plain_code}
 use Rattle.setl_store.specs.Standing.{Standing, over}
 use Rattle.setl_store.specs.Flat.{Here, now_operands, stands, IsSound, AllSound}
 use Rattle.setl_store.proofs.OperandLists.{Changed}

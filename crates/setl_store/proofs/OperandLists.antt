@@ -8,8 +8,8 @@ use Rattle.setl_code.specs.declared.code.Code.{Code}
 use Rattle.setl_code.specs.Code as plain
 use Rattle.setl_code.specs.CodeCore as core
 use Rattle.setl_code.specs.CodeCore.{Cells, Activation, CodeCore}
-use Rattle.setl_code.specs.code.MayRun.{MayRun}
-use Rattle.setl_code.specs.code.Plain.{plain_code}
+use Rattle.setl_code.specs.MayRun.{MayRun}
+use Rattle.setl_code.specs.Plain.{plain_code}
 use Rattle.setl_store.specs.declared.cells.Frame.{Frame}
 use Rattle.setl_store.specs.declared.cells.Held.{Held}
 use Rattle.setl_store.specs.declared.cells.Member.{Member}

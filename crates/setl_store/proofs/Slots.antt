@@ -12,8 +12,8 @@ use Rattle.setl_code.specs.Code as plain
 use Rattle.setl_code.specs.CodeCore as core
 use Rattle.setl_code.specs.CodeCore.{Cells, CodeCore, held, held_in, with_held, write}
 use Rattle.setl_code.specs.Names.{is_among}
-use Rattle.setl_code.specs.code.Plain.{variable_at, plain_slot, plain_code}
-use Rattle.setl_code.specs.code.MayRun.{Differ, HasSlot, MayRun}
+use Rattle.setl_code.specs.Plain.{variable_at, plain_slot, plain_code}
+use Rattle.setl_code.specs.MayRun.{Differ, HasSlot, MayRun}
 use Rattle.setl_store.specs.declared.cells.Frame.{Frame}
 use Rattle.setl_store.specs.declared.cells.Held.{Held}
 use Rattle.setl_store.specs.Standing.{Standing, no_world, variables}

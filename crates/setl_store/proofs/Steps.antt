@@ -11,8 +11,8 @@ use Rattle.setl_code.specs.declared.code.Code.{Code}
 use Rattle.setl_code.specs.declared.code.Step.{Step}
 use Rattle.setl_code.specs.CodeCore.{CodeCore}
 use Rattle.setl_code.specs.Machine.{body_steps, fetch}
-use Rattle.setl_code.specs.code.MayRun.{InstrFits, StepsFit, MayRun}
-use Rattle.setl_code.specs.code.Plain.{Variables, plain_body, plain_step, plain_code, plain_name}
+use Rattle.setl_code.specs.MayRun.{InstrFits, StepsFit, MayRun}
+use Rattle.setl_code.specs.Plain.{Variables, plain_body, plain_step, plain_code, plain_name}
 use Rattle.setl_store.specs.Flat.{Here, step_of, own_count_of, body_in, cells, own_in, helds, results, core_of, stands, IsSound, AllSound}
 use Rattle.setl_store.specs.Standing.{Standing, variables, variables_in}
 use Rattle.setl_store.proofs.Bodies.{own_by, BodyFits, body_at, body_fits, names_same}

@@ -9,7 +9,7 @@ use Rattle.setl_code.specs.declared.code.Code.{Code}
 use Rattle.setl_run.specs.Variable.{Variable}
 use Rattle.setl_code.specs.Code as plain
 use Rattle.setl_code.specs.Code.{Body}
-use Rattle.setl_code.specs.code.Plain.{Variables, plain_code}
+use Rattle.setl_code.specs.Plain.{Variables, plain_code}
 use Rattle.setl_code.specs.CodeCore.{cleared, variables_of, Copy, Held, There, Gone, Operand, Result as Holds, Iterator, PairIterator, Collecting, value_of, CodeCore}
 use Rattle.setl_store.specs.declared.store.Content.{Content}
 use Rattle.setl_store.specs.declared.store.Content.TheVariants as content

@@ -2,8 +2,8 @@
 
 ghost use Rattle.std.specs.Prelude.{◌≡◌, ◌<◌, ◌+◌, ◌^◌, Some, None, map, length, slice_get, IfSome, IfNone, IfOk, OnOk};
 ghost use Rattle.setl_code.specs.Machine.{fetch};
-ghost use Rattle.setl_code.specs.code.MayRun.{MayRun, InstrFits};
-ghost use Rattle.setl_code.specs.code.Plain.{plain_code, plain_step};
+ghost use Rattle.setl_code.specs.MayRun.{MayRun, InstrFits};
+ghost use Rattle.setl_code.specs.Plain.{plain_code, plain_step};
 ghost use Rattle.setl_value.specs.code.DatumOf.{part};
 ghost use Rattle.setl_store.specs.Bodies.{entered, left, Leaves};
 ghost use Rattle.setl_store.specs.Flat.{step_of};

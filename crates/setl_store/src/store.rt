@@ -2,8 +2,8 @@
 
 ghost use Rattle.std.specs.Prelude.{◌≡◌, ◌<◌, ◌≤◌, ◌-◌, ◌+◌, [], ◌∷◌, length, reverse, IfOk, OnOk};
 ghost use Rattle.setl_code.specs.CodeCore.{Result as Holds, Collecting, There, Gone, held, write};
-ghost use Rattle.setl_code.specs.code.MayRun.{HasSlot};
-ghost use Rattle.setl_code.specs.code.Plain.{plain_slot};
+ghost use Rattle.setl_code.specs.MayRun.{HasSlot};
+ghost use Rattle.setl_code.specs.Plain.{plain_slot};
 ghost use Rattle.setl_value.specs.code.DatumOf.{part};
 ghost use Rattle.setl_store.specs.Flat.{operand_of, held_of, lowest_in, slots_in, place_in, HasMembers};
 ghost use Rattle.setl_store.specs.Operands.{IsThere};
@@ -38,8 +38,8 @@ impl<'c> Model for Store<'c> {
 
     ghost coded = { Prim.hlevel (codes, coded_datum) };
 
-    ghost use Rattle.setl_code.specs.code.MayRun.{MayRun};
-    ghost use Rattle.setl_code.specs.code.Plain.{plain_code};
+    ghost use Rattle.setl_code.specs.MayRun.{MayRun};
+    ghost use Rattle.setl_code.specs.Plain.{plain_code};
     ghost use Rattle.setl_store.specs.Flat.{stands, IsSound, AllSound};
 
     ghost view = { λ s. stands s.code.now s.at s.environment.now s.environment.kept };

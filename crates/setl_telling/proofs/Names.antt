@@ -13,7 +13,7 @@ use Rattle.setl_code.specs.declared.code.Slot.{Slot}
 use Rattle.setl_code.specs.declared.code.Slot.TheVariants as slot
 use Rattle.setl_code.specs.declared.code.Body as declared
 use Rattle.setl_code.specs.declared.code.Code as declared_code
-use Rattle.setl_code.specs.code.Plain.{plain_name, variable_at, plain_body, plain_bodies, plain_code}
+use Rattle.setl_code.specs.Plain.{plain_name, variable_at, plain_body, plain_bodies, plain_code}
 use Rattle.setl_watch.specs.Notices.{Called as CallNotice, Returned as ReturnNotice, noticed}
 use Rattle.setl_telling.specs.Told.{return_told, stores_told}
 use Rattle.setl_telling.specs.Notes.{told_name, own_slots, variable_of, own_told, slot_told, call_notices}

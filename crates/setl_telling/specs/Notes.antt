@@ -9,7 +9,7 @@ use Rattle.setl_code.specs.declared.code.Slot.{Slot}
 use Rattle.setl_code.specs.declared.code.Slot.TheVariants as slot
 use Rattle.setl_code.specs.Code.{Body, Code}
 use Rattle.setl_code.specs.CodeCore.{variables_of}
-use Rattle.setl_code.specs.code.Plain.{variable_at}
+use Rattle.setl_code.specs.Plain.{variable_at}
 use Rattle.setl_watch.specs.Notices.{Notice, Stored as StoreNotice, noticed}
 use Rattle.setl_telling.specs.Told.{called}
 

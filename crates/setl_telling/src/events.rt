@@ -3,7 +3,7 @@
 ghost use Rattle.std.specs.Prelude.{◌≡◌, ◌++◌, ◌∷◌, [], Option, Some, None, map, slice_get, option_map, IfOk, IfSome, IfNone, OnOk};
 ghost use Rattle.setl_value.specs.code.DatumOf.{part};
 ghost use Rattle.setl_program.specs.ProgramOf.{parameter_of};
-ghost use Rattle.setl_code.specs.code.Plain.{plain_code};
+ghost use Rattle.setl_code.specs.Plain.{plain_code};
 ghost use Rattle.setl_model.specs.Calls.{bindings};
 ghost use Rattle.setl_watch.specs.Notices.{Called as CallNotice, noticed, notice_of};
 ghost use Rattle.setl_telling.specs.Told.{return_told, stores_told};

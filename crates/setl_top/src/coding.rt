@@ -1,7 +1,7 @@
 //! The program of a source, and its code.
 ghost use Rattle.std.specs.Prelude.{◌≡◌, IfOk};
 ghost use Rattle.setl_code.specs.CodeOf.{code_of};
-ghost use Rattle.setl_code.specs.code.Plain.{plain_code};
+ghost use Rattle.setl_code.specs.Plain.{plain_code};
 ghost use Rattle.setl_program.specs.code.Plain.{plain_program};
 ghost use Rattle.setl_program.specs.ProgramOf.{program_of};
 ghost use Rattle.setl_top.specs.Rules.{AreModes};

@@ -1,7 +1,7 @@
 use Rattle.std.proofs.Common.{◌≡◌, ◌++◌, drop, map}
 use Rattle.setl_run.specs.Variable.{Global}
 use Rattle.setl_code.specs.Listing.{listing, procedures_text}
-use Rattle.setl_code.specs.code.Plain.{plain_bodies, plain_code}
+use Rattle.setl_code.specs.Plain.{plain_bodies, plain_code}
 use Rattle.setl_listing.specs.Parts.{bodies_of}
 use Rattle.setl_listing.proofs.push_bodies.Given as goal
 

@@ -1,6 +1,6 @@
 use Rattle.std.proofs.Common.{◌≡◌, ◌++◌, drop, map}
 use Rattle.setl_code.specs.Listing.{steps_text}
-use Rattle.setl_code.specs.code.Plain.{plain_step}
+use Rattle.setl_code.specs.Plain.{plain_step}
 use Rattle.setl_listing.specs.Parts.{bodies_of, body_of, variables_of}
 use Rattle.setl_listing.proofs.push_steps.Given as goal
 

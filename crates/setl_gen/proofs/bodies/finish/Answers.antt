@@ -1,7 +1,7 @@
 use Rattle.std.proofs.Common.{◌∙◌, map, ap, sym}
 use Rattle.std.specs.Global.{Vec}
 use Rattle.setl_code.specs.declared.code.Step.{Step}
-use Rattle.setl_code.specs.code.Plain.{plain_step}
+use Rattle.setl_code.specs.Plain.{plain_step}
 use Rattle.setl_gen.specs.Table.{variables}
 use Rattle.setl_gen.specs.Emitted.{held}
 use Rattle.setl_gen.proofs.BodyLemmas.{finished_is}

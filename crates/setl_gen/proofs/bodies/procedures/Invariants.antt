@@ -2,7 +2,7 @@ use Rattle.std.proofs.Common.{◌≡◌, ◌++◌, drop, map}
 use Rattle.setl_run.specs.Variable.{Global}
 use Rattle.setl_program.specs.code.Plain.{plain_procedure}
 use Rattle.setl_code.specs.CodeOf.{procedure_body}
-use Rattle.setl_code.specs.code.Plain.{plain_bodies}
+use Rattle.setl_code.specs.Plain.{plain_bodies}
 use Rattle.setl_gen.proofs.bodies.procedures.Given as goal
 
 abbrev pub invariant-loop-p : goal.invariant-loop-p

@@ -2,7 +2,7 @@ use Rattle.std.proofs.Common.{◌∙◌, List, ap, map}
 use Rattle.setl_program.specs.declared.stmt.Selector.{Selector}
 use Rattle.setl_program.specs.code.Plain.{plain_variable, selectors_of}
 use Rattle.setl_code.specs.Generated as code
-use Rattle.setl_code.specs.code.Plain.{plain_alteration, plain_bracket, plain_slot}
+use Rattle.setl_code.specs.Plain.{plain_alteration, plain_bracket, plain_slot}
 use Rattle.setl_gen.specs.Table.{variables}
 use Rattle.setl_gen.specs.Emitted.{held, after}
 use Rattle.setl_gen.proofs.StmtRounds.{alter_made}

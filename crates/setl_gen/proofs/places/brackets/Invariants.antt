@@ -1,7 +1,7 @@
 use Rattle.std.proofs.Common.{◌≡◌, ◌++◌, drop, map}
 use Rattle.setl_program.specs.code.Plain.{selectors_of}
 use Rattle.setl_code.specs.Generated as code
-use Rattle.setl_code.specs.code.Plain.{plain_bracket}
+use Rattle.setl_code.specs.Plain.{plain_bracket}
 use Rattle.setl_gen.proofs.places.brackets.Given as goal
 
 abbrev pub invariant-loop-s : goal.invariant-loop-s

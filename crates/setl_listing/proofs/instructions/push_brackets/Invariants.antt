@@ -1,6 +1,6 @@
 use Rattle.std.proofs.Common.{◌≡◌, ◌++◌, drop, map}
 use Rattle.setl_code.specs.Listing.{brackets_text}
-use Rattle.setl_code.specs.code.Plain.{plain_bracket}
+use Rattle.setl_code.specs.Plain.{plain_bracket}
 use Rattle.setl_listing.proofs.instructions.push_brackets.Given as goal
 
 abbrev pub invariant-loop-b : goal.invariant-loop-b

@@ -1,6 +1,6 @@
 use Rattle.std.proofs.Common.{◌≡◌, length, slice_get, Some, refl}
 use Rattle.std.proofs.lemmas.Option.{slice_get_read}
-use Rattle.setl_code.specs.code.Plain.{plain_name}
+use Rattle.setl_code.specs.Plain.{plain_name}
 use Rattle.setl_listing.proofs.Variables.{variable_within, variable_past}
 use Rattle.setl_listing.proofs.names.push_name_at.Goals as goal
 

@@ -2,7 +2,7 @@ use Rattle.std.proofs.Common.{◌≡◌, map, slice_get, Some, refl, rules}
 use Rattle.std.proofs.lemmas.Option.{slice_get_read}
 use Rattle.setl_tree.specs.declared.tree.Param.{Param}
 use Rattle.setl_run.specs.Variable.{Own}
-use Rattle.setl_code.specs.code.Plain.{plain_name}
+use Rattle.setl_code.specs.Plain.{plain_name}
 use Rattle.setl_listing.proofs.Variables.{variable_in_first, variable_in_second}
 use Rattle.setl_listing.proofs.names.push_own.Goals as goal
 

@@ -2,7 +2,7 @@ use Rattle.std.proofs.Common.{◌≡◌, ◌∙◌, [], map, length, ap}
 use Rattle.setl_value.specs.code.DatumOf.{part}
 use Rattle.setl_code.specs.Code.{Putting, Combining, TakingOut}
 use Rattle.setl_code.specs.CodeCore.{popped, Pops}
-use Rattle.setl_code.specs.code.Plain.{plain_alteration}
+use Rattle.setl_code.specs.Plain.{plain_alteration}
 use Rattle.setl_update.specs.Selectors.{selected}
 use Rattle.setl_machine.specs.Declaring.{modes_of}
 use Rattle.setl_machine.proofs.Altered.{altered_by, declared_popped}

@@ -4,7 +4,7 @@ use Rattle.setl_value.specs.code.DatumOf.{part}
 use Rattle.setl_map.specs.Operators.{op_of}
 use Rattle.setl_model.specs.Places.{combined}
 use Rattle.setl_code.specs.Code.{Combining}
-use Rattle.setl_code.specs.code.Plain.{plain_slot}
+use Rattle.setl_code.specs.Plain.{plain_slot}
 use Rattle.setl_store.specs.Standing.{variables}
 use Rattle.setl_update.specs.Selectors.{selected}
 use Rattle.std.specs.Prelude.{map, option_map}

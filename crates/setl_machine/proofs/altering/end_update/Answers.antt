@@ -3,7 +3,7 @@ use Rattle.std.specs.Prelude.{option_map, Result, IfOk}
 use Rattle.std.proofs.lemmas.Result.{IfOk-weaker}
 use Rattle.setl_value.specs.code.DatumOf.{part}
 use Rattle.setl_map.specs.declared.OpFault.{OpFault}
-use Rattle.setl_code.specs.code.Plain.{plain_slot}
+use Rattle.setl_code.specs.Plain.{plain_slot}
 use Rattle.setl_store.specs.Standing.{variables}
 use Rattle.setl_machine.specs.Altered.{StoresWhole, EndsUpdate}
 use Rattle.setl_machine.specs.Control.{ControlState}

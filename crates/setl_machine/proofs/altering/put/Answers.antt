@@ -3,7 +3,7 @@ use Rattle.std.proofs.lemmas.Result.{IfOk-weaker}
 use Rattle.setl_value.specs.code.DatumOf.{part}
 use Rattle.setl_model.specs.Places.{with_part_at_all}
 use Rattle.setl_code.specs.Code.{Putting}
-use Rattle.setl_code.specs.code.Plain.{plain_slot}
+use Rattle.setl_code.specs.Plain.{plain_slot}
 use Rattle.setl_store.specs.Standing.{variables}
 use Rattle.setl_update.specs.Selectors.{selected}
 use Rattle.std.specs.Prelude.{map, option_map}

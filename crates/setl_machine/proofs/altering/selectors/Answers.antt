@@ -2,7 +2,7 @@ use Rattle.std.proofs.Common.{◌∙◌, ◌++◌, map, length, ap, sym}
 use Rattle.std.proofs.lemmas.List.{append-nil}
 use Rattle.setl_value.specs.code.DatumOf.{part}
 use Rattle.setl_code.specs.Machine.{selected_by}
-use Rattle.setl_code.specs.code.Plain.{plain_bracket}
+use Rattle.setl_code.specs.Plain.{plain_bracket}
 use Rattle.setl_update.specs.Selectors.{selected}
 use Rattle.setl_machine.proofs.Altered.{one_selector_more, no_selector_more, none_left}
 use Rattle.setl_machine.proofs.altering.selectors.Goals as goal

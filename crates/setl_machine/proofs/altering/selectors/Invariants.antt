@@ -1,7 +1,7 @@
 use Rattle.std.proofs.Common.{◌≡◌, ◌++◌, map}
 use Rattle.setl_value.specs.code.DatumOf.{part}
 use Rattle.setl_code.specs.Machine.{selected_by}
-use Rattle.setl_code.specs.code.Plain.{plain_bracket}
+use Rattle.setl_code.specs.Plain.{plain_bracket}
 use Rattle.setl_update.specs.Selectors.{selected}
 use Rattle.setl_machine.proofs.altering.selectors.Given as goal
 

@@ -2,7 +2,7 @@ use Rattle.std.proofs.Common.{◌≡◌, ◌∙◌, [], map, length, Some, sym, 
 use Rattle.std.specs.Prelude.{slice_get, IfSome}
 use Rattle.std.proofs.lemmas.List.{length-map}
 use Rattle.setl_code.specs.CodeCore.{popped, Pops}
-use Rattle.setl_code.specs.code.Plain.{plain_code}
+use Rattle.setl_code.specs.Plain.{plain_code}
 use Rattle.setl_value.specs.code.DatumOf.{part}
 use Rattle.setl_machine.specs.Working.{HasParameters}
 use Rattle.setl_machine.proofs.Entering.{popped_count, called, each_value}

@@ -1,7 +1,7 @@
 use Rattle.std.proofs.Common.{IfOk, refl, sym, subst}
 use Rattle.setl_code.specs.declared.code.Instr.{Instr}
 use Rattle.setl_code.specs.declared.code.Instr.TheVariants.{Store, Call}
-use Rattle.setl_code.specs.code.Plain.{plain_instr}
+use Rattle.setl_code.specs.Plain.{plain_instr}
 use Rattle.setl_store.specs.Standing.{variables}
 use Rattle.setl_machine.specs.Declaring.{modes_of}
 use Rattle.setl_machine.specs.Working.{DoesBy}

@@ -1,5 +1,5 @@
 use Rattle.std.proofs.Common.{refl}
-use Rattle.setl_code.specs.code.Plain.{plain_instr}
+use Rattle.setl_code.specs.Plain.{plain_instr}
 use Rattle.setl_store.specs.Standing.{variables}
 use Rattle.setl_machine.proofs.Working.{works_alone}
 use Rattle.setl_machine.proofs.dispatch.do_untested.Goals as goal

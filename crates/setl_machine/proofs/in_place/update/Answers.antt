@@ -1,6 +1,6 @@
 use Rattle.std.proofs.Common.{map}
 use Rattle.setl_code.specs.Code.{Alter}
-use Rattle.setl_code.specs.code.Plain.{plain_slot, plain_bracket, plain_alteration}
+use Rattle.setl_code.specs.Plain.{plain_slot, plain_bracket, plain_alteration}
 use Rattle.setl_store.specs.Standing.{variables}
 use Rattle.setl_value.specs.code.DatumOf.{datum}
 use Rattle.setl_machine.specs.Declaring.{modes_of}

@@ -1,5 +1,5 @@
 use Rattle.std.proofs.Common.{◌≡◌, ◌*◌, None}
-use Rattle.setl_code.specs.code.Plain.{plain_code}
+use Rattle.setl_code.specs.Plain.{plain_code}
 use Rattle.setl_text.specs.code.Reads.{StaysHonest, TakesOff}
 use Rattle.setl_machine.specs.Declaring.{modes_of}
 use Rattle.setl_machine.specs.declared.end.End.TheVariants.{Paused}

@@ -2,7 +2,7 @@ use Rattle.std.proofs.Common.{◌≡◌, ◌∙◌, [], inl, Some, refl, ap, sub
 use Rattle.setl_code.specs.declared.code.Instr.TheVariants.{Print, Read}
 use Rattle.setl_code.specs.Code.{PrintTop, ReadOne}
 use Rattle.setl_code.specs.Machine.{fetch}
-use Rattle.setl_code.specs.code.Plain.{plain_code, plain_instr}
+use Rattle.setl_code.specs.Plain.{plain_code, plain_instr}
 use Rattle.setl_store.specs.Standing.{variables}
 use Rattle.setl_text.specs.code.Reads.{ReaderState, ahead}
 use Rattle.setl_machine.specs.Control.{world_of, stood_for, IsRest}

@@ -1,5 +1,5 @@
 use Rattle.std.proofs.Common.{ap, subst, map}
-use Rattle.setl_code.specs.code.Plain.{plain_code}
+use Rattle.setl_code.specs.Plain.{plain_code}
 use Rattle.setl_machine.specs.Control.{ControlState}
 use Rattle.setl_machine.specs.Declaring.{modes_of}
 use Rattle.setl_program.specs.code.Plain.{plain_declared}

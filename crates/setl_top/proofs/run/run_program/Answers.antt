@@ -1,5 +1,5 @@
 use Rattle.std.proofs.Common.{map, subst, sym}
-use Rattle.setl_code.specs.code.Plain.{plain_code}
+use Rattle.setl_code.specs.Plain.{plain_code}
 use Rattle.setl_machine.specs.Declaring.{AreOfMain}
 use Rattle.setl_program.specs.Formed.{Formed}
 use Rattle.setl_program.specs.Placed.{Placed}

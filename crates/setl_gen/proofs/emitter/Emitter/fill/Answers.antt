@@ -1,6 +1,6 @@
 use Rattle.std.proofs.Common.{map, refl}
 use Rattle.setl_code.specs.declared.code.Step.{Step}
-use Rattle.setl_code.specs.code.Plain.{plain_instr, plain_step}
+use Rattle.setl_code.specs.Plain.{plain_instr, plain_step}
 use Rattle.setl_gen.specs.Table.{variables}
 use Rattle.setl_gen.specs.Emitted.{held}
 use Rattle.std.specs.Vec.{with_item}

@@ -1,4 +1,4 @@
-use Rattle.setl_code.specs.code.Plain.{plain_instr, plain_step}
+use Rattle.setl_code.specs.Plain.{plain_instr, plain_step}
 use Rattle.std.proofs.Common.{map}
 use Rattle.setl_gen.specs.Table.{variables}
 use Rattle.setl_gen.specs.Emitted.{held}

@@ -1,7 +1,7 @@
 use Rattle.std.proofs.Common.{◌≡◌, ◌∙◌, ℕ, List, map, ap, sym}
 use Rattle.std.specs.Prelude.{Result, Ok, Err, IfOk}
 use Rattle.setl_code.specs.declared.code.OwnName.{OwnName}
-use Rattle.setl_code.specs.code.Plain.{plain_name}
+use Rattle.setl_code.specs.Plain.{plain_name}
 use Rattle.setl_gen.specs.Table.{Table}
 use Rattle.setl_gen.proofs.names.Names.names.Goals as goal
 

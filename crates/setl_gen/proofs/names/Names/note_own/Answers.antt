@@ -1,5 +1,5 @@
 use Rattle.std.proofs.Common.{◌≡◌, ◌∙◌, ◌+◌, ◌++◌, ◌∷◌, [], length, map, refl, sym, arith}
-use Rattle.setl_code.specs.code.Plain.{plain_name}
+use Rattle.setl_code.specs.Plain.{plain_name}
 use Rattle.setl_gen.specs.Table.{Table, with_own}
 use Rattle.setl_gen.specs.Slots.{own_variable}
 use Rattle.setl_gen.proofs.SlotTables.{noted_there, noted_new, on_ok, own_kept}

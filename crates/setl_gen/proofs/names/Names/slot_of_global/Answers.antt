@@ -1,6 +1,6 @@
 use Rattle.std.proofs.Common.{◌∙◌, map, ap, sym}
 use Rattle.setl_run.specs.Variable as run
-use Rattle.setl_code.specs.code.Plain.{variable_at}
+use Rattle.setl_code.specs.Plain.{variable_at}
 use Rattle.setl_gen.specs.Table.{Table}
 use Rattle.setl_gen.proofs.SlotTables.{at_slot}
 use Rattle.setl_gen.proofs.names.Names.slot_of_global.Goals as goal

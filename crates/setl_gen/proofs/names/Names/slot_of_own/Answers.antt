@@ -1,5 +1,5 @@
 use Rattle.std.proofs.Common.{◌∙◌, map, ap, sym}
-use Rattle.setl_code.specs.code.Plain.{variable_at, plain_name}
+use Rattle.setl_code.specs.Plain.{variable_at, plain_name}
 use Rattle.setl_gen.specs.Table.{Table, own_variables}
 use Rattle.setl_gen.specs.Slots.{own_variable, own_of}
 use Rattle.setl_gen.proofs.SlotTables.{at_slot}

@@ -1,5 +1,5 @@
 use Rattle.std.proofs.Common.{get_or, ap}
-use Rattle.setl_code.specs.code.Plain.{plain_slot}
+use Rattle.setl_code.specs.Plain.{plain_slot}
 use Rattle.setl_store.specs.Standing.{variables}
 use Rattle.setl_machine.proofs.Places.{within_table, declared_in, not_in}
 use Rattle.setl_machine.proofs.declarations.Declarations.of_slot.Goals as goal

@@ -3,7 +3,7 @@ use Rattle.std.proofs.lemmas.List.{length-map}
 use Rattle.std.proofs.lemmas.Option.{IfSome_then}
 use Rattle.setl_value.specs.code.DatumOf.{part}
 use Rattle.setl_code.specs.declared.code.Code.{Code}
-use Rattle.setl_code.specs.code.Plain.{plain_code}
+use Rattle.setl_code.specs.Plain.{plain_code}
 use Rattle.setl_store.specs.Bodies.{entered}
 use Rattle.setl_store.specs.Standing.{Standing}
 use Rattle.setl_store.proofs.Entering.{enters}

@@ -1,7 +1,7 @@
 use Rattle.std.proofs.Common.{◌≡◌, ℕ, List, ◌++◌, length, map, reverse, slice_get, refl, Some}
 use Rattle.setl_value.specs.code.DatumOf.{part}
-use Rattle.setl_code.specs.code.MayRun.{MayRun}
-use Rattle.setl_code.specs.code.Plain.{plain_code}
+use Rattle.setl_code.specs.MayRun.{MayRun}
+use Rattle.setl_code.specs.Plain.{plain_code}
 use Rattle.setl_store.specs.Bodies.{left}
 use Rattle.setl_store.specs.Flat.{Here, stands, results, IsSound, AllSound}
 use Rattle.setl_store.specs.Returning.{operand_by}

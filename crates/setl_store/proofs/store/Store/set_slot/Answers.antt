@@ -1,7 +1,7 @@
 use Rattle.std.proofs.Common.{◌∙◌, ◌<◌, length, sym, ap, subst, refl}
 use Rattle.setl_value.specs.code.DatumOf.{part}
 use Rattle.setl_code.specs.CodeCore.{There, Gone, write}
-use Rattle.setl_code.specs.code.Plain.{plain_slot}
+use Rattle.setl_code.specs.Plain.{plain_slot}
 use Rattle.setl_store.specs.declared.cells.Held.TheVariants as held
 use Rattle.setl_store.specs.Flat.{held_of}
 use Rattle.setl_store.specs.Standing.{variables}

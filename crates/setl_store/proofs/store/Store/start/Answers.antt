@@ -1,5 +1,5 @@
 use Rattle.std.proofs.Common.{◌≡◌, ◌∙◌, [], sym, ap, subst}
-use Rattle.setl_code.specs.code.Plain.{plain_code}
+use Rattle.setl_code.specs.Plain.{plain_code}
 use Rattle.setl_store.specs.Flat.{stands, IsSound, AllSound}
 use Rattle.setl_store.specs.Standing.{started}
 use Rattle.setl_store.proofs.Entering.{starts, first_contents, first_slots}

@@ -1,5 +1,5 @@
 use Rattle.std.proofs.Common.{◌∙◌, ◌+◌, ◌-◌, ◌∷◌, drop, sym, ap, subst, refl, arith}
-use Rattle.setl_code.specs.code.Plain.{plain_code}
+use Rattle.setl_code.specs.Plain.{plain_code}
 use Rattle.setl_store.specs.declared.store.Top.TheVariants as top
 use Rattle.setl_store.specs.Flat.{operand_of}
 use Rattle.setl_store.specs.Standing.{Shows}

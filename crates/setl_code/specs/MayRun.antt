@@ -13,7 +13,7 @@ use Rattle.setl_code.specs.declared.code.Step.{Step}
 use Rattle.setl_code.specs.declared.code.Body.{Body}
 use Rattle.setl_code.specs.declared.code.Code.{Code}
 use Rattle.setl_code.specs.Names.{is_among}
-use Rattle.setl_code.specs.code.Plain.{own_variables, plain_code}
+use Rattle.setl_code.specs.Plain.{own_variables, plain_code}
 
 -- the slot is there, among so many that all bodies see and so many of the body's own
 abbrev pub HasSlot : (globals own : ℕ) → Slot → Type 0
