@@ -10,3 +10,4 @@ pub mod Search
 pub mod Chosen
 pub mod Depths
 pub mod SubsetLaws
+pub mod BySearch

@@ -11,6 +11,7 @@ mod member;
 mod merge;
 mod power;
 mod rising;
+mod searching;
 
 pub use member::{has, less, with};
 pub use merge::{meet, minus, symm, union};

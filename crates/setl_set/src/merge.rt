@@ -1,4 +1,5 @@
-//! Union, difference, intersection and symmetric difference, by one merge of two rising lists.
+//! Union, difference, intersection and symmetric difference: by one merge of two rising lists, or by searches where one
+//! set is much smaller.
 
 ghost use Rattle.std.specs.Prelude.{◌≡◌, ◌∷◌, ◌++◌, [], map, IfOk, OnOk};
 ghost use Rattle.setl_value.specs.code.Body.{Members};
@@ -7,6 +8,7 @@ ghost use Rattle.setl_set.specs.code.Merge.{IsMerge, kept_if, front};
 ghost use Rattle.setl_set.specs.Sets.{union_of, minus_of, meet_of, symm_of};
 
 use crate::Memory;
+use crate::searching::{chosen_by_search, is_small, union_by_search};
 use setl_value::{MemberIter, SetBody, Value};
 use std::alloc::Global;
 use std::cmp::Ordering;
@@ -15,6 +17,12 @@ use std::cmp::Ordering;
 pub fn union(alloc: Global, a: &SetBody, b: &SetBody) -> Result<SetBody, Memory>
     ensures { IfOk result (λ s. Members s ≡ union_of (Members a.now) (Members b.now)) }
 {
+    if is_small(b, a) {
+        return union_by_search(alloc, a, b);
+    }
+    if is_small(a, b) {
+        return union_by_search(alloc, b, a);
+    }
     merge(alloc, a, b, UNION)
 }
 
@@ -23,6 +31,9 @@ pub fn minus(alloc: Global, a: &SetBody, b: &SetBody) -> Result<SetBody, Memory>
     ensures { IfOk result (λ s. Members s ≡ minus_of (Members a.now) (Members b.now)) }
 {
     a.learn();
+    if is_small(a, b) {
+        return chosen_by_search(alloc, a, b, false);
+    }
     merge(alloc, a, b, MINUS)
 }
 
@@ -31,6 +42,9 @@ pub fn meet(alloc: Global, a: &SetBody, b: &SetBody) -> Result<SetBody, Memory>
     ensures { IfOk result (λ s. Members s ≡ meet_of (Members a.now) (Members b.now)) }
 {
     a.learn();
+    if is_small(a, b) {
+        return chosen_by_search(alloc, a, b, true);
+    }
     merge(alloc, a, b, MEET)
 }
 
@@ -107,7 +121,7 @@ fn merge(alloc: Global, a: &SetBody, b: &SetBody, keep: Keep) -> Result<SetBody,
 }
 
 // Puts a copy of `v` at the end, if it is kept.
-fn keep_if(keep: bool, v: &Value, kept: &mut Vec<Value>) -> Result<(), Memory>
+pub(crate) fn keep_if(keep: bool, v: &Value, kept: &mut Vec<Value>) -> Result<(), Memory>
     ensures { OnOk result (map datum kept.new.items ≡ map datum kept.old.items ++ kept_if keep (datum v.now ∷ [])) }
 {
     if keep {

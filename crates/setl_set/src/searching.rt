@@ -1,0 +1,84 @@
+//! Operations on a large set and a small one, by a search in the large one for each member of the small one.
+
+ghost use Rattle.std.specs.Prelude.{◌≡◌, ◌∷◌, ◌++◌, [], List, Bool, not, if◌then◌else◌, map, IfOk, OnOk};
+ghost use Rattle.std.specs.List.{filter};
+ghost use Rattle.setl_value.specs.Datum.{Datum};
+ghost use Rattle.setl_value.specs.code.Body.{Members};
+ghost use Rattle.setl_value.specs.code.DatumOf.{datum};
+ghost use Rattle.setl_set.specs.Sets.{has_datum, union_of};
+
+use crate::member::{has, with};
+use crate::merge::keep_if;
+use crate::{Memory, SetFault};
+use setl_value::{SetBody, Value};
+use std::alloc::Global;
+
+/// Whether a search in the large set for each member of the small one costs less than a walk over both.
+pub(crate) fn is_small(small: &SetBody, large: &SetBody) -> bool {
+    small.len() < large.len() / 16
+}
+
+/// The members of both sets: those of the small one are put into a copy of the large one, which shares its pages.
+pub(crate) fn union_by_search(
+    alloc: Global,
+    large: &SetBody,
+    small: &SetBody,
+) -> Result<SetBody, Memory>
+    ensures { IfOk result (λ s. Members s ≡ union_of (Members large.now) (Members small.now)) }
+{
+    let mut s = large.copy()?;
+    add_all(alloc, &mut s, small)?;
+    s.learn();
+    Ok(s)
+}
+
+/// Makes all members of `small` members.
+fn add_all(alloc: Global, s: &mut SetBody, small: &SetBody) -> Result<(), Memory>
+    ensures { OnOk result (union_of (Members s.new) [] ≡ union_of (Members s.old) (Members small.now)) }
+{
+    for v in small.members() {
+        add(alloc, s, v)?;
+    }
+    Ok(())
+}
+
+/// Makes `v` a member. No member of a set makes another set too deep.
+fn add(alloc: Global, s: &mut SetBody, v: &Value) -> Result<(), Memory>
+    ensures { OnOk result ((ds : List Datum) → union_of (Members s.new) ds ≡ union_of (Members s.old) (datum v.now ∷ ds)) }
+{
+    s.learn();
+    match with(alloc, s, v.copy()?) {
+        Ok(()) => Ok(()),
+        Err(SetFault::Deep | SetFault::NoMemory) => Err(Memory),
+    }
+}
+
+/// The members of the small set that are members of the large one, or those that aren't.
+pub(crate) fn chosen_by_search(
+    alloc: Global,
+    small: &SetBody,
+    large: &SetBody,
+    there: bool,
+) -> Result<SetBody, Memory>
+    ensures { IfOk result (λ s. Members s ≡ filter (λ x. if there then has_datum x (Members large.now) else not (has_datum x (Members large.now))) (Members small.now)) }
+{
+    small.learn();
+    let chosen = chosen(alloc, small, large, there)?;
+    SetBody::from_rising(alloc, chosen)
+}
+
+/// Copies of the members of the small set that are members of the large one, or of those that aren't.
+fn chosen(
+    alloc: Global,
+    small: &SetBody,
+    large: &SetBody,
+    there: bool,
+) -> Result<Vec<Value>, Memory>
+    ensures { IfOk result (λ vs. map datum vs.items ≡ filter (λ x. if there then has_datum x (Members large.now) else not (has_datum x (Members large.now))) (Members small.now)) }
+{
+    let mut kept = Vec::new(alloc);
+    for v in small.members() {
+        keep_if(has(large, v) == there, v, &mut kept)?;
+    }
+    Ok(kept)
+}
