@@ -6,6 +6,7 @@
 //! of each definition which members it leaves.
 #![tactic(auto)]
 
+mod in_place;
 pub mod laws;
 mod member;
 mod merge;
@@ -13,6 +14,7 @@ mod power;
 mod rising;
 mod searching;
 
+pub use in_place::{subtract, unite};
 pub use member::{has, less, with};
 pub use merge::{meet, minus, symm, union};
 pub use power::{npow, pow};

@@ -8,7 +8,7 @@ ghost use Rattle.setl_set.specs.code.Merge.{IsMerge, kept_if, front};
 ghost use Rattle.setl_set.specs.Sets.{union_of, minus_of, meet_of, symm_of};
 
 use crate::Memory;
-use crate::searching::{chosen_by_search, is_small, union_by_search};
+use crate::searching::{chosen_by_search, is_small, minus_by_search, union_by_search};
 use setl_value::{MemberIter, SetBody, Value};
 use std::alloc::Global;
 use std::cmp::Ordering;
@@ -34,6 +34,9 @@ pub fn minus(alloc: Global, a: &SetBody, b: &SetBody) -> Result<SetBody, Memory>
     if is_small(a, b) {
         return chosen_by_search(alloc, a, b, false);
     }
+    if is_small(b, a) {
+        return minus_by_search(a, b);
+    }
     merge(alloc, a, b, MINUS)
 }
 
@@ -42,8 +45,12 @@ pub fn meet(alloc: Global, a: &SetBody, b: &SetBody) -> Result<SetBody, Memory>
     ensures { IfOk result (λ s. Members s ≡ meet_of (Members a.now) (Members b.now)) }
 {
     a.learn();
+    b.learn();
     if is_small(a, b) {
         return chosen_by_search(alloc, a, b, true);
+    }
+    if is_small(b, a) {
+        return chosen_by_search(alloc, b, a, true);
     }
     merge(alloc, a, b, MEET)
 }
@@ -52,6 +59,11 @@ pub fn meet(alloc: Global, a: &SetBody, b: &SetBody) -> Result<SetBody, Memory>
 pub fn symm(alloc: Global, a: &SetBody, b: &SetBody) -> Result<SetBody, Memory>
     ensures { IfOk result (λ s. Members s ≡ symm_of (Members a.now) (Members b.now)) }
 {
+    if is_small(a, b) || is_small(b, a) {
+        let left = minus(alloc, a, b)?;
+        let right = minus(alloc, b, a)?;
+        return union(alloc, &left, &right);
+    }
     merge(alloc, a, b, SYMM)
 }
 

@@ -5,6 +5,7 @@ ghost use Rattle.setl_value.specs.code.Body.{Members};
 ghost use Rattle.setl_value.specs.Order.{IsRising};
 ghost use Rattle.setl_set.specs.Sets.{is_subset};
 
+use crate::searching::{is_small, subset_by_search};
 use setl_value::{MemberIter, SetBody};
 use std::cmp::Ordering;
 
@@ -20,12 +21,16 @@ pub fn walk(s: &SetBody) -> Rising<'_>
     s.members()
 }
 
-/// Whether each member of `a` is a member of `b`. It takes no memory, and its cost is the sum of the sizes.
+/// Whether each member of `a` is a member of `b`. It takes no memory, and its cost is the sum of the sizes, or that of a
+/// search for each member of an `a` that is much smaller than `b`.
 pub fn subset(a: &SetBody, b: &SetBody) -> bool
     ensures { result ≡ is_subset (Members a.now) (Members b.now) }
 {
     a.learn();
     b.learn();
+    if is_small(a, b) {
+        return subset_by_search(a, b);
+    }
     let mut left = a.members();
     let mut right = b.members();
     let mut x = left.next();

@@ -1,13 +1,12 @@
 //! Operations on a large set and a small one, by a search in the large one for each member of the small one.
 
-ghost use Rattle.std.specs.Prelude.{◌≡◌, ◌∷◌, ◌++◌, [], List, Bool, not, if◌then◌else◌, map, IfOk, OnOk};
+ghost use Rattle.std.specs.Prelude.{◌≡◌, [], not, if◌then◌else◌, map, IfOk, OnOk, OnErr};
 ghost use Rattle.std.specs.List.{filter};
-ghost use Rattle.setl_value.specs.Datum.{Datum};
 ghost use Rattle.setl_value.specs.code.Body.{Members};
 ghost use Rattle.setl_value.specs.code.DatumOf.{datum};
-ghost use Rattle.setl_set.specs.Sets.{has_datum, union_of};
+ghost use Rattle.setl_set.specs.Sets.{has_datum, insert_datum, is_subset, minus_of, union_of};
 
-use crate::member::{has, with};
+use crate::member::{has, less, with};
 use crate::merge::keep_if;
 use crate::{Memory, SetFault};
 use setl_value::{SetBody, Value};
@@ -33,6 +32,7 @@ pub(crate) fn union_by_search(
 }
 
 /// Makes all members of `small` members.
+#[tactic(auto, using(crate::proofs::BySearch::union_more))]
 fn add_all(alloc: Global, s: &mut SetBody, small: &SetBody) -> Result<(), Memory>
     ensures { OnOk result (union_of (Members s.new) [] ≡ union_of (Members s.old) (Members small.now)) }
 {
@@ -42,15 +42,48 @@ fn add_all(alloc: Global, s: &mut SetBody, small: &SetBody) -> Result<(), Memory
     Ok(())
 }
 
-/// Makes `v` a member. No member of a set makes another set too deep.
-fn add(alloc: Global, s: &mut SetBody, v: &Value) -> Result<(), Memory>
-    ensures { OnOk result ((ds : List Datum) → union_of (Members s.new) ds ≡ union_of (Members s.old) (datum v.now ∷ ds)) }
+/// Makes `v` a member. No member of a set makes another set too deep. After a fault the set is as before.
+pub(crate) fn add(alloc: Global, s: &mut SetBody, v: &Value) -> Result<(), Memory>
+    ensures added { OnOk result (Members s.new ≡ insert_datum (datum v.now) (Members s.old)) }
+    ensures refused { OnErr result (s.new ≡ s.old) }
 {
-    s.learn();
     match with(alloc, s, v.copy()?) {
         Ok(()) => Ok(()),
         Err(SetFault::Deep | SetFault::NoMemory) => Err(Memory),
     }
+}
+
+/// The members of the large set that aren't in the small one: those of the small one are taken out of a copy of the large
+/// one, which shares its pages.
+pub(crate) fn minus_by_search(large: &SetBody, small: &SetBody) -> Result<SetBody, Memory>
+    ensures { IfOk result (λ s. Members s ≡ minus_of (Members large.now) (Members small.now)) }
+{
+    let mut s = large.copy()?;
+    remove_all(&mut s, small)?;
+    Ok(s)
+}
+
+/// Takes all members of `small` out.
+#[tactic(auto, using(crate::proofs::BySearch::minus_more, crate::proofs::BySearch::minus_none))]
+fn remove_all(s: &mut SetBody, small: &SetBody) -> Result<(), Memory>
+    ensures { OnOk result (Members s.new ≡ minus_of (Members s.old) (Members small.now)) }
+{
+    for v in small.members() {
+        less(s, v)?;
+    }
+    Ok(())
+}
+
+/// Whether each member of the small set is a member of the large one.
+pub(crate) fn subset_by_search(small: &SetBody, large: &SetBody) -> bool
+    ensures { result ≡ is_subset (Members small.now) (Members large.now) }
+{
+    for v in small.members() {
+        if !has(large, v) {
+            return false;
+        }
+    }
+    true
 }
 
 /// The members of the small set that are members of the large one, or those that aren't.
