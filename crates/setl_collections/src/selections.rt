@@ -21,17 +21,17 @@ pub fn get(alloc: Global, whole: &Value, at: &Value) -> Result<Answer, OpFault>
     ensures { Tells result (get (datum whole.now) (datum at.now)) }
 {
     match (whole, at) {
-        (Value::Set(f), x) => image(alloc, f, x),
+        (Value::Set(f), x) => image(f, x),
         (Value::Tuple(t), Value::Int(i)) => component(t, *i),
         (Value::Text(t), Value::Int(i)) => letter(alloc, t, *i),
         _ => Err(OpFault::Kind),
     }
 }
 
-fn image(alloc: Global, f: &SetBody, x: &Value) -> Result<Answer, OpFault>
+fn image(f: &SetBody, x: &Value) -> Result<Answer, OpFault>
     ensures { Tells result (get (set_of (Members f.now)) (datum x.now)) }
 {
-    match setl_map::image(alloc, f, x) {
+    match setl_map::image(f, x) {
         Ok(value) => Ok(Answer { value, charged: 0 }),
         Err(MapFault::Kind) => Err(OpFault::Kind),
         Err(_) => Err(OpFault::NoMemory),

@@ -6,3 +6,4 @@ pub mod Gathering
 pub mod MapResults
 pub mod MapLaws
 pub mod Depths
+pub mod Only

@@ -1,26 +1,22 @@
 -- What the calls on maps make of the pairs between two bounds.
-use Rattle.std.specs.Prelude.{◌≡◌, ℕ, zero, suc, ◌+◌, ◌-◌, ◌<◌, ◌≤◌, Bool, true, false, not, ◌||◌, cond, List, [], ◌∷◌, ◌++◌, Option, Some, None, IsSome, map, max, length, take, drop, slice_range, nat_le, nat_lt, refl}
+use Rattle.std.specs.Prelude.{◌≡◌, ℕ, zero, suc, ◌+◌, ◌-◌, ◌<◌, ◌≤◌, Bool, true, false, not, ◌||◌, cond, List, [], ◌∷◌, ◌++◌, Option, Some, None, map, max, length, take, drop, slice_range, nat_le, nat_lt, refl}
 use Rattle.std.specs.List.{AllByRecursion, filter_map, cons_option, list_any}
 use Rattle.std.specs.List.Sorted.{IsStrictlySortedBy}
 use Rattle.std.specs.declared.cmp.Ordering.{Ordering}
 use Rattle.std.specs.declared.cmp.Ordering.TheVariants.{Less, Equal, Greater}
 use Rattle.std.specs.Ordering.{is_eq, ordering_then, ordering_reverse}
-use Rattle.std.specs.Option.{option_to_list}
 use Rattle.std.proofs.Common.{ap, sym, ◌∙◌, subst, arith}
 use Rattle.std.proofs.lemmas.Bool.{false≢true, ltb-false}
 use Rattle.std.proofs.lemmas.Bool.Decides.{nat_tests}
-use Rattle.std.proofs.lemmas.List.{length-take, length-drop}
 use Rattle.std.proofs.lemmas.List.Folds.{list_any-append}
 use Rattle.std.proofs.lemmas.List.Kept.{IsStrictlySortedBy-filter}
-use Rattle.setl_value.specs.declared.Value.{Value}
 use Rattle.setl_value.specs.Datum.{Datum, tuple, no_part, part_then, depth, part_depth, elements_depth, elements_of, set_of}
-use Rattle.setl_value.specs.code.DatumOf.{datum, part}
 use Rattle.setl_value.specs.Order.{datum_cmp, IsRising}
 use Rattle.setl_value.specs.OrderLaws.{datum_cmp_total, same_if_eq, equal_iff_same}
 use Rattle.setl_value.specs.Pairs.{pair, pair_parts, second_of, pairs_at, images}
 use Rattle.setl_set.specs.Sets.{has_datum, insert_datum, insert_by, set_from}
 use Rattle.setl_set.specs.Laws.{RisingListsAgree, TestsMembership, Gathers, Inserts}
-use Rattle.setl_map.specs.Maps.{only, without_point, put_image, put_images}
+use Rattle.setl_map.specs.Maps.{without_point, put_image, put_images}
 use Rattle.setl_map.specs.code.Points.{is_at, is_before, comes_before, IsBound, part_at, pair_depth}
 use Rattle.setl_map.proofs.PairFacts.{pair_of, IsPair}
 use Rattle.setl_map.proofs.Spans.{IsSplit}
@@ -125,31 +121,8 @@ rising_seconds x (d ∷ ds) p r =
 pub rising_images : (x : Datum) (ds : List Datum) → AllByRecursion IsPair ds → IsRising ds → IsRising (images x ds)
 rising_images x ds p r = rising_seconds x (pairs_at x ds) (all_of_point x ds p) (IsStrictlySortedBy-filter datum_cmp (is_at x) ds r)
 
-length_seconds : (x : Datum) (ds : List Datum) → AllByRecursion (OfPoint x) ds → length (seconds ds) ≡ length ds
-length_seconds x [] p = refl
-length_seconds x (d ∷ ds) p = ap length (seconds_cons x d ds p.0) ∙ ap suc (length_seconds x ds p.1)
-
--- how many images there are
-pub length_images : (x : Datum) (ds : List Datum) (i j : ℕ) → AllByRecursion IsPair ds → IsSplit x ds i j → j ≤ length ds → length (images x ds) ≡ j - i
-length_images x ds i j p s l =
-    length_seconds x (pairs_at x ds) (all_of_point x ds p) ∙ ap length s.at ∙ omega (arith, length-take (j - i) (drop i ds), length-drop i ds, s.ordered)
-
 pub images_between : (x : Datum) (ds : List Datum) (i j : ℕ) → IsSplit x ds i j → images x ds ≡ filter_map (part_at false) (slice_range ds i j)
 images_between x ds i j s = ap seconds s.at
-
-pub not_only : (ys : List Datum) → (length ys ≡ 1 → ⊥) → only ys ≡ None
-not_only [] h = refl
-not_only (y ∷ []) h = absurd (h refl)
-not_only (y ∷ z ∷ ys) h = refl
-
-pub only_popped : (vs left : List Value) (r : Option Value) → length vs ≡ 1 → vs ≡ left ++ option_to_list r → IsSome r → part r ≡ only (map datum vs)
-only_popped vs left None n e s = absurd (false≢true s)
-only_popped vs [] (Some v) n e s = ap (λ l. only (map datum l)) (sym e)
-only_popped vs (w ∷ left) (Some v) n e s = absurd (omega (arith, ap length e, n, length_snoc left v))
-  where
-    length_snoc : (ws : List Value) (v : Value) → length (ws ++ v ∷ []) ≡ length ws + 1
-    length_snoc [] v = omega arith
-    length_snoc (w ∷ ws) v = omega (arith, length_snoc ws v)
 
 -- ---- changes
 
@@ -201,7 +174,7 @@ all_take P zero xs a = tt
 all_take P (suc i) [] a = tt
 all_take P (suc i) (x ∷ xs) a = (a.0, all_take P i xs a.1)
 
-all_drop : {X : Type 0} (P : X → Type 0) (i : ℕ) (xs : List X) → AllByRecursion P xs → AllByRecursion P (drop i xs)
+pub all_drop : {X : Type 0} (P : X → Type 0) (i : ℕ) (xs : List X) → AllByRecursion P xs → AllByRecursion P (drop i xs)
 all_drop P zero xs a = a
 all_drop P (suc i) [] a = tt
 all_drop P (suc i) (x ∷ xs) a = all_drop P i xs a.1

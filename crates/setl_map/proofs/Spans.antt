@@ -9,7 +9,7 @@ use Rattle.std.proofs.lemmas.Bool.{false≢true, true≢false}
 use Rattle.setl_value.specs.Datum.{Datum}
 use Rattle.setl_value.specs.Order.{datum_cmp}
 use Rattle.setl_value.specs.OrderLaws.{datum_cmp_total}
-use Rattle.setl_value.specs.Pairs.{pair_parts, first_of, is_datum, pairs_at}
+use Rattle.setl_value.specs.Pairs.{pairs_at}
 use Rattle.setl_map.specs.Maps.{without_point}
 use Rattle.setl_map.specs.code.Points.{is_at, is_before, comes_before, IsBound}
 use Rattle.setl_map.proofs.PairFacts.{pair_of, IsPair}

@@ -1,5 +1,5 @@
 -- Taking one part out of a set or a tuple, as `from`, `fromb` and `frome` do.
-use Rattle.std.specs.Prelude.{◌≡◌, ℕ, ◌-◌, List, [], ◌∷◌, Option, Some, None, length, take, slice_get, refl, pos}
+use Rattle.std.specs.Prelude.{◌≡◌, List, [], ◌∷◌, Option, Some, None, length, take, slice_get, refl, pos}
 use Rattle.std.specs.Option.{unwrap_or}
 use Rattle.setl_value.specs.Datum.{Datum, int, tuple, set, part_list, element_list, set_of, tuple_of}
 use Rattle.setl_value.specs.WellFormed.{trim}

@@ -12,14 +12,14 @@ ghost use Rattle.setl_map.specs.Maps.{image, domain_of, range_of, without_point,
 
 use crate::MapFault;
 use crate::gather::gathered;
-use crate::pairs::{make_pair, parts_of, span};
+use crate::pairs::{make_pair, only_image, parts_of, span};
 use setl_set::laws;
 use setl_value::{Memory, SetBody, Value};
 use std::alloc::Global;
 
 /// The one image of `x`, and None where it has none or several. Kind exactly where a member is no pair. Its cost is
-/// that of one search by halving, and of a step for each image.
-pub fn image(alloc: Global, f: &SetBody, x: &Value) -> Result<Option<Value>, MapFault>
+/// that of one search by halving, however many images there are.
+pub fn image(f: &SetBody, x: &Value) -> Result<Option<Value>, MapFault>
     ensures value { IfOk result (λ y. part y ≡ image (datum x.now) (Members f.now)) }
     ensures kind { (result ≡ Err MapFault.Kind) ↔ (is_map (Members f.now) ≡ false) }
     ensures never_deep { result ≡ Err MapFault.Deep → ⊥ }
@@ -27,20 +27,10 @@ pub fn image(alloc: Global, f: &SetBody, x: &Value) -> Result<Option<Value>, Map
     if !f.is_map() {
         return Err(MapFault::Kind);
     }
-    Ok(only_image(alloc, f, x)?)
-}
-
-// The one image of `x` in a map.
-fn only_image(alloc: Global, f: &SetBody, x: &Value) -> Result<Option<Value>, Memory>
-    requires { IsTrue (is_map (Members f.now)) }
-    ensures { IfOk result (λ y. part y ≡ image (datum x.now) (Members f.now)) }
-{
-    let (from, count) = span(f, x);
-    if count != 1 {
-        return Ok(None);
+    match only_image(f, x) {
+        None => Ok(None),
+        Some(y) => Ok(Some(y.copy()?)),
     }
-    let mut image = parts_of(alloc, f.members_from(from), count, false)?;
-    Ok(image.pop())
 }
 
 /// The set of the images of `x`. Kind exactly where a member is no pair.

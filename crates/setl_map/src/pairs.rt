@@ -1,14 +1,15 @@
 //! The pairs of a map: their parts, and where those of one point stand.
 
-ghost use Rattle.std.specs.Prelude.{◌≡◌, ◌<◌, ◌+◌, ◌++◌, true, false, take, drop, map, IfOk, OnOk, IsTrue};
+ghost use Rattle.std.specs.Prelude.{◌≡◌, ◌<◌, ◌+◌, ◌++◌, true, false, if◌then◌else◌, take, drop, map, None, IfOk, OnOk, IsTrue};
 ghost use Rattle.std.specs.List.{filter_map, prefix_len};
 ghost use Rattle.std.specs.Option.{option_map, option_to_list};
 ghost use Rattle.setl_value.specs.code.Body.{Members};
 ghost use Rattle.setl_value.specs.Datum.{depth};
-ghost use Rattle.setl_value.specs.code.DatumOf.{datum};
+ghost use Rattle.setl_value.specs.code.DatumOf.{datum, lent};
 ghost use Rattle.setl_value.specs.Pairs.{is_map, pair, pair_parts};
 ghost use Rattle.setl_value.specs.code.Places.{HasPlace, rank};
-ghost use Rattle.setl_map.specs.code.Points.{is_at, IsBound, part_at, pair_data};
+ghost use Rattle.setl_map.specs.Maps.{image};
+ghost use Rattle.setl_map.specs.code.Points.{begins, is_at, IsBound, part_at, pair_data};
 
 use setl_value::{Cursor, MemberIter, Memory, SetBody, TupleBody, Value};
 use std::alloc::Global;
@@ -35,6 +36,40 @@ fn is_at(v: &Value, x: &Value) -> bool
     match parts(v) {
         None => false,
         Some((a, _)) => x.compare(a).is_eq(),
+    }
+}
+
+// The second part of a pair of `x`, and None for what is no such pair.
+fn image_at<'a>(v: &'a Value, x: &Value) -> Option<&'a Value>
+    ensures { lent result ≡ (if is_at (datum x.now) (datum v.now) then part_at false (datum v.now) else None) }
+{
+    let (a, y) = parts(v)?;
+    if x.compare(a).is_eq() { Some(y) } else { None }
+}
+
+/// The one image of `x` in a map, and None where it has none or several. Only the first two pairs that may be pairs of
+/// `x` are looked at.
+pub(crate) fn only_image<'a>(f: &'a SetBody, x: &Value) -> Option<&'a Value>
+    requires { IsTrue (is_map (Members f.now)) }
+    ensures { lent result ≡ image (datum x.now) (Members f.now) }
+{
+    f.learn();
+    let mut rest = f.members_from(f.search_point(x));
+    let Some(first) = rest.next() else {
+        return None;
+    };
+    let y = image_at(first, x)?;
+    if begins(rest, x) { None } else { Some(y) }
+}
+
+// Whether the first of some members is a pair of `x`.
+fn begins(members: MemberIter<'_>, x: &Value) -> bool
+    ensures { result ≡ begins (datum x.now) members.entry }
+{
+    let mut members = members;
+    match members.next() {
+        Some(v) => is_at(v, x),
+        None => false,
     }
 }
 

@@ -1,5 +1,5 @@
 -- Where the pairs of a point stand in the rising list of a map's pairs.
-use Rattle.std.specs.Prelude.{◌≡◌, ℕ, ◌≤◌, Bool, true, false, List, length, take, drop, Option, Some, None, if◌then◌else◌}
+use Rattle.std.specs.Prelude.{◌≡◌, ℕ, ◌≤◌, Bool, true, false, List, [], ◌∷◌, length, take, drop, Option, Some, None, if◌then◌else◌}
 use Rattle.std.specs.List.{AllByRecursion}
 use Rattle.std.specs.declared.cmp.Ordering.{Ordering}
 use Rattle.std.specs.declared.cmp.Ordering.TheVariants.{Less, Equal, Greater}
@@ -17,6 +17,11 @@ pair_data p = (datum p.0.now, datum p.1.now)
 -- whether this is a pair of x
 abbrev pub is_at : Datum → Datum → Bool
 is_at x d = is_datum x (first_of (pair_parts d))
+
+-- whether the first of these is a pair of x
+abbrev pub begins : Datum → List Datum → Bool
+begins x [] = false
+begins x (d ∷ ds) = is_at x d
 
 -- whether a first part is below x, or is x where `past` holds, by how it stands to x
 abbrev pub is_before : Bool → Ordering → Bool

@@ -1,5 +1,4 @@
 use Rattle.std.proofs.Common.{subst}
-use Rattle.setl_value.specs.code.Body.{Members}
 use Rattle.setl_value.specs.Datum.{tuple_of}
 use Rattle.setl_map.specs.code.Answers.{Tells}
 use Rattle.setl_map.proofs.Depths.{shallow}

@@ -1,9 +1,8 @@
-use Rattle.std.proofs.Common.{◌≡◌, ◌+◌, ap, sym, subst, true, drop}
-use Rattle.std.specs.List.{prefix_len}
+use Rattle.std.proofs.Common.{◌+◌, sym, subst, true}
 use Rattle.setl_value.specs.code.Body.{Members}
 use Rattle.setl_value.specs.code.DatumOf.{datum}
 use Rattle.setl_value.specs.code.Places.{rank}
-use Rattle.setl_map.specs.code.Points.{is_at, IsBound}
+use Rattle.setl_map.specs.code.Points.{IsBound}
 use Rattle.setl_map.proofs.Bounds.{rising_from_set, from_point, past_leading}
 use Rattle.setl_map.proofs.PairFacts.{all_pairs}
 use Rattle.setl_map.proofs.pairs.span.Goals as goal
