@@ -6,8 +6,8 @@ mod numbers;
 mod truths;
 
 pub use numbers::{
-    absolute, divide, even, greater, lesser, minus, modulo, negate, odd, plus, plus_in_place,
-    power, times,
+    absolute, divide, even, greater, lesser, minus, minus_in_place, modulo, negate, odd, plus,
+    plus_in_place, power, times,
 };
 pub use truths::{
     at_most, below, both, either, equal, is_atom, is_boolean, is_in, is_integer, is_map, is_set,

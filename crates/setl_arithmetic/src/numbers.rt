@@ -5,7 +5,7 @@ ghost use Rattle.setl_value.specs.code.Body.{Members};
 ghost use Rattle.setl_value.specs.Datum.{int, set_of, text, tuple_of};
 ghost use Rattle.setl_value.specs.code.DatumOf.{datum};
 ghost use Rattle.setl_map.specs.Outcome.{value};
-ghost use Rattle.setl_map.specs.Numbers.{negate, absolute, is_even, is_odd, raise, divide, greater, lesser, plus, minus, modulo, times, replicated};
+ghost use Rattle.setl_map.specs.Numbers.{negate, absolute, is_even, is_odd, raise, divide, greater, lesser, plus, minus, modulo, times, replicated, whole};
 ghost use Rattle.setl_map.specs.code.Answers.{Changes, Tells};
 
 use setl_map::answers::{free, set, string, truth, tuple, whole};
@@ -143,9 +143,17 @@ fn add_integer(x: &mut i128, b: &Value) -> Result<u64, OpFault>
     let Value::Int(y) = b else {
         return Err(OpFault::Kind);
     };
-    match setl_scalar::add(*x, *y) {
-        Ok(sum) => {
-            *x = sum;
+    write(x, setl_scalar::add(*x, *y))
+}
+
+/// Writes what an operation on integers gave, if it gave one.
+fn write(x: &mut i128, given: Result<i128, ScalarFault>) -> Result<u64, OpFault>
+    ensures changes { Changes result (whole given) (int x.new) }
+    ensures refused { OnErr result (x.new ≡ x.old) }
+{
+    match given {
+        Ok(z) => {
+            *x = z;
             Ok(0)
         }
         Err(ScalarFault::Wide) => Err(OpFault::Wide),
@@ -164,7 +172,7 @@ fn add_set(alloc: Global, x: &mut SetBody, b: &Value) -> Result<u64, OpFault>
     let Value::Set(y) = b else {
         return Err(OpFault::Kind);
     };
-    *x = setl_set::union(alloc, x, y)?;
+    setl_set::unite(alloc, x, y)?;
     Ok(0)
 }
 
@@ -203,6 +211,43 @@ pub fn minus(alloc: Global, a: &Value, b: &Value) -> Result<Answer, OpFault>
         (Value::Set(x), Value::Set(y)) => set(setl_set::minus(alloc, x, y)?),
         _ => Err(OpFault::Kind),
     }
+}
+
+/// `a - b` in place, which answers what it charges: no turn. A set loses a member where it stands. The faults are those of
+/// `minus`; after a fault `a` is as before.
+pub fn minus_in_place(alloc: Global, a: &mut Value, b: &Value) -> Result<u64, OpFault>
+    ensures changes { Changes result (minus (datum a.old) (datum b.now)) (datum a.new) }
+    ensures refused { OnErr result (a.new ≡ a.old) }
+{
+    match a {
+        Value::Int(x) => subtract_integer(x, b),
+        Value::Set(x) => subtract_set(alloc, x, b),
+        _ => Err(OpFault::Kind),
+    }
+}
+
+/// An integer with any value taken off it.
+fn subtract_integer(x: &mut i128, b: &Value) -> Result<u64, OpFault>
+    ensures changes { Changes result (minus (int x.old) (datum b.now)) (int x.new) }
+    ensures refused { OnErr result (x.new ≡ x.old) }
+{
+    let Value::Int(y) = b else {
+        return Err(OpFault::Kind);
+    };
+    write(x, setl_scalar::sub(*x, *y))
+}
+
+/// A set without the members of any value.
+#[tactic(auto, using(crate::proofs::Views::members_back))]
+fn subtract_set(alloc: Global, x: &mut SetBody, b: &Value) -> Result<u64, OpFault>
+    ensures changes { Changes result (minus (set_of (Members x.old)) (datum b.now)) (set_of (Members x.new)) }
+    ensures refused { OnErr result (x.new ≡ x.old) }
+{
+    let Value::Set(y) = b else {
+        return Err(OpFault::Kind);
+    };
+    setl_set::subtract(alloc, x, y)?;
+    Ok(0)
 }
 
 /// `a mod b`: the remainder of integers, from 0 to below the divisor's absolute value, or the symmetric difference of

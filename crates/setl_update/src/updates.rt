@@ -2,14 +2,14 @@
 
 ghost use Rattle.std.specs.Prelude.{◌≡◌, ◌∷◌, [], Some, OnErr, map};
 ghost use Rattle.setl_value.specs.code.DatumOf.{part};
-ghost use Rattle.setl_map.specs.declared.Operator.TheVariants.{Add, With, Less, Lessf};
+ghost use Rattle.setl_map.specs.declared.Operator.TheVariants.{Add, Subtract, With, Less, Lessf};
 ghost use Rattle.setl_map.specs.Operators.{op_of, operand_count};
 ghost use Rattle.setl_model.specs.Places.{with_part_at_all, combined};
 ghost use Rattle.setl_update.specs.Selectors.{selected};
 ghost use Rattle.setl_update.specs.Updates.{Updates};
 
 use crate::selectors::{Selector, apply, part_at, put_part};
-use setl_arithmetic::plus_in_place;
+use setl_arithmetic::{minus_in_place, plus_in_place};
 use setl_collections::{less_in_place, lessf_in_place, with_in_place};
 use setl_map::{OpFault, Operator};
 use setl_value::Value;
@@ -89,6 +89,7 @@ fn combine(
 {
     match what {
         Operator::Add => append(alloc, whole, value, turns),
+        Operator::Subtract => subtract(alloc, whole, value, turns),
         Operator::With => add(alloc, whole, value, turns),
         Operator::Less => remove(whole, value, turns),
         Operator::Lessf => remove_point(alloc, whole, value, turns),
@@ -117,6 +118,26 @@ fn append(
         return Err(OpFault::Om);
     };
     let charged = plus_in_place(alloc, whole, value)?;
+    Ok(turns.saturating_sub(charged))
+}
+
+// `whole - value`, in place.
+fn subtract(
+    alloc: Global,
+    whole: &mut Option<Value>,
+    value: &Option<Value>,
+    turns: u64,
+) -> Result<u64, OpFault>
+    ensures updated { Updates (op_of Subtract (part whole.old ∷ part value.now ∷ []) turns) turns (part whole.new) result }
+    ensures refused { OnErr result (whole.new ≡ whole.old) }
+{
+    let Some(whole) = whole else {
+        return Err(OpFault::Om);
+    };
+    let Some(value) = value else {
+        return Err(OpFault::Om);
+    };
+    let charged = minus_in_place(alloc, whole, value)?;
     Ok(turns.saturating_sub(charged))
 }
 
