@@ -1,11 +1,14 @@
-//! Changes in place: what stands after each call, on {1 2}, [1 om 2] and {[1 2]}.
+//! Changes in place: what stands after each call, on {1 2}, [1 om 2], {[1 2]} and rows of denotations.
 
+use crate::written::value;
+use setl_arithmetic::{minus_in_place, plus_in_place};
 use setl_collections::{
     less_in_place, lessf_in_place, put_images_in_place, put_in_place, take_first, take_last,
     take_least, with_in_place,
 };
 use setl_map::Taken;
-use setl_value::{SetBody, TupleBody, Value};
+use setl_text::text;
+use setl_value::{Memory, SetBody, TupleBody, Value};
 use std::alloc::Global;
 use std::process::Abort;
 use std::test::Fail;
@@ -87,5 +90,59 @@ fn images_come_and_go(rt: HostRuntime) -> Result<(), Fail> {
     assert!(rt; f == map(alloc, 1, 3)?);
     assert_eq!(rt; lessf_in_place(alloc, &mut f, &Value::Int(1))?, 0);
     assert!(rt; f == set(alloc, &[])?);
+    Ok(())
+}
+
+// Rows, a line each: a sign, two values, and what the first one becomes by the second one.
+const SUMS: &str = "+ | 2 | 3 | 5
++ | 'ab' | 'c' | 'abc'
++ | '' | 'c' | 'c'
++ | [1 * 2] | [* 3] | [1 * 2 * 3]
++ | [] | [3] | [3]
++ | {1 3} | {2} | {1 2 3}
++ | {1 3} | {3} | {1 3}
++ | {1 3} | {2 3} | {1 2 3}
++ | {} | {} | {}
++ | {1} | [1] | Kind
++ | true | true | Kind
+- | 2 | 3 | -1
+- | {1 2 3} | {2} | {1 3}
+- | {1 3} | {2} | {1 3}
+- | {1 2 3} | {2 3} | {1}
+- | {1} | {1} | {}
+- | {1} | 1 | Kind
+- | [1] | [1] | Kind";
+
+// What a value becomes, as it is shown.
+fn changed(alloc: Global, sign: &str, a: &mut Value, b: &Value) -> Result<Vec<u8>, Memory> {
+    let charged = if sign == "+" {
+        plus_in_place(alloc, a, b)
+    } else {
+        minus_in_place(alloc, a, b)
+    };
+    match charged {
+        Ok(_) => text(alloc, a),
+        Err(e) => format!(in alloc; "{e:?}")?.as_bytes().to_vec(alloc),
+    }
+}
+
+#[test]
+fn sums_change_in_place_and_copies_stay(rt: HostRuntime) -> Result<(), Fail> {
+    let alloc = rt.alloc();
+    for row in SUMS.lines() {
+        let mut fields = row.split(" | ");
+        let sign = fields.next().unwrap_or("");
+        let first = fields.next().unwrap_or("");
+        let b = value(alloc, fields.next().unwrap_or(""))?;
+        let expected = fields.next().unwrap_or("");
+        let mut a = value(alloc, first)?;
+        let alone = changed(alloc, sign, &mut a, &b)?;
+        assert_eq!(rt; alone.as_slice(), expected.as_bytes(), "{row}");
+        let mut a = value(alloc, first)?;
+        let held = a.copy()?;
+        let shared = changed(alloc, sign, &mut a, &b)?;
+        assert_eq!(rt; shared.as_slice(), expected.as_bytes(), "{row}");
+        assert!(rt; held == value(alloc, first)?, "{row}");
+    }
     Ok(())
 }
