@@ -11,7 +11,7 @@ use Rattle.setl_names.specs.Names.{Name, with_names}
 use Rattle.setl_program.specs.Program as plain
 use Rattle.setl_program.specs.Numbered.{Numbered}
 use Rattle.setl_program.specs.Scope.{Scope, in_former}
-use Rattle.setl_program.specs.Expressions.{Part, Inside, Turn, Behind, expr_step, inner_step, iter_step, selector_step, part_of, term_of, turn_of, chain_on, arguments, own_iterators}
+use Rattle.setl_program.specs.Expressions.{Part, Inside, Turn, Behind, expr_step, inner_step, iter_step, selector_step, part_of, term_of, turn_of, chain, arguments, own_iterators}
 use Rattle.setl_elaborate.specs.Elaborators.{made, past, inside}
 use Rattle.setl_elaborate.specs.declared.elaborator.Elaborator.{Elaborator}
 
@@ -41,22 +41,13 @@ operand x = (x.0, part_of x.1)
 is_chain : (x first : ExprTree) (others : List (BinaryOp × ExprTree)) → x ≡ tree.Chain first others → part_of x ≡ expr_step (Expr-F.Chain (part_of first) (map operand others))
 is_chain x first others h = ap part_of (h ∙ sym (tree.rolls-Chain first others)) ∙ fold-roll-Expr Part Inside Turn Behind expr_step inner_step iter_step selector_step (Expr-F.Chain first others)
 
--- the first operand of a chain, and then the others
-pub chain_walked : (x first v : ExprTree) (others rest : List (BinaryOp × ExprTree)) (e : plain.Expr) (w0 w1 : Elaborator) →
-    x ≡ tree.Chain first others → v ≡ first → rest ≡ others → e ≡ made (term_of v) w0 → w1 ≡ past (term_of v) w0 →
-    (made (chain_on e (map operand rest)) w1 ≡ made (term_of x) w0) × (past (chain_on e (map operand rest)) w1 ≡ past (term_of x) w0)
-chain_walked x first v others rest e w0 w1 h ev er ee e1 = (
-  ap (made (chain_on e (map operand rest))) e1
-      ∙ ap (λ (y : plain.Expr). made (chain_on y (map operand rest)) (past (term_of v) w0)) ee
-      ∙ ap (λ (z : List (BinaryOp × ExprTree)). made (chain_on (made (term_of v) w0) (map operand z)) (past (term_of v) w0)) er
-      ∙ ap (λ (z : ExprTree). made (chain_on (made (term_of z) w0) (map operand others)) (past (term_of z) w0)) ev
-      ∙ ap (λ (p : Part). made p.term w0) (sym (is_chain x first others h)),
-  ap (past (chain_on e (map operand rest))) e1
-      ∙ ap (λ (y : plain.Expr). past (chain_on y (map operand rest)) (past (term_of v) w0)) ee
-      ∙ ap (λ (z : List (BinaryOp × ExprTree)). past (chain_on (made (term_of v) w0) (map operand z)) (past (term_of v) w0)) er
-      ∙ ap (λ (z : ExprTree). past (chain_on (made (term_of z) w0) (map operand others)) (past (term_of z) w0)) ev
-      ∙ ap (λ (p : Part). past p.term w0) (sym (is_chain x first others h)),
-)
+-- a chain by the expressions and operators that are looked at
+pub chain_walked : (x first v : ExprTree) (others rest : List (BinaryOp × ExprTree)) → x ≡ tree.Chain first others → v ≡ first → rest ≡ others →
+    chain (part_of v) (map operand rest) ≡ term_of x
+chain_walked x first v others rest h ev er =
+    ap (λ (z : List (BinaryOp × ExprTree)). chain (part_of v) (map operand z)) er
+    ∙ ap (λ (z : ExprTree). chain (part_of z) (map operand others)) ev
+    ∙ ap (λ (p : Part). p.term) (sym (is_chain x first others h))
 
 -- ---- arguments
 

@@ -10,8 +10,10 @@ use crate::chain::Chain;
 use crate::elaborator::Elaborator;
 use crate::{makers, operators, ranges};
 use setl_program::{Collection, Expr, Source};
-use setl_scope::names_of_bound;
-use setl_tree::{BinaryOp, Boxed, Expr as TreeExpr, Inner, Items, Text};
+use setl_tree::{
+    BinaryOp, Bound, Boxed, Expr as TreeExpr, Inner, Items, Iter, Prefix, Quantifier, Relation,
+    Selector, Text,
+};
 use std::alloc::AllocError;
 
 /// The name that an expression is, if it is a name alone.
@@ -56,45 +58,121 @@ impl Elaborator<'_> {
             TreeExpr::Eof => makers::eof(self.alloc),
             TreeExpr::Ok => makers::ok(self.alloc),
             TreeExpr::Name(name) => self.name(name),
-            TreeExpr::If(a, b, c) => {
-                let condition = self.expr(a.get())?;
-                let value = self.expr(b.get())?;
-                let other = self.expr(c.get())?;
-                makers::choose(self.alloc, condition, value, other)
-            }
+            TreeExpr::If(a, b, c) => self.choice(a.get(), b.get(), c.get()),
             TreeExpr::Set(inner) => self.inner(inner, Collection::OfSet),
             TreeExpr::Tuple(inner) => self.inner(inner, Collection::OfTuple),
-            TreeExpr::Chain(first, others) => {
-                let left = self.expr(first.get())?;
-                self.chain_on(others.as_slice(), left)
-            }
-            TreeExpr::Compare(a, relation, b) => {
-                let left = self.expr(a.get())?;
-                let right = self.expr(b.get())?;
-                makers::two(self.alloc, operators::relation(*relation), left, right)
-            }
-            TreeExpr::Prefixed(prefixes, x) => {
-                let operand = self.expr(x.get())?;
-                makers::prefixes(self.alloc, prefixes.as_slice(), operand)
-            }
-            TreeExpr::Selected(x, selectors) => match name_of(x.get()) {
-                None => {
-                    let value = self.expr(x.get())?;
-                    self.selected(selectors.as_slice(), Chain::new(self.alloc, value))
-                }
-                Some(name) => self.name_selection(selectors.as_slice(), name),
-            },
+            TreeExpr::Chain(first, others) => self.chain(others.as_slice(), first.get()),
+            TreeExpr::Compare(a, relation, b) => self.comparison(a.get(), *relation, b.get()),
+            TreeExpr::Prefixed(prefixes, x) => self.prefixed(prefixes.as_slice(), x.get()),
+            TreeExpr::Selected(x, selectors) => self.selection(selectors.as_slice(), x.get()),
             TreeExpr::Quantified(word, turns, x) => {
-                let iterators = self.iterators(turns.as_slice())?;
-                let condition = self.expr(x.get())?;
-                makers::quantified(
-                    self.alloc,
-                    operators::quantifier(*word),
-                    iterators,
-                    condition,
-                )
+                self.quantified(*word, turns.as_slice(), x.get())
             }
         }
+    }
+
+    /// What an `if` expression becomes. An error is want of memory.
+    #[cycle(expressions)]
+    fn choice(
+        &mut self,
+        a: &TreeExpr,
+        b: &TreeExpr,
+        c: &TreeExpr,
+    ) -> Result<Boxed<Expr>, AllocError>
+        ensures value { IfOk result (λ e. plain_expr e ≡ made (spec.choice (part_of a.now) (part_of b.now) (part_of c.now)) self.old) }
+        ensures state { OnOk result (self.new ≡ past (spec.choice (part_of a.now) (part_of b.now) (part_of c.now)) self.old) }
+    {
+        let condition = self.expr(a)?;
+        let value = self.expr(b)?;
+        let other = self.expr(c)?;
+        makers::choose(self.alloc, condition, value, other)
+    }
+
+    /// What a chain of operators becomes. An error is want of memory.
+    #[cycle(expressions)]
+    fn chain(
+        &mut self,
+        others: &[(BinaryOp, TreeExpr)],
+        first: &TreeExpr,
+    ) -> Result<Boxed<Expr>, AllocError>
+        ensures value { IfOk result (λ e. plain_expr e ≡ made (spec.chain (part_of first.now) (map (λ x. (x.0, part_of x.1)) others.now)) self.old) }
+        ensures state { OnOk result (self.new ≡ past (spec.chain (part_of first.now) (map (λ x. (x.0, part_of x.1)) others.now)) self.old) }
+    {
+        let left = self.expr(first)?;
+        self.chain_on(others, left)
+    }
+
+    /// What a comparison becomes. An error is want of memory.
+    #[cycle(expressions)]
+    fn comparison(
+        &mut self,
+        a: &TreeExpr,
+        relation: Relation,
+        b: &TreeExpr,
+    ) -> Result<Boxed<Expr>, AllocError>
+        ensures value { IfOk result (λ e. plain_expr e ≡ made (spec.comparison (part_of a.now) relation (part_of b.now)) self.old) }
+        ensures state { OnOk result (self.new ≡ past (spec.comparison (part_of a.now) relation (part_of b.now)) self.old) }
+    {
+        let left = self.expr(a)?;
+        let right = self.expr(b)?;
+        makers::two(self.alloc, operators::relation(relation), left, right)
+    }
+
+    /// What prefixes before an operand become. An error is want of memory.
+    #[cycle(expressions)]
+    fn prefixed(&mut self, prefixes: &[Prefix], x: &TreeExpr) -> Result<Boxed<Expr>, AllocError>
+        ensures value { IfOk result (λ e. plain_expr e ≡ made (spec.prefixed prefixes.now (part_of x.now)) self.old) }
+        ensures state { OnOk result (self.new ≡ past (spec.prefixed prefixes.now (part_of x.now)) self.old) }
+    {
+        let operand = self.expr(x)?;
+        makers::prefixes(self.alloc, prefixes, operand)
+    }
+
+    /// What an expression with selectors becomes. An error is want of memory.
+    #[cycle(expressions)]
+    fn selection(&mut self, selectors: &[Selector], x: &TreeExpr) -> Result<Boxed<Expr>, AllocError>
+        ensures value { IfOk result (λ e. plain_expr e ≡ made (spec.selection (part_of x.now) (map behind_of selectors.now)) self.old) }
+        ensures state { OnOk result (self.new ≡ past (spec.selection (part_of x.now) (map behind_of selectors.now)) self.old) }
+    {
+        match name_of(x) {
+            None => self.value_selection(selectors, x),
+            Some(name) => self.name_selection(selectors, name),
+        }
+    }
+
+    /// What an expression with selectors becomes that isn't a name alone. An error is want of memory.
+    #[cycle(expressions)]
+    fn value_selection(
+        &mut self,
+        selectors: &[Selector],
+        x: &TreeExpr,
+    ) -> Result<Boxed<Expr>, AllocError>
+        ensures value { IfOk result (λ e. plain_expr e ≡ made (spec.selected_part (part_of x.now) (map behind_of selectors.now)) self.old) }
+        ensures state { OnOk result (self.new ≡ past (spec.selected_part (part_of x.now) (map behind_of selectors.now)) self.old) }
+    {
+        let value = self.expr(x)?;
+        self.selected(selectors, Chain::new(self.alloc, value))
+    }
+
+    /// What a quantifier becomes. An error is want of memory.
+    #[cycle(expressions)]
+    fn quantified(
+        &mut self,
+        word: Quantifier,
+        turns: &[Iter],
+        x: &TreeExpr,
+    ) -> Result<Boxed<Expr>, AllocError>
+        ensures value { IfOk result (λ e. plain_expr e ≡ made (spec.quantified word (map turn_of turns.now) (part_of x.now)) self.old) }
+        ensures state { OnOk result (self.new ≡ past (spec.quantified word (map turn_of turns.now) (part_of x.now)) self.old) }
+    {
+        let iterators = self.iterators(turns)?;
+        let condition = self.expr(x)?;
+        makers::quantified(
+            self.alloc,
+            operators::quantifier(word),
+            iterators,
+            condition,
+        )
     }
 
     /// What expressions become. An error is want of memory.
@@ -151,32 +229,84 @@ impl Elaborator<'_> {
         ensures state { OnOk result (self.new ≡ past ((inner_of x.now).term collection) self.old) }
     {
         match x {
-            Inner::List(xs) => {
-                let all = self.exprs(xs.as_slice())?;
-                makers::apply(self.alloc, operators::enumeration(collection), all)
-            }
-            Inner::Range(a, b, c) => {
-                let first = self.expr(a.get())?;
-                let second = self.optional(b)?;
-                let last = self.expr(c.get())?;
-                ranges::range(self.alloc, collection, first, second, last)
-            }
+            Inner::List(xs) => self.enumerated(xs.as_slice(), collection),
+            Inner::Range(a, b, c) => self.range(a.get(), b, c.get(), collection),
             Inner::Former(value, turns, condition) => {
-                let (number, names) = self.open_over(turns.as_slice())?;
-                let value = self.expr_within(value.get(), number, names)?;
-                let iterators = self.own_iterators(turns.as_slice(), number)?;
-                let condition = self.own_condition(condition, number, turns.as_slice())?;
-                makers::former(self.alloc, collection, value, iterators, condition)
+                self.former(value.get(), turns.as_slice(), condition, collection)
             }
             Inner::Filter(names, source, condition) => {
-                let number = self.open()?;
-                let (kind, sources) = self.source(source.get())?;
-                let binding = self.scope.binding(self.alloc, Some(number), names, kind)?;
-                let names = names_of_bound(self.alloc, names)?;
-                let condition = self.expr_within(condition.get(), number, names)?;
-                makers::selection(self.alloc, collection, binding, sources, condition)
+                self.filter(names, source.get(), condition.get(), collection)
             }
         }
+    }
+
+    /// What listed members become. An error is want of memory.
+    #[cycle(expressions)]
+    fn enumerated(
+        &mut self,
+        xs: &[TreeExpr],
+        collection: Collection,
+    ) -> Result<Boxed<Expr>, AllocError>
+        ensures value { IfOk result (λ e. plain_expr e ≡ made (spec.enumerated (map part_of xs.now) collection) self.old) }
+        ensures state { OnOk result (self.new ≡ past (spec.enumerated (map part_of xs.now) collection) self.old) }
+    {
+        let all = self.exprs(xs)?;
+        makers::apply(self.alloc, operators::enumeration(collection), all)
+    }
+
+    /// What a range becomes. An error is want of memory.
+    #[cycle(expressions)]
+    fn range(
+        &mut self,
+        a: &TreeExpr,
+        b: &Option<Boxed<TreeExpr>>,
+        c: &TreeExpr,
+        collection: Collection,
+    ) -> Result<Boxed<Expr>, AllocError>
+        ensures value { IfOk result (λ e. plain_expr e ≡ made (spec.range (part_of a.now) (option_map part_of b.now) (part_of c.now) collection) self.old) }
+        ensures state { OnOk result (self.new ≡ past (spec.range (part_of a.now) (option_map part_of b.now) (part_of c.now) collection) self.old) }
+    {
+        let first = self.expr(a)?;
+        let second = self.optional(b)?;
+        let last = self.expr(c)?;
+        ranges::range(self.alloc, collection, first, second, last)
+    }
+
+    /// What a former becomes that collects an expression. An error is want of memory.
+    #[cycle(expressions)]
+    fn former(
+        &mut self,
+        value: &TreeExpr,
+        turns: &[Iter],
+        condition: &Option<Boxed<TreeExpr>>,
+        collection: Collection,
+    ) -> Result<Boxed<Expr>, AllocError>
+        ensures value { IfOk result (λ e. plain_expr e ≡ made (spec.former (part_of value.now) (map turn_of turns.now) (option_map part_of condition.now) collection) self.old) }
+        ensures state { OnOk result (self.new ≡ past (spec.former (part_of value.now) (map turn_of turns.now) (option_map part_of condition.now) collection) self.old) }
+    {
+        let (number, names) = self.open_over(turns)?;
+        let value = self.expr_within(value, number, names)?;
+        let iterators = self.own_iterators(turns, number)?;
+        let condition = self.own_condition(condition, number, turns)?;
+        makers::former(self.alloc, collection, value, iterators, condition)
+    }
+
+    /// What a former becomes that collects its members. An error is want of memory.
+    #[cycle(expressions)]
+    fn filter(
+        &mut self,
+        bound: &Bound,
+        source: &TreeExpr,
+        condition: &TreeExpr,
+        collection: Collection,
+    ) -> Result<Boxed<Expr>, AllocError>
+        ensures value { IfOk result (λ e. plain_expr e ≡ made (spec.filter bound.now (part_of source.now) (part_of condition.now) collection) self.old) }
+        ensures state { OnOk result (self.new ≡ past (spec.filter bound.now (part_of source.now) (part_of condition.now) collection) self.old) }
+    {
+        let number = self.open()?;
+        let iterator = self.over(Some(number), bound, source)?;
+        let condition = self.bound_condition(condition, number, bound)?;
+        makers::selection(self.alloc, collection, iterator, condition)
     }
 
     /// What an expression becomes as the source of an iterator. An error is want of memory.
@@ -202,10 +332,7 @@ impl Elaborator<'_> {
             | TreeExpr::Compare(_, _, _)
             | TreeExpr::Prefixed(_, _)
             | TreeExpr::Selected(_, _)
-            | TreeExpr::Quantified(_, _, _) => {
-                let value = self.expr(x)?;
-                ranges::values(self.alloc, value)
-            }
+            | TreeExpr::Quantified(_, _, _) => { self.value_source(x) }
         }
     }
 
@@ -220,16 +347,39 @@ impl Elaborator<'_> {
         ensures state { OnOk result (self.new ≡ past ((inner_of x.now).source collection) self.old) }
     {
         match x {
-            Inner::Range(a, b, c) => {
-                let first = self.expr(a.get())?;
-                let second = self.optional(b)?;
-                let last = self.expr(c.get())?;
-                ranges::range_source(self.alloc, collection, first, second, last)
-            }
+            Inner::Range(a, b, c) => self.range_source(a.get(), b, c.get(), collection),
             Inner::List(_) | Inner::Former(_, _, _) | Inner::Filter(_, _, _) => {
                 let value = self.inner(x, collection)?;
                 ranges::values(self.alloc, value)
             }
         }
+    }
+
+    /// What an expression becomes whose value is the source of an iterator. An error is want of memory.
+    #[cycle(expressions)]
+    fn value_source(&mut self, x: &TreeExpr) -> Result<(Source, Items<Expr>), AllocError>
+        ensures value { IfOk result (λ r. plain_range r ≡ made (spec.value_source (term_of x.now)) self.old) }
+        ensures state { OnOk result (self.new ≡ past (spec.value_source (term_of x.now)) self.old) }
+    {
+        let value = self.expr(x)?;
+        ranges::values(self.alloc, value)
+    }
+
+    /// What a range becomes as the source of an iterator. An error is want of memory.
+    #[cycle(expressions)]
+    fn range_source(
+        &mut self,
+        a: &TreeExpr,
+        b: &Option<Boxed<TreeExpr>>,
+        c: &TreeExpr,
+        collection: Collection,
+    ) -> Result<(Source, Items<Expr>), AllocError>
+        ensures value { IfOk result (λ r. plain_range r ≡ made (spec.source_range (part_of a.now) (option_map part_of b.now) (part_of c.now) collection) self.old) }
+        ensures state { OnOk result (self.new ≡ past (spec.source_range (part_of a.now) (option_map part_of b.now) (part_of c.now) collection) self.old) }
+    {
+        let first = self.expr(a)?;
+        let second = self.optional(b)?;
+        let last = self.expr(c)?;
+        ranges::range_source(self.alloc, collection, first, second, last)
     }
 }

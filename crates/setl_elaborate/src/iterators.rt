@@ -2,6 +2,7 @@
 
 ghost use Rattle.std.specs.Prelude.{◌≡◌, [], ◌∷◌, ◌++◌, Some, map, option_map, OnOk, IfOk};
 ghost use Rattle.setl_names.specs.Names.{with_names, in_order};
+ghost use Rattle.setl_names.specs.Occurrences as names;
 ghost use Rattle.setl_program.specs.Expressions as spec;
 ghost use Rattle.setl_program.specs.Expressions.{part_of, term_of, turn_of};
 ghost use Rattle.setl_program.specs.code.Plain.{plain_expr, plain_iterator};
@@ -11,7 +12,7 @@ ghost use Rattle.setl_elaborate.specs.Elaborators.{made, past};
 use crate::elaborator::Elaborator;
 use setl_names::Names;
 use setl_program::{Expr, Iterator};
-use setl_scope::{names_of_turns, put_turn};
+use setl_scope::{names_of_bound, names_of_turns, put_turn};
 use setl_tree::{Bound, Boxed, Expr as TreeExpr, Items, Iter, Text};
 use std::alloc::AllocError;
 
@@ -31,6 +32,21 @@ impl Elaborator<'_> {
         let made = self.expr(x)?;
         self.leave();
         Ok(made)
+    }
+
+    /// What the condition of a former becomes that binds these names. An error is want of memory.
+    #[cycle(expressions)]
+    pub fn bound_condition(
+        &mut self,
+        x: &TreeExpr,
+        number: u32,
+        bound: &Bound,
+    ) -> Result<Boxed<Expr>, AllocError>
+        ensures value { IfOk result (λ e. plain_expr e ≡ made (λ s. term_of x.now (in_former number (in_order (names.names_of_bound bound.now)) s)) self.old) }
+        ensures state { OnOk result (self.new ≡ past (λ s. term_of x.now (in_former number (in_order (names.names_of_bound bound.now)) s)) self.old) }
+    {
+        let names = names_of_bound(self.alloc, bound)?;
+        self.expr_within(x, number, names)
     }
 
     /// What the condition of a former with these iterators becomes, if there is one. An error is want of memory.
@@ -119,15 +135,31 @@ impl Elaborator<'_> {
     {
         match turn {
             Iter::Over(bound, source) => {
-                let (kind, sources) = self.source(source)?;
-                let binding = self.scope.binding(self.alloc, former, bound, kind)?;
-                all.push(Iterator { binding, sources })
+                let iterator = self.over(former, bound, source)?;
+                all.push(iterator)
             }
             Iter::Image(value, map, argument) => {
                 let iterator = self.image(former, value, map, argument)?;
                 all.push(iterator)
             }
         }
+    }
+
+    /// What an iterator over a source becomes, where the names that it binds are own names of the former with this number,
+    /// or else variables. An error is want of memory.
+    #[cycle(expressions)]
+    pub fn over(
+        &mut self,
+        former: Option<u32>,
+        bound: &Bound,
+        source: &TreeExpr,
+    ) -> Result<Iterator, AllocError>
+        ensures value { IfOk result (λ i. plain_iterator i ≡ made (spec.over bound.now (part_of source.now) former) self.old) }
+        ensures state { OnOk result (self.new ≡ past (spec.over bound.now (part_of source.now) former) self.old) }
+    {
+        let (kind, sources) = self.source(source)?;
+        let binding = self.scope.binding(self.alloc, former, bound, kind)?;
+        Ok(Iterator { binding, sources })
     }
 
     /// What an iterator over the images of a map becomes. An error is want of memory.

@@ -5,12 +5,12 @@ ghost use Rattle.setl_value.specs.Datum as datum;
 ghost use Rattle.setl_program.specs.Operators as spec;
 ghost use Rattle.setl_program.specs.Expressions as terms;
 ghost use Rattle.setl_program.specs.Program as plain;
-ghost use Rattle.setl_program.specs.code.Plain.{plain_variable, plain_binding, plain_expr, plain_exprs, plain_iterators, plain_arguments, condition_of};
+ghost use Rattle.setl_program.specs.code.Plain.{plain_variable, plain_expr, plain_exprs, plain_iterator, plain_iterators, plain_arguments, condition_of};
 
 use crate::chain::Chain;
 use crate::operators;
 use setl_map::Operator;
-use setl_program::{Argument, Binding, Collection, Expr, Iterator, Quantifier, Variable};
+use setl_program::{Argument, Collection, Expr, Iterator, Quantifier, Variable};
 use setl_tree::{Boxed, Items, Prefix, Text};
 use std::alloc::{AllocError, Global};
 
@@ -141,12 +141,12 @@ pub fn former(
 pub fn selection(
     alloc: Global,
     collection: Collection,
-    binding: Binding,
-    sources: Items<Expr>,
+    iterator: Iterator,
     condition: Boxed<Expr>,
 ) -> Result<Boxed<Expr>, AllocError>
-    ensures { IfOk result (λ e. plain_expr e ≡ plain.Selection collection (plain_binding binding) (plain_exprs sources) (plain_expr condition)) }
+    ensures { IfOk result (λ e. plain_expr e ≡ plain.Selection collection (plain_iterator iterator).0 (plain_iterator iterator).1 (plain_expr condition)) }
 {
+    let Iterator { binding, sources } = iterator;
     Boxed::new(
         alloc,
         Expr::Selection(collection, binding, sources, condition),

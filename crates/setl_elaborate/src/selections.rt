@@ -100,15 +100,23 @@ impl Elaborator<'_> {
                 let value = self.application(xs.as_slice(), name)?;
                 self.selected(others, value)
             }
-            [Selector::Slice(_, _), ..] => {
-                let value = self.name(name)?;
-                self.selected(selectors, Chain::new(self.alloc, value))
-            }
-            [Selector::Braces(_), ..] => {
-                let value = self.name(name)?;
-                self.selected(selectors, Chain::new(self.alloc, value))
-            }
+            [Selector::Slice(_, _), ..] => self.variable_selection(selectors, name),
+            [Selector::Braces(_), ..] => self.variable_selection(selectors, name),
         }
+    }
+
+    /// What a variable with selectors becomes. An error is want of memory.
+    #[cycle(expressions)]
+    fn variable_selection(
+        &mut self,
+        selectors: &[Selector],
+        name: &Text,
+    ) -> Result<Boxed<Expr>, AllocError>
+        ensures value { IfOk result (λ e. plain_expr e ≡ made (λ s. spec.selected (spec.named name.now s) (map behind_of selectors.now) s) self.old) }
+        ensures state { OnOk result (self.new ≡ past (λ s. spec.selected (spec.named name.now s) (map behind_of selectors.now) s) self.old) }
+    {
+        let value = self.name(name)?;
+        self.selected(selectors, Chain::new(self.alloc, value))
     }
 
     /// What a name before a list in round brackets becomes: a call if it is a procedure's. An error is want of memory.

@@ -216,21 +216,7 @@ impl Elaborator<'_> {
             }
             StmtKind::Take(name, end, place) => self.taking_from(line, name, *end, place),
             StmtKind::Call(name, xs) => self.performance(line, name, xs.as_slice()),
-            StmtKind::If(first, others, last) => {
-                let condition = self.expr(&first.condition)?;
-                let body = self.stmts(first.body.as_slice())?;
-                let branches = self.branches(line, others.as_slice())?;
-                match last {
-                    None => {
-                        let last = Items::new(self.alloc);
-                        Ok(stmt_makers::choice(line, condition, body, branches, last))
-                    }
-                    Some(last) => {
-                        let last = self.stmts(last.as_slice())?;
-                        Ok(stmt_makers::choice(line, condition, body, branches, last))
-                    }
-                }
-            }
+            StmtKind::If(first, others, last) => self.if_of(line, first, others.as_slice(), last),
             StmtKind::For(turns, condition, body) => {
                 self.for_loop(line, body.as_slice(), turns.as_slice(), condition)
             }
@@ -243,6 +229,37 @@ impl Elaborator<'_> {
             StmtKind::Return(value) => self.return_of(line, value),
             StmtKind::Print(xs) => self.print_of(line, xs.as_slice()),
             StmtKind::Read(names) => self.read_of(line, names.as_slice()),
+        }
+    }
+
+    /// What `if` becomes with its branches. An error is want of memory.
+    #[cycle(statements)]
+    fn if_of(
+        &mut self,
+        line: u32,
+        first: &TreeBranch,
+        others: &[TreeBranch],
+        last: &Option<Items<TreeStmt>>,
+    ) -> Result<Stmt, AllocError>
+        ensures value { IfOk result (λ x. plain_stmt x ≡ (line, made (spec.choice line (branch_of first.now) (map branch_of others.now) (option_map (map lined) last.now)) self.old)) }
+        ensures state { OnOk result (self.new ≡ past (spec.choice line (branch_of first.now) (map branch_of others.now) (option_map (map lined) last.now)) self.old) }
+    {
+        let condition = self.expr(&first.condition)?;
+        let body = self.stmts(first.body.as_slice())?;
+        let branches = self.branches(line, others)?;
+        let last = self.optional_block(last)?;
+        Ok(stmt_makers::choice(line, condition, body, branches, last))
+    }
+
+    /// What the statements of an `else` become, if there are any. An error is want of memory.
+    #[cycle(statements)]
+    fn optional_block(&mut self, xs: &Option<Items<TreeStmt>>) -> Result<Items<Stmt>, AllocError>
+        ensures value { IfOk result (λ all. map plain_stmt all ≡ made (spec.optional_block (option_map (map lined) xs.now)) self.old) }
+        ensures state { OnOk result (self.new ≡ past (spec.optional_block (option_map (map lined) xs.now)) self.old) }
+    {
+        match xs {
+            None => Ok(Items::new(self.alloc)),
+            Some(xs) => self.stmts(xs.as_slice()),
         }
     }
 

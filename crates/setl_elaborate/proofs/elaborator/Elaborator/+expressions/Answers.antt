@@ -1,9 +1,11 @@
 use Rattle.std.proofs.Common.{◌≡◌, ◌∙◌, List, map, Some, IfOk, OnOk, ap, subst}
 use Rattle.setl_names.specs.Names.{Name, with_names}
 use Rattle.setl_program.specs.Program as plain
+use Rattle.setl_program.specs.Numbered.{Numbered}
+use Rattle.setl_program.specs.Scope.{Scope}
 use Rattle.setl_program.specs.Expressions.{term_of, turn_of}
 use Rattle.setl_program.specs.code.Plain.{plain_expr, plain_argument, plain_iterator}
-use Rattle.setl_elaborate.specs.declared.elaborator.Elaborator.{Elaborator}
+use Rattle.setl_elaborate.specs.Elaborators.{made, past}
 use Rattle.setl_elaborate.proofs.Walks.{within, chain_walked, arguments_made, arguments_past, turn_made, turn_past}
 use Rattle.setl_elaborate.proofs.elaborator.Elaborator.+expressions.Goals as goal
 
@@ -13,19 +15,15 @@ arguments-returns-clause-value t c = arguments_made c.loop-x.left.now c.args.xs.
 pub arguments-returns-clause-state : goal.arguments-returns-clause-state
 arguments-returns-clause-state t c = arguments_past c.loop-x.left.now c.args.xs.now c.loop-x.x-index c.loop-x.self _ c.loop-x-test.false c.loop-x.invariant.state
 
-pub expr-returns-in_ok-left-in-Chain-clause-value : goal.expr-returns-in_ok-left-in-Chain-clause-value
-expr-returns-in_ok-left-in-Chain-clause-value t c =
-    let walked =
-    chain_walked c.args.x.now c.in-Chain.first c.get-in-Chain.result.now c.in-Chain.others c.as_slice.result.now (plain_expr c.in_ok-left-in-Chain.left) c.args.self.now c.expr-in-Chain.new.self
-    c.in-Chain.is c.get-in-Chain.ensures c.as_slice.ensures c.in_ok-left-in-Chain.ensures.value c.in_ok-left-in-Chain.ensures.state in
-    subst (λ (v : plain.Expr). IfOk c.chain_on.result (λ e. plain_expr e ≡ v)) walked.0 c.chain_on.ensures.value
+pub expr-returns-in-Chain-clause-value : goal.expr-returns-in-Chain-clause-value
+expr-returns-in-Chain-clause-value t c =
+    let walked = chain_walked c.args.x.now c.in-Chain.first c.get-in-Chain.result.now c.in-Chain.others c.as_slice.result.now c.in-Chain.is c.get-in-Chain.ensures c.as_slice.ensures in
+    subst (λ (m : Scope → Numbered plain.Expr). IfOk c.chain.result (λ e. plain_expr e ≡ made m c.args.self.now)) walked c.chain.ensures.value
 
-pub expr-returns-in_ok-left-in-Chain-clause-state : goal.expr-returns-in_ok-left-in-Chain-clause-state
-expr-returns-in_ok-left-in-Chain-clause-state t c =
-    let walked =
-    chain_walked c.args.x.now c.in-Chain.first c.get-in-Chain.result.now c.in-Chain.others c.as_slice.result.now (plain_expr c.in_ok-left-in-Chain.left) c.args.self.now c.expr-in-Chain.new.self
-    c.in-Chain.is c.get-in-Chain.ensures c.as_slice.ensures c.in_ok-left-in-Chain.ensures.value c.in_ok-left-in-Chain.ensures.state in
-    subst (λ (w : Elaborator). OnOk c.chain_on.result (c.chain_on.new.self ≡ w)) walked.1 c.chain_on.ensures.state
+pub expr-returns-in-Chain-clause-state : goal.expr-returns-in-Chain-clause-state
+expr-returns-in-Chain-clause-state t c =
+    let walked = chain_walked c.args.x.now c.in-Chain.first c.get-in-Chain.result.now c.in-Chain.others c.as_slice.result.now c.in-Chain.is c.get-in-Chain.ensures c.as_slice.ensures in
+    subst (λ (m : Scope → Numbered plain.Expr). OnOk c.chain.result (c.chain.new.self ≡ past m c.args.self.now)) walked c.chain.ensures.state
 
 pub expr_within-returns-clause-state : goal.expr_within-returns-clause-state
 expr_within-returns-clause-state t c =

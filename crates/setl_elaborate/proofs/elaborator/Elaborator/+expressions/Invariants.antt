@@ -1,4 +1,9 @@
-use Rattle.std.proofs.Common.{◌≡◌, [], ◌++◌, drop, map}
+use Rattle.std.proofs.Common.{◌≡◌, ℕ, ◌+◌, ◌*◌, List, [], ◌∷◌, ◌++◌, Option, drop, map}
+use Rattle.setl_tree.specs.declared.expr.Expr.{Expr as ExprTree}
+use Rattle.setl_tree.specs.declared.expr.Expr.TheShapes.{weighed-Inner-Range-1}
+use Rattle.setl_tree.proofs.expr.Expr.TheLaws as expr
+use Rattle.setl_tree.proofs.expr.Iter.TheLaws as iter
+use denote.Param.Weighed.{most}
 use Rattle.setl_program.specs.Expressions as spec
 use Rattle.setl_program.specs.Expressions.{part_of, behind_of, turn_of}
 use Rattle.setl_program.specs.code.Plain.{plain_expr, plain_iterator, plain_argument}
@@ -41,3 +46,130 @@ invariant-arguments-loop-x l = record {
   value : map plain_argument l.all ++ made (spec.arguments l.left (map part_of (drop l.x-index l.xs))) l.self ≡ made (spec.arguments l.parameters (map part_of l.xs)) l.initial.self;
   state : past (spec.arguments l.left (map part_of (drop l.x-index l.xs))) l.self ≡ past (spec.arguments l.parameters (map part_of l.xs)) l.initial.self;
 }
+
+-- ---- the walk ends
+
+-- the largest of some depths, and for equal ones the order of the calls
+abbrev by : List ℕ → ℕ → ℕ
+by depths rank = 8 * most (λ n. n) depths + rank
+
+-- the depth of an expression, if there is one
+abbrev inside : Option ExprTree → ℕ
+inside = weighed-Inner-Range-1.weight _ expr.the_size
+
+abbrev pub decreases-expr : goal.decreases-expr
+decreases-expr l = by (goal.size-expr l ∷ []) 0
+
+abbrev pub decreases-exprs : goal.decreases-exprs
+decreases-exprs l = by (goal.size-exprs l ∷ []) 1
+
+abbrev pub decreases-optional : goal.decreases-optional
+decreases-optional l = by (goal.size-optional l ∷ []) 1
+
+abbrev pub decreases-chain_on : goal.decreases-chain_on
+decreases-chain_on l = by (goal.size-chain_on l ∷ []) 1
+
+abbrev pub decreases-prefixed : goal.decreases-prefixed
+decreases-prefixed l = by (goal.size-prefixed l ∷ []) 1
+
+abbrev pub decreases-selected : goal.decreases-selected
+decreases-selected l = by (goal.size-selected l ∷ []) 1
+
+abbrev pub decreases-applied : goal.decreases-applied
+decreases-applied l = by (goal.size-applied l ∷ []) 0
+
+abbrev pub decreases-at_list : goal.decreases-at_list
+decreases-at_list l = by (goal.size-at_list l ∷ []) 3
+
+abbrev pub decreases-listed : goal.decreases-listed
+decreases-listed l = by (goal.size-listed l ∷ []) 2
+
+abbrev pub decreases-name_selection : goal.decreases-name_selection
+decreases-name_selection l = by (goal.size-name_selection l ∷ []) 3
+
+abbrev pub decreases-variable_selection : goal.decreases-variable_selection
+decreases-variable_selection l = by (goal.size-variable_selection l ∷ []) 2
+
+abbrev pub decreases-application : goal.decreases-application
+decreases-application l = by (goal.size-application l ∷ []) 5
+
+abbrev pub decreases-call : goal.decreases-call
+decreases-call l = by (goal.size-call l ∷ []) 4
+
+abbrev pub decreases-arguments : goal.decreases-arguments
+decreases-arguments l = by (goal.size-arguments l ∷ []) 3
+
+abbrev pub decreases-argument : goal.decreases-argument
+decreases-argument l = by (goal.size-argument l ∷ []) 2
+
+abbrev pub decreases-value_argument : goal.decreases-value_argument
+decreases-value_argument l = by (goal.size-value_argument l ∷ []) 1
+
+abbrev pub decreases-iterators : goal.decreases-iterators
+decreases-iterators l = by (goal.size-iterators l ∷ []) 1
+
+abbrev pub decreases-own_iterator : goal.decreases-own_iterator
+decreases-own_iterator l = by (goal.size-own_iterator l ∷ []) 1
+
+abbrev pub decreases-own_iterators : goal.decreases-own_iterators
+decreases-own_iterators l = by (goal.size-own_iterators l ∷ []) 2
+
+abbrev pub decreases-iterator : goal.decreases-iterator
+decreases-iterator l = by (goal.size-iterator l ∷ []) 0
+
+abbrev pub decreases-inner : goal.decreases-inner
+decreases-inner l = by (goal.size-inner l ∷ []) 0
+
+abbrev pub decreases-enumerated : goal.decreases-enumerated
+decreases-enumerated l = by (goal.size-enumerated l ∷ []) 2
+
+abbrev pub decreases-expr_within : goal.decreases-expr_within
+decreases-expr_within l = by (goal.size-expr_within l ∷ []) 1
+
+abbrev pub decreases-own_condition : goal.decreases-own_condition
+decreases-own_condition l = by (goal.size-own_condition l ∷ []) 2
+
+abbrev pub decreases-bound_condition : goal.decreases-bound_condition
+decreases-bound_condition l = by (goal.size-bound_condition l ∷ []) 2
+
+abbrev pub decreases-source : goal.decreases-source
+decreases-source l = by (goal.size-source l ∷ []) 2
+
+abbrev pub decreases-value_source : goal.decreases-value_source
+decreases-value_source l = by (goal.size-value_source l ∷ []) 1
+
+abbrev pub decreases-inner_source : goal.decreases-inner_source
+decreases-inner_source l = by (goal.size-inner_source l ∷ []) 1
+
+abbrev pub decreases-over : goal.decreases-over
+decreases-over l = by (goal.size-over l ∷ []) 3
+
+abbrev pub decreases-choice : goal.decreases-choice
+decreases-choice l = by (goal.size-choice l ∷ expr.the_size l.b.now ∷ expr.the_size l.c.now ∷ []) 1
+
+abbrev pub decreases-chain : goal.decreases-chain
+decreases-chain l = by (goal.size-chain l ∷ expr.the_size l.first.now ∷ []) 2
+
+abbrev pub decreases-comparison : goal.decreases-comparison
+decreases-comparison l = by (goal.size-comparison l ∷ expr.the_size l.b.now ∷ []) 1
+
+abbrev pub decreases-selection : goal.decreases-selection
+decreases-selection l = by (goal.size-selection l ∷ expr.the_size l.x.now ∷ []) 4
+
+abbrev pub decreases-value_selection : goal.decreases-value_selection
+decreases-value_selection l = by (goal.size-value_selection l ∷ expr.the_size l.x.now ∷ []) 2
+
+abbrev pub decreases-quantified : goal.decreases-quantified
+decreases-quantified l = by (goal.size-quantified l ∷ expr.the_size l.x.now ∷ []) 2
+
+abbrev pub decreases-range : goal.decreases-range
+decreases-range l = by (goal.size-range l ∷ inside l.b.now ∷ expr.the_size l.c.now ∷ []) 2
+
+abbrev pub decreases-range_source : goal.decreases-range_source
+decreases-range_source l = by (goal.size-range_source l ∷ inside l.b.now ∷ expr.the_size l.c.now ∷ []) 2
+
+abbrev pub decreases-former : goal.decreases-former
+decreases-former l = by (goal.size-former l ∷ most iter.the_size l.turns.now ∷ inside l.condition.now ∷ []) 3
+
+abbrev pub decreases-filter : goal.decreases-filter
+decreases-filter l = by (goal.size-filter l ∷ expr.the_size l.condition.now ∷ []) 4

@@ -1,4 +1,8 @@
-use Rattle.std.proofs.Common.{◌≡◌, ◌++◌, drop, map}
+use Rattle.std.proofs.Common.{◌≡◌, ℕ, ◌+◌, ◌*◌, List, [], ◌∷◌, ◌++◌, drop, map}
+use Rattle.setl_tree.specs.declared.stmt.StmtKind.TheShapes.{weighed-StmtKind-If-2}
+use Rattle.setl_tree.proofs.stmt.Branch.TheLaws as branch
+use Rattle.setl_tree.proofs.stmt.Stmt.TheLaws as stmt
+use denote.Param.Weighed.{most}
 use Rattle.setl_program.specs.code.Plain.{plain_stmt, plain_branch}
 use Rattle.setl_program.specs.Statements as spec
 use Rattle.setl_program.specs.Statements.{branch_of, lined}
@@ -16,3 +20,36 @@ invariant-branches-loop-branch l = record {
   value : map plain_branch l.all ++ made (spec.branches l.line (map branch_of (drop l.branch-index l.branches))) l.self ≡ made (spec.branches l.line (map branch_of l.branches)) l.initial.self;
   state : past (spec.branches l.line (map branch_of (drop l.branch-index l.branches))) l.self ≡ past (spec.branches l.line (map branch_of l.branches)) l.initial.self;
 }
+
+-- ---- the walk ends
+
+-- the largest of some depths, and for equal ones the order of the calls
+abbrev by : List ℕ → ℕ → ℕ
+by depths rank = 8 * most (λ n. n) depths + rank
+
+abbrev pub decreases-stmts : goal.decreases-stmts
+decreases-stmts l = by (goal.size-stmts l ∷ []) 1
+
+abbrev pub decreases-stmt : goal.decreases-stmt
+decreases-stmt l = by (goal.size-stmt l ∷ []) 0
+
+abbrev pub decreases-kind : goal.decreases-kind
+decreases-kind l = by (goal.size-kind l ∷ []) 0
+
+abbrev pub decreases-branch : goal.decreases-branch
+decreases-branch l = by (goal.size-branch l ∷ []) 0
+
+abbrev pub decreases-branches : goal.decreases-branches
+decreases-branches l = by (goal.size-branches l ∷ []) 1
+
+abbrev pub decreases-optional_block : goal.decreases-optional_block
+decreases-optional_block l = by (goal.size-optional_block l ∷ []) 2
+
+abbrev pub decreases-for_loop : goal.decreases-for_loop
+decreases-for_loop l = by (goal.size-for_loop l ∷ []) 2
+
+abbrev pub decreases-while_loop : goal.decreases-while_loop
+decreases-while_loop l = by (goal.size-while_loop l ∷ []) 2
+
+abbrev pub decreases-if_of : goal.decreases-if_of
+decreases-if_of l = by (goal.size-if_of l ∷ most branch.the_size l.others.now ∷ weighed-StmtKind-If-2.weight _ stmt.the_size l.last.now ∷ []) 3
