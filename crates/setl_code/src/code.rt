@@ -1,8 +1,9 @@
 //! Code: what a program becomes before it runs.
 
+use crate::literal::Literal;
 use setl_map::Operator;
 use setl_program::{Collection, Connective, Source, Taking};
-use setl_tree::{Items, Param, Text};
+use setl_tree::{Boxed, Items, Param, Text};
 
 /// Where a variable of a body lies.
 #[derive(Clone, Copy, Debug, PartialEq, Eq)]
@@ -51,11 +52,12 @@ pub enum Begin {
     Points,
 }
 
-/// An instruction. A target is the number of a step of the same body, from 0.
+/// An instruction. A target is the number of a step of the same body, from 0. What would take more than 24 bytes is boxed,
+/// since code may have millions of steps.
 #[derive(Drop)]
 pub enum Instr {
     /// Pushes an integer, a string, a truth value, or `om`.
-    Integer(i128),
+    Integer(Literal),
     Text(Text),
     Truth(bool),
     Undefined,
@@ -73,7 +75,7 @@ pub enum Instr {
     Operate(Operator, u32),
     /// Pops the selectors, the last one on top, and the right side below them where there is one, and stores a new whole
     /// in the variable. Pushes what was taken out where something is.
-    Alter(Alteration, Slot, Items<Bracket>),
+    Alter(Alteration, Slot, Boxed<Items<Bracket>>),
     /// Goes to the target where the truth value on top decides, and leaves the answer there; else pops it.
     Decide(Connective, u32),
     /// Stops the run unless a truth value is on top.

@@ -1,10 +1,10 @@
 //! Codes made by hand, and their listings.
 
-use setl_code::{Alteration, Begin, Body, Bracket, Code, Instr, OwnName, Slot, Step};
+use setl_code::{Alteration, Begin, Body, Bracket, Code, Instr, Literal, OwnName, Slot, Step};
 use setl_listing::listing;
 use setl_map::Operator;
 use setl_program::{Collection, Connective, Source, Taking};
-use setl_tree::{Items, Param, Passing, Text};
+use setl_tree::{Boxed, Items, Param, Passing, Text};
 use setl_value::Memory;
 use std::alloc::Global;
 use std::test::Fail;
@@ -55,8 +55,8 @@ fn values(alloc: Global) -> Result<Vec<Instr>, Memory> {
     let with = Alteration::Combine(Operator::With);
     Ok(vec![in alloc;
         Instr::Text(string),
-        Instr::Alter(first, Slot::Own(0), Items::from_vec(brackets)),
-        Instr::Alter(with, Slot::Own(0), Items::new(alloc)),
+        Instr::Alter(first, Slot::Own(0), Boxed::new(alloc, Items::from_vec(brackets))?),
+        Instr::Alter(with, Slot::Own(0), Boxed::new(alloc, Items::new(alloc))?),
     ]?)
 }
 
@@ -74,7 +74,7 @@ fn variables(alloc: Global) -> Result<Vec<Instr>, Memory> {
 /// Other steps.
 fn others(alloc: Global) -> Result<Vec<Instr>, Memory> {
     Ok(vec![in alloc;
-        Instr::Integer(-7),
+        Instr::Integer(Literal::new(-7)),
         Instr::Operate(Operator::FoldAdd, 1),
         Instr::Operate(Operator::SetOf, 0),
         Instr::Decide(Connective::Implies, 12),

@@ -50,7 +50,7 @@ impl Chain {
     pub fn two(&mut self, operator: Operator, right: Boxed<Expr>) -> Result<(), AllocError>
         ensures { OnOk result (plain_chain self.new ≡ two operator (plain_chain self.old) (plain_expr right)) }
     {
-        self.push(Link::Binary(operator, right))
+        self.push(Link::Binary(operator, right.into_inner()))
     }
 
     /// A binary operator over what stands here and its right operand. An error is want of memory.

@@ -16,7 +16,7 @@ use crate::emitter::{Emitter, number};
 use crate::simple::{
     add_and_go_on, begin, begin_selection, end_undecided, keep_or_drop, leave_decided,
 };
-use setl_code::Instr;
+use setl_code::{Instr, Literal};
 use setl_map::Operator;
 use setl_program::{Argument, Connective, Expr, Iterator, Link};
 use setl_tree::Boxed;
@@ -28,7 +28,7 @@ pub fn expr<'p>(to: &mut Emitter<'p>, line: u32, e: &'p Expr) -> Result<(), Memo
     ensures { OnOk result (held to.new ≡ after (code.expr line (plain_expr e.now)) (held to.old)) }
 {
     match e {
-        Expr::Integer(n) => to.put(line, Instr::Integer(*n)),
+        Expr::Integer(n) => to.put(line, Instr::Integer(Literal::new(*n))),
         Expr::Text(t) => to.text(line, t),
         Expr::Truth(t) => to.put(line, Instr::Truth(*t)),
         Expr::Undefined => to.put(line, Instr::Undefined),
@@ -124,7 +124,7 @@ fn link<'p>(to: &mut Emitter<'p>, line: u32, l: &'p Link) -> Result<(), Memory>
 {
     match l {
         Link::Unary(o) => unary(to, line, *o),
-        Link::Binary(o, x) => binary(to, line, *o, x.get()),
+        Link::Binary(o, x) => binary(to, line, *o, x),
         Link::Ternary(o, x, y) => {
             expr(to, line, x.get())?;
             expr(to, line, y.get())?;

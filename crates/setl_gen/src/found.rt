@@ -175,7 +175,7 @@ fn link<'p>(l: &'p Link, all: &mut Found<'p>) -> Result<(), Memory>
 {
     match l {
         Link::Unary(_) => Ok(()),
-        Link::Binary(_, x) => expr(x.get(), all),
+        Link::Binary(_, x) => expr(x, all),
         Link::Ternary(_, x, y) => {
             expr(x.get(), all)?;
             expr(y.get(), all)

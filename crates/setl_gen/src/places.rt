@@ -14,7 +14,7 @@ use crate::emitter::Emitter;
 use crate::exprs::expr;
 use setl_code::{Alteration, Bracket, Instr};
 use setl_program::{Place, Selector, Variable};
-use setl_tree::Items;
+use setl_tree::{Boxed, Items};
 use std::alloc::Global;
 
 /// A selector.
@@ -65,7 +65,7 @@ pub fn alter<'p>(to: &mut Emitter<'p>, line: u32, a: Alteration, p: &'p Place) -
     selectors(to, line, p.selectors.as_slice())?;
     let bs = brackets(to.alloc, p.selectors.as_slice())?;
     let slot = to.names.slot(&p.variable)?;
-    to.put(line, Instr::Alter(a, slot, bs))?;
+    to.put(line, Instr::Alter(a, slot, Boxed::new(to.alloc, bs)?))?;
     Ok(())
 }
 

@@ -18,7 +18,7 @@ pub fn push_instr(into: &mut Vec<u8>, code: &Code, body: &Body, what: &Instr) ->
     ensures { OnOk result (into.new.items ≡ into.old.items ++ instr_text (bodies_of code.now) (plain_instr (variables_of code.now body.now) what.now)) }
 {
     match what {
-        Instr::Integer(n) => push_integer(into, *n),
+        Instr::Integer(n) => push_integer(into, n.get()),
         Instr::Text(t) => push_string(into, t),
         Instr::Truth(true) => push_word(into, "true"),
         Instr::Truth(false) => push_word(into, "false"),
@@ -30,7 +30,7 @@ pub fn push_instr(into: &mut Vec<u8>, code: &Code, body: &Body, what: &Instr) ->
         Instr::Store(x) => push_access(into, "store ", code, body, *x),
         Instr::Operate(o, n) => push_operate(into, *o, *n),
         Instr::Alter(a, x, brackets) => {
-            push_alter(into, code, body, *a, *x, brackets.as_slice())
+            push_alter(into, code, body, *a, *x, brackets.get().as_slice())
         }
         Instr::Decide(k, to) => push_numbered(into, connective_word(*k), *to),
         Instr::TestTruth => push_word(into, "bool"),

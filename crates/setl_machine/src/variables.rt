@@ -31,11 +31,11 @@ pub(crate) fn push(value: Option<Value>, store: &mut Store<'_>) -> Result<End, M
 }
 
 /// Pushes an integer.
-pub(crate) fn push_integer(value: &i128, store: &mut Store<'_>) -> Result<End, Memory>
+pub(crate) fn push_integer(value: i128, store: &mut Store<'_>) -> Result<End, Memory>
     requires { store.old.core.now.at + 1 < 2 ^ 64 }
-    ensures { (line : ℕ) → IfOk result (λ end. Works store.old line (Push (Some (int value.now))) store.new end) }
+    ensures { (line : ℕ) → IfOk result (λ end. Works store.old line (Push (Some (int value))) store.new end) }
 {
-    store.push(Some(Value::Int(*value)))?;
+    store.push(Some(Value::Int(value)))?;
     go_on(store);
     Ok(End::Paused)
 }

@@ -62,7 +62,7 @@ pub enum Link {
     /// An operator over the value alone.
     Unary(Operator),
     /// An operator over the value and a second operand.
-    Binary(Operator, Boxed<Expr>),
+    Binary(Operator, Expr),
     /// An operator over the value, a second and a third operand.
     Ternary(Operator, Boxed<Expr>, Boxed<Expr>),
     /// A connective between the value and a right part.
