@@ -89,6 +89,7 @@ impl<S: Drop, O: Drop, A: Drop, M: Drop, K: Drop> Environment<S, O, A, M, K> {
     /// Makes `n` changes ready.
     ///
     /// The error is want of memory, and then all is as before. Where nothing is kept, it takes none.
+    #[inline(always)]
     pub fn reserve(&mut self, n: usize) -> Result<(), Memory>
         ensures now { self.new.now ≡ self.old.now }
         ensures kept { self.new.kept ≡ self.old.kept }
@@ -102,6 +103,7 @@ impl<S: Drop, O: Drop, A: Drop, M: Drop, K: Drop> Environment<S, O, A, M, K> {
     }
 
     /// The number of slots. It takes no memory.
+    #[inline(always)]
     pub fn slots(&self) -> usize
         ensures { result ≡ length self.now.now.slots }
     {
@@ -109,6 +111,7 @@ impl<S: Drop, O: Drop, A: Drop, M: Drop, K: Drop> Environment<S, O, A, M, K> {
     }
 
     /// A slot, counted from the lowest. It takes no memory.
+    #[inline(always)]
     pub fn slot(&self, at: usize) -> &S
         requires { at < length self.now.now.slots }
         ensures { Some result.now ≡ slice_get self.now.now.slots at }
@@ -119,6 +122,7 @@ impl<S: Drop, O: Drop, A: Drop, M: Drop, K: Drop> Environment<S, O, A, M, K> {
     /// Makes sure of memory for `n` more slots.
     ///
     /// The error is want of memory, and then all is as before. Where that memory is there, no more is taken.
+    #[inline(always)]
     pub fn reserve_slots(&mut self, n: usize) -> Result<(), Memory>
         ensures now { self.new.now ≡ self.old.now }
         ensures kept { self.new.kept ≡ self.old.kept }
@@ -133,6 +137,7 @@ impl<S: Drop, O: Drop, A: Drop, M: Drop, K: Drop> Environment<S, O, A, M, K> {
     }
 
     /// Puts a value in the place of a slot. It takes no memory.
+    #[inline(always)]
     pub fn set_slot(&mut self, at: usize, value: S)
         requires there { at < length self.old.now.slots }
         requires one { 1 ≤ self.old.ready }
@@ -141,8 +146,12 @@ impl<S: Drop, O: Drop, A: Drop, M: Drop, K: Drop> Environment<S, O, A, M, K> {
         ensures ready { self.old.ready ≤ self.new.ready + 1 }
         ensures room { self.new.room ≡ self.old.room }
     {
-        let before = self.slots.set(at, value);
-        note(&mut self.trail, Old::Slot(before));
+        if self.is_kept() {
+            let before = self.slots.set(at, value);
+            note(&mut self.trail, Old::Slot(before));
+        } else {
+            self.slots.put(at, value);
+        }
     }
 
     /// Puts a value in the place of a slot, and gives what was there: moved out where nothing is kept, else a copy.
@@ -238,6 +247,7 @@ impl<S: Drop, O: Drop, A: Drop, M: Drop, K: Drop> Environment<S, O, A, M, K> {
     }
 
     /// The number of operands. It takes no memory.
+    #[inline(always)]
     pub fn operands(&self) -> usize
         ensures { result ≡ length self.now.now.operands }
     {
@@ -245,6 +255,7 @@ impl<S: Drop, O: Drop, A: Drop, M: Drop, K: Drop> Environment<S, O, A, M, K> {
     }
 
     /// An operand, counted from the lowest. It takes no memory.
+    #[inline(always)]
     pub fn operand(&self, at: usize) -> &O
         requires { at < length self.now.now.operands }
         ensures { Some result.now ≡ slice_get self.now.now.operands at }
@@ -255,6 +266,7 @@ impl<S: Drop, O: Drop, A: Drop, M: Drop, K: Drop> Environment<S, O, A, M, K> {
     /// Makes sure of memory for `n` more operands.
     ///
     /// The error is want of memory, and then all is as before. Where that memory is there, no more is taken.
+    #[inline(always)]
     pub fn reserve_operands(&mut self, n: usize) -> Result<(), Memory>
         ensures now { self.new.now ≡ self.old.now }
         ensures kept { self.new.kept ≡ self.old.kept }
@@ -269,6 +281,7 @@ impl<S: Drop, O: Drop, A: Drop, M: Drop, K: Drop> Environment<S, O, A, M, K> {
     }
 
     /// Puts a value in the place of an operand. It takes no memory.
+    #[inline(always)]
     pub fn set_operand(&mut self, at: usize, value: O)
         requires there { at < length self.old.now.operands }
         requires one { 1 ≤ self.old.ready }
@@ -288,6 +301,7 @@ impl<S: Drop, O: Drop, A: Drop, M: Drop, K: Drop> Environment<S, O, A, M, K> {
     /// Puts a value in the place of an operand, and gives what was there: a copy where that is kept, else moved out.
     ///
     /// The error is want of memory, and then all is as before. Where nothing is kept, it takes none.
+    #[inline(always)]
     pub fn replace_operand(&mut self, at: usize, value: O) -> Result<O, Memory>
     where
         O: Copied,
@@ -311,6 +325,7 @@ impl<S: Drop, O: Drop, A: Drop, M: Drop, K: Drop> Environment<S, O, A, M, K> {
     }
 
     /// Adds an operand at the end. It takes no memory.
+    #[inline(always)]
     pub fn push_operand(&mut self, value: O)
         requires one { 1 ≤ self.old.ready }
         requires place { 1 ≤ self.old.room.operands }
@@ -325,6 +340,7 @@ impl<S: Drop, O: Drop, A: Drop, M: Drop, K: Drop> Environment<S, O, A, M, K> {
     /// Takes off the last operand, and gives it: a copy where it is kept, else moved out.
     ///
     /// The error is want of memory, and then all is as before. Where nothing is kept, it takes none.
+    #[inline(always)]
     pub fn pop_operand(&mut self) -> Result<O, Memory>
     where
         O: Copied,
@@ -349,6 +365,7 @@ impl<S: Drop, O: Drop, A: Drop, M: Drop, K: Drop> Environment<S, O, A, M, K> {
     }
 
     /// Drops the last operand. It takes no memory.
+    #[inline(always)]
     pub fn drop_operand(&mut self)
         requires some { 0 < length self.old.now.operands }
         requires one { 1 ≤ self.old.ready }
@@ -417,6 +434,7 @@ impl<S: Drop, O: Drop, A: Drop, M: Drop, K: Drop> Environment<S, O, A, M, K> {
     }
 
     /// The number of activations. It takes no memory.
+    #[inline(always)]
     pub fn activations(&self) -> usize
         ensures { result ≡ length self.now.now.activations }
     {
@@ -424,6 +442,7 @@ impl<S: Drop, O: Drop, A: Drop, M: Drop, K: Drop> Environment<S, O, A, M, K> {
     }
 
     /// An activation, counted from the lowest. It takes no memory.
+    #[inline(always)]
     pub fn activation(&self, at: usize) -> &A
         requires { at < length self.now.now.activations }
         ensures { Some result.now ≡ slice_get self.now.now.activations at }
@@ -474,6 +493,7 @@ impl<S: Drop, O: Drop, A: Drop, M: Drop, K: Drop> Environment<S, O, A, M, K> {
     }
 
     /// The number of members. It takes no memory.
+    #[inline(always)]
     pub fn members(&self) -> usize
         ensures { result ≡ length self.now.now.members }
     {
@@ -559,6 +579,7 @@ impl<S: Drop, O: Drop, A: Drop, M: Drop, K: Drop> Environment<S, O, A, M, K> {
     }
 
     /// Drops the members above the lowest `n`, the last one first. It takes no memory.
+    #[inline(always)]
     pub fn cut_members(&mut self, n: usize)
         requires fewer { n ≤ length self.old.now.members }
         requires each { length self.old.now.members - n ≤ self.old.ready }
@@ -586,6 +607,7 @@ impl<S: Drop, O: Drop, A: Drop, M: Drop, K: Drop> Environment<S, O, A, M, K> {
     }
 
     /// Whether something is kept. It takes no memory.
+    #[inline(always)]
     pub fn is_kept(&self) -> bool
         ensures { result ≡ nat_lt 0 (length self.now.kept) }
     {
