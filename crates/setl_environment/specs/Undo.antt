@@ -1,6 +1,7 @@
 -- What the entries of an environment's trail put back. No public clause cites this module.
 use Rattle.std.specs.Prelude.{ℕ, zero, suc, ◌-◌, ◌≤◌, ◌^◌, length, take, List}
 use Rattle.setl_trail.specs.Trail.{Item}
+use Rattle.setl_environment.specs.declared.environment.Base.{Base}
 use Rattle.setl_environment.specs.declared.environment.Old.{Old}
 use Rattle.setl_environment.specs.declared.environment.Old.TheVariants.{Slot, Operand, Activation, Member}
 use Rattle.setl_environment.specs.Stack.{placed, Fits, StackState}
@@ -51,20 +52,20 @@ module _ {S O A M : Type 0} where
   FitsIn q c (Activation p) = Fits A c.activations q.activations.room p
   FitsIn q c (Member p) = Fits M c.members q.members.room p
 
-  -- the lowest operands, with all else
-  abbrev pub cut : ℕ → Contents S O A M → Contents S O A M
-  cut n c = record c { operands = take n c.operands }
+  -- the lowest slots and operands, with all else
+  abbrev pub cut : Base → Contents S O A M → Contents S O A M
+  cut n c = record c { slots = take n.slots c.slots; operands = take n.operands c.operands }
 
-  abbrev pub Reaches : ℕ → Contents S O A M → Type 0
-  Reaches n c = n ≤ length c.operands
+  abbrev pub Reaches : Base → Contents S O A M → Type 0
+  Reaches n c = (n.slots ≤ length c.slots) × (n.operands ≤ length c.operands)
 
-  -- The lowest n operands are as at the latest mark, or it is noted what they were; each entry of the trail can be put back
-  -- into these parts when its turn comes.
-  abbrev pub IsTrailOf : Parts S O A M → ℕ → List ℕ → List (Item (Old S O A M)) → Type 0
+  -- What is there up to the base is as at the latest mark, or it is noted what it was; each entry of the trail can be put
+  -- back into these parts when its turn comes.
+  abbrev pub IsTrailOf : Parts S O A M → Base → List Base → List (Item (Old S O A M)) → Type 0
   IsTrailOf q n ns items = Reaches n (contents_of q) × IsUndoable undone cut Reaches (FitsIn q) n (cut n (contents_of q)) items ns
 
   -- what was kept
-  abbrev pub kept_contents : {K : Type 0} → Parts S O A M → ℕ → List ℕ → List (Item (Old S O A M)) → List K → List (Contents S O A M × K)
+  abbrev pub kept_contents : {K : Type 0} → Parts S O A M → Base → List Base → List (Item (Old S O A M)) → List K → List (Contents S O A M × K)
   kept_contents q n ns items ks = kept_of undone cut (cut n (contents_of q)) items ns ks
 
   -- no part has less memory

@@ -1,5 +1,5 @@
 //! Slots, operands, activations and members of collections, with a trail: to keep them puts a mark on it, and each
-//! later change notes what it replaced.
+//! later change of what was kept notes what it replaced.
 
 ghost use Rattle.std.specs.Prelude.{◌≡◌, ◌+◌, ◌-◌, ◌<◌, ◌≤◌, [], ◌∷◌, ◌++◌, nat_lt, length, take, drop, reverse, Some, IfOk, IsOk, OnOk, OnErr, IfSome, IfNone, slice_get, slice_set};
 ghost use Rattle.setl_trail.specs.Trail.{mark_count};
@@ -21,6 +21,13 @@ pub enum Old<S, O, A, M> {
     Member(Place<M>),
 }
 
+/// How many of the lowest slots, and of the lowest operands.
+#[derive(Clone, Copy)]
+pub(crate) struct Base {
+    pub(crate) slots: usize,
+    pub(crate) operands: usize,
+}
+
 /// The slots, the operands, the activations and the members of collections that are being built, and what was kept
 /// of them.
 ///
@@ -34,11 +41,11 @@ pub struct Environment<S, O, A, M, K> {
     activations: Stack<A>,
     members: Stack<M>,
     trail: Trail<Old<S, O, A, M>>,
-    // How many of the lowest operands are as they were last kept, or have what they were in the trail. Those above came
-    // later, so nothing of them is noted; where nothing is kept it is 0.
-    base: usize,
-    // The same number of each mark of the trail below the latest one, and below these 0.
-    bases: Vec<usize>,
+    // How many of the lowest slots and operands are as they were last kept, or have what they were in the trail. Those
+    // above came later, so nothing of them is noted; where nothing is kept both are 0.
+    base: Base,
+    // The same numbers of each mark of the trail below the latest one, and below these 0.
+    bases: Vec<Base>,
     // What was kept beside the four lists, one record for each mark of the trail.
     records: Vec<K>,
 }
@@ -80,7 +87,10 @@ impl<S: Drop, O: Drop, A: Drop, M: Drop, K: Drop> Environment<S, O, A, M, K> {
             activations: Stack::new(alloc)?,
             members: Stack::new(alloc)?,
             trail: Trail::new(alloc)?,
-            base: 0,
+            base: Base {
+                slots: 0,
+                operands: 0,
+            },
             bases: Vec::with_capacity(alloc, 1)?,
             records: Vec::with_capacity(alloc, 1)?,
         })
@@ -89,6 +99,7 @@ impl<S: Drop, O: Drop, A: Drop, M: Drop, K: Drop> Environment<S, O, A, M, K> {
     /// Makes `n` changes ready.
     ///
     /// The error is want of memory, and then all is as before. Where nothing is kept, it takes none.
+    #[inline(always)]
     pub fn reserve(&mut self, n: usize) -> Result<(), Memory>
         ensures now { self.new.now ≡ self.old.now }
         ensures kept { self.new.kept ≡ self.old.kept }
@@ -102,6 +113,7 @@ impl<S: Drop, O: Drop, A: Drop, M: Drop, K: Drop> Environment<S, O, A, M, K> {
     }
 
     /// The number of slots. It takes no memory.
+    #[inline(always)]
     pub fn slots(&self) -> usize
         ensures { result ≡ length self.now.now.slots }
     {
@@ -109,6 +121,7 @@ impl<S: Drop, O: Drop, A: Drop, M: Drop, K: Drop> Environment<S, O, A, M, K> {
     }
 
     /// A slot, counted from the lowest. It takes no memory.
+    #[inline(always)]
     pub fn slot(&self, at: usize) -> &S
         requires { at < length self.now.now.slots }
         ensures { Some result.now ≡ slice_get self.now.now.slots at }
@@ -119,6 +132,7 @@ impl<S: Drop, O: Drop, A: Drop, M: Drop, K: Drop> Environment<S, O, A, M, K> {
     /// Makes sure of memory for `n` more slots.
     ///
     /// The error is want of memory, and then all is as before. Where that memory is there, no more is taken.
+    #[inline(always)]
     pub fn reserve_slots(&mut self, n: usize) -> Result<(), Memory>
         ensures now { self.new.now ≡ self.old.now }
         ensures kept { self.new.kept ≡ self.old.kept }
@@ -133,6 +147,7 @@ impl<S: Drop, O: Drop, A: Drop, M: Drop, K: Drop> Environment<S, O, A, M, K> {
     }
 
     /// Puts a value in the place of a slot. It takes no memory.
+    #[inline(always)]
     pub fn set_slot(&mut self, at: usize, value: S)
         requires there { at < length self.old.now.slots }
         requires one { 1 ≤ self.old.ready }
@@ -141,11 +156,15 @@ impl<S: Drop, O: Drop, A: Drop, M: Drop, K: Drop> Environment<S, O, A, M, K> {
         ensures ready { self.old.ready ≤ self.new.ready + 1 }
         ensures room { self.new.room ≡ self.old.room }
     {
-        let before = self.slots.set(at, value);
-        note(&mut self.trail, Old::Slot(before));
+        if at < self.base.slots {
+            let before = self.slots.set(at, value);
+            note(&mut self.trail, Old::Slot(before));
+        } else {
+            self.slots.put(at, value);
+        }
     }
 
-    /// Puts a value in the place of a slot, and gives what was there: moved out where nothing is kept, else a copy.
+    /// Puts a value in the place of a slot, and gives what was there: a copy where that is kept, else moved out.
     ///
     /// The error is want of memory, and then all is as before. Where nothing is kept, it takes none.
     pub fn replace_slot(&mut self, at: usize, value: S) -> Result<S, Memory>
@@ -161,26 +180,13 @@ impl<S: Drop, O: Drop, A: Drop, M: Drop, K: Drop> Environment<S, O, A, M, K> {
         ensures unkept { length self.old.kept ≡ 0 → IsOk result }
         ensures refused { OnErr result (self.new ≡ self.old) }
     {
-        if self.is_kept() {
+        if at < self.base.slots {
             let before = self.slot(at).copied()?;
             self.set_slot(at, value);
             Ok(before)
         } else {
-            Ok(self.swap_slot(at, value))
+            Ok(self.slots.replace(at, value))
         }
-    }
-
-    // Puts a value in the place of a slot, and gives what was there.
-    fn swap_slot(&mut self, at: usize, value: S) -> S
-        requires there { at < length self.old.now.slots }
-        requires unkept { length self.old.kept ≡ 0 }
-        ensures value { Some result ≡ slice_get self.old.now.slots at }
-        ensures now { self.new.now ≡ record self.old.now { slots = slice_set self.old.now.slots at value } }
-        ensures kept { self.new.kept ≡ self.old.kept }
-        ensures ready { self.new.ready ≡ self.old.ready }
-        ensures room { self.new.room ≡ self.old.room }
-    {
-        self.slots.replace(at, value)
     }
 
     /// Adds a slot at the end. It takes no memory.
@@ -192,8 +198,7 @@ impl<S: Drop, O: Drop, A: Drop, M: Drop, K: Drop> Environment<S, O, A, M, K> {
         ensures ready { self.old.ready ≤ self.new.ready + 1 }
         ensures room { self.new.room ≡ record self.old.room { slots = self.old.room.slots - 1 } }
     {
-        let before = self.slots.push(value);
-        note(&mut self.trail, Old::Slot(before));
+        self.slots.add(value);
     }
 
     /// Adds slots at the end, in their order. It takes no memory.
@@ -233,11 +238,18 @@ impl<S: Drop, O: Drop, A: Drop, M: Drop, K: Drop> Environment<S, O, A, M, K> {
         ensures ready { self.old.ready ≤ self.new.ready + 1 }
         ensures room { self.new.room ≡ record self.old.room { slots = self.old.room.slots + 1 } }
     {
-        let before = self.slots.pop();
-        note(&mut self.trail, Old::Slot(before));
+        let last = self.slots.len() - 1;
+        if last < self.base.slots {
+            let before = self.slots.pop();
+            self.base.slots = last;
+            note(&mut self.trail, Old::Slot(before));
+        } else {
+            self.slots.drop_last();
+        }
     }
 
     /// The number of operands. It takes no memory.
+    #[inline(always)]
     pub fn operands(&self) -> usize
         ensures { result ≡ length self.now.now.operands }
     {
@@ -245,6 +257,7 @@ impl<S: Drop, O: Drop, A: Drop, M: Drop, K: Drop> Environment<S, O, A, M, K> {
     }
 
     /// An operand, counted from the lowest. It takes no memory.
+    #[inline(always)]
     pub fn operand(&self, at: usize) -> &O
         requires { at < length self.now.now.operands }
         ensures { Some result.now ≡ slice_get self.now.now.operands at }
@@ -255,6 +268,7 @@ impl<S: Drop, O: Drop, A: Drop, M: Drop, K: Drop> Environment<S, O, A, M, K> {
     /// Makes sure of memory for `n` more operands.
     ///
     /// The error is want of memory, and then all is as before. Where that memory is there, no more is taken.
+    #[inline(always)]
     pub fn reserve_operands(&mut self, n: usize) -> Result<(), Memory>
         ensures now { self.new.now ≡ self.old.now }
         ensures kept { self.new.kept ≡ self.old.kept }
@@ -269,6 +283,7 @@ impl<S: Drop, O: Drop, A: Drop, M: Drop, K: Drop> Environment<S, O, A, M, K> {
     }
 
     /// Puts a value in the place of an operand. It takes no memory.
+    #[inline(always)]
     pub fn set_operand(&mut self, at: usize, value: O)
         requires there { at < length self.old.now.operands }
         requires one { 1 ≤ self.old.ready }
@@ -277,7 +292,7 @@ impl<S: Drop, O: Drop, A: Drop, M: Drop, K: Drop> Environment<S, O, A, M, K> {
         ensures ready { self.old.ready ≤ self.new.ready + 1 }
         ensures room { self.new.room ≡ self.old.room }
     {
-        if at < self.base {
+        if at < self.base.operands {
             let before = self.operands.set(at, value);
             note(&mut self.trail, Old::Operand(before));
         } else {
@@ -288,6 +303,7 @@ impl<S: Drop, O: Drop, A: Drop, M: Drop, K: Drop> Environment<S, O, A, M, K> {
     /// Puts a value in the place of an operand, and gives what was there: a copy where that is kept, else moved out.
     ///
     /// The error is want of memory, and then all is as before. Where nothing is kept, it takes none.
+    #[inline(always)]
     pub fn replace_operand(&mut self, at: usize, value: O) -> Result<O, Memory>
     where
         O: Copied,
@@ -301,7 +317,7 @@ impl<S: Drop, O: Drop, A: Drop, M: Drop, K: Drop> Environment<S, O, A, M, K> {
         ensures unkept { length self.old.kept ≡ 0 → IsOk result }
         ensures refused { OnErr result (self.new ≡ self.old) }
     {
-        if at < self.base {
+        if at < self.base.operands {
             let before = self.operand(at).copied()?;
             self.set_operand(at, value);
             Ok(before)
@@ -311,6 +327,7 @@ impl<S: Drop, O: Drop, A: Drop, M: Drop, K: Drop> Environment<S, O, A, M, K> {
     }
 
     /// Adds an operand at the end. It takes no memory.
+    #[inline(always)]
     pub fn push_operand(&mut self, value: O)
         requires one { 1 ≤ self.old.ready }
         requires place { 1 ≤ self.old.room.operands }
@@ -325,6 +342,7 @@ impl<S: Drop, O: Drop, A: Drop, M: Drop, K: Drop> Environment<S, O, A, M, K> {
     /// Takes off the last operand, and gives it: a copy where it is kept, else moved out.
     ///
     /// The error is want of memory, and then all is as before. Where nothing is kept, it takes none.
+    #[inline(always)]
     pub fn pop_operand(&mut self) -> Result<O, Memory>
     where
         O: Copied,
@@ -339,7 +357,7 @@ impl<S: Drop, O: Drop, A: Drop, M: Drop, K: Drop> Environment<S, O, A, M, K> {
         ensures refused { OnErr result (self.new ≡ self.old) }
     {
         let last = self.operands() - 1;
-        if last < self.base {
+        if last < self.base.operands {
             let value = self.operand(last).copied()?;
             self.drop_operand();
             Ok(value)
@@ -349,6 +367,7 @@ impl<S: Drop, O: Drop, A: Drop, M: Drop, K: Drop> Environment<S, O, A, M, K> {
     }
 
     /// Drops the last operand. It takes no memory.
+    #[inline(always)]
     pub fn drop_operand(&mut self)
         requires some { 0 < length self.old.now.operands }
         requires one { 1 ≤ self.old.ready }
@@ -358,9 +377,9 @@ impl<S: Drop, O: Drop, A: Drop, M: Drop, K: Drop> Environment<S, O, A, M, K> {
         ensures room { self.new.room ≡ record self.old.room { operands = self.old.room.operands + 1 } }
     {
         let last = self.operands.len() - 1;
-        if last < self.base {
+        if last < self.base.operands {
             let before = self.operands.pop();
-            self.base = last;
+            self.base.operands = last;
             note(&mut self.trail, Old::Operand(before));
         } else {
             self.operands.drop_last();
@@ -383,7 +402,7 @@ impl<S: Drop, O: Drop, A: Drop, M: Drop, K: Drop> Environment<S, O, A, M, K> {
         ensures room { OnOk result (self.new.room ≡ record self.old.room { operands = self.old.room.operands + (length self.old.now.operands - n) }) }
         ensures refused { OnErr result (self.new ≡ self.old) }
     {
-        if n < self.base {
+        if n < self.base.operands {
             let values = self.copied_operands(n)?;
             self.cut_operands(n);
             Ok(values)
@@ -417,6 +436,7 @@ impl<S: Drop, O: Drop, A: Drop, M: Drop, K: Drop> Environment<S, O, A, M, K> {
     }
 
     /// The number of activations. It takes no memory.
+    #[inline(always)]
     pub fn activations(&self) -> usize
         ensures { result ≡ length self.now.now.activations }
     {
@@ -424,6 +444,7 @@ impl<S: Drop, O: Drop, A: Drop, M: Drop, K: Drop> Environment<S, O, A, M, K> {
     }
 
     /// An activation, counted from the lowest. It takes no memory.
+    #[inline(always)]
     pub fn activation(&self, at: usize) -> &A
         requires { at < length self.now.now.activations }
         ensures { Some result.now ≡ slice_get self.now.now.activations at }
@@ -474,6 +495,7 @@ impl<S: Drop, O: Drop, A: Drop, M: Drop, K: Drop> Environment<S, O, A, M, K> {
     }
 
     /// The number of members. It takes no memory.
+    #[inline(always)]
     pub fn members(&self) -> usize
         ensures { result ≡ length self.now.now.members }
     {
@@ -559,6 +581,7 @@ impl<S: Drop, O: Drop, A: Drop, M: Drop, K: Drop> Environment<S, O, A, M, K> {
     }
 
     /// Drops the members above the lowest `n`, the last one first. It takes no memory.
+    #[inline(always)]
     pub fn cut_members(&mut self, n: usize)
         requires fewer { n ≤ length self.old.now.members }
         requires each { length self.old.now.members - n ≤ self.old.ready }
@@ -586,6 +609,7 @@ impl<S: Drop, O: Drop, A: Drop, M: Drop, K: Drop> Environment<S, O, A, M, K> {
     }
 
     /// Whether something is kept. It takes no memory.
+    #[inline(always)]
     pub fn is_kept(&self) -> bool
         ensures { result ≡ nat_lt 0 (length self.now.kept) }
     {
@@ -606,7 +630,10 @@ impl<S: Drop, O: Drop, A: Drop, M: Drop, K: Drop> Environment<S, O, A, M, K> {
         self.bases.reserve(1)?;
         self.trail.mark()?;
         self.bases.push_reserved(self.base);
-        self.base = self.operands.len();
+        self.base = Base {
+            slots: self.slots.len(),
+            operands: self.operands.len(),
+        };
         self.records.push_reserved(beside);
         Ok(())
     }
@@ -620,7 +647,8 @@ impl<S: Drop, O: Drop, A: Drop, M: Drop, K: Drop> Environment<S, O, A, M, K> {
         let Some(beside) = self.records.pop() else {
             return None;
         };
-        self.operands.cut(self.base);
+        self.slots.cut(self.base.slots);
+        self.operands.cut(self.base.operands);
         while let Some(old) = self.trail.pop() {
             put_back(
                 &mut self.slots,
@@ -636,13 +664,16 @@ impl<S: Drop, O: Drop, A: Drop, M: Drop, K: Drop> Environment<S, O, A, M, K> {
 }
 
 // Takes the last number off, and gives it; where there is none it is 0.
-fn pop_base(bases: &mut Vec<usize>) -> usize
+fn pop_base(bases: &mut Vec<Base>) -> Base
     ensures base { result ≡ base_of (reverse bases.old.items) }
     ensures rest { reverse bases.new.items ≡ drop 1 (reverse bases.old.items) }
 {
     match bases.pop() {
         Some(base) => base,
-        None => 0,
+        None => Base {
+            slots: 0,
+            operands: 0,
+        },
     }
 }
 

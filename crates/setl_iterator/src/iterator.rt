@@ -2,7 +2,7 @@
 
 ghost use Rattle.std.specs.Prelude.{◌≡◌, ◌∷◌, ◌<◌, ◌==◌, [], length, Bool, IfOk, OnErr};
 ghost use Rattle.setl_iterator.specs.Items.{plain_item, is_pair};
-ghost use Rattle.setl_iterator.specs.Rests.{IsSound, state_of};
+ghost use Rattle.setl_iterator.specs.Rests.{IsSound, left_of, pairs_of, state_of};
 
 use crate::Memory;
 use crate::integers::next_integer;
@@ -31,7 +31,7 @@ pub enum Item {
 /// A started iterator. Contracts see whether its items are pairs, and the items that are left.
 #[derive(Drop)]
 pub struct Iterator {
-    rest: Rest,
+    rest: Box<Rest>,
 }
 
 impl Model for Iterator {
@@ -43,18 +43,22 @@ impl Model for Iterator {
 
     ghost use Rattle.setl_iterator.specs.Rests.{IsSound, state_of};
 
-    ghost view = { λ i. state_of i.rest };
+    ghost view = { λ i. state_of i.rest.value };
 
-    ghost invariant = { λ i. IsSound i.rest };
+    ghost invariant = { λ i. IsSound i.rest.value };
 }
 
 impl Iterator {
     // The iterator over what is left here.
-    pub(crate) fn over(rest: Rest) -> Iterator
+    //
+    // The error is want of memory.
+    pub(crate) fn over(alloc: Global, rest: Rest) -> Result<Iterator, Memory>
         requires { IsSound rest }
-        ensures { result ≡ state_of rest }
+        ensures { IfOk result (λ i. i ≡ state_of rest) }
     {
-        Iterator { rest }
+        Ok(Iterator {
+            rest: Box::new(alloc, rest)?,
+        })
     }
 
     /// Whether no item is left. It takes no memory.
@@ -81,22 +85,38 @@ impl Iterator {
         ensures pairs { self.new.pairs ≡ self.old.pairs }
         ensures refused { OnErr result (self.new ≡ self.old) }
     {
-        match &mut self.rest {
-            Rest::Members(s, at) => next_member(s, at),
-            Rest::Components(t, at) => next_component(t, at),
-            Rest::Letters(t, at) => next_letter(alloc, t, at),
-            Rest::Integers(steps) => Ok(next_integer(steps)),
-            Rest::Points(f, at) => next_point(f, at),
-            Rest::Places(t, at) => next_place(t, at),
-            Rest::LetterPlaces(t, at) => next_letter_place(alloc, t, at),
-        }
+        next_of(alloc, &mut self.rest)
     }
 }
 
 impl Copied for Iterator {
     fn copied(&self) -> Result<Iterator, Memory> {
+        let rest = copied_rest(&self.rest)?;
         Ok(Iterator {
-            rest: copied_rest(&self.rest)?,
+            rest: Box::new(*Box::allocator(&self.rest), rest)?,
         })
+    }
+}
+
+// Takes the first item of what is left.
+//
+// The error is want of memory, and then as much is left as before.
+fn next_of(alloc: Global, rest: &mut Rest) -> Result<Item, Memory>
+    requires sound { IsSound rest.old }
+    requires some { 0 < length (left_of rest.old) }
+    ensures first { IfOk result (λ item. left_of rest.old ≡ plain_item item ∷ left_of rest.new) }
+    ensures kind { IfOk result (λ item. is_pair item ≡ pairs_of rest.old) }
+    ensures pairs { pairs_of rest.new ≡ pairs_of rest.old }
+    ensures sound { IsSound rest.new }
+    ensures refused { OnErr result (state_of rest.new ≡ state_of rest.old) }
+{
+    match rest {
+        Rest::Members(s, at) => next_member(s, at),
+        Rest::Components(t, at) => next_component(t, at),
+        Rest::Letters(t, at) => next_letter(alloc, t, at),
+        Rest::Integers(steps) => Ok(next_integer(steps)),
+        Rest::Points(f, at) => next_point(f, at),
+        Rest::Places(t, at) => next_place(t, at),
+        Rest::LetterPlaces(t, at) => next_letter_place(alloc, t, at),
     }
 }

@@ -77,7 +77,7 @@ const FAULTS: [Refusal; 12] = [
 fn each_source_gives_its_items(rt: HostRuntime) -> Result<(), Fail> {
     let alloc = rt.alloc();
     for (how, sources, items) in ITEMS {
-        match begin(how, values(alloc, sources)?.as_slice()) {
+        match begin(alloc, how, values(alloc, sources)?.as_slice()) {
             Ok(iterator) => {
                 assert!(rt; iterator.is_of_pairs() == (how == Begin::Points));
                 assert!(rt; given(alloc, iterator)? == values(alloc, items)?);
@@ -92,7 +92,7 @@ fn each_source_gives_its_items(rt: HostRuntime) -> Result<(), Fail> {
 fn each_fault_is_told(rt: HostRuntime) -> Result<(), Fail> {
     let alloc = rt.alloc();
     for (how, sources, fault) in FAULTS {
-        match begin(how, values(alloc, sources)?.as_slice()) {
+        match begin(alloc, how, values(alloc, sources)?.as_slice()) {
             Ok(_) => panic!(rt; "an iterator over {sources}"),
             Err(e) => assert!(rt; e == fault),
         }
@@ -104,7 +104,7 @@ fn each_fault_is_told(rt: HostRuntime) -> Result<(), Fail> {
 fn a_copy_goes_on_by_itself(rt: HostRuntime) -> Result<(), Fail> {
     let alloc = rt.alloc();
     let sources = values(alloc, "{[1 2] [2 5] [3 6]}")?;
-    let Ok(mut iterator) = begin(Begin::Points, sources.as_slice()) else {
+    let Ok(mut iterator) = begin(alloc, Begin::Points, sources.as_slice()) else {
         panic!(rt; "no iterator");
     };
     let mut items = Vec::new(alloc);

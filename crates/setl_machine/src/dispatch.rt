@@ -124,7 +124,7 @@ fn do_alone(what: &Instr, line: u32, store: &mut Store<'_>, alloc: Global) -> Re
         Instr::Discard => discard(store),
         Instr::Duplicate => duplicate(store),
         Instr::Parts(count) => take_apart(*count, line, store),
-        Instr::Begin(how, count) => begin_over(*how, *count, line, store),
+        Instr::Begin(how, count) => begin_over(alloc, *how, *count, line, store),
         Instr::Collect(what) => collect(*what, store),
         Instr::Add(count) => add(*count, line, store),
         Instr::Leave(count) => leave(*count, store),

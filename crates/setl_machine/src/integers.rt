@@ -23,6 +23,7 @@ pub(crate) fn freely_of_top(what: Operator, store: &Store<'_>) -> Option<Value>
 }
 
 /// What an operator gives of two values, where these are integers and it charges nothing.
+#[inline(always)]
 pub(crate) fn freely(what: Operator, a: &Value, b: &Value) -> Option<Value>
     ensures { IfSome result (λ v. GivesFreely what (datum a.now) (datum b.now) (datum v)) }
 {

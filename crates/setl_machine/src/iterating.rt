@@ -17,6 +17,7 @@ use setl_iterator::begin;
 use setl_program::Collection;
 use setl_store::{Ahead, Store};
 use setl_value::{TupleBody, Value};
+use std::alloc::Global;
 
 /// Pops a tuple and pushes its first components, so many, the first one on top.
 #[inline(never)]
@@ -59,6 +60,7 @@ fn component(tuple: &TupleBody, at: usize) -> Result<Option<Value>, Memory>
 /// Pops the parts of a source, so many, and pushes the iterator over its items.
 #[inline(never)]
 pub(crate) fn begin_over(
+    alloc: Global,
     how: Begin,
     count: u32,
     line: u32,
@@ -70,7 +72,7 @@ pub(crate) fn begin_over(
     let Some(sources) = store.pop_values(count as usize)? else {
         return Ok(End::Stuck);
     };
-    match begin(how, &sources) {
+    match begin(alloc, how, &sources) {
         Ok(iterator) => {
             store.push_iterator(iterator)?;
             go_on(store);

@@ -20,6 +20,7 @@ pub(crate) fn go_on(store: &mut Store<'_>)
 }
 
 /// Takes the top off, if it serves as a value.
+#[inline(always)]
 pub(crate) fn pop_top(store: &mut Store<'_>) -> Result<Option<Option<Value>>, Memory>
     ensures { IfOk result (λ value. PopsTop store.old value store.new) }
 {

@@ -37,6 +37,7 @@ pub(crate) fn operate(
 }
 
 /// Puts a value in the place of the two on top.
+#[inline(always)]
 fn put_for_two(value: Option<Value>, store: &mut Store<'_>) -> Result<End, Memory>
     requires few { store.old.core.now.at + 1 < 2 ^ 64 }
     requires two { AreTwo store.old.core.now.operands }

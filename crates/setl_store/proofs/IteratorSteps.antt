@@ -1,7 +1,9 @@
 -- Steps of the iterator on top.
-use Rattle.std.proofs.Common.{◌≡◌, ℕ, ◌+◌, ◌-◌, ◌<◌, Bool, true, false, List, [], ◌∷◌, ◌++◌, length, take, drop, reverse, set, get_or, refl, sym, ap, ◌∙◌, subst, arith, eq-eqb, eqb-true, Option, Some, None}
-use Rattle.std.specs.Prelude.{slice_get, nat_eq}
-use Rattle.std.proofs.lemmas.List.{length-set, take_all, take_more_set}
+use Rattle.std.proofs.Common.{◌≡◌, ℕ, zero, suc, ◌+◌, ◌-◌, ◌<◌, Bool, true, false, List, [], ◌∷◌, ◌++◌, length, take, drop, reverse, set, get_or, refl, sym, ap, ◌∙◌, subst, arith, eq-eqb, eqb-true, Option, Some, None}
+use Rattle.std.specs.Prelude.{slice_get, nat_eq, Result, Ok, Err, IfOk, OnOk, OnErr}
+use Rattle.std.specs.Option.{unwrap_or}
+use Rattle.std.specs.declared.alloc.AllocError.{AllocError}
+use Rattle.std.proofs.lemmas.List.{length-set, set-set, take_all, take_more_set}
 use Rattle.std.proofs.lemmas.Option.{slice_get-get_or}
 use Rattle.setl_value.specs.code.DatumOf.{part}
 use Rattle.setl_value.specs.declared.Value.{Value}
@@ -67,6 +69,34 @@ module _ (code : Code) (at : ℕ) (e : Here) (kept : List (Here × ℕ)) (s : St
 
   pub no_iterator_on_top : ((i : IteratorState) → o ≡ operand.Iterator i → ⊥) → IsAhead s.core.now.operands ahead.NoIterator
   no_iterator_on_top h = subst (λ l. IsAhead l ahead.NoIterator) (sym top_here) (none_ahead e.members o (drop 1 s.core.now.operands) h)
+
+-- ---- the iterator is taken out, and put back behind its first item
+
+-- what was there, put back
+put_back : (xs : List Operand) (n : ℕ) (o : Operand) → Some o ≡ slice_get xs n → set xs n o ≡ xs
+put_back [] n o h = refl
+put_back (x ∷ xs) zero o h = ap (λ y. y ∷ xs) (ap (λ v. unwrap_or v o) h)
+put_back (x ∷ xs) (suc n) o h = ap (λ l. x ∷ l) (put_back xs n o h)
+
+module _ (e e₁ e₂ : Here) (at : ℕ) (o : Operand) (i j : IteratorState) where
+  placed : e₁ ≡ record e { operands = set e.operands at operand.Om } → e₂ ≡ record e₁ { operands = set e₁.operands at (operand.Iterator j) } → e₂ ≡ record e { operands = set e.operands at (operand.Iterator j) }
+  placed taken put = put ∙ ap (λ (y : Here). record y { operands = set y.operands at (operand.Iterator j) }) taken ∙ ap (λ l. record e { operands = l }) (set-set e.operands at operand.Om (operand.Iterator j))
+
+  pub item_moved : (r : Result Item AllocError) → at ≡ length e.operands - 1 → Some o ≡ slice_get e.operands at → o ≡ operand.Iterator i → e₁ ≡ record e { operands = set e.operands at operand.Om } →
+      e₂ ≡ record e₁ { operands = set e₁.operands at (operand.Iterator j) } → IfOk r (λ x. i.left ≡ plain_item x ∷ j.left) → j.pairs ≡ i.pairs →
+      OnOk r (e₂ ≡ record e { operands = set e.operands (length e.operands - 1) (advanced (slice_get e.operands (length e.operands - 1))) })
+  item_moved (Err f) last there is taken put first pairs = tt
+  item_moved (Ok x) last there is taken put first pairs =
+      let behind_first : j ≡ record i { left = drop 1 i.left } = ap (λ b. record j { pairs = b }) pairs ∙ ap (λ l. record i { left = l }) (sym (ap (drop 1) first)) in
+      placed taken put ∙ ap (λ k. record e { operands = set e.operands at (operand.Iterator k) }) behind_first
+      ∙ ap (λ v. record e { operands = set e.operands at (advanced v) }) (sym (ap Some is) ∙ there)
+      ∙ ap (λ k. record e { operands = set e.operands k (advanced (slice_get e.operands k)) }) last
+
+  pub item_refused : (r : Result Item AllocError) → Some o ≡ slice_get e.operands at → o ≡ operand.Iterator i → e₁ ≡ record e { operands = set e.operands at operand.Om } →
+      e₂ ≡ record e₁ { operands = set e₁.operands at (operand.Iterator j) } → OnErr r (j ≡ i) → OnErr r (e₂ ≡ e)
+  item_refused (Ok x) there is taken put refused = tt
+  item_refused (Err f) there is taken put refused =
+      placed taken put ∙ ap (λ k. record e { operands = set e.operands at (operand.Iterator k) }) refused ∙ ap (λ l. record e { operands = l }) (put_back e.operands at (operand.Iterator i) (sym (ap Some is) ∙ there))
 
 -- ---- advancing
 

@@ -8,6 +8,7 @@ use setl_environment::Memory;
 use std::alloc::AllocError;
 
 /// Adds an operand.
+#[inline(always)]
 pub(crate) fn add_operand(environment: &mut Contents, operand: Operand) -> Result<(), Memory>
     ensures now { OnOk result (environment.new.now ≡ with_operand environment.old.now operand) }
     ensures kept { environment.new.kept ≡ environment.old.kept }
@@ -20,6 +21,7 @@ pub(crate) fn add_operand(environment: &mut Contents, operand: Operand) -> Resul
 }
 
 /// Takes off the last operand, and gives it.
+#[inline(always)]
 pub(crate) fn take_operand(environment: &mut Contents) -> Result<Operand, Memory>
     requires { 0 < length environment.old.now.operands }
     ensures value { IfOk result (λ operand. Some operand ≡ slice_get environment.old.now.operands (length environment.old.now.operands - 1)) }
@@ -50,6 +52,7 @@ pub(crate) fn take_collection(
 }
 
 /// Drops the last operand and the members from this one on.
+#[inline(always)]
 pub(crate) fn drop_operand(environment: &mut Contents, lowest: usize) -> Result<(), Memory>
     requires some { 0 < length environment.old.now.operands }
     requires fewer { lowest ≤ length environment.old.now.members }
@@ -64,6 +67,7 @@ pub(crate) fn drop_operand(environment: &mut Contents, lowest: usize) -> Result<
 }
 
 /// Puts an operand in the place of the last one.
+#[inline(always)]
 pub(crate) fn put_operand(environment: &mut Contents, operand: Operand) -> Result<(), Memory>
     requires { 0 < length environment.old.now.operands }
     ensures now { OnOk result (environment.new.now ≡ record environment.old.now { operands = slice_set environment.old.now.operands (length environment.old.now.operands - 1) operand }) }
@@ -77,6 +81,7 @@ pub(crate) fn put_operand(environment: &mut Contents, operand: Operand) -> Resul
 }
 
 /// Makes so many changes and one more ready.
+#[inline(always)]
 pub(crate) fn reserve_one_more(environment: &mut Contents, count: usize) -> Result<(), Memory>
     ensures now { environment.new.now ≡ environment.old.now }
     ensures kept { environment.new.kept ≡ environment.old.kept }
@@ -89,6 +94,7 @@ pub(crate) fn reserve_one_more(environment: &mut Contents, count: usize) -> Resu
 }
 
 /// Puts this in the place of what a slot holds.
+#[inline(always)]
 pub(crate) fn write_slot(environment: &mut Contents, at: usize, value: Held) -> Result<(), Memory>
     requires { at < length environment.old.now.slots }
     ensures now { OnOk result (environment.new.now ≡ with_slot environment.old.now at value) }
@@ -101,6 +107,7 @@ pub(crate) fn write_slot(environment: &mut Contents, at: usize, value: Held) -> 
 }
 
 /// Puts nothing in the place of what a slot holds, and gives that.
+#[inline(always)]
 pub(crate) fn take_slot(environment: &mut Contents, at: usize) -> Result<Held, Memory>
     requires { at < length environment.old.now.slots }
     ensures value { IfOk result (λ value. Some value ≡ slice_get environment.old.now.slots at) }

@@ -13,7 +13,7 @@ ghost use Rattle.setl_store.specs.declared.iterating.Ahead.TheVariants as ahead;
 
 use crate::cells::{Contents, Member, Operand};
 use crate::store::{Store, lowest, operand};
-use setl_environment::{Copied, Memory};
+use setl_environment::Memory;
 use setl_iterator::{Item, Iterator};
 use setl_map::OpFault;
 use setl_program::Collection;
@@ -102,23 +102,21 @@ fn take_item(alloc: Global, environment: &mut Contents) -> Result<Item, Memory>
     ensures refused { OnErr result (environment.new.now ≡ environment.old.now) }
 {
     let at = environment.operands() - 1;
-    environment.reserve(3)?;
+    environment.reserve(4)?;
     environment.reserve_operands(2)?;
-    let mut iterator = iterator_at(environment, at)?;
-    let item = iterator.advance(alloc)?;
+    let mut iterator = iterator_in(environment.replace_operand(at, Operand::Om)?);
+    let item = iterator.advance(alloc);
     environment.set_operand(at, Operand::Iterator(iterator));
-    Ok(item)
+    item
 }
 
-/// A copy of the iterator at a place of the operands.
-///
-/// The error is want of memory.
-fn iterator_at(environment: &Contents, at: usize) -> Result<Iterator, Memory>
-    requires { IsAtItem (slice_get environment.now.now.operands at) }
-    ensures { IfOk result (λ iterator. slice_get environment.now.now.operands at ≡ Some (at_work iterator)) }
+/// The iterator that an operand is.
+fn iterator_in(operand: Operand) -> Iterator
+    requires { IsAtItem (Some operand) }
+    ensures { operand ≡ at_work result }
 {
-    match environment.operand(at) {
-        Operand::Iterator(iterator) => iterator.copied(),
+    match operand {
+        Operand::Iterator(iterator) => iterator,
         _ => unreachable!(),
     }
 }

@@ -52,6 +52,7 @@ impl<'c> Store<'c> {
     /// Drops the top: a result, or a collection with its members.
     ///
     /// The error is want of memory.
+    #[inline(always)]
     pub fn drop_top(&mut self) -> Result<(), Memory>
         requires { IsSome (top_of self.old.core.now.operands) }
         ensures { OnOk result (self.new ≡ record self.old { core = over (drop 1 self.old.core.now.operands) self.old.core }) }
@@ -66,6 +67,7 @@ impl<'c> Store<'c> {
     /// Puts a value, or `om`, in the place of the result on top, which is no collection.
     ///
     /// The error is want of memory.
+    #[inline(always)]
     pub fn put_top(&mut self, value: Option<Value>) -> Result<(), Memory>
         requires { IsPlainTop self.old.core.now.operands }
         ensures { OnOk result (self.new ≡ record self.old { core = over (Holds (part value) ∷ drop 1 self.old.core.now.operands) self.old.core }) }

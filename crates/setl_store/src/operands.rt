@@ -18,6 +18,7 @@ impl<'c> Store<'c> {
     /// Takes the top off: a result, or a collection as the set or tuple of its members.
     ///
     /// The error is want of memory.
+    #[inline(always)]
     pub fn pop(&mut self) -> Result<Option<Value>, Memory>
         requires { IsSome (top_of self.old.core.now.operands) }
         ensures value { IfOk result (λ value. top_of self.old.core.now.operands ≡ Some (part value, self.new.core.now.operands)) }

@@ -96,6 +96,7 @@ impl<'c> Store<'c> {
     /// Stores a value, or `om`, in a variable's slot.
     ///
     /// The error is want of memory.
+    #[inline(always)]
     pub fn set_slot(&mut self, slot: Slot, value: Option<Value>) -> Result<(), Memory>
         requires { HasSlot (length self.old.core.globals) (length self.old.core.now.own) slot }
         ensures { OnOk result (self.new ≡ record self.old { core = write (plain_slot (variables self.old.core) slot) (There (part value)) self.old.core }) }
@@ -108,6 +109,7 @@ impl<'c> Store<'c> {
     /// Takes what a variable's slot holds, and leaves nothing there. Stored again it leaves all as before.
     ///
     /// The error is want of memory.
+    #[inline(always)]
     pub fn take_slot(&mut self, slot: Slot) -> Result<Option<Value>, Memory>
         requires slot { HasSlot (length self.old.core.globals) (length self.old.core.now.own) slot }
         requires there { IsThere (held (plain_slot (variables self.old.core) slot) self.old.core) }
@@ -121,6 +123,7 @@ impl<'c> Store<'c> {
     }
 
     /// What the top operand is. It takes no memory.
+    #[inline(always)]
     pub fn top(&self) -> Top<'_>
         ensures { Shows self.now.core.now.operands result }
     {
@@ -139,6 +142,7 @@ impl<'c> Store<'c> {
     /// Pushes a value, or `om`.
     ///
     /// The error is want of memory.
+    #[inline(always)]
     pub fn push(&mut self, value: Option<Value>) -> Result<(), Memory>
         ensures { OnOk result (self.new ≡ record self.old { core = over (Holds (part value) ∷ self.old.core.now.operands) self.old.core }) }
     {
@@ -169,6 +173,7 @@ impl<'c> Store<'c> {
 }
 
 /// An operand that is this value.
+#[inline(always)]
 pub(crate) fn operand(value: Option<Value>) -> Operand
     ensures is { result ≡ operand_by value }
     ensures stands { (members : _) → operand_of members result ≡ Holds (part value) }
@@ -181,6 +186,7 @@ pub(crate) fn operand(value: Option<Value>) -> Operand
 }
 
 /// What a slot holds that holds this value.
+#[inline(always)]
 pub(crate) fn held(value: Option<Value>) -> Held
     ensures { held_of result ≡ There (part value) }
 {
@@ -191,6 +197,7 @@ pub(crate) fn held(value: Option<Value>) -> Held
 }
 
 /// The value that a slot holds, which wasn't taken.
+#[inline(always)]
 fn held_value(held: Held) -> Option<Value>
     requires { IsThere (held_of held) }
     ensures { held_of held ≡ There (part result) }

@@ -24,6 +24,7 @@ pub(crate) fn is_value(operand: &Operand) -> bool
 }
 
 /// The value of an operand that is a result and no collection.
+#[inline(always)]
 pub(crate) fn value(operand: Operand) -> Option<Value>
     requires { IsPlain operand }
     ensures { (members : _) → operand_of members operand ≡ Holds (part result) }

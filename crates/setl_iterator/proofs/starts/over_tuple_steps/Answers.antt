@@ -20,6 +20,6 @@ returns c =
     let g : FitsSigned w128 b = search rules in
     let h : FitsSigned w128 z = search rules in
     let e = c.stepped.ensures ∙ (λ i. step_from (to_z-of_z w128 a f i) (to_z-of_z w128 b g i) (to_z-of_z w128 z h i)) in (
-      started_steps (λ ds. ds) (map part c.args.sources.now) a b z (integers_left c.stepped.result) c.in_ok-a.ensures e ∙ ap (λ s. Starts s.left) (sym c.over.ensures),
-      ap (λ s. s.pairs) c.over.ensures,
+      started_steps (λ ds. ds) (map part c.args.sources.now) a b z (integers_left c.stepped.result) c.in_ok-a.ensures e ∙ ap (λ s. Starts s.left) (sym c.in_ok-over.ensures),
+      ap (λ s. s.pairs) c.in_ok-over.ensures,
     )
