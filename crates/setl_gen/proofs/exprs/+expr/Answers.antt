@@ -1,8 +1,9 @@
-use Rattle.std.proofs.Common.{◌≡◌, ◌∙◌, List, ap, refl, sym, arith, Some}
+use Rattle.std.proofs.Common.{◌≡◌, ◌∙◌, List, length, ap, refl, sym, arith, Some}
 use Rattle.std.specs.Option.{option_map}
 use Rattle.setl_program.specs.declared.expr.Expr.{Expr}
 use Rattle.setl_program.specs.declared.expr.Iterator.{Iterator}
 use Rattle.setl_program.specs.declared.expr.Argument.{Argument}
+use Rattle.setl_program.specs.declared.expr.Expr.TheVariants as ex
 use Rattle.setl_program.specs.Program as plain
 use Rattle.setl_program.specs.Program.{Connect}
 use Rattle.setl_program.specs.Operators.{one as alone, two}
@@ -14,7 +15,7 @@ use Rattle.setl_gen.specs.Emitted.{held, here, after}
 use Rattle.setl_gen.specs.Heads.{opened, with_end_undecided}
 use Rattle.setl_gen.proofs.Emitting.{after_nothing, then_made}
 use Rattle.setl_gen.proofs.Rounds.{done_made, exprs_round, arguments_round, count_is, levels_is, iterator_begun, iterator_headed}
-use Rattle.setl_gen.proofs.ExprKinds.{choose_is, former_is, selection_is, quantified_is, got, of_kind}
+use Rattle.setl_gen.proofs.ExprKinds.{former_is, selection_is, as_kind}
 use Rattle.setl_gen.proofs.Constructs.{apply_made, choose_made, former_made, selection_made, quantified_made, call_made}
 use Rattle.setl_gen.proofs.Links.{unary_is, binary_is, connect_is, as_link, binary_made, ternary_made, connected, chain_round, links_made, chain_made}
 use Rattle.setl_gen.proofs.exprs.+expr.Goals as goal
@@ -113,21 +114,35 @@ choose-returns t c =
 
 pub former-returns : goal.former-returns
 former-returns t c =
-    former_made c.args.line c.args.k (plain_expr c.args.e.now) (plain_iterators c.args.is'.now) (condition_of (option_map plain_expr c.args.t.now)) c.in_ok-first.first c.in_ok-first.innermost c.len.result
+    former_made c.args.line c.args.k (plain_expr c.args.e.now) (plain_iterators c.args.is.now) (condition_of (option_map plain_expr c.args.t.now)) c.in_ok-first.first c.in_ok-first.innermost (length c.args.is.now)
     (held c.args.to.now) (held c.put.new.self) (held c.iterators.new.to) (held c.condition.new.to) (held c.expr.new.to) (held c.add_and_go_on.new.to) (held c.next_here.new.self)
-    c.in_ok-put.ensures c.in_ok-first.ensures c.in_ok-condition.ensures c.in_ok-expr.ensures (c.len.ensures ∙ levels_is c.args.is'.now) c.in_ok-add_and_go_on.ensures c.in_ok-next_here.ensures
+    c.in_ok-put.ensures c.in_ok-first.ensures c.in_ok-condition.ensures c.in_ok-expr.ensures (levels_is c.args.is.now) c.in_ok-add_and_go_on.ensures c.in_ok-next_here.ensures
 
 pub selection-returns : goal.selection-returns
 selection-returns t c =
-    selection_made c.args.line c.args.k (plain_binding c.args.b.now) (plain_exprs c.args.es.now) (plain_expr c.args.c.now) c.len.result c.in_ok-next.next
+    selection_made c.args.line c.args.k (plain_binding c.args.b.now) (plain_exprs c.args.es.now) (plain_expr c.args.c.now) (length c.args.es.now) c.in_ok-next.next
     (held c.args.to.now) (held c.put.new.self) (held c.exprs.new.to) (held c.begin_selection.new.to) (held c.expr.new.to) (held c.keep_or_drop.new.to) (held c.next_here.new.self)
-    c.in_ok-put.ensures c.in_ok-exprs.ensures (c.len.ensures ∙ count_is c.args.es.now) c.in_ok-next.ensures.place c.in_ok-next.ensures.code c.in_ok-expr.ensures c.in_ok-keep_or_drop.ensures c.in_ok-next_here.ensures
+    c.in_ok-put.ensures c.in_ok-exprs.ensures (count_is c.args.es.now) c.in_ok-next.ensures.place c.in_ok-next.ensures.code c.in_ok-expr.ensures c.in_ok-keep_or_drop.ensures c.in_ok-next_here.ensures
 
 pub quantified-returns : goal.quantified-returns
 quantified-returns t c =
-    quantified_made c.args.line c.args.q (plain_iterators c.args.is'.now) (plain_expr c.args.c.now) c.enter-outer.result c.leave-inner.result c.in_ok-first.first c.in_ok-first.innermost c.len.result
+    quantified_made c.args.line c.args.q (plain_iterators c.args.is.now) (plain_expr c.args.c.now) c.enter-outer.result c.leave-inner.result c.in_ok-first.first c.in_ok-first.innermost (length c.args.is.now)
     (held c.args.to.now) (held c.enter-outer.new.self) (held c.iterators.new.to) (held c.expr.new.to) (held c.leave_decided.new.to) (held c.next_here.new.self) (held c.leave-inner.new.self) (held c.end_undecided.new.to)
-    c.enter-outer.ensures.outer c.enter-outer.ensures.rest c.in_ok-first.ensures c.in_ok-expr.ensures (c.len.ensures ∙ levels_is c.args.is'.now) c.in_ok-leave_decided.ensures c.in_ok-next_here.ensures c.leave-inner.ensures.inner c.leave-inner.ensures.rest c.in_ok-end_undecided.ensures
+    c.enter-outer.ensures.outer c.enter-outer.ensures.rest c.in_ok-first.ensures c.in_ok-expr.ensures (levels_is c.args.is.now) c.in_ok-leave_decided.ensures c.in_ok-next_here.ensures c.leave-inner.ensures.inner c.leave-inner.ensures.rest c.in_ok-end_undecided.ensures
+
+pub expr-returns-in-Former : goal.expr-returns-in-Former
+expr-returns-in-Former t c =
+    let v : Expr = c.get-in-Former.result.now in
+    let r : List Iterator = c.as_slice-in-Former.result.now in
+    as_kind c.args.line c.args.e.now (plain.Former c.in-Former.k (plain_expr v) (plain_iterators r) (condition_of (option_map plain_expr c.in-Former.t))) (held c.args.to.now) (held c.former.new.to)
+    (former_is c.args.e.now c.in-Former.k v r c.in-Former.t (c.in-Former.is ∙ ap (λ (z : Expr). ex.Former c.in-Former.k z c.in-Former.is' c.in-Former.t) (sym c.get-in-Former.ensures) ∙ ap (λ (z : List Iterator). ex.Former c.in-Former.k v z c.in-Former.t) (sym c.as_slice-in-Former.ensures))) c.former.result c.former.ensures
+
+pub expr-returns-in-Selection : goal.expr-returns-in-Selection
+expr-returns-in-Selection t c =
+    let r : List Expr = c.as_slice-in-Selection.result.now in
+    let v : Expr = c.get-in-Selection.result.now in
+    as_kind c.args.line c.args.e.now (plain.Selection c.in-Selection.k (plain_binding c.in-Selection.b) (plain_exprs r) (plain_expr v)) (held c.args.to.now) (held c.selection.new.to)
+    (selection_is c.args.e.now c.in-Selection.k c.in-Selection.b r v (c.in-Selection.is ∙ ap (λ (z : List Expr). ex.Selection c.in-Selection.k c.in-Selection.b z c.in-Selection.c) (sym c.as_slice-in-Selection.ensures) ∙ ap (λ (z : Expr). ex.Selection c.in-Selection.k c.in-Selection.b r z) (sym c.get-in-Selection.ensures))) c.selection.result c.selection.ensures
 
 pub head-returns-clause-place : goal.head-returns-clause-place
 head-returns-clause-place t c =

@@ -79,7 +79,7 @@ abbrev pub decreases-choose : goal.decreases-choose
 decreases-choose l = by (goal.size-choose l ∷ expr.the_size l.a.now ∷ expr.the_size l.b.now ∷ []) 1
 
 abbrev pub decreases-former : goal.decreases-former
-decreases-former l = by (goal.size-former l ∷ most iterator.the_size l.is'.now ∷ weighed-Expr-Former-3.weight _ expr.the_size l.t.now ∷ []) 3
+decreases-former l = by (goal.size-former l ∷ most iterator.the_size l.is.now ∷ weighed-Expr-Former-3.weight _ expr.the_size l.t.now ∷ []) 3
 
 abbrev pub decreases-selection : goal.decreases-selection
 decreases-selection l = by (goal.size-selection l ∷ expr.the_size l.c.now ∷ []) 2
