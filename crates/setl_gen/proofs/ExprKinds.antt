@@ -1,6 +1,7 @@
 -- Expressions by their kind.
 use Rattle.std.proofs.Common.{◌≡◌, ℕ, List, map, ap, sym, ◌∙◌, Option, Some, None}
 use Rattle.std.specs.Option.{option_map}
+use Rattle.std.specs.Prelude.{OnOk, Result, Ok, Err}
 use Rattle.setl_program.specs.declared.kinds.Collection.{Collection}
 use Rattle.setl_program.specs.declared.kinds.Quantifier.{Quantifier}
 use Rattle.setl_program.specs.declared.expr.Binding.{Binding}
@@ -44,6 +45,7 @@ quantified_is e q is c h = ap plain_expr (h ∙ sym (ex.rolls-Quantified q is c)
 pub got : (line : ℕ) (x y : Expr) (s t : Emitted) → t ≡ after (expr line (plain_expr x)) s → x ≡ y → t ≡ after (expr line (plain_expr y)) s
 got line x y s t e is = e ∙ ap (λ (z : Expr). after (expr line (plain_expr z)) s) is
 
--- code of an expression that is of a kind
-pub of_kind : (line : ℕ) (e : Expr) (x : plain.Expr) (s u : Emitted) → plain_expr e ≡ x → u ≡ after (expr line x) s → u ≡ after (expr line (plain_expr e)) s
-of_kind line e x s u is f = f ∙ ap (λ (y : plain.Expr). after (expr line y) s) (sym is)
+-- code of an expression that is of a kind, where it was made
+pub as_kind : {A E : Type 0} (line : ℕ) (e : Expr) (x : plain.Expr) (s t : Emitted) → plain_expr e ≡ x → (r : Result A E) → OnOk r (t ≡ after (expr line x) s) → OnOk r (t ≡ after (expr line (plain_expr e)) s)
+as_kind line e x s t is (Ok v) g = g ∙ ap (λ (y : plain.Expr). after (expr line y) s) (sym is)
+as_kind line e x s t is (Err v) g = g

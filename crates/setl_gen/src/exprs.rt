@@ -2,10 +2,10 @@
 
 ghost use Rattle.std.specs.Prelude.{◌≡◌, OnOk, IfOk, Some, map};
 ghost use Rattle.std.specs.Option.{option_map};
-ghost use Rattle.setl_program.specs.Program.{Apply, Connect, Call, only_if, no_argument};
+ghost use Rattle.setl_program.specs.Program.{Apply, Connect, Choose, Former, Selection, Quantified, Call, only_if, no_argument};
 ghost use Rattle.setl_program.specs.Operators.{one, two};
 ghost use Rattle.setl_program.specs.Lists.{chained};
-ghost use Rattle.setl_program.specs.code.Plain.{plain_expr, plain_link, plain_exprs, plain_iterator, plain_iterators, plain_argument, plain_arguments, condition_of};
+ghost use Rattle.setl_program.specs.code.Plain.{plain_expr, plain_link, plain_exprs, plain_binding, plain_iterator, plain_iterators, plain_argument, plain_arguments, condition_of};
 ghost use Rattle.setl_code.specs.Generated as code;
 ghost use Rattle.setl_gen.specs.Emitted.{held, here, after};
 ghost use Rattle.setl_gen.specs.Heads.{CodeGoesOn, begun, next, opened, argument_code};
@@ -18,7 +18,7 @@ use crate::simple::{
 };
 use setl_code::{Instr, Literal};
 use setl_map::Operator;
-use setl_program::{Argument, Connective, Expr, Iterator, Link};
+use setl_program::{Argument, Binding, Collection, Connective, Expr, Iterator, Link, Quantifier};
 use setl_tree::Boxed;
 use std::alloc::AllocError;
 
@@ -34,54 +34,110 @@ pub fn expr<'p>(to: &mut Emitter<'p>, line: u32, e: &'p Expr) -> Result<(), Memo
         Expr::Undefined => to.put(line, Instr::Undefined),
         Expr::Name(x) => to.load(line, x),
         Expr::Apply(o, es) => apply(to, line, *o, es.as_slice()),
-        Expr::Chain(first, ls) => {
-            expr(to, line, first.get())?;
-            links(to, line, ls.as_slice())?;
-            Ok(())
-        }
-        Expr::Choose(t, a, b) => {
-            expr(to, line, t.get())?;
-            let test = to.step(line, Instr::Unless(0))?;
-            expr(to, line, a.get())?;
-            let over = to.step(line, Instr::Jump(0))?;
-            to.unless_here(test, line)?;
-            expr(to, line, b.get())?;
-            to.jump_here(over, line)?;
-            Ok(())
-        }
-        Expr::Former(k, e, is, t) => {
-            to.put(line, Instr::Collect(*k))?;
-            let (first, innermost) = iterators(to, line, is.as_slice())?;
-            condition(to, line, t, innermost)?;
-            expr(to, line, e.get())?;
-            add_and_go_on(to, line, is.len(), innermost)?;
-            to.next_here(first, line)?;
-            Ok(())
-        }
-        Expr::Selection(k, b, es, c) => {
-            to.put(line, Instr::Collect(*k))?;
-            exprs(to, line, es.as_slice())?;
-            let next = begin_selection(to, line, b, es.len())?;
-            expr(to, line, c.get())?;
-            keep_or_drop(to, line, next)?;
-            to.next_here(next, line)?;
-            Ok(())
-        }
-        Expr::Quantified(q, is, c) => {
-            let outer = to.enter();
-            let (first, innermost) = iterators(to, line, is.as_slice())?;
-            expr(to, line, c.get())?;
-            leave_decided(to, line, *q, is.len(), innermost)?;
-            to.next_here(first, line)?;
-            let inner = to.leave(outer);
-            end_undecided(to, line, *q, is.as_slice(), inner)?;
-            Ok(())
-        }
+        Expr::Chain(first, ls) => chain(to, line, ls.as_slice(), first.get()),
+        Expr::Choose(t, a, b) => choose(to, line, t.get(), a.get(), b.get()),
+        Expr::Former(k, e, is, t) => former(to, line, *k, e.get(), is.as_slice(), t),
+        Expr::Selection(k, b, es, c) => selection(to, line, *k, b, es.as_slice(), c.get()),
+        Expr::Quantified(q, is, c) => quantified(to, line, *q, is.as_slice(), c.get()),
         Expr::Call(f, all) => call(to, line, *f, all.as_slice()),
         Expr::Newat => to.put(line, Instr::NewAtom),
         Expr::Eof => to.put(line, Instr::Eof),
         Expr::Ok => to.put(line, Instr::Keep),
     }
+}
+
+/// An expression with links behind it.
+#[cycle(expr)]
+fn chain<'p>(to: &mut Emitter<'p>, line: u32, ls: &'p [Link], first: &'p Expr) -> Result<(), Memory>
+    ensures { OnOk result (held to.new ≡ after (code.expr line (chained (plain_expr first.now) (map plain_link ls.now))) (held to.old)) }
+{
+    expr(to, line, first)?;
+    links(to, line, ls)?;
+    Ok(())
+}
+
+/// An `if` expression.
+#[cycle(expr)]
+fn choose<'p>(
+    to: &mut Emitter<'p>,
+    line: u32,
+    t: &'p Expr,
+    a: &'p Expr,
+    b: &'p Expr,
+) -> Result<(), Memory>
+    ensures { OnOk result (held to.new ≡ after (code.expr line (Choose (plain_expr t.now) (plain_expr a.now) (plain_expr b.now))) (held to.old)) }
+{
+    expr(to, line, t)?;
+    let test = to.step(line, Instr::Unless(0))?;
+    expr(to, line, a)?;
+    let over = to.step(line, Instr::Jump(0))?;
+    to.unless_here(test, line)?;
+    expr(to, line, b)?;
+    to.jump_here(over, line)?;
+    Ok(())
+}
+
+/// A former that collects an expression.
+#[cycle(expr)]
+fn former<'p>(
+    to: &mut Emitter<'p>,
+    line: u32,
+    k: Collection,
+    e: &'p Expr,
+    is: &'p [Iterator],
+    t: &'p Option<Boxed<Expr>>,
+) -> Result<(), Memory>
+    ensures { OnOk result (held to.new ≡ after (code.expr line (Former k (plain_expr e.now) (plain_iterators is.now) (condition_of (option_map plain_expr t.now)))) (held to.old)) }
+{
+    to.put(line, Instr::Collect(k))?;
+    let (first, innermost) = iterators(to, line, is)?;
+    condition(to, line, t, innermost)?;
+    expr(to, line, e)?;
+    add_and_go_on(to, line, is.len(), innermost)?;
+    to.next_here(first, line)?;
+    Ok(())
+}
+
+/// A former that collects its members.
+#[cycle(expr)]
+fn selection<'p>(
+    to: &mut Emitter<'p>,
+    line: u32,
+    k: Collection,
+    b: &'p Binding,
+    es: &'p [Expr],
+    c: &'p Expr,
+) -> Result<(), Memory>
+    ensures { OnOk result (held to.new ≡ after (code.expr line (Selection k (plain_binding b.now) (plain_exprs es.now) (plain_expr c.now))) (held to.old)) }
+{
+    to.put(line, Instr::Collect(k))?;
+    exprs(to, line, es)?;
+    let next = begin_selection(to, line, b, es.len())?;
+    expr(to, line, c)?;
+    keep_or_drop(to, line, next)?;
+    to.next_here(next, line)?;
+    Ok(())
+}
+
+/// A quantifier.
+#[cycle(expr)]
+fn quantified<'p>(
+    to: &mut Emitter<'p>,
+    line: u32,
+    q: Quantifier,
+    is: &'p [Iterator],
+    c: &'p Expr,
+) -> Result<(), Memory>
+    ensures { OnOk result (held to.new ≡ after (code.expr line (Quantified q (plain_iterators is.now) (plain_expr c.now))) (held to.old)) }
+{
+    let outer = to.enter();
+    let (first, innermost) = iterators(to, line, is)?;
+    expr(to, line, c)?;
+    leave_decided(to, line, q, is.len(), innermost)?;
+    to.next_here(first, line)?;
+    let inner = to.leave(outer);
+    end_undecided(to, line, q, is, inner)?;
+    Ok(())
 }
 
 /// Expressions in their order.

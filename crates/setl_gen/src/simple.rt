@@ -124,9 +124,17 @@ pub fn leave_decided(
 {
     negated(to, line, q)?;
     to.put(line, Instr::Unless(next))?;
+    leave_with(to, line, levels, decided(q))?;
+    Ok(())
+}
+
+/// So many iterators are left with a truth value.
+fn leave_with(to: &mut Emitter<'_>, line: u32, levels: usize, truth: bool) -> Result<(), Memory>
+    ensures { OnOk result (held to.new ≡ after (one line (LeaveAll levels) ⨾ one line (Push (Some (bool truth))) ⨾ jumps_out line) (held to.old)) }
+{
     let levels = number(levels)?;
     to.put(line, Instr::Leave(levels))?;
-    to.put(line, Instr::Truth(decided(q)))?;
+    to.put(line, Instr::Truth(truth))?;
     to.jump_out(line)?;
     Ok(())
 }

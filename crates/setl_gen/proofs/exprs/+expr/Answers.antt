@@ -1,8 +1,9 @@
-use Rattle.std.proofs.Common.{◌≡◌, ◌∙◌, List, ap, refl, sym, arith, Some}
+use Rattle.std.proofs.Common.{◌≡◌, ◌∙◌, List, length, ap, refl, sym, arith, Some}
 use Rattle.std.specs.Option.{option_map}
 use Rattle.setl_program.specs.declared.expr.Expr.{Expr}
 use Rattle.setl_program.specs.declared.expr.Iterator.{Iterator}
 use Rattle.setl_program.specs.declared.expr.Argument.{Argument}
+use Rattle.setl_program.specs.declared.expr.Expr.TheVariants as ex
 use Rattle.setl_program.specs.Program as plain
 use Rattle.setl_program.specs.Program.{Connect}
 use Rattle.setl_program.specs.Operators.{one as alone, two}
@@ -14,7 +15,7 @@ use Rattle.setl_gen.specs.Emitted.{held, here, after}
 use Rattle.setl_gen.specs.Heads.{opened, with_end_undecided}
 use Rattle.setl_gen.proofs.Emitting.{after_nothing, then_made}
 use Rattle.setl_gen.proofs.Rounds.{done_made, exprs_round, arguments_round, count_is, levels_is, iterator_begun, iterator_headed}
-use Rattle.setl_gen.proofs.ExprKinds.{choose_is, former_is, selection_is, quantified_is, got, of_kind}
+use Rattle.setl_gen.proofs.ExprKinds.{former_is, selection_is, as_kind}
 use Rattle.setl_gen.proofs.Constructs.{apply_made, choose_made, former_made, selection_made, quantified_made, call_made}
 use Rattle.setl_gen.proofs.Links.{unary_is, binary_is, connect_is, as_link, binary_made, ternary_made, connected, chain_round, links_made, chain_made}
 use Rattle.setl_gen.proofs.exprs.+expr.Goals as goal
@@ -66,10 +67,8 @@ links-loop-l-preserved t c = λ u g.
 pub links-returns : goal.links-returns
 links-returns t c = links_made c.args.line c.args.ls.now c.loop-l.l-index (held c.args.to.now) (held c.loop-l.to) c.loop-l-test.false c.loop-l.invariant
 
-pub expr-returns-in_ok-links-in-Chain : goal.expr-returns-in_ok-links-in-Chain
-expr-returns-in_ok-links-in-Chain t c =
-    chain_made c.args.line c.args.e.now c.in-Chain.first c.get.result.now c.in-Chain.ls c.as_slice-in-Chain.result.now (held c.args.to.now) (held c.expr.new.to) (held c.links.new.to)
-    c.in-Chain.is c.get.ensures c.as_slice-in-Chain.ensures c.in_ok-expr-in-Chain.ensures c.in_ok-links-in-Chain.ensures
+pub chain-returns : goal.chain-returns
+chain-returns t c = c.in_ok-links.ensures (plain_expr c.args.first.now) (held c.args.to.now) c.in_ok-expr.ensures
 
 pub link-returns-in-Unary : goal.link-returns-in-Unary
 link-returns-in-Unary t c =
@@ -105,93 +104,45 @@ connect-returns t c =
     connected c.args.line c.args.k (plain_expr c.args.x.now) c.in_ok-test.test (here s3) s (held c.step.new.self) (held c.expr.new.to) s3 (held c.decide_here.new.self)
     c.in_ok-test.ensures.place c.in_ok-test.ensures.code c.in_ok-expr.ensures c.in_ok-put.ensures refl c.in_ok-decide_here.ensures
 
-pub expr-returns-in_ok-jump_here-in-Choose : goal.expr-returns-in_ok-jump_here-in-Choose
-expr-returns-in_ok-jump_here-in-Choose t c =
-    let line = c.args.line in
-    let t = c.in-Choose.t in
-    let a = c.in-Choose.a in
-    let b = c.in-Choose.b in
-    let s = held c.args.to.now in
-    let s1 = held c.expr-in-Choose.new.to in
-    let s2 = held c.step.new.self in
-    let s3 = held c.expr-in-Choose-2.new.to in
-    let s4 = held c.step-in-Choose.new.self in
-    let s5 = held c.unless_here.new.self in
-    let s6 = held c.expr-in-Choose-3.new.to in
-    let u = held c.jump_here.new.self in
-    let e1 = got line c.get-in-Choose.result.now t s s1 c.in_ok-expr-in-Choose.ensures c.get-in-Choose.ensures in
-    let e3 = got line c.get-in-Choose-2.result.now a s2 s3 c.in_ok-expr-in-Choose-2.ensures c.get-in-Choose-2.ensures in
-    let e6 = got line c.get-in-Choose-3.result.now b s5 s6 c.in_ok-expr-in-Choose-3.ensures c.get-in-Choose-3.ensures in
-    of_kind line c.args.e.now (plain.Choose (plain_expr t) (plain_expr a) (plain_expr b)) s u (choose_is c.args.e.now t a b c.in-Choose.is)
-    (choose_made line (plain_expr t) (plain_expr a) (plain_expr b) c.in_ok-test-in-Choose.test c.in_ok-over-in-Choose.over (here s4) (here s6) s s1 s2 s3 s4 s5 s6 u
-    e1 c.in_ok-test-in-Choose.ensures.place c.in_ok-test-in-Choose.ensures.code e3 c.in_ok-over-in-Choose.ensures.place c.in_ok-over-in-Choose.ensures.code refl c.in_ok-unless_here-in-Choose.ensures e6 refl c.in_ok-jump_here-in-Choose.ensures)
+pub choose-returns : goal.choose-returns
+choose-returns t c =
+    let s4 = held c.step-2.new.self in
+    let s6 = held c.expr-3.new.to in
+    choose_made c.args.line (plain_expr c.args.t.now) (plain_expr c.args.a.now) (plain_expr c.args.b.now) c.in_ok-test.test c.in_ok-over.over (here s4) (here s6)
+    (held c.args.to.now) (held c.expr.new.to) (held c.step.new.self) (held c.expr-2.new.to) s4 (held c.unless_here.new.self) s6 (held c.jump_here.new.self)
+    c.in_ok-expr.ensures c.in_ok-test.ensures.place c.in_ok-test.ensures.code c.in_ok-expr-2.ensures c.in_ok-over.ensures.place c.in_ok-over.ensures.code refl c.in_ok-unless_here.ensures c.in_ok-expr-3.ensures refl c.in_ok-jump_here.ensures
 
-pub expr-returns-in_ok-next_here-in-Former : goal.expr-returns-in_ok-next_here-in-Former
-expr-returns-in_ok-next_here-in-Former t c =
-    let line = c.args.line in
-    let k = c.in-Former.k in
-    let x = c.in-Former.e in
-    let is = c.in-Former.is' in
-    let t = c.in-Former.t in
-    let s = held c.args.to.now in
-    let s1 = held c.put-in-Former.new.self in
-    let s2 = held c.iterators.new.to in
-    let s3 = held c.condition.new.to in
-    let s4 = held c.expr-in-Former.new.to in
-    let s5 = held c.add_and_go_on.new.to in
-    let u = held c.next_here.new.self in
-    let at = c.in_ok-first-in-Former.first in
-    let a = c.in_ok-first-in-Former.innermost in
-    let o : opened line (plain_iterators is) s1 ≡ Some (at, s2, a) = ap (λ (r : List Iterator). opened line (plain_iterators r) s1) (sym c.as_slice-in-Former.ensures) ∙ c.in_ok-first-in-Former.ensures in
-    let e4 = got line c.get-in-Former.result.now x s3 s4 c.in_ok-expr-in-Former.ensures c.get-in-Former.ensures in
-    of_kind line c.args.e.now (plain.Former k (plain_expr x) (plain_iterators is) (condition_of (option_map plain_expr t))) s u (former_is c.args.e.now k x is t c.in-Former.is)
-    (former_made line k (plain_expr x) (plain_iterators is) (condition_of (option_map plain_expr t)) at a c.len.result s s1 s2 s3 s4 s5 u
-    c.in_ok-put-in-Former.ensures o c.in_ok-condition-in-Former.ensures e4 (c.len.ensures ∙ levels_is is) c.in_ok-add_and_go_on-in-Former.ensures c.in_ok-next_here-in-Former.ensures)
+pub former-returns : goal.former-returns
+former-returns t c =
+    former_made c.args.line c.args.k (plain_expr c.args.e.now) (plain_iterators c.args.is.now) (condition_of (option_map plain_expr c.args.t.now)) c.in_ok-first.first c.in_ok-first.innermost (length c.args.is.now)
+    (held c.args.to.now) (held c.put.new.self) (held c.iterators.new.to) (held c.condition.new.to) (held c.expr.new.to) (held c.add_and_go_on.new.to) (held c.next_here.new.self)
+    c.in_ok-put.ensures c.in_ok-first.ensures c.in_ok-condition.ensures c.in_ok-expr.ensures (levels_is c.args.is.now) c.in_ok-add_and_go_on.ensures c.in_ok-next_here.ensures
 
-pub expr-returns-in_ok-next_here-in-Selection : goal.expr-returns-in_ok-next_here-in-Selection
-expr-returns-in_ok-next_here-in-Selection t c =
-    let line = c.args.line in
-    let k = c.in-Selection.k in
-    let b = c.in-Selection.b in
-    let es = c.in-Selection.es in
-    let x = c.in-Selection.c in
-    let s = held c.args.to.now in
-    let s1 = held c.put-in-Selection.new.self in
-    let s2 = held c.exprs.new.to in
-    let s3 = held c.begin_selection.new.to in
-    let s4 = held c.expr-in-Selection.new.to in
-    let s5 = held c.keep_or_drop.new.to in
-    let u = held c.next_here-in-Selection.new.self in
-    let e2 = c.in_ok-exprs-in-Selection.ensures ∙ ap (λ (r : List Expr). after (code.exprs line (plain_exprs r)) s1) c.as_slice-in-Selection.ensures in
-    let e4 = got line c.get-in-Selection.result.now x s3 s4 c.in_ok-expr-in-Selection.ensures c.get-in-Selection.ensures in
-    of_kind line c.args.e.now (plain.Selection k (plain_binding b) (plain_exprs es) (plain_expr x)) s u (selection_is c.args.e.now k b es x c.in-Selection.is)
-    (selection_made line k (plain_binding b) (plain_exprs es) (plain_expr x) c.len-in-Selection.result c.in_ok-next-in-Selection.next s s1 s2 s3 s4 s5 u
-    c.in_ok-put-in-Selection.ensures e2 (c.len-in-Selection.ensures ∙ count_is es) c.in_ok-next-in-Selection.ensures.place c.in_ok-next-in-Selection.ensures.code e4 c.in_ok-keep_or_drop-in-Selection.ensures c.in_ok-next_here-in-Selection.ensures)
+pub selection-returns : goal.selection-returns
+selection-returns t c =
+    selection_made c.args.line c.args.k (plain_binding c.args.b.now) (plain_exprs c.args.es.now) (plain_expr c.args.c.now) (length c.args.es.now) c.in_ok-next.next
+    (held c.args.to.now) (held c.put.new.self) (held c.exprs.new.to) (held c.begin_selection.new.to) (held c.expr.new.to) (held c.keep_or_drop.new.to) (held c.next_here.new.self)
+    c.in_ok-put.ensures c.in_ok-exprs.ensures (count_is c.args.es.now) c.in_ok-next.ensures.place c.in_ok-next.ensures.code c.in_ok-expr.ensures c.in_ok-keep_or_drop.ensures c.in_ok-next_here.ensures
 
-pub expr-returns-in_ok-end_undecided-in-Quantified : goal.expr-returns-in_ok-end_undecided-in-Quantified
-expr-returns-in_ok-end_undecided-in-Quantified t c =
-    let line = c.args.line in
-    let q = c.in-Quantified.q in
-    let is = c.in-Quantified.is' in
-    let x = c.in-Quantified.c in
-    let outer = c.enter-outer.result in
-    let inner = c.leave-inner.result in
-    let s = held c.args.to.now in
-    let s1 = held c.enter-outer.new.self in
-    let s2 = held c.iterators-in-Quantified.new.to in
-    let s3 = held c.expr-in-Quantified.new.to in
-    let s4 = held c.leave_decided.new.to in
-    let s5 = held c.next_here-in-Quantified.new.self in
-    let s6 = held c.leave-inner.new.self in
-    let u = held c.end_undecided.new.to in
-    let at = c.in_ok-first-in-Quantified.first in
-    let a = c.in_ok-first-in-Quantified.innermost in
-    let o : opened line (plain_iterators is) s1 ≡ Some (at, s2, a) = ap (λ (r : List Iterator). opened line (plain_iterators r) s1) (sym c.as_slice-in-Quantified.ensures) ∙ c.in_ok-first-in-Quantified.ensures in
-    let e3 = got line c.get-in-Quantified.result.now x s2 s3 c.in_ok-expr-in-Quantified.ensures c.get-in-Quantified.ensures in
-    let e7 = c.in_ok-end_undecided-in-Quantified.ensures ∙ ap (λ (r : List Iterator). with_end_undecided line q (plain_iterators r) inner s6) c.as_slice-in-Quantified-2.ensures in
-    of_kind line c.args.e.now (plain.Quantified q (plain_iterators is) (plain_expr x)) s u (quantified_is c.args.e.now q is x c.in-Quantified.is)
-    (quantified_made line q (plain_iterators is) (plain_expr x) outer inner at a c.len-in-Quantified.result s s1 s2 s3 s4 s5 s6 u
-    c.enter-outer.ensures.outer c.enter-outer.ensures.rest o e3 (c.len-in-Quantified.ensures ∙ levels_is is) c.in_ok-leave_decided-in-Quantified.ensures c.in_ok-next_here-in-Quantified.ensures c.leave-inner.ensures.inner c.leave-inner.ensures.rest e7)
+pub quantified-returns : goal.quantified-returns
+quantified-returns t c =
+    quantified_made c.args.line c.args.q (plain_iterators c.args.is.now) (plain_expr c.args.c.now) c.enter-outer.result c.leave-inner.result c.in_ok-first.first c.in_ok-first.innermost (length c.args.is.now)
+    (held c.args.to.now) (held c.enter-outer.new.self) (held c.iterators.new.to) (held c.expr.new.to) (held c.leave_decided.new.to) (held c.next_here.new.self) (held c.leave-inner.new.self) (held c.end_undecided.new.to)
+    c.enter-outer.ensures.outer c.enter-outer.ensures.rest c.in_ok-first.ensures c.in_ok-expr.ensures (levels_is c.args.is.now) c.in_ok-leave_decided.ensures c.in_ok-next_here.ensures c.leave-inner.ensures.inner c.leave-inner.ensures.rest c.in_ok-end_undecided.ensures
+
+pub expr-returns-in-Former : goal.expr-returns-in-Former
+expr-returns-in-Former t c =
+    let v : Expr = c.get-in-Former.result.now in
+    let r : List Iterator = c.as_slice-in-Former.result.now in
+    as_kind c.args.line c.args.e.now (plain.Former c.in-Former.k (plain_expr v) (plain_iterators r) (condition_of (option_map plain_expr c.in-Former.t))) (held c.args.to.now) (held c.former.new.to)
+    (former_is c.args.e.now c.in-Former.k v r c.in-Former.t (c.in-Former.is ∙ ap (λ (z : Expr). ex.Former c.in-Former.k z c.in-Former.is' c.in-Former.t) (sym c.get-in-Former.ensures) ∙ ap (λ (z : List Iterator). ex.Former c.in-Former.k v z c.in-Former.t) (sym c.as_slice-in-Former.ensures))) c.former.result c.former.ensures
+
+pub expr-returns-in-Selection : goal.expr-returns-in-Selection
+expr-returns-in-Selection t c =
+    let r : List Expr = c.as_slice-in-Selection.result.now in
+    let v : Expr = c.get-in-Selection.result.now in
+    as_kind c.args.line c.args.e.now (plain.Selection c.in-Selection.k (plain_binding c.in-Selection.b) (plain_exprs r) (plain_expr v)) (held c.args.to.now) (held c.selection.new.to)
+    (selection_is c.args.e.now c.in-Selection.k c.in-Selection.b r v (c.in-Selection.is ∙ ap (λ (z : List Expr). ex.Selection c.in-Selection.k c.in-Selection.b z c.in-Selection.c) (sym c.as_slice-in-Selection.ensures) ∙ ap (λ (z : Expr). ex.Selection c.in-Selection.k c.in-Selection.b r z) (sym c.get-in-Selection.ensures))) c.selection.result c.selection.ensures
 
 pub head-returns-clause-place : goal.head-returns-clause-place
 head-returns-clause-place t c =
