@@ -16,6 +16,7 @@ mod machine;
 mod operands;
 mod operating;
 mod outside;
+mod telling;
 mod variables;
 mod watching;
 

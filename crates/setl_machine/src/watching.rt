@@ -13,9 +13,12 @@ ghost use Rattle.setl_machine.specs.declared.end.End.{End};
 use crate::control::Control;
 use crate::declarations::Declarations;
 use crate::end::End;
+use crate::machine::run_whole;
+use crate::telling::step_telling;
 use setl_io::{Sink, Source};
 use setl_store::Store;
-use setl_watch::Watcher;
+use setl_telling::{ends_tell_nothing, events_are};
+use setl_watch::{Watcher, tell_each, told_in_parts};
 
 /// Does instructions up to the end of the run, as `run_whole` does, and tells the watchers each event.
 ///
@@ -42,5 +45,20 @@ pub fn run_watched<I: Source, O: Sink>(
     ensures took { TakesOff (I.left input.old) (I.left input.new) }
     ensures honest { StaysHonest control.old.reader.ended (I.left input.old) control.new.reader.ended (I.left input.new) }
 {
+    told_in_parts();
+    events_are();
+    ends_tell_nothing();
+    for steps in 0..u64::MAX {
+        if watchers.is_empty() {
+            return run_whole(declarations, store, control, input, out);
+        }
+        let events = match step_telling(declarations, store, control, input, out) {
+            Ok(events) => events,
+            Err(end) => return end,
+        };
+        let Ok(()) = tell_each(watchers, &events, reports) else {
+            return End::NoMemory;
+        };
+    }
     End::NoMemory
 }
