@@ -1,8 +1,7 @@
 -- Updates of variables.
 use Rattle.std.proofs.Common.{◌≡◌, ◌∙◌, ◌⊎◌, inl, inr, ◌++◌, append_assoc, ℕ, suc, ◌-◌, ◌≤◌, Bool, true, false, List, [], ◌∷◌, length, map, Option, Some, None, Result, Ok, Err, refl, sym, ap, subst, arith}
-use Rattle.std.specs.Prelude.{cond, IfOk, OnErr}
+use Rattle.std.specs.Prelude.{cond, OnErr}
 use Rattle.std.proofs.lemmas.List.{map-append, length-map}
-use Rattle.std.proofs.lemmas.Result.{IfOk-weaker}
 use Rattle.std.specs.Option.{option_map, unwrap_or}
 use Rattle.setl_value.specs.Datum.{Datum}
 use Rattle.setl_value.specs.code.DatumOf.{part}
@@ -38,7 +37,7 @@ use Rattle.setl_update.specs.declared.taking.TakenOut.{TakenOut}
 use Rattle.setl_telling.specs.Told.{value_held, popped_values}
 use Rattle.setl_machine.specs.Altered.{stores_new, Alters, TakesHeld, Settles, StoresWhole, EndsUpdate}
 use Rattle.setl_machine.specs.Control.{ControlState, world_of, in_world, stood_for}
-use Rattle.setl_machine.specs.Declaring.{Modes, tested, declared_at, Tests, Keeps}
+use Rattle.setl_machine.specs.Declaring.{Modes, tested, Keeps}
 use Rattle.setl_machine.specs.Outcome.{start, IsLikely, Quiet}
 use Rattle.setl_machine.specs.Working.{DoesBy, PopsTop, EndsBy, Halted}
 use Rattle.setl_machine.specs.Tables.{IsDeclared}

@@ -1,15 +1,13 @@
 -- Calls in a row, with what watchers heard of them.
-use Rattle.std.proofs.Common.{◌≡◌, ◌∙◌, inl, ◌+◌, ℕ, List, [], ◌∷◌, ◌++◌, length, map, Option, None, Some, Result, Ok, Err, refl, sym, ap, subst, arith}
-use Rattle.std.specs.Prelude.{slice_get}
-use Rattle.setl_value.specs.Datum.{Datum}
+use Rattle.std.proofs.Common.{◌≡◌, ◌∙◌, inl, ◌+◌, ℕ, List, [], ◌∷◌, ◌++◌, length, map, Option, None, Some, refl, sym, ap, subst, arith}
 use Rattle.setl_run.specs.Events as run
 use Rattle.setl_run.specs.Run.{Store, State, Next, Goes, Ends, settle, step}
 use Rattle.setl_run.specs.Run as runs
 use Rattle.setl_model.specs.Calls.{bindings}
 use Rattle.setl_watch.specs.Notices.{noticed, notice_of}
-use Rattle.setl_watch.specs.Watches.{Watch, Watched, watched, told_each, told_all, ToldInParts}
+use Rattle.setl_watch.specs.Watches.{Watched, watched, told_each, told_all, ToldInParts}
 use Rattle.setl_watch.specs.declared.event.Event.{Event}
-use Rattle.setl_code.specs.Code.{Body, Code, Instr, Step, CallBody}
+use Rattle.setl_code.specs.Code.{Code, Instr, Step, CallBody}
 use Rattle.setl_code.specs.CodeCore.{CodeCore}
 use Rattle.setl_code.specs.Machine.{do_instr, do_step, fetch, machine}
 use Rattle.setl_telling.specs.Told.{events_of, EventsAre, AllFit, BindingsFit, EndsTellNothing}

@@ -1,6 +1,5 @@
 -- What `print` does.
-use Rattle.std.proofs.Common.{◌≡◌, ◌∙◌, ℕ, suc, List, [], refl, sym, ap, subst, Ok, Err, arith}
-use Rattle.std.specs.Prelude.{Result}
+use Rattle.std.proofs.Common.{◌≡◌, ◌∙◌, ℕ, suc, List, refl, sym, ap, subst, Ok, Err, arith}
 use Rattle.std.specs.Global.{Vec}
 use Rattle.setl_value.specs.Datum.{Datum}
 use Rattle.std.specs.Prelude.{Option}
@@ -8,7 +7,7 @@ use Rattle.setl_text.specs.Texts.{print_line}
 use Rattle.setl_run.specs.Run.{settle}
 use Rattle.setl_model.specs.World.{World}
 use Rattle.setl_code.specs.Code.{Code, PrintTop}
-use Rattle.setl_code.specs.CodeCore.{Operand, Pops, popped, CodeCore}
+use Rattle.setl_code.specs.CodeCore.{Operand, CodeCore}
 use Rattle.setl_code.specs.Machine.{machine, on_popped, print_values}
 use Rattle.setl_code.specs.Plain.{plain_code}
 use Rattle.setl_store.specs.Standing.{Standing, over, at_place}

@@ -8,9 +8,9 @@ use Rattle.setl_run.specs.Run.{Store, State, Next, Goes, Ends, Move, Moves, Halt
 use Rattle.setl_run.specs.Variable.{Variable, Global, Own, Bound}
 use Rattle.setl_model.specs.Core.{Selected}
 use Rattle.setl_model.specs.Places.{Taken, TakesOut, IsEmpty, CannotTake, part_at_all, take_out}
-use Rattle.setl_code.specs.Code.{Bracket, Alteration, Putting, Combining, TakingOut, Code, Instr, StoreIn, Alter}
+use Rattle.setl_code.specs.Code.{Bracket, Alteration, Putting, Combining, TakingOut, Code, StoreIn, Alter}
 use Rattle.setl_code.specs.CodeCore.{Held, There, Operand, Result, popped, CodeCore, held, write}
-use Rattle.setl_code.specs.Machine.{on_top, on_popped, on_held, store_in, store_whole, take_from, selected_by, alter, do_instr, machine}
+use Rattle.setl_code.specs.Machine.{store_in, store_whole, take_from, selected_by, alter, do_instr, machine}
 use Rattle.setl_machine.specs.Declaring.{Modes, tested}
 use Rattle.setl_machine.specs.Outcome.{start, next_of, Quiet}
 use Rattle.setl_machine.specs.declared.end.End.TheVariants.{Paused}

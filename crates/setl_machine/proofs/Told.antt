@@ -1,5 +1,5 @@
 -- The events of stores, updates, calls and prints.
-use Rattle.std.proofs.Common.{◌≡◌, ◌∙◌, ℕ, suc, zero, ◌-◌, ◌+◌, Bool, true, false, List, [], ◌∷◌, ◌++◌, length, map, Option, Some, None, Result, Ok, Err, refl, sym, ap, subst, arith}
+use Rattle.std.proofs.Common.{◌≡◌, ◌∙◌, ℕ, ◌-◌, ◌+◌, Bool, true, false, List, [], ◌∷◌, ◌++◌, length, map, Option, Some, None, Result, Ok, Err, refl, sym, ap, subst, arith}
 use Rattle.std.specs.Prelude.{cond, slice_get, OnOk, IfErr}
 use Rattle.std.specs.Global.{Vec}
 use Rattle.std.proofs.lemmas.List.{length-map}
@@ -8,7 +8,6 @@ use Rattle.setl_map.specs.declared.OpFault.{OpFault}
 use Rattle.setl_map.specs.declared.OpFault.TheVariants as fault
 use Rattle.setl_map.specs.Outcome.{Outcome, Gives, Fails, Overspends}
 use Rattle.setl_text.specs.Texts.{print_line}
-use Rattle.setl_run.specs.Events as run
 use Rattle.setl_run.specs.Variable.{Variable, Global, Own, Bound}
 use Rattle.setl_model.specs.Core.{Selected}
 use Rattle.setl_model.specs.Places.{Taken, TakesOut, IsEmpty, CannotTake, part_at_all, take_out}
@@ -19,13 +18,13 @@ use Rattle.setl_watch.specs.declared.event.Event.{Event}
 use Rattle.setl_code.specs.declared.code.Slot.{Slot}
 use Rattle.setl_code.specs.declared.code.Slot.TheVariants as slot
 use Rattle.setl_code.specs.Code.{Bracket, Alteration, Putting, Combining, TakingOut, Body, Code, StoreIn, Alter, CallBody, PrintTop, Instr, Step}
-use Rattle.setl_code.specs.CodeCore.{There, Operand, Pops, popped, CodeCore, held}
+use Rattle.setl_code.specs.CodeCore.{Operand, Pops, popped, CodeCore, held}
 use Rattle.setl_code.specs.Machine.{selected_by, fetch}
 use Rattle.setl_code.specs.MayRun.{HasSlot}
 use Rattle.setl_code.specs.Plain.{Variables, plain_code, plain_slot}
 use Rattle.setl_telling.specs.Told.{value_held, store_told, popped_values, takes_none, none_taken, alter_told, call_told}
 use Rattle.setl_telling.specs.Notes.{told_name, own_slots, variable_of, store_notices, call_notices}
-use Rattle.setl_store.specs.Standing.{Standing, no_world, over, variables, variables_by, variables_in}
+use Rattle.setl_store.specs.Standing.{Standing, no_world, variables, variables_by, variables_in}
 use Rattle.setl_update.specs.Takes.{TakesPart, TakesFrom, Takes}
 use Rattle.setl_update.specs.declared.taking.TakenOut.{TakenOut}
 use Rattle.setl_machine.specs.Altered.{stores_new}

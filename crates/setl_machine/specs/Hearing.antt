@@ -1,5 +1,5 @@
 -- What watchers were told of a run.
-use Rattle.std.specs.Prelude.{◌≡◌, ℕ, List, [], map, Result, Ok, Err, Some}
+use Rattle.std.specs.Prelude.{◌≡◌, ℕ, List, map, Result, Ok, Err, Some}
 use Rattle.std.specs.Global.{Vec}
 use Rattle.setl_run.specs.Events as run
 use Rattle.setl_run.specs.Run.{Next, Goes, Ends}

@@ -1,4 +1,4 @@
-use Rattle.std.proofs.Common.{◌≡◌, ◌∙◌, ℕ, Ok, ap, subst}
+use Rattle.std.proofs.Common.{◌∙◌, Ok, ap, subst}
 use Rattle.setl_machine.specs.Outcome.{seen}
 use Rattle.setl_machine.specs.Working.{TakesLine, WritesLine}
 use Rattle.setl_machine.proofs.Printing.{writes, reads_none, writes_code}

@@ -1,4 +1,4 @@
-use Rattle.std.proofs.Common.{◌∙◌, Ok, Err, sym, subst}
+use Rattle.std.proofs.Common.{◌∙◌, sym, subst}
 use Rattle.setl_code.specs.Plain.{plain_code, plain_instr}
 use Rattle.setl_store.specs.Standing.{variables}
 use Rattle.setl_machine.specs.Control.{stood_for}

@@ -1,5 +1,5 @@
-use Rattle.std.proofs.Common.{◌∙◌, ◌≡◌, [], map, Ok, Err, List, ℕ, ap, sym}
-use Rattle.std.specs.Prelude.{cond, Bool}
+use Rattle.std.proofs.Common.{◌∙◌, [], map, ap, sym}
+use Rattle.std.specs.Prelude.{cond}
 use Rattle.setl_code.specs.Code.{Alter}
 use Rattle.setl_code.specs.Plain.{plain_slot, plain_bracket, plain_alteration}
 use Rattle.setl_store.specs.Standing.{variables}

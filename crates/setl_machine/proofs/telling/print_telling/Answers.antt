@@ -1,4 +1,4 @@
-use Rattle.std.proofs.Common.{◌≡◌, ◌∙◌, [], ◌∷◌, ℕ, Ok, ap, subst}
+use Rattle.std.proofs.Common.{◌∙◌, [], ◌∷◌, ℕ, Ok, ap, subst}
 use Rattle.setl_watch.specs.Notices.{Printed, without_last}
 use Rattle.setl_code.specs.Code.{PrintTop}
 use Rattle.setl_code.specs.Plain.{plain_code}
