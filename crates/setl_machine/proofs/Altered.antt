@@ -1,8 +1,7 @@
 -- Updates of variables.
 use Rattle.std.proofs.Common.{◌≡◌, ◌∙◌, ◌⊎◌, inl, inr, ◌++◌, append_assoc, ℕ, suc, ◌-◌, ◌≤◌, Bool, true, false, List, [], ◌∷◌, length, map, Option, Some, None, Result, Ok, Err, refl, sym, ap, subst, arith}
-use Rattle.std.specs.Prelude.{cond, IfOk, OnErr}
+use Rattle.std.specs.Prelude.{cond, OnErr}
 use Rattle.std.proofs.lemmas.List.{map-append, length-map}
-use Rattle.std.proofs.lemmas.Result.{IfOk-weaker}
 use Rattle.std.specs.Option.{option_map, unwrap_or}
 use Rattle.setl_value.specs.Datum.{Datum}
 use Rattle.setl_value.specs.code.DatumOf.{part}
@@ -35,9 +34,10 @@ use Rattle.setl_update.specs.Takes.{TakesPart, TakesFrom, Takes}
 use Rattle.setl_update.specs.Updates.{Leaves, Updates}
 use Rattle.setl_update.specs.declared.selectors.Selector.{Selector}
 use Rattle.setl_update.specs.declared.taking.TakenOut.{TakenOut}
-use Rattle.setl_machine.specs.Altered.{Alters, TakesHeld, Settles, StoresWhole, EndsUpdate}
+use Rattle.setl_telling.specs.Told.{value_held, popped_values}
+use Rattle.setl_machine.specs.Altered.{stores_new, Alters, TakesHeld, Settles, StoresWhole, EndsUpdate}
 use Rattle.setl_machine.specs.Control.{ControlState, world_of, in_world, stood_for}
-use Rattle.setl_machine.specs.Declaring.{Modes, tested, declared_at, Tests, Keeps}
+use Rattle.setl_machine.specs.Declaring.{Modes, tested, Keeps}
 use Rattle.setl_machine.specs.Outcome.{start, IsLikely, Quiet}
 use Rattle.setl_machine.specs.Working.{DoesBy, PopsTop, EndsBy, Halted}
 use Rattle.setl_machine.specs.Tables.{IsDeclared}
@@ -468,11 +468,23 @@ altered modes old mid new from to line what slot bs vs e p m a =
           (b.1 old.core.now.operands rest),
     )
 
--- the same of a call that may want memory
-pub altered_by : {E : Type 0} (modes : Modes) (old mid new : Standing) (from to : ControlState) (line : ℕ) (declared : declared.Alteration) (what : Alteration) (slot : Slot) (bs : List Bracket) (vs : List (Option Datum)) (at : List Selected) (r : Result End E) →
-    popped (length bs) [] old.core.now.operands ≡ Pops vs mid.core.now.operands → mid ≡ record old { core = over mid.core.now.operands old.core } → at ≡ selected_by (map plain_bracket bs) vs → plain_alteration declared ≡ what → IfOk r (λ e. Alters modes mid from line what (plain_slot (variables mid.core) slot) at new to e) →
-    IfOk r (λ e. DoesBy modes old from line (Alter (plain_alteration declared) (plain_slot (variables old.core) slot) (map plain_bracket bs)) new to e)
-altered_by modes old mid new from to line declared what slot bs vs at r p m s is h =
-    IfOk-weaker r (λ e. Alters modes mid from line what (plain_slot (variables mid.core) slot) at new to e) (λ e. DoesBy modes old from line (Alter (plain_alteration declared) (plain_slot (variables old.core) slot) (map plain_bracket bs)) new to e)
-    (λ e a. subst (λ w. DoesBy modes old from line (Alter w (plain_slot (variables old.core) slot) (map plain_bracket bs)) new to e) (sym is)
-    (altered modes old mid new from to line what slot bs vs e p m (subst (λ ss. Alters modes mid from line what (plain_slot (variables mid.core) slot) ss new to e) s a))) h
+-- the same by the alteration as the code has it
+pub altered_by : (modes : Modes) (old mid new : Standing) (from to : ControlState) (line : ℕ) (declared : declared.Alteration) (what : Alteration) (slot : Slot) (bs : List Bracket) (vs : List (Option Datum)) (at : List Selected) (e : End) →
+    popped (length bs) [] old.core.now.operands ≡ Pops vs mid.core.now.operands → mid ≡ record old { core = over mid.core.now.operands old.core } → at ≡ selected_by (map plain_bracket bs) vs → plain_alteration declared ≡ what → Alters modes mid from line what (plain_slot (variables mid.core) slot) at new to e →
+    DoesBy modes old from line (Alter (plain_alteration declared) (plain_slot (variables old.core) slot) (map plain_bracket bs)) new to e
+altered_by modes old mid new from to line declared what slot bs vs at e p m s is a =
+    subst (λ w. DoesBy modes old from line (Alter w (plain_slot (variables old.core) slot) (map plain_bracket bs)) new to e) (sym is)
+    (altered modes old mid new from to line what slot bs vs e p m (subst (λ ss. Alters modes mid from line what (plain_slot (variables mid.core) slot) ss new to e) s a))
+
+-- whether something was taken out, by what the operands and the variable were before
+pub stores_popped : (old mid : Standing) (from : ControlState) (declared : declared.Alteration) (end : Taking) (slot : Slot) (bs : List Bracket) (vs : List (Option Datum)) (at : List Selected) (b : Bool) →
+    popped (length bs) [] old.core.now.operands ≡ Pops vs mid.core.now.operands → mid ≡ record old { core = over mid.core.now.operands old.core } → at ≡ selected_by (map plain_bracket bs) vs → plain_alteration declared ≡ TakingOut end → b ≡ stores_new (TakingOut end) (value_held (held (plain_slot (variables mid.core) slot) mid.core)) at from.turns →
+    b ≡ stores_new (plain_alteration declared) (value_held (held (plain_slot (variables old.core) slot) old.core)) (selected_by (map plain_bracket bs) (popped_values (popped (length (map plain_bracket bs)) [] old.core.now.operands))) from.turns
+stores_popped old mid from declared end slot bs vs at b p m s is h =
+    let x = plain_slot (variables old.core) slot in
+    let xs = mid.core.now.operands in
+    h
+    ∙ ap (λ (t : Standing). stores_new (TakingOut end) (value_held (held (plain_slot (variables t.core) slot) t.core)) at from.turns) m
+    ∙ ap (λ u. stores_new (TakingOut end) (value_held u) at from.turns) (held_in_world x old.core.world xs old.core)
+    ∙ ap (λ ss. stores_new (TakingOut end) (value_held (held x old.core)) ss from.turns) (s ∙ sym (ap (λ q. selected_by (map plain_bracket bs) (popped_values q)) (ap (λ j. popped j [] old.core.now.operands) (length-map bs plain_bracket) ∙ p)))
+    ∙ ap (λ a. stores_new a (value_held (held x old.core)) (selected_by (map plain_bracket bs) (popped_values (popped (length (map plain_bracket bs)) [] old.core.now.operands))) from.turns) (sym is)

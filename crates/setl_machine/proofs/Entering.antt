@@ -1,9 +1,12 @@
 -- What a call of a body does.
-use Rattle.std.proofs.Common.{◌≡◌, ◌∙◌, ℕ, zero, suc, ◌+◌, List, [], ◌∷◌, length, Option, None, Some, refl, sym, ap, subst, arith}
-use Rattle.std.specs.Prelude.{slice_get, IfSome}
+use Rattle.std.proofs.Common.{◌≡◌, ◌∙◌, ℕ, zero, suc, ◌+◌, List, [], ◌∷◌, length, map, Option, None, Some, Result, Ok, Err, refl, sym, ap, subst, arith}
+use Rattle.std.specs.Prelude.{slice_get, IfSome, IfOk, OnOk}
+use Rattle.std.specs.Global.{Vec}
 use Rattle.std.specs.Option.{option_map}
 use Rattle.std.proofs.lemmas.List.{length-map}
 use Rattle.setl_value.specs.Datum.{Datum}
+use Rattle.setl_value.specs.code.DatumOf.{part}
+use Rattle.setl_value.specs.declared.Value.{Value}
 use Rattle.setl_program.specs.ProgramOf.{parameter_of}
 use Rattle.setl_run.specs.Events.{Called, Unfit, Stopped}
 use Rattle.setl_run.specs.Turns.{left_after}
@@ -14,17 +17,19 @@ use Rattle.setl_model.specs.World.{World, go_with}
 use Rattle.setl_code.specs.declared.code.Body as declared
 use Rattle.setl_code.specs.Code.{Body, Code, CallBody}
 use Rattle.setl_code.specs.Plain.{plain_body, plain_bodies, plain_code}
-use Rattle.setl_code.specs.CodeCore.{There, Operand, value_of, Pops, pop_before, popped, CodeCore, holding, cleared, variables_of, write}
+use Rattle.setl_code.specs.CodeCore.{There, Operand, value_of, Pops, Lacks, pop_before, popped, CodeCore, holding, cleared, variables_of, write}
 use Rattle.setl_code.specs.Machine.{machine, turn, call_body, on_popped}
 use Rattle.setl_store.specs.Bodies.{with_stores, entered}
+use Rattle.setl_store.specs.Operands.{TakesOff}
 use Rattle.setl_store.specs.Standing.{Standing, over}
 use Rattle.setl_machine.specs.Control.{ControlState, world_of, in_world, stood_for}
 use Rattle.setl_machine.specs.Declaring.{Modes, tested, AreOfMain, IsBare}
 use Rattle.setl_machine.specs.Outcome.{start, next_of, Quiet}
-use Rattle.setl_machine.specs.Working.{DoesBy, HasParameters}
+use Rattle.setl_machine.specs.Working.{DoesBy, HasParameters, Halted, TakesArguments, Begins}
+use Rattle.setl_machine.specs.declared.end.End.{End}
 use Rattle.setl_machine.specs.declared.end.End.TheVariants as end
 use Rattle.setl_machine.proofs.Declared.{AllTaken, TakesAll, parameters_taken}
-use Rattle.setl_machine.proofs.Working.{write_in_world}
+use Rattle.setl_machine.proofs.Working.{stops_with, write_in_world}
 
 -- ---- bodies
 
@@ -99,3 +104,52 @@ called modes old mid new from to body line count vs main bare h e m s t n =
 pub each_value : (b : Option declared.Body) (n count : ℕ) → IfSome b (λ b. length b.parameters ≡ count) → n ≡ count → IfSome b (λ b. n ≡ length b.parameters)
 each_value None n count h e = tt
 each_value (Some b) n count h e = e ∙ sym h
+
+-- ---- its parts
+
+-- no arguments are there
+pub no_body : (b : Option Body) (n : ℕ) → HasParameters b None → HasParameters b (Some n) → ⊥
+no_body None n h g = g
+no_body (Some b) n h g = h
+
+pub too_few : (b : Option Body) (n m : ℕ) (xs : List Operand) → HasParameters b (Some n) → popped n [] xs ≡ Lacks → HasParameters b (Some m) → popped m [] xs ≡ Lacks
+too_few None n m xs h e g = absurd h
+too_few (Some b) n m xs h e g = ap (λ j. popped j [] xs) (sym g ∙ h) ∙ e
+
+lacks_arguments : (n line : ℕ) (b : Option Body) (k : CodeCore) → ((count : ℕ) → HasParameters b (Some count) → popped count [] k.now.operands ≡ Lacks) → Halted (call_body n b line k) end.Stuck
+lacks_arguments n line None k h = refl
+lacks_arguments n line (Some b) k h = subst (λ p. Halted (on_popped p (λ vs ys. turn k (λ d. enter_move n b line vs ys d))) end.Stuck) (sym (h (length b.parameters) refl)) refl
+
+pub call_lacks : (modes : Modes) (old mid : Standing) (from : ControlState) (n line : ℕ) → TakesArguments n old None mid → DoesBy modes old from line (CallBody n) mid from end.Stuck
+call_lacks modes old mid from n line t =
+    let does = stops_with old mid from from line (CallBody n) mid.core.now.operands end.Stuck t.0 refl (λ rest. lacks_arguments n line (slice_get (plain_code old.code).bodies n) (stood_for old.core from rest) t.1) in
+    (does.0, does.1 modes)
+
+no_turn : (n line : ℕ) (b : Option Body) (k : CodeCore) (vs : List (Option Datum)) (ys : List Operand) → HasParameters b (Some (length vs)) → popped (length vs) [] k.now.operands ≡ Pops vs ys → left_after 1 k.world.left ≡ None → Halted (call_body n b line k) end.Spent
+no_turn n line None k vs ys h e s = absurd h
+no_turn n line (Some b) k vs ys h e s =
+    subst (λ p. Halted (on_popped p (λ us zs. turn k (λ d. enter_move n b line us zs d))) end.Spent) (sym (ap (λ j. popped j [] k.now.operands) h ∙ e))
+    (subst (λ l. Halted (go_with holding l k (λ d. enter_move n b line vs ys d)) end.Spent) (sym s) refl)
+
+pub begun : (modes : Modes) (old mid new : Standing) (from to : ControlState) (n line : ℕ) (vs : List (Option Datum)) (e : End) → AreOfMain modes → IsBare (plain_code old.code) → TakesArguments n old (Some vs) mid → Begins n vs mid from new to e → DoesBy modes old from line (CallBody n) new to e
+begun modes old mid new from to n line vs end.Paused main bare t g = called modes old mid new from to n line (length vs) vs main bare t.1 t.2 t.0 (g.0).0 (g.0).1 g.1
+begun modes old mid new from to n line vs end.Spent main bare t g =
+    let does = stops_with old new from to line (CallBody n) mid.core.now.operands end.Spent (g.1 ∙ t.0) (g.0).1 (λ rest. no_turn n line (slice_get (plain_code old.code).bodies n) (stood_for old.core from rest) vs mid.core.now.operands t.1 t.2 (g.0).0) in
+    (does.0, does.1 modes)
+begun modes old mid new from to n line vs e main bare t g = absurd g
+
+pub takes_arguments : {E : Type 0} (old new : Standing) (n count : ℕ) (r : Result (Option (Vec (Option Value))) E) → HasParameters (slice_get (plain_code old.code).bodies n) (Some count) → IfOk r (λ vs. TakesOff count old.core.now.operands (option_map (λ all. map part all.items) vs) new.core.now.operands) → OnOk r (new ≡ record old { core = over new.core.now.operands old.core }) →
+    IfOk r (λ vs. TakesArguments n old (option_map (λ all. map part all.items) vs) new)
+takes_arguments old new n count (Err e) h t m = tt
+takes_arguments old new n count (Ok None) h t m = (m, λ other g. too_few (slice_get (plain_code old.code).bodies n) count other old.core.now.operands h t g)
+takes_arguments old new n count (Ok (Some vs)) h t m =
+    let many : count ≡ length (map part vs.items) = omega (arith, popped_count count [] (map part vs.items) old.core.now.operands new.core.now.operands t) in
+    (m, subst (λ j. HasParameters (slice_get (plain_code old.code).bodies n) (Some j)) many h, subst (λ j. popped j [] old.core.now.operands ≡ Pops (map part vs.items) new.core.now.operands) many t)
+
+pub each_argument : {E : Type 0} (old new : Standing) (n count : ℕ) (r : Result (Option (Vec (Option Value))) E) → IfSome (slice_get old.code.bodies n) (λ b. length b.parameters ≡ count) → IfOk r (λ vs. TakesOff count old.core.now.operands (option_map (λ all. map part all.items) vs) new.core.now.operands) → OnOk r (new ≡ record old { core = over new.core.now.operands old.core }) →
+    IfOk r (λ vs. IfSome vs (λ all. IfSome (slice_get new.code.bodies n) (λ b. length all.items ≡ length b.parameters)))
+each_argument old new n count (Err e) h t m = tt
+each_argument old new n count (Ok None) h t m = tt
+each_argument old new n count (Ok (Some vs)) h t m =
+    let many : length vs.items ≡ count = omega (arith, length-map vs.items part, popped_count count [] (map part vs.items) old.core.now.operands new.core.now.operands t) in
+    subst (λ (s : Standing). IfSome (slice_get s.code.bodies n) (λ b. length vs.items ≡ length b.parameters)) (sym m) (each_value (slice_get old.code.bodies n) (length vs.items) count h many)

@@ -1,3 +1,4 @@
+pub mod Cases
 pub mod Silence
 pub mod Stays
 pub mod RunLaws
@@ -15,3 +16,7 @@ pub mod Places
 pub mod Finding
 pub mod Ending
 pub mod Freely
+pub mod Printing
+pub mod Staying
+pub mod Told
+pub mod Hearing

@@ -41,14 +41,14 @@ said_behind s (Goes t) = refl
 said_behind s (Ends e t) = refl
 
 -- the state that a call came to
-record Came (x : Next CodeCore) (old new : Seen) (k : CodeCore) : Type 0 where
+pub record Came (x : Next CodeCore) (old new : Seen) (k : CodeCore) : Type 0 where
   pub state : State CodeCore
   pub goes : x ≡ Goes state
   pub core : state.core ≡ k
   pub bytes : Appends old.held new.held state.out
   pub count : NoFault old new
 
-came : (modes : Modes) (x : Next CodeCore) (old new : Seen) (k : CodeCore) → Steps modes x old new k Paused → Came x old new k
+pub came : (modes : Modes) (x : Next CodeCore) (old new : Seen) (k : CodeCore) → Steps modes x old new k Paused → Came x old new k
 came modes (Goes s) old new k h = record { state = s; goes = refl; core = h.0; bytes = h.1; count = h.2 }
 came modes (Ends e s) old new k h = absurd h.0
 

@@ -1,26 +1,25 @@
 -- A step says nothing unless it is a `print`.
-use Rattle.std.proofs.Common.{◌≡◌, ◌⊎◌, inl, inr, ◌∙◌, ℕ, ◌-◌, Bool, true, false, List, [], ◌∷◌, length, Option, None, Some, refl, ap}
+use Rattle.std.proofs.Common.{◌≡◌, ◌⊎◌, inl, inr, ◌∙◌, ℕ, Bool, true, false, List, [], ◌∷◌, length, Option, None, Some, refl, ap}
 use Rattle.std.specs.Prelude.{slice_get}
 use Rattle.setl_value.specs.Datum.{Datum, bool, int, text, atom, tuple, set}
-use Rattle.setl_map.specs.Outcome.{Outcome, Gives, Fails, Overspends}
+use Rattle.setl_map.specs.Outcome.{Outcome}
 use Rattle.setl_map.specs.Operators.{op_of}
 use Rattle.setl_program.specs.declared.kinds.Connective.{Connective}
 use Rattle.setl_program.specs.declared.kinds.Connective.TheVariants.{And, Or, Implies}
 use Rattle.setl_program.specs.Program.{Begin}
 use Rattle.setl_text.specs.Reading.{Reading, Denotes, AtEnd, NotForm, TooWide, TooDeep, read_denotation}
-use Rattle.setl_run.specs.Turns.{left_after}
 use Rattle.setl_run.specs.Events.{End}
 use Rattle.setl_run.specs.Run.{Store, State, Next, Move, Moves, Halts, if_fits, store_all, stored, settle, step}
 use Rattle.setl_run.specs.Variable.{Variable, Global, Own, Bound}
 use Rattle.setl_model.specs.Core.{One, Two, Selected}
-use Rattle.setl_model.specs.World.{branch, go_with}
 use Rattle.setl_model.specs.Iterations.{Started, Starts, Refuses, items_of}
 use Rattle.setl_model.specs.Places.{Taken, TakesOut, IsEmpty, CannotTake, part_at_all, take_out}
 use Rattle.setl_code.specs.Code.{Alteration, Putting, Combining, TakingOut, Body, Code, Step, Instr, Push, PushAtom, PushEof, Load, Take, StoreIn, Operate, Alter, Decides, TestBool, Unless, Jump, DropTop, DupTop, PartsOf, BeginOver, NextOr, BeginOf, AddBelow, LeaveAll, PayRound, CallBody, ReturnTop, KeepAll, GoBack, PrintTop, ReadOne, StopRun}
-use Rattle.setl_code.specs.CodeCore.{Held, There, Gone, Operand, Result, Iterator, PairIterator, Collecting, value_of, Popped, Pops, Lacks, popped, without_iterators, Activation, Copy, CodeCore, holding, held}
-use Rattle.setl_code.specs.Machine.{on_value, on_top, on_popped, on_held, on_rest, turn, with_outcome, store_in, store_whole, take_from, selected_by, alter, begin_over, next_or, Added, Adds, Refused, Nowhere, added, go_added, take_apart, call_body, handed_back, return_to, go_back, push_read, decides, do_instr, do_step, fetch, machine}
+use Rattle.setl_code.specs.CodeCore.{Operand, Result, Iterator, PairIterator, Collecting, popped, without_iterators, Activation, Copy, CodeCore, held}
+use Rattle.setl_code.specs.Machine.{store_in, store_whole, take_from, selected_by, alter, begin_over, next_or, Added, Adds, Refused, Nowhere, added, go_added, take_apart, call_body, handed_back, return_to, go_back, push_read, decides, do_instr, do_step, fetch, machine}
 use Rattle.setl_machine.specs.Declaring.{Modes, tested}
 use Rattle.setl_machine.specs.Outcome.{start, said, AtPrint}
+use Rattle.setl_machine.proofs.Cases.{by_top, by_popped, by_held, by_rest, by_turn, by_outcome, by_branch}
 
 -- the bytes that a move says
 abbrev pub said_by : Move CodeCore → List ℕ
@@ -43,49 +42,8 @@ said_settled modes c k (Halts e) = refl
 abbrev Mute : Move CodeCore → Type 0
 Mute m = said_by m ≡ []
 
--- ---- what goes on by cases
-
-value_mute : (o : Option (Option Datum)) (f : Option Datum → Move CodeCore) → ((v : Option Datum) → Mute (f v)) → Mute (on_value o f)
-value_mute None f h = refl
-value_mute (Some v) f h = h v
-
-top_mute : (xs : List Operand) (f : Option Datum → List Operand → Move CodeCore) → ((v : Option Datum) (ys : List Operand) → Mute (f v ys)) → Mute (on_top xs f)
-top_mute [] f h = refl
-top_mute (o ∷ xs) f h = value_mute (value_of o) (λ v. f v xs) (λ v. h v xs)
-
-popped_mute : (p : Popped) (f : List (Option Datum) → List Operand → Move CodeCore) → ((vs : List (Option Datum)) (ys : List Operand) → Mute (f vs ys)) → Mute (on_popped p f)
-popped_mute Lacks f h = refl
-popped_mute (Pops vs ys) f h = h vs ys
-
-held_mute : (x : Held) (f : Option Datum → Move CodeCore) → ((v : Option Datum) → Mute (f v)) → Mute (on_held x f)
-held_mute Gone f h = refl
-held_mute (There v) f h = h v
-
-rest_mute : (o : Option (List Operand)) (f : List Operand → Move CodeCore) → ((xs : List Operand) → Mute (f xs)) → Mute (on_rest o f)
-rest_mute None f h = refl
-rest_mute (Some xs) f h = h xs
-
-charged_mute : (left : Option ℕ) (k : CodeCore) (f : CodeCore → Move CodeCore) → ((d : CodeCore) → Mute (f d)) → Mute (go_with holding left k f)
-charged_mute None k f h = refl
-charged_mute (Some n) k f h = h (record k { world = record k.world { left = n } })
-
-turn_mute : (k : CodeCore) (f : CodeCore → Move CodeCore) → ((d : CodeCore) → Mute (f d)) → Mute (turn k f)
-turn_mute k f h = charged_mute (left_after 1 k.world.left) k f h
-
-outcome_mute : (o : Outcome) (line : ℕ) (k : CodeCore) (f : Option Datum → CodeCore → Move CodeCore) → ((v : Option Datum) (d : CodeCore) → Mute (f v d)) → Mute (with_outcome o line k f)
-outcome_mute (Gives v n) line k f h = h v (record k { world = record k.world { left = k.world.left - n } })
-outcome_mute (Fails fault) line k f h = refl
-outcome_mute Overspends line k f h = refl
-
-branch_mute : (v : Option Datum) (line : ℕ) (f g : Move CodeCore) → Mute f → Mute g → Mute (branch v line f g)
-branch_mute (Some (bool true)) line f g h i = h
-branch_mute (Some (bool false)) line f g h i = i
-branch_mute (Some (int z)) line f g h i = refl
-branch_mute (Some (text t)) line f g h i = refl
-branch_mute (Some (atom n)) line f g h i = refl
-branch_mute (Some (tuple ps)) line f g h i = refl
-branch_mute (Some (set ms)) line f g h i = refl
-branch_mute None line f g h i = refl
+silent : (e : End) → Mute (Halts e)
+silent e = refl
 
 -- ---- what the instructions do
 
@@ -95,7 +53,7 @@ store_mute (Own body name) line v xs k = refl
 store_mute (Bound former name) line v xs k = refl
 
 whole_mute : (o : Outcome) (line : ℕ) (x : Variable) (xs : List Operand) (k : CodeCore) → Mute (store_whole o line x xs k)
-whole_mute o line x xs k = outcome_mute o line k (λ v d. store_in x line v xs d) (λ v d. store_mute x line v xs d)
+whole_mute o line x xs k = by_outcome Mute silent o line k (λ v d. store_in x line v xs d) (λ v n. store_mute x line v xs _)
 
 taken_mute : (t : Taken) (line : ℕ) (x : Variable) (whole : Option Datum) (at : List Selected) (xs : List Operand) (k : CodeCore) → Mute (take_from t line x whole at xs k)
 taken_mute (TakesOut small v) line x whole at xs k = whole_mute _ line x (Result v ∷ xs) k
@@ -103,10 +61,10 @@ taken_mute IsEmpty line x whole at xs k = refl
 taken_mute (CannotTake fault) line x whole at xs k = refl
 
 alter_mute : (a : Alteration) (line : ℕ) (x : Variable) (whole : Option Datum) (at : List Selected) (xs : List Operand) (k : CodeCore) → Mute (alter a line x whole at xs k)
-alter_mute Putting line x whole at xs k = top_mute xs _ (λ v rest. whole_mute _ line x rest k)
-alter_mute (Combining o) line x whole at xs k = top_mute xs _ (λ v rest. whole_mute _ line x rest k)
+alter_mute Putting line x whole at xs k = by_top Mute silent xs _ (λ v rest. whole_mute _ line x rest k)
+alter_mute (Combining o) line x whole at xs k = by_top Mute silent xs _ (λ v rest. whole_mute _ line x rest k)
 alter_mute (TakingOut t) line x whole at xs k =
-    outcome_mute (part_at_all at whole k.world.left) line k (λ part d. take_from (take_out t part) line x whole at xs d) (λ part d. taken_mute (take_out t part) line x whole at xs d)
+    by_outcome Mute silent (part_at_all at whole k.world.left) line k (λ part d. take_from (take_out t part) line x whole at xs d) (λ part n. taken_mute (take_out t part) line x whole at xs _)
 
 begin_mute : (s : Started) (b : Begin) (line : ℕ) (xs : List Operand) (k : CodeCore) → Mute (begin_over s b line xs k)
 begin_mute (Starts items) b line xs k = refl
@@ -117,11 +75,11 @@ next_mute to [] k = refl
 next_mute to (Result v ∷ xs) k = refl
 next_mute to (Collecting o got ∷ xs) k = refl
 next_mute to (Iterator [] ∷ xs) k = refl
-next_mute to (Iterator (One v ∷ items) ∷ xs) k = turn_mute k _ (λ d. refl)
+next_mute to (Iterator (One v ∷ items) ∷ xs) k = by_turn Mute silent k _ (λ d. refl)
 next_mute to (Iterator (Two v w ∷ items) ∷ xs) k = refl
 next_mute to (PairIterator [] ∷ xs) k = refl
 next_mute to (PairIterator (One v ∷ items) ∷ xs) k = refl
-next_mute to (PairIterator (Two v w ∷ items) ∷ xs) k = turn_mute k _ (λ d. refl)
+next_mute to (PairIterator (Two v w ∷ items) ∷ xs) k = by_turn Mute silent k _ (λ d. refl)
 
 added_mute : (a : Added) (line : ℕ) (k : CodeCore) → Mute (go_added a line k)
 added_mute (Adds xs) line k = refl
@@ -139,16 +97,16 @@ apart_mute n (Some (set ms)) line xs k = refl
 
 call_mute : (n : ℕ) (b : Option Body) (line : ℕ) (k : CodeCore) → Mute (call_body n b line k)
 call_mute n None line k = refl
-call_mute n (Some b) line k = popped_mute (popped (length b.parameters) [] k.now.operands) _ (λ vs rest. turn_mute k _ (λ d. refl))
+call_mute n (Some b) line k = by_popped Mute silent (popped (length b.parameters) [] k.now.operands) _ (λ vs rest. by_turn Mute silent k _ (λ d. refl))
 
 return_mute : (b : Option Body) (v : Option Datum) (k : CodeCore) (cs : List Activation) → Mute (return_to b v k cs)
 return_mute None v k cs = refl
 return_mute (Some b) v k [] = refl
-return_mute (Some b) v k (c ∷ cs) = rest_mute (handed_back k.now.body b.parameters k.now.own (Result v ∷ c.operands)) _ (λ xs. refl)
+return_mute (Some b) v k (c ∷ cs) = by_rest Mute silent (handed_back k.now.body b.parameters k.now.own (Result v ∷ c.operands)) _ (λ xs. refl)
 
 back_mute : (line : ℕ) (cs : List Copy) (k : CodeCore) → Mute (go_back line cs k)
 back_mute line [] k = refl
-back_mute line (c ∷ older) k = turn_mute k _ (λ d. refl)
+back_mute line (c ∷ older) k = by_turn Mute silent k _ (λ d. refl)
 
 read_mute : (r : Reading) (line : ℕ) (k : CodeCore) → Mute (push_read r line k)
 read_mute (Denotes v rest) line k = refl
@@ -158,9 +116,9 @@ read_mute TooWide line k = refl
 read_mute TooDeep line k = refl
 
 decides_mute : (o : Connective) (to : ℕ) (v : Option Datum) (line : ℕ) (xs : List Operand) (k : CodeCore) → Mute (decides o to v line xs k)
-decides_mute And to v line xs k = branch_mute v line _ _ refl refl
-decides_mute Or to v line xs k = branch_mute v line _ _ refl refl
-decides_mute Implies to v line xs k = branch_mute v line _ _ refl refl
+decides_mute And to v line xs k = by_branch Mute silent v line _ _ refl refl
+decides_mute Or to v line xs k = by_branch Mute silent v line _ _ refl refl
+decides_mute Implies to v line xs k = by_branch Mute silent v line _ _ refl refl
 
 -- it prints
 abbrev IsPrint : Instr → Type 0
@@ -172,28 +130,28 @@ Quiet c line i k = Mute (do_instr c line i k)
 -- each instruction but `print` says nothing
 instr_mute : (c : Code) (line : ℕ) (i : Instr) (k : CodeCore) → Quiet c line i k ⊎ IsPrint i
 instr_mute c line (Push v) k = inl refl
-instr_mute c line PushAtom k = inl (turn_mute k _ (λ d. refl))
+instr_mute c line PushAtom k = inl (by_turn Mute silent k _ (λ d. refl))
 instr_mute c line PushEof k = inl refl
-instr_mute c line (Load x) k = inl (held_mute (held x k) _ (λ v. refl))
-instr_mute c line (Take x) k = inl (held_mute (held x k) _ (λ v. refl))
-instr_mute c line (StoreIn x) k = inl (top_mute k.now.operands _ (λ v xs. store_mute x line v xs k))
-instr_mute c line (Operate o n) k = inl (popped_mute (popped n [] k.now.operands) _ (λ vs xs. outcome_mute (op_of o vs k.world.left) line k _ (λ v d. refl)))
-instr_mute c line (Alter a x bs) k = inl (popped_mute (popped (length bs) [] k.now.operands) _ (λ vs xs. held_mute (held x k) _ (λ whole. alter_mute a line x whole (selected_by bs vs) xs k)))
-instr_mute c line (Decides o to) k = inl (top_mute k.now.operands _ (λ v xs. decides_mute o to v line xs k))
-instr_mute c line TestBool k = inl (top_mute k.now.operands _ (λ v xs. branch_mute v line _ _ refl refl))
-instr_mute c line (Unless to) k = inl (top_mute k.now.operands _ (λ v xs. branch_mute v line _ _ refl refl))
+instr_mute c line (Load x) k = inl (by_held Mute silent (held x k) _ (λ v. refl))
+instr_mute c line (Take x) k = inl (by_held Mute silent (held x k) _ (λ v. refl))
+instr_mute c line (StoreIn x) k = inl (by_top Mute silent k.now.operands _ (λ v xs. store_mute x line v xs k))
+instr_mute c line (Operate o n) k = inl (by_popped Mute silent (popped n [] k.now.operands) _ (λ vs xs. by_outcome Mute silent (op_of o vs k.world.left) line k _ (λ v d. refl)))
+instr_mute c line (Alter a x bs) k = inl (by_popped Mute silent (popped (length bs) [] k.now.operands) _ (λ vs xs. by_held Mute silent (held x k) _ (λ whole. alter_mute a line x whole (selected_by bs vs) xs k)))
+instr_mute c line (Decides o to) k = inl (by_top Mute silent k.now.operands _ (λ v xs. decides_mute o to v line xs k))
+instr_mute c line TestBool k = inl (by_top Mute silent k.now.operands _ (λ v xs. by_branch Mute silent v line _ _ refl refl))
+instr_mute c line (Unless to) k = inl (by_top Mute silent k.now.operands _ (λ v xs. by_branch Mute silent v line _ _ refl refl))
 instr_mute c line (Jump to) k = inl refl
-instr_mute c line DropTop k = inl (top_mute k.now.operands _ (λ v xs. refl))
-instr_mute c line DupTop k = inl (top_mute k.now.operands _ (λ v xs. refl))
-instr_mute c line (PartsOf n) k = inl (top_mute k.now.operands _ (λ v xs. apart_mute n v line xs k))
-instr_mute c line (BeginOver b n) k = inl (popped_mute (popped n [] k.now.operands) _ (λ vs xs. begin_mute (items_of b vs) b line xs k))
+instr_mute c line DropTop k = inl (by_top Mute silent k.now.operands _ (λ v xs. refl))
+instr_mute c line DupTop k = inl (by_top Mute silent k.now.operands _ (λ v xs. refl))
+instr_mute c line (PartsOf n) k = inl (by_top Mute silent k.now.operands _ (λ v xs. apart_mute n v line xs k))
+instr_mute c line (BeginOver b n) k = inl (by_popped Mute silent (popped n [] k.now.operands) _ (λ vs xs. begin_mute (items_of b vs) b line xs k))
 instr_mute c line (NextOr to) k = inl (next_mute to k.now.operands k)
 instr_mute c line (BeginOf o) k = inl refl
-instr_mute c line (AddBelow n) k = inl (top_mute k.now.operands _ (λ v xs. added_mute (added n v xs) line k))
-instr_mute c line (LeaveAll n) k = inl (rest_mute (without_iterators n k.now.operands) _ (λ xs. refl))
-instr_mute c line PayRound k = inl (turn_mute k _ (λ d. refl))
+instr_mute c line (AddBelow n) k = inl (by_top Mute silent k.now.operands _ (λ v xs. added_mute (added n v xs) line k))
+instr_mute c line (LeaveAll n) k = inl (by_rest Mute silent (without_iterators n k.now.operands) _ (λ xs. refl))
+instr_mute c line PayRound k = inl (by_turn Mute silent k _ (λ d. refl))
 instr_mute c line (CallBody n) k = inl (call_mute n (slice_get c.bodies n) line k)
-instr_mute c line ReturnTop k = inl (top_mute k.now.operands _ (λ v xs. return_mute (slice_get c.bodies k.now.body) v k k.callers))
+instr_mute c line ReturnTop k = inl (by_top Mute silent k.now.operands _ (λ v xs. return_mute (slice_get c.bodies k.now.body) v k k.callers))
 instr_mute c line KeepAll k = inl refl
 instr_mute c line GoBack k = inl (back_mute line k.kept k)
 instr_mute c line (PrintTop n) k = inr (n, refl)

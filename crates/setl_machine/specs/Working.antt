@@ -1,10 +1,15 @@
 -- What an instruction did.
-use Rattle.std.specs.Prelude.{◌≡◌, ℕ, zero, suc, Bool, true, false, List, [], ◌∷◌, ◌++◌, length, Option, Some, None, Result, Ok, Err}
+use Rattle.std.specs.Prelude.{◌≡◌, ℕ, zero, suc, Bool, true, false, List, [], ◌∷◌, ◌++◌, length, slice_get, Option, Some, None, Result, Ok, Err}
+use Rattle.std.specs.Global.{Vec}
+use Rattle.std.specs.Io.KnownBytes.{Appends}
+use Rattle.setl_io.specs.Faults.{Rose}
+use Rattle.setl_io.specs.Sink.{AppendsPart}
 use Rattle.setl_value.specs.Datum.{Datum, bool}
 use Rattle.setl_value.specs.code.DatumOf.{part}
 use Rattle.setl_value.specs.declared.Value.{Value}
 use Rattle.setl_map.specs.declared.OpFault.{OpFault}
 use Rattle.setl_map.specs.declared.OpFault.TheVariants as fault
+use Rattle.setl_text.specs.Texts.{print_line}
 use Rattle.setl_text.specs.Reading.{NotForm, TooWide, TooDeep, read_denotation}
 use Rattle.setl_text.specs.declared.ReadFault.{ReadFault}
 use Rattle.setl_text.specs.declared.ReadFault.TheVariants as read
@@ -17,12 +22,13 @@ use Rattle.setl_code.specs.declared.code.Instr as code
 use Rattle.setl_code.specs.declared.code.Instr.TheVariants as i
 use Rattle.setl_code.specs.Code.{Body, Instr}
 use Rattle.setl_code.specs.Plain.{plain_code}
-use Rattle.setl_code.specs.CodeCore.{Operand, Result as Holds, CodeCore}
+use Rattle.setl_code.specs.CodeCore.{Operand, Result as Holds, Pops, Lacks, popped, CodeCore}
 use Rattle.setl_code.specs.Machine.{next, on_top, push_read}
-use Rattle.setl_store.specs.Standing.{Standing, over, top_of}
-use Rattle.setl_machine.specs.Control.{ControlState, in_world, stood_for}
+use Rattle.setl_store.specs.Bodies.{entered}
+use Rattle.setl_store.specs.Standing.{Standing, over, at_place, top_of}
+use Rattle.setl_machine.specs.Control.{ControlState, in_world, stood_for, TakesTurn}
 use Rattle.setl_machine.specs.Declaring.{Modes}
-use Rattle.setl_machine.specs.Outcome.{next_of, kind_of, Quiet}
+use Rattle.setl_machine.specs.Outcome.{next_of, kind_of, Quiet, Seen, NoFault, AppendsFront}
 use Rattle.setl_machine.specs.declared.end.End.{End}
 use Rattle.setl_machine.specs.declared.end.End.TheVariants as end
 use Rattle.setl_machine.specs.declared.end.StopKind.TheVariants as kind
@@ -87,11 +93,45 @@ HasParameters None None = Unit {0}
 HasParameters (Some b) (Some n) = length b.parameters ≡ n
 HasParameters b n = ⊥
 
+-- the arguments of the body of this number were taken off, or there is no such body or there are too few
+abbrev pub TakesArguments : ℕ → Standing → Option (List (Option Datum)) → Standing → Type 0
+TakesArguments n old None new =
+    (new ≡ record old { core = over new.core.now.operands old.core })
+    × ((count : ℕ) → HasParameters (slice_get (plain_code old.code).bodies n) (Some count) → popped count [] old.core.now.operands ≡ Lacks)
+TakesArguments n old (Some vs) new =
+    (new ≡ record old { core = over new.core.now.operands old.core })
+    × HasParameters (slice_get (plain_code old.code).bodies n) (Some (length vs))
+    × (popped (length vs) [] old.core.now.operands ≡ Pops vs new.core.now.operands)
+
+-- one turn was taken and the body is at work with these values in its parameters, or no turn is left
+abbrev pub Begins : ℕ → List (Option Datum) → Standing → ControlState → Standing → ControlState → End → Type 0
+Begins n vs old from new to end.Paused = TakesTurn from true to × (new ≡ record old { core = entered n (slice_get (plain_code old.code).bodies n) vs old.core })
+Begins n vs old from new to end.Spent = TakesTurn from false to × (new ≡ old)
+Begins n vs old from new to e = ⊥
+
 -- a component of a tuple, which has `om` behind its last one
 abbrev pub component_of : List (Option Datum) → ℕ → Option Datum
 component_of [] at = None
 component_of (p ∷ ps) zero = p
 component_of (p ∷ ps) (suc at) = component_of ps at
+
+-- ---- printing
+
+-- the line of so many operands, which were taken off; or there are too few
+abbrev pub TakesLine : ℕ → Standing → Result (Vec ℕ) End → Standing → Type 0
+TakesLine n old (Ok line) new =
+    (new ≡ record old { core = over new.core.now.operands old.core })
+    × ((vs : List (Option Datum)) × (popped n [] old.core.now.operands ≡ Pops vs new.core.now.operands) × (line.items ≡ print_line vs))
+TakesLine n old (Err end.Stuck) new = (new ≡ record old { core = over new.core.now.operands old.core }) × (popped n [] old.core.now.operands ≡ Lacks)
+TakesLine n old (Err end.NoMemory) new = Unit {0}
+TakesLine n old (Err e) new = ⊥
+
+-- a line was written, and the code is at the next step
+abbrev pub WritesLine : List ℕ → Standing → Seen → Standing → Seen → End → Type 0
+WritesLine line old from new to end.Paused = (new ≡ record old { core = at_place (suc old.core.now.at) old.core }) × Appends from.held to.held line × NoFault from to
+WritesLine line old from new to end.WriteFault = AppendsPart from.held to.held line × Rose from.faults to.faults × (to.input_faults ≡ from.input_faults)
+WritesLine line old from new to end.NoMemory = AppendsFront from.held to.held line × NoFault from to
+WritesLine line old from new to e = ⊥
 
 -- ---- reading
 
@@ -146,3 +186,11 @@ IsAlone i.Back = ⊥
 IsAlone (i.Print n) = ⊥
 IsAlone i.Read = ⊥
 IsAlone what = Unit {0}
+
+-- its events rest neither on operands nor on slots
+abbrev pub IsToldAlone : code.Instr → Type 0
+IsToldAlone (i.Store x) = ⊥
+IsToldAlone (i.Alter a x bs) = ⊥
+IsToldAlone (i.Call n) = ⊥
+IsToldAlone (i.Print n) = ⊥
+IsToldAlone what = Unit {0}

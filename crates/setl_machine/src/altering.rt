@@ -2,6 +2,7 @@
 
 ghost use Rattle.std.specs.Prelude.{◌≡◌, ◌≤◌, ◌<◌, ◌+◌, ◌^◌, ◌∷◌, [], Some, None, cond, map, option_map, length, IfOk};
 ghost use Rattle.setl_code.specs.Code.{Alter, Putting, Combining, TakingOut};
+ghost use Rattle.setl_code.specs.CodeCore.{held, popped};
 ghost use Rattle.setl_code.specs.Machine.{selected_by};
 ghost use Rattle.setl_code.specs.MayRun.{HasSlot, CanAlter};
 ghost use Rattle.setl_code.specs.Plain.{plain_slot, plain_bracket, plain_alteration};
@@ -9,10 +10,12 @@ ghost use Rattle.setl_map.specs.Operators.{operand_count};
 ghost use Rattle.setl_store.specs.Standing.{variables};
 ghost use Rattle.setl_update.specs.Selectors.{selected};
 ghost use Rattle.setl_value.specs.code.DatumOf.{part};
-ghost use Rattle.setl_machine.specs.Altered.{Alters, TakesHeld, StoresWhole, EndsUpdate};
+ghost use Rattle.setl_telling.specs.Told.{value_held, popped_values};
+ghost use Rattle.setl_machine.specs.Altered.{Alters, TakesHeld, StoresWhole, EndsUpdate, stores_new};
 ghost use Rattle.setl_machine.specs.Declaring.{Modes, modes_of, Serves};
 ghost use Rattle.setl_machine.specs.Tables.{IsDeclared};
 ghost use Rattle.setl_machine.specs.Working.{DoesBy};
+ghost use Rattle.setl_machine.specs.declared.end.End.{End};
 
 use crate::control::Control;
 use crate::declarations::{Declaration, Declarations, kept_copy, refusal};
@@ -32,6 +35,13 @@ struct Target<'p> {
     declared: Option<Declaration<'p>>,
 }
 
+/// How an update ended, and whether it stored a new whole: not where it took something out of an empty part.
+#[derive(Clone, Copy)]
+pub(crate) struct Updated {
+    pub end: End,
+    pub stored: bool,
+}
+
 /// Pops the operands of the selectors, and does to the part of a variable at them what the alteration says. A new whole
 /// that the variable's declaration refuses leaves the variable as it was, and stops the run.
 #[inline(never)]
@@ -43,23 +53,33 @@ pub(crate) fn alter(
     declarations: &Declarations<'_>,
     store: &mut Store<'_>,
     control: &mut Control,
-) -> Result<End, Memory>
+) -> Result<Updated, Memory>
     requires few { store.old.core.now.at + 1 < 2 ^ 64 }
     requires there { HasSlot (length store.old.core.globals) (length store.old.core.now.own) slot }
     requires can { CanAlter what }
     requires serves { Serves declarations.now store.old.code }
-    ensures did { IfOk result (λ end. DoesBy (modes_of declarations.now) store.old control.old line (Alter (plain_alteration what) (plain_slot (variables store.old.core) slot) (map plain_bracket brackets.now)) store.new control.new end) }
+    ensures did { IfOk result (λ updated. DoesBy (modes_of declarations.now) store.old control.old line (Alter (plain_alteration what) (plain_slot (variables store.old.core) slot) (map plain_bracket brackets.now)) store.new control.new updated.end) }
+    ensures stored { IfOk result (λ updated. updated.end ≡ End.Paused → updated.stored ≡ stores_new (plain_alteration what) (value_held (held (plain_slot (variables store.old.core) slot) store.old.core)) (selected_by (map plain_bracket brackets.now) (popped_values (popped (length (map plain_bracket brackets.now)) [] store.old.core.now.operands))) control.old.turns) }
     ensures reader { control.new.reader ≡ control.old.reader }
 {
     let declared = declarations.of_slot(slot, store);
     let Some(values) = store.pop_values(brackets.len())? else {
-        return Ok(End::Stuck);
+        return Ok(Updated {
+            end: End::Stuck,
+            stored: false,
+        });
     };
     let at = selectors(control.alloc, brackets, values)?;
     let target = Target { slot, declared };
     match what {
-        Alteration::Put => put(target, at.as_slice(), line, store, control),
-        Alteration::Combine(by) => combine(by, target, at.as_slice(), line, store, control),
+        Alteration::Put => {
+            let end = put(target, at.as_slice(), line, store, control)?;
+            Ok(Updated { end, stored: true })
+        }
+        Alteration::Combine(by) => {
+            let end = combine(by, target, at.as_slice(), line, store, control)?;
+            Ok(Updated { end, stored: true })
+        }
         Alteration::TakeOut(end) => take_out(end, target, at.as_slice(), line, store, control),
     }
 }
@@ -122,23 +142,34 @@ fn take_out(
     line: u32,
     store: &mut Store<'_>,
     control: &mut Control,
-) -> Result<End, Memory>
+) -> Result<Updated, Memory>
     requires few { store.old.core.now.at + 1 < 2 ^ 64 }
     requires there { HasSlot (length store.old.core.globals) (length store.old.core.now.own) target.slot }
-    ensures did { (modes : Modes) → IsDeclared modes (plain_slot (variables store.old.core) target.entry.slot) target.entry.declared → IfOk result (λ e. Alters modes store.old control.old line (TakingOut end) (plain_slot (variables store.old.core) target.entry.slot) (map selected at.now) store.new control.new e) }
+    ensures did { (modes : Modes) → IsDeclared modes (plain_slot (variables store.old.core) target.entry.slot) target.entry.declared → IfOk result (λ updated. Alters modes store.old control.old line (TakingOut end) (plain_slot (variables store.old.core) target.entry.slot) (map selected at.now) store.new control.new updated.end) }
+    ensures stored { (modes : Modes) → IsDeclared modes (plain_slot (variables store.old.core) target.entry.slot) target.entry.declared → IfOk result (λ updated. updated.end ≡ End.Paused → updated.stored ≡ stores_new (TakingOut end) (value_held (held (plain_slot (variables store.old.core) target.entry.slot) store.old.core)) (map selected at.now) control.old.turns) }
     ensures reader { control.new.reader ≡ control.old.reader }
 {
     let Some(mut whole) = take_held(target.slot, store)? else {
-        return Ok(End::Stuck);
+        return Ok(Updated {
+            end: End::Stuck,
+            stored: false,
+        });
     };
     let kept = kept_copy(target.declared, &whole)?;
     match take_at(control.alloc, end, &mut whole, at, control.turns) {
         Ok(taken) => {
             store.push(taken.value)?;
             let tested = tested_if(taken.stored, kept);
-            end_update(Ok(taken.left), whole, tested, target, line, store, control)
+            let end = end_update(Ok(taken.left), whole, tested, target, line, store, control)?;
+            Ok(Updated {
+                end,
+                stored: taken.stored,
+            })
         }
-        Err(fault) => end_update(Err(fault), whole, kept, target, line, store, control),
+        Err(fault) => {
+            let end = end_update(Err(fault), whole, kept, target, line, store, control)?;
+            Ok(Updated { end, stored: false })
+        }
     }
 }
 

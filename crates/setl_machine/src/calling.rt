@@ -1,10 +1,12 @@
 //! Calls, returns and backtracking.
 
-ghost use Rattle.std.specs.Prelude.{◌≡◌, ℕ, ◌<◌, ◌+◌, ◌^◌, length, slice_get, Some, None, IfSome, IfNone, IfOk};
+ghost use Rattle.std.specs.Prelude.{◌≡◌, ℕ, ◌<◌, ◌+◌, ◌^◌, length, map, slice_get, Some, None, IfSome, IfNone, IfOk};
+ghost use Rattle.std.specs.Option.{option_map};
 ghost use Rattle.setl_code.specs.Code.{CallBody, ReturnTop, KeepAll, GoBack};
 ghost use Rattle.setl_code.specs.Plain.{plain_code};
 ghost use Rattle.setl_machine.specs.Declaring.{Modes, AreOfMain, IsBare};
-ghost use Rattle.setl_machine.specs.Working.{Works, Does, DoesBy, HasParameters};
+ghost use Rattle.setl_value.specs.code.DatumOf.{part};
+ghost use Rattle.setl_machine.specs.Working.{Works, Does, DoesBy, HasParameters, TakesArguments, Begins};
 
 use crate::control::Control;
 use crate::end::{End, StopKind};
@@ -12,9 +14,11 @@ use crate::operands::{go_on, pop_top};
 use setl_code::{Body, Code};
 use setl_environment::Memory;
 use setl_store::Store;
+use setl_value::Value;
 
 /// Takes one turn and has the body of this number at work, with its arguments taken off the operands. No parameter is
 /// declared, so each takes every value.
+#[tactic(auto, using(crate::proofs::Entering::call_lacks))]
 #[inline(never)]
 pub(crate) fn call(
     body: u32,
@@ -26,12 +30,42 @@ pub(crate) fn call(
     ensures did { (modes : Modes) → AreOfMain modes → IsBare (plain_code store.old.code) → IfOk result (λ end. DoesBy modes store.old control.old line (CallBody body) store.new control.new end) }
     ensures reader { control.new.reader ≡ control.old.reader }
 {
+    let Some(values) = arguments(body, store)? else {
+        return Ok(End::Stuck);
+    };
+    begin(body, values, store, control)
+}
+
+/// Takes the arguments of the body of this number off the operands; None where there is no such body or there are too few.
+#[inline]
+pub(crate) fn arguments(
+    body: u32,
+    store: &mut Store<'_>,
+) -> Result<Option<Vec<Option<Value>>>, Memory>
+    ensures taken { IfOk result (λ values. TakesArguments body store.old (option_map (λ all. map part all.items) values) store.new) }
+    ensures there { IfOk result (λ values. IfSome values (λ all. body < length store.new.code.bodies)) }
+    ensures each { IfOk result (λ values. IfSome values (λ all. IfSome (slice_get store.new.code.bodies body) (λ b. length all.items ≡ length b.parameters))) }
+{
     let Some(count) = parameter_count(store.code(), body) else {
-        return Ok(End::Stuck);
+        return Ok(None);
     };
-    let Some(values) = store.pop_values(count)? else {
-        return Ok(End::Stuck);
-    };
+    store.pop_values(count)
+}
+
+/// Takes one turn and has the body of this number at work, with these values in its parameters.
+#[inline]
+pub(crate) fn begin(
+    body: u32,
+    values: Vec<Option<Value>>,
+    store: &mut Store<'_>,
+    control: &mut Control,
+) -> Result<End, Memory>
+    requires there { body < length store.old.code.bodies }
+    requires each { IfSome (slice_get store.old.code.bodies body) (λ b. length values.items ≡ length b.parameters) }
+    requires few { store.old.core.now.at + 1 < 2 ^ 64 }
+    ensures did { IfOk result (λ end. Begins body (map part values.items) store.old control.old store.new control.new end) }
+    ensures reader { control.new.reader ≡ control.old.reader }
+{
     if !control.turn() {
         return Ok(End::Spent);
     }

@@ -1,5 +1,7 @@
 //! How a call of the machine ends.
 
+use setl_environment::Memory;
+
 /// Why a run stops: an operator's fault, an input without a denotation (`Form`), `fail` with nothing kept, or a value that
 /// doesn't fit the declaration of its variable.
 #[derive(Clone, Copy, Debug, PartialEq, Eq)]
@@ -34,4 +36,15 @@ pub enum End {
     NoMemory,
     /// The code lacks an operand or reads a taken variable. No code of an accepted program does.
     Stuck,
+}
+
+impl From<Memory> for End {
+    ghost use Rattle.std.specs.Prelude.{◌≡◌};
+    ghost use Rattle.setl_machine.specs.declared.end.End.TheVariants.{NoMemory};
+
+    ghost from_gives = { λ _ e. e ≡ NoMemory };
+
+    fn from(_e: Memory) -> End {
+        End::NoMemory
+    }
 }

@@ -41,7 +41,7 @@ pub(crate) fn update(
 {
     match new_integer(what, slot, brackets, declarations, store) {
         Some(value) => put_in_place(value, slot, store),
-        None => alter(what, slot, brackets, line, declarations, store, control),
+        None => Ok(alter(what, slot, brackets, line, declarations, store, control)?.end),
     }
 }
 

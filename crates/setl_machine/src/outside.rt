@@ -11,7 +11,7 @@ ghost use Rattle.setl_text.specs.code.Reads.{ahead, SourceCounts, StaysHonest, T
 ghost use Rattle.setl_machine.specs.Control.{world_of, in_world, stood_for, IsRest};
 ghost use Rattle.setl_machine.specs.Declaring.{Modes};
 ghost use Rattle.setl_machine.specs.Outcome.{next_of, seen, Steps};
-ghost use Rattle.setl_machine.specs.Working.{TakesIn, EndsReading};
+ghost use Rattle.setl_machine.specs.Working.{TakesLine, WritesLine, TakesIn, EndsReading};
 ghost use Rattle.setl_machine.specs.declared.end.End.{End};
 
 use crate::control::Control;
@@ -22,6 +22,7 @@ use setl_io::{Sink, Source, WriteFault, write_all};
 use setl_store::Store;
 use setl_text::{Got, ReadFault, line};
 use setl_value::Value;
+use std::alloc::Global;
 
 /// Writes the line of so many operands as one piece, and takes them off.
 pub(crate) fn print<O: Sink>(
@@ -35,15 +36,30 @@ pub(crate) fn print<O: Sink>(
     ensures code { result ≡ End.Paused → store.new.code ≡ store.old.code }
     ensures no_read { result ≡ End.ReadFault → ⊥ }
 {
-    let values = match store.pop_values(count as usize) {
-        Ok(Some(values)) => values,
-        Ok(None) => return End::Stuck,
-        Err(_) => return End::NoMemory,
+    match take_line(count, store, control.alloc) {
+        Ok(line) => write_line(&line, store, out),
+        Err(end) => end,
+    }
+}
+
+/// Takes so many operands off, and gives their line; or how the run ends where there are too few.
+#[inline]
+pub(crate) fn take_line(count: u32, store: &mut Store<'_>, alloc: Global) -> Result<Vec<u8>, End>
+    ensures { TakesLine count store.old result store.new }
+{
+    let Some(values) = store.pop_values(count as usize)? else {
+        return Err(End::Stuck);
     };
-    let Ok(line) = line(control.alloc, &values) else {
-        return End::NoMemory;
-    };
-    match write_all(out, &line) {
+    Ok(line(alloc, &values)?)
+}
+
+/// Writes a line as one piece, and goes on.
+#[inline]
+pub(crate) fn write_line<O: Sink>(line: &[u8], store: &mut Store<'_>, out: &mut O) -> End
+    requires { store.old.core.now.at + 1 < 2 ^ 64 }
+    ensures { (n : ℕ) → WritesLine line.now store.old (seen (O.held out.old) (O.faults out.old) n) store.new (seen (O.held out.new) (O.faults out.new) n) result }
+{
+    match write_all(out, line) {
         Ok(()) => {
             go_on(store);
             End::Paused

@@ -1,6 +1,5 @@
-use Rattle.std.proofs.Common.{subst, Ok, Err, Some}
+use Rattle.std.proofs.Common.{◌∙◌, ap, sym, subst, Ok, Err, Some}
 use Rattle.std.specs.Prelude.{map, option_map}
-use Rattle.std.proofs.lemmas.Result.{IfOk-weaker}
 use Rattle.setl_value.specs.code.DatumOf.{part}
 use Rattle.setl_code.specs.Code.{TakingOut}
 use Rattle.setl_code.specs.Plain.{plain_slot}
@@ -8,8 +7,10 @@ use Rattle.setl_store.specs.Standing.{variables}
 use Rattle.setl_update.specs.Selectors.{selected}
 use Rattle.setl_update.specs.Takes.{Takes}
 use Rattle.setl_machine.specs.Control.{ControlState}
-use Rattle.setl_machine.specs.Altered.{Alters, TakesHeld, EndsUpdate}
+use Rattle.setl_telling.specs.Told.{value_held}
+use Rattle.setl_machine.specs.Altered.{stores_new, TakesHeld}
 use Rattle.setl_machine.specs.Declaring.{Keeps}
+use Rattle.setl_machine.proofs.Told.{took_stores, no_pause}
 use Rattle.setl_machine.proofs.Altered.{pushed_slot, held_slot_of, took_out, takes_not, declared_pushed, declared_gone}
 use Rattle.setl_machine.proofs.altering.take_out.Goals as goal
 
@@ -25,8 +26,8 @@ end_update-requires-in-Err-clause-there c =
     let takes : TakesHeld (plain_slot (variables old.core) c.args.target.slot) old (Some c.in-Some.whole) c.take_held.new.store = rw c.in-Some.is at c.in_ok-whole.ensures in
     held_slot_of old c.take_held.new.store c.args.target.slot c.in-Some.whole takes c.requires.there
 
-pub returns-in_ok-push-in-Ok-clause-did : goal.returns-in_ok-push-in-Ok-clause-did
-returns-in_ok-push-in-Ok-clause-did c = λ modes declared.
+pub returns-in_ok-end-in-Ok-clause-did : goal.returns-in_ok-end-in-Ok-clause-did
+returns-in_ok-end-in-Ok-clause-did c = λ modes declared.
     let old = c.args.store.now in
     let gone = c.take_held.new.store in
     let put = c.push.new.self in
@@ -41,14 +42,11 @@ returns-in_ok-push-in-Ok-clause-did c = λ modes declared.
     let took : Takes c.args.end at (part c.in-Some.whole) from.turns (part whole) (Ok taken) = subst (λ (d : ControlState). Takes c.args.end at (part c.in-Some.whole) d.turns (part whole) (Ok taken)) c.control.view_is told in
     let kept = option_map part c.in_ok-kept.kept in
     let keeps : Keeps modes (plain_slot (variables old.core) c.args.target.slot) (part c.in-Some.whole) kept = c.in_ok-kept.ensures modes (plain_slot (variables old.core) c.args.target.slot) declared in
-    IfOk-weaker c.end_update.result
-    (λ e. EndsUpdate modes (Ok taken.left) c.args.line (plain_slot (variables put.core) c.args.target.slot) (part whole) (option_map part c.tested_if-tested.result) put from new to e)
-    (λ e. Alters modes old from c.args.line (TakingOut c.args.end) (plain_slot (variables old.core) c.args.target.slot) at new to e)
-    (λ e f. took_out modes old gone put new from to c.args.line c.args.target.slot at c.args.end c.in-Some.whole whole kept (option_map part c.tested_if-tested.result) taken e keeps c.tested_if-tested.ensures takes took c.in_ok-push-in-Ok.ensures f)
-    (c.end_update.ensures.did modes (declared_pushed modes old gone put c.args.target.slot c.in-Some.whole taken.value c.args.target.declared takes c.in_ok-push-in-Ok.ensures declared))
+    took_out modes old gone put new from to c.args.line c.args.target.slot at c.args.end c.in-Some.whole whole kept (option_map part c.tested_if-tested.result) taken c.in_ok-end-in-Ok.end keeps c.tested_if-tested.ensures takes took c.in_ok-push-in-Ok.ensures
+    (c.in_ok-end-in-Ok.ensures.did modes (declared_pushed modes old gone put c.args.target.slot c.in-Some.whole taken.value c.args.target.declared takes c.in_ok-push-in-Ok.ensures declared))
 
-pub returns-in-Err-clause-did : goal.returns-in-Err-clause-did
-returns-in-Err-clause-did c = λ modes declared.
+pub returns-in_ok-end-in-Err-clause-did : goal.returns-in_ok-end-in-Err-clause-did
+returns-in_ok-end-in-Err-clause-did c = λ modes declared.
     let old = c.args.store.now in
     let gone = c.take_held.new.store in
     let new = c.end_update-in-Err.new.store in
@@ -62,8 +60,24 @@ returns-in-Err-clause-did c = λ modes declared.
     let took : Takes c.args.end at (part c.in-Some.whole) from.turns (part whole) (Err fault) = subst (λ (d : ControlState). Takes c.args.end at (part c.in-Some.whole) d.turns (part whole) (Err fault)) c.control.view_is told in
     let kept = option_map part c.in_ok-kept.kept in
     let keeps : Keeps modes (plain_slot (variables old.core) c.args.target.slot) (part c.in-Some.whole) kept = c.in_ok-kept.ensures modes (plain_slot (variables old.core) c.args.target.slot) declared in
-    IfOk-weaker c.end_update-in-Err.result
-    (λ e. EndsUpdate modes (Err fault) c.args.line (plain_slot (variables gone.core) c.args.target.slot) (part whole) kept gone from new to e)
-    (λ e. Alters modes old from c.args.line (TakingOut c.args.end) (plain_slot (variables old.core) c.args.target.slot) at new to e)
-    (λ e f. takes_not modes old gone new from to c.args.line c.args.target.slot at c.args.end c.in-Some.whole whole kept fault e takes took c.in-Err.ensures.refused f)
-    (c.end_update-in-Err.ensures.did modes (declared_gone modes old gone c.args.target.slot c.in-Some.whole c.args.target.declared takes declared))
+    takes_not modes old gone new from to c.args.line c.args.target.slot at c.args.end c.in-Some.whole whole kept fault c.in_ok-end-in-Err.end takes took c.in-Err.ensures.refused
+    (c.in_ok-end-in-Err.ensures.did modes (declared_gone modes old gone c.args.target.slot c.in-Some.whole c.args.target.declared takes declared))
+
+pub returns-in_ok-end-in-Ok-clause-stored : goal.returns-in_ok-end-in-Ok-clause-stored
+returns-in_ok-end-in-Ok-clause-stored c = λ modes declared e.
+    let old = c.args.store.now in
+    let from = c.args.control.now in
+    let at = map selected c.args.at.now in
+    let taken = c.in-Ok.taken in
+    let whole = c.take_at.new.whole in
+    let takes : TakesHeld (plain_slot (variables old.core) c.args.target.slot) old (Some c.in-Some.whole) c.take_held.new.store = rw c.in-Some.is at c.in_ok-whole.ensures in
+    let told : Takes c.args.end at (part c.in-Some.whole) c.control.inside.turns (part whole) (Ok taken) = c.in-Ok.ensures.taken in
+    let took : Takes c.args.end at (part c.in-Some.whole) from.turns (part whole) (Ok taken) = subst (λ (d : ControlState). Takes c.args.end at (part c.in-Some.whole) d.turns (part whole) (Ok taken)) c.control.view_is told in
+    took_stores c.args.end at (part c.in-Some.whole) (part whole) from.turns taken took ∙ ap (λ h. stores_new (TakingOut c.args.end) (value_held h) at from.turns) (sym takes.0)
+
+pub returns-in_ok-end-in-Err-clause-stored : goal.returns-in_ok-end-in-Err-clause-stored
+returns-in_ok-end-in-Err-clause-stored c = λ modes declared e.
+    let old = c.args.store.now in
+    let gone = c.take_held.new.store in
+    let takes : TakesHeld (plain_slot (variables old.core) c.args.target.slot) old (Some c.in-Some.whole) gone = rw c.in-Some.is at c.in_ok-whole.ensures in
+    absurd (no_pause c.in-Err.fault c.args.line c.in_ok-end-in-Err.end (c.in_ok-end-in-Err.ensures.did modes (declared_gone modes old gone c.args.target.slot c.in-Some.whole c.args.target.declared takes declared)).0 e)

@@ -1,0 +1,29 @@
+use Rattle.std.proofs.Common.{◌∙◌, Ok, ap, subst}
+use Rattle.setl_machine.specs.Outcome.{seen}
+use Rattle.setl_machine.specs.Working.{TakesLine, WritesLine}
+use Rattle.setl_machine.proofs.Printing.{writes, reads_none, writes_code}
+use Rattle.setl_machine.proofs.outside.print.Goals as goal
+
+pub returns-in-Ok-clause-did : goal.returns-in-Ok-clause-did
+returns-in-Ok-clause-did g c = λ modes line w n.
+    let mid = c.take_line.new.store in
+    let new = c.write_line.new.store in
+    let from = seen (g.O.Sink.held c.args.out.now) (g.O.Sink.faults c.args.out.now) n in
+    let to = seen (g.O.Sink.held c.write_line.new.out) (g.O.Sink.faults c.write_line.new.out) n in
+    let written : WritesLine c.in-Ok.line.items mid from new to c.write_line.result = subst (λ bs. WritesLine bs mid from new to c.write_line.result) c.deref.ensures.value (c.write_line.ensures n) in
+    writes modes c.args.store.now line c.args.count w mid new c.in-Ok.line from to c.write_line.result c.in-Ok.ensures written
+
+pub returns-in-Ok-clause-code : goal.returns-in-Ok-clause-code
+returns-in-Ok-clause-code g c = λ e.
+    let old = c.args.store.now in
+    let mid = c.take_line.new.store in
+    let from = seen (g.O.Sink.held c.args.out.now) (g.O.Sink.faults c.args.out.now) 0 in
+    let to = seen (g.O.Sink.held c.write_line.new.out) (g.O.Sink.faults c.write_line.new.out) 0 in
+    let taken : TakesLine c.args.count old (Ok c.in-Ok.line) mid = c.in-Ok.ensures in
+    writes_code c.deref.result.now mid c.write_line.new.store from to c.write_line.result (c.write_line.ensures 0) e ∙ ap (λ s. s.code) taken.0
+
+pub returns-in-Ok-clause-no_read : goal.returns-in-Ok-clause-no_read
+returns-in-Ok-clause-no_read g c = λ e.
+    let from = seen (g.O.Sink.held c.args.out.now) (g.O.Sink.faults c.args.out.now) 0 in
+    let to = seen (g.O.Sink.held c.write_line.new.out) (g.O.Sink.faults c.write_line.new.out) 0 in
+    reads_none c.deref.result.now c.take_line.new.store c.write_line.new.store from to c.write_line.result (c.write_line.ensures 0) e

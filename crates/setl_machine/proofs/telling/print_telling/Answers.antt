@@ -1,0 +1,48 @@
+use Rattle.std.proofs.Common.{◌∙◌, [], ◌∷◌, ℕ, Ok, ap, subst}
+use Rattle.setl_watch.specs.Notices.{Printed, without_last}
+use Rattle.setl_code.specs.Code.{PrintTop}
+use Rattle.setl_code.specs.Plain.{plain_code}
+use Rattle.setl_machine.specs.Control.{in_world}
+use Rattle.setl_machine.specs.Outcome.{next_of, seen, Steps}
+use Rattle.setl_machine.specs.Working.{TakesLine, WritesLine}
+use Rattle.setl_machine.specs.declared.end.End.{End}
+use Rattle.setl_machine.proofs.Printing.{writes, reads_none}
+use Rattle.setl_machine.proofs.Told.{tells_print}
+use Rattle.setl_machine.proofs.telling.print_telling.Goals as goal
+
+pub returns-in-Paused-clause-did : goal.returns-in-Paused-clause-did
+returns-in-Paused-clause-did g c = λ modes line w n.
+    let old = c.args.store.now in
+    let mid = c.take_line.new.store in
+    let new = c.write_line.new.store in
+    let from = seen (g.O.Sink.held c.args.out.now) (g.O.Sink.faults c.args.out.now) n in
+    let to = seen (g.O.Sink.held c.write_line.new.out) (g.O.Sink.faults c.write_line.new.out) n in
+    let end = c.write_line.result in
+    let written : WritesLine c.in_ok-line.line.items mid from new to end = subst (λ bs. WritesLine bs mid from new to end) c.deref-2.ensures.value (c.write_line.ensures n) in
+    subst (λ (e : End). Steps modes (next_of modes (plain_code old.code) line (PrintTop c.args.count) (in_world w old.core)) from to (in_world w new.core) e) c.in-Paused.is (writes modes old line c.args.count w mid new c.in_ok-line.line from to end c.in_ok-line.ensures written)
+
+pub returns-in-Paused-clause-tells : goal.returns-in-Paused-clause-tells
+returns-in-Paused-clause-tells g c = λ line.
+    let old = c.args.store.now in
+    let mid = c.take_line.new.store in
+    let new = c.write_line.new.store in
+    let taken : TakesLine c.args.count old (Ok c.in_ok-line.line) mid = c.in_ok-line.ensures in
+    let control = c.args.control.now in (
+      ap (λ s. s.code) (c.in-Paused.ensures 0).0 ∙ ap (λ s. s.code) taken.0,
+      tells_print old mid new control control line c.args.count c.in_ok-line.line c.in_ok-events.events.items taken (c.in_ok-events.ensures ∙ ap (λ bs. Printed (without_last bs) ∷ []) c.deref.ensures.value),
+    )
+
+pub returns : goal.returns
+returns g c =
+    let old = c.args.store.now in
+    let mid = c.take_line.new.store in
+    let new = c.write_line.new.store in
+    let from = λ (n : ℕ). seen (g.O.Sink.held c.args.out.now) (g.O.Sink.faults c.args.out.now) n in
+    let to = λ (n : ℕ). seen (g.O.Sink.held c.write_line.new.out) (g.O.Sink.faults c.write_line.new.out) n in
+    let end = c.write_line.result in
+    let written : (n : ℕ) → WritesLine c.in_ok-line.line.items mid (from n) new (to n) end = λ n. subst (λ bs. WritesLine bs mid (from n) new (to n) end) c.deref-2.ensures.value (c.write_line.ensures n) in
+    record {
+      did = λ modes line w n. writes modes old line c.args.count w mid new c.in_ok-line.line (from n) (to n) end c.in_ok-line.ensures (written n);
+      tells = λ line. c.in_default.not-Paused;
+      no_read = reads_none c.in_ok-line.line.items mid new (from 0) (to 0) end (written 0);
+    }

@@ -1,0 +1,99 @@
+use Rattle.std.proofs.Common.{◌≡◌, ◌∙◌, [], inl, Some, refl, ap, sym, subst}
+use Rattle.setl_code.specs.declared.code.Instr.TheVariants.{Print, Read}
+use Rattle.setl_code.specs.Code.{PrintTop, ReadOne}
+use Rattle.setl_code.specs.Machine.{fetch}
+use Rattle.setl_code.specs.Plain.{plain_code, plain_instr}
+use Rattle.setl_store.specs.Standing.{variables}
+use Rattle.setl_text.specs.code.Reads.{ReaderState, ahead}
+use Rattle.setl_machine.specs.Control.{world_of, stood_for, IsRest}
+use Rattle.setl_machine.specs.Declaring.{modes_of}
+use Rattle.setl_machine.specs.Hearing.{ended}
+use Rattle.setl_machine.specs.Outcome.{seen, next_of, Steps}
+use Rattle.setl_machine.proofs.Stays.{takes_none}
+use Rattle.setl_machine.proofs.Stepping.{in_hand, by_step, quiet_steps, quiet_no_write, quiet_no_read, stays_honest}
+use Rattle.setl_machine.proofs.Told.{tells_code, tells_ends, tells_here, on_ok}
+use Rattle.setl_machine.proofs.telling.step_telling.Goals as goal
+use Rattle.setl_machine.proofs.telling.step_telling.Goals.{in-Paused, in_default-read}
+
+pub returns-in-Print-clause-did : goal.returns-in-Print-clause-did
+returns-in-Print-clause-did g c =
+    let s = c.args.store.now in
+    let m = plain_code s.code in
+    let line = c.in-Some.step.now.line in
+    let here : fetch m s.core.now.body s.core.now.at ≡ Some (line, PrintTop c.in-Print.count) = in_hand m s.core (variables s.core) c.in-Some.step.now (Print c.in-Print.count) c.in-Some.ensures.some c.in-Print.is in
+    let faults = g.I.Source.faults c.args.input.now in
+    let old = seen (g.O.Sink.held c.args.out.now) (g.O.Sink.faults c.args.out.now) faults in
+    let new = seen (g.O.Sink.held c.print_telling.new.out) (g.O.Sink.faults c.print_telling.new.out) faults in
+    λ rest h.
+    let w = world_of c.args.control.now rest in
+    (rest, h, by_step (modes_of c.args.declarations.now) m (stood_for s.core c.args.control.now rest) (stood_for c.print_telling.new.store.core c.args.control.now rest) line (PrintTop c.in-Print.count) old new (ended c.print_telling.result) here (c.print_telling.ensures.did (modes_of c.args.declarations.now) line w faults))
+
+pub returns-in-Print-clause-tells : goal.returns-in-Print-clause-tells
+returns-in-Print-clause-tells g c =
+    let s = c.args.store.now in
+    let m = plain_code s.code in
+    let line = c.in-Some.step.now.line in
+    let here : fetch m s.core.now.body s.core.now.at ≡ Some (line, PrintTop c.in-Print.count) = in_hand m s.core (variables s.core) c.in-Some.step.now (Print c.in-Print.count) c.in-Some.ensures.some c.in-Print.is in
+    tells_here s c.print_telling.new.store c.args.control.now c.args.control.now line (PrintTop c.in-Print.count) c.print_telling.result here (c.print_telling.ensures.tells line)
+
+pub returns-in-Print-clause-ends : goal.returns-in-Print-clause-ends
+returns-in-Print-clause-ends g c = tells_ends c.args.store.now c.print_telling.new.store c.args.control.now c.args.control.now 0 (PrintTop c.in-Print.count) c.print_telling.result (c.print_telling.ensures.tells 0)
+
+pub returns-in-Print-clause-code : goal.returns-in-Print-clause-code
+returns-in-Print-clause-code g c = tells_code c.args.store.now c.print_telling.new.store c.args.control.now c.args.control.now 0 (PrintTop c.in-Print.count) c.print_telling.result (c.print_telling.ensures.tells 0)
+
+pub returns-after-read-clause-did : goal.returns-after-read-clause-did
+returns-after-read-clause-did g c =
+    let s = c.args.store.now in
+    let m = plain_code s.code in
+    let modes = modes_of c.args.declarations.now in
+    let line = c.in-Some.step.now.line in
+    let here : fetch m s.core.now.body s.core.now.at ≡ Some (line, ReadOne) = in_hand m s.core (variables s.core) c.in-Some.step.now Read c.in-Some.ensures.some c.in-Read.is in
+    let held = g.O.Sink.held c.args.out.now in
+    let faults = g.O.Sink.faults c.args.out.now in
+    let old = seen held faults (g.I.Source.faults c.args.input.now) in
+    let new = seen held faults (g.I.Source.faults c.read.new.input) in
+    let end : c.read.result ≡ ended c.match-read.result =
+    elim c.match-read.branch [
+      | in-Paused w ↦ w.in-Paused.is ∙ sym (ap ended w.result-is)
+      | in_default-read w ↦ sym (ap ended w.result-is)
+    ] in
+    λ rest h.
+    let did = c.read.ensures.did modes held faults rest h in
+    let k = stood_for s.core c.args.control.now did.0 in
+    let to = stood_for c.read.new.store.core c.read.new.control rest in
+    (did.0, did.1, by_step modes m k to line ReadOne old new (ended c.match-read.result) here (subst (λ e. Steps modes (next_of modes m line ReadOne k) old new to e) end did.2))
+
+pub returns-in_default-what : goal.returns-in_default-what
+returns-in_default-what g c =
+    let s = c.args.store.now in
+    let m = plain_code s.code in
+    let modes = modes_of c.args.declarations.now in
+    let line = c.in-Some.step.now.line in
+    let what = plain_instr (variables s.core) c.in-Some.step.now.what in
+    let left = g.I.Source.left c.args.input.now in
+    let now = seen (g.O.Sink.held c.args.out.now) (g.O.Sink.faults c.args.out.now) (g.I.Source.faults c.args.input.now) in
+    let from = c.args.control.now in
+    let new = c.quiet_telling.new.store in
+    let to = c.quiet_telling.new.control in
+    let r = c.quiet_telling.result in
+    let does = c.quiet_telling.ensures.did in
+    let reader = c.quiet_telling.ensures.reader in
+    record {
+      did = λ rest h.
+          let k = stood_for s.core from rest in
+          let d = stood_for new.core to rest in (
+            rest,
+            subst (λ (r : ReaderState). IsRest (ahead r.ended left) rest) reader h,
+            by_step modes m k d line what now now (ended r) c.in-Some.ensures.some (quiet_steps modes (next_of modes m line what k) d now (ended r) (does.0 rest)),
+          );
+      tells = tells_here s new from to line what r c.in-Some.ensures.some does.1;
+      prints = λ e. absurd (quiet_no_write modes (next_of modes m line what (stood_for s.core from [])) (stood_for new.core to []) (ended r) (does.0 []) e);
+      reads = λ e. absurd (quiet_no_read modes (next_of modes m line what (stood_for s.core from [])) (stood_for new.core to []) (ended r) (does.0 []) e);
+      reads_only = inl refl;
+      ends = tells_ends s new from to line what r does.1;
+      code = tells_code s new from to line what r does.1;
+      goes_on = on_ok r (ap (λ (r : ReaderState). r.fault) reader ∙ c.requires.no_fault);
+      took = takes_none left;
+      honest = stays_honest from.reader to.reader left reader;
+    }

@@ -1,0 +1,23 @@
+use Rattle.std.proofs.Common.{◌≡◌, None, map}
+use Rattle.setl_code.specs.Plain.{plain_code}
+use Rattle.setl_text.specs.code.Reads.{StaysHonest, TakesOff}
+use Rattle.setl_watch.specs.Watches.{watched}
+use Rattle.setl_machine.specs.Declaring.{modes_of}
+use Rattle.setl_machine.specs.declared.end.End.TheVariants.{Paused}
+use Rattle.setl_machine.proofs.Hearing.{Heard}
+use Rattle.setl_machine.proofs.Rounds.{moment}
+use Rattle.setl_machine.proofs.watching.run_watched.Given as goal
+
+abbrev pub invariant-loop-steps : goal.invariant-loop-steps
+invariant-loop-steps g l =
+    let old = moment l.fn.store.core l.fn.control (g.O.Sink.held l.fn.out) (g.O.Sink.faults l.fn.out) (g.I.Source.faults l.fn.input) (g.I.Source.left l.fn.input) in
+    let now = moment l.store.core l.control (g.O.Sink.held l.out) (g.O.Sink.faults l.out) (g.I.Source.faults l.input) (g.I.Source.left l.input) in
+    let h = watched (map (λ w. (goal.Watcher-dyn g (w.vtable, w.value)).watch w.value) l.fn.watchers.items) l.fn.reports.items in
+    let h' = watched (map (λ w. (goal.Watcher-dyn g (w.vtable, w.value)).watch w.value) l.watchers.items) l.reports.items in
+    record {
+      heard : Heard (modes_of l.declarations) (plain_code l.fn.store.code) l.steps old now h h' Paused;
+      code : l.store.code ≡ l.fn.store.code;
+      no_fault : l.control.reader.fault ≡ None;
+      took : TakesOff old.left now.left;
+      honest : StaysHonest l.fn.control.reader.ended old.left l.control.reader.ended now.left;
+    }
