@@ -5,3 +5,4 @@ pub mod Outcome
 pub mod Working
 pub mod Altered
 pub mod Freely
+pub mod Hearing

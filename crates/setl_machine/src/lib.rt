@@ -17,9 +17,11 @@ mod operands;
 mod operating;
 mod outside;
 mod variables;
+mod watching;
 
 pub use control::Control;
 pub use declarations::Declarations;
 pub use end::{End, StopKind};
 pub use laws::ends_write_nothing;
 pub use machine::{run, run_whole};
+pub use watching::run_watched;

@@ -1,0 +1,46 @@
+//! Runs of a code that watchers are told of.
+
+ghost use Rattle.std.specs.Prelude.{◌≡◌, ℕ, List, None, map};
+ghost use Rattle.setl_code.specs.Plain.{plain_code};
+ghost use Rattle.setl_text.specs.code.Reads.{ahead, StaysHonest, TakesOff};
+ghost use Rattle.setl_watch.specs.Watches.{watched};
+ghost use Rattle.setl_machine.specs.Control.{stood_for, IsRest};
+ghost use Rattle.setl_machine.specs.Declaring.{modes_of, Serves};
+ghost use Rattle.setl_machine.specs.Hearing.{Hears};
+ghost use Rattle.setl_machine.specs.Outcome.{seen, Ran, ReadsOnly};
+ghost use Rattle.setl_machine.specs.declared.end.End.{End};
+
+use crate::control::Control;
+use crate::declarations::Declarations;
+use crate::end::End;
+use setl_io::{Sink, Source};
+use setl_store::Store;
+use setl_watch::Watcher;
+
+/// Does instructions up to the end of the run, as `run_whole` does, and tells the watchers each event.
+///
+/// Each watcher is told the events in order, each once, up to the one where it has enough; then its report is added to the
+/// reports, and it is taken out of the list and dropped. A run that isn't at its end after 2^64 - 1 steps is answered as
+/// `NoMemory`, and so is want of memory of a watcher. After a fault and want of memory nothing is known of the watchers.
+pub fn run_watched<I: Source, O: Sink>(
+    declarations: &Declarations<'_>,
+    store: &mut Store<'_>,
+    control: &mut Control,
+    input: &mut I,
+    out: &mut O,
+    watchers: &mut Vec<Box<dyn Watcher>>,
+    reports: &mut Vec<u8>,
+) -> End
+    requires no_fault { control.old.reader.fault ≡ None }
+    requires serves { Serves declarations.now store.old.code }
+    ensures ran { (rest' : List ℕ) → IsRest (ahead control.new.reader.ended (I.left input.new)) rest' →
+        (rest : List ℕ) × IsRest (ahead control.old.reader.ended (I.left input.old)) rest
+        × (n : ℕ) × Ran (modes_of declarations.now) (plain_code store.old.code) n (stood_for store.old.core control.old rest) (seen (O.held out.old) (O.faults out.old) (I.faults input.old)) (seen (O.held out.new) (O.faults out.new) (I.faults input.new)) (stood_for store.new.core control.new rest') result
+        × ReadsOnly (modes_of declarations.now) (plain_code store.old.code) n (stood_for store.old.core control.old rest) (I.left input.old) (I.left input.new)
+        × Hears (modes_of declarations.now) (plain_code store.old.code) n (stood_for store.old.core control.old rest) (watched (map (λ w. watch w) watchers.old.items) reports.old.items) (watched (map (λ w. watch w) watchers.new.items) reports.new.items) result }
+    ensures whole { ¬ (result ≡ End.Paused) }
+    ensures took { TakesOff (I.left input.old) (I.left input.new) }
+    ensures honest { StaysHonest control.old.reader.ended (I.left input.old) control.new.reader.ended (I.left input.new) }
+{
+    End::NoMemory
+}
