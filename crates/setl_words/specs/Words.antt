@@ -102,12 +102,12 @@ HasFile (Run options name) file = file ≡ name
 HasFile (Check name) file = file ≡ name
 HasFile (Code name) file = file ≡ name
 
--- A command runs the program of this file. `turns` bounds the turns of the run, `based` says whether the program's
--- declarations count, and `watch` is the watcher that is asked for.
-abbrev pub RunsFile : Command → List ℕ → ℕ → Bool → Option Asked → Type 0
-RunsFile (Run options name) file turns based watch = (file ≡ name) × (turns ≡ options.turns) × (based ≡ options.based) × (watch ≡ options.watch)
-RunsFile (Check name) file turns based watch = ⊥
-RunsFile (Code name) file turns based watch = ⊥
+-- A command runs the program of this file. `turns` bounds the turns of the run, and `based` says whether the
+-- program's declarations count.
+abbrev pub RunsFile : Command → List ℕ → ℕ → Bool → Type 0
+RunsFile (Run options name) file turns based = (file ≡ name) × (turns ≡ options.turns) × (based ≡ options.based)
+RunsFile (Check name) file turns based = ⊥
+RunsFile (Code name) file turns based = ⊥
 
 -- the watcher that a command asks for, if it asks for one
 abbrev pub watched_by : Command → Option Asked
