@@ -10,6 +10,7 @@ mod tests;
 
 use adapters::{DiskFiles, ReaderSource, WriterSink};
 use setl_top::{Status, setl};
+use setl_watch::{Cover, Memory, Trace, Watcher};
 use std::alloc::Global;
 use std::process::ExitCode;
 use std::{env, io};
@@ -21,25 +22,25 @@ fn words(rt: &(impl env::Env + Alloc<A = Global>)) -> io::Result<Vec<String>> {
     Ok(env::args(rt)?.skip(1).collect(rt.alloc())?)
 }
 
-/// Does what the words ask for, over the real files and the standard streams.
-fn run(rt: &HostRuntime, words: &[String]) -> Status {
+/// Does what the words ask for, over the real files and the standard streams, with a trace and a cover to be asked for. The
+/// error is want of memory for these.
+fn run(rt: &HostRuntime, words: &[String]) -> Result<Status, Memory> {
+    let alloc = rt.alloc();
+    let mut watchers: Vec<Box<dyn Watcher>> = Vec::new(alloc);
+    watchers.push(Box::new(alloc, Trace::new(alloc)?)?)?;
+    watchers.push(Box::new(alloc, Cover::new(alloc)?)?)?;
     let mut files = DiskFiles::new(rt);
     let mut input = ReaderSource::new(rt.stdin());
     let mut out = WriterSink::new(rt.stdout());
     let mut err = WriterSink::new(rt.stderr());
-    setl(
-        rt.alloc(),
-        words,
-        &mut files,
-        &mut input,
-        &mut out,
-        &mut err,
-    )
+    Ok(setl(
+        alloc, words, watchers, &mut files, &mut input, &mut out, &mut err,
+    ))
 }
 
 fn main(rt: HostRuntime) -> ExitCode {
     let status = match words(&rt) {
-        Ok(words) => run(&rt, &words),
+        Ok(words) => run(&rt, &words).unwrap_or(Status::NoMemory),
         Err(error) if error.kind() == io::ErrorKind::OutOfMemory => Status::NoMemory,
         Err(_) => Status::Words,
     };

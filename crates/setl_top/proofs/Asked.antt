@@ -1,13 +1,14 @@
 -- The bound on turns that words ask for, and the line that is told of others.
-use Rattle.std.proofs.Common.{◌≡◌, ◌<◌, ◌^◌, ℕ, false, List, [], ◌∷◌, ◌++◌, codes, refl, subst, sym, arith}
+use Rattle.std.proofs.Common.{◌≡◌, ◌<◌, ◌^◌, ℕ, false, List, [], ◌∷◌, ◌++◌, Some, codes, refl, subst, sym, arith}
 use Rattle.std.specs.List.{fold}
-use Rattle.setl_words.specs.Words.{Options, RunOption, Unbased, Turns, AreOptions, with_option, default_options, Run, Spells}
+use Rattle.setl_words.specs.Words.{Options, RunOption, Unbased, Turns, Watch, AreOptions, with_option, default_options, Run, Spells}
 use Rattle.setl_words.specs.Told.{TellsFaulty}
 
 bounded : (xs : List RunOption) (o : Options) → AreOptions xs → o.turns < 2 ^ 63 → (fold with_option o xs).turns < 2 ^ 63
 bounded [] o v h = h
 bounded (Unbased ∷ xs) o v h = bounded xs (record o { based = false }) v.2 h
 bounded (Turns n ∷ xs) o v h = bounded xs (record o { turns = n }) v.2 v.0
+bounded (Watch a ∷ xs) o v h = bounded xs (record o { watch = Some a }) v.2 h
 
 -- it is below 2^63
 pub turns_asked : (words : List (List ℕ)) (o : Options) (name : List ℕ) → Spells words (Run o name) → o.turns < 2 ^ 63

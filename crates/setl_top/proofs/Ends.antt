@@ -17,10 +17,12 @@ use Rattle.setl_top.specs.code.Loads.{Loaded, NotLoaded, not_accepted, not_read,
 use Rattle.setl_top.specs.Reasons.{reason_line}
 use Rattle.setl_top.specs.code.Runs.{Streams, streams, counted, RunsTo, RunsInto, RunsToRead, RunsUpTo, Runs, TakesInput}
 use Rattle.setl_top.specs.code.Tells.{Tells, whole, failed, no_memory, TellsEnd}
-use Rattle.setl_top.specs.Headline.{Moment, Job, IsInput, IsToRun, IsToList, status_for, Answers, faulty_words, refused, checked, listed, run_ended, UpToWrite, UpToAny, no_program, at_state, in_write, at_print, in_listing, load_failed, read_failed, TellsFault, LeavesRest, LeavesInput, Ended, ReadFailed, WriteFailed, MemoryFailed, out_failed, err_failed, InputLeft, untouched, read_from, Headline}
+use Rattle.setl_top.specs.Headline.{Moment, Job, IsInput, IsToRun, IsToList, status_for, Answers, faulty_words, refused, checked, listed, run_ended, UpToWrite, UpToAny, no_program, at_state, in_write, at_print, in_listing, load_failed, read_failed, no_such_watcher, TellsFault, LeavesRest, LeavesInput, Ended, ReadFailed, WriteFailed, MemoryFailed, out_failed, err_failed, InputLeft, untouched, read_from, Headline}
+use Rattle.setl_top.specs.Watching.{asked_for, IsThere, all_told, reports_of}
 use Rattle.setl_top.specs.declared.status.Status.{Status}
 use Rattle.setl_top.specs.declared.status.Status.TheVariants.{Done, Refused, Words}
-use Rattle.setl_words.specs.Words.{Options, IsFaulty, Spells, HasFile, Command, Run, Check, Code}
+use Rattle.setl_watch.specs.Watches.{Watched, watched}
+use Rattle.setl_words.specs.Words.{Options, IsFaulty, Spells, HasFile, watched_by, Command, Run, Check, Code}
 use Rattle.setl_words.specs.Told.{TellsFaulty}
 use Rattle.setl_top.proofs.Fronts.{appends_none, front_none}
 
@@ -84,44 +86,52 @@ pub faulty_ends : (words : List (List ℕ)) (before after : Moment) (text : List
 faulty_ends words before after text h tells o l f i u r t =
     told words before after Words [] text (λ e. e) (subst (Answers words before Words [] text) (sym l) (faulty_words text h tells)) no_program o f i u r t
 
+-- what is told where the watcher that is asked for isn't there was told, or not
+pub no_watcher_ends : (words : List (List ℕ)) (before after : Moment) (command : Command) → Spells words command → (IsThere (watched_by command) before.watchers → ⊥) → Appends before.out after.out [] → after.input ≡ before.input → after.files_faults ≤ before.files_faults → after.input_faults ≤ before.input_faults → after.out_faults ≤ before.out_faults → (r : Status) → Tells Words (codes "no such watcher" ++ 10 ∷ []) before.err after.err before.err_faults after.err_faults r → Headline words before after r
+no_watcher_ends words before after command s none o l f i u r t =
+    let text : List ℕ = codes "no such watcher" ++ 10 ∷ [] in
+    told words before after Words [] text (λ e. e) (subst (Answers words before Words [] text) (sym l) (no_such_watcher command s none)) no_program o f i u r t
+
 -- a source wasn't loaded
-pub not_loaded : (words : List (List ℕ)) (before after : Moment) (command : Command) (name : List ℕ) → Spells words command → HasFile command name → Appends before.out after.out [] → after.input ≡ before.input → after.input_faults ≤ before.input_faults → after.out_faults ≤ before.out_faults → (r : Status) → NotLoaded before.texts name (sides before.files_faults after.files_faults before.err after.err before.err_faults after.err_faults) r → Headline words before after r
-not_loaded words before after command name s f o l i u _ (not_accepted source reason r t why e h) =
+pub not_loaded : (words : List (List ℕ)) (before after : Moment) (command : Command) (name : List ℕ) → Spells words command → HasFile command name → IsThere (watched_by command) before.watchers → Appends before.out after.out [] → after.input ≡ before.input → after.input_faults ≤ before.input_faults → after.out_faults ≤ before.out_faults → (r : Status) → NotLoaded before.texts name (sides before.files_faults after.files_faults before.err after.err before.err_faults after.err_faults) r → Headline words before after r
+not_loaded words before after command name s f there o l i u _ (not_accepted source reason r t why e h) =
     let line : List ℕ = reason_line reason in
-    let answer : Answers words before Refused [] (line ++ 10 ∷ []) before.input = refused command name source line s f t (record { reason = reason; refused = why; tells = refl }) in
+    let answer : Answers words before Refused [] (line ++ 10 ∷ []) before.input = refused command name source line s f there t (record { reason = reason; refused = why; tells = refl }) in
     told words before after Refused [] (line ++ 10 ∷ []) (λ e. e) (subst (Answers words before Refused [] (line ++ 10 ∷ [])) (sym l) answer) no_program o (omega arith) i u r h
-not_loaded words before after command name s f o l i u _ (not_read rose h) = record {
+not_loaded words before after command name s f there o l i u _ (not_read rose h) = record {
   out = [];
-  cause = load_failed command name s f rose h;
+  cause = load_failed command name s f there rose h;
   out_gained = o;
   err_gained = fault_alone words before (codes "read fault") before.err after.err h;
 }
-not_loaded words before after command name s f o l i u _ (no_room h) = record {
+not_loaded words before after command name s f there o l i u _ (no_room h) = record {
   out = [];
   so_far = no_program;
   out_gained = o;
   err_gained = fault_alone words before (codes "no memory") before.err after.err h;
 }
 
--- the line of an end, behind a load that told nothing
-pub tells_then : (modes : Modes) (e : End) (old mid new : Option (List ℕ)) (before then_ now : ℕ) (r : Status) → mid ≡ old → then_ ≡ before → TellsEnd modes e mid new then_ now r → TellsEnd modes e old new before now r
-tells_then modes e old mid new before then_ now r held count told =
-    subst (λ (n : ℕ). TellsEnd modes e old new n now r) count (subst (λ (o : Option (List ℕ)). TellsEnd modes e o new then_ now r) held told)
+-- what is told of an end, behind a load that told nothing, with the same declarations and watchers
+pub tells_then : (modes others : Modes) (h k : Watched) (e : End) (old mid new : Option (List ℕ)) (before then_ now : ℕ) (r : Status) → modes ≡ others → h ≡ k → mid ≡ old → then_ ≡ before → TellsEnd modes h e mid new then_ now r → TellsEnd others k e old new before now r
+tells_then modes others h k e old mid new before then_ now r same heard held count told =
+    subst (λ ms. TellsEnd ms k e old new before now r) same
+    (subst (λ x. TellsEnd modes x e old new before now r) heard
+    (subst (λ (n : ℕ). TellsEnd modes h e old new n now r) count (subst (λ (o : Option (List ℕ)). TellsEnd modes h e o new then_ now r) held told)))
 
--- the same declarations
-pub tells_as : (modes others : Modes) (e : End) (old new : Option (List ℕ)) (before now : ℕ) (r : Status) → modes ≡ others → TellsEnd modes e old new before now r → TellsEnd others e old new before now r
-tells_as modes others e old new before now r is told = subst (λ ms. TellsEnd ms e old new before now r) is told
+-- the watchers of a run, before it
+abbrev pub listening : Options → Moment → Watched
+listening asked before = watched (asked_for asked.watch before.watchers) []
 
--- what is seen of the input and of the output
-abbrev pub streams_of : Moment → Moment → Streams
-streams_of before after = streams before.input after.input before.input_faults after.input_faults before.out after.out before.out_faults after.out_faults
+-- what is seen of the input, of the output and of the watchers
+abbrev pub streams_of : Options → Moment → Moment → Watched → Streams
+streams_of asked before after heard = streams before.input after.input before.input_faults after.input_faults before.out after.out before.out_faults after.out_faults (listening asked before) heard
 
-abbrev pub job_of : Options → Tree → List ℕ → Job
-job_of asked tree input = record { program = program_of tree; input = input; turns = asked.turns; based = asked.based }
+abbrev pub job_of : Options → Tree → List ℕ → Moment → Job
+job_of asked tree input before = record { program = program_of tree; input = input; turns = asked.turns; based = asked.based; watchers = asked_for asked.watch before.watchers }
 
 -- a program that was loaded is to be run
-pub to_run : (words : List (List ℕ)) (before : Moment) (asked : Options) (name : List ℕ) (tree : Tree) (input : List ℕ) → Spells words (Run asked name) → Loaded before.texts name tree → IsInput before.input input → IsToRun words before (job_of asked tree input)
-to_run words before asked name tree input s l known = record {
+pub to_run : (words : List (List ℕ)) (before : Moment) (asked : Options) (name : List ℕ) (tree : Tree) (input : List ℕ) → Spells words (Run asked name) → IsThere asked.watch before.watchers → Loaded before.texts name tree → IsInput before.input input → IsToRun words before (job_of asked tree input before)
+to_run words before asked name tree input s there l known = record {
   command = Run asked name;
   name = name;
   source = l.source;
@@ -130,33 +140,37 @@ to_run words before asked name tree input s l known = record {
   text = l.text;
   accepted = record { tree = tree; is_program = l.is_program; meaning = refl };
   input = known;
+  there = there;
+  watched = refl;
 }
 
-module _ (words : List (List ℕ)) (before after : Moment) (asked : Options) (name : List ℕ) (tree : Tree) (s : Spells words (Run asked name)) (l : Loaded before.texts name tree) where
+module _ (words : List (List ℕ)) (before after : Moment) (heard : Watched) (asked : Options) (name : List ℕ) (tree : Tree) (s : Spells words (Run asked name)) (there : IsThere asked.watch before.watchers) (l : Loaded before.texts name tree) where
   abbrev Seen : Streams
-  Seen = streams_of before after
+  Seen = streams_of asked before after heard
 
-  to_be_run : (input : List ℕ) → IsInput before.input input → IsToRun words before (job_of asked tree input)
-  to_be_run input known = to_run words before asked name tree input s l known
+  to_be_run : (input : List ℕ) → IsInput before.input input → IsToRun words before (job_of asked tree input before)
+  to_be_run input known = to_run words before asked name tree input s there l known
 
   -- a run came to its end
-  run_told : (end : run.End) (ending : RunStatus) → status_of end ≡ Some ending → RunsTo (program_of tree) asked Seen end → (Ended words before after (status_for ending) → Headline words before after (status_for ending)) → after.files_faults ≤ before.files_faults → (r : Status) → Tells (status_for ending) (error_line end) before.err after.err before.err_faults after.err_faults r → Headline words before after r
+  run_told : (end : run.End) (ending : RunStatus) → status_of end ≡ Some ending → RunsTo (program_of tree) asked Seen end → (Ended words before after (status_for ending) → Headline words before after (status_for ending)) → after.files_faults ≤ before.files_faults → (r : Status) → Tells (status_for ending) (all_told heard ++ error_line end) before.err after.err before.err_faults after.err_faults r → Headline words before after r
   run_told end ending how x ends f r t =
-      let job = job_of asked tree x.input in
+      let job = job_of asked tree x.input before in
       let a = to_be_run x.input x.known in
-      told words before after (status_for ending) x.out (error_line end) ends (run_ended job x.out end ending after.input a x.means how x.left) (at_state job x.out a x.at_end) x.gained f (omega (arith, x.input_count)) (omega (arith, x.out_count)) r t
+      let line : List ℕ = reports_of job.watchers x.means.last.events ++ error_line end in
+      let same = subst (λ h. Tells (status_for ending) (all_told h ++ error_line end) before.err after.err before.err_faults after.err_faults r) x.told t in
+      told words before after (status_for ending) x.out line ends (run_ended job x.out end ending after.input a x.means how x.left) (at_state job x.out a x.at_end) x.gained f (omega (arith, x.input_count)) (omega (arith, x.out_count)) r same
 
   -- it was broken off
   run_unread : RunsToRead (program_of tree) asked Seen → Rose before.input_faults after.input_faults → AppendsFront before.err after.err (codes "read fault" ++ 10 ∷ []) → ReadFailed words before after
   run_unread x rose h = record {
     out = x.out;
-    cause = read_failed (job_of asked tree x.input) x.out rose (to_be_run x.input x.known) x.at;
+    cause = read_failed (job_of asked tree x.input before) x.out rose (to_be_run x.input x.known) x.at;
     out_gained = x.gained;
     err_gained = fault_alone words before (codes "read fault") before.err after.err h;
   }
 
   in_line : (x : RunsInto (program_of tree) asked Seen) → UpToWrite words before (x.out ++ take x.n x.line)
-  in_line x = at_print (job_of asked tree x.input) x.out x.line x.n (to_be_run x.input x.known) x.at x.part
+  in_line x = at_print (job_of asked tree x.input before) x.out x.line x.n (to_be_run x.input x.known) x.at x.part
 
   run_unwritten : RunsInto (program_of tree) asked Seen → Rose before.out_faults after.out_faults → AppendsFront before.err after.err (codes "write fault" ++ 10 ∷ []) → WriteFailed words before after
   run_unwritten x rose h = record {
@@ -175,13 +189,13 @@ module _ (words : List (List ℕ)) (before after : Moment) (asked : Options) (na
   }
   run_starved (inr x) h = record {
     out = x.out;
-    so_far = at_state (job_of asked tree x.input) x.out (to_be_run x.input x.known) x.at;
+    so_far = at_state (job_of asked tree x.input before) x.out (to_be_run x.input x.known) x.at;
     out_gained = x.gained;
     err_gained = fault_alone words before (codes "no memory") before.err after.err h;
   }
 
   -- the run of a program, and the line that tells its end
-  pub run_ends : (e : End) → Runs (program_of tree) asked Seen e → after.files_faults ≤ before.files_faults → (r : Status) → TellsEnd (counted asked (program_of tree)) e before.err after.err before.err_faults after.err_faults r → Headline words before after r
+  pub run_ends : (e : End) → Runs (program_of tree) asked Seen e → after.files_faults ≤ before.files_faults → (r : Status) → TellsEnd (counted asked (program_of tree)) heard e before.err after.err before.err_faults after.err_faults r → Headline words before after r
   run_ends end.Done x f r t = run_told run.Done IsDone refl x (λ y. y) f r t
   run_ends (end.Stopped why line) x f r t = run_told (run.Stopped (kind_of (counted asked (program_of tree)) why) line) IsStopped refl x (λ y. y) f r t
   run_ends end.Spent x f r t = run_told run.Spent IsSpent refl x (λ y. y) f r t
@@ -194,7 +208,7 @@ module _ (words : List (List ℕ)) (before after : Moment) (asked : Options) (na
   -- what it took of the input
   pub run_takes : TakesInput (program_of tree) asked Seen → InputLeft words before after
   run_takes (inl same) = untouched same
-  run_takes (inr x) = read_from (job_of asked tree x.input) x.out x.taken (to_be_run x.input x.known) x.at x.consumed
+  run_takes (inr x) = read_from (job_of asked tree x.input before) x.out x.taken (to_be_run x.input x.known) x.at x.consumed
 
 -- nothing was added, where nothing changed
 pub appends_same : (a b : Option (List ℕ)) → b ≡ a → Appends a b []
@@ -211,7 +225,7 @@ check_ends words before after name s rest _ (checked_so tree l still) = record {
   quiet = record { files = omega (arith, still.files); input = omega (arith, rest.input_faults); out = omega (arith, rest.out_faults); err = omega (arith, still.err) };
 }
 check_ends words before after name s rest r (not_checked _ h) =
-    not_loaded words before after (Check name) name s refl (appends_same before.out after.out rest.out) rest.input (omega (arith, rest.input_faults)) (omega (arith, rest.out_faults)) r h
+    not_loaded words before after (Check name) name s refl tt (appends_same before.out after.out rest.out) rest.input (omega (arith, rest.input_faults)) (omega (arith, rest.out_faults)) r h
 
 -- the program of a file is to be listed
 to_list : (words : List (List ℕ)) (before : Moment) (name : List ℕ) (tree : Tree) → Spells words (Code name) → Loaded before.texts name tree → IsToList words before (listing_of tree)
@@ -250,7 +264,7 @@ written_ends words before after text a rest files _ (no_text same h) = record {
 pub list_ends : (words : List (List ℕ)) (before after : Moment) (name : List ℕ) → Spells words (Code name) → LeavesInput before after → (r : Status) → Lists before.texts name (sides before.files_faults after.files_faults before.err after.err before.err_faults after.err_faults) (gain before.out after.out before.out_faults after.out_faults) r → Headline words before after r
 list_ends words before after name s rest r (listed_so tree _ l files w) = written_ends words before after (listing_of tree) (to_list words before name tree s l) rest files r w
 list_ends words before after name s rest r (not_listed _ h same count) =
-    not_loaded words before after (Code name) name s refl (appends_same before.out after.out same) rest.input (omega (arith, rest.input_faults)) (omega (arith, count)) r h
+    not_loaded words before after (Code name) name s refl tt (appends_same before.out after.out same) rest.input (omega (arith, rest.input_faults)) (omega (arith, count)) r h
 
 -- nothing but the files and the error output changes
 pub rest_same : (before : Moment) (after : Moment) → after.input ≡ before.input → after.input_faults ≡ before.input_faults → after.out ≡ before.out → after.out_faults ≡ before.out_faults → LeavesRest before after

@@ -1,19 +1,24 @@
 -- Which answers exclude which.
-use Rattle.std.proofs.Common.{◌≡◌, ◌∙◌, ◌==◌, inl, inr, ℕ, Bool, cond, List, [], ◌∷◌, ◌++◌, Option, None, Some, refl, sym, ap, subst, arith}
+use Rattle.std.proofs.Common.{◌≡◌, ◌↔◌, ◌∙◌, ◌==◌, inl, inr, ℕ, zero, suc, Bool, cond, List, [], ◌∷◌, ◌++◌, Option, None, Some, refl, sym, ap, subst, arith}
 use Rattle.setl_io.specs.Files.{IsText}
-use Rattle.setl_model.specs.Answers.{RunStatus, status_of, error_line}
-use Rattle.setl_run.specs.Events.{End}
+use Rattle.setl_model.specs.Answers.{RunStatus, IsDone, IsStopped, IsSpent, status_of, error_line}
+use Rattle.setl_run.specs.Events.{Event, End}
+use Rattle.setl_run.specs.Run.{Machine, Test, State, Next, Goes, Ends, and_then, run, step}
 use Rattle.setl_model.specs.Laws.{OneMeaning}
-use Rattle.setl_model.specs.Means.{Means}
+use Rattle.setl_model.specs.Core.{Core}
+use Rattle.setl_model.specs.Means.{Means, first}
+use Rattle.setl_model.specs.Step.{language, test_of}
 use Rattle.setl_program.specs.Program.{Program}
 use Rattle.setl_program.specs.ProgramOf.{program_of}
 use Rattle.setl_top.specs.Accepted.{IsProgram, Accepted, Refusal, IsRefusedFor}
-use Rattle.setl_top.specs.Headline.{Moment, AnyRose, ReadCause, load_failed, read_failed, InputLeft, untouched, read_from, WriteCause, out_failed, err_failed, faulty_words, refused, checked, listed, run_ended, Job, IsInput, IsToRun, status_for}
-use Rattle.setl_top.specs.Laws.{IsComplete, FaultyWordsReadNothing, RefusesExactly, ChecksExactly, ListsExactly, EndsExactly, TellsTexts}
+use Rattle.setl_top.specs.Headline.{Moment, AnyRose, ReadCause, load_failed, read_failed, InputLeft, untouched, read_from, WriteCause, out_failed, err_failed, faulty_words, no_such_watcher, refused, checked, listed, run_ended, Job, IsInput, IsToRun, status_for}
+use Rattle.setl_top.specs.Laws.{IsComplete, FaultyWordsReadNothing, WordsExactly, RefusesExactly, ChecksExactly, ListsExactly, EndsExactly, TellsTexts}
 use Rattle.setl_top.specs.Listings.{listing_of}
+use Rattle.setl_top.specs.Watching.{asked_for, IsThere, IsNoRequest, reports_of}
 use Rattle.setl_top.specs.Reasons.{reason_line}
+use Rattle.setl_top.specs.declared.status.Status.{Status}
 use Rattle.setl_top.specs.declared.status.Status.TheVariants.{Done, Refused, Words, Stopped, Spent, ReadFault, WriteFault, NoMemory}
-use Rattle.setl_words.specs.Words.{Command, Run, Check, Code, Spells, HasFile, RunsFile, IsFaulty, OneCommand}
+use Rattle.setl_words.specs.Words.{Command, Run, Check, Code, Spells, HasFile, RunsFile, watched_by, OneCommand}
 use Rattle.setl_top.proofs.OneReason.{FrontLaws, one_reason, one_program_tree, not_refused}
 
 write_rose : (words : List (List ℕ)) (before after : Moment) (out : List ℕ) → WriteCause words before after out → AnyRose before after
@@ -21,7 +26,7 @@ write_rose words before after out (out_failed r u) = inr (inl r)
 write_rose words before after out (err_failed s e r a) = inr (inr r)
 
 read_rose : (words : List (List ℕ)) (before after : Moment) (out : List ℕ) → ReadCause words before after out → AnyRose before after
-read_rose words before after _ (load_failed c n s f r e) = inl (inl r)
+read_rose words before after _ (load_failed c n s f t r e) = inl (inl r)
 read_rose words before after _ (read_failed job out r a h) = inl (inr r)
 
 pub complete : IsComplete
@@ -36,16 +41,37 @@ complete words before after NoMemory h = inl (inr refl)
 
 -- ---- the words
 
-no_read : (words : List (List ℕ)) (before after : Moment) (out : List ℕ) → IsFaulty words → ReadCause words before after out → ⊥
-no_read words before after _ faulty (load_failed c n s f r e) = faulty c s
-no_read words before after _ faulty (read_failed job out r a h) = faulty a.command a.spelled
+no_read : (words : List (List ℕ)) (before after : Moment) (out : List ℕ) → IsNoRequest words before.watchers → ReadCause words before after out → ⊥
+no_read words before after _ faulty (load_failed c n s f t r e) = faulty c s t
+no_read words before after _ faulty (read_failed job out r a h) = faulty a.command a.spelled a.there
 
-no_input : (words : List (List ℕ)) (before after : Moment) → IsFaulty words → InputLeft words before after → after.input ≡ before.input
+no_input : (words : List (List ℕ)) (before after : Moment) → IsNoRequest words before.watchers → InputLeft words before after → after.input ≡ before.input
 no_input words before after faulty (untouched e) = e
-no_input words before after faulty (read_from job out taken a h k) = absurd (faulty a.command a.spelled)
+no_input words before after faulty (read_from job out taken a h k) = absurd (faulty a.command a.spelled a.there)
 
 pub faulty_reads_nothing : FaultyWordsReadNothing
 faulty_reads_nothing words before after faulty = ((λ h. no_read words before after h.out faulty h.cause), no_input words before after faulty)
+
+-- ---- the last state
+
+module _ {C : Type 0} (m : Machine C) (test : Test) where
+  -- a run has one last state
+  same_last : (n k : ℕ) (s a b : State C) (e f : End) → run m test n s ≡ Ends e a → run m test k s ≡ Ends f b → a ≡ b
+  same_last zero k s a b e f h i = absurd (cc)
+  same_last (suc n) zero s a b e f h i = absurd (cc)
+  same_last (suc n) (suc k) s a b e f h i = go (step m test s) (λ t. same_last n k t a b e f) h i
+    where
+      go : (y : Next C) → ((t : State C) → run m test n t ≡ Ends e a → run m test k t ≡ Ends f b → a ≡ b) → and_then y (run m test n) ≡ Ends e a → and_then y (run m test k) ≡ Ends f b → a ≡ b
+      go (Goes t) ih h i = ih t h i
+      go (Ends g t) ih h i =
+          let first : t ≡ a = cc in
+          let second : t ≡ b = cc in
+          sym first ∙ second
+
+-- so a meaning has one list of events
+one_last : (p : Program) (input : List ℕ) (turns : ℕ) (based : Bool) (o o' : List ℕ) (e e' : End) (m : Means p input turns based o e) (n : Means p input turns based o' e') → m.last.events ≡ n.last.events
+one_last p input turns based o o' e e' m n =
+    ap (λ (s : State Core). s.events) (same_last (language p) (test_of p.modes based) m.steps n.steps (first p input turns) m.last n.last e e' m.ends n.ends)
 
 module _ (one_command : OneCommand) where
   one_file : (c : Command) (n m : List ℕ) → HasFile c n → HasFile c m → n ≡ m
@@ -64,6 +90,10 @@ module _ (one_command : OneCommand) where
   runs_so words before job c a s =
       subst (λ d. RunsFile d a.name job.turns job.based) (one_command words a.command c a.spelled s) a.runs
 
+  -- a command whose watcher is there isn't one whose watcher isn't
+  not_there : (words : List (List ℕ)) (before : Moment) (c d : Command) → Spells words c → Spells words d → (IsThere (watched_by c) before.watchers → ⊥) → IsThere (watched_by d) before.watchers → ⊥
+  not_there words before c d s t none there = none (subst (λ x. IsThere (watched_by x) before.watchers) (one_command words d c t s) there)
+
   -- two texts of one name are one
   one_text : (before : Moment) (texts : List ℕ → Option (List ℕ)) → TellsTexts before texts → (n m a b : List ℕ) → n ≡ m → IsText before.texts n a → IsText before.texts m b → a ≡ b
   one_text before texts t n m a b e h k =
@@ -80,6 +110,24 @@ module _ (one_command : OneCommand) where
   one_source words before texts t c d n m a b s f h s' f' h' =
       one_text before texts t n m a b (one_file c n m f (subst (λ x. HasFile x m) (one_command words d c s' s) f')) h h'
 
+  -- ---- faulty words
+
+  is_words : {P : Type 0} (status : Status) → (status ≡ Words → ⊥) → (P → ⊥) → (status ≡ Words) ↔ P
+  is_words status other none = ((λ e. absurd (other e)), λ p. absurd (none p))
+
+  not_words : (ending : RunStatus) → status_for ending ≡ Words → ⊥
+  not_words IsDone e = absurd (cc)
+  not_words IsStopped e = absurd (cc)
+  not_words IsSpent e = absurd (cc)
+
+  pub words_only : WordsExactly
+  words_only words before _ _ _ _ (faulty_words told n tells) = ((λ _ c s t. n c s), λ _. refl)
+  words_only words before _ _ _ _ (no_such_watcher c s none) = ((λ _ d s' there. not_there words before c d s s' none there), λ _. refl)
+  words_only words before _ _ _ _ (refused c n x l s f there t r) = is_words Refused (λ e. absurd (cc)) (λ no. no c s there)
+  words_only words before _ _ _ _ (checked n x tree s t p) = is_words Done (λ e. absurd (cc)) (λ no. no (Check n) s tt)
+  words_only words before _ _ _ _ (listed text a) = is_words Done (λ e. absurd (cc)) (λ no. no (Code a.name) a.spelled tt)
+  words_only words before _ _ _ _ (run_ended job out end ending left a m e k) = is_words (status_for ending) (not_words ending) (λ no. no a.command a.spelled a.there)
+
   -- ---- refusals
 
   -- a source that is refused isn't run
@@ -95,24 +143,26 @@ module _ (one_command : OneCommand) where
       r.tells ∙ ap reason_line same ∙ sym q.tells
 
   pub refused_only : FrontLaws → RefusesExactly
-  refused_only laws words before texts c name source line _ _ _ _ t s f h r (faulty_words told n tells) = absurd (n c s)
-  refused_only laws words before texts c name source line _ _ _ _ t s f h r (refused d n x l s' f' t' r') =
+  refused_only laws words before texts c name source line _ _ _ _ t s f w h r (faulty_words told n tells) = absurd (n c s)
+  refused_only laws words before texts c name source line _ _ _ _ t s f w h r (no_such_watcher d s' none) = absurd (not_there words before d c s' s none w)
+  refused_only laws words before texts c name source line _ _ _ _ t s f w h r (refused d n x l s' f' w' t' r') =
       let sources = one_source words before texts t d c n name x source s' f' t' s f (told_text before texts t name source h) in
       (refl, refl, ap (λ y. y ++ 10 ∷ []) (one_line laws x source l line sources r' r), refl)
-  refused_only laws words before texts c name source line _ _ _ _ t s f h r (checked n x tree s' t' p) =
+  refused_only laws words before texts c name source line _ _ _ _ t s f w h r (checked n x tree s' t' p) =
       let sources = one_source words before texts t (Check n) c n name x source s' refl t' s f (told_text before texts t name source h) in
       absurd (not_refused laws source r.reason r.refused tree (subst (λ y. IsProgram y tree) sources p))
-  refused_only laws words before texts c name source line _ _ _ _ t s f h r (listed text a) =
+  refused_only laws words before texts c name source line _ _ _ _ t s f w h r (listed text a) =
       let sources = one_source words before texts t (Code a.name) c a.name name a.source source a.spelled refl a.text s f (told_text before texts t name source h) in
       absurd (not_refused laws source r.reason r.refused a.tree (subst (λ y. IsProgram y a.tree) sources a.is_program))
-  refused_only laws words before texts c name source line _ _ _ _ t s f h r (run_ended job out end ending left a m e k) =
+  refused_only laws words before texts c name source line _ _ _ _ t s f w h r (run_ended job out end ending left a m e k) =
       absurd (refused_not_run laws words before texts t job a c name source line s f (told_text before texts t name source h) r)
 
   -- ---- checks
 
   pub checks_only : FrontLaws → ChecksExactly
   checks_only laws words before texts name source _ _ _ _ t s h (faulty_words told n tells) = absurd (n (Check name) s)
-  checks_only laws words before texts name source _ _ _ _ t s h (refused d n x l s' f' t' r) =
+  checks_only laws words before texts name source _ _ _ _ t s h (no_such_watcher d s' none) = absurd (not_there words before d (Check name) s' s none tt)
+  checks_only laws words before texts name source _ _ _ _ t s h (refused d n x l s' f' w' t' r) =
       let sources = one_source words before texts t d (Check name) n name x source s' f' t' s refl (told_text before texts t name source h) in
       let moved = subst (λ y. IsRefusedFor y r.reason) sources r.refused in
       (((λ (e : Refused ≡ Done). absurd (cc)), λ p. absurd (not_refused laws source r.reason moved p.0 p.1)), refl, (λ (e : Refused ≡ Done). absurd (cc)), refl)
@@ -126,7 +176,8 @@ module _ (one_command : OneCommand) where
 
   pub lists_only : FrontLaws → ListsExactly
   lists_only laws words before texts name source _ _ _ _ t s h (faulty_words told n tells) = absurd (n (Code name) s)
-  lists_only laws words before texts name source _ _ _ _ t s h (refused d n x l s' f' t' r) =
+  lists_only laws words before texts name source _ _ _ _ t s h (no_such_watcher d s' none) = absurd (not_there words before d (Code name) s' s none tt)
+  lists_only laws words before texts name source _ _ _ _ t s h (refused d n x l s' f' w' t' r) =
       let sources = one_source words before texts t d (Code name) n name x source s' f' t' s refl (told_text before texts t name source h) in
       let moved = subst (λ y. IsRefusedFor y r.reason) sources r.refused in
       (((λ (e : Refused ≡ Done). absurd (cc)), λ p. absurd (not_refused laws source r.reason moved p.0 p.1)), (λ tree p. absurd (not_refused laws source r.reason moved tree p)), inr (refl, refl), refl)
@@ -165,18 +216,29 @@ module _ (one_command : OneCommand) where
       let left = one_input before input i j.input k.input a.input b.input in
       let runs = subst (λ c. RunsFile c b.name k.turns k.based) (one_command words b.command a.command b.spelled a.spelled) b.runs in
       let bounds = one_turns a.command a.name b.name j.turns k.turns j.based k.based a.runs runs in
-      λ x. record { program = program x; input = left x; turns = bounds.0 x; based = bounds.1 x }
+      let watchers : j.watchers ≡ k.watchers = a.watched ∙ ap (λ c. asked_for (watched_by c) before.watchers) (one_command words a.command b.command a.spelled b.spelled) ∙ sym b.watched in
+      λ x. record { program = program x; input = left x; turns = bounds.0 x; based = bounds.1 x; watchers = watchers x }
+
+  -- the run that is asked for ends so, and these are its events
+  record Ended (job : Job) (out : List ℕ) (end : End) (events : List Event) : Type 0 where
+    pub means : Means job.program job.input job.turns job.based out end
+    pub told : means.last.events ≡ events
 
   one_ending : (e d : End) (a b : RunStatus) → e ≡ d → status_of e ≡ Some a → status_of d ≡ Some b → a ≡ b
   one_ending e d a b h p q = let r = ap status_of h in cc
 
   pub ends_only : FrontLaws → OneMeaning → EndsExactly
   ends_only laws meaning words before texts input job said end ending _ _ _ _ t i a m s (faulty_words told n tells) = absurd (n a.command a.spelled)
-  ends_only laws meaning words before texts input job said end ending _ _ _ _ t i a m s (refused c name source line s' f h r) = absurd (refused_not_run laws words before texts t job a c name source line s' f h r)
+  ends_only laws meaning words before texts input job said end ending _ _ _ _ t i a m s (no_such_watcher d s' none) = absurd (not_there words before d a.command s' a.spelled none a.there)
+  ends_only laws meaning words before texts input job said end ending _ _ _ _ t i a m s (refused c name source line s' f w h r) = absurd (refused_not_run laws words before texts t job a c name source line s' f h r)
   ends_only laws meaning words before texts input job said end ending _ _ _ _ t i a m s (checked n x tree s' t' p) = absurd (runs_so words before job (Check n) a s')
   ends_only laws meaning words before texts input job said end ending _ _ _ _ t i a m s (listed text l) = absurd (runs_so words before job (Code l.name) a l.spelled)
   ends_only laws meaning words before texts input job said end ending _ _ _ _ t i a m s (run_ended other out last how left b n u k) =
       let same = one_job laws words before texts input t i other job b a in
-      let moved = subst (λ (j : Job). Means j.program j.input j.turns j.based out last) same n in
-      let both = meaning job.program job.input job.turns job.based out said last end moved m in
-      (ap status_for (one_ending last end how ending both.1 u s), both.0, ap error_line both.1)
+      let moved = subst (λ (j : Job). Ended j out last n.last.events) same (record { means = n; told = refl }) in
+      let both = meaning job.program job.input job.turns job.based out said last end moved.means m in
+      let told = one_last job.program job.input job.turns job.based out said last end moved.means m in (
+        ap status_for (one_ending last end how ending both.1 u s),
+        both.0,
+        λ x. reports_of ((ap (λ (j : Job). j.watchers) same) x) ((sym moved.told ∙ told) x) ++ error_line (both.1 x),
+      )

@@ -1,4 +1,5 @@
 pub mod Fronts
+pub mod Keeping
 pub mod Loading
 pub mod Ends
 pub mod OneReason

@@ -17,7 +17,7 @@ use Rattle.setl_code.specs.CodeOf.{code_of}
 use Rattle.setl_code.specs.Machine.{machine, fetch, do_step, on_popped, print_values}
 use Rattle.setl_machine.specs.Declaring.{tested}
 use Rattle.setl_machine.specs.Outcome.{said, start, AtPrint, AtRead, EndsWriteNothing}
-use Rattle.setl_simulation.specs.Claims.{CodeMeansAlike, CodeEndsInTheSameState, CodeReachesTheSameStates, CodeReadsWhereMeant, CodePrintsWhereMeant}
+use Rattle.setl_simulation.specs.Claims.{CodeEndsAlike, CodeMeansAlike, CodeEndsInTheSameState, CodeReachesTheSameStates, CodeReadsWhereMeant, CodePrintsWhereMeant}
 use Rattle.setl_simulation.specs.States.{CodeReaches}
 use Rattle.setl_top.specs.Moments.{AtState}
 use Rattle.setl_top.specs.Moments as moments
@@ -74,6 +74,7 @@ said_at_print c test k line n vs xs next ops =
 
 -- that code means what its program means
 pub record CodeLaws : Type 0 where
+  pub ends : CodeEndsAlike
   pub means : CodeMeansAlike
   pub last : CodeEndsInTheSameState
   pub reached : CodeReachesTheSameStates

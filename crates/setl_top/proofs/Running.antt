@@ -20,6 +20,7 @@ use Rattle.setl_code.specs.Machine.{machine}
 use Rattle.setl_store.specs.Standing.{Standing, started}
 use Rattle.setl_machine.specs.Control.{ControlState, IsRest, kept_for, stood_for}
 use Rattle.setl_machine.specs.Declaring.{Modes}
+use Rattle.setl_machine.specs.Hearing.{events_told, Hears}
 use Rattle.setl_machine.specs.Outcome.{IsLikely, kind_of, said, AtPrint, AtRead, Before, NoFault}
 use Rattle.setl_machine.specs.Outcome as outcome
 use Rattle.setl_machine.specs.declared.end.End.{End}
@@ -29,7 +30,9 @@ use Rattle.setl_top.specs.code.CodeRuns.{RunsCode, seen_before, seen_now}
 use Rattle.setl_top.specs.Headline.{IsInput, IsLeft}
 use Rattle.setl_top.specs.Moments as moments
 use Rattle.setl_top.specs.Moments.{AtState}
-use Rattle.setl_top.specs.code.Runs.{Streams, counted, RunsTo, RunsInto, RunsToRead, RunsUpTo, Runs, TakesInput}
+use Rattle.setl_top.specs.code.Runs.{Streams, streams, counted, RunsTo, RunsInto, RunsToRead, RunsUpTo, Runs, TakesInput}
+use Rattle.setl_simulation.specs.Claims.{Ended}
+use Rattle.setl_watch.specs.Watches.{Watch, Watched, watched, told_all}
 use Rattle.setl_words.specs.Words.{Options}
 use Rattle.setl_top.proofs.Fronts.{appends_none}
 use Rattle.setl_top.proofs.Reaching.{CodeLaws, Taken, coded, as_meant, Came, ends_at, came_at_state, came_at_read, came_at_print}
@@ -123,11 +126,13 @@ module _ (laws : CodeLaws) (p : Program) (formed : Formed p) (asked : Options) (
   came n t line b = (b.after, b.reached)
 
   -- the run ended in the meaning's sense
-  coming_to : (n : ℕ) (last : CodeCore) (e : run.End) → EndsAs (coded p asked input n) last e → IsLeft s.input s.left last.world.input → Appends s.old s.new (said (coded p asked input n)) → NoFault (seen_before s) (seen_now s) → RunsTo p asked s e
-  coming_to n last e x left gained count =
+  coming_to : (n : ℕ) (last : CodeCore) (e : run.End) → EndsAs (coded p asked input n) last e → IsLeft s.input s.left last.world.input → Appends s.old s.new (said (coded p asked input n)) → NoFault (seen_before s) (seen_now s) → s.heard ≡ told_all (events_told (coded p asked input n)) s.watchers → RunsTo p asked s e
+  coming_to n last e x left gained count heard =
       let out : List ℕ = x.state.out in
-      let code : CodeMeans (code_of p) p.modes input asked.turns asked.based out e = record { steps = n; last = x.state; ends = as_meant p asked input n (Ends e x.state) x.is; written = refl } in
-      let means : Means p input asked.turns asked.based out e = (laws.means p formed input asked.turns asked.based out e).1 code in
+      let ends = as_meant p asked input n (Ends e x.state) x.is in
+      let code : CodeMeans (code_of p) p.modes input asked.turns asked.based out e = record { steps = n; last = x.state; ends = ends; written = refl } in
+      let meant : Ended p input asked.turns asked.based out x.state.events e = (laws.ends p formed input asked.turns asked.based out x.state.events e).1 (record { steps = n; last = x.state; ends = ends; written = refl; told = refl }) in
+      let means : Means p input asked.turns asked.based out e = record { steps = meant.steps; last = meant.last; ends = meant.ends; written = meant.written } in
       let reach = ends_at (machine (code_of p)) (Taken p asked input) (laws.silent (code_of p) (counted asked p)) n (code_first (code_of p) input asked.turns) x.state e x.is in
       let same = laws.last p formed input asked.turns asked.based out out e e means code in
       record {
@@ -140,6 +145,7 @@ module _ (laws : CodeLaws) (p : Program) (formed : Formed p) (asked : Options) (
         gained = subst (Appends s.old s.new) (ap said x.is) gained;
         input_count = count.1;
         out_count = count.0;
+        told = heard ∙ ap (λ y. told_all (events_told y) s.watchers) x.is ∙ ap (λ es. told_all es s.watchers) (sym meant.told);
       }
 
   -- no run is stuck
@@ -181,11 +187,11 @@ module _ (laws : CodeLaws) (p : Program) (formed : Formed p) (asked : Options) (
 -- the machine's run is one of the program
 runs : (laws : CodeLaws) (p : Program) (formed : Formed p) (asked : Options) (s : Streams) (e : End) → RunsCode (code_of p) (counted asked p) asked.turns s e → Runs p asked s e
 runs laws p formed asked s end.Done r =
-    coming_to laws p formed asked s r.input r.known r.steps r.last run.Done (done (counted asked p) (coded p asked r.input r.steps) r.last r.ran.0) r.left r.ran.1 r.ran.2
+    coming_to laws p formed asked s r.input r.known r.steps r.last run.Done (done (counted asked p) (coded p asked r.input r.steps) r.last r.ran.0) r.left r.ran.1 r.ran.2 r.heard
 runs laws p formed asked s (end.Stopped why line) r =
-    coming_to laws p formed asked s r.input r.known r.steps r.last (run.Stopped (kind_of (counted asked p) why) line) (stopped (counted asked p) (coded p asked r.input r.steps) r.last why line r.ran.0) r.left r.ran.1 r.ran.2
+    coming_to laws p formed asked s r.input r.known r.steps r.last (run.Stopped (kind_of (counted asked p) why) line) (stopped (counted asked p) (coded p asked r.input r.steps) r.last why line r.ran.0) r.left r.ran.1 r.ran.2 r.heard
 runs laws p formed asked s end.Spent r =
-    coming_to laws p formed asked s r.input r.known r.steps r.last run.Spent (spent (counted asked p) (coded p asked r.input r.steps) r.last r.ran.0) r.left r.ran.1 r.ran.2
+    coming_to laws p formed asked s r.input r.known r.steps r.last run.Spent (spent (counted asked p) (coded p asked r.input r.steps) r.last r.ran.0) r.left r.ran.1 r.ran.2 r.heard
 runs laws p formed asked s end.ReadFault r = (reading laws p formed asked s r.input r.known r.steps r.ran.0 r.ran.1 r.ran.2 r.ran.3 r.ran.4, r.ran.5)
 runs laws p formed asked s end.WriteFault r = (breaking laws p formed asked s r.input r.known r.steps r.ran.0 r.ran.1 r.ran.2 r.ran.3 r.ran.4, r.ran.5)
 runs laws p formed asked s end.NoMemory r = starving laws p formed asked s r.input r.known r.steps r.ran.0 r.ran.1 r.ran.2 r.ran.3 r.ran.4
@@ -244,6 +250,12 @@ runs_as p q asked s e is h = subst (λ (r : Program). Runs r asked s e) is h
 pub takes_as : (p q : Program) (asked : Options) (s : Streams) → p ≡ q → TakesInput p asked s → TakesInput q asked s
 takes_as p q asked s is h = subst (λ (r : Program). TakesInput r asked s) is h
 
+-- the same watchers, which have reported nothing
+pub heard_from : (P : Streams → Type 0) (input left : Option (List ℕ)) (i j : ℕ) (old new : Option (List ℕ)) (m n : ℕ) (heard : Watched) (ws xs : List Watch) (reports : List ℕ) → ws ≡ xs → reports ≡ [] → P (streams input left i j old new m n (watched ws reports) heard) → P (streams input left i j old new m n (watched xs []) heard)
+heard_from P input left i j old new m n heard ws xs reports same none h =
+    subst (λ r. P (streams input left i j old new m n (watched xs r) heard)) none
+    (subst (λ ys. P (streams input left i j old new m n (watched ys reports) heard)) same h)
+
 -- ---- from what the machine tells
 
 module _ (modes : Modes) (turns : ℕ) where
@@ -257,6 +269,7 @@ module _ (modes : Modes) (turns : ℕ) where
       (rest : List ℕ) × IsRest (ahead first.reader.ended s.input) rest
       × (n : ℕ) × outcome.Ran modes (plain_code store.code) n (stood_for store.core first rest) (seen_before s) (seen_now s) (stood_for core control rest') e
       × outcome.ReadsOnly modes (plain_code store.code) n (stood_for store.core first rest) s.input s.left
+      × Hears modes (plain_code store.code) n (stood_for store.core first rest) s.watchers s.heard e
 
   told_fresh : (code : RustCode) (s : Streams) (core : CodeCore) (control : ControlState) (e : End) → Told (started code) fresh s core control e → (e ≡ end.Paused → ⊥) → TakesOff s.input s.left → StaysHonest false s.input control.reader.ended s.left → RunsCode (plain_code code) modes turns s e
   told_fresh code s core control e told whole took honest =
@@ -272,6 +285,7 @@ module _ (modes : Modes) (turns : ℕ) where
         left = kept_left (kept_for control.reader.fault control.reader.kept) control.reader.ended s.input s.left took honest;
         took = took;
         whole = whole;
+        heard = r.5;
       }
 
   -- a whole run of the machine from a store that was started and a new control

@@ -13,13 +13,17 @@ use Rattle.setl_top.specs.Fronts.{IsFront}
 use Rattle.setl_top.specs.Lines.{AppendsFront}
 use Rattle.setl_top.specs.Listings.{listing_of}
 use Rattle.setl_top.specs.Moments.{AtState, AtPrint, AtRead}
+use Rattle.setl_top.specs.Watching.{asked_for, IsThere, reports_of}
 use Rattle.setl_top.specs.declared.status.Status.{Status}
 use Rattle.setl_top.specs.declared.status.Status.TheVariants.{Done, Refused, Words, Stopped, Spent, ReadFault, WriteFault, NoMemory}
-use Rattle.setl_words.specs.Words.{Command, Check, Code, Spells, HasFile, RunsFile, IsFaulty}
+use Rattle.setl_watch.specs.Watches.{Watch}
+use Rattle.setl_words.specs.Words.{Command, Check, Code, Spells, HasFile, RunsFile, watched_by, IsFaulty}
 use Rattle.setl_words.specs.Told.{TellsFaulty}
 
--- What is seen of the outside at one moment: the contents, where they are told, and the counts of faults.
+-- What is seen of the outside at one moment: the watchers that the call is handed, the contents, where they are told, and
+-- the counts of faults.
 pub record Moment : Type 0 where
+  pub watchers : List Watch
   pub texts : Texts
   pub input : Option (List ℕ)
   pub out : Option (List ℕ)
@@ -30,8 +34,9 @@ pub record Moment : Type 0 where
   pub err_faults : ℕ
 
 -- what is seen of the objects that a call is handed, by the words of their traits
-abbrev pub moment : {F I O E : Type 0} → (F → Texts) → (F → ℕ) → (I → Option (List ℕ)) → (I → ℕ) → (O → Option (List ℕ)) → (O → ℕ) → (E → Option (List ℕ)) → (E → ℕ) → F → I → O → E → Moment
-moment texts files_faults left input_faults held out_faults told err_faults files input out err = record {
+abbrev pub moment : {F I O E : Type 0} → List Watch → (F → Texts) → (F → ℕ) → (I → Option (List ℕ)) → (I → ℕ) → (O → Option (List ℕ)) → (O → ℕ) → (E → Option (List ℕ)) → (E → ℕ) → F → I → O → E → Moment
+moment watchers texts files_faults left input_faults held out_faults told err_faults files input out err = record {
+  watchers = watchers;
   texts = texts files;
   input = left input;
   out = held out;
@@ -42,12 +47,14 @@ moment texts files_faults left input_faults held out_faults told err_faults file
   err_faults = err_faults err;
 }
 
--- what is run: a program, the bytes of its input, its bound on turns, and whether its declarations count
+-- what is run: a program, the bytes of its input, its bound on turns, whether its declarations count, and the watchers that
+-- are told its events
 pub record Job : Type 0 where
   pub program : Program
   pub input : List ℕ
   pub turns : ℕ
   pub based : Bool
+  pub watchers : List Watch
 
 -- where the bytes left of an input are told, they are these
 abbrev pub IsInput : Option (List ℕ) → List ℕ → Type 0
@@ -64,6 +71,8 @@ pub record IsToRun (words : List (List ℕ)) (before : Moment) (job : Job) : Typ
   pub text : IsText before.texts name source
   pub accepted : Accepted source job.program
   pub input : IsInput before.input job.input
+  pub there : IsThere (watched_by command) before.watchers
+  pub watched : job.watchers ≡ asked_for (watched_by command) before.watchers
 
 -- the words ask for the code of a program, and this is its listing
 pub record IsToList (words : List (List ℕ)) (before : Moment) (listed : List ℕ) : Type 0 where
@@ -87,13 +96,15 @@ IsLeft None left bytes = ⊤
 IsLeft (Some input) left bytes = (kept : List ℕ) × (prepend_known kept left ≡ Some bytes)
 
 -- Where nothing fails: the status, what is added to the output and to the error output, and what is left of the input.
--- A run leaves what its last state has of the input, but for bytes that were taken ahead.
+-- A run leaves what its last state has of the input, but for bytes that were taken ahead, and its watchers report what they
+-- were told of its events before the error line.
 pub data Answers (words : List (List ℕ)) (before : Moment) : Status → List ℕ → List ℕ → Option (List ℕ) → Type 0 where
   faulty_words : (told : List ℕ) → IsFaulty words → TellsFaulty words told → Answers words before Words [] told before.input
-  refused : (command : Command) (name source line : List ℕ) → Spells words command → HasFile command name → IsText before.texts name source → Refusal source line → Answers words before Refused [] (line ++ 10 ∷ []) before.input
+  no_such_watcher : (command : Command) → Spells words command → (IsThere (watched_by command) before.watchers → ⊥) → Answers words before Words [] (codes "no such watcher" ++ 10 ∷ []) before.input
+  refused : (command : Command) (name source line : List ℕ) → Spells words command → HasFile command name → IsThere (watched_by command) before.watchers → IsText before.texts name source → Refusal source line → Answers words before Refused [] (line ++ 10 ∷ []) before.input
   checked : (name source : List ℕ) (tree : Tree) → Spells words (Check name) → IsText before.texts name source → IsProgram source tree → Answers words before Done [] [] before.input
   listed : (text : List ℕ) → IsToList words before text → Answers words before Done text [] before.input
-  run_ended : (job : Job) (out : List ℕ) (end : End) (ending : RunStatus) (left : Option (List ℕ)) → IsToRun words before job → (means : Means job.program job.input job.turns job.based out end) → status_of end ≡ Some ending → IsLeft before.input left means.last.core.shared.world.input → Answers words before (status_for ending) out (error_line end) left
+  run_ended : (job : Job) (out : List ℕ) (end : End) (ending : RunStatus) (left : Option (List ℕ)) → IsToRun words before job → (means : Means job.program job.input job.turns job.based out end) → status_of end ≡ Some ending → IsLeft before.input left means.last.core.shared.world.input → Answers words before (status_for ending) out (reports_of job.watchers means.last.events ++ error_line end) left
 
 -- at a print: the output up to it, and some of its line, and not all of it; or some of a listing, and not all of it
 pub data UpToWrite (words : List (List ℕ)) (before : Moment) : List ℕ → Type 0 where
@@ -139,7 +150,7 @@ pub record Ended (words : List (List ℕ)) (before after : Moment) (status : Sta
 -- The load of the file that the words name failed, and nothing was added but a front of the error line; or a read failed
 -- after the output up to it.
 pub data ReadCause (words : List (List ℕ)) (before after : Moment) : List ℕ → Type 0 where
-  load_failed : (command : Command) (name : List ℕ) → Spells words command → HasFile command name → Rose before.files_faults after.files_faults → AppendsFront before.err after.err (codes "read fault" ++ 10 ∷ []) → ReadCause words before after []
+  load_failed : (command : Command) (name : List ℕ) → Spells words command → HasFile command name → IsThere (watched_by command) before.watchers → Rose before.files_faults after.files_faults → AppendsFront before.err after.err (codes "read fault" ++ 10 ∷ []) → ReadCause words before after []
   read_failed : (job : Job) (out : List ℕ) → Rose before.input_faults after.input_faults → IsToRun words before job → AtRead job.program job.input job.turns job.based out → ReadCause words before after out
 
 pub record ReadFailed (words : List (List ℕ)) (before after : Moment) : Type 0 where

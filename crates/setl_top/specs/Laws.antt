@@ -9,20 +9,27 @@ use Rattle.setl_tree.specs.declared.tree.Tree.{Tree}
 use Rattle.setl_top.specs.Accepted.{IsProgram, Accepted, Refusal}
 use Rattle.setl_top.specs.Headline.{Moment, Headline, InputLeft, Ended, AnyRose, Answers, Job, IsToRun, status_for}
 use Rattle.setl_top.specs.Listings.{listing_of}
+use Rattle.setl_top.specs.Watching.{IsThere, IsNoRequest, reports_of}
 use Rattle.setl_top.specs.declared.status.Status.{Status}
 use Rattle.setl_top.specs.declared.status.Status.TheVariants.{NoMemory, ReadFault, Refused}
 use Rattle.setl_top.specs.declared.status.Status.TheVariants as ended
-use Rattle.setl_words.specs.Words.{Command, Check, Code, Spells, HasFile, IsFaulty}
+use Rattle.setl_words.specs.Words.{Command, Check, Code, Spells, HasFile, watched_by}
 
 -- the call failed in none of the three ways only where it came to its end
 abbrev pub IsComplete : Type 0
 IsComplete = (words : List (List ℕ)) (before after : Moment) (status : Status) →
     Headline words before after status → (AnyRose before after ⊎ (status ≡ NoMemory)) ⊎ Ended words before after status
 
--- faulty words are never answered by a read fault, and the input is left as it was
+-- words that are faulty or ask for a watcher that isn't there are never answered by a read fault, and the input is left as
+-- it was
 abbrev pub FaultyWordsReadNothing : Type 0
-FaultyWordsReadNothing = (words : List (List ℕ)) (before after : Moment) → IsFaulty words →
+FaultyWordsReadNothing = (words : List (List ℕ)) (before after : Moment) → IsNoRequest words before.watchers →
     (Headline words before after ReadFault → ⊥) × (InputLeft words before after → after.input ≡ before.input)
+
+-- exactly they end so
+abbrev pub WordsExactly : Type 0
+WordsExactly = (words : List (List ℕ)) (before : Moment) (status : Status) (out err : List ℕ) (left : Option (List ℕ)) →
+    Answers words before status out err left → (status ≡ ended.Words) ↔ IsNoRequest words before.watchers
 
 -- the texts are told
 abbrev pub TellsTexts : Moment → (List ℕ → Option (List ℕ)) → Type 0
@@ -30,7 +37,7 @@ TellsTexts before texts = before.texts ≡ Some texts
 
 abbrev pub RefusesExactly : Type 0
 RefusesExactly = (words : List (List ℕ)) (before : Moment) (texts : List ℕ → Option (List ℕ)) (command : Command) (name source line : List ℕ) (status : Status) (out err : List ℕ) (left : Option (List ℕ)) →
-    TellsTexts before texts → Spells words command → HasFile command name → texts name ≡ Some source → Refusal source line → Answers words before status out err left →
+    TellsTexts before texts → Spells words command → HasFile command name → IsThere (watched_by command) before.watchers → texts name ≡ Some source → Refusal source line → Answers words before status out err left →
     (status ≡ Refused) × (out ≡ []) × (err ≡ line ++ 10 ∷ []) × (left ≡ before.input)
 
 -- a check is done exactly where the source is a program, and then nothing is told
@@ -48,8 +55,8 @@ ListsExactly = (words : List (List ℕ)) (before : Moment) (texts : List ℕ →
 
 abbrev pub EndsExactly : Type 0
 EndsExactly = (words : List (List ℕ)) (before : Moment) (texts : List ℕ → Option (List ℕ)) (input : List ℕ) (job : Job) (said : List ℕ) (end : End) (ending : RunStatus) (status : Status) (out err : List ℕ) (left : Option (List ℕ)) →
-    TellsTexts before texts → before.input ≡ Some input → IsToRun words before job → Means job.program job.input job.turns job.based said end → status_of end ≡ Some ending → Answers words before status out err left →
-    (status ≡ status_for ending) × (out ≡ said) × (err ≡ error_line end)
+    TellsTexts before texts → before.input ≡ Some input → IsToRun words before job → (means : Means job.program job.input job.turns job.based said end) → status_of end ≡ Some ending → Answers words before status out err left →
+    (status ≡ status_for ending) × (out ≡ said) × (err ≡ reports_of job.watchers means.last.events ++ error_line end)
 
 -- every run of an accepted program ends, for every input and bound on turns, whether declarations count or not
 abbrev pub AcceptedRunsEnd : Type 0

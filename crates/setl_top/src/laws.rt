@@ -1,15 +1,24 @@
 //! What follows from the headline and the definitions alone. The functions have no effect: each states a law.
-ghost use Rattle.setl_top.specs.Laws.{IsComplete, FaultyWordsReadNothing, RefusesExactly, ChecksExactly, ListsExactly, EndsExactly, AcceptedRunsEnd, NoAcceptedRunIsStuck};
+ghost use Rattle.setl_top.specs.Laws.{IsComplete, FaultyWordsReadNothing, WordsExactly, RefusesExactly, ChecksExactly, ListsExactly, EndsExactly, AcceptedRunsEnd, NoAcceptedRunIsStuck};
 
 /// Where no count of faults rose and memory was found, the call came to its end.
 pub fn completeness()
     ensures { IsComplete }
 {}
 
-/// Where the words are faulty, a call never answers that a read failed, and the input is left as it was.
+/// Where the words are faulty or ask for a watcher that isn't there, a call never answers that a read failed, and the
+/// input is left as it was.
 pub fn faulty_words_read_nothing()
     ensures { FaultyWordsReadNothing }
 {}
+
+/// A call that came to its end has the status of faulty words exactly where the words are faulty or ask for a watcher that
+/// isn't there.
+pub fn words_exactly()
+    ensures { WordsExactly }
+{
+    setl_words::one_command();
+}
 
 /// Where the texts are told and the source is refused, a call that came to its end is refused.
 pub fn refused_exactly()
@@ -44,8 +53,8 @@ pub fn lists_exactly()
     setl_parse::one_fault();
 }
 
-/// Where the texts and the input are told and the program ends so, a call that came to its end has that end's status,
-/// output and error line.
+/// Where the texts and the input are told and the program ends so, a call that came to its end has that end's status and
+/// output; the error output has gained what the watchers that were asked for report of its events, and then its error line.
 pub fn ends_exactly()
     ensures { EndsExactly }
 {

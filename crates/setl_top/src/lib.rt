@@ -1,6 +1,7 @@
 //! The program as one call: `setl` does what the words of the command line ask for.
 //!
-//! `setl run FILE` runs a program, `setl check FILE` checks it, and `setl code FILE` writes the listing of its code. A
+//! `setl run FILE` runs a program, `setl check FILE` checks it, and `setl code FILE` writes the listing of its code. With
+//! `--watch NAME` a run tells a watcher its events, which reports of them. A
 //! source that is no program is refused, with the first reason by length, tokens, syntax and nesting, and rules.
 #![tactic(auto)]
 
@@ -16,10 +17,11 @@ mod status;
 mod stop;
 mod tell;
 mod top;
+mod watching;
 
 pub use laws::{
     checks_exactly, completeness, ends_exactly, every_accepted_run_ends, faulty_words_read_nothing,
-    lists_exactly, refused_exactly,
+    lists_exactly, refused_exactly, words_exactly,
 };
 pub use status::Status;
 pub use top::setl;

@@ -6,14 +6,16 @@ ghost use Rattle.setl_machine.specs.Declaring.{IsBare, AreOfMain};
 ghost use Rattle.setl_program.specs.code.Plain.{plain_declared, plain_program};
 ghost use Rattle.setl_top.specs.code.CodeRuns.{RunsCode};
 ghost use Rattle.setl_top.specs.code.Runs.{IsMeant, Runs, TakesInput, counted, streams};
+ghost use Rattle.setl_watch.specs.Watches.{watched};
 ghost use Rattle.setl_words.specs.code.Commands.{options_now};
 
 use setl_code::Code;
 use setl_gen::emit;
 use setl_io::{Sink, Source};
-use setl_machine::{Control, Declarations, End, run_whole};
+use setl_machine::{Control, Declarations, End, run_watched};
 use setl_program::{Declared, Program};
 use setl_store::Store;
+use setl_watch::Watcher;
 use setl_words::Options;
 use std::alloc::{AllocError, Global};
 
@@ -28,8 +30,9 @@ pub fn counted(asked: Options, program: &Program) -> &[Declared]
     }
 }
 
-/// Runs a code from its first step, with so many turns, where these variables are declared. The error is want of memory,
-/// and then nothing was done.
+/// Runs a code from its first step, with so many turns, where these variables are declared, and tells the watchers its
+/// events: those that had enough leave, and their reports are added. The error is want of memory, and then nothing was
+/// done.
 fn run_code<I: Source, O: Sink>(
     alloc: Global,
     code: &Code,
@@ -37,33 +40,46 @@ fn run_code<I: Source, O: Sink>(
     turns: u64,
     input: &mut I,
     out: &mut O,
+    watchers: &mut Vec<Box<dyn Watcher>>,
+    reports: &mut Vec<u8>,
 ) -> Result<End, AllocError>
     requires may_run { MayRun code.now }
     requires bare { IsBare (plain_code code.now) }
     requires main { AreOfMain (map plain_declared declared.now) }
     requires turns { turns < 2 ^ 63 }
-    ensures ran { IfOk result (RunsCode (plain_code code.now) (map plain_declared declared.now) turns (streams (I.left input.old) (I.left input.new) (I.faults input.old) (I.faults input.new) (O.held out.old) (O.held out.new) (O.faults out.old) (O.faults out.new))) }
+    ensures ran { IfOk result (RunsCode (plain_code code.now) (map plain_declared declared.now) turns (streams (I.left input.old) (I.left input.new) (I.faults input.old) (I.faults input.new) (O.held out.old) (O.held out.new) (O.faults out.old) (O.faults out.new) (watched (map (λ w. watch w) watchers.old.items) reports.old.items) (watched (map (λ w. watch w) watchers.new.items) reports.new.items))) }
     ensures input { OnErr result (I.left input.new ≡ I.left input.old) }
     ensures out { OnErr result (O.held out.new ≡ O.held out.old) }
 {
     let declarations = Declarations::new(alloc, code, declared)?;
     let mut store = Store::start(alloc, code)?;
     let mut control = Control::new(alloc, turns)?;
-    Ok(run_whole(&declarations, &mut store, &mut control, input, out))
+    Ok(run_watched(
+        &declarations,
+        &mut store,
+        &mut control,
+        input,
+        out,
+        watchers,
+        reports,
+    ))
 }
 
-/// Runs the program of an accepted tree. The error is want of memory, and then nothing was done.
+/// Runs the program of an accepted tree, and tells the watchers its events. The error is want of memory, and then nothing
+/// was done.
 pub fn run_program<I: Source, O: Sink>(
     alloc: Global,
     program: &Program,
     asked: Options,
     input: &mut I,
     out: &mut O,
+    watchers: &mut Vec<Box<dyn Watcher>>,
+    reports: &mut Vec<u8>,
 ) -> Result<End, AllocError>
     requires meant { IsMeant (plain_program program.now) }
     requires turns { asked.turns < 2 ^ 63 }
-    ensures ran { IfOk result (Runs (plain_program program.now) (options_now asked) (streams (I.left input.old) (I.left input.new) (I.faults input.old) (I.faults input.new) (O.held out.old) (O.held out.new) (O.faults out.old) (O.faults out.new))) }
-    ensures input { TakesInput (plain_program program.now) (options_now asked) (streams (I.left input.old) (I.left input.new) (I.faults input.old) (I.faults input.new) (O.held out.old) (O.held out.new) (O.faults out.old) (O.faults out.new)) }
+    ensures ran { IfOk result (Runs (plain_program program.now) (options_now asked) (streams (I.left input.old) (I.left input.new) (I.faults input.old) (I.faults input.new) (O.held out.old) (O.held out.new) (O.faults out.old) (O.faults out.new) (watched (map (λ w. watch w) watchers.old.items) reports.old.items) (watched (map (λ w. watch w) watchers.new.items) reports.new.items))) }
+    ensures input { TakesInput (plain_program program.now) (options_now asked) (streams (I.left input.old) (I.left input.new) (I.faults input.old) (I.faults input.new) (O.held out.old) (O.held out.new) (O.faults out.old) (O.faults out.new) (watched (map (λ w. watch w) watchers.old.items) reports.old.items) (watched (map (λ w. watch w) watchers.new.items) reports.new.items)) }
     ensures out { OnErr result (O.held out.new ≡ O.held out.old) }
 {
     setl_acceptance::accepted_is_formed();
@@ -81,5 +97,7 @@ pub fn run_program<I: Source, O: Sink>(
         asked.turns,
         input,
         out,
+        watchers,
+        reports,
     )
 }

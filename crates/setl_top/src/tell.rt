@@ -1,22 +1,29 @@
-//! The last line of a call.
+//! What the error output gains at the end of a call.
 ghost use Rattle.std.specs.Prelude.{◌≡◌, ◌∷◌, ◌++◌, List, ℕ, [], map, string_bytes, IfOk};
+ghost use Rattle.setl_machine.specs.Outcome.{kind_of};
+ghost use Rattle.setl_model.specs.Answers.{error_line};
 ghost use Rattle.setl_program.specs.code.Plain.{plain_declared};
+ghost use Rattle.setl_run.specs.Events.{Stopped};
 ghost use Rattle.setl_top.specs.Reasons.{reason_line};
 ghost use Rattle.setl_top.specs.code.Tells.{Tells, TellsEnd};
+ghost use Rattle.setl_top.specs.Watching.{all_told};
+ghost use Rattle.setl_watch.specs.Watches.{watched};
 ghost use Rattle.setl_words.specs.Told.{TellsFaulty};
 
 use crate::Status;
 use crate::lines::{try_line, write_line};
 use crate::reason::{Reason, reason_line};
 use crate::stop::stop_line;
+use crate::watching::all_told;
 use setl_io::{Sink, WriteFault};
-use setl_machine::End;
+use setl_machine::{End, StopKind};
 use setl_program::Declared;
+use setl_watch::Watcher;
 use setl_words::fault_text;
 use std::alloc::{AllocError, Global};
 
 /// Writes the last line of an end.
-fn tell<E: Sink>(err: &mut E, line: &[u8], status: Status) -> Status
+pub fn tell<E: Sink>(err: &mut E, line: &[u8], status: Status) -> Status
     ensures told { Tells status line.now (E.held err.old) (E.held err.new) (E.faults err.old) (E.faults err.new) result }
 {
     match write_line(err, line) {
@@ -46,20 +53,33 @@ pub fn refuse<E: Sink>(alloc: Global, err: &mut E, reason: Reason) -> Status
     tell_made(err, reason_line(alloc, reason), Status::Refused)
 }
 
-/// Tells how a run of the machine ended, in which these variables were declared. It is neither paused nor stuck.
-pub fn tell_end<E: Sink>(alloc: Global, err: &mut E, declared: &[Declared], end: End) -> Status
+/// Tells what the watchers of a run of the machine report, behind the reports of those that left, and how the run ended, in
+/// which these variables were declared. It is neither paused nor stuck. Reports are told only where it ended as its
+/// program does.
+pub fn tell_end<E: Sink>(
+    alloc: Global,
+    err: &mut E,
+    declared: &[Declared],
+    end: End,
+    watchers: &[Box<dyn Watcher>],
+    reports: Vec<u8>,
+) -> Status
     requires paused { ¬ (end ≡ End.Paused) }
     requires stuck { ¬ (end ≡ End.Stuck) }
-    ensures told { TellsEnd (map plain_declared declared.now) end (E.held err.old) (E.held err.new) (E.faults err.old) (E.faults err.new) result }
+    ensures told { TellsEnd (map plain_declared declared.now) (watched (map (λ w. watch w) watchers.now) reports.items) end (E.held err.old) (E.held err.new) (E.faults err.old) (E.faults err.new) result }
 {
     match end {
-        End::Done => Status::Done,
+        End::Done => tell_made(err, all_told(watchers, reports, b""), Status::Done),
         End::Stopped(kind, line) => tell_made(
             err,
-            stop_line(alloc, declared, kind, line),
+            told_stop(alloc, declared, kind, line, watchers, reports),
             Status::Stopped,
         ),
-        End::Spent => tell(err, b"out of turns\n", Status::Spent),
+        End::Spent => tell_made(
+            err,
+            all_told(watchers, reports, b"out of turns\n"),
+            Status::Spent,
+        ),
         End::ReadFault => {
             try_line(err, b"read fault\n");
             Status::ReadFault
@@ -74,6 +94,22 @@ pub fn tell_end<E: Sink>(alloc: Global, err: &mut E, declared: &[Declared], end:
         }
         End::Paused | End::Stuck => unreachable!(),
     }
+}
+
+/// All reports, and then the line that tells why a run stopped at a statement of this line, where these variables are
+/// declared. The error is want of memory.
+fn told_stop(
+    alloc: Global,
+    declared: &[Declared],
+    kind: StopKind,
+    line: u32,
+    watchers: &[Box<dyn Watcher>],
+    reports: Vec<u8>,
+) -> Result<Vec<u8>, AllocError>
+    ensures { IfOk result (λ text. text.items ≡ all_told (watched (map (λ w. watch w) watchers.now) reports.items) ++ error_line (Stopped (kind_of (map plain_declared declared.now) kind) line)) }
+{
+    let line = stop_line(alloc, declared, kind, line)?;
+    all_told(watchers, reports, &line)
 }
 
 /// Tells what is to be told of words that are of no plain form.

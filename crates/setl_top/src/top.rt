@@ -1,6 +1,8 @@
 //! The program as one call.
-ghost use Rattle.std.specs.Prelude.{ℕ, ◌<◌, ◌^◌, List, map, string_bytes};
+ghost use Rattle.std.specs.Prelude.{◌≡◌, ℕ, ◌<◌, ◌^◌, List, map, string_bytes};
 ghost use Rattle.setl_top.specs.Headline.{Headline, InputLeft, CheckLeavesRest, ListingLeavesInput, moment};
+ghost use Rattle.setl_top.specs.Watching.{asked_for, IsThere};
+ghost use Rattle.setl_watch.specs.Watches.{Watch};
 ghost use Rattle.setl_words.specs.code.Commands.{options_now};
 ghost use Rattle.setl_words.specs.Words.{Run, Spells};
 
@@ -8,21 +10,27 @@ use crate::Status;
 use crate::listing::list_file;
 use crate::load::{check_file, load_resolved};
 use crate::run::{counted, run_program};
-use crate::tell::{tell_end, tell_faulty};
+use crate::tell::{tell, tell_end, tell_faulty};
+use crate::watching::keep_asked;
 use setl_io::{Files, Sink, Source};
 use setl_machine::End;
+use setl_watch::Watcher;
 use setl_words::{Command, Options, read_words};
 use std::alloc::Global;
 
 /// Does what the words of the command line ask for, and tells how that ended.
 ///
-/// `words` are those after the program's own name: `run [--unbased] [--turns N] FILE`, `check FILE` or `code FILE`. With
-/// `--unbased` the program's declarations don't count, and N from 0 to 2^63 - 1 bounds its turns, which are 2^63 - 1
-/// otherwise. `files` has the sources by name, and `input` is what a program reads. `out` gains what the program prints,
-/// each line at its `print`, or the listing of its code for `code FILE`; `err` gains the last line of a call that wasn't
-/// done, if it has one, or what is told of words that are of no such form. Bytes are taken off the front of `input` only
-/// by a run that comes to a `read`. A check leaves `input` and `out` as they were,
-/// however it ends, and a listing leaves `input` as it was.
+/// `words` are those after the program's own name: `run [--unbased] [--turns N] [--watch NAME] FILE`, `check FILE` or
+/// `code FILE`. With `--unbased` the program's declarations don't count, and N from 0 to 2^63 - 1 bounds its turns, which
+/// are 2^63 - 1 otherwise. `--watch trace` asks for the watchers with the name 1 and `--watch cover` for those with the
+/// name 2; the others are dropped, and where none has that name the words are refused before the file is read. `files` has
+/// the sources by name, and `input` is what a program reads.
+///
+/// `out` gains what the program prints, each line at its `print`, or the listing of its code for `code FILE`. Where a run
+/// ended as its program does, `err` gains the reports of the watchers, first of those that had enough, in the order in which
+/// they had, and then of the others in their order. It gains then the last line of a call that wasn't done, if it has one,
+/// or what is told of words that are of no such form. Bytes are taken off the front of `input` only by a run that comes to
+/// a `read`. A check leaves `input` and `out` as they were, however it ends, and a listing leaves `input` as it was.
 ///
 /// `ReadFault` comes only where the words name a file and the count of faults of `files` rose in the call, or that of
 /// `input` at a `read`, `WriteFault` only where the count of `out` or `err` rose, and `NoMemory` only where memory was
@@ -30,48 +38,79 @@ use std::alloc::Global;
 pub fn setl<F: Files, I: Source, O: Sink, E: Sink>(
     alloc: Global,
     words: &[String],
+    watchers: Vec<Box<dyn Watcher>>,
     files: &mut F,
     input: &mut I,
     out: &mut O,
     err: &mut E,
 ) -> Status
-    ensures headline { let seen = moment F.texts F.faults I.left I.faults O.held O.faults E.held E.faults in
+    ensures headline { let seen = moment (map (λ w. watch w) watchers.items) F.texts F.faults I.left I.faults O.held O.faults E.held E.faults in
         Headline (map string_bytes words.now) (seen files.old input.old out.old err.old) (seen files.new input.new out.new err.new) result }
-    ensures input { let seen = moment F.texts F.faults I.left I.faults O.held O.faults E.held E.faults in
+    ensures input { let seen = moment (map (λ w. watch w) watchers.items) F.texts F.faults I.left I.faults O.held O.faults E.held E.faults in
         InputLeft (map string_bytes words.now) (seen files.old input.old out.old err.old) (seen files.new input.new out.new err.new) }
-    ensures rest { let seen = moment F.texts F.faults I.left I.faults O.held O.faults E.held E.faults in
+    ensures rest { let seen = moment (map (λ w. watch w) watchers.items) F.texts F.faults I.left I.faults O.held O.faults E.held E.faults in
         CheckLeavesRest (map string_bytes words.now) (seen files.old input.old out.old err.old) (seen files.new input.new out.new err.new) }
-    ensures listing { let seen = moment F.texts F.faults I.left I.faults O.held O.faults E.held E.faults in
+    ensures listing { let seen = moment (map (λ w. watch w) watchers.items) F.texts F.faults I.left I.faults O.held O.faults E.held E.faults in
         ListingLeavesInput (map string_bytes words.now) (seen files.old input.old out.old err.old) (seen files.new input.new out.new err.new) }
 {
     match read_words(words) {
-        Some(Command::Run(asked, name)) => run_file(alloc, asked, name, files, input, out, err),
+        Some(Command::Run(asked, name)) => {
+            run_asked(alloc, asked, name, watchers, files, input, out, err)
+        }
         Some(Command::Check(name)) => check_file(alloc, name, files, err),
         Some(Command::Code(name)) => list_file(alloc, name, files, out, err),
         None => tell_faulty(alloc, words, err),
     }
 }
 
-/// Runs the program of a file.
-fn run_file<F: Files, I: Source, O: Sink, E: Sink>(
+/// Runs the program of a file and tells its events those of the watchers that are asked for.
+fn run_asked<F: Files, I: Source, O: Sink, E: Sink>(
     alloc: Global,
     asked: Options,
     name: &str,
+    watchers: Vec<Box<dyn Watcher>>,
     files: &mut F,
     input: &mut I,
     out: &mut O,
     err: &mut E,
 ) -> Status
     requires { asked.turns < 2 ^ 63 }
-    ensures headline { let seen = moment F.texts F.faults I.left I.faults O.held O.faults E.held E.faults in
+    ensures headline { let seen = moment (map (λ w. watch w) watchers.items) F.texts F.faults I.left I.faults O.held O.faults E.held E.faults in
         (words : List (List ℕ)) → Spells words (Run (options_now asked) name.now) → Headline words (seen files.old input.old out.old err.old) (seen files.new input.new out.new err.new) result }
-    ensures input { let seen = moment F.texts F.faults I.left I.faults O.held O.faults E.held E.faults in
+    ensures input { let seen = moment (map (λ w. watch w) watchers.items) F.texts F.faults I.left I.faults O.held O.faults E.held E.faults in
         (words : List (List ℕ)) → Spells words (Run (options_now asked) name.now) → InputLeft words (seen files.old input.old out.old err.old) (seen files.new input.new out.new err.new) }
+{
+    let mut watchers = watchers;
+    if !keep_asked(&mut watchers, asked.watch) {
+        return tell(err, b"no such watcher\n", Status::Words);
+    }
+    run_file(alloc, asked, name, &mut watchers, files, input, out, err)
+}
+
+/// Runs the program of a file and tells its events the watchers, which are those that are asked for.
+fn run_file<F: Files, I: Source, O: Sink, E: Sink>(
+    alloc: Global,
+    asked: Options,
+    name: &str,
+    watchers: &mut Vec<Box<dyn Watcher>>,
+    files: &mut F,
+    input: &mut I,
+    out: &mut O,
+    err: &mut E,
+) -> Status
+    requires { asked.turns < 2 ^ 63 }
+    ensures headline { (words : List (List ℕ)) (handed : List Watch) → let seen = moment handed F.texts F.faults I.left I.faults O.held O.faults E.held E.faults in
+        Spells words (Run (options_now asked) name.now) → IsThere asked.watch handed → map (λ w. watch w) watchers.old.items ≡ asked_for asked.watch handed → Headline words (seen files.old input.old out.old err.old) (seen files.new input.new out.new err.new) result }
+    ensures input { (words : List (List ℕ)) (handed : List Watch) → let seen = moment handed F.texts F.faults I.left I.faults O.held O.faults E.held E.faults in
+        Spells words (Run (options_now asked) name.now) → IsThere asked.watch handed → map (λ w. watch w) watchers.old.items ≡ asked_for asked.watch handed → InputLeft words (seen files.old input.old out.old err.old) (seen files.new input.new out.new err.new) }
 {
     let program = match load_resolved(alloc, name, files, err) {
         Ok(program) => program,
         Err(status) => return status,
     };
-    let end = run_program(alloc, &program, asked, input, out).unwrap_or(End::NoMemory);
-    tell_end(alloc, err, counted(asked, &program), end)
+    let mut reports = Vec::new(alloc);
+    let end = run_program(alloc, &program, asked, input, out, watchers, &mut reports).unwrap_or(
+        End::NoMemory,
+    );
+    tell_end(alloc, err, counted(asked, &program), end, watchers, reports)
 }

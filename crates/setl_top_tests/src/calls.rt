@@ -3,6 +3,7 @@
 use crate::rows::{BETWEEN, fields, text};
 use setl_io::{MemFiles, MemSink, MemSource, Memory, Source, SureSource};
 use setl_top::{Status, setl};
+use setl_watch::{Cover, Trace, Watcher};
 use std::alloc::Global;
 use std::process::Abort;
 
@@ -94,21 +95,46 @@ fn gained(alloc: Global, status: Status, outside: &Outside) -> Result<Left, Memo
     Ok(Left { status, out, err })
 }
 
-/// A call with these words over this outside.
+/// A call with these words over this outside, which is handed a trace and a cover.
 fn called<I: Source>(
     alloc: Global,
     words: &[String],
     outside: &mut Outside,
     input: &mut I,
-) -> Status {
-    setl(
+) -> Result<Status, Memory> {
+    let mut watchers: Vec<Box<dyn Watcher>> = Vec::new(alloc);
+    watchers.push(Box::new(alloc, Trace::new(alloc)?)?)?;
+    watchers.push(Box::new(alloc, Cover::new(alloc)?)?)?;
+    Ok(setl(
         alloc,
         words,
+        watchers,
         &mut outside.files,
         input,
         &mut outside.out,
         &mut outside.err,
-    )
+    ))
+}
+
+/// A run of this source with the words `run --watch trace a`, which is handed these watchers.
+pub fn call_watched(
+    alloc: Global,
+    source: &str,
+    watchers: Vec<Box<dyn Watcher>>,
+) -> Result<Left, Memory> {
+    let words = words_of(alloc, "run --watch trace a")?;
+    let mut outside = outside_of(alloc, source.as_bytes(), NO_FAULTS)?;
+    let mut input = SureSource::new(Vec::new(alloc));
+    let status = setl(
+        alloc,
+        &words,
+        watchers,
+        &mut outside.files,
+        &mut input,
+        &mut outside.out,
+        &mut outside.err,
+    );
+    gained(alloc, status, &outside)
 }
 
 /// A call with these words, with this source in the file `a` and with this input.
@@ -121,7 +147,7 @@ pub fn call_with<I: Source>(
 ) -> Result<Left, Memory> {
     let words = words_of(alloc, line)?;
     let mut outside = outside_of(alloc, source, faults)?;
-    let status = called(alloc, &words, &mut outside, input);
+    let status = called(alloc, &words, &mut outside, input)?;
     gained(alloc, status, &outside)
 }
 

@@ -30,4 +30,6 @@ mod searches;
 #[cfg(test)]
 mod stops;
 #[cfg(test)]
+mod watchers;
+#[cfg(test)]
 mod words;

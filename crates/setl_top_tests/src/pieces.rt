@@ -40,7 +40,15 @@ fn lengths_of(alloc: Global, source: &str) -> Result<Vec<usize>, Memory> {
     let mut err = SureSink::new(alloc)?;
     let mut input = SureSource::new(Vec::new(alloc));
     let mut out = Lengths(Vec::new(alloc));
-    let _ = setl(alloc, &words, &mut files, &mut input, &mut out, &mut err);
+    let _ = setl(
+        alloc,
+        &words,
+        Vec::new(alloc),
+        &mut files,
+        &mut input,
+        &mut out,
+        &mut err,
+    );
     let Lengths(lengths) = out;
     Ok(lengths)
 }

@@ -1,6 +1,8 @@
 //! Lines of words, what they ask for, and what is told of those that are faulty.
 
-use setl_words::{Command, fault_text, faulty_words, one_command, plain_words, read_words};
+use setl_words::{
+    Asked, Command, Options, fault_text, faulty_words, one_command, plain_words, read_words,
+};
 use std::alloc::Global;
 use std::test::Fail;
 
@@ -13,12 +15,19 @@ fn words_of(alloc: Global, line: &str) -> Result<Vec<String>, Fail> {
     Ok(words)
 }
 
-/// The command of a line as a text: of a run its bound on turns, whether declarations count, and its file.
+/// The name of the watcher that options ask for, as a number; 0 where they ask for none.
+fn watcher(options: Options) -> u8 {
+    options.watch.map_or(0, Asked::name)
+}
+
+/// The command of a line as a text: of a run its bound on turns, whether declarations count, the name of the watcher that is
+/// asked for, and its file.
 fn asked(alloc: Global, line: &str) -> Result<String, Fail> {
     let words = words_of(alloc, line)?;
     let text = match read_words(words.as_slice()) {
         Some(Command::Run(options, file)) => {
-            format!(in alloc; "run {} {} {file}", options.turns, options.based)?
+            let watcher = watcher(options);
+            format!(in alloc; "run {} {} {watcher} {file}", options.turns, options.based)?
         }
         Some(Command::Check(file)) => format!(in alloc; "check {file}")?,
         Some(Command::Code(file)) => format!(in alloc; "code {file}")?,
@@ -28,11 +37,14 @@ fn asked(alloc: Global, line: &str) -> Result<String, Fail> {
 }
 
 /// What lines ask for, and the lines.
-const LINES: &str = "run 9223372036854775807 true q.setl: run q.setl
-run 9223372036854775807 false q.setl: run --unbased q.setl
-run 0 true q.setl: run --turns 0 q.setl
-run 50 false q.setl: run --turns 50 --unbased q.setl
-run 9223372036854775807 false q.setl: run --unbased --turns 9223372036854775807 q.setl
+const LINES: &str = "run 9223372036854775807 true 0 q.setl: run q.setl
+run 9223372036854775807 false 0 q.setl: run --unbased q.setl
+run 0 true 0 q.setl: run --turns 0 q.setl
+run 50 false 0 q.setl: run --turns 50 --unbased q.setl
+run 9223372036854775807 true 1 q.setl: run --watch trace q.setl
+run 9223372036854775807 true 2 q.setl: run --watch cover q.setl
+run 5 false 2 q.setl: run --turns 5 --watch cover --unbased q.setl
+run 9223372036854775807 false 0 q.setl: run --unbased --turns 9223372036854775807 q.setl
 check q.setl: check q.setl
 code q.setl: code q.setl
 faulty: run --turns 9223372036854775808 q.setl
@@ -46,6 +58,12 @@ faulty: run --turns=5 q.setl
 faulty: run --turns q.setl
 faulty: run --turns 5 --turns 5 q.setl
 faulty: run --unbased --unbased q.setl
+faulty: run --watch q.setl
+faulty: run --watch profile q.setl
+faulty: run --watch Trace q.setl
+faulty: run --watch=trace q.setl
+faulty: run --watch trace --watch trace q.setl
+faulty: run --watch trace --watch cover q.setl
 faulty: run q.setl --unbased
 faulty: run q.setl q.setl
 faulty: run -- q.setl
@@ -78,6 +96,17 @@ not of the plain form
 ====
 run --turns=5 q
 not of the plain form
+====
+run --watch profile q
+not of the plain form
+====
+run --watch trace
+error: the following required arguments were not provided:
+  <FILE>
+
+Usage: setl run --watch <NAME> <FILE>
+
+For more information, try '--help'.
 ====
 run -- q
 not of the plain form

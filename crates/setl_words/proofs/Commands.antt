@@ -1,8 +1,8 @@
 -- The words of a command in parts: the first, those between, and the last.
-use Rattle.std.proofs.Common.{subst, ◌≡◌, ◌≢◌, ◌∙◌, ℕ, false, List, [], ◌∷◌, ◌++◌, length, None, codes, refl, sym, ap, ap₂, rules, arith}
+use Rattle.std.proofs.Common.{subst, ◌≡◌, ◌≢◌, ◌∙◌, ℕ, List, [], ◌∷◌, ◌++◌, length, codes, refl, sym, ap, ap₂, rules, arith}
 use Rattle.std.specs.List.{flat_map}
 use Rattle.setl_words.specs.Words.{Command, Run, Check, Code, Options, option_words, options_of, Spells, SpellsRun, IsFile, IsFaulty}
-use Rattle.setl_words.specs.code.Reading.{Leads, LeadsNowhere}
+use Rattle.setl_words.specs.code.Reading.{Leads, LeadsNowhere, is_nothing}
 use Rattle.setl_words.specs.declared.given.Given.{Given}
 use Rattle.setl_words.proofs.Order.{head_of, tail_of, one_list, first_gives, options_from, comes_to}
 
@@ -44,20 +44,20 @@ dash_is_faulty words word between name e none (Code n) s =
     let parts = one_last between [] name n (tail_of _ _ _ _ (sym e ∙ s.0)) in
     none (subst IsFile (sym parts.1) s.1)
 
-pub run_is_faulty : (words : List (List ℕ)) (word : List ℕ) (between : List (List ℕ)) (name : List ℕ) (given : Given) → words ≡ word ∷ between ++ name ∷ [] → word ≡ codes "run" → given.turns ≡ None → given.unbased ≡ false → LeadsNowhere given between → IsFaulty words
-run_is_faulty words word between name given e w t u none (Run options n) s =
+pub run_is_faulty : (words : List (List ℕ)) (word : List ℕ) (between : List (List ℕ)) (name : List ℕ) (given : Given) → words ≡ word ∷ between ++ name ∷ [] → word ≡ codes "run" → given ≡ is_nothing → LeadsNowhere given between → IsFaulty words
+run_is_faulty words word between name given e w is none (Run options n) s =
     let parts = one_last between (flat_map option_words s.given) name n (tail_of _ _ _ _ (sym e ∙ s.spelled)) in
-    none s.given (first_gives given t u between s.given parts.0 s.valid)
-run_is_faulty words word between name given e w t u none (Check n) s = run_or_check (sym w ∙ head_of _ _ _ _ (sym e ∙ s.0))
-run_is_faulty words word between name given e w t u none (Code n) s = run_or_code (sym w ∙ head_of _ _ _ _ (sym e ∙ s.0))
+    none s.given (first_gives given is between s.given parts.0 s.valid)
+run_is_faulty words word between name given e w is none (Check n) s = run_or_check (sym w ∙ head_of _ _ _ _ (sym e ∙ s.0))
+run_is_faulty words word between name given e w is none (Code n) s = run_or_code (sym w ∙ head_of _ _ _ _ (sym e ∙ s.0))
 
-pub spells_run : (words : List (List ℕ)) (word : List ℕ) (between : List (List ℕ)) (name : List ℕ) (given all : Given) (options : Options) → words ≡ word ∷ between ++ name ∷ [] → word ≡ codes "run" → IsFile name → given.turns ≡ None → given.unbased ≡ false → Leads given between all → options ≡ options_from all → SpellsRun words options name
-spells_run words word between name given all options e w f t u l o = record {
+pub spells_run : (words : List (List ℕ)) (word : List ℕ) (between : List (List ℕ)) (name : List ℕ) (given all : Given) (options : Options) → words ≡ word ∷ between ++ name ∷ [] → word ≡ codes "run" → IsFile name → given ≡ is_nothing → Leads given between all → options ≡ options_from all → SpellsRun words options name
+spells_run words word between name given all options e w f is l o = record {
   given = l.options;
   spelled = e ∙ ap₂ (λ x xs. x ∷ xs ++ name ∷ []) w l.gives.spelled;
   valid = l.gives.valid;
   file = f;
-  means = o ∙ ap options_from l.comes_to ∙ comes_to given l.options t u;
+  means = o ∙ ap options_from l.comes_to ∙ comes_to given l.options is;
 }
 
 one_run : (words : List (List ℕ)) (o p : Options) (n m : List ℕ) → SpellsRun words o n → SpellsRun words p m → Run o n ≡ Run p m

@@ -1,10 +1,12 @@
 -- How the options of a run follow one another in the words.
-use Rattle.std.proofs.Common.{◌≡◌, ◌≢◌, ◌^◌, ◌-◌, ◌∙◌, ℕ, false, not, List, [], ◌∷◌, ◌++◌, length, map, Option, Some, None, IfNone, codes, refl, sym, ap, ap₂, subst, rules, arith, drop, unwrap_or}
+use Rattle.std.proofs.Common.{◌≡◌, ◌≢◌, ◌^◌, ◌-◌, ◌∙◌, ℕ, not, List, [], ◌∷◌, ◌++◌, length, map, Option, Some, None, IfNone, codes, refl, sym, ap, ap₂, subst, rules, arith, drop, unwrap_or}
 use Rattle.std.proofs.lemmas.Fmt.{decimal_injective}
 use Rattle.std.specs.List.{flat_map, fold}
-use Rattle.setl_words.specs.Words.{RunOption, Unbased, Turns, option_words, IsInRange, IsSameKind, IsOther, AreOptions, Options, with_option, options_of}
-use Rattle.setl_words.specs.code.Reading.{IsFree, AreFree, with_given, Gives, Leads, LeadsNowhere}
+use Rattle.setl_words.specs.Words.{RunOption, Unbased, Turns, Watch, watcher_word, option_words, IsInRange, IsSameKind, IsOther, AreOptions, Options, with_option, options_of}
+use Rattle.setl_words.specs.code.Reading.{IsFree, AreFree, with_given, is_nothing, Gives, Leads, LeadsNowhere}
 use Rattle.setl_words.specs.declared.given.Given.{Given}
+use Rattle.setl_words.specs.declared.watching.Asked.{Asked}
+use Rattle.setl_words.specs.declared.watching.Asked.TheVariants.{Trace, Cover}
 
 -- what holds holds also where something isn't there
 pub always : {T P : Type 0} → (r : Option T) → P → IfNone r P
@@ -31,13 +33,35 @@ head_of x y xs ys e = ap (first_or x) e
 pub tail_of : {T : Type 0} → (x y : T) (xs ys : List T) → x ∷ xs ≡ y ∷ ys → xs ≡ ys
 tail_of x y xs ys e = ap (drop 1) e
 
-other_words : codes "--unbased" ≢ codes "--turns"
-other_words e = absurd (search (rules, e))
+unbased_or_turns : codes "--unbased" ≢ codes "--turns"
+unbased_or_turns e = absurd (search (rules, e))
+
+unbased_or_watch : codes "--unbased" ≢ codes "--watch"
+unbased_or_watch e = absurd (search (rules, e))
+
+pub turns_or_watch : codes "--turns" ≢ codes "--watch"
+turns_or_watch e = absurd (search (rules, e))
+
+trace_or_cover : codes "trace" ≢ codes "cover"
+trace_or_cover e = absurd (search (rules, e))
+
+one_watcher : (a b : Asked) → watcher_word a ≡ watcher_word b → a ≡ b
+one_watcher Trace Trace e = refl
+one_watcher Trace Cover e = absurd (trace_or_cover e)
+one_watcher Cover Trace e = absurd (trace_or_cover (sym e))
+one_watcher Cover Cover e = refl
 
 pub one_option : (a b : RunOption) (xs ys : List (List ℕ)) → IsInRange a → IsInRange b → option_words a ++ xs ≡ option_words b ++ ys → (a ≡ b) × (xs ≡ ys)
 one_option Unbased Unbased xs ys i j e = (refl, tail_of _ _ xs ys e)
-one_option Unbased (Turns m) xs ys i j e = absurd (other_words (head_of _ _ _ _ e))
-one_option (Turns n) Unbased xs ys i j e = absurd (other_words (sym (head_of _ _ _ _ e)))
+one_option Unbased (Turns m) xs ys i j e = absurd (unbased_or_turns (head_of _ _ _ _ e))
+one_option Unbased (Watch b) xs ys i j e = absurd (unbased_or_watch (head_of _ _ _ _ e))
+one_option (Turns n) Unbased xs ys i j e = absurd (unbased_or_turns (sym (head_of _ _ _ _ e)))
+one_option (Turns n) (Watch b) xs ys i j e = absurd (turns_or_watch (head_of _ _ _ _ e))
+one_option (Watch a) Unbased xs ys i j e = absurd (unbased_or_watch (sym (head_of _ _ _ _ e)))
+one_option (Watch a) (Turns m) xs ys i j e = absurd (turns_or_watch (sym (head_of _ _ _ _ e)))
+one_option (Watch a) (Watch b) xs ys i j e =
+    let behind = tail_of _ _ _ _ e in
+    (ap Watch (one_watcher a b (head_of _ _ _ _ behind)), tail_of _ _ _ _ behind)
 one_option (Turns n) (Turns m) xs ys i j e =
     let behind = tail_of _ _ _ _ e in
     (ap Turns (decimal_injective n m (omega (arith, i)) (omega (arith, j)) (head_of _ _ _ _ behind)), tail_of _ _ _ _ behind)
@@ -45,6 +69,7 @@ one_option (Turns n) (Turns m) xs ys i j e =
 no_option_is_empty : (a : RunOption) (xs : List (List ℕ)) → [] ≡ option_words a ++ xs → ⊥
 no_option_is_empty Unbased xs e = absurd (omega (arith, ap length e))
 no_option_is_empty (Turns n) xs e = absurd (omega (arith, ap length e))
+no_option_is_empty (Watch a) xs e = absurd (omega (arith, ap length e))
 
 pub one_list : (os ps : List RunOption) → AreOptions os → AreOptions ps → flat_map option_words os ≡ flat_map option_words ps → os ≡ ps
 one_list [] [] i j e = refl
@@ -60,14 +85,24 @@ one_list (a ∷ os) (b ∷ ps) i j e =
 free_before : (given : Given) (a b : RunOption) → IsFree (with_given given a) b → IsFree given b × (IsSameKind a b → ⊥)
 free_before given Unbased Unbased f = absurd (search (rules, f))
 free_before given Unbased (Turns m) f = (f, λ x. x)
+free_before given Unbased (Watch b) f = (f, λ x. x)
 free_before given (Turns n) Unbased f = (f, λ x. x)
 free_before given (Turns n) (Turns m) f = absurd (search (rules, f))
+free_before given (Turns n) (Watch b) f = (f, λ x. x)
+free_before given (Watch a) Unbased f = (f, λ x. x)
+free_before given (Watch a) (Turns m) f = (f, λ x. x)
+free_before given (Watch a) (Watch b) f = absurd (search (rules, f))
 
 free_after : (given : Given) (a b : RunOption) → IsFree given b → (IsSameKind a b → ⊥) → IsFree (with_given given a) b
 free_after given Unbased Unbased f o = absurd (o tt)
 free_after given Unbased (Turns m) f o = f
+free_after given Unbased (Watch b) f o = f
 free_after given (Turns n) Unbased f o = f
 free_after given (Turns n) (Turns m) f o = absurd (o tt)
+free_after given (Turns n) (Watch b) f o = f
+free_after given (Watch a) Unbased f o = f
+free_after given (Watch a) (Turns m) f o = f
+free_after given (Watch a) (Watch b) f o = absurd (o tt)
 
 all_free_before : (given : Given) (a : RunOption) (bs : List RunOption) → AreFree (with_given given a) bs → AreFree given bs × IsOther a bs
 all_free_before given a [] f = (tt, tt)
@@ -121,26 +156,28 @@ nowhere_else given words some none [] g = some g.spelled
 nowhere_else given words some none (b ∷ bs) g = none b _ g.valid.0 g.spelled
 
 -- where nothing was given, everything is free
-all_free_at_first : (given : Given) → given.turns ≡ None → given.unbased ≡ false → (options : List RunOption) → AreFree given options
-all_free_at_first given t u [] = tt
-all_free_at_first given t u (Unbased ∷ options) = (u, all_free_at_first given t u options)
-all_free_at_first given t u (Turns n ∷ options) = (t, all_free_at_first given t u options)
+all_free_at_first : (options : List RunOption) → AreFree is_nothing options
+all_free_at_first [] = tt
+all_free_at_first (Unbased ∷ options) = (refl, all_free_at_first options)
+all_free_at_first (Turns n ∷ options) = (refl, all_free_at_first options)
+all_free_at_first (Watch a ∷ options) = (refl, all_free_at_first options)
 
-pub first_gives : (given : Given) → given.turns ≡ None → given.unbased ≡ false → (words : List (List ℕ)) (options : List RunOption) → words ≡ flat_map option_words options → AreOptions options → Gives given words options
-first_gives given t u words options e valid = record { spelled = e; valid = valid; free = all_free_at_first given t u options }
+pub first_gives : (given : Given) → given ≡ is_nothing → (words : List (List ℕ)) (options : List RunOption) → words ≡ flat_map option_words options → AreOptions options → Gives given words options
+first_gives given is words options e valid = record { spelled = e; valid = valid; free = subst (λ g. AreFree g options) (sym is) (all_free_at_first options) }
 
 -- ---- what options come to
 
 abbrev pub options_from : Given → Options
-options_from given = record { turns = unwrap_or given.turns (2 ^ 63 - 1); based = not given.unbased }
+options_from given = record { turns = unwrap_or given.turns (2 ^ 63 - 1); based = not given.unbased; watch = given.watch }
 
 comes_on : (given : Given) (a : RunOption) → options_from (with_given given a) ≡ with_option (options_from given) a
 comes_on given Unbased = refl
 comes_on given (Turns n) = refl
+comes_on given (Watch a) = refl
 
 comes_to_all : (given : Given) (options : List RunOption) → options_from (fold with_given given options) ≡ fold with_option (options_from given) options
 comes_to_all given [] = refl
 comes_to_all given (a ∷ os) = comes_to_all (with_given given a) os ∙ ap (λ o. fold with_option o os) (comes_on given a)
 
-pub comes_to : (given : Given) (options : List RunOption) → given.turns ≡ None → given.unbased ≡ false → options_from (fold with_given given options) ≡ options_of options
-comes_to given options t u = comes_to_all given options ∙ ap (λ o. fold with_option o options) (search (rules, t, u))
+pub comes_to : (given : Given) (options : List RunOption) → given ≡ is_nothing → options_from (fold with_given given options) ≡ options_of options
+comes_to given options is = comes_to_all given options ∙ ap (λ g. fold with_option (options_from g) options) is

@@ -10,11 +10,14 @@ unbased_rule = record (new_rule (codes "unbased")) { long = Some (codes "unbased
 abbrev pub turns_rule : Rule
 turns_rule = record (new_rule (codes "turns")) { long = Some (codes "turns"); value_names = 1; parser = Some (Signed (pos 0) (pos (2 ^ 63 - 1))) }
 
+abbrev pub watch_rule : Rule
+watch_rule = record (new_rule (codes "watch")) { long = Some (codes "watch"); value_names = 1 }
+
 abbrev pub file_rule : Rule
 file_rule = record (new_rule (codes "file")) { value_names = 1; required = true }
 
 abbrev pub run_app : App
-run_app = with_rule (with_rule (with_rule (new_app (codes "run")) unbased_rule) turns_rule) file_rule
+run_app = with_rule (with_rule (with_rule (with_rule (new_app (codes "run")) unbased_rule) turns_rule) watch_rule) file_rule
 
 abbrev pub file_app : List ℕ → App
 file_app name = with_rule (new_app name) file_rule

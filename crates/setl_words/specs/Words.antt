@@ -1,33 +1,50 @@
 -- The plain form of the words: a command, the options of a run, and the file whose text the command reads.
-use Rattle.std.specs.Prelude.{◌≡◌, ◌≢◌, ◌<◌, ◌-◌, ◌^◌, ℕ, Bool, true, false, List, [], ◌∷◌, ◌++◌, ⊤, codes, decimal}
+use Rattle.std.specs.Prelude.{◌≡◌, ◌≢◌, ◌<◌, ◌-◌, ◌^◌, ℕ, Bool, true, false, List, [], ◌∷◌, ◌++◌, Option, Some, None, ⊤, codes, decimal}
 use Rattle.std.specs.List.{flat_map, fold}
+use Rattle.setl_words.specs.declared.watching.Asked.{Asked}
+use Rattle.setl_words.specs.declared.watching.Asked.TheVariants.{Trace, Cover}
 
 -- a file's name isn't empty and doesn't begin with a dash
 abbrev pub IsFile : List ℕ → Type 0
 IsFile [] = ⊥
 IsFile (c ∷ name) = c ≢ 45
 
+-- ---- the watchers of a run
+
+-- the word by which a watcher is asked for
+abbrev pub watcher_word : Asked → List ℕ
+watcher_word Trace = codes "trace"
+watcher_word Cover = codes "cover"
+
+-- the number that it has for a name
+abbrev pub watcher_name : Asked → ℕ
+watcher_name Trace = 1
+watcher_name Cover = 2
+
 -- ---- the options of a run
 
--- an option: declarations of bases don't count, or a bound on the turns of the run
+-- an option: declarations of bases don't count, a bound on the turns of the run, or a watcher that is told its events
 pub data RunOption : Type 0 where
   Unbased : RunOption
   Turns : (n : ℕ) → RunOption
+  Watch : (asked : Asked) → RunOption
 
 -- the words of an option; a number is written by decimal digits, without sign and without a leading zero
 abbrev pub option_words : RunOption → List (List ℕ)
 option_words Unbased = codes "--unbased" ∷ []
 option_words (Turns n) = codes "--turns" ∷ decimal n ∷ []
+option_words (Watch asked) = codes "--watch" ∷ watcher_word asked ∷ []
 
 abbrev pub IsInRange : RunOption → Type 0
 IsInRange Unbased = ⊤
 IsInRange (Turns n) = n < 2 ^ 63
+IsInRange (Watch asked) = ⊤
 
 abbrev pub IsSameKind : RunOption → RunOption → Type 0
 IsSameKind Unbased Unbased = ⊤
-IsSameKind Unbased (Turns m) = ⊥
-IsSameKind (Turns n) Unbased = ⊥
 IsSameKind (Turns n) (Turns m) = ⊤
+IsSameKind (Watch a) (Watch b) = ⊤
+IsSameKind option other = ⊥
 
 -- the option is of another kind than each of these
 abbrev pub IsOther : RunOption → List RunOption → Type 0
@@ -39,17 +56,20 @@ abbrev pub AreOptions : List RunOption → Type 0
 AreOptions [] = ⊤
 AreOptions (x ∷ xs) = IsInRange x × IsOther x xs × AreOptions xs
 
--- what the options of a run come to: the bound on its turns, and whether declarations of bases count
+-- what the options of a run come to: the bound on its turns, whether declarations of bases count, and the watcher that is
+-- told its events, if one is asked for
 pub record Options : Type 0 where
   pub turns : ℕ
   pub based : Bool
+  pub watch : Option Asked
 
 abbrev pub default_options : Options
-default_options = record { turns = 2 ^ 63 - 1; based = true }
+default_options = record { turns = 2 ^ 63 - 1; based = true; watch = None }
 
 abbrev pub with_option : Options → RunOption → Options
 with_option options Unbased = record options { based = false }
 with_option options (Turns n) = record options { turns = n }
+with_option options (Watch asked) = record options { watch = Some asked }
 
 abbrev pub options_of : List RunOption → Options
 options_of given = fold with_option default_options given
@@ -88,6 +108,12 @@ abbrev pub RunsFile : Command → List ℕ → ℕ → Bool → Type 0
 RunsFile (Run options name) file turns based = (file ≡ name) × (turns ≡ options.turns) × (based ≡ options.based)
 RunsFile (Check name) file turns based = ⊥
 RunsFile (Code name) file turns based = ⊥
+
+-- the watcher that a command asks for, if it asks for one
+abbrev pub watched_by : Command → Option Asked
+watched_by (Run options name) = options.watch
+watched_by (Check name) = None
+watched_by (Code name) = None
 
 -- the words are of no plain form
 abbrev pub IsFaulty : List (List ℕ) → Type 0

@@ -1,11 +1,12 @@
 //! The options of a run.
-ghost use Rattle.std.specs.Prelude.{◌≡◌, ◌<◌, ◌-◌, ◌^◌, ◌++◌, List, ℕ, length, map, string_bytes, true, false, not, None, unwrap_or, IfSome, IfNone};
-ghost use Rattle.setl_words.specs.Words.{RunOption as Asked, IsInRange, option_words};
-ghost use Rattle.setl_words.specs.code.Reading.{Leads, LeadsNowhere, IsFree, option_of, with_given};
+ghost use Rattle.std.specs.Prelude.{◌≡◌, ◌≢◌, ◌<◌, ◌∷◌, [], ◌-◌, ◌^◌, ◌++◌, List, ℕ, length, map, string_bytes, true, false, not, None, unwrap_or, IfSome, IfNone};
+ghost use Rattle.setl_words.specs.Words.{RunOption as Meant, IsInRange, option_words};
+ghost use Rattle.setl_words.specs.code.Reading.{Leads, LeadsNowhere, IsFree, is_nothing, option_of, with_given};
 
 use crate::number::read_number;
 use crate::reading::Options;
-use crate::single::{is_turns, is_unbased};
+use crate::single::{is_turns, is_unbased, is_watch};
+use crate::watching::{Asked, read_watcher};
 
 /// The greatest bound on turns, which a run has where its words give none.
 const MOST_TURNS: u64 = (1 << 63) - 1;
@@ -17,6 +18,8 @@ enum RunOption {
     Unbased,
     /// The bound on the turns of the run.
     Turns(u64),
+    /// The watcher that is told its events.
+    Watch(Asked),
 }
 
 /// The options that were read so far.
@@ -24,17 +27,18 @@ enum RunOption {
 pub(crate) struct Given {
     turns: Option<u64>,
     unbased: bool,
+    watch: Option<Asked>,
 }
 
 impl Given {
     /// No option.
     pub(crate) fn none() -> Given
-        ensures turns { result.turns ≡ None }
-        ensures unbased { result.unbased ≡ false }
+        ensures { result ≡ is_nothing }
     {
         Given {
             turns: None,
             unbased: false,
+            watch: None,
         }
     }
 
@@ -52,6 +56,10 @@ impl Given {
                 turns: Some(turns),
                 ..self
             }),
+            RunOption::Watch(asked) if self.watch.is_none() => Some(Given {
+                watch: Some(asked),
+                ..self
+            }),
             _ => None,
         }
     }
@@ -60,10 +68,12 @@ impl Given {
     pub(crate) fn options(self) -> Options
         ensures turns { result.turns ≡ unwrap_or self.turns (2 ^ 63 - 1) }
         ensures based { result.based ≡ not self.unbased }
+        ensures watch { result.watch ≡ self.watch }
     {
         Options {
             turns: self.turns.unwrap_or(MOST_TURNS),
             based: !self.unbased,
+            watch: self.watch,
         }
     }
 }
@@ -74,18 +84,30 @@ fn read_option(words: &[String]) -> Option<(RunOption, &[String])>
     ensures option { IfSome result (λ read. map string_bytes words.now ≡ option_words (option_of read.0) ++ map string_bytes read.1.now) }
     ensures in_range { IfSome result (λ read. IsInRange (option_of read.0)) }
     ensures shorter { IfSome result (λ read. length read.1.now < length words.now) }
-    ensures none { IfNone result ((option : Asked) (rest : List (List ℕ)) → IsInRange option → map string_bytes words.now ≡ option_words option ++ rest → ⊥) }
+    ensures none { IfNone result ((option : Meant) (rest : List (List ℕ)) → IsInRange option → map string_bytes words.now ≡ option_words option ++ rest → ⊥) }
 {
     let (word, rest) = words.split_first()?;
     if is_unbased(word.as_str()) {
         return Some((RunOption::Unbased, rest));
     }
-    if !is_turns(word.as_str()) {
-        return None;
-    }
     let (value, rest) = rest.split_first()?;
-    let turns = read_number(value.as_str())?;
-    Some((RunOption::Turns(turns), rest))
+    let option = read_valued(word.as_str(), value.as_str())?;
+    Some((option, rest))
+}
+
+/// The option that a word and its value are. `None` comes exactly where they are none.
+fn read_valued(word: &str, value: &str) -> Option<RunOption>
+    ensures option { IfSome result (λ option. word.now ∷ value.now ∷ [] ≡ option_words (option_of option)) }
+    ensures in_range { IfSome result (λ option. IsInRange (option_of option)) }
+    ensures none { IfNone result ((option : Meant) → IsInRange option → word.now ∷ value.now ∷ [] ≢ option_words option) }
+{
+    if is_turns(word) {
+        Some(RunOption::Turns(read_number(value)?))
+    } else if is_watch(word) {
+        Some(RunOption::Watch(read_watcher(value)?))
+    } else {
+        None
+    }
 }
 
 /// Reads the options that the words are, beside those that were given before. `None` comes exactly where the words

@@ -1,7 +1,7 @@
 //! The words of the command line: their plain form, and what is told of other words.
 //!
-//! The commands are `run [--unbased] [--turns N] FILE`, `check FILE` and `code FILE`. `Spells` is their plain form, which
-//! `read_words` decides. Of other words `fault_text` tells what `clap` says, where it refuses them.
+//! The commands are `run [--unbased] [--turns N] [--watch NAME] FILE`, `check FILE` and `code FILE`. `Spells` is their plain
+//! form, which `read_words` decides. Of other words `fault_text` tells what `clap` says, where it refuses them.
 #![tactic(auto)]
 
 mod given;
@@ -11,8 +11,10 @@ mod number;
 mod reading;
 mod single;
 mod told;
+mod watching;
 
 pub use laws::{faulty_words, one_command, plain_words};
 pub use reading::{Command, Options, read_words};
 pub use std::alloc::AllocError as Memory;
 pub use told::fault_text;
+pub use watching::Asked;

@@ -2,7 +2,7 @@
 ghost use Rattle.std.specs.Prelude.{◌≡◌, false, IfOk};
 ghost use Rattle.clap.specs.Words.{app_of, rule_of};
 ghost use Rattle.clap.specs.declared.builder.command.Command.TheViews.{out-Command as fields_of};
-ghost use Rattle.setl_words.specs.Line.{unbased_rule, turns_rule, file_rule, run_app, file_app, setl_app};
+ghost use Rattle.setl_words.specs.Line.{unbased_rule, turns_rule, watch_rule, file_rule, run_app, file_app, setl_app};
 
 use clap::{Arg, ArgAction, Command, value_parser};
 use std::alloc::{AllocError, Global};
@@ -30,6 +30,17 @@ fn turns<'a>(alloc: Global) -> Arg<'a>
         .help("Stop the run after so many turns")
 }
 
+/// The option `--watch`.
+fn watch<'a>(alloc: Global) -> Arg<'a>
+    ensures rule { rule_of result ≡ watch_rule }
+    ensures local { result.global ≡ false }
+{
+    Arg::new(alloc, "watch")
+        .long("watch")
+        .value_name("NAME")
+        .help("Report what a watcher saw of the run: trace or cover")
+}
+
 /// The file that each command reads.
 fn file<'a>(alloc: Global) -> Arg<'a>
     ensures rule { rule_of result ≡ file_rule }
@@ -50,6 +61,7 @@ fn run<'a>(alloc: Global) -> Result<Command<'a>, AllocError>
         .about("Run a program")
         .arg(unbased(alloc))?
         .arg(turns(alloc))?
+        .arg(watch(alloc))?
         .arg(file(alloc))
 }
 

@@ -5,6 +5,7 @@ ghost use Rattle.setl_words.specs.Words.{Spells, IsFaulty};
 
 use crate::given::{Given, read_options};
 use crate::single::{is_check, is_code, is_file, is_run};
+use crate::watching::Asked;
 
 /// The options of a run.
 #[derive(Clone, Copy, Debug, PartialEq, Eq)]
@@ -13,6 +14,8 @@ pub struct Options {
     pub turns: u64,
     /// Whether the program's declarations of bases count.
     pub based: bool,
+    /// The watcher that is told the events of the run.
+    pub watch: Option<Asked>,
 }
 
 /// What the words ask for, with the name of the file.

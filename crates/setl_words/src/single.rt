@@ -37,6 +37,27 @@ pub(crate) fn is_turns(word: &str) -> bool
     word == "--turns"
 }
 
+/// Whether a word is the option whose value is a watcher.
+pub(crate) fn is_watch(word: &str) -> bool
+    ensures { IsTrue result ↔ (word.now ≡ codes "--watch") }
+{
+    word == "--watch"
+}
+
+/// Whether a word asks for a trace.
+pub(crate) fn is_trace(word: &str) -> bool
+    ensures { IsTrue result ↔ (word.now ≡ codes "trace") }
+{
+    word == "trace"
+}
+
+/// Whether a word asks for a cover.
+pub(crate) fn is_cover(word: &str) -> bool
+    ensures { IsTrue result ↔ (word.now ≡ codes "cover") }
+{
+    word == "cover"
+}
+
 /// Whether a file may have that name in the words.
 pub(crate) fn is_file(word: &str) -> bool
     ensures { IsTrue result ↔ IsFile word.now }

@@ -1,10 +1,11 @@
--- What a run of code does to its input and its output, where some variables are declared.
+-- What a run of code does to its input and its output, and what its watchers are told, where some variables are declared.
 use Rattle.std.specs.Prelude.{◌≡◌, ℕ, List}
 use Rattle.setl_code.specs.Code.{Code}
 use Rattle.setl_code.specs.CodeCore.{CodeCore}
 use Rattle.setl_code.specs.CodeMeans.{code_first}
 use Rattle.setl_text.specs.code.Reads.{TakesOff}
 use Rattle.setl_machine.specs.Declaring.{Modes}
+use Rattle.setl_machine.specs.Hearing.{Hears}
 use Rattle.setl_machine.specs.Outcome.{Ran, ReadsOnly, Seen, seen}
 use Rattle.setl_machine.specs.declared.end.End.{End}
 use Rattle.setl_machine.specs.declared.end.End.TheVariants as end
@@ -30,3 +31,4 @@ pub record RunsCode (c : Code) (modes : Modes) (turns : ℕ) (s : Streams) (e : 
   pub left : IsLeft s.input s.left last.world.input
   pub took : TakesOff s.input s.left
   pub whole : ¬ (e ≡ end.Paused)
+  pub heard : Hears modes c steps (code_first c input turns).core s.watchers s.heard e

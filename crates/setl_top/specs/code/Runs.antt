@@ -1,5 +1,5 @@
--- What a run of a program does to its input and its output, by what the words ask for: its bound on turns, and whether
--- declarations count.
+-- What a run of a program does to its input and its output, and what its watchers are told, by what the words ask for: its
+-- bound on turns, and whether declarations count.
 use Rattle.std.specs.Prelude.{◌≡◌, ◌⊎◌, ◌<◌, ℕ, List, [], ◌++◌, Option, length, take, if◌then◌else◌}
 use Rattle.std.specs.Io.KnownBytes.{Appends, Consumes}
 use Rattle.setl_io.specs.Faults.{Rose}
@@ -15,9 +15,10 @@ use Rattle.setl_machine.specs.declared.end.End.{End}
 use Rattle.setl_machine.specs.declared.end.End.TheVariants as end
 use Rattle.setl_top.specs.Headline.{IsInput, IsLeft}
 use Rattle.setl_top.specs.Moments.{AtState, AtPrint, AtRead}
+use Rattle.setl_watch.specs.Watches.{Watched, told_all}
 use Rattle.setl_words.specs.Words.{Options}
 
--- what is seen of the input and of the output before and after a run
+-- what is seen of the input, of the output and of the watchers before and after a run
 pub record Streams : Type 0 where
   pub input : Option (List ℕ)
   pub left : Option (List ℕ)
@@ -27,9 +28,11 @@ pub record Streams : Type 0 where
   pub new : Option (List ℕ)
   pub out_before : ℕ
   pub out_now : ℕ
+  pub watchers : Watched
+  pub heard : Watched
 
-abbrev pub streams : Option (List ℕ) → Option (List ℕ) → ℕ → ℕ → Option (List ℕ) → Option (List ℕ) → ℕ → ℕ → Streams
-streams input left input_before input_now old new out_before out_now = record {
+abbrev pub streams : Option (List ℕ) → Option (List ℕ) → ℕ → ℕ → Option (List ℕ) → Option (List ℕ) → ℕ → ℕ → Watched → Watched → Streams
+streams input left input_before input_now old new out_before out_now watchers heard = record {
   input = input;
   left = left;
   input_before = input_before;
@@ -38,6 +41,8 @@ streams input left input_before input_now old new out_before out_now = record {
   new = new;
   out_before = out_before;
   out_now = out_now;
+  watchers = watchers;
+  heard = heard;
 }
 
 -- it is what an accepted tree means
@@ -51,7 +56,7 @@ abbrev pub counted : Options → Program → Modes
 counted asked program = if asked.based then program.modes else []
 
 -- the run came to this end of the meaning, whose output is added, and left what the meaning's last state has of the
--- input, which is a state that it reaches
+-- input, which is a state that it reaches; the watchers were told its events
 pub record RunsTo (program : Program) (asked : Options) (s : Streams) (end : run.End) : Type 0 where
   pub input : List ℕ
   pub known : IsInput s.input input
@@ -62,6 +67,7 @@ pub record RunsTo (program : Program) (asked : Options) (s : Streams) (end : run
   pub gained : Appends s.old s.new out
   pub input_count : s.input_now ≡ s.input_before
   pub out_count : s.out_now ≡ s.out_before
+  pub told : s.heard ≡ told_all means.last.events s.watchers
 
 -- the run was broken off in a print: the output up to it is added, and some of its line
 pub record RunsInto (program : Program) (asked : Options) (s : Streams) : Type 0 where

@@ -9,6 +9,8 @@ use Rattle.setl_machine.specs.Declaring.{Modes}
 use Rattle.setl_machine.specs.Outcome.{kind_of}
 use Rattle.setl_machine.specs.declared.end.End.{End}
 use Rattle.setl_machine.specs.declared.end.End.TheVariants as end
+use Rattle.setl_watch.specs.Watches.{Watched}
+use Rattle.setl_top.specs.Watching.{all_told}
 use Rattle.setl_top.specs.Lines.{AppendsFront, AppendsFronts, fault_line}
 use Rattle.setl_top.specs.declared.status.Status.{Status}
 use Rattle.setl_top.specs.declared.status.Status.TheVariants as status
@@ -23,13 +25,14 @@ pub data Tells (ends : Status) (line : List ℕ) (old new : Option (List ℕ)) (
 abbrev pub Tries : Status → List ℕ → Option (List ℕ) → Option (List ℕ) → Status → Type 0
 Tries ends line old new status = (status ≡ ends) × AppendsFront old new (line ++ 10 ∷ [])
 
--- the line of an end of the machine, where these variables are declared, was told with its status, or tried at a fault
-abbrev pub TellsEnd : Modes → End → Option (List ℕ) → Option (List ℕ) → ℕ → ℕ → Status → Type 0
-TellsEnd modes end.Done old new before now r = Tells status.Done (error_line run.Done) old new before now r
-TellsEnd modes (end.Stopped why line) old new before now r = Tells status.Stopped (error_line (run.Stopped (kind_of modes why) line)) old new before now r
-TellsEnd modes end.Spent old new before now r = Tells status.Spent (error_line run.Spent) old new before now r
-TellsEnd modes end.ReadFault old new before now r = Tries status.ReadFault (codes "read fault") old new r
-TellsEnd modes end.WriteFault old new before now r = Tries status.WriteFault (codes "write fault") old new r
-TellsEnd modes end.NoMemory old new before now r = Tries status.NoMemory (codes "no memory") old new r
-TellsEnd modes end.Paused old new before now r = ⊥
-TellsEnd modes end.Stuck old new before now r = ⊥
+-- the reports of the watchers and then the line of an end of the machine, where these variables are declared, were told with
+-- its status, or the line was tried at a fault
+abbrev pub TellsEnd : Modes → Watched → End → Option (List ℕ) → Option (List ℕ) → ℕ → ℕ → Status → Type 0
+TellsEnd modes h end.Done old new before now r = Tells status.Done (all_told h ++ error_line run.Done) old new before now r
+TellsEnd modes h (end.Stopped why line) old new before now r = Tells status.Stopped (all_told h ++ error_line (run.Stopped (kind_of modes why) line)) old new before now r
+TellsEnd modes h end.Spent old new before now r = Tells status.Spent (all_told h ++ error_line run.Spent) old new before now r
+TellsEnd modes h end.ReadFault old new before now r = Tries status.ReadFault (codes "read fault") old new r
+TellsEnd modes h end.WriteFault old new before now r = Tries status.WriteFault (codes "write fault") old new r
+TellsEnd modes h end.NoMemory old new before now r = Tries status.NoMemory (codes "no memory") old new r
+TellsEnd modes h end.Paused old new before now r = ⊥
+TellsEnd modes h end.Stuck old new before now r = ⊥

@@ -1,4 +1,4 @@
-use Rattle.std.proofs.Common.{map, subst, sym}
+use Rattle.std.proofs.Common.{subst, sym}
 use Rattle.setl_code.specs.Plain.{plain_code}
 use Rattle.setl_machine.specs.Declaring.{AreOfMain}
 use Rattle.setl_program.specs.Formed.{Formed}
@@ -23,7 +23,7 @@ run_code-requires g c =
 
 pub returns-clause-ran : goal.returns-clause-ran
 returns-clause-ran g c =
-    let laws : CodeLaws = record { means = c.code_means_what_the_program_means.ensures.means; last = c.code_ends_in_the_same_state.ensures.last; reached = c.code_reaches_the_same_states.ensures.reached; reads = c.code_reaches_the_same_states.ensures.reads; prints = c.code_reaches_the_same_states.ensures.prints; not_stuck = c.every_run_ends.ensures.not_stuck; silent = c.ends_write_nothing.ensures } in
+    let laws : CodeLaws = record { ends = c.code_means_what_the_program_means.ensures.ends; means = c.code_means_what_the_program_means.ensures.means; last = c.code_ends_in_the_same_state.ensures.last; reached = c.code_reaches_the_same_states.ensures.reached; reads = c.code_reaches_the_same_states.ensures.reads; prints = c.code_reaches_the_same_states.ensures.prints; not_stuck = c.every_run_ends.ensures.not_stuck; silent = c.ends_write_nothing.ensures } in
     let p = plain_program c.args.program.now in
     let m = c.requires.meant in
     let formed = subst Formed (sym m.meaning) (c.accepted_is_formed.ensures.formed m.tree m.accepted) in
@@ -31,7 +31,7 @@ returns-clause-ran g c =
 
 pub returns-clause-input : goal.returns-clause-input
 returns-clause-input g c =
-    let laws : CodeLaws = record { means = c.code_means_what_the_program_means.ensures.means; last = c.code_ends_in_the_same_state.ensures.last; reached = c.code_reaches_the_same_states.ensures.reached; reads = c.code_reaches_the_same_states.ensures.reads; prints = c.code_reaches_the_same_states.ensures.prints; not_stuck = c.every_run_ends.ensures.not_stuck; silent = c.ends_write_nothing.ensures } in
+    let laws : CodeLaws = record { ends = c.code_means_what_the_program_means.ensures.ends; means = c.code_means_what_the_program_means.ensures.means; last = c.code_ends_in_the_same_state.ensures.last; reached = c.code_reaches_the_same_states.ensures.reached; reads = c.code_reaches_the_same_states.ensures.reads; prints = c.code_reaches_the_same_states.ensures.prints; not_stuck = c.every_run_ends.ensures.not_stuck; silent = c.ends_write_nothing.ensures } in
     let p = plain_program c.args.program.now in
     let m = c.requires.meant in
     let formed = subst Formed (sym m.meaning) (c.accepted_is_formed.ensures.formed m.tree m.accepted) in

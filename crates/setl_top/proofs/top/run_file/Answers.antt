@@ -1,17 +1,19 @@
-use Rattle.std.proofs.Common.{◌∙◌, arith, refl, ap}
-use Rattle.setl_program.specs.code.Plain.{plain_program}
+use Rattle.std.proofs.Common.{◌≡◌, ◌∙◌, arith, map, refl, ap}
+use Rattle.setl_program.specs.code.Plain.{plain_program, plain_declared}
+use Rattle.setl_watch.specs.Watches.{watched}
 use Rattle.setl_words.specs.code.Commands.{options_now}
 use Rattle.setl_words.specs.Words.{Run}
 use Rattle.setl_top.specs.Headline.{untouched}
-use Rattle.setl_top.specs.code.Runs.{counted}
+use Rattle.setl_program.specs.ProgramOf.{program_of}
+use Rattle.setl_top.specs.code.Runs.{Runs, TakesInput, counted}
 use Rattle.setl_top.proofs.Accepting.{is_accepted}
-use Rattle.setl_top.proofs.Ends.{not_loaded, run_ends, run_takes, tells_then, tells_as}
+use Rattle.setl_top.proofs.Ends.{not_loaded, run_ends, run_takes, tells_then}
 use Rattle.setl_top.proofs.Fronts.{appends_none}
-use Rattle.setl_top.proofs.Running.{runs_or, runs_as, takes_as, not_paused, not_at_stuck}
+use Rattle.setl_top.proofs.Running.{runs_or, runs_as, takes_as, not_paused, not_at_stuck, heard_from}
 use Rattle.setl_top.proofs.top.run_file.Goals as goal
 
 pub returns-in-Err : goal.returns-in-Err
-returns-in-Err g c = record { headline = λ words s. not_loaded words _ _ (Run (options_now c.args.asked) c.args.name.now) c.args.name.now s refl (appends_none _) refl (omega arith) (omega arith) _ c.in-Err.ensures.not_loaded; input = λ words s. untouched refl }
+returns-in-Err g c = record { headline = λ words handed s there kept. not_loaded words _ _ (Run (options_now c.args.asked) c.args.name.now) c.args.name.now s refl there (appends_none _) refl (omega arith) (omega arith) _ c.in-Err.ensures.not_loaded; input = λ words handed s there kept. untouched refl }
 
 pub run_program-requires : goal.run_program-requires
 run_program-requires g c =
@@ -33,8 +35,11 @@ returns g c =
     let asked = options_now c.args.asked in
     let end = c.unwrap_or-end.result in
     let ran = runs_or program asked _ c.run_program.result end c.unwrap_or-end.ensures c.run_program.ensures.ran c.run_program.ensures.out in
-    let told = tells_then _ end _ _ _ _ _ _ _ known.still.held known.still.err c.tell_end.ensures.told in
+    let modes = map plain_declared c.counted.result.now in
+    let heard = watched (map (λ w. (goal.Watcher-dyn g (w.vtable, w.value)).watch w.value) c.run_program.new.watchers.items) c.run_program.new.reports.items in
+    let same : watched (map (λ w. (goal.Watcher-dyn g (w.vtable, w.value)).watch w.value) c.deref.result.now) c.run_program.new.reports.items ≡ heard = ap (λ ws. watched (map (λ w. (goal.Watcher-dyn g (w.vtable, w.value)).watch w.value) ws) c.run_program.new.reports.items) c.deref.ensures.value in
+    let told = tells_then modes (counted asked (program_of l.tree)) _ heard end (g.E.Sink.held c.args.err.now) (g.E.Sink.held c.load_resolved.new.err) (g.E.Sink.held c.tell_end.new.err) (g.E.Sink.faults c.args.err.now) (g.E.Sink.faults c.load_resolved.new.err) (g.E.Sink.faults c.tell_end.new.err) c.tell_end.result (c.counted.ensures ∙ ap (counted asked) l.meaning) same known.still.held known.still.err c.tell_end.ensures.told in
     record {
-      headline = λ words s. run_ends words _ _ asked c.args.name.now l.tree s l.loaded end (runs_as _ _ asked _ end l.meaning ran) (omega (arith, known.still.files)) _ (tells_as _ _ end _ _ _ _ _ (c.counted.ensures ∙ ap (counted asked) l.meaning) told);
-      input = λ words s. run_takes words _ _ asked c.args.name.now l.tree s l.loaded (takes_as _ _ asked _ l.meaning c.run_program.ensures.input);
+      headline = λ words handed s there kept. run_ends words _ _ heard asked c.args.name.now l.tree s there l.loaded end (heard_from (λ x. Runs (program_of l.tree) asked x end) _ _ _ _ _ _ _ _ heard _ _ _ kept c.new-reports.ensures.items (runs_as _ _ asked _ end l.meaning ran)) (omega (arith, known.still.files)) _ told;
+      input = λ words handed s there kept. run_takes words _ _ heard asked c.args.name.now l.tree s there l.loaded (heard_from (λ x. TakesInput (program_of l.tree) asked x) _ _ _ _ _ _ _ _ heard _ _ _ kept c.new-reports.ensures.items (takes_as _ _ asked _ l.meaning c.run_program.ensures.input));
     }

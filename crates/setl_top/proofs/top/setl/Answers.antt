@@ -5,8 +5,8 @@ use Rattle.setl_top.proofs.Asked.{turns_asked}
 use Rattle.setl_top.proofs.Fronts.{appends_none}
 use Rattle.setl_top.proofs.top.setl.Goals as goal
 
-pub run_file-requires : goal.run_file-requires
-run_file-requires g c = turns_asked _ _ _ (rw c.in-Some-Run.field-0-is at c.in-Some-Run.ensures.plain)
+pub run_asked-requires : goal.run_asked-requires
+run_asked-requires g c = turns_asked _ _ _ (rw c.in-Some-Run.field-0-is at c.in-Some-Run.ensures.plain)
 
 pub returns-in-None-clause-headline : goal.returns-in-None-clause-headline
 returns-in-None-clause-headline g c =
@@ -14,7 +14,7 @@ returns-in-None-clause-headline g c =
     faulty_ends _ _ _ told.0 c.in-None.ensures.faulty told.1 (appends_none _) refl (omega arith) (omega arith) (omega arith) _ told.2
 
 pub returns-in-Some-Run-clause-headline : goal.returns-in-Some-Run-clause-headline
-returns-in-Some-Run-clause-headline g c = c.run_file.ensures.headline _ (rw c.in-Some-Run.field-0-is at c.in-Some-Run.ensures.plain)
+returns-in-Some-Run-clause-headline g c = c.run_asked.ensures.headline _ (rw c.in-Some-Run.field-0-is at c.in-Some-Run.ensures.plain)
 
 pub returns-in-Some-Check-clause-headline : goal.returns-in-Some-Check-clause-headline
 returns-in-Some-Check-clause-headline g c =
@@ -28,7 +28,7 @@ pub returns-in-None-clause-input : goal.returns-in-None-clause-input
 returns-in-None-clause-input g c = untouched refl
 
 pub returns-in-Some-Run-clause-input : goal.returns-in-Some-Run-clause-input
-returns-in-Some-Run-clause-input g c = c.run_file.ensures.input _ (rw c.in-Some-Run.field-0-is at c.in-Some-Run.ensures.plain)
+returns-in-Some-Run-clause-input g c = c.run_asked.ensures.input _ (rw c.in-Some-Run.field-0-is at c.in-Some-Run.ensures.plain)
 
 pub returns-in-Some-Check-clause-input : goal.returns-in-Some-Check-clause-input
 returns-in-Some-Check-clause-input g c = untouched refl

@@ -1,36 +1,53 @@
-use Rattle.std.proofs.Common.{◌≡◌, ◌≢◌, ◌<◌, ◌^◌, ◌∙◌, ℕ, List, [], ◌∷◌, ◌++◌, None, false, codes, decimal, refl, sym, ap, length, arith, rules}
+use Rattle.std.proofs.Common.{◌≡◌, ◌≢◌, ◌<◌, ◌^◌, ◌∙◌, ℕ, List, [], ◌∷◌, ◌++◌, codes, decimal, refl, sym, ap, length, arith, rules}
 use Rattle.std.proofs.lemmas.Fmt.{decimal_digit, decimal_injective, decimal_is_IsNumeral}
 use Rattle.std.specs.Fmt.{digits}
 use Rattle.std.specs.Str.Parse.{digits_value}
-use Rattle.setl_words.specs.Words.{RunOption, Unbased, Turns, IsInRange, IsFaulty, option_words}
-use Rattle.setl_words.specs.code.Reading.{LeadsNowhere, with_given}
-use Rattle.setl_words.specs.declared.given.Given.{Given}
-use Rattle.setl_words.proofs.Order.{head_of, tail_of, nowhere_on, nowhere_again, nowhere_else}
+use Rattle.setl_words.specs.Words.{RunOption, Unbased, Turns, Watch, IsInRange, IsFaulty, option_words, watcher_word}
+use Rattle.setl_words.specs.declared.watching.Asked.{Asked}
+use Rattle.setl_words.specs.declared.watching.Asked.TheVariants.{Trace, Cover}
+use Rattle.setl_words.specs.code.Reading.{LeadsNowhere, with_given, is_nothing}
+use Rattle.setl_words.proofs.Order.{turns_or_watch, head_of, tail_of, nowhere_on, nowhere_again, nowhere_else}
 use Rattle.setl_words.proofs.Commands.{no_end, few_are_faulty, run_is_faulty, dash_is_faulty}
 use Rattle.setl_words.proofs.laws.faulty_words.Goals as goal
 
-nothing : Given
-nothing = record { turns = None; unbased = false }
+run_with : (between : List (List ℕ)) → LeadsNowhere is_nothing between → IsFaulty (codes "run" ∷ between ++ codes "q" ∷ [])
+run_with between none = run_is_faulty _ (codes "run") between (codes "q") is_nothing refl refl refl none
 
-run_with : (between : List (List ℕ)) → LeadsNowhere nothing between → IsFaulty (codes "run" ∷ between ++ codes "q" ∷ [])
-unfolding nothing
-run_with between none = run_is_faulty _ (codes "run") between (codes "q") nothing refl refl refl refl none
-
-again : LeadsNowhere nothing (codes "--unbased" ∷ codes "--unbased" ∷ [])
-unfolding nothing
-again = nowhere_on nothing (with_given nothing Unbased) _ (codes "--unbased" ∷ []) Unbased refl tt refl
-    (nowhere_again (with_given nothing Unbased) _ [] Unbased refl tt (λ free. absurd (search (rules, free))))
+again : LeadsNowhere is_nothing (codes "--unbased" ∷ codes "--unbased" ∷ [])
+again = nowhere_on is_nothing (with_given is_nothing Unbased) _ (codes "--unbased" ∷ []) Unbased refl tt refl
+    (nowhere_again (with_given is_nothing Unbased) _ [] Unbased refl tt (λ free. absurd (search (rules, free))))
 
 unbased_or_turns : codes "--turns" ≢ codes "--unbased"
 unbased_or_turns e = absurd (search (rules, e))
 
+watch_or_unbased : codes "--watch" ≢ codes "--unbased"
+watch_or_unbased e = absurd (search (rules, e))
+
 -- the value behind `--turns` is no number in range
-no_turns : (behind : List (List ℕ)) → ((n : ℕ) (rest : List (List ℕ)) → n < 2 ^ 63 → behind ≢ decimal n ∷ rest) → LeadsNowhere nothing (codes "--turns" ∷ behind)
-no_turns behind none = nowhere_else nothing _ (λ e. absurd (omega (arith, ap length e))) (λ a rest i e. no_option a rest i e)
+no_turns : (behind : List (List ℕ)) → ((n : ℕ) (rest : List (List ℕ)) → n < 2 ^ 63 → behind ≢ decimal n ∷ rest) → LeadsNowhere is_nothing (codes "--turns" ∷ behind)
+no_turns behind none = nowhere_else is_nothing _ (λ e. absurd (omega (arith, ap length e))) (λ a rest i e. no_option a rest i e)
   where
     no_option : (a : RunOption) (rest : List (List ℕ)) → IsInRange a → codes "--turns" ∷ behind ≡ option_words a ++ rest → ⊥
     no_option Unbased rest i e = unbased_or_turns (head_of _ _ _ _ e)
     no_option (Turns n) rest i e = none n rest i (tail_of _ _ _ _ e)
+    no_option (Watch a) rest i e = turns_or_watch (head_of _ _ _ _ e)
+
+-- the value behind `--watch` is no watcher
+no_watcher : (behind : List (List ℕ)) → ((a : Asked) (rest : List (List ℕ)) → behind ≢ watcher_word a ∷ rest) → LeadsNowhere is_nothing (codes "--watch" ∷ behind)
+no_watcher behind none = nowhere_else is_nothing _ (λ e. absurd (omega (arith, ap length e))) (λ a rest i e. no_option a rest e)
+  where
+    no_option : (a : RunOption) (rest : List (List ℕ)) → codes "--watch" ∷ behind ≡ option_words a ++ rest → ⊥
+    no_option Unbased rest e = watch_or_unbased (head_of _ _ _ _ e)
+    no_option (Turns n) rest e = turns_or_watch (sym (head_of _ _ _ _ e))
+    no_option (Watch a) rest e = none a rest (tail_of _ _ _ _ e)
+
+profile : (a : Asked) (rest : List (List ℕ)) → codes "profile" ∷ [] ≢ watcher_word a ∷ rest
+profile Trace rest e = let same = head_of _ _ _ _ e in absurd (search (rules, same))
+profile Cover rest e = let same = head_of _ _ _ _ e in absurd (search (rules, same))
+
+two_watchers : LeadsNowhere is_nothing (codes "--watch" ∷ codes "trace" ∷ codes "--watch" ∷ codes "cover" ∷ [])
+two_watchers = nowhere_on is_nothing (with_given is_nothing (Watch Trace)) _ (codes "--watch" ∷ codes "cover" ∷ []) (Watch Trace) refl tt refl
+    (nowhere_again (with_given is_nothing (Watch Trace)) _ [] (Watch Cover) refl tt (λ free. absurd (search (rules, free))))
 
 leading_zero : (n : ℕ) (rest : List (List ℕ)) → n < 2 ^ 63 → codes "07" ∷ [] ≢ decimal n ∷ rest
 leading_zero n rest small e =
@@ -56,6 +73,9 @@ returns c = record {
   dash = dash_is_faulty _ (codes "run") (codes "q" ∷ []) (codes "--unbased") refl (λ f. f refl);
   again = run_with _ again;
   no_value = run_with _ (no_turns [] (λ n rest small e. absurd (omega (arith, ap length e))));
+  no_watcher = run_with _ (no_watcher [] (λ a rest e. absurd (omega (arith, ap length e))));
+  other_watcher = run_with _ (no_watcher _ profile);
+  two_watchers = run_with _ two_watchers;
   leading_zero = run_with _ (no_turns _ leading_zero);
   too_great = run_with _ (no_turns _ too_great);
 }

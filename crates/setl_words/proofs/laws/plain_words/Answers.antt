@@ -1,7 +1,8 @@
 use Rattle.std.proofs.Common.{◌≡◌, [], ◌∷◌, ◌++◌, codes, refl, arith}
 use Rattle.std.specs.Fmt.{digits}
 use Rattle.std.specs.List.{flat_map}
-use Rattle.setl_words.specs.Words.{IsFile, Unbased, Turns, option_words}
+use Rattle.setl_words.specs.Words.{IsFile, Unbased, Turns, Watch, option_words}
+use Rattle.setl_words.specs.declared.watching.Asked.TheVariants.{Trace, Cover}
 use Rattle.setl_words.proofs.laws.plain_words.Goals as goal
 
 is_file : IsFile (codes "q")
@@ -20,5 +21,7 @@ returns c = record {
   run = record { given = []; spelled = refl; valid = tt; file = is_file; means = refl };
   both = record { given = Turns 50 ∷ Unbased ∷ []; spelled = both; valid = (omega arith, (λ x. x, tt), (tt, tt, tt)); file = is_file; means = refl };
   swapped = record { given = Unbased ∷ Turns 0 ∷ []; spelled = swapped; valid = (tt, (λ x. x, tt), (omega arith, tt, tt)); file = is_file; means = refl };
+  trace = record { given = Watch Trace ∷ []; spelled = refl; valid = (tt, tt, tt); file = is_file; means = refl };
+  cover = record { given = Unbased ∷ Watch Cover ∷ []; spelled = refl; valid = (tt, (λ x. x, tt), (tt, tt, tt)); file = is_file; means = refl };
   check = (refl, is_file);
 }

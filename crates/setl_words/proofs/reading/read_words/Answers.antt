@@ -8,8 +8,8 @@ returns-in_err-word-clause-faulty c = always _ (few_are_faulty _ c.in_err-word.e
 
 pub returns-in_err-given-clause-faulty : goal.returns-in_err-given-clause-faulty
 returns-in_err-given-clause-faulty c =
-    always _ (run_is_faulty _ c.in_ok-word.word.now _ c.in_ok-word.name.now c.none.result c.in_ok-word.ensures.parts (search rules) c.none.ensures.turns c.none.ensures.unbased c.in_err-given.ensures.none)
+    always _ (run_is_faulty _ c.in_ok-word.word.now _ c.in_ok-word.name.now c.none.result c.in_ok-word.ensures.parts (search rules) c.none.ensures c.in_err-given.ensures.none)
 
 pub returns-then-is_run-clause-plain : goal.returns-then-is_run-clause-plain
 returns-then-is_run-clause-plain c =
-    spells_run _ c.in_ok-word.word.now _ c.in_ok-word.name.now c.none.result c.in_ok-given.given _ c.in_ok-word.ensures.parts (search rules) (search rules) c.none.ensures.turns c.none.ensures.unbased c.in_ok-given.ensures.read (search rules)
+    spells_run _ c.in_ok-word.word.now _ c.in_ok-word.name.now c.none.result c.in_ok-given.given _ c.in_ok-word.ensures.parts (search rules) (search rules) c.none.ensures c.in_ok-given.ensures.read (search rules)
