@@ -55,7 +55,11 @@ fn values(alloc: Global) -> Result<Vec<Instr>, Memory> {
     let with = Alteration::Combine(Operator::With);
     Ok(vec![in alloc;
         Instr::Text(string),
-        Instr::Alter(first, Slot::Own(0), Boxed::new(alloc, Items::from_vec(brackets))?),
+        Instr::Alter(
+            first,
+            Slot::Own(0),
+            Boxed::new(alloc, Items::from_vec(brackets))?
+        ),
         Instr::Alter(with, Slot::Own(0), Boxed::new(alloc, Items::new(alloc))?),
     ]?)
 }
