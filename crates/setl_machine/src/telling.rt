@@ -133,7 +133,7 @@ fn quiet_telling(
         Instr::Alter(what, slot, brackets) => alter_telling(
             *what,
             *slot,
-            brackets.as_slice(),
+            brackets.get().as_slice(),
             line,
             declarations,
             store,
