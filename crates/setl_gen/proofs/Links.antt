@@ -95,10 +95,8 @@ connected line k x at end s s1 s2 s3 u p h1 h2 h3 q h4 e b g = connect_made line
 pub unary_is : (l : Link) (o : Operator) → l ≡ li.Unary o → plain_link l ≡ program.one o
 unary_is l o is = ap plain_link (is ∙ sym (li.rolls-Unary o)) ∙ fold-roll-Link (Arguments → Arguments) Expr (Expr → Expr) (Binding × Exprs) argument_step expr_step link_step iterator_step (Link-F.Unary o)
 
-pub binary_is : (l : Link) (o : Operator) (x y : ex.Expr) → l ≡ li.Binary o x → y ≡ x → plain_link l ≡ (λ e. program.two o e (plain_expr y))
-binary_is l o x y is h =
-    let f : ex.Expr → Expr → Expr = λ z e. program.two o e (plain_expr z) in
-    ap plain_link (is ∙ sym (li.rolls-Binary o x)) ∙ fold-roll-Link (Arguments → Arguments) Expr (Expr → Expr) (Binding × Exprs) argument_step expr_step link_step iterator_step (Link-F.Binary o x) ∙ ap f (sym h)
+pub binary_is : (l : Link) (o : Operator) (x : ex.Expr) → l ≡ li.Binary o x → plain_link l ≡ (λ e. program.two o e (plain_expr x))
+binary_is l o x is = ap plain_link (is ∙ sym (li.rolls-Binary o x)) ∙ fold-roll-Link (Arguments → Arguments) Expr (Expr → Expr) (Binding × Exprs) argument_step expr_step link_step iterator_step (Link-F.Binary o x)
 
 pub connect_is : (l : Link) (k : Connective) (x y : ex.Expr) → l ≡ li.Connect k x → y ≡ x → plain_link l ≡ (λ e. Connect k e (plain_expr y))
 connect_is l k x y is h =

@@ -77,14 +77,14 @@ link-returns-in-Unary t c =
 pub link-returns-in-Binary : goal.link-returns-in-Binary
 link-returns-in-Binary t c =
     let o = c.in-Binary.o in
-    let y = c.get.result.now in
+    let y = c.in-Binary.x in
     as_link c.args.line c.args.l.now (λ e. two o e (plain_expr y)) (held c.args.to.now) (held c.binary.new.to)
-    (binary_is c.args.l.now o c.in-Binary.x y c.in-Binary.is c.get.ensures) c.binary.result c.binary.ensures
+    (binary_is c.args.l.now o y c.in-Binary.is) c.binary.result c.binary.ensures
 
 pub link-returns-in_ok-put-in-Ternary : goal.link-returns-in_ok-put-in-Ternary
 link-returns-in_ok-put-in-Ternary t c =
-    ternary_made c.args.line c.args.l.now c.in-Ternary.o c.in-Ternary.x c.in-Ternary.y c.get-in-Ternary.result.now c.get-in-Ternary-2.result.now (held c.args.to.now) (held c.expr.new.to) (held c.expr-in-Ternary.new.to) (held c.put.new.self)
-    c.in-Ternary.is c.get-in-Ternary.ensures c.get-in-Ternary-2.ensures c.in_ok-expr-in-Ternary.ensures c.in_ok-expr-in-Ternary-2.ensures c.in_ok-put-in-Ternary.ensures
+    ternary_made c.args.line c.args.l.now c.in-Ternary.o c.in-Ternary.x c.in-Ternary.y c.get.result.now c.get-in-Ternary.result.now (held c.args.to.now) (held c.expr.new.to) (held c.expr-in-Ternary.new.to) (held c.put.new.self)
+    c.in-Ternary.is c.get.ensures c.get-in-Ternary.ensures c.in_ok-expr-in-Ternary.ensures c.in_ok-expr-in-Ternary-2.ensures c.in_ok-put-in-Ternary.ensures
 
 pub link-returns-in-Connect : goal.link-returns-in-Connect
 link-returns-in-Connect t c =
