@@ -111,7 +111,7 @@ fn do_alone(what: &Instr, line: u32, store: &mut Store<'_>, alloc: Global) -> Re
     ensures { IfOk result (λ end. Works store.old line (plain_instr (variables store.old.core) what.now) store.new end) }
 {
     match what {
-        Instr::Integer(n) => push_integer(n.get(), store),
+        Instr::Integer(n) => push_integer(n, store),
         Instr::Text(bytes) => push_text(alloc, bytes, store),
         Instr::Truth(truth) => push(Some(Value::Bool(*truth)), store),
         Instr::Undefined => push(None, store),

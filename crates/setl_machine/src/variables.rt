@@ -13,7 +13,7 @@ ghost use Rattle.setl_machine.specs.Working.{Works, WorksBy};
 use crate::declarations::{Declarations, refusal};
 use crate::end::{End, StopKind};
 use crate::operands::{go_on, pop_top};
-use setl_code::Slot;
+use setl_code::{Literal, Slot};
 use setl_environment::Memory;
 use setl_store::{Content, Store};
 use setl_tree::Text as Name;
@@ -31,11 +31,11 @@ pub(crate) fn push(value: Option<Value>, store: &mut Store<'_>) -> Result<End, M
 }
 
 /// Pushes an integer.
-pub(crate) fn push_integer(value: i128, store: &mut Store<'_>) -> Result<End, Memory>
+pub(crate) fn push_integer(value: &Literal, store: &mut Store<'_>) -> Result<End, Memory>
     requires { store.old.core.now.at + 1 < 2 ^ 64 }
-    ensures { (line : ℕ) → IfOk result (λ end. Works store.old line (Push (Some (int value))) store.new end) }
+    ensures { (line : ℕ) → IfOk result (λ end. Works store.old line (Push (Some (int value.now))) store.new end) }
 {
-    store.push(Some(Value::Int(value)))?;
+    store.push(Some(Value::Int(value.get())))?;
     go_on(store);
     Ok(End::Paused)
 }
