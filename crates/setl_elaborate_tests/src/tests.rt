@@ -82,7 +82,7 @@ fn is_variable(x: &Variable, wanted: &Variable) -> bool {
 fn is_sum(x: &Expr, first: &Variable, second: &Variable) -> bool {
     match x {
         Expr::Chain(a, links) => match links.as_slice() {
-            [Link::Binary(Operator::Add, b)] => is_name(a.get(), first) && is_name(b.get(), second),
+            [Link::Binary(Operator::Add, b)] => is_name(a.get(), first) && is_name(b, second),
             _ => false,
         },
         _ => false,
