@@ -1,4 +1,4 @@
-use Rattle.std.proofs.Common.{map, sym, subst}
+use Rattle.std.proofs.Common.{◌∙◌, map, sym, subst}
 use Rattle.setl_code.specs.declared.code.Instr.{Instr}
 use Rattle.setl_code.specs.Code.{Alter}
 use Rattle.setl_code.specs.Plain.{plain_instr, plain_slot, plain_bracket, plain_alteration}
@@ -22,7 +22,7 @@ returns-in-Alter-clause-did c =
     let to = c.alter_telling.new.control in
     let r = c.alter_telling.result in
     subst (λ (what : Instr). DoesTelling modes s from c.args.line (plain_instr (variables s.core) what) new to r) (sym c.in-Alter.is)
-    (subst (λ bs. DoesTelling modes s from c.args.line (Alter (plain_alteration c.in-Alter.what) (plain_slot (variables s.core) c.in-Alter.slot) (map plain_bracket bs)) new to r) c.as_slice.ensures c.alter_telling.ensures.did)
+    (subst (λ bs. DoesTelling modes s from c.args.line (Alter (plain_alteration c.in-Alter.what) (plain_slot (variables s.core) c.in-Alter.slot) (map plain_bracket bs)) new to r) (c.as_slice.ensures ∙ c.get.ensures) c.alter_telling.ensures.did)
 
 pub returns-in-Call-clause-did : goal.returns-in-Call-clause-did
 returns-in-Call-clause-did c =
