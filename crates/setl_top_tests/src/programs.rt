@@ -73,6 +73,13 @@ run a
 program queens; q := []; (for i in [1..4]) if exists j in [1..4] | ok then if exists k in [1..#q] | q(k) = j or abs (q(k) - j) = i - k then fail; end if; q with:= j; else fail; end if; end for; print(q); end program;
 --
 [2 4 1 3]
+====
+run a
+--
+program p; var x, y; x := {1, 2}; y := 2; f(); print(x, y); proc f(); z := {x + y : x in x}; print(z, {[y, x] : y in z, x in {y}}); end proc; end program;
+--
+{3 4} {[3 3] [4 4]}
+{1 2} 2
 ";
 
 #[test]
