@@ -1,4 +1,4 @@
-//! Changes in place: what stands after each call, on {1 2}, [1 om 2], {[1 2]} and rows of denotations.
+//! Changes in place: what stands after each call, on rows of denotations.
 
 use crate::written::value;
 use setl_arithmetic::{minus_in_place, plus_in_place};
@@ -7,142 +7,164 @@ use setl_collections::{
     take_least, with_in_place,
 };
 use setl_map::Taken;
+use setl_operators::OpFault;
 use setl_text::text;
-use setl_value::{Memory, SetBody, TupleBody, Value};
+use setl_value::{Memory, Value};
 use std::alloc::Global;
 use std::process::Abort;
 use std::test::Fail;
 
-// The tuple of these integers and `om`.
-fn tuple(alloc: Global, parts: &[Option<i128>]) -> Result<Value, Fail> {
-    let mut t = TupleBody::of(alloc, Vec::new(alloc))?;
-    for (i, part) in parts.iter().enumerate() {
-        setl_tuple::put(alloc, &mut t, i as i128 + 1, part.map(Value::Int))?;
+// Rows, a line each: a call, the value that it changes, two operands, the second of which some calls leave alone, and what
+// the value becomes with what the call charges, or why it is refused.
+const CHANGES: &str = "with | {2} | 1 |  | {1 2}
+with | [1] | 2 |  | [1 2]
+with | 'a' | 'b' |  | Kind
+less | {1 2} | 2 |  | {1}
+less | [1] | 1 |  | Kind
+lessf | {[1 3] [1 5] [2 7]} | 1 |  | {[2 7]}
+put | [1] | 3 | 2 | [1 * 2] charges 1
+put | [1] | 0 | 2 | Range
+put | {[1 2]} | 1 | 5 | {[1 5]}
+put_images | {[1 2]} | 1 | {3 4} | {[1 3] [1 4]}
+put_images | {[1 2]} | 1 | 3 | Kind
++ | 2 | 3 |  | 5
++ | 'ab' | 'c' |  | 'abc'
++ | '' | 'c' |  | 'c'
++ | [1 * 2] | [* 3] |  | [1 * 2 * 3]
++ | [] | [3] |  | [3]
++ | {1 3} | {2} |  | {1 2 3}
++ | {1 3} | {3} |  | {1 3}
++ | {1 3} | {2 3} |  | {1 2 3}
++ | {} | {} |  | {}
++ | {1} | [1] |  | Kind
++ | true | true |  | Kind
+- | 2 | 3 |  | -1
+- | {1 2 3} | {2} |  | {1 3}
+- | {1 3} | {2} |  | {1 3}
+- | {1 2 3} | {2 3} |  | {1}
+- | {1} | {1} |  | {}
+- | {1} | 1 |  | Kind
+- | [1] | [1] |  | Kind";
+
+// What a call makes of a value, and its charge.
+fn change(
+    alloc: Global,
+    call: &str,
+    whole: &mut Value,
+    x: Value,
+    y: Value,
+) -> Result<u64, OpFault> {
+    match call {
+        "with" => with_in_place(alloc, whole, x),
+        "less" => less_in_place(whole, &x),
+        "lessf" => lessf_in_place(alloc, whole, &x),
+        "put" => put_in_place(alloc, whole, x, Some(y), 9),
+        "put_images" => put_images_in_place(alloc, whole, x, &y),
+        "+" => plus_in_place(alloc, whole, &x),
+        _ => minus_in_place(alloc, whole, &x),
     }
-    Ok(Value::Tuple(t))
 }
 
-// The set of these integers.
-fn set(alloc: Global, items: &[i128]) -> Result<Value, Fail> {
-    let mut s = SetBody::new(alloc)?;
-    for i in items {
-        setl_set::with(alloc, &mut s, Value::Int(*i))?;
+// What a value became, or the fault.
+fn shown(alloc: Global, whole: &Value, charge: Result<u64, OpFault>) -> Result<Vec<u8>, Memory> {
+    match charge {
+        Ok(0) => text(alloc, whole),
+        Ok(n) => {
+            let mut all = text(alloc, whole)?;
+            all.extend_from_slice(format!(in alloc; " charges {n}")?.as_bytes())?;
+            Ok(all)
+        }
+        Err(e) => format!(in alloc; "{e:?}")?.as_bytes().to_vec(alloc),
     }
-    Ok(Value::Set(s))
 }
 
-// The map of one pair.
-fn map(alloc: Global, x: i128, y: i128) -> Result<Value, Fail> {
-    let mut s = SetBody::new(alloc)?;
-    let pair = tuple(alloc, &[Some(x), Some(y)])?;
-    setl_set::with(alloc, &mut s, pair)?;
-    Ok(Value::Set(s))
-}
-
-// The part that was taken is this integer, or `om`.
-fn took(rt: &impl Abort, taken: Taken, part: Option<i128>) {
-    assert!(rt; taken.stored);
-    assert!(rt; taken.value == part.map(Value::Int));
-}
-
-#[test]
-fn members_come_and_go(rt: HostRuntime) -> Result<(), Fail> {
-    let alloc = rt.alloc();
-    let mut s = set(alloc, &[2])?;
-    assert_eq!(rt; with_in_place(alloc, &mut s, Value::Int(1))?, 0);
-    assert!(rt; s == set(alloc, &[1, 2])?);
-    assert_eq!(rt; less_in_place(&mut s, &Value::Int(2))?, 0);
-    assert!(rt; s == set(alloc, &[1])?);
-    took(&rt, take_least(&mut s)?, Some(1));
-    let none = take_least(&mut s)?;
-    assert!(rt; !none.stored && none.value.is_none());
-    assert!(rt; s == set(alloc, &[])?);
-    Ok(())
-}
-
-#[test]
-fn components_come_and_go(rt: HostRuntime) -> Result<(), Fail> {
-    let alloc = rt.alloc();
-    let mut t = tuple(alloc, &[Some(1)])?;
-    assert_eq!(rt;
-        put_in_place(alloc, &mut t, Value::Int(3), Some(Value::Int(2)), 1)?,
-        1
+// What a call of a row makes of a value, as it is shown.
+fn changed(
+    alloc: Global,
+    call: &str,
+    whole: &mut Value,
+    first: &str,
+    second: &str,
+) -> Result<Vec<u8>, Memory> {
+    let charge = change(
+        alloc,
+        call,
+        whole,
+        value(alloc, first)?,
+        value(alloc, second)?,
     );
-    assert!(rt; t == tuple(alloc, &[Some(1), None, Some(2)])?);
-    took(&rt, take_first(&mut t)?, Some(1));
-    assert!(rt; t == tuple(alloc, &[None, Some(2)])?);
-    took(&rt, take_last(&mut t)?, Some(2));
-    assert!(rt; t == tuple(alloc, &[])?);
-    Ok(())
+    shown(alloc, whole, charge)
 }
 
-#[test]
-fn images_come_and_go(rt: HostRuntime) -> Result<(), Fail> {
-    let alloc = rt.alloc();
-    let mut f = map(alloc, 1, 2)?;
-    let two = set(alloc, &[3])?;
-    assert_eq!(rt;
-        put_in_place(alloc, &mut f, Value::Int(1), Some(Value::Int(5)), 0)?,
-        0
-    );
-    assert!(rt; f == map(alloc, 1, 5)?);
-    assert_eq!(rt; put_images_in_place(alloc, &mut f, Value::Int(1), &two)?, 0);
-    assert!(rt; f == map(alloc, 1, 3)?);
-    assert_eq!(rt; lessf_in_place(alloc, &mut f, &Value::Int(1))?, 0);
-    assert!(rt; f == set(alloc, &[])?);
-    Ok(())
-}
-
-// Rows, a line each: a sign, two values, and what the first one becomes by the second one.
-const SUMS: &str = "+ | 2 | 3 | 5
-+ | 'ab' | 'c' | 'abc'
-+ | '' | 'c' | 'c'
-+ | [1 * 2] | [* 3] | [1 * 2 * 3]
-+ | [] | [3] | [3]
-+ | {1 3} | {2} | {1 2 3}
-+ | {1 3} | {3} | {1 3}
-+ | {1 3} | {2 3} | {1 2 3}
-+ | {} | {} | {}
-+ | {1} | [1] | Kind
-+ | true | true | Kind
-- | 2 | 3 | -1
-- | {1 2 3} | {2} | {1 3}
-- | {1 3} | {2} | {1 3}
-- | {1 2 3} | {2 3} | {1}
-- | {1} | {1} | {}
-- | {1} | 1 | Kind
-- | [1] | [1] | Kind";
-
-// What a value becomes, as it is shown.
-fn changed(alloc: Global, sign: &str, a: &mut Value, b: &Value) -> Result<Vec<u8>, Memory> {
-    let charged = if sign == "+" {
-        plus_in_place(alloc, a, b)
-    } else {
-        minus_in_place(alloc, a, b)
+// A row holds of a value that nobody else holds, and of one with a copy, which stays.
+fn expect_change(rt: &impl Abort, alloc: Global, row: &str) -> Result<(), Fail> {
+    let fields: Vec<&str> = row.split(" | ").collect(alloc)?;
+    let [call, start, first, second, expected] = fields.as_slice() else {
+        panic!(rt; "{row}");
     };
-    match charged {
-        Ok(_) => text(alloc, a),
+    let mut alone = value(alloc, start)?;
+    let answer = changed(alloc, call, &mut alone, first, second)?;
+    assert_eq!(rt; answer.as_slice(), expected.as_bytes(), "{row}");
+    let mut shared = value(alloc, start)?;
+    let copy = shared.copy()?;
+    let answer = changed(alloc, call, &mut shared, first, second)?;
+    assert_eq!(rt; answer.as_slice(), expected.as_bytes(), "{row}");
+    assert!(rt; copy == value(alloc, start)?, "{row}");
+    Ok(())
+}
+
+#[test]
+fn values_change_in_place_and_copies_stay(rt: HostRuntime) -> Result<(), Fail> {
+    for row in CHANGES.lines() {
+        expect_change(&rt, rt.alloc(), row)?;
+    }
+    Ok(())
+}
+
+// Rows, a line each: which part is taken, of which value, that part, and what is left.
+const TAKES: &str = "least | {2 1} | 1 | {2}
+least | {} | none | {}
+least | 1 | Kind | 1
+first | [1 * 2] | 1 | [* 2]
+first | [* 2] | om | [2]
+last | [* 2] | 2 | []
+last | [] | none | []";
+
+fn take(call: &str, whole: &mut Value) -> Result<Taken, OpFault> {
+    match call {
+        "least" => take_least(whole),
+        "first" => take_first(whole),
+        _ => take_last(whole),
+    }
+}
+
+// What was taken, or the fault.
+fn taken(alloc: Global, part: Result<Taken, OpFault>) -> Result<Vec<u8>, Memory> {
+    match part {
+        Ok(
+            Taken {
+                value: Some(v),
+                stored: true,
+            },
+        ) => text(alloc, &v),
+        Ok(Taken { stored: true, .. }) => b"om".to_vec(alloc),
+        Ok(_) => b"none".to_vec(alloc),
         Err(e) => format!(in alloc; "{e:?}")?.as_bytes().to_vec(alloc),
     }
 }
 
 #[test]
-fn sums_change_in_place_and_copies_stay(rt: HostRuntime) -> Result<(), Fail> {
+fn parts_are_taken_out(rt: HostRuntime) -> Result<(), Fail> {
     let alloc = rt.alloc();
-    for row in SUMS.lines() {
-        let mut fields = row.split(" | ");
-        let sign = fields.next().unwrap_or("");
-        let first = fields.next().unwrap_or("");
-        let b = value(alloc, fields.next().unwrap_or(""))?;
-        let expected = fields.next().unwrap_or("");
-        let mut a = value(alloc, first)?;
-        let alone = changed(alloc, sign, &mut a, &b)?;
-        assert_eq!(rt; alone.as_slice(), expected.as_bytes(), "{row}");
-        let mut a = value(alloc, first)?;
-        let held = a.copy()?;
-        let shared = changed(alloc, sign, &mut a, &b)?;
-        assert_eq!(rt; shared.as_slice(), expected.as_bytes(), "{row}");
-        assert!(rt; held == value(alloc, first)?, "{row}");
+    for row in TAKES.lines() {
+        let fields: Vec<&str> = row.split(" | ").collect(alloc)?;
+        let [call, start, part, rest] = fields.as_slice() else {
+            panic!(rt; "{row}");
+        };
+        let mut whole = value(alloc, start)?;
+        let answer = taken(alloc, take(call, &mut whole))?;
+        assert_eq!(rt; answer.as_slice(), part.as_bytes(), "{row}");
+        assert_eq!(rt; text(alloc, &whole)?.as_slice(), rest.as_bytes(), "{row}");
     }
     Ok(())
 }
