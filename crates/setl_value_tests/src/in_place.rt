@@ -3,10 +3,10 @@
 use crate::written::value;
 use setl_arithmetic::{minus_in_place, plus_in_place};
 use setl_collections::{
-    less_in_place, lessf_in_place, put_images_in_place, put_in_place, take_first, take_last,
-    take_least, with_in_place,
+    add_image_in_place, less_in_place, lessf_in_place, put_images_in_place, put_in_place,
+    take_first, take_last, take_least, with_in_place,
 };
-use setl_map::Taken;
+use setl_map::{OpFault, Taken};
 use setl_text::text;
 use setl_value::{Memory, SetBody, TupleBody, Value};
 use std::alloc::Global;
@@ -120,6 +120,11 @@ fn changed(alloc: Global, sign: &str, a: &mut Value, b: &Value) -> Result<Vec<u8
     } else {
         minus_in_place(alloc, a, b)
     };
+    shown(alloc, charged, a)
+}
+
+// A value after a change, or the fault of the change.
+fn shown(alloc: Global, charged: Result<u64, OpFault>, a: &Value) -> Result<Vec<u8>, Memory> {
     match charged {
         Ok(_) => text(alloc, a),
         Err(e) => format!(in alloc; "{e:?}")?.as_bytes().to_vec(alloc),
@@ -142,6 +147,33 @@ fn sums_change_in_place_and_copies_stay(rt: HostRuntime) -> Result<(), Fail> {
         let held = a.copy()?;
         let shared = changed(alloc, sign, &mut a, &b)?;
         assert_eq!(rt; shared.as_slice(), expected.as_bytes(), "{row}");
+        assert!(rt; held == value(alloc, first)?, "{row}");
+    }
+    Ok(())
+}
+
+// Rows, a line each: a map, a point, a value, and what the map becomes with that value as one more image of the point.
+const IMAGES: &str = "{[1 2] [1 4] [3 5]} | 1 | 3 | {[1 2] [1 3] [1 4] [3 5]}
+{[1 2] [1 4]} | 1 | 4 | {[1 2] [1 4]}
+{[1 2] [3 4]} | 2 | [] | {[1 2] [2 []] [3 4]}
+{} | 'a' | {1} | {['a' {1}]}
+{[1 2] [1 3 4]} | 1 | 3 | Kind
+[1 2] | 1 | 3 | Kind";
+
+#[test]
+fn one_image_more_in_place_and_copies_stay(rt: HostRuntime) -> Result<(), Fail> {
+    let alloc = rt.alloc();
+    for row in IMAGES.lines() {
+        let mut fields = row.split(" | ");
+        let first = fields.next().unwrap_or("");
+        let x = value(alloc, fields.next().unwrap_or(""))?;
+        let y = value(alloc, fields.next().unwrap_or(""))?;
+        let expected = fields.next().unwrap_or("");
+        let mut f = value(alloc, first)?;
+        let held = f.copy()?;
+        let charged = add_image_in_place(alloc, &mut f, x, y);
+        let now = shown(alloc, charged, &f)?;
+        assert_eq!(rt; now.as_slice(), expected.as_bytes(), "{row}");
         assert!(rt; held == value(alloc, first)?, "{row}");
     }
     Ok(())
