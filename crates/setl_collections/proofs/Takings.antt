@@ -1,5 +1,5 @@
 -- What is taken out of the lists of bodies.
-use Rattle.std.specs.Prelude.{◌≡◌, ℕ, suc, ◌-◌, ◌++◌, true, false, List, [], ◌∷◌, Option, Some, None, Ok, length, slice_get, take, drop, refl}
+use Rattle.std.specs.Prelude.{◌≡◌, ◌-◌, ◌++◌, true, false, List, [], ◌∷◌, Option, Some, None, Ok, length, slice_get, take, refl}
 use Rattle.std.specs.List.{remove}
 use Rattle.std.specs.Option.{unwrap_or}
 use Rattle.std.proofs.Common.{ap, sym, ◌∙◌, subst, arith}

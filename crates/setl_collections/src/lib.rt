@@ -8,7 +8,7 @@ mod takes;
 mod wholes;
 
 pub use changes::{less, less_in_place, lessf, lessf_in_place, with, with_in_place};
-pub use puts::{put, put_images, put_images_in_place, put_in_place};
+pub use puts::{add_image_in_place, put, put_images, put_images_in_place, put_in_place};
 pub use selections::{get, images, slice, tail};
 pub use takes::{take_first, take_last, take_least};
 pub use wholes::{arb, domain, range, size};

@@ -1,11 +1,12 @@
-//! The wholes after `f(x) := y`, `t(i) := y` and `f{x} := s`, and changes in place to them.
+//! The wholes after `f(x) := y`, `t(i) := y` and `f{x} := s`, and changes in place to them and to that after
+//! `f{x} with:= y`.
 
 ghost use Rattle.std.specs.Prelude.{◌≡◌, None, Some, pos, ◌≤ℤ◌, OnErr};
 ghost use Rattle.setl_value.specs.code.Body.{Members};
 ghost use Rattle.setl_value.specs.Datum.{int, set_of, tuple_of};
 ghost use Rattle.setl_value.specs.code.DatumOf.{datum, part};
 ghost use Rattle.setl_tuple.specs.Tuples.{index_of};
-ghost use Rattle.setl_map.specs.Puts.{put_part, put_value, put_set};
+ghost use Rattle.setl_map.specs.Puts.{add_image, put_part, put_value, put_set};
 ghost use Rattle.setl_map.specs.code.Answers.{Changes, Tells};
 
 use crate::changes::changed;
@@ -167,6 +168,33 @@ fn put_all_images(alloc: Global, f: &mut SetBody, x: Value, s: &SetBody) -> Resu
     ensures refused { OnErr result (f.new ≡ f.old) }
 {
     match setl_map::put_all(alloc, f, x, s) {
+        Ok(()) => {
+            f.learn();
+            Ok(0)
+        }
+        Err(MapFault::Kind) => Err(OpFault::Kind),
+        Err(MapFault::Deep) => Err(OpFault::Deep),
+        Err(MapFault::NoMemory) => Err(OpFault::NoMemory),
+    }
+}
+
+/// `f{x} with:= y` in place, which answers what it charges: no turn. Kind for what is no map, Deep where the map would be
+/// more than 500 deep. After a fault the map is as before. The images that are there are not copied.
+pub fn add_image_in_place(alloc: Global, f: &mut Value, x: Value, y: Value) -> Result<u64, OpFault>
+    ensures changes { Changes result (add_image (datum f.old) (datum x) (datum y)) (datum f.new) }
+    ensures refused { OnErr result (f.new ≡ f.old) }
+{
+    match f {
+        Value::Set(f) => add_one_image(alloc, f, x, y),
+        _ => Err(OpFault::Kind),
+    }
+}
+
+fn add_one_image(alloc: Global, f: &mut SetBody, x: Value, y: Value) -> Result<u64, OpFault>
+    ensures changes { Changes result (add_image (set_of (Members f.old)) (datum x) (datum y)) (set_of (Members f.new)) }
+    ensures refused { OnErr result (f.new ≡ f.old) }
+{
+    match setl_map::add_image(alloc, f, x, y) {
         Ok(()) => {
             f.learn();
             Ok(0)

@@ -7,3 +7,4 @@ pub mod MapResults
 pub mod MapLaws
 pub mod Depths
 pub mod Only
+pub mod Adding

@@ -75,10 +75,10 @@ itself : (d : Datum) → datum_cmp d d ≡ Equal
 itself d = (equal_iff_same d d).1 refl
 
 -- pairs of x
-abbrev OfPoint : Datum → Datum → Type 0
+abbrev pub OfPoint : Datum → Datum → Type 0
 OfPoint x d = (y : Datum) × (d ≡ pair x y)
 
-of_point : (x d : Datum) → IsPair d → is_at x d ≡ true → OfPoint x d
+pub of_point : (x d : Datum) → IsPair d → is_at x d ≡ true → OfPoint x d
 of_point x d p h =
     let u = pair_of d p in
     let same : x ≡ u.0 = same_if_eq x u.0 (ap (is_at x) (sym u.2) ∙ h) in
@@ -100,7 +100,7 @@ then_equal Greater h = cc
 second_less : (x y z : Datum) → datum_cmp (pair x y) (pair x z) ≡ Less → datum_cmp y z ≡ Less
 second_less x y z h = then_equal (datum_cmp y z) (sym (ap (λ o. ordering_then o (ordering_then (datum_cmp y z) Equal)) (itself x)) ∙ h)
 
-abbrev seconds : List Datum → List Datum
+abbrev pub seconds : List Datum → List Datum
 seconds ds = filter_map (λ d. second_of (pair_parts d)) ds
 
 seconds_cons : (x d : Datum) (ds : List Datum) (p : OfPoint x d) → seconds (d ∷ ds) ≡ p.0 ∷ seconds ds

@@ -1,6 +1,8 @@
--- The wholes after `f(x) := y`, `t(i) := y` and `f{x} := s`.
+-- The wholes after `f(x) := y`, `t(i) := y`, `f{x} := s` and `f{x} with:= y`.
 use Rattle.std.specs.Prelude.{ℕ, ◌-◌, pos, List, [], ◌∷◌, length, int_le, Option, Some, None, if◌then◌else◌}
 use Rattle.setl_value.specs.Datum.{Datum, int, tuple, set, part_list, element_list, set_of, tuple_of}
+use Rattle.setl_value.specs.Pairs.{images}
+use Rattle.setl_set.specs.Sets.{insert_datum}
 use Rattle.setl_tuple.specs.Tuples.{index_of, put_of}
 use Rattle.setl_map.specs.Maps.{put_image, put_images}
 use Rattle.setl_map.specs.Outcome.{Outcome, Fails, OmFault, KindFault, RangeFault, tuple_value, within_depth, charging}
@@ -25,3 +27,8 @@ put left vs = Fails OmFault
 abbrev pub put_set : Datum → Datum → Datum → Outcome
 put_set (set ms) x (set ys) = on_map (λ f. within_depth (set_of (put_images x (element_list ys) f))) (element_list ms)
 put_set d x s = Fails KindFault
+
+-- the whole after `f{x} with:= y`, where x has one image more
+abbrev pub add_image : Datum → Datum → Datum → Outcome
+add_image (set ms) x y = on_map (λ f. within_depth (set_of (put_images x (insert_datum y (images x f)) f))) (element_list ms)
+add_image d x y = Fails KindFault

@@ -6,7 +6,7 @@ ghost use Rattle.setl_value.specs.Datum.{depth, set_of};
 ghost use Rattle.setl_value.specs.code.DatumOf.{datum, part};
 ghost use Rattle.setl_value.specs.Pairs.{is_map, images, pair};
 ghost use Rattle.std.specs.List.{filter_map};
-ghost use Rattle.setl_set.specs.Sets.{set_from};
+ghost use Rattle.setl_set.specs.Sets.{insert_datum, set_from};
 ghost use Rattle.setl_map.specs.code.Points.{part_at, pair_depth};
 ghost use Rattle.setl_map.specs.Maps.{image, domain_of, range_of, without_point, put_image, put_images};
 
@@ -15,7 +15,7 @@ use crate::gather::gathered;
 use crate::pairs::{make_pair, only_image, parts_of, span};
 use setl_set::laws;
 use setl_value::{Memory, SetBody, Value};
-use std::alloc::Global;
+use std::alloc::{AllocError, Global};
 
 /// The one image of `x`, and None where it has none or several. Kind exactly where a member is no pair. Its cost is
 /// that of one search by halving, however many images there are.
@@ -143,8 +143,15 @@ fn is_deep(x: &Value, y: &Option<Value>) -> bool
 {
     match y {
         None => false,
-        Some(y) => x.depth().max(y.depth()) >= 499,
+        Some(y) => is_deep_pair(x, y),
     }
+}
+
+// Whether the pair of `x` and `y` is too deep for a member.
+fn is_deep_pair(x: &Value, y: &Value) -> bool
+    ensures { result ≡ nat_le 500 (depth (pair (datum x.now) (datum y.now))) }
+{
+    x.depth().max(y.depth()) >= 499
 }
 
 // Makes `y` the one image of `x` in a map, or leaves `x` without an image.
@@ -238,4 +245,48 @@ fn pairs_from(alloc: Global, x: &Value, s: &SetBody) -> Result<Vec<Value>, Memor
         pairs.push(make_pair(alloc, x.copy()?, y.copy()?)?)?;
     }
     Ok(pairs)
+}
+
+/// Makes `y` one more image of `x`. Kind exactly where a member of the map is no pair, Deep exactly where the map would
+/// be more than 500 deep. After a fault the map is as before. Its cost is that of one search and one put, however many
+/// images there are.
+pub fn add_image(alloc: Global, f: &mut SetBody, x: Value, y: Value) -> Result<(), MapFault>
+    ensures added { OnOk result (Members f.new ≡ put_images (datum x) (insert_datum (datum y) (images (datum x) (Members f.old))) (Members f.old)) }
+    ensures refused { OnErr result (f.new ≡ f.old) }
+    ensures kind { (result ≡ Err MapFault.Kind) ↔ (is_map (Members f.old) ≡ false) }
+    ensures deep { (result ≡ Err MapFault.Deep) ↔ ((is_map (Members f.old) ≡ true) × (500 < depth (set_of (put_images (datum x) (insert_datum (datum y) (images (datum x) (Members f.old))) (Members f.old))))) }
+{
+    if !f.is_map() {
+        return Err(MapFault::Kind);
+    }
+    f.learn();
+    learn_added(f, &x, &y);
+    if is_deep_pair(&x, &y) {
+        return Err(MapFault::Deep);
+    }
+    Ok(add_pair(alloc, f, x, y)?)
+}
+
+// Has no effect: it hands a proof that one image more is one pair more.
+fn learn_added(f: &SetBody, x: &Value, y: &Value)
+    requires { IsTrue (is_map (Members f.now)) }
+    ensures { insert_datum (pair (datum x.now) (datum y.now)) (Members f.now) ≡ put_images (datum x.now) (insert_datum (datum y.now) (images (datum x.now) (Members f.now))) (Members f.now) }
+{
+    laws::rising_lists_agree();
+    laws::tests_are_exact();
+    laws::operations_have_their_members();
+    f.learn();
+}
+
+// Makes the pair of `x` and `y` a member.
+fn add_pair(alloc: Global, f: &mut SetBody, x: Value, y: Value) -> Result<(), Memory>
+    requires { depth (pair (datum x) (datum y)) < 500 }
+    ensures added { OnOk result (Members f.new ≡ insert_datum (pair (datum x) (datum y)) (Members f.old)) }
+    ensures refused { OnErr result (f.new ≡ f.old) }
+{
+    let pair = make_pair(alloc, x, y)?;
+    match setl_set::with(alloc, f, pair) {
+        Ok(()) => Ok(()),
+        Err(_) => Err(AllocError),
+    }
 }

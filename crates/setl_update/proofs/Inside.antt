@@ -39,6 +39,12 @@ combine_inside (x ∷ xs) s whole f left h e =
     ap (λ r. inside (selected s) whole (λ p now. combined (map selected r) p f now) left) (behind_is x xs)
     ∙ ap (λ r. combined (selected r ∷ map selected xs) whole f left) e
 
+pub combine_only : (at : List Selector) (s : Selector) (whole : Option Datum) (f : Option Datum → ℕ → Outcome) (left : ℕ) → length at ≡ 1 → s ≡ get_or at 0 s
+    → combined (selected s ∷ []) whole f left ≡ combined (map selected at) whole f left
+combine_only [] s whole f left h e = absurd (omega arith)
+combine_only (x ∷ []) s whole f left h e = ap (λ r. combined (selected r ∷ []) whole f left) e
+combine_only (x ∷ y ∷ ys) s whole f left h e = absurd (omega arith)
+
 pub read_inside : (at : List Selector) (s : Selector) (whole : Option Datum) (left : ℕ) → 1 ≤ length at → s ≡ get_or at 0 s
     → then_with (part_of (selected s) whole left) left (λ p now. part_at_all (map selected (behind at)) p now) ≡ part_at_all (map selected at) whole left
 read_inside [] s whole left h e = absurd (omega arith)

@@ -1,3 +1,4 @@
 pub mod Steps
 pub mod Inside
 pub mod Takings
+pub mod Images

@@ -1,16 +1,19 @@
 //! Putting a part, and combining it with a value.
 
 ghost use Rattle.std.specs.Prelude.{◌≡◌, ◌∷◌, [], Some, OnErr, map};
-ghost use Rattle.setl_value.specs.code.DatumOf.{part};
+ghost use Rattle.setl_value.specs.code.DatumOf.{datum, part};
 ghost use Rattle.setl_map.specs.declared.Operator.TheVariants.{Add, Subtract, With, Less, Lessf};
 ghost use Rattle.setl_map.specs.Operators.{op_of, operand_count};
+ghost use Rattle.setl_map.specs.Puts.{add_image};
+ghost use Rattle.setl_model.specs.Core.{Brace};
 ghost use Rattle.setl_model.specs.Places.{with_part_at_all, combined};
 ghost use Rattle.setl_update.specs.Selectors.{selected};
 ghost use Rattle.setl_update.specs.Updates.{Updates};
 
 use crate::selectors::{Selector, apply, part_at, put_part};
 use setl_arithmetic::{minus_in_place, plus_in_place};
-use setl_collections::{less_in_place, lessf_in_place, with_in_place};
+use setl_collections::{add_image_in_place, less_in_place, lessf_in_place, with_in_place};
+use setl_map::laws::images_are_shallower;
 use setl_map::{OpFault, Operator};
 use setl_value::Value;
 use std::alloc::Global;
@@ -67,12 +70,85 @@ pub fn combine_at(
 {
     match at {
         [] => combine(alloc, what, whole, &value, turns),
+        [only] => combine_part(alloc, what, whole, only, &value, turns),
         [first, inner @ ..] => {
             let mut part = part_at(alloc, whole, first, turns)?;
             let left = combine_at(alloc, what, &mut part.value, inner, value, part.left)?;
             put_part(alloc, whole, first, part.value, left)
         }
     }
+}
+
+// Combines the part at one selector with a value. One image more is put in where the map stands.
+fn combine_part(
+    alloc: Global,
+    what: Operator,
+    whole: &mut Option<Value>,
+    at: &Selector,
+    value: &Option<Value>,
+    turns: u64,
+) -> Result<u64, OpFault>
+    requires { operand_count what ≡ Some 2 }
+    ensures updated { Updates (combined (selected at.now ∷ []) (part whole.old) (λ p now. op_of what (p ∷ part value.now ∷ []) now) turns) turns (part whole.new) result }
+    ensures refused { OnErr result (whole.new ≡ whole.old) }
+{
+    match (what, at, value) {
+        (Operator::With, Selector::Brace(Some(x)), Some(y)) => {
+            combine_images(alloc, whole, x, y, turns)
+        }
+        _ => combine_copy(alloc, what, whole, at, value, turns),
+    }
+}
+
+// Combines the images of a point with one image more.
+fn combine_images(
+    alloc: Global,
+    whole: &mut Option<Value>,
+    x: &Value,
+    y: &Value,
+    turns: u64,
+) -> Result<u64, OpFault>
+    ensures updated { Updates (combined (Brace (Some (datum x.now)) ∷ []) (part whole.old) (λ p now. op_of With (p ∷ Some (datum y.now) ∷ []) now) turns) turns (part whole.new) result }
+    ensures refused { OnErr result (whole.new ≡ whole.old) }
+{
+    images_are_shallower();
+    let Some(whole) = whole else {
+        return Err(OpFault::Om);
+    };
+    add_image(alloc, whole, x, y, turns)
+}
+
+// One image more, in place.
+fn add_image(
+    alloc: Global,
+    whole: &mut Value,
+    x: &Value,
+    y: &Value,
+    turns: u64,
+) -> Result<u64, OpFault>
+    ensures updated { Updates (add_image (datum whole.old) (datum x.now) (datum y.now)) turns (Some (datum whole.new)) result }
+    ensures refused { OnErr result (whole.new ≡ whole.old) }
+{
+    let charged = add_image_in_place(alloc, whole, x.copy()?, y.copy()?)?;
+    Ok(turns.saturating_sub(charged))
+}
+
+// Combines a copy of the part at one selector with a value, and puts it there.
+fn combine_copy(
+    alloc: Global,
+    what: Operator,
+    whole: &mut Option<Value>,
+    at: &Selector,
+    value: &Option<Value>,
+    turns: u64,
+) -> Result<u64, OpFault>
+    requires { operand_count what ≡ Some 2 }
+    ensures updated { Updates (combined (selected at.now ∷ []) (part whole.old) (λ p now. op_of what (p ∷ part value.now ∷ []) now) turns) turns (part whole.new) result }
+    ensures refused { OnErr result (whole.new ≡ whole.old) }
+{
+    let mut part = part_at(alloc, whole, at, turns)?;
+    let left = combine(alloc, what, &mut part.value, value, part.left)?;
+    put_part(alloc, whole, at, part.value, left)
 }
 
 // Combines the whole with a value, in place where the operator has a call for that.

@@ -6,6 +6,7 @@ ghost use Rattle.std.specs.List.{insert, remove, AllByRecursion};
 ghost use Rattle.setl_value.specs.code.Body.{Members, IsPage, joined};
 ghost use Rattle.setl_value.specs.Datum.{depth, set_of};
 ghost use Rattle.setl_value.specs.code.DatumOf.{datum, page};
+ghost use Rattle.setl_value.specs.code.Exchange.{PutsOnPage};
 ghost use Rattle.setl_value.specs.Order.{IsRising};
 ghost use Rattle.setl_value.specs.Pairs.{is_map};
 ghost use Rattle.setl_value.specs.code.Places.{HasPlace, IsIn, rank, rank_in, IsBound, page_at};
@@ -146,6 +147,7 @@ impl Pages {
         requires rising { IsRising (insert (Members self.old) (rank self.old c) (datum v)) }
         requires shallow { depth (set_of (insert (Members self.old) (rank self.old c) (datum v))) ≤ 500 }
         ensures put { OnOk result (Members self.new ≡ insert (Members self.old) (rank self.old c) (datum v)) }
+        ensures pages { OnOk result (PutsOnPage self.old.pages self.new.pages) }
         ensures refused { OnErr result (self.new ≡ self.old) }
     {
         v.learn();

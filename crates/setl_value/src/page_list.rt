@@ -6,7 +6,7 @@ ghost use Rattle.std.specs.Bool.{OnTrue};
 ghost use Rattle.std.specs.List.{AllByRecursion};
 ghost use Rattle.setl_value.specs.code.Body.{IsPage, joined};
 ghost use Rattle.setl_value.specs.code.DatumOf.{datum, page};
-ghost use Rattle.setl_value.specs.code.Exchange.{Exchanges};
+ghost use Rattle.setl_value.specs.code.Exchange.{Exchanges, AreHalves, page_sizes, put_size};
 ghost use Rattle.setl_value.specs.code.Places.{IsIn, page_at};
 
 use crate::shared::{cut_in, put_in, replace_between, replace_in};
@@ -31,6 +31,7 @@ pub(crate) fn put_page(
     requires pages { AllByRecursion IsPage (map page list.old.items) }
     requires place { IsIn (map page list.old.items) k i }
     ensures put { OnOk result (Exchanges (map page list.old.items) (map page list.new.items) k i k i (datum v ∷ [])) }
+    ensures sizes { OnOk result (page_sizes (map page list.new.items) ≡ put_size (page_sizes (map page list.old.items)) k) }
     ensures refused { OnErr result (map page list.new.items ≡ map page list.old.items) }
 {
     if list.is_empty() {
@@ -60,6 +61,7 @@ fn put_in_page(list: &mut Vec<Page>, k: usize, i: usize, v: Value) -> Result<(),
     requires place { i ≤ length (page_at (map page list.old.items) k) }
     requires room { length (page_at (map page list.old.items) k) < 64 }
     ensures put { OnOk result (Exchanges (map page list.old.items) (map page list.new.items) k i k i (datum v ∷ [])) }
+    ensures sizes { OnOk result (page_sizes (map page list.new.items) ≡ put_size (page_sizes (map page list.old.items)) k) }
     ensures refused { OnErr result (map page list.new.items ≡ map page list.old.items) }
 {
     let changed = &mut list[k];
@@ -78,6 +80,7 @@ fn put_split(
     requires place { i ≤ length (page_at (map page list.old.items) k) }
     requires full { length (page_at (map page list.old.items) k) ≡ 64 }
     ensures put { OnOk result (Exchanges (map page list.old.items) (map page list.new.items) k i k i (datum v ∷ [])) }
+    ensures sizes { OnOk result (page_sizes (map page list.new.items) ≡ put_size (page_sizes (map page list.old.items)) k) }
     ensures refused { OnErr result (map page list.new.items ≡ map page list.old.items) }
 {
     let two = halves(alloc, members_at(list, k), i, v)?;
@@ -89,6 +92,7 @@ fn halves(alloc: Global, full: &[Value], i: usize, v: Value) -> Result<Vec<Page>
     requires place { i ≤ length full.now }
     requires full { length full.now ≡ 64 }
     ensures pages { IfOk result (λ two. AllByRecursion IsPage (map page two.items)) }
+    ensures sizes { IfOk result (λ two. AreHalves (map page two.items)) }
     ensures all { IfOk result (λ two. joined (map page two.items) ≡ take i (map datum full.now) ++ datum v ∷ drop i (map datum full.now)) }
 {
     let mut left = Vec::with_capacity(alloc, MOST + 1)?;

@@ -8,6 +8,7 @@ ghost use Rattle.std.specs.Ordering.{is_lt};
 ghost use Rattle.setl_value.specs.code.Body.{Members, IsPage, joined};
 ghost use Rattle.setl_value.specs.Datum.{depth, set_of};
 ghost use Rattle.setl_value.specs.code.DatumOf.{datum, page};
+ghost use Rattle.setl_value.specs.code.Exchange.{PutsOnPage};
 ghost use Rattle.setl_value.specs.Order.{datum_cmp, IsRising};
 ghost use Rattle.setl_value.specs.code.Places.{HasPlace, rank, rank_in, IsPlace, IsBound, IsBetween, point};
 ghost use Rattle.setl_value.specs.code.Sought.{sought};
@@ -83,13 +84,14 @@ impl SetBody {
         self.body.members_from(c)
     }
 
-    /// Puts `v` before the member at a place. The list stays rising and the depth at most 500. Where memory is refused,
-    /// the set is as before.
+    /// Puts `v` before the member at a place. The list stays rising and the depth at most 500. It lies on one page then,
+    /// and a page of 64 members becomes two of 32 and 33. Where memory is refused, the set is as before.
     pub fn put_in(&mut self, alloc: Global, c: Cursor, v: Value) -> Result<(), Memory>
         requires place { HasPlace self.old c }
         requires rising { IsRising (insert (Members self.old) (rank self.old c) (datum v)) }
         requires shallow { depth (set_of (insert (Members self.old) (rank self.old c) (datum v))) ≤ 500 }
         ensures put { OnOk result (Members self.new ≡ insert (Members self.old) (rank self.old c) (datum v)) }
+        ensures pages { OnOk result (PutsOnPage self.old.pages self.new.pages) }
         ensures refused { OnErr result (self.new ≡ self.old) }
     {
         let pages = Rc::make_mut(&mut self.body)?;

@@ -7,6 +7,7 @@ ghost use Rattle.std.specs.Iterator.{YieldsFirstBy, item_count};
 ghost use Rattle.setl_value.specs.code.Body.{Members, IsPage};
 ghost use Rattle.setl_value.specs.Datum.{depth, set_of};
 ghost use Rattle.setl_value.specs.code.DatumOf.{datum};
+ghost use Rattle.setl_value.specs.code.Exchange.{PutsOnPage};
 ghost use Rattle.setl_value.specs.Order.{IsRising};
 ghost use Rattle.setl_value.specs.Pairs.{is_map};
 ghost use Rattle.setl_value.specs.code.Places.{HasPlace, rank};
@@ -72,12 +73,14 @@ impl SetBody {
     }
 
     /// Puts `v` before the i-th member, or after the last where i is the length. The list stays rising and the depth
-    /// at most 500. Where memory is refused, the set is as before.
+    /// at most 500. A page of 64 members on which it comes becomes two of 32 and 33. Where memory is refused, the set is
+    /// as before.
     pub fn put_at(&mut self, alloc: Global, i: usize, v: Value) -> Result<(), Memory>
         requires inside { i ≤ length (Members self.old) }
         requires rising { IsRising (insert (Members self.old) i (datum v)) }
         requires shallow { depth (set_of (insert (Members self.old) i (datum v))) ≤ 500 }
         ensures put { OnOk result (Members self.new ≡ insert (Members self.old) i (datum v)) }
+        ensures pages { OnOk result (PutsOnPage self.old.pages self.new.pages) }
         ensures refused { OnErr result (self.new ≡ self.old) }
     {
         let place = self.place_of(i);

@@ -3,8 +3,8 @@
 use crate::written::value;
 use setl_arithmetic::{minus_in_place, plus_in_place};
 use setl_collections::{
-    less_in_place, lessf_in_place, put_images_in_place, put_in_place, take_first, take_last,
-    take_least, with_in_place,
+    add_image_in_place, less_in_place, lessf_in_place, put_images_in_place, put_in_place,
+    take_first, take_last, take_least, with_in_place,
 };
 use setl_map::Taken;
 use setl_operators::OpFault;
@@ -27,6 +27,12 @@ put | [1] | 0 | 2 | Range
 put | {[1 2]} | 1 | 5 | {[1 5]}
 put_images | {[1 2]} | 1 | {3 4} | {[1 3] [1 4]}
 put_images | {[1 2]} | 1 | 3 | Kind
+add_image | {[1 2] [1 4] [3 5]} | 1 | 3 | {[1 2] [1 3] [1 4] [3 5]}
+add_image | {[1 2] [1 4]} | 1 | 4 | {[1 2] [1 4]}
+add_image | {[1 2] [3 4]} | 2 | [] | {[1 2] [2 []] [3 4]}
+add_image | {} | 'a' | {1} | {['a' {1}]}
+add_image | {[1 2] [1 3 4]} | 1 | 3 | Kind
+add_image | [1 2] | 1 | 3 | Kind
 + | 2 | 3 |  | 5
 + | 'ab' | 'c' |  | 'abc'
 + | '' | 'c' |  | 'c'
@@ -60,6 +66,7 @@ fn change(
         "lessf" => lessf_in_place(alloc, whole, &x),
         "put" => put_in_place(alloc, whole, x, Some(y), 9),
         "put_images" => put_images_in_place(alloc, whole, x, &y),
+        "add_image" => add_image_in_place(alloc, whole, x, y),
         "+" => plus_in_place(alloc, whole, &x),
         _ => minus_in_place(alloc, whole, &x),
     }

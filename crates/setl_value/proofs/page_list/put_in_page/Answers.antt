@@ -2,6 +2,7 @@ use Rattle.std.proofs.Common.{arith, ap, ◌∙◌, [], ◌∷◌, map}
 use Rattle.std.proofs.lemmas.Result.{on_ok_weaker, on_err_weaker}
 use Rattle.setl_value.specs.code.DatumOf.{datum}
 use Rattle.setl_value.proofs.Bodies.{map-insert}
+use Rattle.setl_value.proofs.PageSizes.{written_sizes}
 use Rattle.setl_value.proofs.Paging.{written, unwritten}
 use Rattle.setl_value.proofs.page_list.put_in_page.Goals as goal
 
@@ -15,3 +16,9 @@ returns-clause-put c =
 pub returns-clause-refused : goal.returns-clause-refused
 returns-clause-refused c =
     on_err_weaker c.put_in.result (λ e. unwritten c.args.list.now.items c.args.k c.index_mut-changed.result.now c.put_in.new.items c.requires.there c.index_mut-changed.ensures.value e) c.put_in.ensures.refused
+
+pub returns-clause-sizes : goal.returns-clause-sizes
+returns-clause-sizes c =
+    let p = c.index_mut-changed.result.now in
+    on_ok_weaker c.put_in.result (λ e.
+    written_sizes c.args.list.now.items c.args.k c.args.i p c.put_in.new.items (datum c.args.v) c.requires.there c.index_mut-changed.ensures.value c.requires.place c.requires.room (ap (map datum) e ∙ map-insert datum p.value.items c.args.i c.args.v)) c.put_in.ensures.put

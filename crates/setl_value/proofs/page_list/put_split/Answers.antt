@@ -2,6 +2,7 @@ use Rattle.std.proofs.Common.{ap, map, ◌∙◌, take, drop, ◌++◌, ◌∷�
 use Rattle.std.proofs.lemmas.Result.{on_ok_weaker}
 use Rattle.setl_value.specs.code.DatumOf.{datum, page}
 use Rattle.setl_value.specs.code.Places.{page_at}
+use Rattle.setl_value.proofs.PageSizes.{halved_sizes}
 use Rattle.setl_value.proofs.Paging.{rebuilt}
 use Rattle.setl_value.proofs.page_list.put_split.Goals as goal
 
@@ -11,3 +12,7 @@ returns-clause-put c =
     let k = c.args.k in
     let i = c.args.i in
     on_ok_weaker c.replace_between.result (λ e. rebuilt xs c.in_ok-two.two.items c.replace_between.new.list.items k i k i (datum c.args.v ∷ []) c.in_ok-two.ensures.pages (c.in_ok-two.ensures.all ∙ ap (λ m. take i m ++ datum c.args.v ∷ drop i m) (c.members_at.ensures ∙ ap (λ l. page_at (map page l) k) c.deref.ensures.value)) e) c.replace_between.ensures.replaced
+
+pub returns-clause-sizes : goal.returns-clause-sizes
+returns-clause-sizes c =
+    on_ok_weaker c.replace_between.result (λ e. halved_sizes c.args.list.now.items c.in_ok-two.two.items c.replace_between.new.list.items c.args.k c.requires.there c.requires.full c.in_ok-two.ensures.sizes e) c.replace_between.ensures.replaced
