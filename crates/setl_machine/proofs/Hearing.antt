@@ -28,7 +28,7 @@ use Rattle.setl_machine.proofs.Stays.{ran_none}
 abbrev Is : Modes → Code → ℕ → Moment → Moment → Watched → Watched → End → (rest rest' : List ℕ) → Type 0
 Is modes c n old new h h' e rest rest' =
     Ran modes c n (stood_for old.core old.control rest) old.outside new.outside (stood_for new.core new.control rest') e
-    × ReadsOnly modes c n (stood_for old.core old.control rest) old.left new.left
+    × ReadsOnly modes c n (stood_for old.core old.control rest) old.outside.held new.outside.held old.left new.left
     × Hears modes c n (stood_for old.core old.control rest) h h' e
 
 -- the same whatever is left to come then
@@ -41,7 +41,7 @@ abbrev pub SomeHeard : Modes → Code → Moment → Moment → Watched → Watc
 SomeHeard modes c old new h h' e = (rest' : List ℕ) → IsRest (ahead new.control.reader.ended new.left) rest' →
     (rest : List ℕ) × IsRest (ahead old.control.reader.ended old.left) rest
     × (n : ℕ) × Ran modes c n (stood_for old.core old.control rest) old.outside new.outside (stood_for new.core new.control rest') e
-    × ReadsOnly modes c n (stood_for old.core old.control rest) old.left new.left
+    × ReadsOnly modes c n (stood_for old.core old.control rest) old.outside.held new.outside.held old.left new.left
     × Hears modes c n (stood_for old.core old.control rest) h h' e
 
 -- the same without watchers
@@ -49,7 +49,7 @@ abbrev pub SomeRan : Modes → Code → Moment → Moment → End → Type 0
 SomeRan modes c old new e = (rest' : List ℕ) → IsRest (ahead new.control.reader.ended new.left) rest' →
     (rest : List ℕ) × IsRest (ahead old.control.reader.ended old.left) rest
     × (n : ℕ) × Ran modes c n (stood_for old.core old.control rest) old.outside new.outside (stood_for new.core new.control rest') e
-    × ReadsOnly modes c n (stood_for old.core old.control rest) old.left new.left
+    × ReadsOnly modes c n (stood_for old.core old.control rest) old.outside.held new.outside.held old.left new.left
 
 -- ---- calls in a row
 
@@ -90,9 +90,10 @@ hears_join parts modes c n j from mid old now h h1 h2 e p a b = go e b
 is_join : ToldInParts → (modes : Modes) (c : Code) (n j : ℕ) (old mid new : Moment) (h h1 h2 : Watched) (e : End) (r r1 r2 : List ℕ) → Is modes c n old mid h h1 Paused r r1 → Is modes c j mid new h1 h2 e r1 r2 → Is modes c (n + j) old new h h2 e r r2
 is_join parts modes c n j old mid new h h1 h2 e r r1 r2 a b =
     let from = stood_for old.core old.control r in
-    let there = stood_for mid.core mid.control r1 in (
-      ran_join modes c n j from there (stood_for new.core new.control r2) old.outside mid.outside new.outside e a.0 b.0,
-      reads_join modes c n j from there old.outside mid.outside old.left mid.left new.left a.0 a.1 b.1,
+    let there = stood_for mid.core mid.control r1 in
+    let to = stood_for new.core new.control r2 in (
+      ran_join modes c n j from there to old.outside mid.outside new.outside e a.0 b.0,
+      reads_join modes c n j from there to old.outside mid.outside new.outside e old.left mid.left new.left a.0 b.0 a.1 b.1,
       hears_join parts modes c n j from there old.outside mid.outside h h1 h2 e a.0 a.2 b.2,
     )
 

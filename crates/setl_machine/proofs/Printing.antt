@@ -44,7 +44,7 @@ module _ (modes : Modes) (old : Standing) (line n : ℕ) (w : World) where
 
       go : (e : End) → WritesLine (print_line vs) mid from new to e → Steps modes (settle (machine c) (tested modes) (start k) (print_values vs ys k)) from to (in_world w new.core) e
       go Paused g = (there g.0, g.1, g.2)
-      go WriteFault g = g
+      go WriteFault g = (g.0, g.1, g.2, refl)
       go NoMemory g = g
       go Done g = absurd g
       go (Stopped why at) g = absurd g

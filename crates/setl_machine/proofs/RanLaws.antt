@@ -1,14 +1,14 @@
 -- Calls in a row are a call.
-use Rattle.std.proofs.Common.{◌≡◌, ◌∙◌, inl, inr, ◌+◌, ◌-◌, ◌≤◌, ℕ, List, [], ◌++◌, take, Option, None, Some, refl, sym, ap, subst, append_assoc, arith}
+use Rattle.std.proofs.Common.{◌≡◌, ◌∙◌, ◌⊎◌, inl, inr, ◌+◌, ◌-◌, ◌≤◌, ℕ, List, [], ◌++◌, take, Option, None, Some, refl, sym, ap, subst, append_assoc, arith}
 use Rattle.std.proofs.lemmas.List.{append-nil}
 use Rattle.std.specs.Io.KnownBytes.{Appends, append_known}
 use Rattle.setl_io.specs.Faults.{Rose}
-use Rattle.setl_run.specs.Run.{State, Next, Goes, Ends, step, run}
+use Rattle.setl_run.specs.Run.{State, Next, Goes, Ends, settle, step, run}
 use Rattle.setl_code.specs.Code.{Code}
-use Rattle.setl_code.specs.CodeCore.{CodeCore}
-use Rattle.setl_code.specs.Machine.{machine}
+use Rattle.setl_code.specs.CodeCore.{Popped, Pops, Lacks, popped, CodeCore}
+use Rattle.setl_code.specs.Machine.{machine, do_step, on_popped, print_values}
 use Rattle.setl_machine.specs.Declaring.{Modes, tested}
-use Rattle.setl_machine.specs.Outcome.{start, said, Answers, Seen, NoFault, Steps, AtPrint, AtRead, Before, Ran, ReadsOnly}
+use Rattle.setl_machine.specs.Outcome.{start, said, last, Answers, Seen, NoFault, Steps, AtPrint, AtRead, Before, Ran, ReadsOnly}
 use Rattle.setl_machine.specs.declared.end.End.{End}
 use Rattle.setl_machine.specs.declared.end.End.TheVariants.{Done, Stopped, Spent, Paused, ReadFault, WriteFault, NoMemory, Stuck}
 use Rattle.setl_machine.proofs.RunLaws.{behind, all_behind, run_joined, run_ended, run_one}
@@ -33,6 +33,30 @@ known_none : (old new : Option (List ℕ)) (zs : List ℕ) → Appends old new z
 known_none None new zs h = tt
 known_none (Some a) None zs h = absurd h
 known_none (Some a) (Some b) zs h = h ∙ ap (λ bs. bs ++ zs) (sym (append-nil a))
+
+-- what came behind the output of a state, beside that output
+known_behind : (old new : Option (List ℕ)) (xs ys : List ℕ) → Appends (append_known old xs) new ys → Appends old new (xs ++ ys)
+known_behind None new xs ys h = tt
+known_behind (Some a) None xs ys h = absurd h
+known_behind (Some a) (Some b) xs ys h = h ∙ append_assoc a xs ys
+
+-- more behind a front, and a front behind more
+front_then : (old mid new : Option (List ℕ)) (xs ys zs : List ℕ) → Appends old mid (xs ++ ys) → Appends mid new zs → Appends old new (xs ++ (ys ++ zs))
+front_then old mid new xs ys zs h k = subst (λ bs. Appends old new bs) (append_assoc xs ys zs) (appends_then old mid new (xs ++ ys) zs h k)
+
+then_front : (old mid new : Option (List ℕ)) (xs ys zs : List ℕ) → Appends old mid xs → Appends mid new (ys ++ zs) → Appends old new ((xs ++ ys) ++ zs)
+then_front old mid new xs ys zs h k = subst (λ bs. Appends old new bs) (sym (append_assoc xs ys zs)) (appends_then old mid new xs (ys ++ zs) h k)
+
+-- ---- a `print` in hand
+
+kept_by : (modes : Modes) (c : Code) (k : CodeCore) (p : Popped) → (last (settle (machine c) (tested modes) (start k) (on_popped p (λ vs xs. print_values vs xs k)))).world.input ≡ k.world.input
+kept_by modes c k Lacks = refl
+kept_by modes c k (Pops vs xs) = refl
+
+-- it leaves the input as it is
+print_keeps : (modes : Modes) (c : Code) (k : CodeCore) → AtPrint c k → (last (step (machine c) (tested modes) (start k))).world.input ≡ k.world.input
+print_keeps modes c k h =
+    ap (λ o. (last (settle (machine c) (tested modes) (start k) (do_step c o k))).world.input) h.2 ∙ kept_by modes c k (popped h.1 [] k.now.operands)
 
 -- ---- behind a state
 
@@ -121,7 +145,7 @@ ran_join modes c n j from mid to old now new e p q = go e q
         (behind w.state q.0, q.1, before q.0 q.1 q.2, q.3, appends_then old.held now.held new.held w.state.out (q.0).out w.bytes q.4, subst (λ i. Rose i new.input_faults) w.count.1 q.5, q.6 ∙ w.count.0)
     go WriteFault q =
         let r = q.4 in
-        (behind w.state q.0, q.1, before q.0 q.1 q.2, q.3, (r.0, r.1, known_joined old.held now.held new.held w.state.out (q.0).out (take r.0 q.1) w.bytes r.2), subst (λ i. Rose i new.faults) w.count.0 q.5, q.6 ∙ w.count.1)
+        (behind w.state q.0, q.1, before q.0 q.1 q.2, q.3, (r.0, r.1, known_joined old.held now.held new.held w.state.out (q.0).out (take r.0 q.1) w.bytes r.2), subst (λ i. Rose i new.faults) w.count.0 q.5, q.6 ∙ w.count.1, q.7)
     go NoMemory q =
         let r = q.4 in
         (behind w.state q.0, q.1, before q.0 q.1 q.2, q.3, (r.0, r.1, known_joined old.held now.held new.held w.state.out (q.0).out (take r.0 q.1) w.bytes r.2), no_fault_then old now new w.count q.5)
@@ -148,7 +172,7 @@ ran_one modes c from to old new e reads writes h = go e reads writes h
     go ReadFault reads writes p = (start from, said (step (machine c) (tested modes) (start from)), before, reads refl, p.0, p.1, p.2)
     go WriteFault reads writes p =
         let r = p.0 in
-        (start from, said (step (machine c) (tested modes) (start from)), before, writes refl, (r.0, r.1, known_none old.held new.held (take r.0 (said (step (machine c) (tested modes) (start from)))) r.2), p.1, p.2)
+        (start from, said (step (machine c) (tested modes) (start from)), before, writes refl, (r.0, r.1, known_none old.held new.held (take r.0 (said (step (machine c) (tested modes) (start from)))) r.2), p.1, p.2, p.3 ∙ print_keeps modes c from (writes refl))
     go NoMemory reads writes p =
         let r = p.0 in
         (start from, said (step (machine c) (tested modes) (start from)), before, says_nothing modes c from, (r.0, r.1, known_none old.held new.held (take r.0 (said (step (machine c) (tested modes) (start from)))) r.2), p.1)
@@ -178,7 +202,7 @@ ran_longer modes c n k from to old new e ne le p = go e ne p
     go Stuck ne p = longer (run (machine c) (tested modes) n (start from)) Stuck refl ne p
     go Paused ne p = absurd (ne refl)
     go ReadFault ne p = (p.0, p.1, before_longer modes c n k from p.0 p.1 le p.2, p.3, p.4, p.5, p.6)
-    go WriteFault ne p = (p.0, p.1, before_longer modes c n k from p.0 p.1 le p.2, p.3, p.4, p.5, p.6)
+    go WriteFault ne p = (p.0, p.1, before_longer modes c n k from p.0 p.1 le p.2, p.3, p.4, p.5, p.6, p.7)
     go NoMemory ne p = (p.0, p.1, before_longer modes c n k from p.0 p.1 le p.2, p.3, p.4, p.5)
 
 -- A call that gives up where another one came to is one of a step more.
@@ -193,20 +217,49 @@ ran_gives_up modes c n from mid to old new p =
     let line = said (step (machine c) (tested modes) (start w.state.core)) in
     (w.state, line, record { after = n; fewer = omega arith; reached = w.goes; says = refl }, says_nothing modes c w.state.core, (0, omega arith, known_appended old.held new.held w.state.out w.bytes), w.count)
 
+-- ---- the output
+
+-- the output only grows
+ran_gains : (modes : Modes) (c : Code) (n : ℕ) (from to : CodeCore) (old new : Seen) (e : End) → Ran modes c n from old new to e → (xs : List ℕ) × Appends old.held new.held xs
+ran_gains modes c n from to old new Done p = (said (run (machine c) (tested modes) n (start from)), p.1)
+ran_gains modes c n from to old new (Stopped why line) p = (said (run (machine c) (tested modes) n (start from)), p.1)
+ran_gains modes c n from to old new Spent p = (said (run (machine c) (tested modes) n (start from)), p.1)
+ran_gains modes c n from to old new Stuck p = (said (run (machine c) (tested modes) n (start from)), p.1)
+ran_gains modes c n from to old new Paused p = (said (run (machine c) (tested modes) n (start from)), p.1)
+ran_gains modes c n from to old new ReadFault p = ((p.0).out, p.4)
+ran_gains modes c n from to old new WriteFault p =
+    let r = p.4 in
+    ((p.0).out ++ take r.0 p.1, known_behind old.held new.held (p.0).out (take r.0 p.1) r.2)
+ran_gains modes c n from to old new NoMemory p =
+    let r = p.4 in
+    ((p.0).out ++ take r.0 p.1, known_behind old.held new.held (p.0).out (take r.0 p.1) r.2)
+
 -- ---- reads
 
+-- the bytes taken of the input by one step
+pub reads_one : (modes : Modes) (c : Code) (from to : CodeCore) (old new : Seen) (e : End) (left new_left : Option (List ℕ)) → Ran modes c 1 from old new to e → (new_left ≡ left) ⊎ AtRead c from → ReadsOnly modes c 1 from old.held new.held left new_left
+reads_one modes c from to old new e left new_left p (inl h) = inl h
+reads_one modes c from to old new e left new_left p (inr h) =
+    let gained = ran_gains modes c 1 from to old new e p in
+    inr (start from, said (step (machine c) (tested modes) (start from)), record { after = 0; fewer = omega arith; reached = refl; says = refl }, h, gained.0, gained.1)
+
 -- the bytes taken of the input by two calls in a row
-pub reads_join : (modes : Modes) (c : Code) (n j : ℕ) (from mid : CodeCore) (old now : Seen) (left then_left new_left : Option (List ℕ)) → Ran modes c n from old now mid Paused → ReadsOnly modes c n from left then_left → ReadsOnly modes c j mid then_left new_left → ReadsOnly modes c (n + j) from left new_left
-reads_join modes c n j from mid old now left then_left new_left p h k = go h k
+pub reads_join : (modes : Modes) (c : Code) (n j : ℕ) (from mid to : CodeCore) (old now new : Seen) (e : End) (left then_left new_left : Option (List ℕ)) → Ran modes c n from old now mid Paused → Ran modes c j mid now new to e → ReadsOnly modes c n from old.held now.held left then_left → ReadsOnly modes c j mid now.held new.held then_left new_left → ReadsOnly modes c (n + j) from old.held new.held left new_left
+reads_join modes c n j from mid to old now new e left then_left new_left p q h k = go h k
   where
     w : Came (run (machine c) (tested modes) n (start from)) old now mid
     w = came modes (run (machine c) (tested modes) n (start from)) old now mid p
 
-    go : ReadsOnly modes c n from left then_left → ReadsOnly modes c j mid then_left new_left → ReadsOnly modes c (n + j) from left new_left
-    go (inl h) (inl k) = inl (k ∙ h)
-    go (inr h) k = inr (h.0, h.1, before_longer modes c n (n + j) from h.0 h.1 (omega arith) h.2, h.3)
-    go (inl h) (inr k) = inr (behind w.state k.0, k.1, before_joined modes c n j from mid w.state k.0 k.1 w.goes w.core k.2, k.3)
+    gained : (xs : List ℕ) × Appends now.held new.held xs
+    gained = ran_gains modes c j mid to now new e q
 
-pub reads_longer : (modes : Modes) (c : Code) (n k : ℕ) (from : CodeCore) (left new_left : Option (List ℕ)) → n ≤ k → ReadsOnly modes c n from left new_left → ReadsOnly modes c k from left new_left
-reads_longer modes c n k from left new_left le (inl h) = inl h
-reads_longer modes c n k from left new_left le (inr h) = inr (h.0, h.1, before_longer modes c n k from h.0 h.1 le h.2, h.3)
+    go : ReadsOnly modes c n from old.held now.held left then_left → ReadsOnly modes c j mid now.held new.held then_left new_left → ReadsOnly modes c (n + j) from old.held new.held left new_left
+    go (inl h) (inl k) = inl (k ∙ h)
+    go (inr h) k =
+        inr (h.0, h.1, before_longer modes c n (n + j) from h.0 h.1 (omega arith) h.2, h.3, h.4 ++ gained.0, front_then old.held now.held new.held (h.0).out h.4 gained.0 h.5 gained.1)
+    go (inl h) (inr k) =
+        inr (behind w.state k.0, k.1, before_joined modes c n j from mid w.state k.0 k.1 w.goes w.core k.2, k.3, k.4, then_front old.held now.held new.held w.state.out (k.0).out k.4 w.bytes k.5)
+
+pub reads_longer : (modes : Modes) (c : Code) (n k : ℕ) (from : CodeCore) (held new_held left new_left : Option (List ℕ)) → n ≤ k → ReadsOnly modes c n from held new_held left new_left → ReadsOnly modes c k from held new_held left new_left
+reads_longer modes c n k from held new_held left new_left le (inl h) = inl h
+reads_longer modes c n k from held new_held left new_left le (inr h) = inr (h.0, h.1, before_longer modes c n k from h.0 h.1 le h.2, h.3, h.4, h.5)

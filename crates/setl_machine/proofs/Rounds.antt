@@ -1,5 +1,5 @@
 -- Calls in a row, with what they take of an input.
-use Rattle.std.proofs.Common.{◌≡◌, ◌∙◌, ◌⊎◌, inl, inr, ◌+◌, ◌≤◌, ℕ, Bool, List, [], ◌++◌, Option, None, Some, refl, sym, ap, subst, append_assoc, arith}
+use Rattle.std.proofs.Common.{◌≡◌, ◌∙◌, ◌⊎◌, ◌+◌, ◌≤◌, ℕ, Bool, List, [], ◌++◌, Option, None, Some, sym, ap, subst, append_assoc, arith}
 use Rattle.setl_run.specs.Run.{step}
 use Rattle.setl_code.specs.Code.{Code}
 use Rattle.setl_code.specs.CodeCore.{CodeCore}
@@ -10,7 +10,7 @@ use Rattle.setl_machine.specs.Declaring.{Modes, tested}
 use Rattle.setl_machine.specs.Outcome.{start, Seen, seen, Steps, AtPrint, AtRead, Ran, ReadsOnly}
 use Rattle.setl_machine.specs.declared.end.End.{End}
 use Rattle.setl_machine.specs.declared.end.End.TheVariants.{Paused, ReadFault, WriteFault, NoMemory}
-use Rattle.setl_machine.proofs.RanLaws.{ran_join, ran_one, ran_longer, ran_gives_up, reads_join, reads_longer}
+use Rattle.setl_machine.proofs.RanLaws.{ran_join, ran_one, ran_longer, ran_gives_up, reads_one, reads_join, reads_longer}
 
 -- a core with a control, the outside, and what is left of the input
 pub record Moment : Type 0 where
@@ -27,36 +27,35 @@ abbrev pub Runs : Modes → Code → ℕ → Moment → Moment → End → Type 
 Runs modes c n old new e = (rest' : List ℕ) → IsRest (ahead new.control.reader.ended new.left) rest' →
     (rest : List ℕ) × IsRest (ahead old.control.reader.ended old.left) rest
     × Ran modes c n (stood_for old.core old.control rest) old.outside new.outside (stood_for new.core new.control rest') e
-    × ReadsOnly modes c n (stood_for old.core old.control rest) old.left new.left
+    × ReadsOnly modes c n (stood_for old.core old.control rest) old.outside.held new.outside.held old.left new.left
 
 pub runs_join : (modes : Modes) (c : Code) (n j : ℕ) (old mid new : Moment) (e : End) → Runs modes c n old mid Paused → Runs modes c j mid new e → Runs modes c (n + j) old new e
 runs_join modes c n j old mid new e p q = λ rest' h.
     let b = q rest' h in
     let a = p b.0 b.1 in
     let from = stood_for old.core old.control a.0 in
-    let there = stood_for mid.core mid.control b.0 in (
+    let there = stood_for mid.core mid.control b.0 in
+    let to = stood_for new.core new.control rest' in (
       a.0,
       a.1,
-      ran_join modes c n j from there (stood_for new.core new.control rest') old.outside mid.outside new.outside e a.2 b.2,
-      reads_join modes c n j from there old.outside mid.outside old.left mid.left new.left a.2 a.3 b.3,
+      ran_join modes c n j from there to old.outside mid.outside new.outside e a.2 b.2,
+      reads_join modes c n j from there to old.outside mid.outside new.outside e old.left mid.left new.left a.2 b.2 a.3 b.3,
     )
 
 pub runs_longer : (modes : Modes) (c : Code) (n k : ℕ) (old new : Moment) (e : End) → (e ≡ Paused → ⊥) → n ≤ k → Runs modes c n old new e → Runs modes c k old new e
 runs_longer modes c n k old new e ne le p = λ rest' h.
     let a = p rest' h in
     let from = stood_for old.core old.control a.0 in
-    (a.0, a.1, ran_longer modes c n k from (stood_for new.core new.control rest') old.outside new.outside e ne le a.2, reads_longer modes c n k from old.left new.left le a.3)
+    (a.0, a.1, ran_longer modes c n k from (stood_for new.core new.control rest') old.outside new.outside e ne le a.2, reads_longer modes c n k from old.outside.held new.outside.held old.left new.left le a.3)
 
 -- a step is a call of one step
 pub runs_one : (modes : Modes) (c : Code) (old new : Moment) (e : End) → ((rest' : List ℕ) → IsRest (ahead new.control.reader.ended new.left) rest' → (rest : List ℕ) × IsRest (ahead old.control.reader.ended old.left) rest × Steps modes (step (machine c) (tested modes) (start (stood_for old.core old.control rest))) old.outside new.outside (stood_for new.core new.control rest') e) → (e ≡ ReadFault → AtRead c old.core) → (e ≡ WriteFault → AtPrint c old.core) → ((new.left ≡ old.left) ⊎ AtRead c old.core) → Runs modes c 1 old new e
 runs_one modes c old new e did reads writes only = λ rest' h.
     let a = did rest' h in
     let from = stood_for old.core old.control a.0 in
-    (a.0, a.1, ran_one modes c from (stood_for new.core new.control rest') old.outside new.outside e reads writes a.2, go from only)
-  where
-    go : (from : CodeCore) → ((new.left ≡ old.left) ⊎ AtRead c from) → ReadsOnly modes c 1 from old.left new.left
-    go from (inl h) = inl h
-    go from (inr h) = inr (start from, _, record { after = 0; fewer = omega arith; reached = refl; says = refl }, h)
+    let to = stood_for new.core new.control rest' in
+    let ran = ran_one modes c from to old.outside new.outside e reads writes a.2 in
+    (a.0, a.1, ran, reads_one modes c from to old.outside new.outside e old.left new.left ran only)
 
 -- one step more, of the same code
 pub runs_on : (modes : Modes) (c d : Code) (n : ℕ) (old mid new : Moment) (e : End) → d ≡ c → Runs modes c n old mid Paused → ((rest' : List ℕ) → IsRest (ahead new.control.reader.ended new.left) rest' → (rest : List ℕ) × IsRest (ahead mid.control.reader.ended mid.left) rest × Steps modes (step (machine d) (tested modes) (start (stood_for mid.core mid.control rest))) mid.outside new.outside (stood_for new.core new.control rest') e) → (e ≡ ReadFault → AtRead d mid.core) → (e ≡ WriteFault → AtPrint d mid.core) → ((new.left ≡ mid.left) ⊎ AtRead d mid.core) → Runs modes c (n + 1) old new e
@@ -70,7 +69,7 @@ runs_then modes c d n j k old mid new e same sum p q = subst (λ m. Runs modes c
 pub some_runs : (modes : Modes) (c : Code) (n : ℕ) (old new : Moment) (e : End) → Runs modes c n old new e → (rest' : List ℕ) → IsRest (ahead new.control.reader.ended new.left) rest' →
     (rest : List ℕ) × IsRest (ahead old.control.reader.ended old.left) rest
     × (n : ℕ) × Ran modes c n (stood_for old.core old.control rest) old.outside new.outside (stood_for new.core new.control rest') e
-    × ReadsOnly modes c n (stood_for old.core old.control rest) old.left new.left
+    × ReadsOnly modes c n (stood_for old.core old.control rest) old.outside.held new.outside.held old.left new.left
 some_runs modes c n old new e p = λ rest' h. let a = p rest' h in (a.0, a.1, n, a.2, a.3)
 
 -- a call that gives up where another one came to
@@ -79,7 +78,7 @@ runs_give_up modes c n old new p = λ rest' h.
     let a = p rest' h in
     let from = stood_for old.core old.control a.0 in
     let there = stood_for new.core new.control rest' in
-    (a.0, a.1, ran_gives_up modes c n from there there old.outside new.outside a.2, reads_longer modes c n (n + 1) from old.left new.left (omega arith) a.3)
+    (a.0, a.1, ran_gives_up modes c n from there there old.outside new.outside a.2, reads_longer modes c n (n + 1) from old.outside.held new.outside.held old.left new.left (omega arith) a.3)
 
 -- ---- the input
 

@@ -1,5 +1,5 @@
 -- What a call of the machine did, seen from outside.
-use Rattle.std.specs.Prelude.{◌≡◌, ◌⊎◌, ℕ, ◌<◌, ◌≤◌, ◌-◌, List, [], length, take, ◌++◌, false, Option, Some}
+use Rattle.std.specs.Prelude.{◌≡◌, ◌⊎◌, ℕ, ◌<◌, ◌≤◌, ◌-◌, List, [], length, take, ◌++◌, Option, Some}
 use Rattle.std.specs.Io.KnownBytes.{Appends, append_known}
 use Rattle.setl_io.specs.Faults.{Rose}
 use Rattle.setl_io.specs.Sink.{AppendsPart}
@@ -94,10 +94,10 @@ AtPrint c k = (line : ℕ) × (n : ℕ) × (fetch c k.now.body k.now.at ≡ Some
 abbrev pub AtRead : Code → CodeCore → Type 0
 AtRead c k = (line : ℕ) × (fetch c k.now.body k.now.at ≡ Some (line, ReadOne))
 
--- What one step did to the outside.
+-- What one step did to the outside. A print that fails leaves the input as the step does.
 abbrev pub Steps : Modes → Next CodeCore → Seen → Seen → CodeCore → End → Type 0
 Steps modes n old new k end.ReadFault = Appends old.held new.held [] × Rose old.input_faults new.input_faults × (new.faults ≡ old.faults)
-Steps modes n old new k end.WriteFault = AppendsPart old.held new.held (said n) × Rose old.faults new.faults × (new.input_faults ≡ old.input_faults)
+Steps modes n old new k end.WriteFault = AppendsPart old.held new.held (said n) × Rose old.faults new.faults × (new.input_faults ≡ old.input_faults) × (k.world.input ≡ (last n).world.input)
 Steps modes n old new k end.NoMemory = AppendsFront old.held new.held (said n) × NoFault old new
 Steps modes n old new k e = Answers modes n k e × Appends old.held new.held (said n) × NoFault old new
 
@@ -108,16 +108,19 @@ pub record Before (modes : Modes) (c : Code) (n : ℕ) (from : CodeCore) (s : St
   pub reached : runs.run (machine c) (tested modes) after (start from) ≡ Goes s
   pub says : line ≡ said (step (machine c) (tested modes) (start s.core))
 
--- What at most n steps of a code did, from one core to another, where these declarations count.
+-- What at most n steps of a code did, from one core to another, where these declarations count. Where a print failed, the
+-- input is what it was at that print.
 abbrev pub Ran : Modes → Code → ℕ → CodeCore → Seen → Seen → CodeCore → End → Type 0
 Ran modes c n from old new to end.ReadFault =
     (s : State CodeCore) × (line : List ℕ) × Before modes c n from s line × AtRead c s.core × Appends old.held new.held s.out × Rose old.input_faults new.input_faults × (new.faults ≡ old.faults)
 Ran modes c n from old new to end.WriteFault =
-    (s : State CodeCore) × (line : List ℕ) × Before modes c n from s line × AtPrint c s.core × AppendsPart (append_known old.held s.out) new.held line × Rose old.faults new.faults × (new.input_faults ≡ old.input_faults)
+    (s : State CodeCore) × (line : List ℕ) × Before modes c n from s line × AtPrint c s.core × AppendsPart (append_known old.held s.out) new.held line × Rose old.faults new.faults × (new.input_faults ≡ old.input_faults) × (to.world.input ≡ s.core.world.input)
 Ran modes c n from old new to end.NoMemory =
     (s : State CodeCore) × (line : List ℕ) × Before modes c n from s line × (length line ≡ 0 ⊎ AtPrint c s.core) × AppendsFront (append_known old.held s.out) new.held line × NoFault old new
 Ran modes c n from old new to e = Steps modes (runs.run (machine c) (tested modes) n (start from)) old new to e
 
--- nothing was taken of the input, or a state was reached in fewer than n steps at which a `read` is in hand
-abbrev pub ReadsOnly : Modes → Code → ℕ → CodeCore → (left left' : Option (List ℕ)) → Type 0
-ReadsOnly modes c n from left left' = (left' ≡ left) ⊎ ((s : State CodeCore) × (line : List ℕ) × Before modes c n from s line × AtRead c s.core)
+-- Nothing was taken of the input, or a state was reached in fewer than n steps at which a `read` is in hand, and the output
+-- has gained all that was written up to it.
+abbrev pub ReadsOnly : Modes → Code → ℕ → CodeCore → (held held' left left' : Option (List ℕ)) → Type 0
+ReadsOnly modes c n from held held' left left' =
+    (left' ≡ left) ⊎ ((s : State CodeCore) × (line : List ℕ) × Before modes c n from s line × AtRead c s.core × (more : List ℕ) × Appends held held' (s.out ++ more))

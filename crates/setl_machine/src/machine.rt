@@ -26,7 +26,9 @@ use setl_store::Store;
 /// bytes that the reader keeps and those of `input` together are what the code reads; each `print` is handed to `out` as
 /// one piece.
 /// `ReadFault` and `WriteFault` come only where the count of faults of `input` or `out` rose: at a `read`, and at a
-/// `print`, of which a part was written. `NoMemory` comes where memory was refused.
+/// `print`, of which a part was written; what the code has left to read is then what it had left at that `print`.
+/// `NoMemory` comes where memory was refused. Bytes are taken of `input` only where the code comes to a `read`, and `out`
+/// has then gained what was written before it.
 pub fn run<I: Source, O: Sink>(
     declarations: &Declarations<'_>,
     store: &mut Store<'_>,
@@ -40,7 +42,7 @@ pub fn run<I: Source, O: Sink>(
     ensures ran { (rest' : List ℕ) → IsRest (ahead control.new.reader.ended (I.left input.new)) rest' →
         (rest : List ℕ) × IsRest (ahead control.old.reader.ended (I.left input.old)) rest
         × Ran (modes_of declarations.now) (plain_code store.old.code) steps (stood_for store.old.core control.old rest) (seen (O.held out.old) (O.faults out.old) (I.faults input.old)) (seen (O.held out.new) (O.faults out.new) (I.faults input.new)) (stood_for store.new.core control.new rest') result
-        × ReadsOnly (modes_of declarations.now) (plain_code store.old.code) steps (stood_for store.old.core control.old rest) (I.left input.old) (I.left input.new) }
+        × ReadsOnly (modes_of declarations.now) (plain_code store.old.code) steps (stood_for store.old.core control.old rest) (O.held out.old) (O.held out.new) (I.left input.old) (I.left input.new) }
     ensures code { result ≡ End.Paused → store.new.code ≡ store.old.code }
     ensures goes_on { result ≡ End.Paused → control.new.reader.fault ≡ None }
     ensures took { TakesOff (I.left input.old) (I.left input.new) }
@@ -71,7 +73,7 @@ pub fn run_whole<I: Source, O: Sink>(
     ensures ran { (rest' : List ℕ) → IsRest (ahead control.new.reader.ended (I.left input.new)) rest' →
         (rest : List ℕ) × IsRest (ahead control.old.reader.ended (I.left input.old)) rest
         × (n : ℕ) × Ran (modes_of declarations.now) (plain_code store.old.code) n (stood_for store.old.core control.old rest) (seen (O.held out.old) (O.faults out.old) (I.faults input.old)) (seen (O.held out.new) (O.faults out.new) (I.faults input.new)) (stood_for store.new.core control.new rest') result
-        × ReadsOnly (modes_of declarations.now) (plain_code store.old.code) n (stood_for store.old.core control.old rest) (I.left input.old) (I.left input.new) }
+        × ReadsOnly (modes_of declarations.now) (plain_code store.old.code) n (stood_for store.old.core control.old rest) (O.held out.old) (O.held out.new) (I.left input.old) (I.left input.new) }
     ensures whole { ¬ (result ≡ End.Paused) }
     ensures took { TakesOff (I.left input.old) (I.left input.new) }
     ensures honest { StaysHonest control.old.reader.ended (I.left input.old) control.new.reader.ended (I.left input.new) }

@@ -202,6 +202,7 @@ fn store_telling(
     requires serves { Serves declarations.now store.old.code }
     ensures { (from : ControlState) → DoesTelling (modes_of declarations.now) store.old from line (StoreIn (plain_slot (variables store.old.core) slot)) store.new from result }
 {
+    // Its clause names the variables by the body's number, as `stored_events` wants them.
     let _body = store.body();
     match store_in(slot, line, declarations, store)? {
         End::Paused => Ok(stored_events(slot, line, store, alloc)?),
@@ -226,6 +227,7 @@ fn alter_telling(
     ensures did { DoesTelling (modes_of declarations.now) store.old control.old line (Alter (plain_alteration what) (plain_slot (variables store.old.core) slot) (map plain_bracket brackets.now)) store.new control.new result }
     ensures reader { control.new.reader ≡ control.old.reader }
 {
+    // Its clause names the variables by the body's number, as `stored_events` wants them.
     let _body = store.body();
     let updated = alter(what, slot, brackets, line, declarations, store, control)?;
     match updated.end {

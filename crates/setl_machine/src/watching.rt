@@ -39,7 +39,7 @@ pub fn run_watched<I: Source, O: Sink>(
     ensures ran { (rest' : List ℕ) → IsRest (ahead control.new.reader.ended (I.left input.new)) rest' →
         (rest : List ℕ) × IsRest (ahead control.old.reader.ended (I.left input.old)) rest
         × (n : ℕ) × Ran (modes_of declarations.now) (plain_code store.old.code) n (stood_for store.old.core control.old rest) (seen (O.held out.old) (O.faults out.old) (I.faults input.old)) (seen (O.held out.new) (O.faults out.new) (I.faults input.new)) (stood_for store.new.core control.new rest') result
-        × ReadsOnly (modes_of declarations.now) (plain_code store.old.code) n (stood_for store.old.core control.old rest) (I.left input.old) (I.left input.new)
+        × ReadsOnly (modes_of declarations.now) (plain_code store.old.code) n (stood_for store.old.core control.old rest) (O.held out.old) (O.held out.new) (I.left input.old) (I.left input.new)
         × Hears (modes_of declarations.now) (plain_code store.old.code) n (stood_for store.old.core control.old rest) (watched (map (λ w. watch w) watchers.old.items) reports.old.items) (watched (map (λ w. watch w) watchers.new.items) reports.new.items) result }
     ensures whole { ¬ (result ≡ End.Paused) }
     ensures took { TakesOff (I.left input.old) (I.left input.new) }

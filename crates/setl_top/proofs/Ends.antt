@@ -15,9 +15,9 @@ use Rattle.setl_top.specs.Listings.{listing_of}
 use Rattle.setl_top.specs.code.Lists.{gain, Written, all_written, write_failed, write_starved, no_text, Lists, listed_so, not_listed}
 use Rattle.setl_top.specs.code.Loads.{Loaded, NotLoaded, not_accepted, not_read, no_room, sides, Checks, checked_so, not_checked}
 use Rattle.setl_top.specs.Reasons.{reason_line}
-use Rattle.setl_top.specs.code.Runs.{Streams, streams, counted, RunsTo, RunsInto, RunsToRead, RunsUpTo, Runs, TakesInput}
+use Rattle.setl_top.specs.code.Runs.{Streams, streams, counted, RunsTo, RunsInto, WritesInto, RunsToRead, RunsUpTo, Runs, TakesInput}
 use Rattle.setl_top.specs.code.Tells.{Tells, whole, failed, no_memory, TellsEnd}
-use Rattle.setl_top.specs.Headline.{Moment, Job, IsInput, IsToRun, IsToList, status_for, Answers, faulty_words, refused, checked, listed, run_ended, UpToWrite, UpToAny, no_program, at_state, in_write, at_print, in_listing, load_failed, read_failed, no_such_watcher, TellsFault, LeavesRest, LeavesInput, Ended, ReadFailed, WriteFailed, MemoryFailed, out_failed, err_failed, InputLeft, untouched, read_from, Headline}
+use Rattle.setl_top.specs.Headline.{Moment, Job, IsInput, IsToRun, IsToList, status_for, Answers, faulty_words, refused, checked, listed, run_ended, UpToAny, no_program, at_state, in_print, in_write, in_listing, load_failed, read_failed, no_such_watcher, TellsFault, LeavesRest, LeavesInput, Ended, ReadFailed, WriteFailed, MemoryFailed, print_failed, out_failed, err_failed, InputLeft, untouched, read_from, Headline}
 use Rattle.setl_top.specs.Watching.{asked_for, IsThere, all_told, reports_of}
 use Rattle.setl_top.specs.declared.status.Status.{Status}
 use Rattle.setl_top.specs.declared.status.Status.TheVariants.{Done, Refused, Words}
@@ -169,21 +169,20 @@ module _ (words : List (List ℕ)) (before after : Moment) (heard : Watched) (as
     err_gained = fault_alone words before (codes "read fault") before.err after.err h;
   }
 
-  in_line : (x : RunsInto (program_of tree) asked Seen) → UpToWrite words before (x.out ++ take x.n x.line)
-  in_line x = at_print (job_of asked tree x.input before) x.out x.line x.n (to_be_run x.input x.known) x.at x.part
-
-  run_unwritten : RunsInto (program_of tree) asked Seen → Rose before.out_faults after.out_faults → AppendsFront before.err after.err (codes "write fault" ++ 10 ∷ []) → WriteFailed words before after
-  run_unwritten x rose h = record {
-    out = x.out ++ take x.n x.line;
-    cause = out_failed rose (in_line x);
-    out_gained = x.gained;
-    err_gained = fault_alone words before (codes "write fault") before.err after.err h;
-  }
+  run_unwritten : WritesInto (program_of tree) asked Seen → Rose before.out_faults after.out_faults → AppendsFront before.err after.err (codes "write fault" ++ 10 ∷ []) → WriteFailed words before after
+  run_unwritten w rose h =
+      let x = w.into in
+      record {
+        out = x.out ++ take x.n x.line;
+        cause = print_failed (job_of asked tree x.input before) x.out x.line x.n rose (to_be_run x.input x.known) x.at x.part w.left;
+        out_gained = x.gained;
+        err_gained = fault_alone words before (codes "write fault") before.err after.err h;
+      }
 
   run_starved : RunsInto (program_of tree) asked Seen ⊎ RunsUpTo (program_of tree) asked Seen → AppendsFront before.err after.err (codes "no memory" ++ 10 ∷ []) → MemoryFailed words before after
   run_starved (inl x) h = record {
     out = x.out ++ take x.n x.line;
-    so_far = in_write (x.out ++ take x.n x.line) (in_line x);
+    so_far = in_print (job_of asked tree x.input before) x.out x.line x.n (to_be_run x.input x.known) x.at x.part;
     out_gained = x.gained;
     err_gained = fault_alone words before (codes "no memory") before.err after.err h;
   }
@@ -208,7 +207,7 @@ module _ (words : List (List ℕ)) (before after : Moment) (heard : Watched) (as
   -- what it took of the input
   pub run_takes : TakesInput (program_of tree) asked Seen → InputLeft words before after
   run_takes (inl same) = untouched same
-  run_takes (inr x) = read_from (job_of asked tree x.input before) x.out x.taken (to_be_run x.input x.known) x.at x.consumed
+  run_takes (inr x) = read_from (job_of asked tree x.input before) x.out x.more x.taken (to_be_run x.input x.known) x.at x.gained x.consumed
 
 -- nothing was added, where nothing changed
 pub appends_same : (a b : Option (List ℕ)) → b ≡ a → Appends a b []

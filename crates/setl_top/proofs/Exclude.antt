@@ -11,7 +11,7 @@ use Rattle.setl_model.specs.Step.{language, test_of}
 use Rattle.setl_program.specs.Program.{Program}
 use Rattle.setl_program.specs.ProgramOf.{program_of}
 use Rattle.setl_top.specs.Accepted.{IsProgram, Accepted, Refusal, IsRefusedFor}
-use Rattle.setl_top.specs.Headline.{Moment, AnyRose, ReadCause, load_failed, read_failed, InputLeft, untouched, read_from, WriteCause, out_failed, err_failed, faulty_words, no_such_watcher, refused, checked, listed, run_ended, Job, IsInput, IsToRun, status_for}
+use Rattle.setl_top.specs.Headline.{Moment, AnyRose, ReadCause, load_failed, read_failed, InputLeft, untouched, read_from, WriteCause, print_failed, out_failed, err_failed, faulty_words, no_such_watcher, refused, checked, listed, run_ended, Job, IsInput, IsToRun, status_for}
 use Rattle.setl_top.specs.Laws.{IsComplete, FaultyWordsReadNothing, WordsExactly, RefusesExactly, ChecksExactly, ListsExactly, EndsExactly, TellsTexts}
 use Rattle.setl_top.specs.Listings.{listing_of}
 use Rattle.setl_top.specs.Watching.{asked_for, IsThere, IsNoRequest, reports_of}
@@ -22,8 +22,9 @@ use Rattle.setl_words.specs.Words.{Command, Run, Check, Code, Spells, HasFile, R
 use Rattle.setl_top.proofs.OneReason.{FrontLaws, one_reason, one_program_tree, not_refused}
 
 write_rose : (words : List (List ℕ)) (before after : Moment) (out : List ℕ) → WriteCause words before after out → AnyRose before after
-write_rose words before after out (out_failed r u) = inr (inl r)
-write_rose words before after out (err_failed s e r a) = inr (inr r)
+write_rose words before after _ (print_failed job out line n r a h part left) = inr (inl r)
+write_rose words before after _ (out_failed r u) = inr (inl r)
+write_rose words before after _ (err_failed s e r a) = inr (inr r)
 
 read_rose : (words : List (List ℕ)) (before after : Moment) (out : List ℕ) → ReadCause words before after out → AnyRose before after
 read_rose words before after _ (load_failed c n s f t r e) = inl (inl r)
@@ -47,7 +48,7 @@ no_read words before after _ faulty (read_failed job out r a h) = faulty a.comma
 
 no_input : (words : List (List ℕ)) (before after : Moment) → IsNoRequest words before.watchers → InputLeft words before after → after.input ≡ before.input
 no_input words before after faulty (untouched e) = e
-no_input words before after faulty (read_from job out taken a h k) = absurd (faulty a.command a.spelled a.there)
+no_input words before after faulty (read_from job out more taken a h gained k) = absurd (faulty a.command a.spelled a.there)
 
 pub faulty_reads_nothing : FaultyWordsReadNothing
 faulty_reads_nothing words before after faulty = ((λ h. no_read words before after h.out faulty h.cause), no_input words before after faulty)

@@ -121,13 +121,17 @@ module _ (p : Program) (asked : Options) (input : List ℕ) where
         let r = laws.reads p formed input asked.turns asked.based s next.0 (comes s came) next.1 in
         record { state = r.there.state; reached = r.there.reached; printed = r.there.same.out; in_hand = r.in_hand }
 
-    pub came_at_print : AtPrint (code_of p) s.core → moments.AtPrint p input asked.turns asked.based s.out (said (step (machine (code_of p)) Taken (start s.core)))
-    came_at_print next =
+    -- the world is the same there
+    pub came_at_print : (line : List ℕ) → line ≡ said (step (machine (code_of p)) Taken (start s.core)) → AtPrint (code_of p) s.core →
+        (at : moments.AtPrint p input asked.turns asked.based s.out line) × (s.core.world ≡ at.state.core.shared.world)
+    came_at_print line says next =
         let r = laws.prints p formed input asked.turns asked.based s next.0 next.1 (comes s came) next.2 in
-        let line = said_at_print (code_of p) Taken s.core next.0 next.1 r.values r.others next.2 r.operands in
-        record {
-          state = r.there.state;
-          reached = r.there.reached;
-          printed = r.there.same.out;
-          in_hand = subst (HasPrint p r.there.state) (sym line) r.in_hand;
-        }
+        let text = said_at_print (code_of p) Taken s.core next.0 next.1 r.values r.others next.2 r.operands in (
+          record {
+            state = r.there.state;
+            reached = r.there.reached;
+            printed = r.there.same.out;
+            in_hand = subst (HasPrint p r.there.state) (sym (says ∙ text)) r.in_hand;
+          },
+          r.there.same.core.world,
+        )

@@ -30,7 +30,7 @@ use Rattle.setl_top.specs.code.CodeRuns.{RunsCode, seen_before, seen_now}
 use Rattle.setl_top.specs.Headline.{IsInput, IsLeft}
 use Rattle.setl_top.specs.Moments as moments
 use Rattle.setl_top.specs.Moments.{AtState}
-use Rattle.setl_top.specs.code.Runs.{Streams, streams, counted, RunsTo, RunsInto, RunsToRead, RunsUpTo, Runs, TakesInput}
+use Rattle.setl_top.specs.code.Runs.{Streams, streams, counted, RunsTo, RunsInto, WritesInto, RunsToRead, RunsUpTo, Runs, TakesInput}
 use Rattle.setl_simulation.specs.Claims.{Ended}
 use Rattle.setl_watch.specs.Watches.{Watch, Watched, watched, told_all}
 use Rattle.setl_words.specs.Words.{Options}
@@ -156,17 +156,26 @@ module _ (laws : CodeLaws) (p : Program) (formed : Formed p) (asked : Options) (
       laws.not_stuck p formed input asked.turns asked.based out ((laws.means p formed input asked.turns asked.based out run.Stuck).1 code)
 
   -- some of the line in hand was written
-  breaking : (n : ℕ) (t : State CodeCore) (line : List ℕ) → Early n t line → AtPrint (code_of p) t.core → AppendsPart (append_known s.old t.out) s.new line → RunsInto p asked s
-  breaking n t line b next part = record {
+  abbrev broken : (t : State CodeCore) (line : List ℕ) → moments.AtPrint p input asked.turns asked.based t.out line → AppendsPart (append_known s.old t.out) s.new line → RunsInto p asked s
+  broken t line at part = record {
     input = input;
     known = known;
     out = t.out;
     line = line;
     n = part.0;
-    at = subst (moments.AtPrint p input asked.turns asked.based t.out) (sym b.says) (came_at_print p asked input laws formed t (came n t line b) next);
+    at = at;
     part = part.1;
     gained = behind s.old s.new t.out (take part.0 line) part.2;
   }
+
+  breaking : (n : ℕ) (t : State CodeCore) (line : List ℕ) → Early n t line → AtPrint (code_of p) t.core → AppendsPart (append_known s.old t.out) s.new line → RunsInto p asked s
+  breaking n t line b next part = broken t line (came_at_print p asked input laws formed t (came n t line b) line b.says next).0 part
+
+  -- and the input is as it was there
+  writing : (n : ℕ) (t : State CodeCore) (line : List ℕ) (last : CodeCore) → Early n t line → AtPrint (code_of p) t.core → AppendsPart (append_known s.old t.out) s.new line → last.world.input ≡ t.core.world.input → IsLeft s.input s.left last.world.input → WritesInto p asked s
+  writing n t line last b next part same left =
+      let here = came_at_print p asked input laws formed t (came n t line b) line b.says next in
+      record { into = broken t line here.0 part; left = subst (λ w. IsLeft s.input s.left w.input) here.1 (subst (IsLeft s.input s.left) same left) }
 
   -- a `read` was in hand
   reading : (n : ℕ) (t : State CodeCore) (line : List ℕ) → Early n t line → AtRead (code_of p) t.core → Appends s.old s.new t.out → RunsToRead p asked s
@@ -193,7 +202,7 @@ runs laws p formed asked s (end.Stopped why line) r =
 runs laws p formed asked s end.Spent r =
     coming_to laws p formed asked s r.input r.known r.steps r.last run.Spent (spent (counted asked p) (coded p asked r.input r.steps) r.last r.ran.0) r.left r.ran.1 r.ran.2 r.heard
 runs laws p formed asked s end.ReadFault r = (reading laws p formed asked s r.input r.known r.steps r.ran.0 r.ran.1 r.ran.2 r.ran.3 r.ran.4, r.ran.5)
-runs laws p formed asked s end.WriteFault r = (breaking laws p formed asked s r.input r.known r.steps r.ran.0 r.ran.1 r.ran.2 r.ran.3 r.ran.4, r.ran.5)
+runs laws p formed asked s end.WriteFault r = (writing laws p formed asked s r.input r.known r.steps r.ran.0 r.ran.1 r.last r.ran.2 r.ran.3 r.ran.4 r.ran.7 r.left, r.ran.5)
 runs laws p formed asked s end.NoMemory r = starving laws p formed asked s r.input r.known r.steps r.ran.0 r.ran.1 r.ran.2 r.ran.3 r.ran.4
 runs laws p formed asked s end.Paused r = r.whole refl
 runs laws p formed asked s end.Stuck r = not_stuck laws p formed asked s r.input r.known r.steps r.last (stuck (counted asked p) (coded p asked r.input r.steps) r.last r.ran.0)
@@ -203,7 +212,7 @@ takes : (laws : CodeLaws) (p : Program) (formed : Formed p) (asked : Options) (s
 takes laws p formed asked s e r =
     elim r.reads [
       | inl same ↦ inl same
-      | inr b ↦ inr (record { input = r.input; known = r.known; out = b.0.out; taken = r.took.0; at = came_at_read p asked r.input laws formed b.0 (b.2.after, b.2.reached) b.3; consumed = r.took.1 })
+      | inr b ↦ inr (record { input = r.input; known = r.known; out = b.0.out; more = b.4; taken = r.took.0; at = came_at_read p asked r.input laws formed b.0 (b.2.after, b.2.reached) b.3; gained = b.5; consumed = r.took.1 })
     ]
 
 -- nothing was done
@@ -268,7 +277,7 @@ module _ (modes : Modes) (turns : ℕ) where
   Told store first s core control e = (rest' : List ℕ) → IsRest (ahead control.reader.ended s.left) rest' →
       (rest : List ℕ) × IsRest (ahead first.reader.ended s.input) rest
       × (n : ℕ) × outcome.Ran modes (plain_code store.code) n (stood_for store.core first rest) (seen_before s) (seen_now s) (stood_for core control rest') e
-      × outcome.ReadsOnly modes (plain_code store.code) n (stood_for store.core first rest) s.input s.left
+      × outcome.ReadsOnly modes (plain_code store.code) n (stood_for store.core first rest) s.old s.new s.input s.left
       × Hears modes (plain_code store.code) n (stood_for store.core first rest) s.watchers s.heard e
 
   told_fresh : (code : RustCode) (s : Streams) (core : CodeCore) (control : ControlState) (e : End) → Told (started code) fresh s core control e → (e ≡ end.Paused → ⊥) → TakesOff s.input s.left → StaysHonest false s.input control.reader.ended s.left → RunsCode (plain_code code) modes turns s e

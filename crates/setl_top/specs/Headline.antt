@@ -106,15 +106,16 @@ pub data Answers (words : List (List ℕ)) (before : Moment) : Status → List �
   listed : (text : List ℕ) → IsToList words before text → Answers words before Done text [] before.input
   run_ended : (job : Job) (out : List ℕ) (end : End) (ending : RunStatus) (left : Option (List ℕ)) → IsToRun words before job → (means : Means job.program job.input job.turns job.based out end) → status_of end ≡ Some ending → IsLeft before.input left means.last.core.shared.world.input → Answers words before (status_for ending) out (reports_of job.watchers means.last.events ++ error_line end) left
 
--- at a print: the output up to it, and some of its line, and not all of it; or some of a listing, and not all of it
+-- some of a listing, and not all of it
 pub data UpToWrite (words : List (List ℕ)) (before : Moment) : List ℕ → Type 0 where
-  at_print : (job : Job) (out line : List ℕ) (n : ℕ) → IsToRun words before job → AtPrint job.program job.input job.turns job.based out line → n < length line → UpToWrite words before (out ++ take n line)
   in_listing : (text : List ℕ) (n : ℕ) → IsToList words before text → n < length text → UpToWrite words before (take n text)
 
--- anywhere: nothing, the output of a state, or what stands where a line or a listing is being written
+-- anywhere: nothing, the output of a state, the output up to a print with some of its line, and not all of it, or what
+-- stands where a listing is being written
 pub data UpToAny (words : List (List ℕ)) (before : Moment) : List ℕ → Type 0 where
   no_program : UpToAny words before []
   at_state : (job : Job) (out : List ℕ) → IsToRun words before job → AtState job.program job.input job.turns job.based out → UpToAny words before out
+  in_print : (job : Job) (out line : List ℕ) (n : ℕ) → IsToRun words before job → AtPrint job.program job.input job.turns job.based out line → n < length line → UpToAny words before (out ++ take n line)
   in_write : (out : List ℕ) → UpToWrite words before out → UpToAny words before out
 
 -- What the error output gains when a call is broken off: a front of what it would hold otherwise, and then a front of
@@ -159,10 +160,13 @@ pub record ReadFailed (words : List (List ℕ)) (before after : Moment) : Type 0
   pub out_gained : Appends before.out after.out out
   pub err_gained : TellsFault words before (codes "read fault") before.err after.err
 
--- the output failed in a print or in a listing, or the error output failed after the whole output
-pub data WriteCause (words : List (List ℕ)) (before after : Moment) (out : List ℕ) : Type 0 where
-  out_failed : Rose before.out_faults after.out_faults → UpToWrite words before out → WriteCause words before after out
-  err_failed : (status : Status) (err : List ℕ) → Rose before.err_faults after.err_faults → Answers words before status out err after.input → WriteCause words before after out
+-- The output failed in a print, after the output up to it and some of its line, and not all of it, and the input has what
+-- the run had left there, but for bytes that were taken ahead; or it failed in a listing; or the error output failed after
+-- the whole output.
+pub data WriteCause (words : List (List ℕ)) (before after : Moment) : List ℕ → Type 0 where
+  print_failed : (job : Job) (out line : List ℕ) (n : ℕ) → Rose before.out_faults after.out_faults → IsToRun words before job → (at : AtPrint job.program job.input job.turns job.based out line) → n < length line → IsLeft before.input after.input at.state.core.shared.world.input → WriteCause words before after (out ++ take n line)
+  out_failed : {out : List ℕ} → Rose before.out_faults after.out_faults → UpToWrite words before out → WriteCause words before after out
+  err_failed : {out : List ℕ} (status : Status) (err : List ℕ) → Rose before.err_faults after.err_faults → Answers words before status out err after.input → WriteCause words before after out
 
 pub record WriteFailed (words : List (List ℕ)) (before after : Moment) : Type 0 where
   pub out : List ℕ
@@ -189,10 +193,10 @@ Headline words before after WriteFault = WriteFailed words before after
 Headline words before after NoMemory = MemoryFailed words before after
 
 -- What became of the input: it is as it was, or a run took bytes off its front, which has a `read` in hand at one of its
--- states.
+-- states, and the output has gained all that the run had written there.
 pub data InputLeft (words : List (List ℕ)) (before after : Moment) : Type 0 where
   untouched : after.input ≡ before.input → InputLeft words before after
-  read_from : (job : Job) (out taken : List ℕ) → IsToRun words before job → AtRead job.program job.input job.turns job.based out → Consumes before.input after.input taken → InputLeft words before after
+  read_from : (job : Job) (out more taken : List ℕ) → IsToRun words before job → AtRead job.program job.input job.turns job.based out → Appends before.out after.out (out ++ more) → Consumes before.input after.input taken → InputLeft words before after
 
 -- a check writes nothing to the output and leaves the input as it was, however it ends
 pub record LeavesRest (before after : Moment) : Type 0 where

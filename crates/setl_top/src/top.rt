@@ -30,7 +30,9 @@ use std::alloc::Global;
 /// ended as its program does, `err` gains the reports of the watchers, first of those that had enough, in the order in which
 /// they had, and then of the others in their order. It gains then the last line of a call that wasn't done, if it has one,
 /// or what is told of words that are of no such form. Bytes are taken off the front of `input` only by a run that comes to
-/// a `read`. A check leaves `input` and `out` as they were, however it ends, and a listing leaves `input` as it was.
+/// a `read`, and `out` has then gained what the run had printed there. Where a `print` failed, `input` has what the run had
+/// left at it, but for bytes that were taken ahead. A check leaves `input` and `out` as they were, however it ends, and a
+/// listing leaves `input` as it was.
 ///
 /// `ReadFault` comes only where the words name a file and the count of faults of `files` rose in the call, or that of
 /// `input` at a `read`, `WriteFault` only where the count of `out` or `err` rose, and `NoMemory` only where memory was

@@ -27,7 +27,7 @@ pub record RunsCode (c : Code) (modes : Modes) (turns : ℕ) (s : Streams) (e : 
   pub steps : ℕ
   pub last : CodeCore
   pub ran : Ran modes c steps (code_first c input turns).core (seen_before s) (seen_now s) last e
-  pub reads : ReadsOnly modes c steps (code_first c input turns).core s.input s.left
+  pub reads : ReadsOnly modes c steps (code_first c input turns).core s.old s.new s.input s.left
   pub left : IsLeft s.input s.left last.world.input
   pub took : TakesOff s.input s.left
   pub whole : ¬ (e ≡ end.Paused)

@@ -80,6 +80,11 @@ pub record RunsInto (program : Program) (asked : Options) (s : Streams) : Type 0
   pub part : n < length line
   pub gained : Appends s.old s.new (out ++ take n line)
 
+-- a write failed there, and the input has what the run had left at that print
+pub record WritesInto (program : Program) (asked : Options) (s : Streams) : Type 0 where
+  pub into : RunsInto program asked s
+  pub left : IsLeft s.input s.left into.at.state.core.shared.world.input
+
 -- the run was broken off at a read, before which this output was added
 pub record RunsToRead (program : Program) (asked : Options) (s : Streams) : Type 0 where
   pub input : List ℕ
@@ -102,18 +107,20 @@ Runs program asked s end.Done = RunsTo program asked s run.Done
 Runs program asked s (end.Stopped why line) = RunsTo program asked s (run.Stopped (kind_of (counted asked program) why) line)
 Runs program asked s end.Spent = RunsTo program asked s run.Spent
 Runs program asked s end.ReadFault = RunsToRead program asked s × Rose s.input_before s.input_now
-Runs program asked s end.WriteFault = RunsInto program asked s × Rose s.out_before s.out_now
+Runs program asked s end.WriteFault = WritesInto program asked s × Rose s.out_before s.out_now
 Runs program asked s end.NoMemory = RunsInto program asked s ⊎ RunsUpTo program asked s
 Runs program asked s end.Paused = ⊥
 Runs program asked s end.Stuck = ⊥
 
--- bytes were taken off the input of a run that has a `read` in hand at one of its states
+-- bytes were taken off the input of a run that has a `read` in hand at one of its states, and the output up to it is added
 pub record TakesAtRead (program : Program) (asked : Options) (s : Streams) : Type 0 where
   pub input : List ℕ
   pub known : IsInput s.input input
   pub out : List ℕ
+  pub more : List ℕ
   pub taken : List ℕ
   pub at : AtRead program input asked.turns asked.based out
+  pub gained : Appends s.old s.new (out ++ more)
   pub consumed : Consumes s.input s.left taken
 
 -- no byte was taken of the input, or a `read` took them
