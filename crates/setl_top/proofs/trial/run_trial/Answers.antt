@@ -1,4 +1,4 @@
-use Rattle.std.proofs.Common.{refl, subst}
+use Rattle.std.proofs.Common.{refl}
 use Rattle.setl_top.specs.code.Tries.{trial_refused, trial_starved}
 use Rattle.setl_top.proofs.trial.run_trial.Goals as goal
 

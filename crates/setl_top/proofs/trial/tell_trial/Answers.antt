@@ -1,4 +1,4 @@
-use Rattle.std.proofs.Common.{◌≡◌, [], refl, ap, map}
+use Rattle.std.proofs.Common.{[], true, refl, map}
 use Rattle.setl_program.specs.code.Plain.{plain_program, plain_declared}
 use Rattle.setl_top.specs.Trials.{trial_input}
 use Rattle.setl_top.specs.code.Tries.{trial_done}
