@@ -1,5 +1,5 @@
 -- The words of a command in parts: the first, those between, and the last.
-use Rattle.std.proofs.Common.{subst, ◌≡◌, ◌≢◌, ◌<◌, ◌≤◌, ◌^◌, ◌∙◌, ℕ, List, [], ◌∷◌, ◌++◌, length, codes, decimal, refl, sym, ap, ap₂, rules, arith}
+use Rattle.std.proofs.Common.{subst, ◌≡◌, ◌≢◌, ◌≤◌, ◌∙◌, ℕ, List, [], ◌∷◌, ◌++◌, length, codes, decimal, refl, sym, ap, ap₂, rules, arith}
 use Rattle.std.proofs.lemmas.Fmt.{decimal_injective}
 use Rattle.std.specs.List.{flat_map}
 use Rattle.setl_words.specs.Words.{Command, Run, Check, Code, Trial, Options, option_words, options_of, Spells, SpellsRun, SpellsTrial, IsFile, IsFaulty}
@@ -70,24 +70,9 @@ run_is_faulty words word between name given e w is none (Trial seed nodes) s = r
 pub two_numbers : (between : List (List ℕ)) (last : List ℕ) (seed nodes : ℕ) → SpellsTrial (codes "trial" ∷ between ++ last ∷ []) seed nodes → (between ≡ decimal seed ∷ []) × (last ≡ decimal nodes)
 two_numbers between last seed nodes s = one_last between (decimal seed ∷ []) last (decimal nodes) (tail_of _ _ _ _ s.spelled)
 
--- other words behind the first are no two numbers
-pub not_two : (between : List (List ℕ)) (last : List ℕ) → (length between ≡ 1 → ⊥) → (seed nodes : ℕ) → SpellsTrial (codes "trial" ∷ between ++ last ∷ []) seed nodes → ⊥
-not_two between last other seed nodes s = other (ap length (two_numbers between last seed nodes s).0)
-
-pub no_seed : (between : List (List ℕ)) (last word : List ℕ) → between ≡ word ∷ [] → ((n : ℕ) → n < 2 ^ 63 → word ≢ decimal n) → (seed nodes : ℕ) → SpellsTrial (codes "trial" ∷ between ++ last ∷ []) seed nodes → ⊥
-no_seed between last word e none seed nodes s =
-    none seed s.seed_in_range (head_of _ _ _ _ (sym e ∙ (two_numbers between last seed nodes s).0))
-
+-- the last is no number of nodes
 pub no_nodes : (between : List (List ℕ)) (last : List ℕ) → ((n : ℕ) → 1 ≤ n → n ≤ 2000 → last ≢ decimal n) → (seed nodes : ℕ) → SpellsTrial (codes "trial" ∷ between ++ last ∷ []) seed nodes → ⊥
 no_nodes between last none seed nodes s = none nodes s.some_nodes s.few_nodes (two_numbers between last seed nodes s).1
-
-pub are_numbers : (between : List (List ℕ)) (last word : List ℕ) (seed nodes : ℕ) → between ≡ word ∷ [] → word ≡ decimal seed → seed < 2 ^ 63 → last ≡ decimal nodes → (1 ≤ nodes) × (nodes ≤ 2000) → SpellsTrial (codes "trial" ∷ between ++ last ∷ []) seed nodes
-are_numbers between last word seed nodes e w small l range = record {
-  spelled = ap₂ (λ (ws : List (List ℕ)) (x : List ℕ). codes "trial" ∷ ws ++ x ∷ []) (e ∙ ap (λ (x : List ℕ). x ∷ []) w) l;
-  seed_in_range = small;
-  some_nodes = range.0;
-  few_nodes = range.1;
-}
 
 -- the first word is that of a trial
 as_trial : (words : List (List ℕ)) (word : List ℕ) (between : List (List ℕ)) (last : List ℕ) → words ≡ word ∷ between ++ last ∷ [] → word ≡ codes "trial" → words ≡ codes "trial" ∷ between ++ last ∷ []
