@@ -14,7 +14,6 @@ trial 7 5: 4
 trial 7 10: 10
 trial 3 100: 77
 trial 9223372036854775807 3: 2
-trial 9223372036854775807 2000: 3
 trial 7 2000: 1601
 trial 7 2000: 1601";
 
@@ -85,6 +84,9 @@ not of the plain form
 0 0 99 1 6
 --
 trial 7 1 1
+--
+--
+write fault
 ";
 
 #[test]
