@@ -1,5 +1,5 @@
 -- How the parts of a call make its headline.
-use Rattle.std.proofs.Common.{◌≡◌, ◌⊎◌, inl, inr, ◌≤◌, ℕ, List, [], ◌∷◌, ◌++◌, take, Option, Some, refl, sym, subst, arith, codes}
+use Rattle.std.proofs.Common.{◌≡◌, ◌⊎◌, inl, inr, ◌<◌, ◌≤◌, ℕ, List, [], ◌∷◌, ◌++◌, length, take, Option, Some, refl, sym, subst, arith, codes}
 use Rattle.std.specs.Io.KnownBytes.{Appends}
 use Rattle.setl_io.specs.Faults.{Rose}
 use Rattle.setl_run.specs.Events as run
@@ -230,29 +230,29 @@ check_ends words before after name s rest r (not_checked _ h) =
 to_list : (words : List (List ℕ)) (before : Moment) (name : List ℕ) (tree : Tree) → Spells words (Code name) → Loaded before.texts name tree → IsToList words before (listing_of tree)
 to_list words before name tree s l = record { name = name; source = l.source; tree = tree; spelled = s; text = l.text; is_program = l.is_program; is_listing = refl }
 
--- a listing was written, or not
-written_ends : (words : List (List ℕ)) (before after : Moment) (text : List ℕ) → IsToList words before text → LeavesInput before after → after.files_faults ≡ before.files_faults → (r : Status) → Written text (gain before.out after.out before.out_faults after.out_faults) before.err after.err before.err_faults after.err_faults r → Headline words before after r
-written_ends words before after text a rest files _ (all_written gained count held err) = record {
+-- a text that the answer is was written, or not
+pub written_ends : (words : List (List ℕ)) (before after : Moment) (text : List ℕ) → Answers words before Done text [] before.input → ((n : ℕ) → n < length text → UpToWrite words before (take n text)) → LeavesInput before after → after.files_faults ≡ before.files_faults → (r : Status) → Written text (gain before.out after.out before.out_faults after.out_faults) before.err after.err before.err_faults after.err_faults r → Headline words before after r
+written_ends words before after text a part_of rest files _ (all_written gained count held err) = record {
   out = text;
   err = [];
-  answer = subst (Answers words before Done text []) (sym rest.input) (listed text a);
+  answer = subst (Answers words before Done text []) (sym rest.input) a;
   out_gained = gained;
   err_gained = appends_same before.err after.err held;
   quiet = record { files = omega (arith, files); input = omega (arith, rest.input_faults); out = omega (arith, count); err = omega (arith, err) };
 }
-written_ends words before after text a rest files _ (write_failed part rose h) = record {
+written_ends words before after text a part_of rest files _ (write_failed part rose h) = record {
   out = take part.0 text;
-  cause = out_failed rose (in_listing text part.0 a part.1);
+  cause = out_failed rose (part_of part.0 part.1);
   out_gained = part.2;
   err_gained = fault_alone words before (codes "write fault") before.err after.err h;
 }
-written_ends words before after text a rest files _ (write_starved part h) = record {
+written_ends words before after text a part_of rest files _ (write_starved part h) = record {
   out = take part.0 text;
-  so_far = in_write (take part.0 text) (in_listing text part.0 a part.1);
+  so_far = in_write (take part.0 text) (part_of part.0 part.1);
   out_gained = part.2;
   err_gained = fault_alone words before (codes "no memory") before.err after.err h;
 }
-written_ends words before after text a rest files _ (no_text same h) = record {
+written_ends words before after text a part_of rest files _ (no_text same h) = record {
   out = [];
   so_far = no_program;
   out_gained = appends_same before.out after.out same;
@@ -261,7 +261,9 @@ written_ends words before after text a rest files _ (no_text same h) = record {
 
 -- a listing of a file, which leaves the input alone
 pub list_ends : (words : List (List ℕ)) (before after : Moment) (name : List ℕ) → Spells words (Code name) → LeavesInput before after → (r : Status) → Lists before.texts name (sides before.files_faults after.files_faults before.err after.err before.err_faults after.err_faults) (gain before.out after.out before.out_faults after.out_faults) r → Headline words before after r
-list_ends words before after name s rest r (listed_so tree _ l files w) = written_ends words before after (listing_of tree) (to_list words before name tree s l) rest files r w
+list_ends words before after name s rest r (listed_so tree _ l files w) =
+    let a = to_list words before name tree s l in
+    written_ends words before after (listing_of tree) (listed (listing_of tree) a) (λ n. in_listing (listing_of tree) n a) rest files r w
 list_ends words before after name s rest r (not_listed _ h same count) =
     not_loaded words before after (Code name) name s refl tt (appends_same before.out after.out same) rest.input (omega (arith, rest.input_faults)) (omega (arith, count)) r h
 

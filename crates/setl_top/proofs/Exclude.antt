@@ -1,5 +1,5 @@
 -- Which answers exclude which.
-use Rattle.std.proofs.Common.{◌≡◌, ◌↔◌, ◌∙◌, ◌==◌, inl, inr, ℕ, zero, suc, Bool, cond, List, [], ◌∷◌, ◌++◌, Option, None, Some, refl, sym, ap, subst, arith}
+use Rattle.std.proofs.Common.{◌≡◌, ◌↔◌, ◌∙◌, ◌==◌, ◌^◌, ◌-◌, inl, inr, ℕ, zero, suc, Bool, true, cond, List, [], ◌∷◌, ◌++◌, Option, None, Some, refl, sym, ap, ap₂, subst, arith}
 use Rattle.setl_io.specs.Files.{IsText}
 use Rattle.setl_model.specs.Answers.{RunStatus, IsDone, IsStopped, IsSpent, status_of, error_line}
 use Rattle.setl_run.specs.Events.{Event, End}
@@ -11,14 +11,15 @@ use Rattle.setl_model.specs.Step.{language, test_of}
 use Rattle.setl_program.specs.Program.{Program}
 use Rattle.setl_program.specs.ProgramOf.{program_of}
 use Rattle.setl_top.specs.Accepted.{IsProgram, Accepted, Refusal, IsRefusedFor}
-use Rattle.setl_top.specs.Headline.{Moment, AnyRose, ReadCause, load_failed, read_failed, InputLeft, untouched, read_from, WriteCause, print_failed, out_failed, err_failed, faulty_words, no_such_watcher, refused, checked, listed, run_ended, Job, IsInput, IsToRun, status_for}
-use Rattle.setl_top.specs.Laws.{IsComplete, FaultyWordsReadNothing, WordsExactly, RefusesExactly, ChecksExactly, ListsExactly, EndsExactly, TellsTexts}
+use Rattle.setl_top.specs.Headline.{Moment, AnyRose, ReadCause, load_failed, read_failed, InputLeft, untouched, read_from, WriteCause, print_failed, out_failed, err_failed, faulty_words, no_such_watcher, refused, checked, listed, run_ended, trial_refused, trial_ended, Job, IsInput, IsToRun, IsTried, trial_output, status_for}
+use Rattle.setl_top.specs.Laws.{IsComplete, FaultyWordsReadNothing, WordsExactly, RefusesExactly, ChecksExactly, ListsExactly, TrialsReadNothing, TriesExactly, EndsExactly, TellsTexts}
 use Rattle.setl_top.specs.Listings.{listing_of}
+use Rattle.setl_top.specs.Trials.{trial_source, trial_input, trial_line}
 use Rattle.setl_top.specs.Watching.{asked_for, IsThere, IsNoRequest, reports_of}
 use Rattle.setl_top.specs.Reasons.{reason_line}
 use Rattle.setl_top.specs.declared.status.Status.{Status}
 use Rattle.setl_top.specs.declared.status.Status.TheVariants.{Done, Refused, Words, Stopped, Spent, ReadFault, WriteFault, NoMemory}
-use Rattle.setl_words.specs.Words.{Command, Run, Check, Code, Spells, HasFile, RunsFile, watched_by, OneCommand}
+use Rattle.setl_words.specs.Words.{Command, Run, Check, Code, Trial, Spells, HasFile, RunsFile, watched_by, OneCommand}
 use Rattle.setl_top.proofs.OneReason.{FrontLaws, one_reason, one_program_tree, not_refused}
 
 write_rose : (words : List (List ℕ)) (before after : Moment) (out : List ℕ) → WriteCause words before after out → AnyRose before after
@@ -74,17 +75,32 @@ one_last : (p : Program) (input : List ℕ) (turns : ℕ) (based : Bool) (o o' :
 one_last p input turns based o o' e e' m n =
     ap (λ (s : State Core). s.events) (same_last (language p) (test_of p.modes based) m.steps n.steps (first p input turns) m.last n.last e e' m.ends n.ends)
 
+-- the input of the trial that a command asks for, and its line
+abbrev input_for : Command → List ℕ
+input_for (Run o n) = []
+input_for (Check n) = []
+input_for (Code n) = []
+input_for (Trial a b) = trial_input a b
+
+abbrev line_for : Command → List ℕ → List ℕ
+line_for (Run o n) printed = []
+line_for (Check n) printed = []
+line_for (Code n) printed = []
+line_for (Trial a b) printed = trial_line a b printed
+
 module _ (one_command : OneCommand) where
   one_file : (c : Command) (n m : List ℕ) → HasFile c n → HasFile c m → n ≡ m
   one_file (Run o a) n m f g = f ∙ sym g
   one_file (Check a) n m f g = f ∙ sym g
   one_file (Code a) n m f g = f ∙ sym g
+  one_file (Trial a b) n m f g = absurd f
 
   -- a run's file is its command's
   run_file : (c : Command) (n : List ℕ) (turns : ℕ) (based : Bool) → RunsFile c n turns based → HasFile c n
   run_file (Run o a) n turns based h = h.0
   run_file (Check a) n turns based h = absurd h
   run_file (Code a) n turns based h = absurd h
+  run_file (Trial a b) n turns based h = absurd h
 
   -- what is to be run is what the command runs
   runs_so : (words : List (List ℕ)) (before : Moment) (job : Job) (c : Command) (a : IsToRun words before job) → Spells words c → RunsFile c a.name job.turns job.based
@@ -94,6 +110,10 @@ module _ (one_command : OneCommand) where
   -- a command whose watcher is there isn't one whose watcher isn't
   not_there : (words : List (List ℕ)) (before : Moment) (c d : Command) → Spells words c → Spells words d → (IsThere (watched_by c) before.watchers → ⊥) → IsThere (watched_by d) before.watchers → ⊥
   not_there words before c d s t none there = none (subst (λ x. IsThere (watched_by x) before.watchers) (one_command words d c t s) there)
+
+  -- a trial reads no file
+  no_file : (words : List (List ℕ)) (c : Command) (name : List ℕ) (a b : ℕ) → Spells words (Trial a b) → Spells words c → HasFile c name → ⊥
+  no_file words c name a b t s f = subst (λ d. HasFile d name) (one_command words c (Trial a b) s t) f
 
   -- two texts of one name are one
   one_text : (before : Moment) (texts : List ℕ → Option (List ℕ)) → TellsTexts before texts → (n m a b : List ℕ) → n ≡ m → IsText before.texts n a → IsText before.texts m b → a ≡ b
@@ -128,6 +148,8 @@ module _ (one_command : OneCommand) where
   words_only words before _ _ _ _ (checked n x tree s t p) = is_words Done (λ e. absurd (cc)) (λ no. no (Check n) s tt)
   words_only words before _ _ _ _ (listed text a) = is_words Done (λ e. absurd (cc)) (λ no. no (Code a.name) a.spelled tt)
   words_only words before _ _ _ _ (run_ended job out end ending left a m e k) = is_words (status_for ending) (not_words ending) (λ no. no a.command a.spelled a.there)
+  words_only words before _ _ _ _ (trial_refused a b line s r) = is_words Refused (λ e. absurd (cc)) (λ no. no (Trial a b) s tt)
+  words_only words before _ _ _ _ (trial_ended line end ending a h) = is_words (status_for ending) (not_words ending) (λ no. no (Trial a.seed a.nodes) a.spelled tt)
 
   -- ---- refusals
 
@@ -157,6 +179,8 @@ module _ (one_command : OneCommand) where
       absurd (not_refused laws source r.reason r.refused a.tree (subst (λ y. IsProgram y a.tree) sources a.is_program))
   refused_only laws words before texts c name source line _ _ _ _ t s f w h r (run_ended job out end ending left a m e k) =
       absurd (refused_not_run laws words before texts t job a c name source line s f (told_text before texts t name source h) r)
+  refused_only laws words before texts c name source line _ _ _ _ t s f w h r (trial_refused a b l q x) = absurd (no_file words c name a b q s f)
+  refused_only laws words before texts c name source line _ _ _ _ t s f w h r (trial_ended l end ending a x) = absurd (no_file words c name a.seed a.nodes a.spelled s f)
 
   -- ---- checks
 
@@ -172,6 +196,8 @@ module _ (one_command : OneCommand) where
       (((λ _. (tree, subst (λ y. IsProgram y tree) sources p)), (λ _. refl)), refl, (λ _. refl), refl)
   checks_only laws words before texts name source _ _ _ _ t s h (listed text a) = let same = one_command words (Code a.name) (Check name) a.spelled s in absurd (cc)
   checks_only laws words before texts name source _ _ _ _ t s h (run_ended job out end ending left a m e k) = absurd (runs_so words before job (Check name) a s)
+  checks_only laws words before texts name source _ _ _ _ t s h (trial_refused a b l q r) = absurd (no_file words (Check name) name a b q s refl)
+  checks_only laws words before texts name source _ _ _ _ t s h (trial_ended l end ending a e) = absurd (no_file words (Check name) name a.seed a.nodes a.spelled s refl)
 
   -- ---- listings
 
@@ -188,6 +214,8 @@ module _ (one_command : OneCommand) where
       let program = subst (λ y. IsProgram y a.tree) sources a.is_program in
       (((λ _. (a.tree, program)), (λ _. refl)), (λ tree p. (a.is_listing ∙ ap listing_of (one_program_tree laws source a.tree tree program p), refl)), inl refl, refl)
   lists_only laws words before texts name source _ _ _ _ t s h (run_ended job out end ending left a m e k) = absurd (runs_so words before job (Code name) a s)
+  lists_only laws words before texts name source _ _ _ _ t s h (trial_refused a b l q r) = absurd (no_file words (Code name) name a b q s refl)
+  lists_only laws words before texts name source _ _ _ _ t s h (trial_ended l end ending a e) = absurd (no_file words (Code name) name a.seed a.nodes a.spelled s refl)
 
   -- ---- runs
 
@@ -206,6 +234,7 @@ module _ (one_command : OneCommand) where
   one_turns (Run o x) n m s t a b h k = (h.1 ∙ sym k.1, h.2 ∙ sym k.2)
   one_turns (Check x) n m s t a b h k = absurd h
   one_turns (Code x) n m s t a b h k = absurd h
+  one_turns (Trial x y) n m s t a b h k = absurd h
 
   -- the words ask for one run
   one_job : FrontLaws → (words : List (List ℕ)) (before : Moment) (texts : List ℕ → Option (List ℕ)) (input : List ℕ) → TellsTexts before texts → before.input ≡ Some input → (j k : Job) → IsToRun words before j → IsToRun words before k → j ≡ k
@@ -234,6 +263,8 @@ module _ (one_command : OneCommand) where
   ends_only laws meaning words before texts input job said end ending _ _ _ _ t i a m s (refused c name source line s' f w h r) = absurd (refused_not_run laws words before texts t job a c name source line s' f h r)
   ends_only laws meaning words before texts input job said end ending _ _ _ _ t i a m s (checked n x tree s' t' p) = absurd (runs_so words before job (Check n) a s')
   ends_only laws meaning words before texts input job said end ending _ _ _ _ t i a m s (listed text l) = absurd (runs_so words before job (Code l.name) a l.spelled)
+  ends_only laws meaning words before texts input job said end ending _ _ _ _ t i a m s (trial_refused n k l q r) = absurd (runs_so words before job (Trial n k) a q)
+  ends_only laws meaning words before texts input job said end ending _ _ _ _ t i a m s (trial_ended l last how b e) = absurd (runs_so words before job (Trial b.seed b.nodes) a b.spelled)
   ends_only laws meaning words before texts input job said end ending _ _ _ _ t i a m s (run_ended other out last how left b n u k) =
       let same = one_job laws words before texts input t i other job b a in
       let moved = subst (λ (j : Job). Ended j out last n.last.events) same (record { means = n; told = refl }) in
@@ -243,3 +274,35 @@ module _ (one_command : OneCommand) where
         both.0,
         λ x. reports_of ((ap (λ (j : Job). j.watchers) same) x) ((sym moved.told ∙ told) x) ++ error_line (both.1 x),
       )
+
+  -- ---- trials
+
+  no_trial_read : (words : List (List ℕ)) (before after : Moment) (out : List ℕ) (a b : ℕ) → Spells words (Trial a b) → ReadCause words before after out → ⊥
+  no_trial_read words before after _ a b s (load_failed c n q f t r e) = no_file words c n a b s q f
+  no_trial_read words before after _ a b s (read_failed job out r q h) = runs_so words before job (Trial a b) q s
+
+  pub trial_reads_nothing : TrialsReadNothing
+  trial_reads_nothing words before after a b s h = no_trial_read words before after h.out a b s h.cause
+
+  -- the words ask for one trial, whose run has one end
+  one_trial : FrontLaws → OneMeaning → (words : List (List ℕ)) (l k : List ℕ) (e d : End) → IsTried words l e → IsTried words k d → (l ≡ k) × (e ≡ d)
+  one_trial laws meaning words l k e d a b =
+      let same = one_command words (Trial a.seed a.nodes) (Trial b.seed b.nodes) a.spelled b.spelled in
+      let program = one_program laws trial_source a.program b.program a.accepted b.accepted in
+      let moved = subst (λ (p : Program). Means p (trial_input a.seed a.nodes) (2 ^ 63 - 1) true a.printed e) program a.means in
+      let there = subst (λ (i : List ℕ). Means b.program i (2 ^ 63 - 1) true a.printed e) (ap input_for same) moved in
+      let both = meaning b.program (trial_input b.seed b.nodes) (2 ^ 63 - 1) true a.printed b.printed e d there b.means in
+      (a.is_line ∙ ap₂ line_for same both.0 ∙ sym b.is_line, both.1)
+
+  pub tries_only : FrontLaws → OneMeaning → TriesExactly
+  tries_only laws meaning words before line end ending _ _ _ _ a h (faulty_words told n tells) = absurd (n (Trial a.seed a.nodes) a.spelled)
+  tries_only laws meaning words before line end ending _ _ _ _ a h (no_such_watcher d s none) = absurd (not_there words before d (Trial a.seed a.nodes) s a.spelled none tt)
+  tries_only laws meaning words before line end ending _ _ _ _ a h (refused c name source l s f w t r) = absurd (no_file words c name a.seed a.nodes a.spelled s f)
+  tries_only laws meaning words before line end ending _ _ _ _ a h (checked name source tree s t p) = absurd (no_file words (Check name) name a.seed a.nodes a.spelled s refl)
+  tries_only laws meaning words before line end ending _ _ _ _ a h (listed text l) = absurd (no_file words (Code l.name) l.name a.seed a.nodes a.spelled l.spelled refl)
+  tries_only laws meaning words before line end ending _ _ _ _ a h (run_ended job out last how left b m u k) = absurd (runs_so words before job (Trial a.seed a.nodes) b a.spelled)
+  tries_only laws meaning words before line end ending _ _ _ _ a h (trial_refused n k l s r) = absurd (not_refused laws trial_source r.reason r.refused a.accepted.tree a.accepted.is_program)
+  tries_only laws meaning words before line end ending _ _ _ _ a h (trial_ended l last how b e) =
+      let same = one_trial laws meaning words l line last end b a in
+      let kind = one_ending last end how ending same.1 e h in
+      (ap status_for kind, ap₂ trial_output kind same.0, ap error_line same.1, refl)

@@ -12,3 +12,5 @@ pub mod Declaring
 pub mod Accepting
 pub mod Reaching
 pub mod Running
+pub mod Trying
+pub mod Drawing

@@ -1,10 +1,11 @@
 -- What a call of the program answers, and what it does to the outside.
-use Rattle.std.specs.Prelude.{◌≡◌, ◌⊎◌, ◌<◌, ◌≤◌, ℕ, Bool, List, [], ◌∷◌, ◌++◌, length, take, Option, None, Some, ⊤, codes}
+use Rattle.std.specs.Prelude.{◌≡◌, ◌⊎◌, ◌<◌, ◌≤◌, ◌-◌, ◌^◌, ℕ, Bool, true, List, [], ◌∷◌, ◌++◌, length, take, Option, None, Some, ⊤, codes}
 use Rattle.std.specs.Io.KnownBytes.{Appends, Consumes, prepend_known}
 use Rattle.setl_io.specs.Faults.{Rose}
 use Rattle.setl_io.specs.Files.{Texts, IsText}
 use Rattle.setl_model.specs.Answers.{RunStatus, IsDone, IsStopped, IsSpent, status_of, error_line}
 use Rattle.setl_run.specs.Events.{End}
+use Rattle.setl_run.specs.Events as run
 use Rattle.setl_model.specs.Means.{Means}
 use Rattle.setl_program.specs.Program.{Program}
 use Rattle.setl_tree.specs.declared.tree.Tree.{Tree}
@@ -13,11 +14,12 @@ use Rattle.setl_top.specs.Fronts.{IsFront}
 use Rattle.setl_top.specs.Lines.{AppendsFront}
 use Rattle.setl_top.specs.Listings.{listing_of}
 use Rattle.setl_top.specs.Moments.{AtState, AtPrint, AtRead}
+use Rattle.setl_top.specs.Trials.{trial_source, trial_input, trial_line}
 use Rattle.setl_top.specs.Watching.{asked_for, IsThere, reports_of}
 use Rattle.setl_top.specs.declared.status.Status.{Status}
 use Rattle.setl_top.specs.declared.status.Status.TheVariants.{Done, Refused, Words, Stopped, Spent, ReadFault, WriteFault, NoMemory}
 use Rattle.setl_watch.specs.Watches.{Watch}
-use Rattle.setl_words.specs.Words.{Command, Check, Code, Spells, HasFile, RunsFile, watched_by, IsFaulty}
+use Rattle.setl_words.specs.Words.{Command, Check, Code, Trial, Spells, HasFile, RunsFile, watched_by, IsFaulty}
 use Rattle.setl_words.specs.Told.{TellsFaulty}
 
 -- What is seen of the outside at one moment: the watchers that the call is handed, the contents, where they are told, and
@@ -84,6 +86,23 @@ pub record IsToList (words : List (List ℕ)) (before : Moment) (listed : List �
   pub is_program : IsProgram source tree
   pub is_listing : listed ≡ listing_of tree
 
+-- the words ask for a trial, the run of its program on its input ends so with its declarations, and this is the trial's line
+pub record IsTried (words : List (List ℕ)) (line : List ℕ) (end : End) : Type 0 where
+  pub seed : ℕ
+  pub nodes : ℕ
+  pub program : Program
+  pub printed : List ℕ
+  pub spelled : Spells words (Trial seed nodes)
+  pub accepted : Accepted trial_source program
+  pub means : Means program (trial_input seed nodes) (2 ^ 63 - 1) true printed end
+  pub is_line : line ≡ trial_line seed nodes printed
+
+-- what a trial with this line writes at such an end: the line where the run is done, and otherwise nothing
+abbrev pub trial_output : RunStatus → List ℕ → List ℕ
+trial_output IsDone line = line
+trial_output IsStopped line = []
+trial_output IsSpent line = []
+
 -- the status of a run's end
 abbrev pub status_for : RunStatus → Status
 status_for IsDone = Done
@@ -105,13 +124,16 @@ pub data Answers (words : List (List ℕ)) (before : Moment) : Status → List �
   checked : (name source : List ℕ) (tree : Tree) → Spells words (Check name) → IsText before.texts name source → IsProgram source tree → Answers words before Done [] [] before.input
   listed : (text : List ℕ) → IsToList words before text → Answers words before Done text [] before.input
   run_ended : (job : Job) (out : List ℕ) (end : End) (ending : RunStatus) (left : Option (List ℕ)) → IsToRun words before job → (means : Means job.program job.input job.turns job.based out end) → status_of end ≡ Some ending → IsLeft before.input left means.last.core.shared.world.input → Answers words before (status_for ending) out (reports_of job.watchers means.last.events ++ error_line end) left
+  trial_refused : (seed nodes : ℕ) (line : List ℕ) → Spells words (Trial seed nodes) → Refusal trial_source line → Answers words before Refused [] (line ++ 10 ∷ []) before.input
+  trial_ended : (line : List ℕ) (end : End) (ending : RunStatus) → IsTried words line end → status_of end ≡ Some ending → Answers words before (status_for ending) (trial_output ending line) (error_line end) before.input
 
--- some of a listing, and not all of it
+-- some of a listing or of a trial's line, and not all of it
 pub data UpToWrite (words : List (List ℕ)) (before : Moment) : List ℕ → Type 0 where
   in_listing : (text : List ℕ) (n : ℕ) → IsToList words before text → n < length text → UpToWrite words before (take n text)
+  in_trial : (line : List ℕ) (n : ℕ) → IsTried words line run.Done → n < length line → UpToWrite words before (take n line)
 
 -- anywhere: nothing, the output of a state, the output up to a print with some of its line, and not all of it, or what
--- stands where a listing is being written
+-- stands where a listing or a trial's line is being written
 pub data UpToAny (words : List (List ℕ)) (before : Moment) : List ℕ → Type 0 where
   no_program : UpToAny words before []
   at_state : (job : Job) (out : List ℕ) → IsToRun words before job → AtState job.program job.input job.turns job.based out → UpToAny words before out
@@ -161,8 +183,8 @@ pub record ReadFailed (words : List (List ℕ)) (before after : Moment) : Type 0
   pub err_gained : TellsFault words before (codes "read fault") before.err after.err
 
 -- The output failed in a print, after the output up to it and some of its line, and not all of it, and the input has what
--- the run had left there, but for bytes that were taken ahead; or it failed in a listing; or the error output failed after
--- the whole output.
+-- the run had left there, but for bytes that were taken ahead; or it failed in a listing or in a trial's line; or the error
+-- output failed after the whole output.
 pub data WriteCause (words : List (List ℕ)) (before after : Moment) : List ℕ → Type 0 where
   print_failed : (job : Job) (out line : List ℕ) (n : ℕ) → Rose before.out_faults after.out_faults → IsToRun words before job → (at : AtPrint job.program job.input job.turns job.based out line) → n < length line → IsLeft before.input after.input at.state.core.shared.world.input → WriteCause words before after (out ++ take n line)
   out_failed : {out : List ℕ} → Rose before.out_faults after.out_faults → UpToWrite words before out → WriteCause words before after out
@@ -215,6 +237,15 @@ pub record LeavesInput (before after : Moment) : Type 0 where
 
 abbrev pub ListingLeavesInput : List (List ℕ) → Moment → Moment → Type 0
 ListingLeavesInput words before after = (name : List ℕ) → Spells words (Code name) → LeavesInput before after
+
+-- a trial leaves the files and the input as they were, however it ends
+pub record LeavesFilesAndInput (before after : Moment) : Type 0 where
+  pub texts : after.texts ≡ before.texts
+  pub files_faults : after.files_faults ≡ before.files_faults
+  pub rest : LeavesInput before after
+
+abbrev pub TrialLeavesFilesAndInput : List (List ℕ) → Moment → Moment → Type 0
+TrialLeavesFilesAndInput words before after = (seed nodes : ℕ) → Spells words (Trial seed nodes) → LeavesFilesAndInput before after
 
 -- some count rose
 abbrev pub AnyRose : Moment → Moment → Type 0

@@ -7,13 +7,13 @@ use Rattle.setl_model.specs.Means.{Means}
 use Rattle.setl_program.specs.Program.{Program}
 use Rattle.setl_tree.specs.declared.tree.Tree.{Tree}
 use Rattle.setl_top.specs.Accepted.{IsProgram, Accepted, Refusal}
-use Rattle.setl_top.specs.Headline.{Moment, Headline, InputLeft, Ended, AnyRose, Answers, Job, IsToRun, status_for}
+use Rattle.setl_top.specs.Headline.{Moment, Headline, InputLeft, Ended, AnyRose, Answers, Job, IsToRun, IsTried, trial_output, status_for}
 use Rattle.setl_top.specs.Listings.{listing_of}
 use Rattle.setl_top.specs.Watching.{IsThere, IsNoRequest, reports_of}
 use Rattle.setl_top.specs.declared.status.Status.{Status}
 use Rattle.setl_top.specs.declared.status.Status.TheVariants.{NoMemory, ReadFault, Refused}
 use Rattle.setl_top.specs.declared.status.Status.TheVariants as ended
-use Rattle.setl_words.specs.Words.{Command, Check, Code, Spells, HasFile, watched_by}
+use Rattle.setl_words.specs.Words.{Command, Check, Code, Trial, Spells, HasFile, watched_by}
 
 -- the call failed in none of the three ways only where it came to its end
 abbrev pub IsComplete : Type 0
@@ -52,6 +52,17 @@ abbrev pub ListsExactly : Type 0
 ListsExactly = (words : List (List ℕ)) (before : Moment) (texts : List ℕ → Option (List ℕ)) (name source : List ℕ) (status : Status) (out err : List ℕ) (left : Option (List ℕ)) →
     TellsTexts before texts → Spells words (Code name) → texts name ≡ Some source → Answers words before status out err left →
     ((status ≡ ended.Done) ↔ ((tree : Tree) × IsProgram source tree)) × ((tree : Tree) → IsProgram source tree → (out ≡ listing_of tree) × (err ≡ [])) × ((status ≡ ended.Done) ⊎ ((status ≡ ended.Refused) × (out ≡ []))) × (left ≡ before.input)
+
+-- a trial never answers a read fault
+abbrev pub TrialsReadNothing : Type 0
+TrialsReadNothing = (words : List (List ℕ)) (before after : Moment) (seed nodes : ℕ) → Spells words (Trial seed nodes) →
+    Headline words before after ReadFault → ⊥
+
+-- A trial ends as the run of its program with its declarations, and writes its line where that is done.
+abbrev pub TriesExactly : Type 0
+TriesExactly = (words : List (List ℕ)) (before : Moment) (line : List ℕ) (end : End) (ending : RunStatus) (status : Status) (out err : List ℕ) (left : Option (List ℕ)) →
+    IsTried words line end → status_of end ≡ Some ending → Answers words before status out err left →
+    (status ≡ status_for ending) × (out ≡ trial_output ending line) × (err ≡ error_line end) × (left ≡ before.input)
 
 abbrev pub EndsExactly : Type 0
 EndsExactly = (words : List (List ℕ)) (before : Moment) (texts : List ℕ → Option (List ℕ)) (input : List ℕ) (job : Job) (said : List ℕ) (end : End) (ending : RunStatus) (status : Status) (out err : List ℕ) (left : Option (List ℕ)) →

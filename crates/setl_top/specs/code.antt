@@ -3,3 +3,4 @@ pub mod CodeRuns
 pub mod Tells
 pub mod Loads
 pub mod Lists
+pub mod Tries

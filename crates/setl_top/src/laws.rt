@@ -1,5 +1,5 @@
 //! What follows from the headline and the definitions alone. The functions have no effect: each states a law.
-ghost use Rattle.setl_top.specs.Laws.{IsComplete, FaultyWordsReadNothing, WordsExactly, RefusesExactly, ChecksExactly, ListsExactly, EndsExactly, AcceptedRunsEnd, NoAcceptedRunIsStuck};
+ghost use Rattle.setl_top.specs.Laws.{IsComplete, FaultyWordsReadNothing, WordsExactly, RefusesExactly, ChecksExactly, ListsExactly, TrialsReadNothing, TriesExactly, EndsExactly, AcceptedRunsEnd, NoAcceptedRunIsStuck};
 
 /// Where no count of faults rose and memory was found, the call came to its end.
 pub fn completeness()
@@ -51,6 +51,26 @@ pub fn lists_exactly()
     setl_token::lexing_is_determined();
     setl_reading::tree_is_unique();
     setl_parse::one_fault();
+}
+
+/// A trial never answers that a read failed.
+pub fn trials_read_nothing()
+    ensures { TrialsReadNothing }
+{
+    setl_words::one_command();
+}
+
+/// Where the run of a trial's program with its declarations ends so, a trial that came to its end has that end's status and
+/// error line, and the output has gained the trial's line where that end is done, and otherwise nothing. The input is left
+/// as it was.
+pub fn tries_exactly()
+    ensures { TriesExactly }
+{
+    setl_words::one_command();
+    setl_token::lexing_is_determined();
+    setl_reading::tree_is_unique();
+    setl_parse::one_fault();
+    setl_model::one_meaning();
 }
 
 /// Where the texts and the input are told and the program ends so, a call that came to its end has that end's status and

@@ -1,12 +1,14 @@
 //! The program as one call: `setl` does what the words of the command line ask for.
 //!
-//! `setl run FILE` runs a program, `setl check FILE` checks it, and `setl code FILE` writes the listing of its code. With
-//! `--watch NAME` a run tells a watcher its events, which reports of them. A
-//! source that is no program is refused, with the first reason by length, tokens, syntax and nesting, and rules.
+//! `setl run FILE` runs a program, `setl check FILE` checks it, and `setl code FILE` writes the listing of its code.
+//! With `--watch NAME` a run tells a watcher its events, which reports of them. `setl trial SEED N` runs one fixed
+//! program on an input that is drawn. A source that is no program is refused, with the first reason by length, tokens,
+//! syntax and nesting, and rules.
 #![tactic(auto)]
 
 mod coding;
 mod front;
+mod generated;
 mod laws;
 mod lines;
 mod listing;
@@ -17,11 +19,12 @@ mod status;
 mod stop;
 mod tell;
 mod top;
+mod trial;
 mod watching;
 
 pub use laws::{
     checks_exactly, completeness, ends_exactly, every_accepted_run_ends, faulty_words_read_nothing,
-    lists_exactly, refused_exactly, words_exactly,
+    lists_exactly, refused_exactly, trials_read_nothing, tries_exactly, words_exactly,
 };
 pub use status::Status;
 pub use top::setl;

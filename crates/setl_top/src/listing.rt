@@ -24,7 +24,7 @@ fn listed(alloc: Global, source: Checked) -> Result<Vec<u8>, AllocError>
 }
 
 /// Writes a text to the output. Where that fails, the fault's line was tried.
-fn write_text<O: Sink, E: Sink>(text: &[u8], out: &mut O, err: &mut E) -> Status
+pub fn write_text<O: Sink, E: Sink>(text: &[u8], out: &mut O, err: &mut E) -> Status
     ensures { Written text.now (gain (O.held out.old) (O.held out.new) (O.faults out.old) (O.faults out.new)) (E.held err.old) (E.held err.new) (E.faults err.old) (E.faults err.new) result }
 {
     match write_all(out, text) {

@@ -24,8 +24,8 @@ pub enum Reason {
     Broken { rule: u8, line: u32 },
 }
 
-/// Adds a number in decimal digits.
-fn push_number(line: &mut Vec<u8>, number: u32) -> Result<(), AllocError>
+/// Adds a number in decimal digits. The error is want of memory.
+pub fn push_number(line: &mut Vec<u8>, number: u64) -> Result<(), AllocError>
     ensures { OnOk result (line.new.items ≡ line.old.items ++ decimal number) }
 {
     let mut buffer = Buffer::new();
@@ -37,7 +37,7 @@ fn at_place(alloc: Global, at: u32, what: &[u8]) -> Result<Vec<u8>, AllocError>
     ensures { IfOk result (λ line. line.items ≡ at_place at what.now ++ 10 ∷ []) }
 {
     let mut line = Vec::from_slice(alloc, b"at ")?;
-    push_number(&mut line, at)?;
+    push_number(&mut line, u64::from(at))?;
     line.extend_from_slice(b": ")?;
     line.extend_from_slice(what)?;
     line.push(b'\n')?;
@@ -49,7 +49,7 @@ pub fn at_line(alloc: Global, line: u32) -> Result<Vec<u8>, AllocError>
     ensures { IfOk result (λ told. told.items ≡ codes "line " ++ decimal line ++ codes ": ") }
 {
     let mut told = Vec::from_slice(alloc, b"line ")?;
-    push_number(&mut told, line)?;
+    push_number(&mut told, u64::from(line))?;
     told.extend_from_slice(b": ")?;
     Ok(told)
 }
@@ -60,7 +60,7 @@ fn rule_line(alloc: Global, line: u32, rule: u8) -> Result<Vec<u8>, AllocError>
 {
     let mut told = at_line(alloc, line)?;
     told.extend_from_slice(b"rule ")?;
-    push_number(&mut told, u32::from(rule))?;
+    push_number(&mut told, u64::from(rule))?;
     told.push(b'\n')?;
     Ok(told)
 }

@@ -1,6 +1,6 @@
 //! The program as one call.
 ghost use Rattle.std.specs.Prelude.{◌≡◌, ℕ, ◌<◌, ◌^◌, List, map, string_bytes};
-ghost use Rattle.setl_top.specs.Headline.{Headline, InputLeft, CheckLeavesRest, ListingLeavesInput, moment};
+ghost use Rattle.setl_top.specs.Headline.{Headline, InputLeft, CheckLeavesRest, ListingLeavesInput, TrialLeavesFilesAndInput, moment};
 ghost use Rattle.setl_top.specs.Watching.{asked_for, IsThere};
 ghost use Rattle.setl_watch.specs.Watches.{Watch};
 ghost use Rattle.setl_words.specs.code.Commands.{options_now};
@@ -11,6 +11,7 @@ use crate::listing::list_file;
 use crate::load::{check_file, load_resolved};
 use crate::run::{counted, run_program};
 use crate::tell::{tell, tell_end, tell_faulty};
+use crate::trial::run_trial;
 use crate::watching::keep_asked;
 use setl_io::{Files, Sink, Source};
 use setl_machine::End;
@@ -20,19 +21,23 @@ use std::alloc::Global;
 
 /// Does what the words of the command line ask for, and tells how that ended.
 ///
-/// `words` are those after the program's own name: `run [--unbased] [--turns N] [--watch NAME] FILE`, `check FILE` or
-/// `code FILE`. With `--unbased` the program's declarations don't count, and N from 0 to 2^63 - 1 bounds its turns, which
-/// are 2^63 - 1 otherwise. `--watch trace` asks for the watchers with the name 1 and `--watch cover` for those with the
-/// name 2; the others are dropped, and where none has that name the words are refused before the file is read. `files` has
-/// the sources by name, and `input` is what a program reads.
+/// `words` are those after the program's own name: `run [--unbased] [--turns N] [--watch NAME] FILE`, `check FILE`,
+/// `code FILE` or `trial SEED N`. With `--unbased` the program's declarations don't count, and N from 0 to 2^63 - 1
+/// bounds its turns, which are 2^63 - 1 otherwise. `--watch trace` asks for the watchers with the name 1 and `--watch
+/// cover` for those with the name 2; the others are dropped, and where none has that name the words are refused before
+/// the file is read. `files` has the sources by name, and `input` is what a program reads.
 ///
-/// `out` gains what the program prints, each line at its `print`, or the listing of its code for `code FILE`. Where a run
-/// ended as its program does, `err` gains the reports of the watchers, first of those that had enough, in the order in which
-/// they had, and then of the others in their order. It gains then the last line of a call that wasn't done, if it has one,
-/// or what is told of words that are of no such form. Bytes are taken off the front of `input` only by a run that comes to
-/// a `read`, and `out` has then gained what the run had printed there. Where a `print` failed, `input` has what the run had
-/// left at it, but for bytes that were taken ahead. A check leaves `input` and `out` as they were, however it ends, and a
-/// listing leaves `input` as it was.
+/// A trial draws an input from SEED, which is from 0 to 2^63 - 1, with N nodes, which are from 1 to 2000, and runs one fixed
+/// program on it twice, each time with 2^63 - 1 turns: with its declarations, and without. `out` gains one line with what
+/// the run with declarations printed, where that is done, and otherwise nothing; the call ends as that run.
+///
+/// For `run FILE` and `code FILE`, `out` gains what the program prints, each line at its `print`, or the listing of its
+/// code. Where a run ended as its program does, `err` gains the reports of the watchers, first of those that had
+/// enough, in the order in which they had, and then of the others in their order. It gains then the last line of a call
+/// that wasn't done, if it has one, or what is told of words that are of no such form. Bytes are taken off the front of
+/// `input` only by a run that comes to a `read`, and `out` has then gained what the run had printed there. Where a
+/// `print` failed, `input` has what the run had left at it, but for bytes that were taken ahead. A check leaves `input`
+/// and `out` as they were, however it ends, a listing leaves `input` as it was, and a trial `files` and `input`.
 ///
 /// `ReadFault` comes only where the words name a file and the count of faults of `files` rose in the call, or that of
 /// `input` at a `read`, `WriteFault` only where the count of `out` or `err` rose, and `NoMemory` only where memory was
@@ -54,6 +59,8 @@ pub fn setl<F: Files, I: Source, O: Sink, E: Sink>(
         CheckLeavesRest (map string_bytes words.now) (seen files.old input.old out.old err.old) (seen files.new input.new out.new err.new) }
     ensures listing { let seen = moment (map (λ w. watch w) watchers.items) F.texts F.faults I.left I.faults O.held O.faults E.held E.faults in
         ListingLeavesInput (map string_bytes words.now) (seen files.old input.old out.old err.old) (seen files.new input.new out.new err.new) }
+    ensures trial { let seen = moment (map (λ w. watch w) watchers.items) F.texts F.faults I.left I.faults O.held O.faults E.held E.faults in
+        TrialLeavesFilesAndInput (map string_bytes words.now) (seen files.old input.old out.old err.old) (seen files.new input.new out.new err.new) }
 {
     match read_words(words) {
         Some(Command::Run(asked, name)) => {
@@ -61,6 +68,7 @@ pub fn setl<F: Files, I: Source, O: Sink, E: Sink>(
         }
         Some(Command::Check(name)) => check_file(alloc, name, files, err),
         Some(Command::Code(name)) => list_file(alloc, name, files, out, err),
+        Some(Command::Trial(seed, nodes)) => run_trial(alloc, seed, nodes, out, err),
         None => tell_faulty(alloc, words, err),
     }
 }

@@ -21,7 +21,7 @@ fn watcher(options: Options) -> u8 {
 }
 
 /// The command of a line as a text: of a run its bound on turns, whether declarations count, the name of the watcher that is
-/// asked for, and its file.
+/// asked for, and its file; of a trial its numbers.
 fn asked(alloc: Global, line: &str) -> Result<String, Fail> {
     let words = words_of(alloc, line)?;
     let text = match read_words(words.as_slice()) {
@@ -31,6 +31,7 @@ fn asked(alloc: Global, line: &str) -> Result<String, Fail> {
         }
         Some(Command::Check(file)) => format!(in alloc; "check {file}")?,
         Some(Command::Code(file)) => format!(in alloc; "code {file}")?,
+        Some(Command::Trial(seed, nodes)) => format!(in alloc; "trial {seed} {nodes}")?,
         None => String::from_str(alloc, "faulty")?,
     };
     Ok(text)
@@ -47,6 +48,8 @@ run 5 false 2 q.setl: run --turns 5 --watch cover --unbased q.setl
 run 9223372036854775807 false 0 q.setl: run --unbased --turns 9223372036854775807 q.setl
 check q.setl: check q.setl
 code q.setl: code q.setl
+trial 0 1: trial 0 1
+trial 9223372036854775807 2000: trial 9223372036854775807 2000
 faulty: run --turns 9223372036854775808 q.setl
 faulty: run --turns 1000000000000000000000000000000000000000 q.setl
 faulty: run --turns 07 q.setl
@@ -72,6 +75,19 @@ faulty: run\x20
 faulty: run
 faulty: Run q.setl
 faulty: check --unbased q.setl
+faulty: trial
+faulty: trial 7
+faulty: trial 7 0
+faulty: trial 7 2001
+faulty: trial 07 1
+faulty: trial 7 01
+faulty: trial 9223372036854775808 1
+faulty: trial -1 5
+faulty: trial 7 -1
+faulty: trial +7 1
+faulty: trial 7 1 1
+faulty: trial 7 q.setl
+faulty: trial --turns 7 1
 faulty: --help
 faulty: --version
 faulty:\x20";
@@ -130,6 +146,22 @@ run --unbased --unbased q
 error: the argument '--unbased' cannot be used multiple times
 
 Usage: setl run [OPTIONS] <FILE>
+
+For more information, try '--help'.
+====
+trial 07 1
+not of the plain form
+====
+trial 7
+error: the following required arguments were not provided:
+  <N>
+
+Usage: setl trial <SEED> <N>
+
+For more information, try '--help'.
+====
+trial 7 2001
+error: invalid value '2001' for '<N>': 2001 is not in 1..=2000
 
 For more information, try '--help'.
 ====

@@ -1,4 +1,4 @@
--- The command line as `clap` is told of it: what it reads of the commands, their options and the file.
+-- The command line as `clap` is told of it: what it reads of the commands, their options, the file and the numbers.
 use Rattle.std.specs.Prelude.{◌-◌, ◌^◌, ℕ, List, pos, true, Some, codes}
 use Rattle.clap.specs.Words.{App, Rule, new_app, new_rule, with_rule, with_subcommand}
 use Rattle.clap.specs.declared.builder.ArgAction.TheVariants.{SetTrue}
@@ -16,15 +16,24 @@ watch_rule = record (new_rule (codes "watch")) { long = Some (codes "watch"); va
 abbrev pub file_rule : Rule
 file_rule = record (new_rule (codes "file")) { value_names = 1; required = true }
 
+abbrev pub seed_rule : Rule
+seed_rule = record (new_rule (codes "seed")) { value_names = 1; required = true; parser = Some (Signed (pos 0) (pos (2 ^ 63 - 1))) }
+
+abbrev pub nodes_rule : Rule
+nodes_rule = record (new_rule (codes "nodes")) { value_names = 1; required = true; parser = Some (Signed (pos 1) (pos 2000)) }
+
 abbrev pub run_app : App
 run_app = with_rule (with_rule (with_rule (with_rule (new_app (codes "run")) unbased_rule) turns_rule) watch_rule) file_rule
 
 abbrev pub file_app : List ℕ → App
 file_app name = with_rule (new_app name) file_rule
 
+abbrev pub trial_app : App
+trial_app = with_rule (with_rule (new_app (codes "trial")) seed_rule) nodes_rule
+
 -- the program before its commands, which is told only the words after its own name
 abbrev pub empty_app : App
 empty_app = let a = new_app (codes "setl") in record a { top = record a.top { no_binary_name = true; subcommand_required = true } }
 
 abbrev pub setl_app : App
-setl_app = with_subcommand (with_subcommand (with_subcommand empty_app run_app.top) (file_app (codes "check")).top) (file_app (codes "code")).top
+setl_app = with_subcommand (with_subcommand (with_subcommand (with_subcommand empty_app run_app.top) (file_app (codes "check")).top) (file_app (codes "code")).top) trial_app.top

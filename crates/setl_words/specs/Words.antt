@@ -1,5 +1,6 @@
--- The plain form of the words: a command, the options of a run, and the file whose text the command reads.
-use Rattle.std.specs.Prelude.{◌≡◌, ◌≢◌, ◌<◌, ◌-◌, ◌^◌, ℕ, Bool, true, false, List, [], ◌∷◌, ◌++◌, Option, Some, None, ⊤, codes, decimal}
+-- The plain form of the words: a command, the options of a run and the file whose text the command reads, or the two
+-- numbers of a trial.
+use Rattle.std.specs.Prelude.{◌≡◌, ◌≢◌, ◌<◌, ◌≤◌, ◌-◌, ◌^◌, ℕ, Bool, true, false, List, [], ◌∷◌, ◌++◌, Option, Some, None, ⊤, codes, decimal}
 use Rattle.std.specs.List.{flat_map, fold}
 use Rattle.setl_words.specs.declared.watching.Asked.{Asked}
 use Rattle.setl_words.specs.declared.watching.Asked.TheVariants.{Trace, Cover}
@@ -76,11 +77,13 @@ options_of given = fold with_option default_options given
 
 -- ---- the commands
 
--- what the words ask for: to run a source, to check it, or to list its code
+-- what the words ask for: to run a source, to check it, to list its code, or to try the program of a trial on an input
+-- that is drawn from a seed, with so many nodes
 pub data Command : Type 0 where
   Run : (options : Options) → (name : List ℕ) → Command
   Check : (name : List ℕ) → Command
   Code : (name : List ℕ) → Command
+  Trial : (seed nodes : ℕ) → Command
 
 -- the words of a run: its options in any order, and last the file
 pub record SpellsRun (words : List (List ℕ)) (options : Options) (name : List ℕ) : Type 0 where
@@ -90,17 +93,26 @@ pub record SpellsRun (words : List (List ℕ)) (options : Options) (name : List 
   pub file : IsFile name
   pub means : options ≡ options_of given
 
+-- the words of a trial: the seed and the number of nodes in decimal digits, without sign and without a leading zero
+pub record SpellsTrial (words : List (List ℕ)) (seed nodes : ℕ) : Type 0 where
+  pub spelled : words ≡ codes "trial" ∷ decimal seed ∷ decimal nodes ∷ []
+  pub seed_in_range : seed < 2 ^ 63
+  pub some_nodes : 1 ≤ nodes
+  pub few_nodes : nodes ≤ 2000
+
 -- the words are the plain form of a command
 abbrev pub Spells : List (List ℕ) → Command → Type 0
 Spells words (Run options name) = SpellsRun words options name
 Spells words (Check name) = (words ≡ codes "check" ∷ name ∷ []) × IsFile name
 Spells words (Code name) = (words ≡ codes "code" ∷ name ∷ []) × IsFile name
+Spells words (Trial seed nodes) = SpellsTrial words seed nodes
 
--- the file whose text a command reads
+-- the file whose text a command reads, if it reads one
 abbrev pub HasFile : Command → List ℕ → Type 0
 HasFile (Run options name) file = file ≡ name
 HasFile (Check name) file = file ≡ name
 HasFile (Code name) file = file ≡ name
+HasFile (Trial seed nodes) file = ⊥
 
 -- A command runs the program of this file. `turns` bounds the turns of the run, and `based` says whether the
 -- program's declarations count.
@@ -108,12 +120,14 @@ abbrev pub RunsFile : Command → List ℕ → ℕ → Bool → Type 0
 RunsFile (Run options name) file turns based = (file ≡ name) × (turns ≡ options.turns) × (based ≡ options.based)
 RunsFile (Check name) file turns based = ⊥
 RunsFile (Code name) file turns based = ⊥
+RunsFile (Trial seed nodes) file turns based = ⊥
 
 -- the watcher that a command asks for, if it asks for one
 abbrev pub watched_by : Command → Option Asked
 watched_by (Run options name) = options.watch
 watched_by (Check name) = None
 watched_by (Code name) = None
+watched_by (Trial seed nodes) = None
 
 -- the words are of no plain form
 abbrev pub IsFaulty : List (List ℕ) → Type 0

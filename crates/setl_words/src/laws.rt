@@ -1,6 +1,6 @@
 //! What follows from the definitions alone. The functions have no effect: each states a law.
 ghost use Rattle.std.specs.Prelude.{◌∷◌, ◌-◌, ◌^◌, [], codes, true, false, Some, None};
-ghost use Rattle.setl_words.specs.Words.{OneCommand, Run, Check, Spells, IsFaulty};
+ghost use Rattle.setl_words.specs.Words.{OneCommand, Run, Check, Trial, Spells, IsFaulty};
 ghost use Rattle.setl_words.specs.declared.watching.Asked.TheVariants.{Trace, Cover};
 
 /// Words spell at most one command.
@@ -16,6 +16,7 @@ pub fn plain_words()
     ensures trace { Spells (codes "run" ∷ codes "--watch" ∷ codes "trace" ∷ codes "q" ∷ []) (Run (record { turns = 2 ^ 63 - 1; based = true; watch = Some Trace }) (codes "q")) }
     ensures cover { Spells (codes "run" ∷ codes "--unbased" ∷ codes "--watch" ∷ codes "cover" ∷ codes "q" ∷ []) (Run (record { turns = 2 ^ 63 - 1; based = false; watch = Some Cover }) (codes "q")) }
     ensures check { Spells (codes "check" ∷ codes "q" ∷ []) (Check (codes "q")) }
+    ensures trial { Spells (codes "trial" ∷ codes "7" ∷ codes "2000" ∷ []) (Trial 7 2000) }
 {}
 
 /// Words of no plain form.
@@ -30,4 +31,8 @@ pub fn faulty_words()
     ensures two_watchers { IsFaulty (codes "run" ∷ codes "--watch" ∷ codes "trace" ∷ codes "--watch" ∷ codes "cover" ∷ codes "q" ∷ []) }
     ensures leading_zero { IsFaulty (codes "run" ∷ codes "--turns" ∷ codes "07" ∷ codes "q" ∷ []) }
     ensures too_great { IsFaulty (codes "run" ∷ codes "--turns" ∷ codes "9223372036854775808" ∷ codes "q" ∷ []) }
+    ensures no_nodes { IsFaulty (codes "trial" ∷ codes "7" ∷ []) }
+    ensures too_few_nodes { IsFaulty (codes "trial" ∷ codes "7" ∷ codes "0" ∷ []) }
+    ensures too_many_nodes { IsFaulty (codes "trial" ∷ codes "7" ∷ codes "2001" ∷ []) }
+    ensures other_seed { IsFaulty (codes "trial" ∷ codes "07" ∷ codes "1" ∷ []) }
 {}

@@ -2,7 +2,7 @@
 ghost use Rattle.std.specs.Prelude.{◌≡◌, false, IfOk};
 ghost use Rattle.clap.specs.Words.{app_of, rule_of};
 ghost use Rattle.clap.specs.declared.builder.command.Command.TheViews.{out-Command as fields_of};
-ghost use Rattle.setl_words.specs.Line.{unbased_rule, turns_rule, watch_rule, file_rule, run_app, file_app, setl_app};
+ghost use Rattle.setl_words.specs.Line.{unbased_rule, turns_rule, watch_rule, file_rule, seed_rule, nodes_rule, run_app, file_app, trial_app, setl_app};
 
 use clap::{Arg, ArgAction, Command, value_parser};
 use std::alloc::{AllocError, Global};
@@ -52,6 +52,30 @@ fn file<'a>(alloc: Global) -> Arg<'a>
         .help("The source")
 }
 
+/// The seed of a trial.
+fn seed<'a>(alloc: Global) -> Arg<'a>
+    ensures rule { rule_of result ≡ seed_rule }
+    ensures local { result.global ≡ false }
+{
+    Arg::new(alloc, "seed")
+        .value_name("SEED")
+        .required(true)
+        .value_parser(value_parser!(i64).range(0..))
+        .help("What the input is drawn from")
+}
+
+/// The number of nodes of a trial.
+fn nodes<'a>(alloc: Global) -> Arg<'a>
+    ensures rule { rule_of result ≡ nodes_rule }
+    ensures local { result.global ≡ false }
+{
+    Arg::new(alloc, "nodes")
+        .value_name("N")
+        .required(true)
+        .value_parser(value_parser!(i64).range(1..=2000))
+        .help("The number of nodes, from 1 to 2000")
+}
+
 /// The command `run`.
 fn run<'a>(alloc: Global) -> Result<Command<'a>, AllocError>
     ensures app { IfOk result (λ c. app_of c ≡ run_app) }
@@ -73,6 +97,17 @@ fn with_file<'a>(alloc: Global, name: &'a str, about: &'a str) -> Result<Command
     Command::new(alloc, name).about(about).arg(file(alloc))
 }
 
+/// The command `trial`.
+fn trial<'a>(alloc: Global) -> Result<Command<'a>, AllocError>
+    ensures app { IfOk result (λ c. app_of c ≡ trial_app) }
+    ensures local { IfOk result (λ c. (fields_of c).has_globals ≡ false) }
+{
+    Command::new(alloc, "trial")
+        .about("Run a fixed program on an input that is drawn")
+        .arg(seed(alloc))?
+        .arg(nodes(alloc))
+}
+
 /// All commands, over the words after the program's own name.
 pub(crate) fn commands<'a>(alloc: Global) -> Result<Command<'a>, AllocError>
     ensures { IfOk result (λ c. app_of c ≡ setl_app) }
@@ -83,5 +118,6 @@ pub(crate) fn commands<'a>(alloc: Global) -> Result<Command<'a>, AllocError>
         .subcommand_required(true)
         .subcommand(run(alloc)?)?
         .subcommand(with_file(alloc, "check", "Check a source")?)?
-        .subcommand(with_file(alloc, "code", "List the code of a program")?)
+        .subcommand(with_file(alloc, "code", "List the code of a program")?)?
+        .subcommand(trial(alloc)?)
 }

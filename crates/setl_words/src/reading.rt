@@ -4,7 +4,8 @@ ghost use Rattle.setl_words.specs.code.Commands.{command_of};
 ghost use Rattle.setl_words.specs.Words.{Spells, IsFaulty};
 
 use crate::given::{Given, read_options};
-use crate::single::{is_check, is_code, is_file, is_run};
+use crate::single::{is_check, is_code, is_file, is_run, is_trial};
+use crate::trial::read_trial;
 use crate::watching::Asked;
 
 /// The options of a run.
@@ -18,7 +19,7 @@ pub struct Options {
     pub watch: Option<Asked>,
 }
 
-/// What the words ask for, with the name of the file.
+/// What the words ask for, with the name of the file, or with the numbers of a trial.
 #[derive(Clone, Copy, Debug, PartialEq, Eq)]
 pub enum Command<'a> {
     /// The program of the file is to be run.
@@ -27,6 +28,8 @@ pub enum Command<'a> {
     Check(&'a str),
     /// The code of the program of the file is to be listed.
     Code(&'a str),
+    /// The program of a trial is to be run on an input that is drawn from a seed below 2^63, with 1 to 2000 nodes.
+    Trial(u64, u64),
 }
 
 /// The first word, those between, and the last. `None` comes exactly where there are fewer than two words.
@@ -45,6 +48,10 @@ pub fn read_words(words: &[String]) -> Option<Command<'_>>
     ensures faulty { IfNone result (IsFaulty (map string_bytes words.now)) }
 {
     let (word, between, name) = parts(words)?;
+    if is_trial(word) {
+        let (seed, nodes) = read_trial(between, name)?;
+        return Some(Command::Trial(seed, nodes));
+    }
     if !is_file(name) {
         return None;
     }

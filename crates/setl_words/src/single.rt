@@ -23,6 +23,13 @@ pub(crate) fn is_code(word: &str) -> bool
     word == "code"
 }
 
+/// Whether a word is that of a trial.
+pub(crate) fn is_trial(word: &str) -> bool
+    ensures { IsTrue result ↔ (word.now ≡ codes "trial") }
+{
+    word == "trial"
+}
+
 /// Whether a word is the option that takes the declarations' effect away.
 pub(crate) fn is_unbased(word: &str) -> bool
     ensures { IsTrue result ↔ (word.now ≡ codes "--unbased") }

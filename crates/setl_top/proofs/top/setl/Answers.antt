@@ -2,11 +2,17 @@ use Rattle.std.proofs.Common.{arith, refl}
 use Rattle.setl_top.specs.Headline.{untouched}
 use Rattle.setl_top.proofs.Ends.{faulty_ends, check_ends, list_ends, rest_same}
 use Rattle.setl_top.proofs.Asked.{turns_asked}
+use Rattle.setl_top.proofs.Trying.{trial_ends}
 use Rattle.setl_top.proofs.Fronts.{appends_none}
 use Rattle.setl_top.proofs.top.setl.Goals as goal
 
 pub run_asked-requires : goal.run_asked-requires
 run_asked-requires g c = turns_asked _ _ _ (rw c.in-Some-Run.field-0-is at c.in-Some-Run.ensures.plain)
+
+pub run_trial-requires : goal.run_trial-requires
+run_trial-requires g c =
+    let s = rw c.in-Some-Trial.field-0-is at c.in-Some-Trial.ensures.plain in
+    record { some = s.some_nodes; few = s.few_nodes }
 
 pub returns-in-None-clause-headline : goal.returns-in-None-clause-headline
 returns-in-None-clause-headline g c =
@@ -24,6 +30,10 @@ pub returns-in-Some-Code-clause-headline : goal.returns-in-Some-Code-clause-head
 returns-in-Some-Code-clause-headline g c =
     list_ends _ _ _ _ (rw c.in-Some-Code.field-0-is at c.in-Some-Code.ensures.plain) (record { input = refl; input_faults = refl }) _ c.list_file.ensures
 
+pub returns-in-Some-Trial-clause-headline : goal.returns-in-Some-Trial-clause-headline
+returns-in-Some-Trial-clause-headline g c =
+    trial_ends _ _ _ _ _ (rw c.in-Some-Trial.field-0-is at c.in-Some-Trial.ensures.plain) (record { texts = refl; files_faults = refl; rest = record { input = refl; input_faults = refl } }) _ c.run_trial.ensures
+
 pub returns-in-None-clause-input : goal.returns-in-None-clause-input
 returns-in-None-clause-input g c = untouched refl
 
@@ -35,3 +45,6 @@ returns-in-Some-Check-clause-input g c = untouched refl
 
 pub returns-in-Some-Code-clause-input : goal.returns-in-Some-Code-clause-input
 returns-in-Some-Code-clause-input g c = untouched refl
+
+pub returns-in-Some-Trial-clause-input : goal.returns-in-Some-Trial-clause-input
+returns-in-Some-Trial-clause-input g c = untouched refl

@@ -2,12 +2,12 @@ use Rattle.std.proofs.Common.{◌≡◌, ◌≢◌, ◌<◌, ◌^◌, ◌∙◌,
 use Rattle.std.proofs.lemmas.Fmt.{decimal_digit, decimal_injective, decimal_is_IsNumeral}
 use Rattle.std.specs.Fmt.{digits}
 use Rattle.std.specs.Str.Parse.{digits_value}
-use Rattle.setl_words.specs.Words.{RunOption, Unbased, Turns, Watch, IsInRange, IsFaulty, option_words, watcher_word}
+use Rattle.setl_words.specs.Words.{RunOption, Unbased, Turns, Watch, IsInRange, IsFaulty, SpellsTrial, option_words, watcher_word}
 use Rattle.setl_words.specs.declared.watching.Asked.{Asked}
 use Rattle.setl_words.specs.declared.watching.Asked.TheVariants.{Trace, Cover}
 use Rattle.setl_words.specs.code.Reading.{LeadsNowhere, with_given, is_nothing}
 use Rattle.setl_words.proofs.Order.{turns_or_watch, head_of, tail_of, nowhere_on, nowhere_again, nowhere_else}
-use Rattle.setl_words.proofs.Commands.{no_end, few_are_faulty, run_is_faulty, dash_is_faulty}
+use Rattle.setl_words.proofs.Commands.{no_end, few_are_faulty, run_is_faulty, dash_is_faulty, run_or_trial, trial_is_faulty, two_numbers}
 use Rattle.setl_words.proofs.laws.faulty_words.Goals as goal
 
 run_with : (between : List (List ℕ)) → LeadsNowhere is_nothing between → IsFaulty (codes "run" ∷ between ++ codes "q" ∷ [])
@@ -66,11 +66,42 @@ too_great n rest small e =
     let same = decimal_injective (2 ^ 63) n (omega arith) (omega (arith, small)) (sym most ∙ head_of _ _ _ _ e) in
     absurd (omega (arith, small, same))
 
+-- ---- trials
+
+trial_with : (between : List (List ℕ)) (last : List ℕ) → ((seed nodes : ℕ) → SpellsTrial (codes "trial" ∷ between ++ last ∷ []) seed nodes → ⊥) → IsFaulty (codes "trial" ∷ between ++ last ∷ [])
+trial_with between last none = trial_is_faulty _ (codes "trial") between last refl refl none
+
+no_nodes : (seed nodes : ℕ) → SpellsTrial (codes "trial" ∷ codes "7" ∷ []) seed nodes → ⊥
+no_nodes seed nodes s = absurd (omega (arith, ap length s.spelled))
+
+none_spelled : codes "0" ≡ decimal 0
+unfolding digits
+none_spelled = refl
+
+too_few_nodes : (seed nodes : ℕ) → SpellsTrial (codes "trial" ∷ codes "7" ∷ codes "0" ∷ []) seed nodes → ⊥
+too_few_nodes seed nodes s =
+    let parts = two_numbers (codes "7" ∷ []) (codes "0") seed nodes s in
+    let same = decimal_injective 0 nodes (omega arith) (omega (arith, s.few_nodes)) (sym none_spelled ∙ parts.1) in
+    absurd (omega (arith, s.some_nodes, same))
+
+many_spelled : codes "2001" ≡ decimal 2001
+unfolding digits
+many_spelled = refl
+
+too_many_nodes : (seed nodes : ℕ) → SpellsTrial (codes "trial" ∷ codes "7" ∷ codes "2001" ∷ []) seed nodes → ⊥
+too_many_nodes seed nodes s =
+    let parts = two_numbers (codes "7" ∷ []) (codes "2001") seed nodes s in
+    let same = decimal_injective 2001 nodes (omega arith) (omega (arith, s.few_nodes)) (sym many_spelled ∙ parts.1) in
+    absurd (omega (arith, s.few_nodes, same))
+
+other_seed : (seed nodes : ℕ) → SpellsTrial (codes "trial" ∷ codes "07" ∷ codes "1" ∷ []) seed nodes → ⊥
+other_seed seed nodes s = leading_zero seed [] s.seed_in_range (two_numbers (codes "07" ∷ []) (codes "1") seed nodes s).0
+
 pub returns : goal.returns
 returns c = record {
   nothing = few_are_faulty [] (λ w b n e. absurd (omega (arith, ap length e)));
   no_file = few_are_faulty _ (λ w b n e. no_end b n (tail_of (codes "run") w [] _ e));
-  dash = dash_is_faulty _ (codes "run") (codes "q" ∷ []) (codes "--unbased") refl (λ f. f refl);
+  dash = dash_is_faulty _ (codes "run") (codes "q" ∷ []) (codes "--unbased") refl run_or_trial (λ f. f refl);
   again = run_with _ again;
   no_value = run_with _ (no_turns [] (λ n rest small e. absurd (omega (arith, ap length e))));
   no_watcher = run_with _ (no_watcher [] (λ a rest e. absurd (omega (arith, ap length e))));
@@ -78,4 +109,8 @@ returns c = record {
   two_watchers = run_with _ two_watchers;
   leading_zero = run_with _ (no_turns _ leading_zero);
   too_great = run_with _ (no_turns _ too_great);
+  no_nodes = trial_with [] (codes "7") no_nodes;
+  too_few_nodes = trial_with (codes "7" ∷ []) (codes "0") too_few_nodes;
+  too_many_nodes = trial_with (codes "7" ∷ []) (codes "2001") too_many_nodes;
+  other_seed = trial_with (codes "07" ∷ []) (codes "1") other_seed;
 }

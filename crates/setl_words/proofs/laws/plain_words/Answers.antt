@@ -1,4 +1,4 @@
-use Rattle.std.proofs.Common.{◌≡◌, [], ◌∷◌, ◌++◌, codes, refl, arith}
+use Rattle.std.proofs.Common.{◌≡◌, [], ◌∷◌, ◌++◌, codes, decimal, refl, arith}
 use Rattle.std.specs.Fmt.{digits}
 use Rattle.std.specs.List.{flat_map}
 use Rattle.setl_words.specs.Words.{IsFile, Unbased, Turns, Watch, option_words}
@@ -16,6 +16,10 @@ swapped : codes "run" ∷ codes "--unbased" ∷ codes "--turns" ∷ codes "0" �
 unfolding digits
 swapped = refl
 
+trial : codes "trial" ∷ codes "7" ∷ codes "2000" ∷ [] ≡ codes "trial" ∷ decimal 7 ∷ decimal 2000 ∷ []
+unfolding digits
+trial = refl
+
 pub returns : goal.returns
 returns c = record {
   run = record { given = []; spelled = refl; valid = tt; file = is_file; means = refl };
@@ -24,4 +28,5 @@ returns c = record {
   trace = record { given = Watch Trace ∷ []; spelled = refl; valid = (tt, tt, tt); file = is_file; means = refl };
   cover = record { given = Unbased ∷ Watch Cover ∷ []; spelled = refl; valid = (tt, (λ x. x, tt), (tt, tt, tt)); file = is_file; means = refl };
   check = (refl, is_file);
+  trial = record { spelled = trial; seed_in_range = omega arith; some_nodes = omega arith; few_nodes = omega arith };
 }

@@ -1,0 +1,6 @@
+use Rattle.std.proofs.Common.{refl}
+use Rattle.setl_top.specs.code.Lists.{no_text}
+use Rattle.setl_top.proofs.trial.write_trial.Goals as goal
+
+pub returns-in_default : goal.returns-in_default
+returns-in_default g c = no_text refl c.try_line.ensures.front

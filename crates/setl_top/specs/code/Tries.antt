@@ -1,0 +1,54 @@
+-- What becomes of a trial.
+use Rattle.std.specs.Prelude.{◌≡◌, ◌-◌, ◌^◌, ℕ, Bool, true, List, [], ◌∷◌, ◌++◌, Option, None, codes}
+use Rattle.setl_model.specs.Answers.{error_line}
+use Rattle.setl_model.specs.Means.{Means}
+use Rattle.setl_machine.specs.Outcome.{kind_of}
+use Rattle.setl_machine.specs.declared.end.End.{End}
+use Rattle.setl_machine.specs.declared.end.End.TheVariants as end
+use Rattle.setl_program.specs.Program.{Program}
+use Rattle.setl_run.specs.Events as run
+use Rattle.setl_top.specs.Accepted.{Accepted, IsRefusedFor}
+use Rattle.setl_top.specs.Lines.{AppendsFront}
+use Rattle.setl_top.specs.Reasons.{reason_line}
+use Rattle.setl_top.specs.Trials.{trial_source, trial_input, trial_line}
+use Rattle.setl_top.specs.code.Lists.{Gain, Written}
+use Rattle.setl_top.specs.code.Runs.{counted}
+use Rattle.setl_top.specs.code.Tells.{Tells}
+use Rattle.setl_top.specs.declared.reason.Reason.{Reason}
+use Rattle.setl_top.specs.declared.status.Status.{Status}
+use Rattle.setl_top.specs.declared.status.Status.TheVariants as status
+use Rattle.setl_words.specs.Words.{Options}
+
+-- the options of a run of a trial
+abbrev pub trial_options : Bool → Options
+trial_options based = record { turns = 2 ^ 63 - 1; based = based; watch = None }
+
+-- a run of this program on an input in memory, with its declarations or without, printed this and ended so in the machine
+abbrev pub RunEnds : Program → List ℕ → Bool → List ℕ → End → Type 0
+RunEnds program input based printed end.Done = Means program input (2 ^ 63 - 1) based printed run.Done
+RunEnds program input based printed (end.Stopped why line) = Means program input (2 ^ 63 - 1) based printed (run.Stopped (kind_of (counted (trial_options based) program) why) line)
+RunEnds program input based printed end.Spent = Means program input (2 ^ 63 - 1) based printed run.Spent
+RunEnds program input based printed end.ReadFault = ⊥
+RunEnds program input based printed end.WriteFault = ⊥
+RunEnds program input based printed end.NoMemory = ⊥
+RunEnds program input based printed end.Paused = ⊥
+RunEnds program input based printed end.Stuck = ⊥
+
+-- nothing was written
+pub record WritesNothing (o : Gain) : Type 0 where
+  pub held : o.now ≡ o.before
+  pub count : o.faults_now ≡ o.faults_before
+
+-- a run of the program of a trial with its declarations printed this and ended so
+pub record TrialRuns (seed nodes : ℕ) (printed : List ℕ) (end : run.End) : Type 0 where
+  pub program : Program
+  pub accepted : Accepted trial_source program
+  pub means : Means program (trial_input seed nodes) (2 ^ 63 - 1) true printed end
+
+-- what a trial does to the output and to the error output
+pub data Tries (seed nodes : ℕ) (o : Gain) (old new : Option (List ℕ)) (err_before err_now : ℕ) : Status → Type 0 where
+  trial_refused : (reason : Reason) (ends : Status) → IsRefusedFor trial_source reason → WritesNothing o → Tells status.Refused (reason_line reason ++ 10 ∷ []) old new err_before err_now ends → Tries seed nodes o old new err_before err_now ends
+  trial_done : (printed : List ℕ) (ends : Status) → TrialRuns seed nodes printed run.Done → Written (trial_line seed nodes printed) o old new err_before err_now ends → Tries seed nodes o old new err_before err_now ends
+  trial_stopped : (printed : List ℕ) (kind : run.StopKind) (line : ℕ) (ends : Status) → TrialRuns seed nodes printed (run.Stopped kind line) → WritesNothing o → Tells status.Stopped (error_line (run.Stopped kind line)) old new err_before err_now ends → Tries seed nodes o old new err_before err_now ends
+  trial_spent : (printed : List ℕ) (ends : Status) → TrialRuns seed nodes printed run.Spent → WritesNothing o → Tells status.Spent (error_line run.Spent) old new err_before err_now ends → Tries seed nodes o old new err_before err_now ends
+  trial_starved : WritesNothing o → AppendsFront old new (codes "no memory" ++ 10 ∷ []) → Tries seed nodes o old new err_before err_now status.NoMemory

@@ -1,0 +1,179 @@
+//! Trials: a fixed program on an input that is drawn, with its declarations and without.
+ghost use Rattle.std.specs.Prelude.{◌≡◌, ◌≤◌, true, IfOk};
+ghost use Rattle.setl_program.specs.code.Plain.{plain_program};
+ghost use Rattle.setl_top.specs.Accepted.{Accepted};
+ghost use Rattle.setl_top.specs.Trials.{trial_source, trial_input, trial_line};
+ghost use Rattle.setl_top.specs.code.Lists.{Written, gain};
+ghost use Rattle.setl_top.specs.code.Runs.{IsMeant};
+ghost use Rattle.setl_top.specs.code.Tries.{RunEnds, Tries};
+
+use crate::Status;
+use crate::coding::program_of_source;
+use crate::front::{Unread, read_program};
+use crate::generated::{trial_input, trial_line, trial_source};
+use crate::lines::try_line;
+use crate::listing::write_text;
+use crate::run::run_program;
+use crate::tell::{refuse, tell_end};
+use setl_io::{Sink, SureSink, SureSource};
+use setl_machine::End;
+use setl_program::Program;
+use setl_words::Options;
+use std::alloc::{AllocError, Global};
+
+/// The bound on the turns of each run.
+const MOST_TURNS: u64 = (1 << 63) - 1;
+
+/// How a run of the program of a trial ended, and what it printed.
+#[derive(Drop)]
+struct TrialRun {
+    end: End,
+    printed: SureSink,
+}
+
+/// Runs the program of a trial on its input, with its declarations or without. The error is want of memory.
+fn run_on_input(
+    alloc: Global,
+    program: &Program,
+    seed: u64,
+    nodes: u64,
+    based: bool,
+) -> Result<TrialRun, AllocError>
+    requires meant { IsMeant (plain_program program.now) }
+    requires some { 1 ≤ nodes }
+    requires few { nodes ≤ 2000 }
+    ensures { IfOk result (λ run. RunEnds (plain_program program.now) (trial_input seed nodes) based run.printed run.end) }
+{
+    let mut input = SureSource::new(trial_input(alloc, seed, nodes)?);
+    let mut printed = SureSink::new(alloc)?;
+    let mut watchers = Vec::new(alloc);
+    let mut reports = Vec::new(alloc);
+    let asked = Options {
+        turns: MOST_TURNS,
+        based,
+        watch: None,
+    };
+    let end = run_program(
+        alloc,
+        program,
+        asked,
+        &mut input,
+        &mut printed,
+        &mut watchers,
+        &mut reports,
+    )?;
+    if end == End::NoMemory {
+        return Err(AllocError);
+    }
+    Ok(TrialRun { end, printed })
+}
+
+/// Runs the program of a trial on its input with its declarations, and again without. The answer is that of the run with
+/// them; the other ends in the same way as long as each value fits. The error is want of memory.
+fn run_twice(
+    alloc: Global,
+    program: &Program,
+    seed: u64,
+    nodes: u64,
+) -> Result<TrialRun, AllocError>
+    requires meant { IsMeant (plain_program program.now) }
+    requires some { 1 ≤ nodes }
+    requires few { nodes ≤ 2000 }
+    ensures { IfOk result (λ run. RunEnds (plain_program program.now) (trial_input seed nodes) true run.printed run.end) }
+{
+    let based = run_on_input(alloc, program, seed, nodes, true)?;
+    let _unbased = run_on_input(alloc, program, seed, nodes, false)?;
+    Ok(based)
+}
+
+/// Writes the line of a trial whose program printed this. Where that fails, the fault's line was tried.
+fn write_trial<O: Sink, E: Sink>(
+    alloc: Global,
+    seed: u64,
+    nodes: u64,
+    printed: &[u8],
+    out: &mut O,
+    err: &mut E,
+) -> Status
+    ensures { Written (trial_line seed nodes printed.now) (gain (O.held out.old) (O.held out.new) (O.faults out.old) (O.faults out.new)) (E.held err.old) (E.held err.new) (E.faults err.old) (E.faults err.new) result }
+{
+    let Ok(line) = trial_line(alloc, seed, nodes, printed) else {
+        try_line(err, b"no memory\n");
+        return Status::NoMemory;
+    };
+    write_text(&line, out, err)
+}
+
+/// Tells how a run of the program of a trial ended, in which its declarations counted.
+fn tell_trial<O: Sink, E: Sink>(
+    alloc: Global,
+    program: &Program,
+    seed: u64,
+    nodes: u64,
+    run: TrialRun,
+    out: &mut O,
+    err: &mut E,
+) -> Status
+    requires accepted { Accepted trial_source (plain_program program.now) }
+    requires ran { RunEnds (plain_program program.now) (trial_input seed nodes) true run.printed run.end }
+    ensures { Tries seed nodes (gain (O.held out.old) (O.held out.new) (O.faults out.old) (O.faults out.new)) (E.held err.old) (E.held err.new) (E.faults err.old) (E.faults err.new) result }
+{
+    if run.end == End::Done {
+        return write_trial(alloc, seed, nodes, run.printed.held(), out, err);
+    }
+    let declared = program.declared.as_slice();
+    tell_end(alloc, err, declared, run.end, &[], Vec::new(alloc))
+}
+
+/// Runs the program of a trial twice, and tells how the run with its declarations ended.
+fn try_program<O: Sink, E: Sink>(
+    alloc: Global,
+    program: &Program,
+    seed: u64,
+    nodes: u64,
+    out: &mut O,
+    err: &mut E,
+) -> Status
+    requires accepted { Accepted trial_source (plain_program program.now) }
+    requires some { 1 ≤ nodes }
+    requires few { nodes ≤ 2000 }
+    ensures { Tries seed nodes (gain (O.held out.old) (O.held out.new) (O.faults out.old) (O.faults out.new)) (E.held err.old) (E.held err.new) (E.faults err.old) (E.faults err.new) result }
+{
+    match run_twice(alloc, program, seed, nodes) {
+        Ok(run) => tell_trial(alloc, program, seed, nodes, run, out, err),
+        Err(_) => {
+            try_line(err, b"no memory\n");
+            Status::NoMemory
+        }
+    }
+}
+
+/// Makes a trial: runs its program on the input that is drawn from a seed, with so many nodes, and writes the line of what
+/// the run with its declarations printed, where that run is done. Otherwise the last line was told.
+pub fn run_trial<O: Sink, E: Sink>(
+    alloc: Global,
+    seed: u64,
+    nodes: u64,
+    out: &mut O,
+    err: &mut E,
+) -> Status
+    requires some { 1 ≤ nodes }
+    requires few { nodes ≤ 2000 }
+    ensures { Tries seed nodes (gain (O.held out.old) (O.held out.new) (O.faults out.old) (O.faults out.new)) (E.held err.old) (E.held err.new) (E.faults err.old) (E.faults err.new) result }
+{
+    let source = match read_program(alloc, trial_source()) {
+        Ok(source) => source,
+        Err(Unread::Refused(reason)) => return refuse(alloc, err, reason),
+        Err(Unread::NoMemory) => {
+            try_line(err, b"no memory\n");
+            return Status::NoMemory;
+        }
+    };
+    match program_of_source(alloc, source) {
+        Ok(program) => try_program(alloc, &program, seed, nodes, out, err),
+        Err(_) => {
+            try_line(err, b"no memory\n");
+            Status::NoMemory
+        }
+    }
+}
