@@ -17,7 +17,7 @@ use Rattle.setl_top.specs.code.Loads.{Loaded, NotLoaded, not_accepted, not_read,
 use Rattle.setl_top.specs.Reasons.{reason_line}
 use Rattle.setl_top.specs.code.Runs.{Streams, streams, counted, RunsTo, RunsInto, WritesInto, RunsToRead, RunsUpTo, Runs, TakesInput}
 use Rattle.setl_top.specs.code.Tells.{Tells, whole, failed, no_memory, TellsEnd}
-use Rattle.setl_top.specs.Headline.{Moment, Job, IsInput, IsToRun, IsToList, status_for, Answers, faulty_words, refused, checked, listed, run_ended, UpToAny, no_program, at_state, in_print, in_write, in_listing, load_failed, read_failed, no_such_watcher, TellsFault, LeavesRest, LeavesInput, Ended, ReadFailed, WriteFailed, MemoryFailed, print_failed, out_failed, err_failed, InputLeft, untouched, read_from, Headline}
+use Rattle.setl_top.specs.Headline.{Moment, Job, IsInput, IsToRun, IsToList, status_for, Answers, faulty_words, refused, checked, listed, run_ended, UpToWrite, UpToAny, no_program, at_state, in_print, in_write, in_listing, load_failed, read_failed, no_such_watcher, TellsFault, LeavesRest, LeavesInput, Ended, ReadFailed, WriteFailed, MemoryFailed, print_failed, out_failed, err_failed, InputLeft, untouched, read_from, Headline}
 use Rattle.setl_top.specs.Watching.{asked_for, IsThere, all_told, reports_of}
 use Rattle.setl_top.specs.declared.status.Status.{Status}
 use Rattle.setl_top.specs.declared.status.Status.TheVariants.{Done, Refused, Words}

@@ -1,5 +1,5 @@
 //! Trials: a fixed program on an input that is drawn, with its declarations and without.
-ghost use Rattle.std.specs.Prelude.{◌≡◌, ◌≤◌, true, IfOk};
+ghost use Rattle.std.specs.Prelude.{◌≡◌, ◌≤◌, ◌↔◌, true, IsTrue, IfOk};
 ghost use Rattle.setl_program.specs.code.Plain.{plain_program};
 ghost use Rattle.setl_top.specs.Accepted.{Accepted};
 ghost use Rattle.setl_top.specs.Trials.{trial_source, trial_input, trial_line};
@@ -29,6 +29,20 @@ const MOST_TURNS: u64 = (1 << 63) - 1;
 struct TrialRun {
     end: End,
     printed: SureSink,
+}
+
+/// Whether a run was broken off for want of memory.
+fn is_starved(end: End) -> bool
+    ensures { IsTrue result ↔ (end ≡ End.NoMemory) }
+{
+    matches!(end, End::NoMemory)
+}
+
+/// Whether a run came to its program's end.
+fn is_done(end: End) -> bool
+    ensures { IsTrue result ↔ (end ≡ End.Done) }
+{
+    matches!(end, End::Done)
 }
 
 /// Runs the program of a trial on its input, with its declarations or without. The error is want of memory.
@@ -62,7 +76,7 @@ fn run_on_input(
         &mut watchers,
         &mut reports,
     )?;
-    if end == End::NoMemory {
+    if is_starved(end) {
         return Err(AllocError);
     }
     Ok(TrialRun { end, printed })
@@ -118,7 +132,7 @@ fn tell_trial<O: Sink, E: Sink>(
     requires ran { RunEnds (plain_program program.now) (trial_input seed nodes) true run.printed run.end }
     ensures { Tries seed nodes (gain (O.held out.old) (O.held out.new) (O.faults out.old) (O.faults out.new)) (E.held err.old) (E.held err.new) (E.faults err.old) (E.faults err.new) result }
 {
-    if run.end == End::Done {
+    if is_done(run.end) {
         return write_trial(alloc, seed, nodes, run.printed.held(), out, err);
     }
     let declared = program.declared.as_slice();

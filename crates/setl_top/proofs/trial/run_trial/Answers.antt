@@ -14,10 +14,10 @@ pub try_program-requires : goal.try_program-requires
 try_program-requires g c =
     let checked = rw c.trial_source.ensures.source at c.in-Ok.ensures.read in
     record {
-      accepted = record { tree = c.in-Ok.source.tree; is_program = checked.is_program; meaning = c.in-Ok-program.ensures };
+      accepted = record { tree = c.in-Ok.source.tree; is_program = checked.is_program; meaning = c.in-Ok-program_of_source.ensures };
       some = c.requires.some;
       few = c.requires.few;
     }
 
 pub returns-in-Err : goal.returns-in-Err
-returns-in-Err g c = trial_starved (record { held = refl; count = refl }) c.try_line.ensures.front
+returns-in-Err g c = trial_starved (record { held = refl; count = refl }) c.try_line-in-Err.ensures.front
