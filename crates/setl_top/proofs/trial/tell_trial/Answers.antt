@@ -1,4 +1,4 @@
-use Rattle.std.proofs.Common.{◌∙◌, [], true, refl, sym, map, true≢false}
+use Rattle.std.proofs.Common.{◌∙◌, [], true, refl, sym, ap, map, true≢false}
 use Rattle.setl_program.specs.code.Plain.{plain_program, plain_declared}
 use Rattle.setl_top.specs.Trials.{trial_input}
 use Rattle.setl_top.specs.code.Tries.{trial_done}
@@ -9,7 +9,7 @@ use Rattle.setl_top.proofs.trial.tell_trial.Goals as goal
 
 pub returns-then-is_done : goal.returns-then-is_done
 returns-then-is_done g c =
-    trial_done c.args.run.printed _ (done_then c.args.seed c.args.nodes (plain_program c.args.program.now) c.args.run.printed c.args.run.end c.requires.accepted c.requires.ran (c.is_done.ensures.0 c.if-is_done.true)) c.write_trial.ensures
+    trial_done c.args.run.printed _ (done_then c.args.seed c.args.nodes (plain_program c.args.program.now) c.args.run.printed c.args.run.end c.requires.accepted c.requires.ran (c.is_done.ensures.0 c.if-is_done.true)) (rw c.held.ensures at c.write_trial.ensures)
 
 pub tell_end-requires : goal.tell_end-requires
 tell_end-requires g c =
@@ -25,4 +25,4 @@ returns g c =
     let program = plain_program c.args.program.now in
     let run = c.args.run in
     ended_then c.args.seed c.args.nodes program run.printed _ _ _ _ _ run.end _ c.requires.accepted c.requires.ran (λ is. true≢false (sym (c.is_done.ensures.1 is) ∙ c.if-is_done.false)) (record { held = refl; count = refl })
-    (tells_then (map plain_declared c.as_slice.result.now) program.modes _ (watched [] []) run.end _ _ _ _ _ _ _ refl refl refl refl c.tell_end.ensures.told)
+    (tells_then (map plain_declared c.as_slice-declared.result.now) program.modes _ (watched [] []) run.end _ _ _ _ _ _ _ (ap (λ ds. map plain_declared ds) c.as_slice-declared.ensures) (ap (λ bytes. watched [] bytes) c.new.ensures.items) refl refl c.tell_end.ensures.told)
