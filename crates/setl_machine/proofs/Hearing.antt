@@ -4,7 +4,8 @@ use Rattle.setl_run.specs.Events as run
 use Rattle.setl_run.specs.Run.{Store, State, Next, Goes, Ends, settle, step}
 use Rattle.setl_run.specs.Run as runs
 use Rattle.setl_model.specs.Calls.{bindings}
-use Rattle.setl_watch.specs.Notices.{noticed, notice_of}
+use Rattle.setl_watch.specs.Notices.{noticed}
+use Rattle.setl_watch.specs.code.NoticeOf.{notice_of}
 use Rattle.setl_watch.specs.Watches.{Watched, watched, told_each, told_all, ToldInParts}
 use Rattle.setl_watch.specs.declared.event.Event.{Event}
 use Rattle.setl_code.specs.Code.{Code, Instr, Step, CallBody}

@@ -13,7 +13,8 @@ use Rattle.setl_model.specs.Core.{Selected}
 use Rattle.setl_model.specs.Places.{Taken, TakesOut, IsEmpty, CannotTake, part_at_all, take_out}
 use Rattle.setl_model.specs.World.{World}
 use Rattle.setl_program.specs.declared.kinds.Taking.{Taking}
-use Rattle.setl_watch.specs.Notices.{Printed as PrintNotice, noticed, notice_of, without_last}
+use Rattle.setl_watch.specs.Notices.{Printed as PrintNotice, noticed, without_last}
+use Rattle.setl_watch.specs.code.NoticeOf.{notice_of}
 use Rattle.setl_watch.specs.declared.event.Event.{Event}
 use Rattle.setl_code.specs.declared.code.Slot.{Slot}
 use Rattle.setl_code.specs.declared.code.Slot.TheVariants as slot

@@ -4,7 +4,8 @@ use Rattle.std.specs.Global.{Vec}
 use Rattle.setl_run.specs.Events as run
 use Rattle.setl_run.specs.Run.{Next, Goes, Ends}
 use Rattle.setl_run.specs.Run as runs
-use Rattle.setl_watch.specs.Notices.{noticed, notice_of}
+use Rattle.setl_watch.specs.Notices.{noticed}
+use Rattle.setl_watch.specs.code.NoticeOf.{notice_of}
 use Rattle.setl_watch.specs.Watches.{Watched, told_all}
 use Rattle.setl_watch.specs.declared.event.Event.{Event}
 use Rattle.setl_code.specs.Code.{Code, Instr}

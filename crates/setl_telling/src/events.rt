@@ -5,7 +5,8 @@ ghost use Rattle.setl_value.specs.code.DatumOf.{part};
 ghost use Rattle.setl_program.specs.ProgramOf.{parameter_of};
 ghost use Rattle.setl_code.specs.Plain.{plain_code};
 ghost use Rattle.setl_model.specs.Calls.{bindings};
-ghost use Rattle.setl_watch.specs.Notices.{Called as CallNotice, noticed, notice_of};
+ghost use Rattle.setl_watch.specs.Notices.{Called as CallNotice, noticed};
+ghost use Rattle.setl_watch.specs.code.NoticeOf.{notice_of};
 ghost use Rattle.setl_telling.specs.Told.{return_told, stores_told};
 ghost use Rattle.setl_telling.specs.Notes.{told_name, variable_of, own_told, slot_told, store_notices, call_notices};
 

@@ -99,6 +99,7 @@ fn halves(alloc: Global, full: &[Value], i: usize, v: Value) -> Result<Vec<Page>
     add_copies(&mut left, full)?;
     left.insert(i, v)?;
     let right = left.split_off(MOST / 2)?;
+    left.shrink_to_fit();
     two_pages(alloc, left, right)
 }
 

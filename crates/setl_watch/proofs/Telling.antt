@@ -3,7 +3,7 @@ use Rattle.std.proofs.Common.{◌≡◌, ◌<◌, ◌+◌, ℕ, zero, suc, true,
 use Rattle.std.specs.List.{remove}
 use Rattle.setl_watch.specs.Notices.{Notice}
 use Rattle.setl_watch.specs.Watches.{Watch, after, has_enough, reported, with_watch, told}
-use Rattle.setl_watch.specs.Telling.{behind, told_from}
+use Rattle.setl_watch.specs.code.Telling.{behind, told_from}
 
 module _ {B : Type 0} (f : B → Watch) (e : Notice) where
   more_suc : (bs : List B) (at : ℕ) (b c : B) (reports : List ℕ) → at < length bs → b ≡ slice_index_or bs at b → f c ≡ after (f b) e → has_enough (f b) e ≡ false → told_from (suc at) e (map f (slice_set bs at c)) reports ≡ told_from at e (map f bs) reports

@@ -2,4 +2,4 @@ pub mod Notices
 pub mod Watches
 pub mod Traces
 pub mod Covers
-pub mod Telling
+pub mod code

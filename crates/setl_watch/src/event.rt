@@ -2,7 +2,8 @@
 
 ghost use Rattle.std.specs.Prelude.{◌≡◌, IfOk};
 ghost use Rattle.setl_value.specs.code.DatumOf.{part};
-ghost use Rattle.setl_watch.specs.Notices.{Stored, notice_of};
+ghost use Rattle.setl_watch.specs.Notices.{Stored};
+ghost use Rattle.setl_watch.specs.code.NoticeOf.{notice_of};
 
 use crate::Memory;
 use setl_tree::Text;

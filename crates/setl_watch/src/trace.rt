@@ -1,7 +1,7 @@
 //! The trace of a run.
 
 ghost use Rattle.std.specs.Prelude.{◌≡◌, ◌++◌, ◌∷◌, [], IfOk, OnOk, OnErr};
-ghost use Rattle.setl_watch.specs.Notices.{notice_of};
+ghost use Rattle.setl_watch.specs.code.NoticeOf.{notice_of};
 ghost use Rattle.setl_watch.specs.Traces.{trace, trace_report};
 
 use crate::text::push_event;
@@ -23,7 +23,9 @@ pub struct Trace {
 impl Model for Trace {
     ghost use Rattle.std.specs.Prelude.{List, map};
     ghost use Rattle.std.specs.Coded.{coded_list};
-    ghost use Rattle.setl_watch.specs.Notices.{Notice, notice_code, notice_of};
+    ghost use Rattle.setl_watch.specs.Notices.{Notice};
+    ghost use Rattle.setl_watch.specs.code.NoticeCode.{notice_code};
+    ghost use Rattle.setl_watch.specs.code.NoticeOf.{notice_of};
 
     ghost Value = { List Notice };
 

@@ -1,9 +1,9 @@
 //! Watchers, and telling them an event.
 
 ghost use Rattle.std.specs.Prelude.{◌≡◌, ◌≤◌, ◌<◌, ◌-◌, ◌++◌, length, map, take, drop, true, false, IfOk, OnOk, OnErr};
-ghost use Rattle.setl_watch.specs.Notices.{notice_of};
+ghost use Rattle.setl_watch.specs.code.NoticeOf.{notice_of};
 ghost use Rattle.setl_watch.specs.Watches.{Watch, after, has_enough, reported, all_reported, watched, told, told_each};
-ghost use Rattle.setl_watch.specs.Telling.{told_from};
+ghost use Rattle.setl_watch.specs.code.Telling.{told_from};
 
 use crate::{Event, Memory};
 use std::alloc::AllocError;

@@ -1,7 +1,7 @@
 use Rattle.std.proofs.Common.{◌≡◌, ◌∙◌, ◌+◌, map, refl, sym, ap, subst}
 use Rattle.std.proofs.lemmas.Bool.{eqb-true}
 use Rattle.setl_code.specs.Plain.{plain_code}
-use Rattle.setl_watch.specs.Notices.{notice_of}
+use Rattle.setl_watch.specs.code.NoticeOf.{notice_of}
 use Rattle.setl_watch.specs.Watches.{watched, told_each}
 use Rattle.setl_machine.specs.Declaring.{modes_of, Serves}
 use Rattle.setl_machine.specs.declared.end.End.TheVariants.{Paused}

@@ -2,7 +2,8 @@ use Rattle.std.proofs.Common.{rules, ◌≡◌, ◌∙◌, ◌++◌, ◌∷◌, 
 use Rattle.setl_value.specs.code.DatumOf.{part}
 use Rattle.setl_program.specs.ProgramOf.{parameter_of}
 use Rattle.setl_model.specs.Calls.{bindings}
-use Rattle.setl_watch.specs.Notices.{Called as CallNotice, noticed, notice_of}
+use Rattle.setl_watch.specs.Notices.{Called as CallNotice, noticed}
+use Rattle.setl_watch.specs.code.NoticeOf.{notice_of}
 use Rattle.setl_watch.specs.declared.event.Event.TheVariants as told
 use Rattle.setl_telling.specs.Told.{stores_told}
 use Rattle.setl_telling.proofs.Names.{call_there}

@@ -2,7 +2,8 @@ use Rattle.std.proofs.Common.{◌≡◌, ◌++◌, ℕ, drop, map}
 use Rattle.setl_value.specs.code.DatumOf.{part}
 use Rattle.setl_program.specs.ProgramOf.{parameter_of}
 use Rattle.setl_model.specs.Calls.{bindings}
-use Rattle.setl_watch.specs.Notices.{noticed, notice_of}
+use Rattle.setl_watch.specs.Notices.{noticed}
+use Rattle.setl_watch.specs.code.NoticeOf.{notice_of}
 use Rattle.setl_telling.specs.Told.{stores_told}
 use Rattle.setl_telling.proofs.events.push_bindings.Given as goal
 

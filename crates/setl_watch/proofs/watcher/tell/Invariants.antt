@@ -1,6 +1,6 @@
 use Rattle.std.proofs.Common.{◌≡◌, ◌≤◌, ◌-◌, length, map}
-use Rattle.setl_watch.specs.Notices.{notice_of}
-use Rattle.setl_watch.specs.Telling.{told_from}
+use Rattle.setl_watch.specs.code.NoticeOf.{notice_of}
+use Rattle.setl_watch.specs.code.Telling.{told_from}
 use Rattle.setl_watch.proofs.watcher.tell.Given as goal
 
 abbrev pub invariant-loop-at : goal.invariant-loop-at

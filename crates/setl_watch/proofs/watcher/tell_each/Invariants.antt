@@ -1,5 +1,5 @@
 use Rattle.std.proofs.Common.{◌≡◌, drop, map}
-use Rattle.setl_watch.specs.Notices.{notice_of}
+use Rattle.setl_watch.specs.code.NoticeOf.{notice_of}
 use Rattle.setl_watch.specs.Watches.{watched, told_each}
 use Rattle.setl_watch.proofs.watcher.tell_each.Given as goal
 

@@ -1,4 +1,4 @@
-use Rattle.setl_watch.specs.Notices.{notice_of}
+use Rattle.setl_watch.specs.code.NoticeOf.{notice_of}
 use Rattle.setl_watch.proofs.Telling.{more_told, enough_told}
 use Rattle.setl_watch.proofs.watcher.tell_one.Goals as goal
 

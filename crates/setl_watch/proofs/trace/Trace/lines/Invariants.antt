@@ -1,5 +1,5 @@
 use Rattle.std.proofs.Common.{◌≡◌, ◌++◌, drop, map}
-use Rattle.setl_watch.specs.Notices.{notice_of}
+use Rattle.setl_watch.specs.code.NoticeOf.{notice_of}
 use Rattle.setl_watch.specs.Traces.{trace_report}
 use Rattle.setl_watch.proofs.trace.Trace.lines.Given as goal
 

@@ -1,0 +1,3 @@
+pub mod NoticeCode
+pub mod NoticeOf
+pub mod Telling
