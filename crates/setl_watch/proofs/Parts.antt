@@ -1,7 +1,6 @@
 -- Telling in parts.
 use Rattle.std.proofs.Common.{◌≡◌, ◌∙◌, List, [], ◌∷◌, ◌++◌, map, refl, ap}
 use Rattle.std.proofs.lemmas.List.{map-append}
-use Rattle.setl_run.specs.Events.{Event}
 use Rattle.setl_watch.specs.Notices.{Notice, noticed}
 use Rattle.setl_watch.specs.Watches.{Watched, told, told_each, ToldInParts}
 
