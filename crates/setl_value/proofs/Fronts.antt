@@ -177,7 +177,7 @@ deep_append : (xs ys : List (Option Value)) → deep_of (xs ++ ys) ≡ max (deep
 deep_append [] ys = deep_none ys
 deep_append (x ∷ xs) ys = omega (arith, deep_cons x (xs ++ ys), deep_cons x xs, deep_append xs ys)
 
-ends_later : (p q : Option Datum) (ps : List (Option Datum)) → EndsIn q ps → EndsIn p (q ∷ ps)
+pub ends_later : (p q : Option Datum) (ps : List (Option Datum)) → EndsIn q ps → EndsIn p (q ∷ ps)
 ends_later None q ps h = h
 ends_later (Some d) q ps h = h
 

@@ -1,5 +1,6 @@
 pub mod DatumCode
 pub mod Body
+pub mod Changing
 pub mod Counted
 pub mod DatumOf
 pub mod Falls

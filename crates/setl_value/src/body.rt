@@ -1,21 +1,23 @@
 //! The body of a set without its owner: pages, and what is kept beside them.
 #![tactic(auto, unfolding(crate::specs::code::Places::HasPlace, crate::specs::code::Places::rank))]
 
-ghost use Rattle.std.specs.Prelude.{◌≡◌, ◌<◌, ◌≤◌, ◌+◌, ◌^◌, ◌++◌, ◌⊎◌, [], length, slice_get, take, drop, map, IfOk, OnErr, OnOk, Some};
+ghost use Rattle.std.specs.Prelude.{◌≡◌, ◌<◌, ◌≤◌, ◌+◌, ◌^◌, ◌++◌, ◌⊎◌, [], length, slice_get, slice_set, take, drop, map, IfOk, IfNone, IfSome, OnErr, OnOk, Some, None};
 ghost use Rattle.std.specs.List.{insert, remove, AllByRecursion};
 ghost use Rattle.setl_value.specs.code.Body.{Members, IsPage, joined};
-ghost use Rattle.setl_value.specs.Datum.{depth, set_of};
+ghost use Rattle.setl_value.specs.code.Changing.{AlwaysChanges, ChangesPair, PairGrows};
+ghost use Rattle.setl_value.specs.Datum.{Datum, depth, set_of};
 ghost use Rattle.setl_value.specs.code.DatumOf.{datum, page};
 ghost use Rattle.setl_value.specs.code.Exchange.{PutsOnPage};
 ghost use Rattle.setl_value.specs.Order.{IsRising};
-ghost use Rattle.setl_value.specs.Pairs.{is_map};
+ghost use Rattle.setl_value.specs.Pairs.{is_map, pair_parts};
 ghost use Rattle.setl_value.specs.code.Places.{HasPlace, IsIn, rank, rank_in, IsBound, page_at};
 ghost use Rattle.setl_value.specs.code.Sought.{sought};
 ghost use Rattle.setl_value.specs.WellFormed.{IsValue, IsSetList};
 
 use crate::counts::{depth_of, depth_without, learn_members, leaving, other, others_in};
 use crate::page_list::{
-    Page, back, cut_page, members_at, paged, pages_from, put_page, replace_pages, size_at,
+    Page, back, change_second, cut_page, member_at, members_at, paged, pages_from, put_page,
+    replace_pages, size_at,
 };
 use crate::places::{Cursor, START, Sought, bound_in, page_in};
 use crate::sets::MemberIter;
@@ -174,6 +176,34 @@ impl Pages {
         self.deep = depth_without(self.list.as_slice(), self.deep, v.depth());
         self.others -= other(&v);
         Ok(v)
+    }
+
+    /// Lets `change` change the second part of the member at a place where it stands, unless that is no pair.
+    pub(crate) fn change_second<R, F: FnOnce(&mut Value) -> R>(
+        &mut self,
+        c: Cursor,
+        change: F,
+    ) -> Result<Option<R>, Memory>
+        requires place { HasPlace self.old c }
+        requires there { rank self.old c < length (Members self.old) }
+        requires callable { F.IsAlwaysCallable change }
+        requires grows { (m : Datum) → slice_get (Members self.old) (rank self.old c) ≡ Some m → PairGrows F.FnOnce change m }
+        requires rising { (m : Datum) → slice_get (Members self.old) (rank self.old c) ≡ Some m → AlwaysChanges F.FnOnce change m (λ n. IsRising (slice_set (Members self.old) (rank self.old c) n)) }
+        ensures changed { IfOk result (λ o. IfSome o (λ r. (m n : Datum) × (slice_get (Members self.old) (rank self.old c) ≡ Some m) × ChangesPair F.FnOnce change m r n × (Members self.new ≡ slice_set (Members self.old) (rank self.old c) n) × (n ≡ m → self.new ≡ self.old))) }
+        ensures nothing { IfOk result (λ o. IfNone o ((m : Datum) × (slice_get (Members self.old) (rank self.old c) ≡ Some m) × (pair_parts m ≡ None))) }
+        ensures unchanged { IfOk result (λ o. IfNone o (self.new ≡ self.old)) }
+        ensures refused { OnErr result (self.new ≡ self.old) }
+    {
+        let place = standing(self.list.as_slice(), c);
+        match change_second(&mut self.list, place.page, place.index, change)? {
+            None => Ok(None),
+            Some(answer) => {
+                let member = member_at(self.list.as_slice(), place.page, place.index);
+                member.learn();
+                self.deep = self.deep.max(member.depth() + 1);
+                Ok(Some(answer))
+            }
+        }
     }
 
     /// Puts members in the place of the `count` ones from a place on.

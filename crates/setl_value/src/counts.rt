@@ -84,7 +84,7 @@ pub(crate) fn other(v: &Value) -> usize
 
 // Whether a tuple is a pair.
 #[tactic(auto, using(crate::proofs::Others::pair_test))]
-fn is_pair(t: &TupleBody) -> bool
+pub(crate) fn is_pair(t: &TupleBody) -> bool
     ensures { result ≡ is_some (pair_parts (tuple_of t.now)) }
 {
     t.len() == 2 && is_there(t, 0) && is_there(t, 1)

@@ -1,15 +1,16 @@
 //! The body of a set: a strictly rising list of members in shared pages, and its depth.
 #![tactic(auto, unfolding(crate::specs::code::Places::HasPlace, crate::specs::code::Places::rank))]
 
-ghost use Rattle.std.specs.Prelude.{◌≡◌, ◌<◌, ◌≤◌, ◌+◌, ◌++◌, [], length, slice_get, take, drop, map, IfOk, OnErr, OnOk, Some};
+ghost use Rattle.std.specs.Prelude.{◌≡◌, ◌<◌, ◌≤◌, ◌+◌, ◌++◌, [], length, slice_get, slice_set, take, drop, map, IfOk, IfNone, IfSome, OnErr, OnOk, Some, None};
 ghost use Rattle.std.specs.List.{insert, remove, AllByRecursion};
 ghost use Rattle.std.specs.Iterator.{YieldsFirstBy, item_count};
 ghost use Rattle.setl_value.specs.code.Body.{Members, IsPage};
-ghost use Rattle.setl_value.specs.Datum.{depth, set_of};
+ghost use Rattle.setl_value.specs.code.Changing.{AlwaysChanges, ChangesPair, PairGrows};
+ghost use Rattle.setl_value.specs.Datum.{Datum, depth, set_of};
 ghost use Rattle.setl_value.specs.code.DatumOf.{datum};
 ghost use Rattle.setl_value.specs.code.Exchange.{PutsOnPage};
 ghost use Rattle.setl_value.specs.Order.{IsRising};
-ghost use Rattle.setl_value.specs.Pairs.{is_map};
+ghost use Rattle.setl_value.specs.Pairs.{is_map, pair_parts};
 ghost use Rattle.setl_value.specs.code.Places.{HasPlace, rank};
 ghost use Rattle.setl_value.specs.WellFormed.{IsValue, IsSetList};
 
@@ -109,6 +110,28 @@ impl SetBody {
     {
         let place = self.place_of(from);
         self.replace_in(place, to - from, by)
+    }
+
+    /// Lets `change` change the second part of the member at a place where it stands, to one that is at least as deep and
+    /// at most 498 deep, so that the list stays rising, and answers what `change` answers. Where the member is no pair,
+    /// the answer is None, and `change` isn't called. Where memory is refused, neither, and the set is as before.
+    pub fn change_second<R, F: FnOnce(&mut Value) -> R>(
+        &mut self,
+        c: Cursor,
+        change: F,
+    ) -> Result<Option<R>, Memory>
+        requires place { HasPlace self.old c }
+        requires there { rank self.old c < length (Members self.old) }
+        requires callable { F.IsAlwaysCallable change }
+        requires grows { (m : Datum) → slice_get (Members self.old) (rank self.old c) ≡ Some m → PairGrows F.FnOnce change m }
+        requires rising { (m : Datum) → slice_get (Members self.old) (rank self.old c) ≡ Some m → AlwaysChanges F.FnOnce change m (λ n. IsRising (slice_set (Members self.old) (rank self.old c) n)) }
+        ensures changed { IfOk result (λ o. IfSome o (λ r. (m n : Datum) × (slice_get (Members self.old) (rank self.old c) ≡ Some m) × ChangesPair F.FnOnce change m r n × (Members self.new ≡ slice_set (Members self.old) (rank self.old c) n) × (n ≡ m → self.new ≡ self.old))) }
+        ensures nothing { IfOk result (λ o. IfNone o ((m : Datum) × (slice_get (Members self.old) (rank self.old c) ≡ Some m) × (pair_parts m ≡ None))) }
+        ensures unchanged { IfOk result (λ o. IfNone o (self.new ≡ self.old)) }
+        ensures refused { OnErr result (self.new ≡ self.old) }
+    {
+        let pages = Rc::make_mut(&mut self.body)?;
+        pages.change_second(c, change)
     }
 
     /// The place before all members.

@@ -1,9 +1,11 @@
 //! The body of a tuple: a list of components that doesn't end in `om`, and its depth. What was taken off at the front may
 //! still stand in the list, before the place where the tuple starts.
 
-ghost use Rattle.std.specs.Prelude.{◌≡◌, ◌<◌, ◌≤◌, ◌+◌, ◌-◌, ◌++◌, ◌∷◌, ◌⊎◌, length, slice_get, slice_set, take, drop, map, max, unwrap_or, is_none, IfOk, OnErr, OnOk, MatchOption, Some, None};
+ghost use Rattle.std.specs.Prelude.{◌≡◌, ◌<◌, ◌≤◌, ◌+◌, ◌-◌, ◌++◌, ◌∷◌, ◌⊎◌, length, slice_get, slice_set, take, drop, map, max, unwrap_or, is_none, IfOk, IfNone, IfSome, OnErr, OnOk, MatchOption, Some, None};
+ghost use Rattle.std.specs.Fn.{FnOnceReturnsAtMut};
 ghost use Rattle.std.specs.List.{remove, AllByRecursion};
-ghost use Rattle.setl_value.specs.Datum.{depth, part_depth, tuple_of};
+ghost use Rattle.setl_value.specs.code.Changing.{Grows, Leaves};
+ghost use Rattle.setl_value.specs.Datum.{Datum, depth, part_depth, tuple_of};
 ghost use Rattle.setl_value.specs.code.DatumOf.{datum, part};
 ghost use Rattle.setl_value.specs.WellFormed.{IsTupleList, PartIsWellFormed, trim, put};
 
@@ -61,6 +63,34 @@ impl TupleBody {
         put_part(&mut self.parts, self.start, i, v)?;
         self.deep = depth_after(from(&self.parts, self.start), self.deep, gone, came);
         Ok(())
+    }
+
+    /// Lets `change` change the i-th component where it stands, to one that is at least as deep and at most 499 deep, and
+    /// answers what `change` answers. Where the component is `om` or past the end, the answer is None, and `change` isn't
+    /// called. Where memory is refused, neither, and the tuple is as before.
+    pub fn change_at<R, F: FnOnce(&mut Value) -> R>(
+        &mut self,
+        i: usize,
+        change: F,
+    ) -> Result<Option<R>, Memory>
+        requires callable { F.IsAlwaysCallable change }
+        requires grows { (d : Datum) → slice_get self.old i ≡ Some (Some d) → Grows F.FnOnce change d 500 }
+        ensures changed { IfOk result (λ o. IfSome o (λ r. (d e : Datum) × (slice_get self.old i ≡ Some (Some d)) × Leaves F.FnOnce change d r e × (self.new ≡ slice_set self.old i (Some e)))) }
+        ensures nothing { IfOk result (λ o. IfNone o ((slice_get self.old i ≡ Some None) ⊎ (slice_get self.old i ≡ None))) }
+        ensures unchanged { IfOk result (λ o. IfNone o (self.new ≡ self.old)) }
+        ensures refused { OnErr result (self.new ≡ self.old) }
+    {
+        if i >= self.len() {
+            return Ok(None);
+        }
+        match change_part(&mut self.parts, self.start + i, change)? {
+            None => Ok(None),
+            Some(answer) => {
+                let came = depth_at(from(&self.parts, self.start), i);
+                self.deep = self.deep.max(came + 1);
+                Ok(Some(answer))
+            }
+        }
     }
 
     /// Puts the components of another tuple after the last one. Where memory is refused, the tuple is as before.
@@ -166,6 +196,51 @@ fn settled(
     }
     drop_front(parts, start)?;
     Ok(0)
+}
+
+// Lets `change` change a component where it stands, unless it is `om` or past the end.
+fn change_part<R, F: FnOnce(&mut Value) -> R>(
+    parts: &mut Rc<Vec<Option<Value>>>,
+    at: usize,
+    change: F,
+) -> Result<Option<R>, Memory>
+    requires callable { F.IsAlwaysCallable change }
+    ensures changed { IfOk result (λ o. IfSome o (λ r. (v w : Value) × (slice_get parts.old.value.items at ≡ Some (Some v)) × FnOnceReturnsAtMut F.FnOnce change v r w × (parts.new.value.items ≡ slice_set parts.old.value.items at (Some w)))) }
+    ensures nothing { IfOk result (λ o. IfNone o ((slice_get parts.old.value.items at ≡ Some None) ⊎ (slice_get parts.old.value.items at ≡ None))) }
+    ensures unchanged { IfOk result (λ o. IfNone o (parts.new.value.items ≡ parts.old.value.items)) }
+    ensures refused { OnErr result (parts.new.value.items ≡ parts.old.value.items) }
+{
+    let list = Rc::make_mut(parts)?;
+    Ok(change_item(list, at, change))
+}
+
+fn change_item<R, F: FnOnce(&mut Value) -> R>(
+    list: &mut Vec<Option<Value>>,
+    at: usize,
+    change: F,
+) -> Option<R>
+    requires callable { F.IsAlwaysCallable change }
+    ensures changed { IfSome result (λ r. (v w : Value) × (slice_get list.old.items at ≡ Some (Some v)) × FnOnceReturnsAtMut F.FnOnce change v r w × (list.new.items ≡ slice_set list.old.items at (Some w))) }
+    ensures nothing { IfNone result ((slice_get list.old.items at ≡ Some None) ⊎ (slice_get list.old.items at ≡ None)) }
+    ensures unchanged { IfNone result (list.new.items ≡ list.old.items) }
+{
+    if at < list.len() {
+        change_there(&mut list[at], change)
+    } else {
+        None
+    }
+}
+
+fn change_there<R, F: FnOnce(&mut Value) -> R>(part: &mut Option<Value>, change: F) -> Option<R>
+    requires callable { F.IsAlwaysCallable change }
+    ensures changed { IfSome result (λ r. (v w : Value) × (part.old ≡ Some v) × FnOnceReturnsAtMut F.FnOnce change v r w × (part.new ≡ Some w)) }
+    ensures nothing { IfNone result (part.old ≡ None) }
+    ensures unchanged { IfNone result (part.new ≡ part.old) }
+{
+    match part {
+        Some(v) => Some(change(v)),
+        None => None,
+    }
 }
 
 // Writes the i-th component from `start` on, or one more at the end, and drops the `om` at the end.
@@ -314,21 +389,30 @@ fn learn_part(p: &Option<Value>)
 }
 
 fn depth_of_part(p: &Option<Value>) -> u32
-    ensures { result ≡ part_depth (part p.now) }
+    ensures depth { result ≡ part_depth (part p.now) }
+    ensures small { result ≤ 500 }
 {
     match p {
         None => 0,
-        Some(v) => v.depth(),
+        Some(v) => {
+            v.learn();
+            v.depth()
+        }
     }
 }
 
-// The depth of the i-th component, and 0 past the end.
+// The depth of the i-th component, and 0 past the end. It hands a proof that the component keeps the rules of values.
 fn depth_at(parts: &[Option<Value>], i: usize) -> u32
-    ensures { result ≡ part_depth (unwrap_or (slice_get (map part parts.now) i) None) }
+    ensures depth { result ≡ part_depth (unwrap_or (slice_get (map part parts.now) i) None) }
+    ensures small { result ≤ 500 }
+    ensures stands { PartIsWellFormed (unwrap_or (slice_get (map part parts.now) i) None) }
 {
     match parts.get(i) {
         None => 0,
-        Some(p) => depth_of_part(p),
+        Some(p) => {
+            learn_part(p);
+            depth_of_part(p)
+        }
     }
 }
 

@@ -1,5 +1,5 @@
 -- What a change of a part of the members of a set does to its pages.
-use Rattle.std.specs.Prelude.{◌≡◌, ℕ, zero, suc, List, [], ◌∷◌, ◌++◌, length, map, nat_lt, take, drop, if◌then◌else◌, refl}
+use Rattle.std.specs.Prelude.{◌≡◌, ℕ, zero, suc, List, [], ◌∷◌, ◌++◌, length, map, nat_lt, take, drop, slice_set, if◌then◌else◌, refl}
 use Rattle.std.specs.List.{AllByRecursion}
 use Rattle.setl_value.specs.code.Body.{IsPage, joined}
 use Rattle.setl_value.specs.Datum.{Datum}
@@ -12,6 +12,10 @@ pub record Exchanges (old new : List (List Datum)) (k i l j : ℕ) (ms : List Da
   pub pages : AllByRecursion IsPage by
   pub whole : joined by ≡ take i (page_at old k) ++ (ms ++ drop j (page_at old l))
   pub changed : new ≡ take k old ++ (by ++ drop (suc l) old)
+
+-- the pages after m takes the place of the i-th member of the k-th page
+abbrev pub with_member : List (List Datum) → ℕ → ℕ → Datum → List (List Datum)
+with_member ps k i m = slice_set ps k (slice_set (page_at ps k) i m)
 
 -- how many members each page has
 abbrev pub page_sizes : {X : Type 0} → List (List X) → List ℕ

@@ -1,4 +1,4 @@
-use Rattle.std.proofs.Common.{◌≡◌, ◌∙◌, ◌++◌, ap, arith, sym, subst, map, drop}
+use Rattle.std.proofs.Common.{◌≡◌, ◌∙◌, ap, arith, sym, subst, map, drop}
 use Rattle.setl_value.specs.code.DatumOf.{part}
 use Rattle.setl_value.specs.WellFormed.{IsTupleList}
 use Rattle.setl_value.proofs.Fronts.{deep_of, tuple_append, behind_appended, deep_behind, deep_appended, long_appended}

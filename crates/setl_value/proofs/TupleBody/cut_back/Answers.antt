@@ -24,7 +24,7 @@ depth_after-self-inside-requires-clause-changed c =
     let w : map part (drop s xs) ≡ ps = ap (map part) c.in_ok-self-inside.ensures.same ∙ c.self.view_is in
     let last = c.in_ok-last.last in
     let gone : c.depth_at-gone.result ≡ part_depth (unwrap_or (slice_get ps (c.len.result - 1)) None) =
-    c.depth_at-gone.ensures
+    c.depth_at-gone.ensures.depth
     ∙ ap (λ l. part_depth (unwrap_or (slice_get l (c.len.result - 1)) None)) (ap (map part) (c.from.ensures ∙ ap (drop c.self.inside.start) (c.deref-2.ensures.value ∙ ap (λ v. v.items) c.deref.ensures)) ∙ c.self.view_is) in
     let left : map part c.from-2.result.now ≡ trim (remove ps (length ps - 1)) =
     ap (map part) (c.from-2.ensures ∙ ap (drop s) (c.deref-4.ensures.value ∙ ap (λ v. v.items) c.deref-3.ensures))
@@ -41,7 +41,7 @@ invariant_of-self-2 c =
     let w : map part (drop s xs) ≡ ps = ap (map part) c.in_ok-self-inside.ensures.same ∙ c.self.view_is in
     let last = c.in_ok-last.last in
     let gone : c.depth_at-gone.result ≡ part_depth (unwrap_or (slice_get ps (c.len.result - 1)) None) =
-    c.depth_at-gone.ensures
+    c.depth_at-gone.ensures.depth
     ∙ ap (λ l. part_depth (unwrap_or (slice_get l (c.len.result - 1)) None)) (ap (map part) (c.from.ensures ∙ ap (drop c.self.inside.start) (c.deref-2.ensures.value ∙ ap (λ v. v.items) c.deref.ensures)) ∙ c.self.view_is) in
     let left : map part (drop s ys) ≡ trim (remove ps (length ps - 1)) = end_cut s xs ps w c.requires (map part (drop s ys)) c.in_ok-last.ensures.cut in
     let deep : c.depth_after-self-inside.result ≡ deep_of (drop s ys) =

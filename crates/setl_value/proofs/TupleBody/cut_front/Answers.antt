@@ -21,7 +21,7 @@ depth_after-deep-requires-clause-changed c =
     let ps = map part (drop s xs) in
     let first : c.from.result.now ≡ drop s xs = c.from.ensures ∙ ap (drop s) (c.deref-2.ensures.value ∙ ap (λ v. v.items) c.deref.ensures) in
     let rest : c.from-2.result.now ≡ drop (s + 1) xs = c.from-2.ensures ∙ ap (drop (s + 1)) (c.deref-4.ensures.value ∙ ap (λ v. v.items) c.deref-3.ensures) in
-    let gone : c.depth_at-gone.result ≡ part_depth (unwrap_or (slice_get ps 0) None) = c.depth_at-gone.ensures ∙ ap (λ l. part_depth (unwrap_or (slice_get (map part l) 0) None)) first in
+    let gone : c.depth_at-gone.result ≡ part_depth (unwrap_or (slice_get ps 0) None) = c.depth_at-gone.ensures.depth ∙ ap (λ l. part_depth (unwrap_or (slice_get (map part l) 0) None)) first in
     omega (
       arith,
       falls ps (map part c.from-2.result.now) c.depth_at-gone.result (subst (λ l. 0 < length l) (sym c.self.view_is) c.requires) (ap (map part) rest ∙ behind_front s xs) gone,

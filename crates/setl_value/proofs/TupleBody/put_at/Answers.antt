@@ -12,7 +12,7 @@ pub depth_after-self-inside-requires-clause-small : goal.depth_after-self-inside
 depth_after-self-inside-requires-clause-small c =
     let ps = c.args.self.now in
     let p = part c.args.v in
-    (omega (arith, c.self.invariant.1, c.self.invariant.0.1), omega (arith, c.depth_of_part-came.ensures, part_in_tuple ps c.args.i p, trim_depth (put ps c.args.i p), c.requires.shallow))
+    (omega (arith, c.self.invariant.1, c.self.invariant.0.1), omega (arith, c.depth_of_part-came.ensures.depth, part_in_tuple ps c.args.i p, trim_depth (put ps c.args.i p), c.requires.shallow))
 
 pub depth_after-self-inside-requires-clause-changed : goal.depth_after-self-inside-requires-clause-changed
 depth_after-self-inside-requires-clause-changed c =
@@ -24,9 +24,9 @@ depth_after-self-inside-requires-clause-changed c =
     ap (map part) (c.from-2.ensures ∙ ap (drop c.in_ok-self-inside.field-0) (c.deref-4.ensures.value ∙ ap (λ v. v.items) c.deref-3.ensures))
     ∙ c.in_ok-put_part.ensures.put ∙ ap (λ l. trim (put l i p)) (ap (map part) c.in_ok-self-inside.ensures.same ∙ c.self.view_is) in
     let gone : c.depth_at-gone.result ≡ part_depth (unwrap_or (slice_get ps i) None) =
-    c.depth_at-gone.ensures
+    c.depth_at-gone.ensures.depth
     ∙ ap (λ l. part_depth (unwrap_or (slice_get l i) None)) (ap (map part) (c.from.ensures ∙ ap (drop s) (c.deref-2.ensures.value ∙ ap (λ v. v.items) c.deref.ensures)) ∙ c.self.view_is) in
-    omega (arith, ap (λ l. depth (tuple_of l)) now, tuple_with ps i p, gone, c.depth_of_part-came.ensures, c.self.invariant.1, ap (λ l. depth (tuple_of l)) c.self.view_is)
+    omega (arith, ap (λ l. depth (tuple_of l)) now, tuple_with ps i p, gone, c.depth_of_part-came.ensures.depth, c.self.invariant.1, ap (λ l. depth (tuple_of l)) c.self.view_is)
 
 pub depth_after-self-inside-requires-clause-there : goal.depth_after-self-inside-requires-clause-there
 depth_after-self-inside-requires-clause-there c =
@@ -35,7 +35,7 @@ depth_after-self-inside-requires-clause-there c =
     let now : map part c.from-2.result.now ≡ trim (put ps c.args.i p) =
     ap (map part) (c.from-2.ensures ∙ ap (drop c.in_ok-self-inside.field-0) (c.deref-4.ensures.value ∙ ap (λ v. v.items) c.deref-3.ensures))
     ∙ c.in_ok-put_part.ensures.put ∙ ap (λ l. trim (put l c.args.i p)) (ap (map part) c.in_ok-self-inside.ensures.same ∙ c.self.view_is) in
-    omega (arith, ap (λ l. depth (tuple_of l)) now, part_in_tuple ps c.args.i p, c.depth_of_part-came.ensures)
+    omega (arith, ap (λ l. depth (tuple_of l)) now, part_in_tuple ps c.args.i p, c.depth_of_part-came.ensures.depth)
 
 pub invariant_of-self-2 : goal.invariant_of-self-2
 invariant_of-self-2 c =
@@ -46,7 +46,7 @@ invariant_of-self-2 c =
     let xs = c.put_part.new.parts.value.items in
     let now : map part (drop s xs) ≡ trim (put ps i p) = c.in_ok-put_part.ensures.put ∙ ap (λ l. trim (put l i p)) (ap (map part) c.in_ok-self-inside.ensures.same ∙ c.self.view_is) in
     let gone : c.depth_at-gone.result ≡ part_depth (unwrap_or (slice_get ps i) None) =
-    c.depth_at-gone.ensures
+    c.depth_at-gone.ensures.depth
     ∙ ap (λ l. part_depth (unwrap_or (slice_get l i) None)) (ap (map part) (c.from.ensures ∙ ap (drop c.self.inside.start) (c.deref-2.ensures.value ∙ ap (λ v. v.items) c.deref.ensures)) ∙ c.self.view_is) in
     let deep : c.depth_after-self-inside.result ≡ deep_of (drop s xs) =
     c.depth_after-self-inside.ensures ∙ ap deep_of (c.from-2.ensures ∙ ap (drop s) (c.deref-4.ensures.value ∙ ap (λ v. v.items) c.deref-3.ensures)) in
@@ -55,8 +55,8 @@ invariant_of-self-2 c =
       subst IsTupleList (sym now) (tuple_put ps i p (subst IsTupleList c.self.view_is c.self.invariant.0) c.learn_part.ensures c.requires.shallow),
       deep,
       settles s xs c.depth_after-self-inside.result c.self.inside.deep c.depth_at-gone.result c.depth_of_part-came.result c.in_ok-self-inside.ensures.settled deep
-          (omega (arith, tuple_with ps i p, gone, after, before, c.depth_of_part-came.ensures))
-          (omega (arith, part_in_tuple ps i p, after, c.depth_of_part-came.ensures))
-          (omega (arith, c.in_ok-put_part.ensures.shallow, c.in_ok-self-inside.ensures.shallow, c.self.invariant.2, c.depth_of_part-came.ensures)),
+          (omega (arith, tuple_with ps i p, gone, after, before, c.depth_of_part-came.ensures.depth))
+          (omega (arith, part_in_tuple ps i p, after, c.depth_of_part-came.ensures.depth))
+          (omega (arith, c.in_ok-put_part.ensures.shallow, c.in_ok-self-inside.ensures.shallow, c.self.invariant.2, c.depth_of_part-came.ensures.depth)),
       c.in_ok-put_part.ensures.inside,
     )
