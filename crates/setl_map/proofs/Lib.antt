@@ -8,3 +8,5 @@ pub mod MapLaws
 pub mod Depths
 pub mod Only
 pub mod Adding
+pub mod Changing
+pub mod Growing

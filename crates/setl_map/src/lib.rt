@@ -16,7 +16,7 @@ mod maps;
 mod pairs;
 
 pub use gather::gathered;
-pub use maps::{add_image, domain, image, images, lessf, put, put_all, range};
+pub use maps::{add_image, change_image, domain, image, images, lessf, put, put_all, range};
 use setl_value::{Memory, Value};
 
 /// Why a map call gave no result.

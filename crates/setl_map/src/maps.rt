@@ -1,12 +1,14 @@
 //! The calls on maps.
 
-ghost use Rattle.std.specs.Prelude.{◌≡◌, ◌↔◌, ◌⊎◌, ◌<◌, ◌∷◌, [], true, false, map, length, Some, IfOk, OnErr, OnOk, IsTrue, Err, nat_le, nat_lt};
+ghost use Rattle.std.specs.Prelude.{◌≡◌, ◌↔◌, ◌⊎◌, ◌<◌, ◌∷◌, [], true, false, map, length, Some, None, IfOk, IfNone, IfSome, OnErr, OnOk, IsTrue, Err, nat_le, nat_lt};
 ghost use Rattle.setl_value.specs.code.Body.{Members};
-ghost use Rattle.setl_value.specs.Datum.{depth, set_of};
+ghost use Rattle.setl_value.specs.Datum.{Datum, depth, set_of};
+ghost use Rattle.setl_value.specs.code.Changing.{Grows};
 ghost use Rattle.setl_value.specs.code.DatumOf.{datum, part};
 ghost use Rattle.setl_value.specs.Pairs.{is_map, images, pair};
 ghost use Rattle.std.specs.List.{filter_map};
 ghost use Rattle.setl_set.specs.Sets.{insert_datum, set_from};
+ghost use Rattle.setl_map.specs.code.Changing.{ChangesImage};
 ghost use Rattle.setl_map.specs.code.Points.{part_at, pair_depth};
 ghost use Rattle.setl_map.specs.Maps.{image, domain_of, range_of, without_point, put_image, put_images};
 
@@ -289,4 +291,31 @@ fn add_pair(alloc: Global, f: &mut SetBody, x: Value, y: Value) -> Result<(), Me
         Ok(()) => Ok(()),
         Err(_) => Err(AllocError),
     }
+}
+
+/// Lets `change` change the one image of `x` where it stands, to one that is at least as deep and at most 498 deep, and
+/// answers what `change` answers. Where a member is no pair, or `x` has no image or several, the answer is None, and
+/// `change` isn't called. Where memory is refused, neither, and the map is as before. Its cost is that of two searches.
+pub fn change_image<R, F: FnOnce(&mut Value) -> R>(
+    f: &mut SetBody,
+    x: &Value,
+    change: F,
+) -> Result<Option<R>, Memory>
+    requires callable { F.IsAlwaysCallable change }
+    requires grows { (d : Datum) → image (datum x.now) (Members f.old) ≡ Some d → depth d < 499 → Grows F.FnOnce change d 499 }
+    ensures changed { IfOk result (λ o. IfSome o (λ r. ChangesImage F.FnOnce change (datum x.now) (Members f.old) r (Members f.new) (f.new ≡ f.old))) }
+    ensures nothing { IfOk result (λ o. IfNone o ((is_map (Members f.old) ≡ false) ⊎ (image (datum x.now) (Members f.old) ≡ None))) }
+    ensures unchanged { IfOk result (λ o. IfNone o (f.new ≡ f.old)) }
+    ensures refused { OnErr result (f.new ≡ f.old) }
+{
+    if !f.is_map() {
+        return Ok(None);
+    }
+    let Some(_) = only_image(f, x) else {
+        return Ok(None);
+    };
+    laws::operations_have_their_members();
+    f.learn();
+    let at = f.search_point(x);
+    f.change_second(at, change)
 }
