@@ -2,3 +2,4 @@ pub mod Steps
 pub mod Inside
 pub mod Takings
 pub mod Images
+pub mod Image

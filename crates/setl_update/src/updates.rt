@@ -10,6 +10,7 @@ ghost use Rattle.setl_model.specs.Places.{with_part_at_all, combined};
 ghost use Rattle.setl_update.specs.Selectors.{selected};
 ghost use Rattle.setl_update.specs.Updates.{Updates};
 
+use crate::one_image::combine_image;
 use crate::selectors::{Selector, apply, part_at, put_part};
 use setl_arithmetic::{minus_in_place, plus_in_place};
 use setl_collections::{add_image_in_place, less_in_place, lessf_in_place, with_in_place};
@@ -79,7 +80,7 @@ pub fn combine_at(
     }
 }
 
-// Combines the part at one selector with a value. One image more is put in where the map stands.
+// Combines the part at one selector with a value: where it stands, if there is a call for that, and else a copy of it.
 fn combine_part(
     alloc: Global,
     what: Operator,
@@ -95,6 +96,12 @@ fn combine_part(
     match (what, at, value) {
         (Operator::With, Selector::Brace(Some(x)), Some(y)) => {
             combine_images(alloc, whole, x, y, turns)
+        }
+        (_, Selector::Round(Some(x)), Some(y)) => {
+            match combine_image(alloc, what, whole, x, y, turns)? {
+                Some(answer) => answer,
+                None => combine_copy(alloc, what, whole, at, value, turns),
+            }
         }
         _ => combine_copy(alloc, what, whole, at, value, turns),
     }
@@ -193,6 +200,19 @@ fn append(
     let Some(value) = value else {
         return Err(OpFault::Om);
     };
+    append_value(alloc, whole, value, turns)
+}
+
+/// `whole + value` of two values, in place.
+pub(crate) fn append_value(
+    alloc: Global,
+    whole: &mut Value,
+    value: &Value,
+    turns: u64,
+) -> Result<u64, OpFault>
+    ensures updated { Updates (op_of Add (Some (datum whole.old) ∷ Some (datum value.now) ∷ []) turns) turns (Some (datum whole.new)) result }
+    ensures refused { OnErr result (whole.new ≡ whole.old) }
+{
     let charged = plus_in_place(alloc, whole, value)?;
     Ok(turns.saturating_sub(charged))
 }
@@ -233,6 +253,19 @@ fn add(
     let Some(value) = value else {
         return Err(OpFault::Om);
     };
+    add_value(alloc, whole, value, turns)
+}
+
+/// `whole with value` of two values, in place.
+pub(crate) fn add_value(
+    alloc: Global,
+    whole: &mut Value,
+    value: &Value,
+    turns: u64,
+) -> Result<u64, OpFault>
+    ensures updated { Updates (op_of With (Some (datum whole.old) ∷ Some (datum value.now) ∷ []) turns) turns (Some (datum whole.new)) result }
+    ensures refused { OnErr result (whole.new ≡ whole.old) }
+{
     let charged = with_in_place(alloc, whole, value.copy()?)?;
     Ok(turns.saturating_sub(charged))
 }
