@@ -21,34 +21,13 @@ use Rattle.setl_code.specs.Generated.{block, main_code, procedure_code}
 use Rattle.setl_code.specs.Names.{is_among, is_own, first_among, in_block}
 use Rattle.setl_code.specs.Piece.{Laid, one, no_loop, steps_of}
 use Rattle.setl_code.specs.Plain.{plain_name, plain_step, plain_body, plain_bodies, plain_code}
-use Rattle.setl_gen.specs.declared.hole.Hole.{Hole}
-use Rattle.setl_gen.specs.Table.{Table, variables, with_all, all_noted}
-use Rattle.setl_gen.specs.Emitted.{Emitted, after}
+use Rattle.setl_emitter.specs.declared.hole.Hole.{Hole}
+use Rattle.setl_emitter.specs.Table.{Table, variables, with_all, all_noted}
+use Rattle.setl_emitter.specs.Emitted.{Emitted, after}
 use Rattle.setl_gen.specs.Bodies.{table_of, blank, finished}
-use Rattle.setl_gen.proofs.SlotTables.{is_among_more, or_comm}
-use Rattle.setl_gen.proofs.Emitting.{then_made, then_two}
-use Rattle.setl_gen.proofs.Rounds.{drop_at}
-
--- ---- own names
-
-abbrev Same : List Variable → List Variable → Type 0
-Same names seen = (x : Variable) → is_among names x ≡ is_among seen x
-
-by_tests : (ps : List Param) (names rest new xs : List Variable) (x : Variable) (own among : Bool) → with_all ps names xs ≡ names ++ rest → with_all ps (names ++ x ∷ []) xs ≡ names ++ new → with_all ps (cond own (cond among names (names ++ x ∷ [])) names) xs ≡ names ++ cond own (cond among rest new) rest
-by_tests ps names rest new xs x false among e f = e
-by_tests ps names rest new xs x true true e f = e
-by_tests ps names rest new xs x true false e f = f
-
-pub all_first : (ps : List Param) (names seen xs : List Variable) → Same names seen → with_all ps names xs ≡ names ++ first_among (map parameter_of ps) seen xs
-all_first ps names seen [] same = sym (append-nil names)
-all_first ps names seen (x ∷ xs) same =
-    let qs = map parameter_of ps in
-    let rest = first_among qs seen xs in
-    let new = x ∷ first_among qs (x ∷ seen) xs in
-    let more : Same (names ++ x ∷ []) (x ∷ seen) = λ y. is_among_more names x y ∙ ap (λ b. b || is_variable y x) (same y) ∙ or_comm (is_among seen y) (is_variable y x) in
-    by_tests ps names rest new xs x (is_own qs x) (is_among names x) (all_first ps names seen xs same)
-    (all_first ps (names ++ x ∷ []) (x ∷ seen) xs more ∙ append_assoc names (x ∷ []) (first_among qs (x ∷ seen) xs))
-    ∙ ap (λ b. names ++ cond (is_own qs x) (cond b rest new) rest) (same x)
+use Rattle.setl_emitter.specs.TableLaws.{all_first}
+use Rattle.setl_emitter.specs.EmittedLaws.{then_made, then_two}
+use Rattle.setl_emitter.specs.Items.{drop_at}
 
 -- ---- bodies
 

@@ -10,10 +10,11 @@ use Rattle.setl_model.specs.Iterations.{decided}
 use Rattle.setl_code.specs.Code.{Push, Operate, Decides, TestBool, Unless, Jump, DropTop, DupTop, BeginOver, NextOr, BeginOf, AddBelow, LeaveAll, CallBody}
 use Rattle.setl_code.specs.Piece.{Laid, ◌⨾◌, nothing, one, jumps_out, over, either, with_end, with_start}
 use Rattle.setl_code.specs.Generated.{store_slots, set_by, bind, count, levels, negated, keep_or_drop, expr, exprs, iterators, condition, arguments}
-use Rattle.setl_gen.specs.declared.hole.Hole.{Hole}
-use Rattle.setl_gen.specs.Emitted.{Emitted, here, after, with_step, with_exits}
-use Rattle.setl_gen.specs.Heads.{begun, next, headed, opened, undecided_code, with_end_undecided}
-use Rattle.setl_gen.proofs.Emitting.{after_then, after_nothing, then_made, then_two, over_made, either_made, leaving_made}
+use Rattle.setl_emitter.specs.declared.hole.Hole.{Hole}
+use Rattle.setl_emitter.specs.Emitted.{Emitted, here, after, with_step, with_exits}
+use Rattle.setl_gen.specs.Heads.{begun, next, headed, opened}
+use Rattle.setl_emitter.specs.ShortCode.{undecided_code, with_end_undecided}
+use Rattle.setl_emitter.specs.EmittedLaws.{after_then, after_nothing, then_made, then_two, over_made, either_made, leaving_made}
 
 -- ---- without iterators
 
@@ -32,11 +33,6 @@ choose_made line t a b at over there end s s1 s2 s3 s4 s5 s6 u e1 p e2 e3 o e4 r
 
 pub condition_made : (line : ℕ) (c : Expr) (back : ℕ) (s t u : Emitted) → t ≡ after (expr line c) s → u ≡ after (one line (Unless back)) t → u ≡ after (expr line c ⨾ one line (Unless back)) s
 condition_made line c back s t u e1 e2 = then_made (expr line c) (one line (Unless back)) s t u e1 e2
-
-pub keep_made : (line a at end : ℕ) (s s1 s2 s3 s4 s5 u : Emitted) → at ≡ here s → s1 ≡ after (one line (Unless 0)) s → s2 ≡ after (one line (AddBelow 1)) s1 → s3 ≡ after (one line (Jump a)) s2 → end ≡ here s3 → s4 ≡ with_step at line (Unless end) s3 → s5 ≡ after (one line DropTop) s4 → u ≡ after (one line (Jump a)) s5 → u ≡ after (keep_or_drop line a) s
-keep_made line a at end s s1 s2 s3 s4 s5 u p e1 e2 e3 q e4 e5 e6 =
-    then_two (over line Unless (one line (AddBelow 1) ⨾ one line (Jump a))) (one line DropTop) (one line (Jump a)) s s4 s5 u
-    (over_made line Unless (one line (AddBelow 1) ⨾ one line (Jump a)) at end s s1 s3 s4 p e1 (then_made (one line (AddBelow 1)) (one line (Jump a)) s1 s2 s3 e2 e3) q e4) e5 e6
 
 -- ---- iterators
 

@@ -19,12 +19,12 @@ use Rattle.setl_code.specs.Code.{Operate, Decides, TestBool}
 use Rattle.setl_code.specs.Piece.{◌⨾◌, nothing, one}
 use Rattle.setl_code.specs.Generated.{expr}
 use Rattle.setl_code.specs.Names.{in_expr}
-use Rattle.setl_gen.specs.Emitted.{Emitted, here, after, with_step}
+use Rattle.setl_emitter.specs.Emitted.{Emitted, here, after, with_step}
 use Rattle.setl_gen.specs.Heads.{CodeGoesOn}
-use Rattle.setl_gen.proofs.Emitting.{then_made}
+use Rattle.setl_emitter.specs.EmittedLaws.{then_made, last}
 use Rattle.setl_gen.proofs.Constructs.{apply_made, connect_made}
 use Rattle.setl_gen.proofs.ExprKinds.{chain_is, got}
-use Rattle.setl_gen.proofs.Rounds.{drop_at, last}
+use Rattle.setl_emitter.specs.Items.{drop_at}
 
 -- ---- variables
 

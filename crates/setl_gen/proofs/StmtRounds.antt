@@ -26,13 +26,13 @@ use Rattle.setl_code.specs.Plain.{plain_bracket}
 use Rattle.setl_code.specs.Code.{Alteration, Putting, Bracket, Unless, Jump, Alter, StoreIn, ReadOne, NextOr, PayRound, LeaveAll}
 use Rattle.setl_code.specs.Piece.{Laid, ◌⨾◌, nothing, one, over, either, jumps_out, going_on, with_end, with_start}
 use Rattle.setl_code.specs.Generated.{expr, selectors, brackets, alter, put, read_all, stmt, block, quit, levels, iterators, condition}
-use Rattle.setl_gen.specs.declared.hole.Hole.{Hole}
-use Rattle.setl_gen.specs.Emitted.{Emitted, here, hole, after, with_step, all_filled, closed, with_exits, with_again}
+use Rattle.setl_emitter.specs.declared.hole.Hole.{Hole}
+use Rattle.setl_emitter.specs.Emitted.{Emitted, here, hole, after, with_step, all_filled, closed, with_exits, with_again}
 use Rattle.setl_gen.specs.Heads.{opened}
 use Rattle.setl_gen.specs.StmtKinds.{plain_kind, guarded, looped, selector_code, bracket_of, IsGuarded, IsBranch, AreBranches}
-use Rattle.setl_gen.proofs.Emitting.{after_then, after_nothing, here_after, then_made, either_closed, last_filled, over_made, ending_made, going_made}
+use Rattle.setl_emitter.specs.EmittedLaws.{after_then, after_nothing, here_after, then_made, either_closed, last_filled, over_made, ending_made, going_made, last}
 use Rattle.setl_gen.proofs.Constructs.{start_is, rounds_made}
-use Rattle.setl_gen.proofs.Rounds.{drop_at, last}
+use Rattle.setl_emitter.specs.Items.{drop_at}
 
 -- ---- places
 
@@ -234,12 +234,3 @@ while_made line c b outer inner start at end s s1 s2 s3 s4 s5 s6 s7 u o e1 st e2
     (then_made (one line PayRound) (looped line w 0 b) s3 s4 s5 e4 (e5 ∙ ap (λ m. after (looped line m 0 b) s4) st)) refl e6)
     ∙ start_is f s1 in
     ending_made (with_start f) outer inner end s s1 s6 s7 u o e1 x6 i e7 q e8
-
--- ---- leaving a loop
-
-pub quit_none : (line leaves : ℕ) (s u : Emitted) → leaves ≡ 0 → u ≡ after (jumps_out line) s → u ≡ after (quit line leaves) s
-quit_none line leaves s u e f = f ∙ ap (λ n. after (quit line n) s) (sym e)
-
-pub quit_some : (line leaves : ℕ) (s t u : Emitted) → (leaves ≡ 0 → ⊥) → t ≡ after (one line (LeaveAll leaves)) s → u ≡ after (jumps_out line) t → u ≡ after (quit line leaves) s
-quit_some line zero s t u h e f = absurd (h refl)
-quit_some line (suc k) s t u h e f = then_made (one line (LeaveAll (suc k))) (jumps_out line) s t u e f

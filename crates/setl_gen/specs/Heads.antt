@@ -1,15 +1,10 @@
 -- Iterators without the code inside.
-use Rattle.std.specs.Prelude.{◌≡◌, ℕ, List, Option, Some, None}
-use Rattle.setl_value.specs.Datum.{bool}
-use Rattle.setl_program.specs.declared.kinds.Quantifier.{Quantifier}
+use Rattle.std.specs.Prelude.{◌≡◌, ℕ, Option, Some, None}
 use Rattle.setl_program.specs.Program.{Binding, begin_of, Expr, Exprs, Iterators, no_iterator, more_iterators, Arguments, no_argument, rd_argument, wr_argument, rw_argument}
-use Rattle.setl_run.specs.Variable.{Variable}
-use Rattle.setl_model.specs.Iterations.{undecided, all_bound}
-use Rattle.setl_code.specs.Code.{Push, Load, StoreIn, DropTop, BeginOver, NextOr}
+use Rattle.setl_code.specs.Code.{Push, Load, BeginOver, NextOr}
 use Rattle.setl_code.specs.Piece.{Laid, ◌⨾◌, nothing, one}
-use Rattle.setl_code.specs.Generated.{count, bind, clear, expr, exprs}
-use Rattle.setl_gen.specs.Emitted.{Emitted, here, after, all_filled}
-use Rattle.setl_gen.specs.declared.hole.Hole.{Hole}
+use Rattle.setl_code.specs.Generated.{count, bind, expr, exprs}
+use Rattle.setl_emitter.specs.Emitted.{Emitted, here, after}
 
 -- Where the first steps are the code of an expression, with those that came they are the code of what becomes of it.
 abbrev pub CodeGoesOn : (line : ℕ) → (Expr → Expr) → Emitted → Emitted → Type 0
@@ -41,33 +36,9 @@ opened_from None line (more_iterators b es rest) back s =
 abbrev pub opened : (line : ℕ) → Iterators → Emitted → Option (ℕ × Emitted × ℕ)
 opened line is s = opened_from None line is 0 s
 
--- where no member decides a quantifier, with the target of the jumps out of it
-abbrev pub undecided_code : ℕ → Quantifier → Iterators → Laid
-undecided_code line q is = clear line (all_bound is) ⨾ one line (Push (Some (bool (undecided q))))
-
-abbrev pub with_end_undecided : ℕ → Quantifier → Iterators → List Hole → Emitted → Emitted
-with_end_undecided line q is exits s = let t = after (undecided_code line q is) s in all_filled (here t) exits t
-
--- ---- items of lists
-
-abbrev pub slot_code : ℕ → Option Variable → Laid
-slot_code line None = one line DropTop
-slot_code line (Some x) = one line (StoreIn x)
-
-abbrev pub clear_code : ℕ → Option Variable → Laid
-clear_code line None = nothing
-clear_code line (Some x) = one line (Push None) ⨾ one line (StoreIn x)
-
 -- the code of the first of some arguments
 abbrev pub argument_code : ℕ → Arguments → Laid
 argument_code line no_argument = nothing
 argument_code line (rd_argument e rest) = expr line e
 argument_code line (wr_argument x rest) = one line (Push None)
 argument_code line (rw_argument x rest) = one line (Load x)
-
--- the store in what the first of some arguments sets
-abbrev pub set_code : ℕ → Arguments → Laid
-set_code line no_argument = nothing
-set_code line (rd_argument e rest) = nothing
-set_code line (wr_argument x rest) = one line (StoreIn x)
-set_code line (rw_argument x rest) = one line (StoreIn x)

@@ -4,17 +4,12 @@
 //! with the targets of jumps filled in where they are known.
 #![tactic(auto)]
 
-mod binds;
 mod bodies;
-mod emitter;
 mod exprs;
 mod found;
-mod hole;
-mod names;
 mod places;
-mod simple;
 mod steps;
 mod stmts;
 
 pub use bodies::emit;
-pub use std::alloc::AllocError as Memory;
+pub use setl_emitter::Memory;

@@ -4,14 +4,13 @@ ghost use Rattle.std.specs.Prelude.{◌≡◌, OnOk};
 ghost use Rattle.setl_program.specs.Program.{Assign, Update, AssignParts, TakeFrom, Perform, Return, Print};
 ghost use Rattle.setl_program.specs.code.Plain.{plain_variable, plain_slots, plain_place, plain_expr, plain_exprs};
 ghost use Rattle.setl_code.specs.Generated as code;
-ghost use Rattle.setl_gen.specs.Emitted.{held, after};
+ghost use Rattle.setl_emitter.specs.Emitted.{held, after};
 
 use crate::Memory;
-use crate::binds::parts;
-use crate::emitter::{Emitter, number};
 use crate::exprs::{expr, exprs};
 use crate::places::{alter, put};
 use setl_code::{Alteration, Instr};
+use setl_emitter::{Emitter, number, parts};
 use setl_map::Operator;
 use setl_program::{Expr, Place, Taking, Variable};
 
@@ -94,18 +93,4 @@ pub fn print<'p>(to: &mut Emitter<'p>, line: u32, es: &'p [Expr]) -> Result<(), 
     let count = number(es.len())?;
     to.put(line, Instr::Print(count))?;
     Ok(())
-}
-
-/// The innermost loop, of so many iterators, is left.
-pub fn quit(to: &mut Emitter<'_>, leaves: u32, line: u32) -> Result<(), Memory>
-    ensures { OnOk result (held to.new ≡ after (code.quit line leaves) (held to.old)) }
-{
-    if leaves == 0 {
-        to.jump_out(line)?;
-        Ok(())
-    } else {
-        to.put(line, Instr::Leave(leaves))?;
-        to.jump_out(line)?;
-        Ok(())
-    }
 }

@@ -1,0 +1,4 @@
+pub mod ShortPieces
+pub mod SlotTables
+pub mod Stepping
+pub mod Stores
