@@ -15,6 +15,31 @@ impl Copied for Held {
 
 type Env = Environment<Held, Held, Held, Held, u64>;
 
+// Steps, a line each: a call with its number, if it has one, then what it gives, and behind a bar each the slots, the
+// operands, the activations and how many members there are after it.
+const FILLED: &str = "add 1: | 1 | 1 | 1 | 1
+add 2: | 1 2 | 1 2 | 1 2 | 2
+push_slots 3: | 1 2 3 | 1 2 | 1 2 | 2";
+
+const UNKEPT: &str = "is_kept: false | 1 2 3 | 1 2 | 1 2 | 2";
+
+const KEPT: &str = "keep 21: | 1 2 3 | 1 2 | 1 2 | 2
+is_kept: true | 1 2 3 | 1 2 | 1 2 | 2";
+
+const NESTED: &str = "set: | 11 2 3 | 12 2 | 1 2 | 2
+drop_last: | 11 2 3 | 12 | 1 | 2
+keep 22: | 11 2 3 | 12 | 1 | 2
+cut: | | | 1 | 0
+add 13: | 13 | 13 | 1 13 | 1
+back: 22 | 11 2 3 | 12 | 1 | 2
+back: 21 | 1 2 3 | 1 2 | 1 2 | 2
+back: | 1 2 3 | 1 2 | 1 2 | 2";
+
+const TAKEN: &str = "replace: 1 1 | 11 2 3 | 12 2 | 1 2 | 2
+pop_operand: 2 | 11 2 3 | 12 | 1 2 | 2
+pop_operands: 12 | 11 2 3 | | 1 2 | 2
+pop_members: 1 2 | 11 2 3 | | 1 2 | 0";
+
 // A slot, an operand, an activation and a member more, with this number.
 fn add(env: &mut Env, n: u64) -> Result<(), Memory> {
     env.reserve(4)?;
@@ -29,35 +54,14 @@ fn add(env: &mut Env, n: u64) -> Result<(), Memory> {
     Ok(())
 }
 
-// How many there are of each, and the lowest of the first three.
-fn has(rt: &impl Abort, env: &Env, counts: [usize; 4], lowest: [u64; 3]) {
-    assert_eq!(rt;
-        [
-            env.slots(),
-            env.operands(),
-            env.activations(),
-            env.members()
-        ],
-        counts
-    );
-    assert!(rt; env.slots() > 0 && env.operands() > 0 && env.activations() > 0);
-    assert_eq!(rt;
-        [env.slot(0).0, env.operand(0).0, env.activation(0).0],
-        lowest
-    );
-}
-
-// 1 and 2 of each, and a slot 3.
-fn filled(alloc: Global) -> Result<Env, Memory> {
-    let mut env = Environment::new(alloc)?;
-    add(&mut env, 1)?;
-    add(&mut env, 2)?;
-    let mut more = Vec::with_capacity(alloc, 1)?;
-    more.push_reserved(Held(3));
+// A slot more, with this number.
+fn push_slots(alloc: Global, env: &mut Env, n: u64) -> Result<(), Memory> {
     env.reserve(1)?;
     env.reserve_slots(1)?;
+    let mut more = Vec::with_capacity(alloc, 1)?;
+    more.push_reserved(Held(n));
     env.push_slots(more);
-    Ok(env)
+    Ok(())
 }
 
 fn set(env: &mut Env) -> Result<(), Memory> {
@@ -88,66 +92,146 @@ fn cut(env: &mut Env) -> Result<(), Memory> {
     Ok(())
 }
 
+fn back(env: &mut Env, told: &mut String) -> Result<(), Memory> {
+    match env.back() {
+        Some(beside) => write!(told, " {beside}"),
+        None => Ok(()),
+    }
+}
+
+fn replace(env: &mut Env, told: &mut String) -> Result<(), Memory> {
+    env.reserve(2)?;
+    if env.slots() > 0 && env.operands() > 0 {
+        let slot = env.replace_slot(0, Held(11))?.0;
+        let operand = env.replace_operand(0, Held(12))?.0;
+        write!(told, " {slot} {operand}")?;
+    }
+    Ok(())
+}
+
+fn pop_operand(env: &mut Env, told: &mut String) -> Result<(), Memory> {
+    env.reserve(1)?;
+    if env.operands() > 0 {
+        let operand = env.pop_operand()?.0;
+        write!(told, " {operand}")?;
+    }
+    Ok(())
+}
+
+fn pop_operands(env: &mut Env, told: &mut String) -> Result<(), Memory> {
+    env.reserve(env.operands())?;
+    tell(&env.pop_operands(0)?, told)
+}
+
+fn pop_members(env: &mut Env, told: &mut String) -> Result<(), Memory> {
+    env.reserve(env.members())?;
+    tell(&env.pop_members(0)?, told)
+}
+
+// Adds all numbers of these, in their order.
+fn tell(values: &[Held], told: &mut String) -> Result<(), Memory> {
+    for value in values {
+        write!(told, " {}", value.0)?;
+    }
+    Ok(())
+}
+
+// Makes a call, and adds what it gives.
+fn call(alloc: Global, env: &mut Env, name: &str, n: u64, told: &mut String) -> Result<(), Memory> {
+    match name {
+        "add" => add(env, n)?,
+        "push_slots" => push_slots(alloc, env, n)?,
+        "keep" => env.keep(n)?,
+        "is_kept" => write!(told, " {}", env.is_kept())?,
+        "set" => set(env)?,
+        "drop_last" => drop_last(env)?,
+        "cut" => cut(env)?,
+        "replace" => replace(env, told)?,
+        "pop_operand" => pop_operand(env, told)?,
+        "pop_operands" => pop_operands(env, told)?,
+        "pop_members" => pop_members(env, told)?,
+        _ => back(env, told)?,
+    }
+    Ok(())
+}
+
+#[derive(Clone, Copy)]
+enum List {
+    Slots,
+    Operands,
+    Activations,
+}
+
+// The number at a place of a list, if there is one.
+fn number(env: &Env, list: List, at: usize) -> Option<u64> {
+    match list {
+        List::Slots if at < env.slots() => Some(env.slot(at).0),
+        List::Operands if at < env.operands() => Some(env.operand(at).0),
+        List::Activations if at < env.activations() => Some(env.activation(at).0),
+        _ => None,
+    }
+}
+
+// Adds a list, up to 9 numbers of it.
+fn show_list(env: &Env, list: List, told: &mut String) -> Result<(), Memory> {
+    told.push_str(" |")?;
+    for at in 0..9 {
+        let Some(n) = number(env, list, at) else {
+            break;
+        };
+        write!(told, " {n}")?;
+    }
+    Ok(())
+}
+
+// Adds what is there.
+fn show(env: &Env, told: &mut String) -> Result<(), Memory> {
+    show_list(env, List::Slots, told)?;
+    show_list(env, List::Operands, told)?;
+    show_list(env, List::Activations, told)?;
+    write!(told, " | {}", env.members())
+}
+
+// What a call gives, and what is there after it.
+fn told(alloc: Global, env: &mut Env, step: &str) -> Result<String, Memory> {
+    let (name, n) = step.split_once(' ').unwrap_or((step, "0"));
+    let mut told = String::new(alloc);
+    call(alloc, env, name, n.parse().unwrap_or(0), &mut told)?;
+    show(env, &mut told)?;
+    Ok(told)
+}
+
+// Makes the calls of steps, and compares what each gives and what is there after it.
+fn expect(rt: &impl Abort, alloc: Global, env: &mut Env, steps: &str) -> Result<(), Fail> {
+    for line in steps.lines() {
+        let (step, expected) = line.split_once(':').unwrap_or((line, ""));
+        assert_eq!(rt; told(alloc, env, step)?.as_str(), expected, "{line}");
+    }
+    Ok(())
+}
+
+fn expect_all(rt: &impl Abort, alloc: Global, env: &mut Env, parts: [&str; 3]) -> Result<(), Fail> {
+    for steps in parts {
+        expect(rt, alloc, env, steps)?;
+    }
+    Ok(())
+}
+
+// The same, on an environment that is empty at first.
+fn run(rt: &impl Abort, alloc: Global, parts: [&str; 3]) -> Result<(), Fail> {
+    let mut env = Environment::new(alloc)?;
+    expect_all(rt, alloc, &mut env, parts)
+}
+
 #[test]
 fn nested_marks_bring_back_all_four_lists(rt: HostRuntime) -> Result<(), Fail> {
-    let mut env = filled(rt.alloc())?;
-    env.keep(21)?;
-    set(&mut env)?;
-    drop_last(&mut env)?;
-    env.keep(22)?;
-    cut(&mut env)?;
-    add(&mut env, 13)?;
-    has(&rt, &env, [1, 1, 2, 1], [13, 13, 1]);
-    assert_eq!(rt; env.back(), Some(22));
-    has(&rt, &env, [3, 1, 1, 2], [11, 12, 1]);
-    assert_eq!(rt; env.back(), Some(21));
-    has(&rt, &env, [3, 2, 2, 2], [1, 1, 1]);
-    assert_eq!(rt; env.back(), None);
-    Ok(())
-}
-
-// The numbers of the slot 0 and of the last operand, which are taken out.
-fn take(env: &mut Env) -> Result<[u64; 2], Memory> {
-    env.reserve(3)?;
-    if env.slots() == 0 || env.operands() == 0 {
-        return Ok([0, 0]);
-    }
-    let slot = env.replace_slot(0, Held(11))?;
-    let _ = env.replace_operand(0, Held(12))?;
-    let operand = env.pop_operand()?;
-    Ok([slot.0, operand.0])
-}
-
-// All numbers of these, in their order.
-fn numbers(alloc: Global, values: &[Held]) -> Result<Vec<u64>, Memory> {
-    let mut all = Vec::with_capacity(alloc, 4)?;
-    for value in values {
-        all.push(value.0)?;
-    }
-    Ok(all)
-}
-
-fn take_rest(rt: &impl Abort, alloc: Global, env: &mut Env) -> Result<(), Memory> {
-    env.reserve(env.operands())?;
-    let operands = numbers(alloc, &env.pop_operands(0)?)?;
-    assert_eq!(rt; operands.as_slice(), [12].as_slice());
-    env.reserve(env.members())?;
-    let members = numbers(alloc, &env.pop_members(0)?)?;
-    assert_eq!(rt; members.as_slice(), [1, 2].as_slice());
-    Ok(())
+    run(&rt, rt.alloc(), [FILLED, KEPT, NESTED])
 }
 
 #[test]
 fn what_is_taken_off_is_the_same_under_a_mark(rt: HostRuntime) -> Result<(), Fail> {
-    for kept in [false, true] {
-        let mut env = filled(rt.alloc())?;
-        if kept {
-            env.keep(21)?;
-        }
-        assert_eq!(rt; env.is_kept(), kept);
-        assert_eq!(rt; take(&mut env)?, [1, 2]);
-        take_rest(&rt, rt.alloc(), &mut env)?;
-        assert_eq!(rt; env.slots(), 3);
+    for start in [UNKEPT, KEPT] {
+        run(&rt, rt.alloc(), [FILLED, start, TAKEN])?;
     }
     Ok(())
 }

@@ -2,144 +2,111 @@ use setl_code::Begin;
 use setl_environment::Copied;
 use setl_io::SureSource;
 use setl_iterator::{Item, Iterator, OpFault, begin};
-use setl_program::Source::{Between, SetSteps, TupleSteps, Values};
-use setl_text::{Got, Reader};
+use setl_program::Source;
+use setl_text::{Got, Reader, text};
 use setl_value::{Memory, Value};
 use std::alloc::Global;
+use std::fmt::Write;
+use std::process::Abort;
 use std::test::Fail;
 
-// How an iterator begins, its sources, and its items: members, or arguments each with its image.
-type Row = (Begin, &'static str, &'static str);
+// Rows, a line each: how an iterator begins, its sources, and its items: members, or arguments each with its image.
+const ITEMS: &str = "values | {3 1 2} | members 1 2 3
+values | [5 * 7] | members 5 * 7
+values | 'ab' | members 'a' 'b'
+values | {} | members
+between | 2 4 | members 2 3 4
+between | 4 4 | members 4
+between | 4 3 | members
+between | 170141183460469231731687303715884105726 170141183460469231731687303715884105727 | members 170141183460469231731687303715884105726 170141183460469231731687303715884105727
+set_steps | 1 3 6 | members 1 3 5
+set_steps | 5 3 0 | members 1 3 5
+set_steps | 5 3 5 | members 5
+set_steps | 5 3 6 | members
+set_steps | 5 7 4 | members
+set_steps | 170141183460469231731687303715884105727 -170141183460469231731687303715884105728 -170141183460469231731687303715884105728 | members -170141183460469231731687303715884105728 170141183460469231731687303715884105727
+tuple_steps | 1 3 6 | members 1 3 5
+tuple_steps | 5 3 0 | members 5 3 1
+tuple_steps | 5 7 4 | members
+tuple_steps | 170141183460469231731687303715884105727 -170141183460469231731687303715884105728 -170141183460469231731687303715884105728 | members 170141183460469231731687303715884105727 -170141183460469231731687303715884105728
+tuple_steps | -170141183460469231731687303715884105728 170141183460469231731687303715884105727 170141183460469231731687303715884105726 | members -170141183460469231731687303715884105728
+points | {[1 2] [1 3] [2 5]} | pairs 1->* 2->5
+points | {[1 2] [2 5] [3 6] [3 7]} | pairs 1->2 2->5 3->*
+points | {} | pairs
+points | [7 * 9] | pairs 1->7 2->* 3->9
+points | 'ab' | pairs 1->'a' 2->'b'
+points | '' | pairs";
 
-const ITEMS: [Row; 25] = [
-    (Begin::Members(Values), "{3 1 2}", "1 2 3"),
-    (Begin::Members(Values), "[5 * 7]", "5 * 7"),
-    (Begin::Members(Values), "'ab'", "'a' 'b'"),
-    (Begin::Members(Values), "{}", ""),
-    (Begin::Members(Between), "2 4", "2 3 4"),
-    (Begin::Members(Between), "4 4", "4"),
-    (Begin::Members(Between), "4 3", ""),
-    (
-        Begin::Members(Between),
-        "170141183460469231731687303715884105726 170141183460469231731687303715884105727",
-        "170141183460469231731687303715884105726 170141183460469231731687303715884105727",
-    ),
-    (Begin::Members(SetSteps), "1 3 6", "1 3 5"),
-    (Begin::Members(SetSteps), "5 3 0", "1 3 5"),
-    (Begin::Members(SetSteps), "5 3 5", "5"),
-    (Begin::Members(SetSteps), "5 3 6", ""),
-    (Begin::Members(SetSteps), "5 7 4", ""),
-    (
-        Begin::Members(SetSteps),
-        "170141183460469231731687303715884105727 -170141183460469231731687303715884105728 -170141183460469231731687303715884105728",
-        "-170141183460469231731687303715884105728 170141183460469231731687303715884105727",
-    ),
-    (Begin::Members(TupleSteps), "1 3 6", "1 3 5"),
-    (Begin::Members(TupleSteps), "5 3 0", "5 3 1"),
-    (Begin::Members(TupleSteps), "5 7 4", ""),
-    (
-        Begin::Members(TupleSteps),
-        "170141183460469231731687303715884105727 -170141183460469231731687303715884105728 -170141183460469231731687303715884105728",
-        "170141183460469231731687303715884105727 -170141183460469231731687303715884105728",
-    ),
-    (
-        Begin::Members(TupleSteps),
-        "-170141183460469231731687303715884105728 170141183460469231731687303715884105727 170141183460469231731687303715884105726",
-        "-170141183460469231731687303715884105728",
-    ),
-    (Begin::Points, "{[1 2] [1 3] [2 5]}", "1 * 2 5"),
-    (Begin::Points, "{[1 2] [2 5] [3 6] [3 7]}", "1 2 2 5 3 *"),
-    (Begin::Points, "{}", ""),
-    (Begin::Points, "[7 * 9]", "1 7 2 * 3 9"),
-    (Begin::Points, "'ab'", "1 'a' 2 'b'"),
-    (Begin::Points, "''", ""),
-];
-
-// How an iterator would begin, its sources, and why it doesn't.
-type Refusal = (Begin, &'static str, OpFault);
-
-const FAULTS: [Refusal; 12] = [
-    (Begin::Members(Values), "5", OpFault::Kind),
-    (Begin::Members(Values), "*", OpFault::Om),
-    (Begin::Members(Between), "1 'a'", OpFault::Kind),
-    (Begin::Members(Between), "'a' *", OpFault::Om),
-    (Begin::Members(Between), "1", OpFault::Kind),
-    (Begin::Members(SetSteps), "5 5 9", OpFault::Zero),
-    (Begin::Members(SetSteps), "5 5 'a'", OpFault::Kind),
-    (Begin::Members(SetSteps), "5 'a' *", OpFault::Om),
-    (Begin::Members(TupleSteps), "5 5 9", OpFault::Zero),
-    (Begin::Points, "{1}", OpFault::Kind),
-    (Begin::Points, "{[1 2] [* 3]}", OpFault::Kind),
-    (Begin::Points, "*", OpFault::Om),
-];
+// Rows, a line each: how an iterator would begin, its sources, and why it doesn't.
+const FAULTS: &str = "values | 5 | Kind
+values | * | Om
+between | 1 'a' | Kind
+between | 'a' * | Om
+between | 1 | Kind
+set_steps | 5 5 9 | Zero
+set_steps | 5 5 'a' | Kind
+set_steps | 5 'a' * | Om
+tuple_steps | 5 5 9 | Zero
+points | {1} | Kind
+points | {[1 2] [* 3]} | Kind
+points | * | Om";
 
 #[test]
 fn each_source_gives_its_items(rt: HostRuntime) -> Result<(), Fail> {
-    let alloc = rt.alloc();
-    for (how, sources, items) in ITEMS {
-        match begin(alloc, how, values(alloc, sources)?.as_slice()) {
-            Ok(iterator) => {
-                assert!(rt; iterator.is_of_pairs() == (how == Begin::Points));
-                assert!(rt; given(alloc, iterator)? == values(alloc, items)?);
-            }
-            Err(_) => panic!(rt; "no iterator over {sources}"),
-        }
-    }
-    Ok(())
+    expect_rows(&rt, rt.alloc(), ITEMS)
 }
 
 #[test]
 fn each_fault_is_told(rt: HostRuntime) -> Result<(), Fail> {
-    let alloc = rt.alloc();
-    for (how, sources, fault) in FAULTS {
-        match begin(alloc, how, values(alloc, sources)?.as_slice()) {
-            Ok(_) => panic!(rt; "an iterator over {sources}"),
-            Err(e) => assert!(rt; e == fault),
-        }
-    }
-    Ok(())
+    expect_rows(&rt, rt.alloc(), FAULTS)
 }
 
 #[test]
 fn a_copy_goes_on_by_itself(rt: HostRuntime) -> Result<(), Fail> {
     let alloc = rt.alloc();
-    let sources = values(alloc, "{[1 2] [2 5] [3 6]}")?;
-    let Ok(mut iterator) = begin(alloc, Begin::Points, sources.as_slice()) else {
-        panic!(rt; "no iterator");
-    };
-    let mut items = Vec::new(alloc);
-    if !iterator.is_at_end() {
-        push_item(iterator.advance(alloc)?, &mut items)?;
-    }
-    assert!(rt; items == values(alloc, "1 2")?);
-    let copy = iterator.copied()?;
-    assert!(rt; given(alloc, iterator)? == values(alloc, "2 5 3 6")?);
-    assert!(rt; given(alloc, copy)? == values(alloc, "2 5 3 6")?);
+    let mut iterator = begun(alloc, "points | {[1 2] [2 5] [3 6]}")?;
+    let mut shown = String::new(alloc);
+    show_with_copy(alloc, &mut iterator, &mut shown)?;
+    assert_eq!(rt; shown.as_str(), " 1->2 / 2->5 3->6 / 2->5 3->6");
     Ok(())
 }
 
-// The members that an iterator gives, up to 20, or its arguments each with its image.
-fn given(alloc: Global, iterator: Iterator) -> Result<Vec<Option<Value>>, Memory> {
-    let mut iterator = iterator;
-    let mut items = Vec::new(alloc);
-    for _ in 0..20 {
-        if iterator.is_at_end() {
-            break;
-        }
-        push_item(iterator.advance(alloc)?, &mut items)?;
-    }
-    Ok(items)
-}
-
-fn push_item(item: Item, items: &mut Vec<Option<Value>>) -> Result<(), Memory> {
-    match item {
-        Item::One(v) => items.push(v)?,
-        Item::Two { argument, image } => {
-            items.push(argument)?;
-            items.push(image)?;
-        }
+fn expect_rows(rt: &impl Abort, alloc: Global, rows: &str) -> Result<(), Fail> {
+    for row in rows.lines() {
+        let (start, expected) = row.rsplit_once(" | ").unwrap_or((row, ""));
+        assert_eq!(rt; outcome(alloc, start)?.as_str(), expected, "{row}");
     }
     Ok(())
+}
+
+// What the items are and the items of an iterator, or why it doesn't begin.
+fn outcome(alloc: Global, start: &str) -> Result<String, Memory> {
+    let mut shown = String::new(alloc);
+    match begun(alloc, start) {
+        Ok(mut iterator) => show_all(alloc, &mut iterator, &mut shown)?,
+        Err(e) => write!(shown, "{e:?}")?,
+    }
+    Ok(shown)
+}
+
+// The iterator that begins as the first word says over the sources behind it.
+fn begun(alloc: Global, start: &str) -> Result<Iterator, OpFault> {
+    let (how, sources) = start.split_once(" | ").unwrap_or((start, ""));
+    begin(
+        alloc,
+        begin_of_word(how),
+        values(alloc, sources)?.as_slice(),
+    )
+}
+
+fn begin_of_word(how: &str) -> Begin {
+    match how {
+        "values" => Begin::Members(Source::Values),
+        "between" => Begin::Members(Source::Between),
+        "set_steps" => Begin::Members(Source::SetSteps),
+        "tuple_steps" => Begin::Members(Source::TupleSteps),
+        _ => Begin::Points,
+    }
 }
 
 // The values and `om` that these bytes denote, up to 20 of them.
@@ -155,4 +122,70 @@ fn values(alloc: Global, denotations: &str) -> Result<Vec<Option<Value>>, Memory
         }
     }
     Ok(all)
+}
+
+fn show_all(alloc: Global, iterator: &mut Iterator, shown: &mut String) -> Result<(), Memory> {
+    let kind = if iterator.is_of_pairs() {
+        "pairs"
+    } else {
+        "members"
+    };
+    shown.push_str(kind)?;
+    show_rest(alloc, iterator, shown)
+}
+
+// The first item, those that are left behind it, and those that a copy gives which was made before these were taken.
+fn show_with_copy(
+    alloc: Global,
+    iterator: &mut Iterator,
+    shown: &mut String,
+) -> Result<(), Memory> {
+    show_next(alloc, iterator, shown)?;
+    let mut copy = iterator.copied()?;
+    shown.push_str(" /")?;
+    show_rest(alloc, iterator, shown)?;
+    shown.push_str(" /")?;
+    show_rest(alloc, &mut copy, shown)
+}
+
+// The items that are left, up to 20.
+fn show_rest(alloc: Global, iterator: &mut Iterator, shown: &mut String) -> Result<(), Memory> {
+    for _ in 0..20 {
+        show_next(alloc, iterator, shown)?;
+    }
+    Ok(())
+}
+
+// The next item, if one is left.
+fn show_next(alloc: Global, iterator: &mut Iterator, shown: &mut String) -> Result<(), Memory> {
+    if iterator.is_at_end() {
+        return Ok(());
+    }
+    shown.push_str(" ")?;
+    show_item(alloc, &iterator.advance(alloc)?, shown)
+}
+
+fn show_item(alloc: Global, item: &Item, shown: &mut String) -> Result<(), Memory> {
+    match item {
+        Item::One(v) => show(alloc, v, shown),
+        Item::Two { argument, image } => {
+            show(alloc, argument, shown)?;
+            shown.push_str("->")?;
+            show(alloc, image, shown)
+        }
+    }
+}
+
+fn show(alloc: Global, v: &Option<Value>, shown: &mut String) -> Result<(), Memory> {
+    match v {
+        Some(v) => show_bytes(text(alloc, v)?.as_slice(), shown),
+        None => shown.push_str("*"),
+    }
+}
+
+fn show_bytes(bytes: &[u8], shown: &mut String) -> Result<(), Memory> {
+    for byte in bytes {
+        shown.push(char::from(*byte))?;
+    }
+    Ok(())
 }
