@@ -11,8 +11,8 @@ use Rattle.setl_names.specs.declared.broken.Break.{Break}
 use Rattle.setl_names.specs.Breaks.{earlier, tagged, break_at}
 use Rattle.setl_names.specs.Names.{Name, has, with_names}
 use Rattle.setl_names.specs.Variables.{var_names}
-use Rattle.setl_declarations.specs.Written.{Written, Simple, Element, Tuple, Set, Smap, Mmap, written, parts, core_step, mode_step}
-use Rattle.setl_declarations.specs.code.Tests.{core_written}
+use Rattle.setl_written.specs.Written.{Written, Simple, Element, Tuple, Set, Smap, Mmap, written, parts, core_step, mode_step}
+use Rattle.setl_written.specs.code.Tests.{core_written}
 use Rattle.setl_declarations.specs.Rules.{unknown_bases, line_parts, line_bases, rule_21}
 
 tagged_append : (rule : ℕ) (xs ys : List ℕ) → tagged rule (xs ++ ys) ≡ tagged rule xs ++ tagged rule ys
