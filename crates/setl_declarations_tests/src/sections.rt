@@ -6,8 +6,8 @@ use setl_names::RuleFault;
 use setl_parse::parse;
 use setl_token::tokens;
 use setl_tree::Tree;
-use std::alloc::Global;
-use std::fmt::{self, Write};
+use std::alloc::{AllocError, Global};
+use std::fmt::Write;
 use std::test::Fail;
 
 /// The program around a section, whose first line is line 3. Its variables are v and w, which stand in `var`, x and y in
@@ -258,7 +258,7 @@ fn first_word(mode: &Mode) -> &'static str {
 }
 
 /// Adds the words of a mode to a text.
-fn put_mode(text: &mut String, mode: &Mode) -> Result<(), fmt::Error> {
+fn put_mode(text: &mut String, mode: &Mode) -> Result<(), AllocError> {
     text.push_str(form_of(mode))?;
     text.push_str(first_word(mode))?;
     match mode {
@@ -276,7 +276,7 @@ fn put_mode(text: &mut String, mode: &Mode) -> Result<(), fmt::Error> {
 }
 
 /// Adds names with their modes to a text.
-fn put_all(text: &mut String, all: &[NamedMode]) -> Result<(), fmt::Error> {
+fn put_all(text: &mut String, all: &[NamedMode]) -> Result<(), AllocError> {
     for named in all {
         text.push_str(" ")?;
         text.push_str(str::from_utf8(named.name.bytes()).unwrap_or("?"))?;
@@ -288,7 +288,7 @@ fn put_all(text: &mut String, all: &[NamedMode]) -> Result<(), fmt::Error> {
 }
 
 /// Adds the rule that is broken and the line to a text.
-fn put_fault(text: &mut String, fault: RuleFault) -> Result<(), fmt::Error> {
+fn put_fault(text: &mut String, fault: RuleFault) -> Result<(), AllocError> {
     match fault {
         RuleFault::Broken { rule, line } => write!(text, " {rule} at {line}"),
         RuleFault::NoMemory => text.push_str(" no memory"),
@@ -296,7 +296,7 @@ fn put_fault(text: &mut String, fault: RuleFault) -> Result<(), fmt::Error> {
 }
 
 /// Adds what the section of a short program declares, or the rule that it breaks first, to a text.
-fn put_outcome(alloc: Global, text: &mut String, source: &[u8]) -> Result<(), fmt::Error> {
+fn put_outcome(alloc: Global, text: &mut String, source: &[u8]) -> Result<(), AllocError> {
     let Some(tree) = read(alloc, source) else {
         return text.push_str(" no program");
     };
@@ -310,7 +310,7 @@ fn put_outcome(alloc: Global, text: &mut String, source: &[u8]) -> Result<(), fm
 }
 
 /// What a section declares, or the rule that it breaks first, as a text.
-fn outcome(alloc: Global, section: &str) -> Result<String, fmt::Error> {
+fn outcome(alloc: Global, section: &str) -> Result<String, AllocError> {
     let source = format!(in alloc; "{HEAD}{section}{TAIL}")?;
     let mut text = String::new(alloc);
     put_outcome(alloc, &mut text, source.as_bytes())?;
