@@ -133,7 +133,7 @@ fn answer(mode: &Mode, value: &Option<Value>) -> &'static str {
     if fits(mode, value) { "fits" } else { "misfits" }
 }
 
-/// Whether the value or `om` that is denoted fits a mode, as a word.
+/// Whether the value or `om` that is denoted fits this mode, as a word.
 fn answer_to(alloc: Global, mode: &Mode, denotation: &str) -> Result<&'static str, Memory> {
     if denotation == "atom" {
         return Ok(answer(mode, &Some(Value::Atom(7))));
@@ -147,14 +147,19 @@ fn answer_to(alloc: Global, mode: &Mode, denotation: &str) -> Result<&'static st
     })
 }
 
+/// Whether the value or `om` that is denoted fits the mode that these words write, as a word.
+fn answer_in(alloc: Global, words: &str, denotation: &str) -> Result<&'static str, Memory> {
+    let mode = mode(alloc, words)?;
+    answer_to(alloc, &mode, denotation)
+}
+
 #[test]
 fn values_fit_modes(rt: HostRuntime) -> Result<(), Fail> {
     let alloc = rt.alloc();
     for row in ROWS.lines() {
         let (want, rest) = row.split_once(" | ").unwrap_or((row, ""));
         let (words, denotation) = rest.split_once(" | ").unwrap_or((rest, ""));
-        let mode = mode(alloc, words)?;
-        assert_eq!(rt; answer_to(alloc, &mode, denotation)?, want, "{row}");
+        assert_eq!(rt; answer_in(alloc, words, denotation)?, want, "{row}");
     }
     Ok(())
 }

@@ -1,7 +1,7 @@
 //! Sections, and the modes that they declare or the first break in them.
 
 use setl_declarations::modes;
-use setl_modes::{Form, Mode, NamedMode};
+use setl_modes::{Form, Mode, ModeTable, NamedMode};
 use setl_names::RuleFault;
 use setl_parse::parse;
 use setl_token::tokens;
@@ -295,17 +295,25 @@ fn put_fault(text: &mut String, fault: RuleFault) -> Result<(), AllocError> {
     }
 }
 
+/// Adds the bases and the variables of a table to a text.
+fn put_table(text: &mut String, table: &ModeTable) -> Result<(), AllocError> {
+    put_all(text, table.bases.as_slice())?;
+    put_all(text, table.vars.as_slice())
+}
+
+/// Adds what the section of a program declares, or the rule that it breaks first, to a text.
+fn put_declared(alloc: Global, text: &mut String, tree: &Tree) -> Result<(), AllocError> {
+    match modes(alloc, tree) {
+        Ok(table) => put_table(text, &table),
+        Err(fault) => put_fault(text, fault),
+    }
+}
+
 /// Adds what the section of a short program declares, or the rule that it breaks first, to a text.
 fn put_outcome(alloc: Global, text: &mut String, source: &[u8]) -> Result<(), AllocError> {
-    let Some(tree) = read(alloc, source) else {
-        return text.push_str(" no program");
-    };
-    match modes(alloc, &tree) {
-        Ok(table) => {
-            put_all(text, table.bases.as_slice())?;
-            put_all(text, table.vars.as_slice())
-        }
-        Err(fault) => put_fault(text, fault),
+    match read(alloc, source) {
+        None => text.push_str(" no program"),
+        Some(tree) => put_declared(alloc, text, &tree),
     }
 }
 
