@@ -1,5 +1,5 @@
 -- Breaks behind breaks.
-use Rattle.std.proofs.Common.{◌≡◌, ℕ, suc, ◌+◌, ◌<◌, drop, length, get_or, add-one, drop-cons, Bool, true, false, cond, List, [], ◌∷◌, ◌++◌, fold, Option, refl, ap, sym, ◌∙◌}
+use Rattle.std.proofs.Common.{◌≡◌, ℕ, ◌+◌, ◌<◌, drop, length, get_or, Bool, true, false, cond, List, [], ◌∷◌, ◌++◌, fold, Option, refl, ap, sym, ◌∙◌}
 use Rattle.std.proofs.lemmas.List.Sums.{fold-append}
 use Rattle.setl_tree.specs.declared.mode.Attribute.{Attribute}
 use Rattle.setl_tree.specs.declared.mode.Core.{Core, fold-roll-Core}
@@ -11,9 +11,10 @@ use Rattle.setl_names.specs.declared.broken.Break.{Break}
 use Rattle.setl_names.specs.Breaks.{earlier, tagged, break_at}
 use Rattle.setl_names.specs.Names.{Name, has, with_names}
 use Rattle.setl_names.specs.Variables.{var_names}
-use Rattle.setl_declarations.specs.Written.{Written, Simple, Element, Tuple, Set, Smap, Mmap, written, parts, core_step, mode_step}
-use Rattle.setl_declarations.specs.code.Tests.{core_written}
+use Rattle.setl_written.specs.Written.{Written, Simple, Element, Tuple, Set, Smap, Mmap, written, parts, core_step, mode_step}
+use Rattle.setl_written.specs.code.Tests.{core_written}
 use Rattle.setl_declarations.specs.Rules.{unknown_bases, line_parts, line_bases, rule_21}
+use Rattle.setl_declarations.proofs.Lines.{split}
 
 tagged_append : (rule : ℕ) (xs ys : List ℕ) → tagged rule (xs ++ ys) ≡ tagged rule xs ++ tagged rule ys
 tagged_append rule [] ys = refl
@@ -73,9 +74,6 @@ pub mmap_unknown : (x : Core) (d r d1 r1 : WrittenMode) (a : Option Attribute) (
     last ≡ with_unknown first known (core_written x a)
 mmap_unknown x d r d1 r1 a first middle last known h ed er em el =
     two_unknown d r d1 r1 first middle last known ed er em el ∙ sym (ap (with_unknown first known) (mmap_written x d r a h))
-
-split : (lines : List ReprLine) (i : ℕ) (l : ReprLine) → i < length lines → l ≡ get_or lines i l → drop i lines ≡ l ∷ drop (i + 1) lines
-split lines i l h is = drop-cons lines i l h ∙ ap (λ (z : ReprLine). z ∷ drop (suc i) lines) (sym is) ∙ ap (λ n. l ∷ drop n lines) (sym (add-one i))
 
 -- the first break so far and of the bases that one more line names
 pub line_unknown : (lines : List ReprLine) (i : ℕ) (l : ReprLine) (first next whole : Option Break) (known more : List Name) → i < length lines → l ≡ get_or lines i l →

@@ -2,3 +2,4 @@ pub mod NameLists
 pub mod Appends
 pub mod Among
 pub mod Elements
+mod Lines

@@ -1,4 +1,3 @@
-pub mod Written
 pub mod Rules
 pub mod Declares
 pub mod code

@@ -1,7 +1,6 @@
 -- Rules 19 to 28, on the declarations of a `repr` section: the lines at which each is broken.
 use Rattle.std.specs.Prelude.{◌≡◌, refl, codes, ℕ, Bool, true, false, not, ◌||◌, ◌&&◌, List, [], ◌∷◌, ◌++◌, map, Option, Some, None, if◌then◌else◌}
 use Rattle.std.specs.List.{list_any}
-use Rattle.setl_tree.specs.declared.mode.Attribute.TheVariants as at
 use Rattle.setl_tree.specs.declared.mode.ReprLine.{ReprLine}
 use Rattle.setl_tree.specs.declared.mode.ReprLine.TheVariants as rl
 use Rattle.setl_tree.specs.declared.mode.WrittenMode.{WrittenMode}
@@ -12,7 +11,8 @@ use Rattle.setl_names.specs.Heads.{declared_entry, lines_again}
 use Rattle.setl_names.specs.Names.{Name, has, with_names}
 use Rattle.setl_names.specs.Procedures.{is_procedure, param_names}
 use Rattle.setl_names.specs.Variables.{variables, var_names}
-use Rattle.setl_declarations.specs.Written.{Written, Simple, Element, Tuple, Set, Smap, Mmap, written, parts, inside, has_attribute, is_element, is_local, is_based, is_element_tuple, has_other_images}
+use Rattle.setl_written.specs.Written.{Written, Element, Smap, written, parts, inside, is_local, has_other_images}
+use Rattle.setl_written.specs.Tested.{is_for_variables, has_stray_attribute, has_stray_element}
 
 -- ---- what a section declares
 
@@ -90,18 +90,6 @@ unknown_bases bases [] = []
 unknown_bases bases (Element a line b ∷ ms) = if has bases b then unknown_bases bases ms else line ∷ unknown_bases bases ms
 unknown_bases bases (m ∷ ms) = unknown_bases bases ms
 
--- whether a mode is an `elmt` or has an attribute
-abbrev pub is_for_variables : Written → Bool
-is_for_variables m = is_element m || has_attribute m
-
--- whether an attribute stands before something else than a set or map whose first mode is an `elmt`
-abbrev pub has_stray_attribute : Written → Bool
-has_stray_attribute m = has_attribute m && not (is_based m)
-
--- whether an `elmt` stands inside a mode whose first mode isn't an `elmt`
-abbrev pub has_stray_element : Written → Bool
-has_stray_element m = list_any is_element (inside m) && not (is_based m || is_element_tuple m)
-
 -- whether `local` stands elsewhere than as the first word of a declared variable's mode
 abbrev pub has_stray_local : ReprLine → Bool
 has_stray_local (rl.Base line ds m) = list_any is_local (parts_of m)
@@ -153,47 +141,9 @@ rule_27 ls = lines_where (λ l. list_any has_stray_element (line_parts l)) ls
 abbrev pub rule_28 : List ReprLine → List ℕ
 rule_28 ls = lines_where (λ l. list_any has_other_images (line_parts l)) ls
 
--- ---- worked rows
+-- ---- worked row: the lines of the `elmt`s that name no known base
 abbrev base : Name
 base = codes "b"
 
-abbrev element : Written
-element = Element None 1 base
-
--- tuple(elmt b) is allowed, and tuple(tuple(elmt b)) isn't
-whole_mode_of_a_tuple : list_any has_stray_element (parts (Tuple None element)) ≡ false
-whole_mode_of_a_tuple = refl
-
-inside_two_tuples : list_any has_stray_element (parts (Tuple None (Tuple None element))) ≡ true
-inside_two_tuples = refl
-
--- in smap(elmt b) set(set(elmt b)) and in smap(int) elmt b an `elmt` stands inside a set or map on no base
-inside_a_set : list_any has_stray_element (parts (Smap None element (Set None (Set None element)))) ≡ true
-inside_a_set = refl
-
-second_mode : list_any has_stray_element (parts (Smap None (Simple None) element)) ≡ true
-second_mode = refl
-
-both_modes : list_any has_stray_element (parts (Mmap None element (Set None element))) ≡ false
-both_modes = refl
-
--- local smap(elmt b) set(elmt b) is allowed; local set(int) and remote tuple(elmt b) aren't
-on_a_base : list_any has_stray_attribute (parts (Smap (Some at.Local) element (Set None element))) ≡ false
-on_a_base = refl
-
-on_no_base : list_any has_stray_attribute (parts (Set (Some at.Local) (Simple None))) ≡ true
-on_no_base = refl
-
-before_a_tuple : list_any has_stray_attribute (parts (Tuple (Some at.Remote) element)) ≡ true
-before_a_tuple = refl
-
--- mmap{int} int isn't allowed at any depth; mmap{int} set(int) is
-images_are_a_set : list_any has_other_images (parts (Mmap None (Simple None) (Set (Some at.Sparse) (Simple None)))) ≡ false
-images_are_a_set = refl
-
-images_are_no_set : list_any has_other_images (parts (Tuple None (Mmap None (Simple None) (Simple None)))) ≡ true
-images_are_no_set = refl
-
--- the lines of the `elmt`s that name no known base
-unknown_and_known : unknown_bases (base ∷ []) (parts (Smap None (Element None 3 (codes "c")) element)) ≡ 3 ∷ []
+unknown_and_known : unknown_bases (base ∷ []) (parts (Smap None (Element None 3 (codes "c")) (Element None 1 base))) ≡ 3 ∷ []
 unknown_and_known = refl

@@ -8,7 +8,6 @@ mod bases;
 mod copies;
 mod listed;
 mod names;
-mod parts;
 mod program;
 mod rules;
 mod table;

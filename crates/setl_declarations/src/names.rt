@@ -110,6 +110,22 @@ fn variable_breaks(
     Ok(undeclarable(first, procs, &main, variables.as_slice()))
 }
 
+/// The first break of the rules on declared names, by the tree's procedures and the bodies' names. An error is want of
+/// memory.
+fn name_break_by(
+    alloc: Global,
+    tree: &Tree,
+    procs: &Procs<'_>,
+    bodies: &[BodyNames],
+) -> Result<Option<Break>, AllocError>
+    requires procs { procs.now ≡ tree.now.procs }
+    requires bodies { bodies.now ≡ all_names tree.now }
+    ensures { IfOk result (λ f. f ≡ first_break (name_breaks tree.now)) }
+{
+    let first = base_breaks(alloc, None, tree, procs, bodies)?;
+    variable_breaks(alloc, first, tree, procs, bodies)
+}
+
 /// The first break of the rules on declared names. The bodies' names are those of the tree. An error is want of memory.
 pub fn name_break(
     alloc: Global,
@@ -120,6 +136,5 @@ pub fn name_break(
     ensures { IfOk result (λ f. f ≡ first_break (name_breaks tree.now)) }
 {
     let procs = Procs::new(alloc, tree.procs.as_slice())?;
-    let first = base_breaks(alloc, None, tree, &procs, bodies)?;
-    variable_breaks(alloc, first, tree, &procs, bodies)
+    name_break_by(alloc, tree, &procs, bodies)
 }

@@ -9,13 +9,14 @@ ghost use Rattle.setl_names.specs.Variables.{var_names};
 ghost use Rattle.setl_declarations.specs.Declares.{mode_breaks};
 ghost use Rattle.setl_declarations.specs.Rules as spec;
 ghost use Rattle.setl_declarations.specs.Rules.{unknown_bases, lines_where, line_parts, line_bases};
-ghost use Rattle.setl_declarations.specs.code.Tests as tests;
-ghost use Rattle.setl_declarations.specs.code.Tests.{core_written};
-ghost use Rattle.setl_declarations.specs.Written.{written, parts};
+ghost use Rattle.setl_declarations.specs.code.Tests.{mode_for_variables};
+ghost use Rattle.setl_written.specs.Written.{written, parts};
+ghost use Rattle.setl_written.specs.code.Tests as tests;
+ghost use Rattle.setl_written.specs.code.Tests.{core_written};
 
-use crate::parts::{Test, any_inside, any_part};
 use setl_names::{Break, Names, noted, noted_if};
 use setl_tree::{Boxed, Core, Declared, Items, ReprLine, Text, WrittenMode};
+use setl_written::{Test, any_inside, any_part};
 use std::alloc::{AllocError, Global};
 
 /// The first break so far and of the rule that an `elmt` names a known base, in a mode.
@@ -97,7 +98,7 @@ fn element_breaks(
 
 /// The line of a base's mode that is for variables alone.
 fn mode_for_variables(line: &ReprLine) -> Option<u32>
-    ensures { result ≡ tests.mode_for_variables line.now }
+    ensures { result ≡ mode_for_variables line.now }
 {
     match line {
         ReprLine::Base(_, _, Some(m)) => {

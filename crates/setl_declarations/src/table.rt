@@ -127,6 +127,23 @@ fn put_line(
     }
 }
 
+/// Puts what `repr` lines declare at the end of the bases and of the variables. An error is want of memory.
+fn put_lines(
+    alloc: Global,
+    bases: &mut Bases,
+    vars: &mut Items<NamedMode>,
+    lines: &[ReprLine],
+) -> Result<(), AllocError>
+    requires { Finds bases.old.numbers (named_modes bases.old.modes) }
+    ensures bases { OnOk result (named_modes bases.new.modes ≡ spec.bases_from (named_modes bases.old.modes) lines.now) }
+    ensures vars { OnOk result (named_modes vars.new ≡ named_modes vars.old ++ spec.variables_from (named_modes bases.old.modes) lines.now) }
+{
+    for line in lines {
+        put_line(alloc, bases, vars, line)?;
+    }
+    Ok(())
+}
+
 /// The bases and the variables that a section declares, with their modes. An error is want of memory.
 pub fn mode_table(alloc: Global, lines: &[ReprLine]) -> Result<ModeTable, AllocError>
     ensures bases { IfOk result (λ table. named_modes table.bases ≡ bases_of lines.now) }
@@ -134,9 +151,7 @@ pub fn mode_table(alloc: Global, lines: &[ReprLine]) -> Result<ModeTable, AllocE
 {
     let mut bases = Bases::new(alloc);
     let mut vars = Items::new(alloc);
-    for line in lines {
-        put_line(alloc, &mut bases, &mut vars, line)?;
-    }
+    put_lines(alloc, &mut bases, &mut vars, lines)?;
     Ok(ModeTable {
         bases: bases.modes,
         vars,

@@ -1,6 +1,8 @@
-//! Programs with a `repr` section, and what their declarations give or which rule they break. There is no code here but
-//! tests.
+//! Tests of declarations: programs with a `repr` section, and what their declarations give or which rule they break; and
+//! modes, values and what fits. Nothing stands on this crate.
 #![tactic(auto)]
 
 #[cfg(test)]
-mod tests;
+mod fits;
+#[cfg(test)]
+mod sections;

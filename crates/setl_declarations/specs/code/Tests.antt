@@ -1,26 +1,10 @@
--- The tests of the parts of modes as the code names them, and modes without their attributes.
-use Rattle.std.specs.Prelude.{ℕ, Bool, Option, Some, None, if◌then◌else◌}
+-- The line that the code tests of a base's mode.
+use Rattle.std.specs.Prelude.{ℕ, Option, Some, None, if◌then◌else◌}
 use Rattle.std.specs.List.{list_any}
-use Rattle.setl_tree.specs.declared.mode.Attribute.{Attribute}
-use Rattle.setl_tree.specs.declared.mode.Core.{Core, fold-Core}
 use Rattle.setl_tree.specs.declared.mode.ReprLine.{ReprLine}
 use Rattle.setl_tree.specs.declared.mode.ReprLine.TheVariants as rl
-use Rattle.setl_declarations.specs.declared.parts.Test.{Test}
-use Rattle.setl_declarations.specs.declared.parts.Test.TheVariants as test
-use Rattle.setl_declarations.specs.Written.{Written, written, parts, core_step, mode_step, is_local, has_other_images}
-use Rattle.setl_declarations.specs.Rules.{is_for_variables, has_stray_attribute, has_stray_element}
-
--- a mode by its attribute
-abbrev pub core_written : Core → Option Attribute → Written
-core_written = fold-Core (Option Attribute → Written) Written core_step mode_step
-
--- whether a mode passes a test
-abbrev pub passes : Test → Written → Bool
-passes test.ForVariables m = is_for_variables m
-passes test.Local m = is_local m
-passes test.StrayAttribute m = has_stray_attribute m
-passes test.StrayElement m = has_stray_element m
-passes test.OtherImages m = has_other_images m
+use Rattle.setl_written.specs.Written.{written, parts}
+use Rattle.setl_written.specs.Tested.{is_for_variables}
 
 -- the line of a base's mode that is for variables alone
 abbrev pub mode_for_variables : ReprLine → Option ℕ

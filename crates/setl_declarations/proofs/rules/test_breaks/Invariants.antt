@@ -2,7 +2,7 @@ use Rattle.std.proofs.Common.{◌≡◌, drop, fold}
 use Rattle.std.specs.List.{list_any}
 use Rattle.setl_names.specs.Breaks.{earlier, tagged}
 use Rattle.setl_declarations.specs.Rules as spec
-use Rattle.setl_declarations.specs.code.Tests as tests
+use Rattle.setl_written.specs.code.Tests as tests
 use Rattle.setl_declarations.proofs.rules.test_breaks.Given as goal
 
 abbrev pub invariant-loop-line : goal.invariant-loop-line

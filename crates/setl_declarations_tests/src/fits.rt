@@ -1,6 +1,4 @@
-//! One table of values, modes and what fits, a line each. A mode is written with its words in their order and no brackets, as
-//! `mmap int set int` for mmap{int} set(int), and `elmt int` for the members of a base of mode int. A value is written
-//! as a denotation.
+//! Values, modes and what fits.
 
 use setl_fit::fits;
 use setl_io::SureSource;
@@ -11,6 +9,9 @@ use setl_value::{Memory, Value};
 use std::alloc::Global;
 use std::test::Fail;
 
+/// Values, modes and what fits, a line each. A mode is written with its words in their order and no brackets, as
+/// `mmap int set int` for mmap{int} set(int), and `elmt int` for the members of a base of mode int. A value is written
+/// as a denotation, and `atom` for an atom, which has none.
 const ROWS: &str = "fits | int | *
 fits | mmap int int | *
 fits | general | 1
@@ -80,14 +81,17 @@ misfits | mmap int mmap int set int | {[1 [1 1]] [1 ['a' 1]]}
 misfits | mmap int mmap int int | {[1 [1 1]]}
 fits | mmap int mmap int int | {}
 fits | mmap int mmap int smap int int | {[1 [1 [1 1]]] [1 [1 [2 1]]] [1 [2 [1 2]]] [2 [1 [1 2]]]}
-misfits | mmap int mmap int smap int int | {[1 [1 [1 1]]] [1 [1 [1 2]]]}";
+misfits | mmap int mmap int smap int int | {[1 [1 [1 1]]] [1 [1 [1 2]]]}
+fits | atom | atom
+fits | general | atom
+misfits | int | atom";
 
-// The last mode that was made, taken out.
+/// The last mode that was made, taken out.
 fn taken(alloc: Global, made: &mut Vec<Mode>) -> Result<Boxed<Mode>, Memory> {
     Boxed::new(alloc, made.pop().unwrap_or(Mode::General))
 }
 
-// The mode that a word makes of the modes behind it.
+/// The mode that a word makes of the modes behind it.
 fn mode_of_word(alloc: Global, word: &str, made: &mut Vec<Mode>) -> Result<Mode, Memory> {
     match word {
         "int" => Ok(Mode::Int),
@@ -103,6 +107,7 @@ fn mode_of_word(alloc: Global, word: &str, made: &mut Vec<Mode>) -> Result<Mode,
     }
 }
 
+/// The map of the two modes behind its word.
 fn map_mode(alloc: Global, single: bool, made: &mut Vec<Mode>) -> Result<Mode, Memory> {
     let domain = taken(alloc, made)?;
     let images = taken(alloc, made)?;
@@ -113,7 +118,7 @@ fn map_mode(alloc: Global, single: bool, made: &mut Vec<Mode>) -> Result<Mode, M
     }
 }
 
-// The mode that these words write.
+/// The mode that these words write.
 fn mode(alloc: Global, words: &str) -> Result<Mode, Memory> {
     let mut made = Vec::new(alloc);
     for word in words.rsplit(' ') {
@@ -123,37 +128,38 @@ fn mode(alloc: Global, words: &str) -> Result<Mode, Memory> {
     Ok(made.pop().unwrap_or(Mode::General))
 }
 
-// Whether the value or `om` that is denoted fits the mode, and None where nothing is denoted.
-fn answer(alloc: Global, words: &str, denotation: &str) -> Result<Option<bool>, Memory> {
-    let mode = mode(alloc, words)?;
-    let mut reader = Reader::new(alloc)?;
+/// Whether a value or `om` fits a mode, as a word.
+fn answer(mode: &Mode, value: &Option<Value>) -> &'static str {
+    if fits(mode, value) { "fits" } else { "misfits" }
+}
+
+/// Whether the value or `om` that is denoted fits this mode, as a word.
+fn answer_to(alloc: Global, mode: &Mode, denotation: &str) -> Result<&'static str, Memory> {
+    if denotation == "atom" {
+        return Ok(answer(mode, &Some(Value::Atom(7))));
+    }
     let mut input = SureSource::new(denotation.as_bytes().to_vec(alloc)?);
+    let mut reader = Reader::new(alloc)?;
     Ok(match reader.next(&mut input) {
-        Ok(Got::Value(v)) => Some(fits(&mode, &Some(v))),
-        Ok(Got::Om) => Some(fits(&mode, &None)),
-        _ => None,
+        Ok(Got::Value(v)) => answer(mode, &Some(v)),
+        Ok(Got::Om) => answer(mode, &None),
+        _ => "nothing is denoted",
     })
+}
+
+/// Whether the value or `om` that is denoted fits the mode that these words write, as a word.
+fn answer_in(alloc: Global, words: &str, denotation: &str) -> Result<&'static str, Memory> {
+    let mode = mode(alloc, words)?;
+    answer_to(alloc, &mode, denotation)
 }
 
 #[test]
 fn values_fit_modes(rt: HostRuntime) -> Result<(), Fail> {
     let alloc = rt.alloc();
     for row in ROWS.lines() {
-        let (fitting, rest) = row.split_once(" | ").unwrap_or((row, ""));
+        let (want, rest) = row.split_once(" | ").unwrap_or((row, ""));
         let (words, denotation) = rest.split_once(" | ").unwrap_or((rest, ""));
-        assert_eq!(rt;
-            answer(alloc, words, denotation)?,
-            Some(fitting == "fits"),
-            "{row}"
-        );
-    }
-    let atom = Some(Value::Atom(7));
-    for (words, expected) in [("atom", true), ("general", true), ("int", false)] {
-        assert_eq!(rt;
-            fits(&mode(alloc, words)?, &atom),
-            expected,
-            "an atom as {words}"
-        );
+        assert_eq!(rt; answer_in(alloc, words, denotation)?, want, "{row}");
     }
     Ok(())
 }

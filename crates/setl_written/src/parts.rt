@@ -3,10 +3,10 @@
 ghost use Rattle.std.specs.Prelude.{◌≡◌, Option};
 ghost use Rattle.std.specs.List.{list_any};
 ghost use Rattle.setl_tree.specs.declared.mode.Attribute.{Attribute as TreeAttribute};
-ghost use Rattle.setl_declarations.specs.Written as spec;
-ghost use Rattle.setl_declarations.specs.Written.{written, parts, inside};
-ghost use Rattle.setl_declarations.specs.Rules as rules;
-ghost use Rattle.setl_declarations.specs.code.Tests.{core_written, passes};
+ghost use Rattle.setl_written.specs.Written as spec;
+ghost use Rattle.setl_written.specs.Written.{written, parts, inside};
+ghost use Rattle.setl_written.specs.Tested as tested;
+ghost use Rattle.setl_written.specs.code.Tests.{core_written, passes};
 
 use setl_tree::{Attribute, Boxed, Core, WrittenMode};
 
@@ -118,7 +118,7 @@ fn has_element_inside(x: &Core) -> bool
 
 /// Whether an `elmt` stands inside a mode whose first mode isn't an `elmt`.
 fn has_stray_element(m: &WrittenMode) -> bool
-    ensures { result ≡ rules.has_stray_element (written m.now) }
+    ensures { result ≡ tested.has_stray_element (written m.now) }
 {
     has_element_inside(&m.core) && !(is_based(m) || is_element_tuple(m))
 }

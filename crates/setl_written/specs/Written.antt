@@ -4,14 +4,13 @@ use Rattle.setl_tree.specs.declared.mode.Attribute.{Attribute}
 use Rattle.setl_tree.specs.declared.mode.Attribute.TheVariants as at
 use Rattle.setl_tree.specs.declared.mode.WrittenMode.{WrittenMode, fold-WrittenMode}
 use Rattle.setl_tree.specs.declared.mode.Core.TheOpen.{Core-F, WrittenMode-F}
-use Rattle.setl_names.specs.Names.{Name}
 
 -- A mode with the attribute before it.
 pub data Written : Type 0 where
   -- general, int, string, boolean or atom
   Simple : Option Attribute → Written
-  -- `elmt base`, with the line of the word `elmt`
-  Element : Option Attribute → (line : ℕ) → (base : Name) → Written
+  -- `elmt base`, with the line of the word `elmt` and the bytes of the base's name
+  Element : Option Attribute → (line : ℕ) → (base : List ℕ) → Written
   Tuple Set : Option Attribute → Written → Written
   -- smap(d) r and mmap{d} r
   Smap Mmap : Option Attribute → Written → Written → Written
