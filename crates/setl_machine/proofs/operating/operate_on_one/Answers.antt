@@ -5,10 +5,10 @@ use Rattle.setl_value.specs.code.DatumOf.{datum, part}
 use Rattle.setl_map.specs.code.Answers.{Tells}
 use Rattle.setl_map.specs.Operators.{op_of}
 use Rattle.setl_map.specs.Outcome.{Gives}
-use Rattle.setl_machine.specs.Control.{ControlState}
-use Rattle.setl_machine.specs.Freely.{PutsForOne}
-use Rattle.setl_machine.specs.Working.{Does}
-use Rattle.setl_machine.proofs.Freely.{operated_one, one_not, plain_on_top}
+use Rattle.setl_storing.specs.Control.{ControlState}
+use Rattle.setl_machine.specs.Operating.{PutsForOne}
+use Rattle.setl_storing.specs.Working.{Does}
+use Rattle.setl_machine.proofs.Operating.{operated_one, one_not, plain_on_top}
 use Rattle.setl_machine.proofs.operating.operate_on_one.Goals as goal
 
 pub put_for_one-requires-clause-one : goal.put_for_one-requires-clause-one

@@ -5,10 +5,10 @@ use Rattle.setl_value.specs.code.DatumOf.{datum, part}
 use Rattle.setl_map.specs.code.Answers.{Tells}
 use Rattle.setl_map.specs.Operators.{op_of}
 use Rattle.setl_map.specs.Outcome.{Gives}
-use Rattle.setl_machine.specs.Control.{ControlState}
-use Rattle.setl_machine.specs.Freely.{PutsForTwo}
-use Rattle.setl_machine.specs.Working.{Does}
-use Rattle.setl_machine.proofs.Freely.{operated_two, two_not, two_there}
+use Rattle.setl_storing.specs.Control.{ControlState}
+use Rattle.setl_machine.specs.Operating.{PutsForTwo}
+use Rattle.setl_storing.specs.Working.{Does}
+use Rattle.setl_machine.proofs.Operating.{operated_two, two_not, two_there}
 use Rattle.setl_machine.proofs.operating.operate_on_two.Goals as goal
 
 pub put_for_two-requires-clause-two : goal.put_for_two-requires-clause-two

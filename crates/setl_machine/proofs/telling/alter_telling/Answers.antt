@@ -6,8 +6,8 @@ use Rattle.setl_store.specs.Standing.{variables}
 use Rattle.setl_telling.specs.Told.{store_told}
 use Rattle.setl_watch.specs.Notices.{noticed}
 use Rattle.setl_watch.specs.code.NoticeOf.{notice_of}
-use Rattle.setl_machine.specs.Control.{stood_for}
-use Rattle.setl_machine.specs.Declaring.{modes_of}
+use Rattle.setl_storing.specs.Control.{stood_for}
+use Rattle.setl_storing.specs.Declaring.{modes_of}
 use Rattle.setl_machine.proofs.Told.{in_body, slot_stays, stayed_alter, tells_store, tells_alter, telling_on, telling_ends}
 use Rattle.setl_machine.proofs.telling.alter_telling.Goals as goal
 use Rattle.setl_machine.proofs.telling.alter_telling.Goals.{in-Paused+then-updated+in_ok-stored_events-in-Paused, in-Paused+else-updated, in_default}
