@@ -18,7 +18,10 @@ use crate::operating::{operate, push_atom, push_eof, round};
 use setl_code::Instr;
 use setl_environment::Memory;
 use setl_store::Store;
-use setl_storing::{Control, Declarations, End, back, keep, load, push, push_integer, push_text, store_in, take, update};
+use setl_storing::{
+    Control, Declarations, End, back, keep, load, push, push_integer, push_text, store_in, take,
+    update,
+};
 use setl_value::Value;
 use std::alloc::Global;
 

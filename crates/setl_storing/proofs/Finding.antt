@@ -1,12 +1,12 @@
 -- The tables from the names of declared variables.
-use Rattle.std.proofs.Common.{◌≡◌, ◌∙◌, ◌<◌, ◌+◌, ◌≢◌, ℕ, zero, suc, Bool, true, false, List, [], ◌∷◌, map, drop, length, get_or, Option, None, Some, refl, sym, ap, subst, true≢false, add-one, drop-cons, arith}
+use Rattle.std.proofs.Common.{◌≡◌, ◌∙◌, ◌<◌, ◌+◌, ◌≢◌, ℕ, zero, suc, Bool, true, false, List, [], ◌∷◌, map, drop, length, get_or, Option, Some, refl, sym, ap, subst, true≢false, add-one, drop-cons}
 use Rattle.std.specs.Prelude.{cond, bytes_eq, slice_get}
 use Rattle.std.specs.Global.{Vec}
 use Rattle.std.specs.Map.{lookup}
 use Rattle.std.specs.Cmp.Lexicographic.{bytes_decides}
 use Rattle.indexmap.specs.IndexMap.{IndexMap, insert_entry}
 use Rattle.setl_modes.specs.Modes.{Mode}
-use Rattle.setl_run.specs.Variable.{Variable, Global, Own, Bound}
+use Rattle.setl_run.specs.Variable.{Global, Own, Bound}
 use Rattle.setl_program.specs.declared.program.Declared.{Declared}
 use Rattle.setl_program.specs.code.Plain.{plain_declared}
 use Rattle.setl_code.specs.declared.code.Code.{Code}

@@ -1,9 +1,9 @@
 -- The places of declarations.
-use Rattle.std.proofs.Common.{◌≡◌, ◌∙◌, ◌+◌, ◌<◌, ◌≢◌, ℕ, zero, suc, Bool, true, false, List, [], ◌∷◌, ◌++◌, map, drop, length, get_or, refl, sym, ap, subst, arith, Option, None, Some}
+use Rattle.std.proofs.Common.{◌≡◌, ◌∙◌, ◌+◌, ◌<◌, ◌≢◌, ℕ, zero, suc, Bool, true, false, List, [], ◌∷◌, ◌++◌, map, length, get_or, refl, sym, ap, subst, arith, Option, None, Some}
 use Rattle.std.specs.Prelude.{slice_get, cond, IfSome}
 use Rattle.std.specs.Option.{option_map, option_flatten}
 use Rattle.std.proofs.lemmas.List.{length-map}
-use Rattle.setl_modes.specs.Modes.{Mode, mode_of}
+use Rattle.setl_modes.specs.Modes.{mode_of}
 use Rattle.setl_run.specs.Variable.{Variable, Global, Own, Bound, is_variable}
 use Rattle.setl_run.specs.VariableLaws.{same_variable}
 use Rattle.setl_program.specs.Program.{Parameter}
@@ -17,7 +17,7 @@ use Rattle.setl_code.specs.declared.code.OwnName.{OwnName}
 use Rattle.setl_code.specs.declared.code.OwnName.TheVariants as name
 use Rattle.setl_code.specs.declared.code.Slot.{Slot}
 use Rattle.setl_code.specs.declared.code.Slot.TheVariants as slot
-use Rattle.setl_code.specs.Plain.{Variables, variable_at, plain_slot, plain_name, plain_body, plain_bodies, plain_code}
+use Rattle.setl_code.specs.Plain.{variable_at, plain_slot, plain_name, plain_body, plain_bodies, plain_code}
 use Rattle.setl_store.specs.Standing.{Standing, variables, variables_by, variables_in}
 use Rattle.setl_storing.specs.Declaring.{Modes, DeclarationTable, modes_of, declared_at, place_from, place_of, IsOfMain, AreOfMain, IsBare, Serves}
 use Rattle.setl_storing.specs.Tables.{name_place, names_by, KnowsSlots}

@@ -1,17 +1,16 @@
 -- What a store does.
-use Rattle.std.proofs.Common.{◌≡◌, ◌∙◌, ℕ, suc, true, false, List, [], ◌∷◌, Option, None, Some, refl, sym, ap, subst}
+use Rattle.std.proofs.Common.{◌≡◌, ◌∙◌, ℕ, suc, true, false, List, [], Option, Some, refl, sym, ap, subst}
 use Rattle.setl_value.specs.Datum.{Datum}
 use Rattle.setl_value.specs.code.DatumOf.{part}
 use Rattle.setl_value.specs.declared.Value.{Value}
 use Rattle.setl_run.specs.Events as run
-use Rattle.setl_run.specs.Run.{State, Move, Goes, if_fits, stored, settle}
+use Rattle.setl_run.specs.Run.{State, Goes, if_fits, stored, settle}
 use Rattle.setl_run.specs.Variable.{Variable, Global, Own, Bound}
-use Rattle.setl_model.specs.World.{World}
 use Rattle.setl_code.specs.declared.code.Slot.{Slot}
 use Rattle.setl_code.specs.Code.{Code, StoreIn}
 use Rattle.setl_code.specs.Plain.{plain_code, plain_slot}
 use Rattle.setl_code.specs.CodeCore.{Held, There, Operand, CodeCore, write}
-use Rattle.setl_code.specs.Machine.{machine, at_step, on_top, store_in}
+use Rattle.setl_code.specs.Machine.{machine, at_step, store_in}
 use Rattle.setl_store.specs.Standing.{Standing, over, at_place, variables}
 use Rattle.setl_storing.specs.Control.{in_world}
 use Rattle.setl_storing.specs.Declaring.{Modes, tested, declared_at, Tests}

@@ -1,5 +1,5 @@
 -- How the code stands after a step, and how a run ends.
-use Rattle.std.specs.Prelude.{◌≡◌, ℕ, ◌-◌, List, [], ◌++◌}
+use Rattle.std.specs.Prelude.{◌≡◌, ℕ, List, [], ◌++◌}
 use Rattle.setl_run.specs.Events as run
 use Rattle.setl_run.specs.Run.{State, Next, Goes, Ends, settle}
 use Rattle.setl_code.specs.Code.{Code, Instr}

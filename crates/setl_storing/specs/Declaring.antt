@@ -1,6 +1,5 @@
 -- Declared variables, and how they are tested.
-use Rattle.std.specs.Prelude.{◌≡◌, ℕ, zero, suc, Bool, true, false, List, [], ◌∷◌, map, cond, slice_get, Option, Some, None, IfSome}
-use Rattle.std.specs.Option.{option_map}
+use Rattle.std.specs.Prelude.{◌≡◌, ℕ, zero, suc, true, false, List, [], ◌∷◌, map, cond, slice_get, Option, Some, None, IfSome}
 use Rattle.setl_value.specs.Datum.{Datum}
 use Rattle.setl_modes.specs.Modes.{Mode}
 use Rattle.setl_run.specs.Run.{Test}

@@ -1,5 +1,5 @@
 -- Facts about these definitions, for the proofs of this crate and of the machine.
-use Rattle.std.proofs.Common.{◌≡◌, ◌∙◌, ℕ, true, false, List, [], ◌∷◌, refl, ap, Option, None, Some, Ok, Err, ◌≢◌, zero, suc, Bool, arith, ◌+◌, Result, ◌-◌}
+use Rattle.std.proofs.Common.{◌≡◌, ◌∙◌, ℕ, true, false, List, [], ◌∷◌, refl, ap, Option, None, Some, Ok, Err, ◌≢◌, zero, suc, Bool, arith, ◌+◌, Result}
 use Rattle.std.specs.Prelude.{IfOk, slice_get, nat_eq, bytes_eq, ◌&&◌}
 use Rattle.std.specs.Option.{option_map}
 use Rattle.std.specs.declared.alloc.AllocError.{AllocError}
@@ -7,11 +7,11 @@ use Rattle.setl_value.specs.Datum.{Datum}
 use Rattle.setl_run.specs.Run.{Move, Moves, Halts, settle}
 use Rattle.setl_run.specs.Variable.{Variable, Global, Own, Bound, is_variable}
 use Rattle.setl_model.specs.World.{World}
-use Rattle.setl_code.specs.Code.{Code, Instr, Body}
+use Rattle.setl_code.specs.Code.{Code, Instr}
 use Rattle.setl_code.specs.Plain.{plain_body, plain_bodies}
 use Rattle.setl_code.specs.CodeCore.{Held, Operand, value_of, CodeCore, write}
 use Rattle.setl_code.specs.Machine.{machine, on_value, on_top, with_outcome}
-use Rattle.setl_store.specs.Standing.{Standing, over, top_of, variables}
+use Rattle.setl_store.specs.Standing.{Standing, over, top_of}
 use Rattle.setl_storing.specs.Control.{ControlState, world_of, in_world}
 use Rattle.setl_storing.specs.Declaring.{Modes, tested}
 use Rattle.setl_storing.specs.Answers.{start, IsLikely, Quiet}

@@ -2,7 +2,6 @@
 use Rattle.std.specs.Prelude.{◌≡◌, ℕ, List, ◌∷◌, ◌++◌, Option, Result, Ok, Err}
 use Rattle.setl_value.specs.code.DatumOf.{part}
 use Rattle.setl_value.specs.declared.Value.{Value}
-use Rattle.setl_map.specs.declared.OpFault.TheVariants as fault
 use Rattle.setl_text.specs.Reading.{NotForm, TooWide, TooDeep, read_denotation}
 use Rattle.setl_text.specs.declared.ReadFault.{ReadFault}
 use Rattle.setl_text.specs.declared.ReadFault.TheVariants as read

@@ -1,5 +1,5 @@
 -- The tables of declarations as the code keeps them. No public clause cites this module.
-use Rattle.std.specs.Prelude.{◌≡◌, ℕ, zero, suc, List, [], ◌∷◌, map, cond, slice_get, Option, Some, None, bytes_eq}
+use Rattle.std.specs.Prelude.{◌≡◌, ℕ, List, [], map, cond, slice_get, Option, Some, None, bytes_eq}
 use Rattle.std.specs.Global.{Vec}
 use Rattle.indexmap.specs.IndexMap.{IndexMap, get_by}
 use Rattle.setl_run.specs.Variable.{Variable, Global, Own}
@@ -7,7 +7,7 @@ use Rattle.setl_code.specs.declared.code.Body.{Body}
 use Rattle.setl_code.specs.declared.code.Code.{Code}
 use Rattle.setl_code.specs.declared.code.OwnName.{OwnName}
 use Rattle.setl_code.specs.declared.code.OwnName.TheVariants as name
-use Rattle.setl_modes.specs.Modes.{Mode, mode_of}
+use Rattle.setl_modes.specs.Modes.{mode_of}
 use Rattle.setl_model.specs.Step.{declared_mode}
 use Rattle.setl_storing.specs.declared.declarations.Declaration.{Declaration}
 use Rattle.setl_storing.specs.Declaring.{Modes, declared_at, place_from, place_of, IsOfMain}

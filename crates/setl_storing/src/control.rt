@@ -108,10 +108,7 @@ impl Control {
 
     /// The value that the next denotation of the input denotes, where None is `om`. At the end of the input it is `om`, and
     /// the control notes it.
-    pub fn take_denotation<I: Source>(
-        &mut self,
-        input: &mut I,
-    ) -> Result<Option<Value>, ReadFault>
+    pub fn take_denotation<I: Source>(&mut self, input: &mut I) -> Result<Option<Value>, ReadFault>
         requires { self.old.reader.fault ≡ None }
         ensures took_in { (rest' : List ℕ) → IsRest (ahead self.new.reader.ended (I.left input.new)) rest' →
             (rest : List ℕ) × IsRest (ahead self.old.reader.ended (I.left input.old)) rest × TakesIn (world_of self.old rest) (world_of self.new rest') result }

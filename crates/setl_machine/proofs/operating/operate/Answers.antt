@@ -4,7 +4,7 @@ use Rattle.setl_code.specs.Code.{Operate}
 use Rattle.setl_value.specs.code.DatumOf.{datum}
 use Rattle.setl_machine.specs.Operating.{PutsForTwo}
 use Rattle.setl_storing.specs.Working.{Does}
-use Rattle.setl_machine.proofs.Operating.{two_on_top, operated_freely}
+use Rattle.setl_machine.proofs.Operated.{two_on_top, operated_freely}
 use Rattle.setl_machine.proofs.operating.operate.Goals as goal
 
 pub put_for_two-requires-clause-two : goal.put_for_two-requires-clause-two
