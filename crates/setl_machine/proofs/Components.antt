@@ -6,10 +6,12 @@ use Rattle.setl_code.specs.Code.{PartsOf}
 use Rattle.setl_code.specs.CodeCore.{Operand, Result}
 use Rattle.setl_code.specs.Machine.{next, first_parts, take_apart}
 use Rattle.setl_store.specs.Standing.{Standing, over, at_place, top_of}
-use Rattle.setl_machine.specs.Control.{in_world}
-use Rattle.setl_machine.specs.Working.{Works, component_of}
-use Rattle.setl_machine.specs.declared.end.End.TheVariants.{Paused}
-use Rattle.setl_machine.proofs.Working.{goes, top_taken}
+use Rattle.setl_storing.specs.Control.{in_world}
+use Rattle.setl_storing.specs.Working.{Works}
+use Rattle.setl_machine.specs.Working.{component_of}
+use Rattle.setl_storing.specs.declared.end.End.TheVariants.{Paused}
+use Rattle.setl_storing.specs.Laws.{top_taken}
+use Rattle.setl_machine.proofs.Working.{goes}
 
 pub component_there : (ps : List (Option Datum)) (at : ℕ) (p : Option Datum) → slice_get ps at ≡ Some p → p ≡ component_of ps at
 component_there [] zero p h = absurd (cc)

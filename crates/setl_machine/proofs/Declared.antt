@@ -1,28 +1,15 @@
 -- Which variables are declared.
-use Rattle.std.proofs.Common.{◌≡◌, ◌≢◌, ◌∙◌, ℕ, zero, suc, Bool, true, false, List, [], ◌∷◌, refl, sym, ap, subst, arith, Option, None, Some}
-use Rattle.std.specs.Prelude.{slice_get, cond, nat_eq, bytes_eq, ◌&&◌, IfSome}
-use Rattle.std.proofs.lemmas.Bool.{eqb-true}
+use Rattle.std.proofs.Common.{◌≡◌, ◌≢◌, ◌∙◌, ℕ, zero, suc, true, List, [], ◌∷◌, refl, sym, ap, subst, arith, Option, None, Some}
+use Rattle.std.specs.Prelude.{slice_get, cond, IfSome}
 use Rattle.setl_value.specs.Datum.{Datum}
-use Rattle.setl_modes.specs.Fits.{is_taken}
 use Rattle.setl_program.specs.Program.{Parameter}
 use Rattle.setl_run.specs.Run.{Store}
-use Rattle.setl_run.specs.Variable.{Variable, Global, Own, Bound, is_variable}
+use Rattle.setl_run.specs.Variable.{Global, Own, Bound}
 use Rattle.setl_model.specs.Calls.{bindings}
 use Rattle.setl_model.specs.Step.{declared_mode}
 use Rattle.setl_code.specs.Code.{Body, Code}
-use Rattle.setl_machine.specs.Declaring.{Modes, tested, IsOfMain, AreOfMain, IsBare}
-
--- what isn't declared takes every value
-pub takes_any : (modes : Modes) (x : Variable) (v : Option Datum) → declared_mode modes x ≡ None → tested modes x v ≡ true
-takes_any modes x v h = ap (λ m. is_taken m v) h
-
--- own variables of two bodies are two
-pub apart : (n m : ℕ) (a b : List ℕ) → n ≢ m → is_variable (Own n a) (Own m b) ≡ false
-apart n m a b ne = go (nat_eq n m) refl
-  where
-    go : (t : Bool) → nat_eq n m ≡ t → is_variable (Own n a) (Own m b) ≡ false
-    go true e = absurd (ne (eqb-true n m e))
-    go false e = ap (λ t. t && bytes_eq a b) e
+use Rattle.setl_storing.specs.Declaring.{Modes, tested, AreOfMain, IsBare}
+use Rattle.setl_storing.specs.Laws.{takes_any, apart}
 
 -- no own variable of another body is declared
 pub not_declared : (modes : Modes) → AreOfMain modes → (n : ℕ) (name : List ℕ) → declared_mode modes (Own (suc n) name) ≡ None

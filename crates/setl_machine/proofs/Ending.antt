@@ -5,8 +5,9 @@ use Rattle.setl_run.specs.Run.{State, Ends, settle, step}
 use Rattle.setl_code.specs.Code.{Code}
 use Rattle.setl_code.specs.CodeCore.{Popped, Pops, Lacks, popped, CodeCore}
 use Rattle.setl_code.specs.Machine.{on_popped, print_values, do_step, machine}
-use Rattle.setl_machine.specs.Declaring.{Modes, tested}
-use Rattle.setl_machine.specs.Outcome.{start, said, AtPrint, EndsWriteNothing}
+use Rattle.setl_storing.specs.Declaring.{Modes, tested}
+use Rattle.setl_storing.specs.Answers.{start, said}
+use Rattle.setl_machine.specs.Outcome.{AtPrint, EndsWriteNothing}
 use Rattle.setl_machine.proofs.Silence.{says_nothing}
 
 none_long : (xs : List ℕ) → length xs ≡ 0 → xs ≡ []

@@ -22,22 +22,19 @@ use Rattle.setl_code.specs.Machine.{machine, turn, call_body, on_popped}
 use Rattle.setl_store.specs.Bodies.{with_stores, entered}
 use Rattle.setl_store.specs.Operands.{TakesOff}
 use Rattle.setl_store.specs.Standing.{Standing, over}
-use Rattle.setl_machine.specs.Control.{ControlState, world_of, in_world, stood_for}
-use Rattle.setl_machine.specs.Declaring.{Modes, tested, AreOfMain, IsBare}
-use Rattle.setl_machine.specs.Outcome.{start, next_of, Quiet}
-use Rattle.setl_machine.specs.Working.{DoesBy, HasParameters, Halted, TakesArguments, Begins}
-use Rattle.setl_machine.specs.declared.end.End.{End}
-use Rattle.setl_machine.specs.declared.end.End.TheVariants as end
+use Rattle.setl_storing.specs.Control.{ControlState, world_of, in_world, stood_for}
+use Rattle.setl_storing.specs.Declaring.{Modes, tested, AreOfMain, IsBare}
+use Rattle.setl_storing.specs.Answers.{start, next_of, Quiet}
+use Rattle.setl_storing.specs.Working.{DoesBy, Halted}
+use Rattle.setl_machine.specs.Working.{HasParameters, TakesArguments, Begins}
+use Rattle.setl_storing.specs.declared.end.End.{End}
+use Rattle.setl_storing.specs.declared.end.End.TheVariants as end
 use Rattle.setl_machine.proofs.Declared.{AllTaken, TakesAll, parameters_taken}
-use Rattle.setl_machine.proofs.Working.{stops_with, write_in_world}
+use Rattle.setl_storing.specs.Laws.{write_in_world}
+use Rattle.setl_machine.proofs.Working.{stops_with}
+use Rattle.setl_storing.specs.Laws.{bodies_at}
 
 -- ---- bodies
-
-pub bodies_at : (vars : List Variable) (n : ℕ) (bs : List declared.Body) (k : ℕ) → slice_get (plain_bodies vars n bs) k ≡ option_map (plain_body vars (n + k)) (slice_get bs k)
-bodies_at vars n [] zero = refl
-bodies_at vars n [] (suc k) = refl
-bodies_at vars n (b ∷ bs) zero = let e : n ≡ n + 0 = omega arith in ap (λ j. Some (plain_body vars j b)) e
-bodies_at vars n (b ∷ bs) (suc k) = let e : suc n + k ≡ n + suc k = omega arith in bodies_at vars (suc n) bs k ∙ ap (λ j. option_map (plain_body vars j) (slice_get bs k)) e
 
 pub has_none : (vars : List Variable) (bs : List declared.Body) (k : ℕ) → slice_get bs k ≡ None → HasParameters (slice_get (plain_bodies vars 0 bs) k) None
 has_none vars bs k e = subst (λ b. HasParameters b None) (sym (bodies_at vars 0 bs k ∙ ap (option_map (plain_body vars (0 + k))) e)) tt

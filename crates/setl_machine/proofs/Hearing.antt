@@ -13,12 +13,13 @@ use Rattle.setl_code.specs.CodeCore.{CodeCore}
 use Rattle.setl_code.specs.Machine.{do_instr, do_step, fetch, machine}
 use Rattle.setl_telling.specs.Told.{events_of, EventsAre, AllFit, BindingsFit, EndsTellNothing}
 use Rattle.setl_text.specs.code.Reads.{ahead}
-use Rattle.setl_machine.specs.Control.{stood_for, IsRest}
-use Rattle.setl_machine.specs.Declaring.{Modes, tested, AreOfMain, IsBare}
+use Rattle.setl_storing.specs.Control.{stood_for, IsRest}
+use Rattle.setl_storing.specs.Declaring.{Modes, tested, AreOfMain, IsBare}
 use Rattle.setl_machine.specs.Hearing.{events_told, Hears, Tells}
-use Rattle.setl_machine.specs.Outcome.{start, Answers, Seen, Ran, ReadsOnly}
-use Rattle.setl_machine.specs.declared.end.End.{End}
-use Rattle.setl_machine.specs.declared.end.End.TheVariants.{Done, Stopped, Spent, Paused, ReadFault, WriteFault, NoMemory, Stuck}
+use Rattle.setl_storing.specs.Answers.{start, Answers}
+use Rattle.setl_machine.specs.Outcome.{Seen, Ran, ReadsOnly}
+use Rattle.setl_storing.specs.declared.end.End.{End}
+use Rattle.setl_storing.specs.declared.end.End.TheVariants.{Done, Stopped, Spent, Paused, ReadFault, WriteFault, NoMemory, Stuck}
 use Rattle.setl_machine.proofs.Declared.{AllTaken, TakesAll, parameters_taken}
 use Rattle.setl_machine.proofs.RanLaws.{Came, came, ran_join, reads_join}
 use Rattle.setl_machine.proofs.Rounds.{Moment, Runs, runs_give_up}

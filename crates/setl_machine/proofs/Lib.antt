@@ -7,15 +7,10 @@ pub mod Working
 pub mod Declared
 pub mod Entering
 pub mod Components
-pub mod Denotations
 pub mod Stepping
 pub mod Rounds
-pub mod Storing
-pub mod Altered
-pub mod Places
-pub mod Finding
 pub mod Ending
-pub mod Freely
+pub mod Operated
 pub mod Printing
 pub mod Staying
 pub mod Told

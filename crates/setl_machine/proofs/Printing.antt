@@ -11,14 +11,15 @@ use Rattle.setl_code.specs.CodeCore.{Operand, CodeCore}
 use Rattle.setl_code.specs.Machine.{machine, on_popped, print_values}
 use Rattle.setl_code.specs.Plain.{plain_code}
 use Rattle.setl_store.specs.Standing.{Standing, over, at_place}
-use Rattle.setl_machine.specs.Control.{in_world}
-use Rattle.setl_machine.specs.Declaring.{Modes, tested}
-use Rattle.setl_machine.specs.Outcome.{start, next_of, IsLikely, Seen, Steps}
+use Rattle.setl_storing.specs.Control.{in_world}
+use Rattle.setl_storing.specs.Declaring.{Modes, tested}
+use Rattle.setl_storing.specs.Answers.{start, next_of, IsLikely}
+use Rattle.setl_machine.specs.Outcome.{Seen, Steps}
 use Rattle.setl_machine.specs.Working.{TakesLine, WritesLine}
-use Rattle.setl_machine.specs.declared.end.End.{End}
-use Rattle.setl_machine.specs.declared.end.End.TheVariants.{Done, Stopped, Spent, Paused, ReadFault, WriteFault, NoMemory, Stuck}
+use Rattle.setl_storing.specs.declared.end.End.{End}
+use Rattle.setl_storing.specs.declared.end.End.TheVariants.{Done, Stopped, Spent, Paused, ReadFault, WriteFault, NoMemory, Stuck}
 use Rattle.setl_machine.proofs.Stays.{appends_same}
-use Rattle.setl_machine.proofs.Working.{likely_over}
+use Rattle.setl_storing.specs.Laws.{likely_over}
 
 module _ (modes : Modes) (old : Standing) (line n : ℕ) (w : World) where
   -- a line was written

@@ -17,8 +17,9 @@ use Rattle.setl_model.specs.Places.{Taken, TakesOut, IsEmpty, CannotTake, part_a
 use Rattle.setl_code.specs.Code.{Alteration, Putting, Combining, TakingOut, Body, Code, Step, Instr, Push, PushAtom, PushEof, Load, Take, StoreIn, Operate, Alter, Decides, TestBool, Unless, Jump, DropTop, DupTop, PartsOf, BeginOver, NextOr, BeginOf, AddBelow, LeaveAll, PayRound, CallBody, ReturnTop, KeepAll, GoBack, PrintTop, ReadOne, StopRun}
 use Rattle.setl_code.specs.CodeCore.{Operand, Result, Iterator, PairIterator, Collecting, popped, without_iterators, Activation, Copy, CodeCore, held}
 use Rattle.setl_code.specs.Machine.{store_in, store_whole, take_from, selected_by, alter, begin_over, next_or, Added, Adds, Refused, Nowhere, added, go_added, take_apart, call_body, handed_back, return_to, go_back, push_read, decides, do_instr, do_step, fetch, machine}
-use Rattle.setl_machine.specs.Declaring.{Modes, tested}
-use Rattle.setl_machine.specs.Outcome.{start, said, AtPrint}
+use Rattle.setl_storing.specs.Declaring.{Modes, tested}
+use Rattle.setl_storing.specs.Answers.{start, said}
+use Rattle.setl_machine.specs.Outcome.{AtPrint}
 use Rattle.setl_machine.proofs.Cases.{by_top, by_popped, by_held, by_rest, by_turn, by_outcome, by_branch}
 
 -- the bytes that a move says

@@ -11,9 +11,9 @@ use Rattle.setl_model.specs.Places.{Taken, TakesOut, IsEmpty, CannotTake, part_a
 use Rattle.setl_code.specs.Code.{Bracket, Alteration, Putting, Combining, TakingOut, Code, StoreIn, Alter}
 use Rattle.setl_code.specs.CodeCore.{Held, There, Operand, Result, popped, CodeCore, held, write}
 use Rattle.setl_code.specs.Machine.{store_in, store_whole, take_from, selected_by, alter, do_instr, machine}
-use Rattle.setl_machine.specs.Declaring.{Modes, tested}
-use Rattle.setl_machine.specs.Outcome.{start, next_of, Quiet}
-use Rattle.setl_machine.specs.declared.end.End.TheVariants.{Paused}
+use Rattle.setl_storing.specs.Declaring.{Modes, tested}
+use Rattle.setl_storing.specs.Answers.{start, next_of, Quiet}
+use Rattle.setl_storing.specs.declared.end.End.TheVariants.{Paused}
 use Rattle.setl_machine.proofs.Cases.{by_top, by_popped, by_held, by_outcome}
 
 -- the body of this number is at work then

@@ -7,9 +7,10 @@ use Rattle.setl_code.specs.Code.{Code}
 use Rattle.setl_code.specs.CodeCore.{CodeCore}
 use Rattle.setl_code.specs.Machine.{machine}
 use Rattle.setl_text.specs.code.Reads.{StaysHonest, TakesOff}
-use Rattle.setl_machine.specs.Declaring.{Modes, tested}
-use Rattle.setl_machine.specs.Outcome.{start, said, Seen, Ran}
-use Rattle.setl_machine.specs.declared.end.End.TheVariants.{Paused, NoMemory}
+use Rattle.setl_storing.specs.Declaring.{Modes, tested}
+use Rattle.setl_storing.specs.Answers.{start, said}
+use Rattle.setl_machine.specs.Outcome.{Seen, Ran}
+use Rattle.setl_storing.specs.declared.end.End.TheVariants.{Paused, NoMemory}
 use Rattle.setl_machine.proofs.Silence.{says_nothing}
 
 pub appends_same : (b : Option (List ℕ)) → Appends b b []

@@ -9,10 +9,11 @@ use Rattle.setl_code.specs.Plain.{Variables, plain_instr, plain_step}
 use Rattle.setl_code.specs.CodeCore.{CodeCore}
 use Rattle.setl_code.specs.Machine.{do_step, fetch, machine}
 use Rattle.setl_text.specs.code.Reads.{ReaderState, StaysHonest}
-use Rattle.setl_machine.specs.Declaring.{Modes, tested}
-use Rattle.setl_machine.specs.Outcome.{start, next_of, Quiet, Seen, Steps}
-use Rattle.setl_machine.specs.declared.end.End.{End}
-use Rattle.setl_machine.specs.declared.end.End.TheVariants.{Done, Stopped, Spent, Paused, ReadFault, WriteFault, NoMemory, Stuck}
+use Rattle.setl_storing.specs.Declaring.{Modes, tested}
+use Rattle.setl_storing.specs.Answers.{start, next_of, Quiet}
+use Rattle.setl_machine.specs.Outcome.{Seen, Steps}
+use Rattle.setl_storing.specs.declared.end.End.{End}
+use Rattle.setl_storing.specs.declared.end.End.TheVariants.{Done, Stopped, Spent, Paused, ReadFault, WriteFault, NoMemory, Stuck}
 use Rattle.setl_machine.proofs.Stays.{appends_same, honest_same}
 
 pub in_hand : (c : Code) (k : CodeCore) (xs : Variables) (s : declared.Step) (what : declared_instr.Instr) → fetch c k.now.body k.now.at ≡ Some (plain_step xs s) → s.what ≡ what → fetch c k.now.body k.now.at ≡ Some (s.line, plain_instr xs what)

@@ -4,15 +4,11 @@ use Rattle.std.specs.Prelude.{cond, slice_get, OnOk, IfErr}
 use Rattle.std.specs.Global.{Vec}
 use Rattle.std.proofs.lemmas.List.{length-map}
 use Rattle.setl_value.specs.Datum.{Datum}
-use Rattle.setl_map.specs.declared.OpFault.{OpFault}
-use Rattle.setl_map.specs.declared.OpFault.TheVariants as fault
-use Rattle.setl_map.specs.Outcome.{Outcome, Gives, Fails, Overspends}
 use Rattle.setl_text.specs.Texts.{print_line}
 use Rattle.setl_run.specs.Variable.{Variable, Global, Own, Bound}
 use Rattle.setl_model.specs.Core.{Selected}
-use Rattle.setl_model.specs.Places.{Taken, TakesOut, IsEmpty, CannotTake, part_at_all, take_out}
+use Rattle.setl_model.specs.Places.{part_at_all}
 use Rattle.setl_model.specs.World.{World}
-use Rattle.setl_program.specs.declared.kinds.Taking.{Taking}
 use Rattle.setl_watch.specs.Notices.{Printed as PrintNotice, noticed, without_last}
 use Rattle.setl_watch.specs.code.NoticeOf.{notice_of}
 use Rattle.setl_watch.specs.declared.event.Event.{Event}
@@ -23,19 +19,18 @@ use Rattle.setl_code.specs.CodeCore.{Operand, Pops, popped, CodeCore, held}
 use Rattle.setl_code.specs.Machine.{selected_by, fetch}
 use Rattle.setl_code.specs.MayRun.{HasSlot}
 use Rattle.setl_code.specs.Plain.{Variables, plain_code, plain_slot}
-use Rattle.setl_telling.specs.Told.{value_held, store_told, popped_values, takes_none, none_taken, alter_told, call_told}
+use Rattle.setl_telling.specs.Told.{value_held, store_told, popped_values, none_taken, alter_told, call_told}
 use Rattle.setl_telling.specs.Notes.{told_name, own_slots, variable_of, store_notices, call_notices}
 use Rattle.setl_store.specs.Standing.{Standing, no_world, variables, variables_by, variables_in}
-use Rattle.setl_update.specs.Takes.{TakesPart, TakesFrom, Takes}
-use Rattle.setl_update.specs.declared.taking.TakenOut.{TakenOut}
-use Rattle.setl_machine.specs.Altered.{stores_new}
-use Rattle.setl_machine.specs.Control.{ControlState, in_world, stood_for}
-use Rattle.setl_machine.specs.Declaring.{Modes}
+use Rattle.setl_storing.specs.Altered.{stores_new}
+use Rattle.setl_storing.specs.Control.{ControlState, in_world, stood_for}
+use Rattle.setl_storing.specs.Declaring.{Modes}
 use Rattle.setl_machine.specs.Hearing.{Tells, TellsOf, DoesTelling, TellsInHand}
-use Rattle.setl_machine.specs.Outcome.{next_of, Quiet}
-use Rattle.setl_machine.specs.Working.{WorksBy, DoesBy, EndsBy, HasParameters, TakesArguments, TakesLine}
-use Rattle.setl_machine.specs.declared.end.End.{End}
-use Rattle.setl_machine.specs.declared.end.End.TheVariants.{Paused}
+use Rattle.setl_storing.specs.Answers.{next_of, Quiet}
+use Rattle.setl_storing.specs.Working.{WorksBy, DoesBy}
+use Rattle.setl_machine.specs.Working.{HasParameters, TakesArguments, TakesLine}
+use Rattle.setl_storing.specs.declared.end.End.{End}
+use Rattle.setl_storing.specs.declared.end.End.TheVariants.{Paused}
 use Rattle.setl_machine.proofs.Staying.{after_store, after_alter}
 
 -- ---- stores
@@ -117,31 +112,6 @@ alter_noticed line (TakingOut t) x whole at k d = go (none_taken t (part_at_all 
     go : (b : Bool) → cond b [] (store_told line x d) ≡ cond (cond b false true) (store_told line x d) []
     go true = refl
     go false = refl
-
-took_part : (t : Taken) (at : List Selected) (w w' : Option Datum) (turns : ℕ) (o : TakenOut) → TakesPart t at w turns w' (Ok o) → o.stored ≡ cond (takes_none t) false true
-took_part (TakesOut small v) at w w' turns o h = h.0
-took_part IsEmpty at w w' turns o h = h.0
-took_part (CannotTake fault) at w w' turns o h = absurd h
-
--- whether something was taken out
-pub took_stores : (t : Taking) (at : List Selected) (w w' : Option Datum) (turns : ℕ) (o : TakenOut) → Takes t at w turns w' (Ok o) → o.stored ≡ stores_new (TakingOut t) w at turns
-took_stores t at w w' turns o h = go (part_at_all at w turns) h
-  where
-    go : (p : Outcome) → TakesFrom p t at w turns w' (Ok o) → o.stored ≡ cond (none_taken t p) false true
-    go (Gives p n) h = took_part (take_out t p) at w w' (turns - n) o h
-    go (Fails f) h = absurd h
-    go Overspends h = absurd h
-
--- a fault doesn't go on
-pub no_pause : (f : OpFault) (line : ℕ) (e : End) → EndsBy f line e → e ≡ Paused → ⊥
-no_pause fault.Kind line e h p = absurd (cc)
-no_pause fault.Om line e h p = absurd (cc)
-no_pause fault.Wide line e h p = absurd (cc)
-no_pause fault.Zero line e h p = absurd (cc)
-no_pause fault.Range line e h p = absurd (cc)
-no_pause fault.Deep line e h p = absurd (cc)
-no_pause fault.Spent line e h p = absurd (cc)
-no_pause fault.NoMemory line e h p = h
 
 -- the code and the body at work are the same
 abbrev pub Stayed : Standing → Standing → Type 0

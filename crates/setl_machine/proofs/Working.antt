@@ -1,46 +1,25 @@
 -- How an instruction goes on, and how it ends a run.
-use Rattle.std.proofs.Common.{◌≡◌, ◌∙◌, ℕ, true, false, List, [], ◌∷◌, refl, sym, ap, subst, Option, None, Some, Ok, Err}
+use Rattle.std.proofs.Common.{◌≡◌, ℕ, true, false, List, ◌∷◌, refl, sym, ap, subst, Some, Ok, Err}
 use Rattle.std.specs.Prelude.{Result, IfOk}
-use Rattle.std.specs.Option.{option_map}
 use Rattle.std.specs.declared.alloc.AllocError.{AllocError}
-use Rattle.setl_value.specs.Datum.{Datum, bool}
+use Rattle.setl_value.specs.Datum.{bool}
 use Rattle.setl_program.specs.declared.kinds.Connective.{Connective}
 use Rattle.setl_program.specs.declared.kinds.Connective.TheVariants.{And, Or, Implies}
-use Rattle.setl_run.specs.Run.{Move, Moves, Halts, settle}
-use Rattle.setl_run.specs.Variable.{Variable, Global, Own, Bound}
+use Rattle.setl_run.specs.Run.{settle}
 use Rattle.setl_model.specs.World.{World}
-use Rattle.setl_code.specs.Code.{Code, Instr}
+use Rattle.setl_code.specs.Code.{Instr}
 use Rattle.setl_code.specs.Plain.{plain_code}
-use Rattle.setl_code.specs.CodeCore.{Held, Operand, Result as Holds, value_of, CodeCore, write}
-use Rattle.setl_code.specs.Machine.{machine, do_instr, next, go_to, on_value, on_top, decides}
-use Rattle.setl_store.specs.Standing.{Standing, over, at_place, top_of}
-use Rattle.setl_machine.specs.Control.{ControlState, world_of, in_world, stood_for}
-use Rattle.setl_machine.specs.Declaring.{Modes, tested}
-use Rattle.setl_machine.specs.Outcome.{start, IsLikely, Quiet}
-use Rattle.setl_machine.specs.Working.{Works, Does, WorksBy, DoesBy, Halted, Judges}
-use Rattle.setl_machine.specs.declared.end.End.{End}
-use Rattle.setl_machine.specs.declared.end.End.TheVariants.{Done, Stopped, Spent, Paused, ReadFault, WriteFault, NoMemory, Stuck}
-
-pub halted_quiet : (modes : Modes) (c : Code) (k to : CodeCore) (m : Move CodeCore) (e : End) → IsLikely k to → Halted m e → Quiet modes (settle (machine c) (tested modes) (start k) m) to e
-halted_quiet modes c k to (Halts d) Done l h = ((h, l), refl)
-halted_quiet modes c k to (Halts d) (Stopped why line) l h = ((h modes, l), refl)
-halted_quiet modes c k to (Halts d) Spent l h = ((h, l), refl)
-halted_quiet modes c k to (Halts d) Stuck l h = ((h, l), refl)
-halted_quiet modes c k to (Halts d) Paused l h = absurd h
-halted_quiet modes c k to (Halts d) ReadFault l h = absurd h
-halted_quiet modes c k to (Halts d) WriteFault l h = absurd h
-halted_quiet modes c k to (Halts d) NoMemory l h = absurd h
-halted_quiet modes c k to (Moves said told d line xs) Done l h = absurd h
-halted_quiet modes c k to (Moves said told d line xs) (Stopped why at) l h = absurd h
-halted_quiet modes c k to (Moves said told d line xs) Spent l h = absurd h
-halted_quiet modes c k to (Moves said told d line xs) Stuck l h = absurd h
-halted_quiet modes c k to (Moves said told d line xs) Paused l h = absurd h
-halted_quiet modes c k to (Moves said told d line xs) ReadFault l h = absurd h
-halted_quiet modes c k to (Moves said told d line xs) WriteFault l h = absurd h
-halted_quiet modes c k to (Moves said told d line xs) NoMemory l h = absurd h
-
-pub likely_over : (w : World) (k : CodeCore) (xs : List Operand) → IsLikely (in_world w k) (in_world w (over xs k))
-likely_over w k xs = ([], refl)
+use Rattle.setl_code.specs.CodeCore.{Operand, Result as Holds, CodeCore}
+use Rattle.setl_code.specs.Machine.{machine, do_instr, next, go_to, on_top, decides}
+use Rattle.setl_store.specs.Standing.{Standing, over, at_place}
+use Rattle.setl_storing.specs.Control.{ControlState, world_of, in_world, stood_for}
+use Rattle.setl_storing.specs.Declaring.{Modes, tested}
+use Rattle.setl_storing.specs.Answers.{start, IsLikely, Quiet}
+use Rattle.setl_storing.specs.Working.{Works, Does, DoesBy, Halted}
+use Rattle.setl_machine.specs.Working.{Judges}
+use Rattle.setl_storing.specs.declared.end.End.{End}
+use Rattle.setl_storing.specs.declared.end.End.TheVariants.{Paused}
+use Rattle.setl_storing.specs.Laws.{halted_quiet, likely_over}
 
 -- it goes on at a step with these operands
 pub goes : (old new : Standing) (line : ℕ) (what : Instr) (at : ℕ) (xs : List Operand) → new ≡ record old { core = at_place at (over xs old.core) } → ((w : World) → do_instr (plain_code old.code) line what (in_world w old.core) ≡ go_to at xs (in_world w old.core)) → Works old line what new Paused
@@ -84,29 +63,7 @@ pub works_alone : (old new : Standing) (from : ControlState) (line : ℕ) (what 
 works_alone old new from line what (Ok e) h = (h.0, λ modes rest. h.1 modes (world_of from rest))
 works_alone old new from line what (Err e) h = tt
 
-pub works_alone_by : (modes : Modes) (old new : Standing) (from : ControlState) (line : ℕ) (what : Instr) (r : Result End AllocError) → IfOk r (λ e. WorksBy modes old line what new e) → IfOk r (λ e. DoesBy modes old from line what new from e)
-works_alone_by modes old new from line what (Ok e) h = (h.0, λ rest. h.1 (world_of from rest))
-works_alone_by modes old new from line what (Err e) h = tt
-
 -- what tests no value does the same by any declarations
 pub does_untested : (modes : Modes) (old new : Standing) (from to : ControlState) (line : ℕ) (what : Instr) (r : Result End AllocError) → IfOk r (λ e. Does old from line what new to e) → IfOk r (λ e. DoesBy modes old from line what new to e)
 does_untested modes old new from to line what (Ok e) h = (h.0, h.1 modes)
 does_untested modes old new from to line what (Err e) h = tt
-
--- no write sees the world
-pub write_in_world : (x : Variable) (h : Held) (w : World) (k : CodeCore) → write x h (in_world w k) ≡ in_world w (write x h k)
-write_in_world (Global name) h w k = refl
-write_in_world (Own body name) h w k = refl
-write_in_world (Bound former name) h w k = refl
-
--- ---- the top
-
-some_top : (o : Option (Option Datum)) (xs ys : List Operand) (v : Option Datum) (f : Option Datum → List Operand → Move CodeCore) → option_map {U = Option Datum × List Operand} (λ u. (u, xs)) o ≡ Some (v, ys) → on_value o (λ u. f u xs) ≡ f v ys
-some_top None xs ys v f h = absurd (cc)
-some_top (Some u) xs ys v f h =
-    let p : ◌≡◌ {A = Option Datum × List Operand} (u, xs) (v, ys) = cc in
-    ap (λ u. f u xs) (ap (λ q. q.0) p) ∙ ap (f v) (ap (λ q. q.1) p)
-
-pub top_taken : (xs ys : List Operand) (v : Option Datum) (f : Option Datum → List Operand → Move CodeCore) → top_of xs ≡ Some (v, ys) → on_top xs f ≡ f v ys
-top_taken [] ys v f h = absurd (cc)
-top_taken (o ∷ xs) ys v f h = some_top (value_of o) xs ys v f h

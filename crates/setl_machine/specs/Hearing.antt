@@ -14,11 +14,11 @@ use Rattle.setl_code.specs.Machine.{machine, fetch}
 use Rattle.setl_code.specs.Plain.{plain_code}
 use Rattle.setl_telling.specs.Told.{events_of}
 use Rattle.setl_store.specs.Standing.{Standing}
-use Rattle.setl_machine.specs.Control.{ControlState, stood_for}
-use Rattle.setl_machine.specs.Declaring.{Modes, tested}
-use Rattle.setl_machine.specs.Outcome.{start, next_of, Quiet}
-use Rattle.setl_machine.specs.declared.end.End.{End}
-use Rattle.setl_machine.specs.declared.end.End.TheVariants as end
+use Rattle.setl_storing.specs.Control.{ControlState, stood_for}
+use Rattle.setl_storing.specs.Declaring.{Modes, tested}
+use Rattle.setl_storing.specs.Answers.{start, next_of, Quiet}
+use Rattle.setl_storing.specs.declared.end.End.{End}
+use Rattle.setl_storing.specs.declared.end.End.TheVariants as end
 
 -- what was told: the events of the last state
 abbrev pub events_told : Next CodeCore → List run.Event

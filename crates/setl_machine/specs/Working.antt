@@ -1,68 +1,34 @@
--- What an instruction did.
-use Rattle.std.specs.Prelude.{◌≡◌, ℕ, zero, suc, Bool, true, false, List, [], ◌∷◌, ◌++◌, length, slice_get, Option, Some, None, Result, Ok, Err}
+-- What the instructions on operands, bodies and the outside did, and the kinds of instructions.
+use Rattle.std.specs.Prelude.{◌≡◌, ℕ, zero, suc, Bool, true, false, List, [], ◌∷◌, length, slice_get, Option, Some, None, Result, Ok, Err}
 use Rattle.std.specs.Global.{Vec}
 use Rattle.std.specs.Io.KnownBytes.{Appends}
 use Rattle.setl_io.specs.Faults.{Rose}
 use Rattle.setl_io.specs.Sink.{AppendsPart}
 use Rattle.setl_value.specs.Datum.{Datum, bool}
 use Rattle.setl_value.specs.code.DatumOf.{part}
-use Rattle.setl_value.specs.declared.Value.{Value}
-use Rattle.setl_map.specs.declared.OpFault.{OpFault}
-use Rattle.setl_map.specs.declared.OpFault.TheVariants as fault
 use Rattle.setl_text.specs.Texts.{print_line}
-use Rattle.setl_text.specs.Reading.{NotForm, TooWide, TooDeep, read_denotation}
 use Rattle.setl_text.specs.declared.ReadFault.{ReadFault}
 use Rattle.setl_text.specs.declared.ReadFault.TheVariants as read
 use Rattle.setl_program.specs.declared.kinds.Connective.{Connective}
 use Rattle.setl_program.specs.declared.kinds.Connective.TheVariants.{And, Or, Implies}
-use Rattle.setl_run.specs.Events as run
-use Rattle.setl_run.specs.Run.{Move, Halts}
-use Rattle.setl_model.specs.World.{World, branch}
+use Rattle.setl_run.specs.Run.{Move}
+use Rattle.setl_model.specs.World.{branch}
 use Rattle.setl_code.specs.declared.code.Instr as code
 use Rattle.setl_code.specs.declared.code.Instr.TheVariants as i
 use Rattle.setl_code.specs.Code.{Body, Instr}
 use Rattle.setl_code.specs.Plain.{plain_code}
 use Rattle.setl_code.specs.CodeCore.{Operand, Result as Holds, Pops, Lacks, popped, CodeCore}
-use Rattle.setl_code.specs.Machine.{next, on_top, push_read}
+use Rattle.setl_code.specs.Machine.{next, on_top}
 use Rattle.setl_store.specs.Bodies.{entered}
-use Rattle.setl_store.specs.Standing.{Standing, over, at_place, top_of}
-use Rattle.setl_machine.specs.Control.{ControlState, in_world, stood_for, TakesTurn}
-use Rattle.setl_machine.specs.Declaring.{Modes}
-use Rattle.setl_machine.specs.Outcome.{next_of, kind_of, Quiet, Seen, NoFault, AppendsFront}
-use Rattle.setl_machine.specs.declared.end.End.{End}
-use Rattle.setl_machine.specs.declared.end.End.TheVariants as end
-use Rattle.setl_machine.specs.declared.end.StopKind.TheVariants as kind
-
--- one that stores nothing and neither reads nor writes nor changes the control: whatever is declared and the world is
-abbrev pub Works : Standing → ℕ → Instr → Standing → End → Type 0
-Works old line what new e = (new.code ≡ old.code) × ((modes : Modes) (w : World) → Quiet modes (next_of modes (plain_code old.code) line what (in_world w old.core)) (in_world w new.core) e)
-
--- one that stores nothing and neither reads nor writes: whatever is declared and is still to come from the input
-abbrev pub Does : Standing → ControlState → ℕ → Instr → Standing → ControlState → End → Type 0
-Does old from line what new to e = (new.code ≡ old.code) × ((modes : Modes) (rest : List ℕ) → Quiet modes (next_of modes (plain_code old.code) line what (stood_for old.core from rest)) (stood_for new.core to rest) e)
-
--- one that neither reads nor writes nor changes the control, where these declarations count: whatever the world is
-abbrev pub WorksBy : Modes → Standing → ℕ → Instr → Standing → End → Type 0
-WorksBy modes old line what new e = (new.code ≡ old.code) × ((w : World) → Quiet modes (next_of modes (plain_code old.code) line what (in_world w old.core)) (in_world w new.core) e)
-
--- one that neither reads nor writes, where these declarations count: whatever is still to come from the input
-abbrev pub DoesBy : Modes → Standing → ControlState → ℕ → Instr → Standing → ControlState → End → Type 0
-DoesBy modes old from line what new to e = (new.code ≡ old.code) × ((rest : List ℕ) → Quiet modes (next_of modes (plain_code old.code) line what (stood_for old.core from rest)) (stood_for new.core to rest) e)
-
--- the code halts there, and the answer says how, whatever is declared
-abbrev pub Halted : Move CodeCore → End → Type 0
-Halted (Halts e) end.Done = e ≡ run.Done
-Halted (Halts e) (end.Stopped why line) = (modes : Modes) → e ≡ run.Stopped (kind_of modes why) line
-Halted (Halts e) end.Spent = e ≡ run.Spent
-Halted (Halts e) end.Stuck = e ≡ run.Stuck
-Halted m e = ⊥
+use Rattle.setl_store.specs.Standing.{Standing, over, at_place}
+use Rattle.setl_storing.specs.Control.{ControlState, TakesTurn}
+use Rattle.setl_storing.specs.Working.{Halted}
+use Rattle.setl_machine.specs.Outcome.{Seen, NoFault, AppendsFront}
+use Rattle.setl_storing.specs.declared.end.End.{End}
+use Rattle.setl_storing.specs.declared.end.End.TheVariants as end
+use Rattle.setl_storing.specs.declared.end.StopKind.TheVariants as kind
 
 -- ---- operands
-
--- the top was taken off, if it serves as a value
-abbrev pub PopsTop : Standing → Option (Option Value) → Standing → Type 0
-PopsTop old None new = (top_of old.core.now.operands ≡ None) × (new ≡ old)
-PopsTop old (Some v) new = (top_of old.core.now.operands ≡ Some (part v, new.core.now.operands)) × (new ≡ record old { core = over new.core.now.operands old.core })
 
 -- a truth value is on top, or the code halts there where it has to be one
 abbrev pub Judges : List Operand → ℕ → Result Bool End → Type 0
@@ -75,17 +41,6 @@ decided And false = Some false
 decided Or true = Some true
 decided Implies false = Some true
 decided what left = None
-
--- how a fault of an operator at a line ends the run; want of memory is no such end
-abbrev pub EndsBy : OpFault → ℕ → End → Type 0
-EndsBy fault.Kind line e = e ≡ end.Stopped kind.Kind line
-EndsBy fault.Om line e = e ≡ end.Stopped kind.Om line
-EndsBy fault.Wide line e = e ≡ end.Stopped kind.Wide line
-EndsBy fault.Zero line e = e ≡ end.Stopped kind.Zero line
-EndsBy fault.Range line e = e ≡ end.Stopped kind.Range line
-EndsBy fault.Deep line e = e ≡ end.Stopped kind.Deep line
-EndsBy fault.Spent line e = e ≡ end.Spent
-EndsBy fault.NoMemory line e = ⊥
 
 -- a body has so many parameters, or there is no body
 abbrev pub HasParameters : Option Body → Option ℕ → Type 0
@@ -134,20 +89,6 @@ WritesLine line old from new to end.NoMemory = AppendsFront from.held to.held li
 WritesLine line old from new to e = ⊥
 
 -- ---- reading
-
--- the same but for bytes of the input that were taken ahead
-abbrev pub IsBefore : World → World → Type 0
-IsBefore w v = (taken : List ℕ) × (w ≡ record v { input = taken ++ v.input })
-
--- What a read makes of a world: a value is pushed, whatever the core is, or the bytes are at fault. Of a failed input and
--- of want of memory nothing is told.
-abbrev pub TakesIn : World → World → Result (Option Value) ReadFault → Type 0
-TakesIn w v (Ok value) = (line : ℕ) (k : CodeCore) → push_read (read_denotation w.input) line (in_world w k) ≡ next (Holds (part value) ∷ k.now.operands) (in_world v k)
-TakesIn w v (Err read.Form) = (read_denotation w.input ≡ NotForm) × IsBefore w v
-TakesIn w v (Err read.Wide) = (read_denotation w.input ≡ TooWide) × IsBefore w v
-TakesIn w v (Err read.Deep) = (read_denotation w.input ≡ TooDeep) × IsBefore w v
-TakesIn w v (Err read.Source) = Unit {0}
-TakesIn w v (Err read.NoMemory) = Unit {0}
 
 -- how a fault of a read at a line ends the run
 abbrev pub EndsReading : ReadFault → ℕ → End → Type 0

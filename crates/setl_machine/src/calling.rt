@@ -1,19 +1,18 @@
-//! Calls, returns and backtracking.
+//! Calls and returns.
 
 ghost use Rattle.std.specs.Prelude.{◌≡◌, ℕ, ◌<◌, ◌+◌, ◌^◌, length, map, slice_get, Some, None, IfSome, IfNone, IfOk};
 ghost use Rattle.std.specs.Option.{option_map};
-ghost use Rattle.setl_code.specs.Code.{CallBody, ReturnTop, KeepAll, GoBack};
+ghost use Rattle.setl_code.specs.Code.{CallBody, ReturnTop};
 ghost use Rattle.setl_code.specs.Plain.{plain_code};
-ghost use Rattle.setl_machine.specs.Declaring.{Modes, AreOfMain, IsBare};
+ghost use Rattle.setl_storing.specs.Declaring.{Modes, AreOfMain, IsBare};
 ghost use Rattle.setl_value.specs.code.DatumOf.{part};
-ghost use Rattle.setl_machine.specs.Working.{Works, Does, DoesBy, HasParameters, TakesArguments, Begins};
+ghost use Rattle.setl_storing.specs.Working.{Works, DoesBy};
+ghost use Rattle.setl_machine.specs.Working.{HasParameters, TakesArguments, Begins};
 
-use crate::control::Control;
-use crate::end::{End, StopKind};
-use crate::operands::{go_on, pop_top};
 use setl_code::{Body, Code};
 use setl_environment::Memory;
 use setl_store::Store;
+use setl_storing::{Control, End, pop_top};
 use setl_value::Value;
 
 /// Takes one turn and has the body of this number at work, with its arguments taken off the operands. No parameter is
@@ -102,35 +101,6 @@ pub(crate) fn leave_body(store: &mut Store<'_>) -> Result<End, Memory>
         return Ok(End::Stuck);
     };
     if store.leave(value)? {
-        Ok(End::Paused)
-    } else {
-        Ok(End::Stuck)
-    }
-}
-
-/// `ok`
-#[inline(never)]
-pub(crate) fn keep(store: &mut Store<'_>) -> Result<End, Memory>
-    requires { store.old.core.now.at + 1 < 2 ^ 64 }
-    ensures { (line : ℕ) → IfOk result (λ end. Works store.old line KeepAll store.new end) }
-{
-    store.keep()?;
-    Ok(End::Paused)
-}
-
-/// `fail`
-#[inline(never)]
-pub(crate) fn back(line: u32, store: &mut Store<'_>, control: &mut Control) -> Result<End, Memory>
-    ensures did { IfOk result (λ end. Does store.old control.old line GoBack store.new control.new end) }
-    ensures reader { control.new.reader ≡ control.old.reader }
-{
-    if !store.is_kept() {
-        return Ok(End::Stopped(StopKind::Nothing, line));
-    }
-    if !control.turn() {
-        return Ok(End::Spent);
-    }
-    if store.back() {
         Ok(End::Paused)
     } else {
         Ok(End::Stuck)

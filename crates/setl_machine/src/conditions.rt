@@ -2,13 +2,13 @@
 
 ghost use Rattle.std.specs.Prelude.{◌≡◌, ℕ, ◌<◌, ◌+◌, ◌^◌, IfOk, IsOk};
 ghost use Rattle.setl_code.specs.Code.{Decides, TestBool, Unless, Jump, DropTop, DupTop};
-ghost use Rattle.setl_machine.specs.Working.{Works, decided};
+ghost use Rattle.setl_storing.specs.Working.{Works};
+ghost use Rattle.setl_machine.specs.Working.{Judges, decided};
 
-use crate::end::End;
-use crate::operands::{copied, go_on, pop_top, truth_on_top};
 use setl_environment::Memory;
 use setl_program::Connective;
-use setl_store::Store;
+use setl_store::{Store, Top};
+use setl_storing::{End, StopKind, copied, go_on, pop_top};
 use setl_value::Value;
 
 /// Goes to the target where the truth value on top decides, and leaves the answer there; else pops it.
@@ -114,4 +114,16 @@ pub(crate) fn duplicate(store: &mut Store<'_>) -> Result<End, Memory>
     store.push(other)?;
     go_on(store);
     Ok(End::Paused)
+}
+
+/// The truth value on top, or how the run ends at this line where none is there.
+fn truth_on_top(store: &Store<'_>, line: u32) -> Result<bool, End>
+    ensures { Judges store.now.core.now.operands line result }
+{
+    match store.top() {
+        Top::Value(Value::Bool(truth)) => Ok(*truth),
+        Top::Value(_) | Top::Collection(_) => Err(End::Stopped(StopKind::Kind, line)),
+        Top::Om => Err(End::Stopped(StopKind::Om, line)),
+        Top::Nothing | Top::Iterator => Err(End::Stuck),
+    }
 }

@@ -4,24 +4,24 @@ ghost use Rattle.std.specs.Prelude.{◌≡◌, ◌<◌, ◌+◌, ◌^◌, ℕ, L
 ghost use Rattle.setl_code.specs.MayRun.{InstrFits};
 ghost use Rattle.setl_code.specs.Plain.{plain_code, plain_instr};
 ghost use Rattle.setl_store.specs.Standing.{variables};
-ghost use Rattle.setl_machine.specs.Control.{stood_for};
-ghost use Rattle.setl_machine.specs.Outcome.{next_of, Quiet};
-ghost use Rattle.setl_machine.specs.Declaring.{modes_of, Serves};
-ghost use Rattle.setl_machine.specs.declared.end.End.{End};
-ghost use Rattle.setl_machine.specs.Working.{Works, Does, DoesBy, IsQuiet, IsUntested, IsAlone};
+ghost use Rattle.setl_storing.specs.Control.{stood_for};
+ghost use Rattle.setl_storing.specs.Answers.{next_of, Quiet};
+ghost use Rattle.setl_storing.specs.Declaring.{modes_of, Serves};
+ghost use Rattle.setl_storing.specs.declared.end.End.{End};
+ghost use Rattle.setl_storing.specs.Working.{Works, Does, DoesBy};
+ghost use Rattle.setl_machine.specs.Working.{IsQuiet, IsUntested, IsAlone};
 
-use crate::calling::{back, call, keep, leave_body};
+use crate::calling::{call, leave_body};
 use crate::conditions::{decide, discard, duplicate, jump, test, unless};
-use crate::control::Control;
-use crate::declarations::Declarations;
-use crate::end::End;
-use crate::in_place::update;
 use crate::iterating::{add, begin_over, collect, leave, next, take_apart};
 use crate::operating::{operate, push_atom, push_eof, round};
-use crate::variables::{load, push, push_integer, push_text, store_in, take};
 use setl_code::Instr;
 use setl_environment::Memory;
 use setl_store::Store;
+use setl_storing::{
+    Control, Declarations, End, back, keep, load, push, push_integer, push_text, store_in, take,
+    update,
+};
 use setl_value::Value;
 use std::alloc::Global;
 
@@ -99,7 +99,7 @@ fn do_untested(
         Instr::Next(to) => next(*to, store, control),
         Instr::Round => round(store, control),
         Instr::Back => back(line, store, control),
-        _ => do_alone(what, line, store, control.alloc),
+        _ => do_alone(what, line, store, control.alloc()),
     }
 }
 

@@ -6,16 +6,15 @@ ghost use Rattle.setl_code.specs.Machine.{first_parts};
 ghost use Rattle.setl_code.specs.Plain.{plain_begin};
 ghost use Rattle.setl_store.specs.Standing.{over};
 ghost use Rattle.setl_value.specs.code.DatumOf.{part};
-ghost use Rattle.setl_machine.specs.Working.{Works, Does, component_of};
+ghost use Rattle.setl_storing.specs.Working.{Works, Does};
+ghost use Rattle.setl_machine.specs.Working.{component_of};
 
-use crate::control::Control;
-use crate::end::{End, StopKind};
-use crate::operands::{end_by, go_on, pop_top};
 use setl_code::Begin;
 use setl_environment::Memory;
 use setl_iterator::begin;
 use setl_program::Collection;
 use setl_store::{Ahead, Store};
+use setl_storing::{Control, End, StopKind, end_by, go_on, pop_top};
 use setl_value::{TupleBody, Value};
 use std::alloc::Global;
 

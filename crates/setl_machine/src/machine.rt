@@ -5,19 +5,18 @@ ghost use Rattle.setl_run.specs.Run.{step};
 ghost use Rattle.setl_code.specs.Machine.{machine};
 ghost use Rattle.setl_code.specs.Plain.{plain_code};
 ghost use Rattle.setl_text.specs.code.Reads.{ahead, StaysHonest, TakesOff};
-ghost use Rattle.setl_machine.specs.Control.{stood_for, IsRest};
-ghost use Rattle.setl_machine.specs.Declaring.{modes_of, tested, Serves};
-ghost use Rattle.setl_machine.specs.Outcome.{start, seen, Steps, AtPrint, AtRead, Ran, ReadsOnly};
-ghost use Rattle.setl_machine.specs.declared.end.End.{End};
+ghost use Rattle.setl_storing.specs.Control.{stood_for, IsRest};
+ghost use Rattle.setl_storing.specs.Declaring.{modes_of, tested, Serves};
+ghost use Rattle.setl_storing.specs.Answers.{start};
+ghost use Rattle.setl_machine.specs.Outcome.{seen, Steps, AtPrint, AtRead, Ran, ReadsOnly};
+ghost use Rattle.setl_storing.specs.declared.end.End.{End};
 
-use crate::control::Control;
-use crate::declarations::Declarations;
 use crate::dispatch::quiet_step;
-use crate::end::End;
 use crate::outside::{print, read};
 use setl_code::Instr;
 use setl_io::{Sink, Source};
 use setl_store::Store;
+use setl_storing::{Control, Declarations, End};
 
 /// Does the next instructions, at most `steps` of them.
 ///

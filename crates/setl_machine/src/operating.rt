@@ -5,16 +5,13 @@ ghost use Rattle.setl_code.specs.Code.{Operate, PushAtom, PushEof, PayRound};
 ghost use Rattle.setl_map.specs.Operators.{operand_count, TakesOperands};
 ghost use Rattle.setl_value.specs.code.DatumOf.{part};
 ghost use Rattle.setl_store.specs.Operands.{IsPlainTop};
-ghost use Rattle.setl_machine.specs.Freely.{AreTwo, PutsForTwo, PutsForOne};
-ghost use Rattle.setl_machine.specs.Working.{Does};
+ghost use Rattle.setl_machine.specs.Operating.{AreTwo, PutsForTwo, PutsForOne};
+ghost use Rattle.setl_storing.specs.Working.{Does};
 
-use crate::control::Control;
-use crate::end::End;
-use crate::integers::freely_of_top;
-use crate::operands::{end_by, go_on};
 use setl_environment::Memory;
 use setl_operators::{Operator, op, op_one, op_two};
 use setl_store::Store;
+use setl_storing::{Control, End, end_by, freely_of_top, go_on};
 use setl_value::Value;
 
 /// Pops so many operands, and pushes what the operator makes of them for its charge.
@@ -159,7 +156,7 @@ fn operate_on_one(
     let Some(a) = store.one() else {
         return operate_listed(what, count, line, store, control);
     };
-    match op_one(control.alloc, what, Some(a), control.turns) {
+    match op_one(control.alloc(), what, Some(a), control.turns()) {
         Ok(answer) => {
             control.charge(answer.charged);
             put_for_one(answer.value, store)
@@ -185,7 +182,7 @@ fn operate_on_two(
     let Some((a, b)) = store.two() else {
         return operate_listed(what, count, line, store, control);
     };
-    match op_two(control.alloc, what, Some(a), Some(b), control.turns) {
+    match op_two(control.alloc(), what, Some(a), Some(b), control.turns()) {
         Ok(answer) => {
             control.charge(answer.charged);
             put_for_two(answer.value, store)
@@ -210,7 +207,7 @@ fn operate_listed(
     let Some(values) = store.pop_values(count as usize)? else {
         return Ok(End::Stuck);
     };
-    match op(control.alloc, what, values, control.turns) {
+    match op(control.alloc(), what, values, control.turns()) {
         Ok(answer) => {
             control.charge(answer.charged);
             store.push(answer.value)?;
@@ -242,7 +239,7 @@ pub(crate) fn push_eof(store: &mut Store<'_>, control: &Control) -> Result<End, 
     requires { store.old.core.now.at + 1 < 2 ^ 64 }
     ensures { (line : ℕ) → IfOk result (λ end. Does store.old control.now line PushEof store.new control.now end) }
 {
-    store.push(Some(Value::Bool(control.eof)))?;
+    store.push(Some(Value::Bool(control.eof())))?;
     go_on(store);
     Ok(End::Paused)
 }

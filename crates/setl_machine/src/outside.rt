@@ -8,19 +8,19 @@ ghost use Rattle.setl_code.specs.Code.{PrintTop, ReadOne};
 ghost use Rattle.setl_code.specs.Plain.{plain_code};
 ghost use Rattle.setl_model.specs.World.{World};
 ghost use Rattle.setl_text.specs.code.Reads.{ahead, SourceCounts, StaysHonest, TakesOff};
-ghost use Rattle.setl_machine.specs.Control.{world_of, in_world, stood_for, IsRest};
-ghost use Rattle.setl_machine.specs.Declaring.{Modes};
-ghost use Rattle.setl_machine.specs.Outcome.{next_of, seen, Steps};
-ghost use Rattle.setl_machine.specs.Working.{TakesLine, WritesLine, TakesIn, EndsReading};
-ghost use Rattle.setl_machine.specs.declared.end.End.{End};
+ghost use Rattle.setl_storing.specs.Control.{world_of, in_world, stood_for, IsRest};
+ghost use Rattle.setl_storing.specs.Declaring.{Modes};
+ghost use Rattle.setl_storing.specs.Answers.{next_of};
+ghost use Rattle.setl_machine.specs.Outcome.{seen, Steps};
+ghost use Rattle.setl_storing.specs.Reading.{TakesIn};
+ghost use Rattle.setl_machine.specs.Working.{TakesLine, WritesLine, EndsReading};
+ghost use Rattle.setl_storing.specs.declared.end.End.{End};
 
-use crate::control::Control;
-use crate::end::{End, StopKind};
-use crate::operands::go_on;
 use setl_environment::Memory;
 use setl_io::{Sink, Source, WriteFault, write_all};
 use setl_store::Store;
-use setl_text::{Got, ReadFault, line};
+use setl_storing::{Control, End, StopKind, go_on};
+use setl_text::{ReadFault, line};
 use setl_value::Value;
 use std::alloc::Global;
 
@@ -36,7 +36,7 @@ pub(crate) fn print<O: Sink>(
     ensures code { result ≡ End.Paused → store.new.code ≡ store.old.code }
     ensures no_read { result ≡ End.ReadFault → ⊥ }
 {
-    match take_line(count, store, control.alloc) {
+    match take_line(count, store, control.alloc()) {
         Ok(line) => write_line(&line, store, out),
         Err(end) => end,
     }
@@ -87,37 +87,12 @@ pub(crate) fn read<I: Source>(
     ensures took { TakesOff (I.left input.old) (I.left input.new) }
     ensures honest { StaysHonest control.old.reader.ended (I.left input.old) control.new.reader.ended (I.left input.new) }
 {
-    match take_denotation(control, input) {
+    match control.take_denotation(input) {
         Ok(value) => match push_read(value, store) {
             Ok(()) => End::Paused,
             Err(_) => End::NoMemory,
         },
         Err(fault) => end_reading(fault, line),
-    }
-}
-
-/// The value that the next denotation of the input denotes, where None is `om`. At the end of the input it is `om`, and
-/// the control notes it.
-fn take_denotation<I: Source>(
-    control: &mut Control,
-    input: &mut I,
-) -> Result<Option<Value>, ReadFault>
-    requires { control.old.reader.fault ≡ None }
-    ensures took_in { (rest' : List ℕ) → IsRest (ahead control.new.reader.ended (I.left input.new)) rest' →
-        (rest : List ℕ) × IsRest (ahead control.old.reader.ended (I.left input.old)) rest × TakesIn (world_of control.old rest) (world_of control.new rest') result }
-    ensures fault { IfOk result (λ value. control.new.reader.fault ≡ None) }
-    ensures source { SourceCounts (I.faults input.old) (I.faults input.new) result }
-    ensures took { TakesOff (I.left input.old) (I.left input.new) }
-    ensures honest { StaysHonest control.old.reader.ended (I.left input.old) control.new.reader.ended (I.left input.new) }
-{
-    match control.reader.next(input) {
-        Ok(Got::Value(value)) => Ok(Some(value)),
-        Ok(Got::Om) => Ok(None),
-        Ok(Got::End) => {
-            control.eof = true;
-            Ok(None)
-        }
-        Err(fault) => Err(fault),
     }
 }
 

@@ -14,26 +14,22 @@ ghost use Rattle.setl_watch.specs.code.NoticeOf.{notice_of};
 ghost use Rattle.setl_telling.specs.Told.{value_held, store_told};
 ghost use Rattle.setl_model.specs.World.{World};
 ghost use Rattle.setl_store.specs.Standing.{variables, variables_in};
-ghost use Rattle.setl_machine.specs.Control.{ControlState, in_world, stood_for, IsRest};
-ghost use Rattle.setl_machine.specs.Declaring.{Modes, modes_of, tested, Serves};
+ghost use Rattle.setl_storing.specs.Control.{ControlState, in_world, stood_for, IsRest};
+ghost use Rattle.setl_storing.specs.Declaring.{Modes, modes_of, tested, Serves};
 ghost use Rattle.setl_machine.specs.Hearing.{ended, Tells, TellsOf, DoesTelling, TellsInHand};
-ghost use Rattle.setl_machine.specs.Outcome.{next_of, start, seen, Steps, AtPrint, AtRead};
+ghost use Rattle.setl_storing.specs.Answers.{next_of, start};
+ghost use Rattle.setl_machine.specs.Outcome.{seen, Steps, AtPrint, AtRead};
 ghost use Rattle.setl_machine.specs.Working.{IsQuiet, IsToldAlone};
-ghost use Rattle.setl_machine.specs.declared.end.End.{End};
+ghost use Rattle.setl_storing.specs.declared.end.End.{End};
 
-use crate::altering::alter;
 use crate::calling::{arguments, begin};
-use crate::control::Control;
-use crate::declarations::Declarations;
 use crate::dispatch::quiet_step;
-use crate::end::End;
-use crate::operands::copied;
 use crate::outside::{read, take_line, write_line};
-use crate::variables::store_in;
 use setl_code::{Alteration, Bracket, Code, Instr, Slot};
 use setl_environment::Memory;
 use setl_io::{Sink, Source};
 use setl_store::{Content, Store};
+use setl_storing::{Control, Declarations, End, alter, copied, store_in};
 use setl_telling::{call_events, return_events, store_events};
 use setl_value::Value;
 use setl_watch::Event;
@@ -68,7 +64,7 @@ pub(crate) fn step_telling<I: Source, O: Sink>(
     match &step.what {
         Instr::Print(count) => print_telling(*count, store, control, out),
         Instr::Read => match read(step.line, store, control, input) {
-            End::Paused => Ok(Vec::new(control.alloc)),
+            End::Paused => Ok(Vec::new(control.alloc())),
             end => Err(end),
         },
         what => quiet_telling(what, step.line, declarations, store, control),
@@ -87,8 +83,8 @@ fn print_telling<O: Sink>(
     ensures tells { (line : ℕ) → TellsOf store.old control.now line (PrintTop count) store.new control.now result }
     ensures no_read { ended result ≡ End.ReadFault → ⊥ }
 {
-    let line = take_line(count, store, control.alloc)?;
-    let events = print_events(control.alloc, &line)?;
+    let line = take_line(count, store, control.alloc())?;
+    let events = print_events(control.alloc(), &line)?;
     match write_line(&line, store, out) {
         End::Paused => Ok(events),
         end => Err(end),
@@ -130,7 +126,7 @@ fn quiet_telling(
     ensures reader { control.new.reader ≡ control.old.reader }
 {
     match what {
-        Instr::Store(slot) => store_telling(*slot, line, declarations, store, control.alloc),
+        Instr::Store(slot) => store_telling(*slot, line, declarations, store, control.alloc()),
         Instr::Alter(what, slot, brackets) => alter_telling(
             *what,
             *slot,
@@ -163,7 +159,7 @@ fn alone_telling(
 {
     let body = store.body();
     match quiet_step(what, line, declarations, store, control) {
-        End::Paused => Ok(alone_events(what, body, store.code(), control.alloc)?),
+        End::Paused => Ok(alone_events(what, body, store.code(), control.alloc())?),
         end => Err(end),
     }
 }
@@ -234,9 +230,9 @@ fn alter_telling(
     match updated.end {
         End::Paused => {
             if updated.stored {
-                Ok(stored_events(slot, line, store, control.alloc)?)
+                Ok(stored_events(slot, line, store, control.alloc())?)
             } else {
-                Ok(Vec::new(control.alloc))
+                Ok(Vec::new(control.alloc()))
             }
         }
         end => Err(end),
@@ -285,9 +281,9 @@ fn call_telling(
     let Some(values) = arguments(body, store)? else {
         return Err(End::Stuck);
     };
-    let told = copies(control.alloc, &values)?;
+    let told = copies(control.alloc(), &values)?;
     match begin(body, values, store, control)? {
-        End::Paused => Ok(call_events(control.alloc, store.code(), body, line, told)?),
+        End::Paused => Ok(call_events(control.alloc(), store.code(), body, line, told)?),
         end => Err(end),
     }
 }

@@ -15,7 +15,7 @@ use Rattle.setl_code.specs.Code.{Code}
 use Rattle.setl_code.specs.CodeOf.{code_of}
 use Rattle.setl_code.specs.Plain.{plain_code}
 use Rattle.setl_store.specs.Standing.{Standing, started}
-use Rattle.setl_machine.specs.Declaring.{Modes, DeclarationTable, modes_of, IsOfMain, AreOfMain, IsBare, Serves}
+use Rattle.setl_storing.specs.Declaring.{Modes, DeclarationTable, modes_of, IsOfMain, AreOfMain, IsBare, Serves}
 use Rattle.setl_top.specs.code.Runs.{IsMeant, counted}
 use Rattle.setl_words.specs.Words.{Options}
 

@@ -6,10 +6,10 @@ use Rattle.setl_run.specs.Events as run
 use Rattle.setl_model.specs.Answers.{RunStatus, IsDone, IsStopped, IsSpent, status_of, error_line}
 use Rattle.setl_program.specs.ProgramOf.{program_of}
 use Rattle.setl_tree.specs.declared.tree.Tree.{Tree}
-use Rattle.setl_machine.specs.Declaring.{Modes}
-use Rattle.setl_machine.specs.Outcome.{kind_of}
-use Rattle.setl_machine.specs.declared.end.End.{End}
-use Rattle.setl_machine.specs.declared.end.End.TheVariants as end
+use Rattle.setl_storing.specs.Declaring.{Modes}
+use Rattle.setl_storing.specs.Answers.{kind_of}
+use Rattle.setl_storing.specs.declared.end.End.{End}
+use Rattle.setl_storing.specs.declared.end.End.TheVariants as end
 use Rattle.setl_top.specs.Lines.{AppendsFront, AppendsFronts}
 use Rattle.setl_top.specs.Listings.{listing_of}
 use Rattle.setl_top.specs.code.Lists.{gain, Written, all_written, write_failed, write_starved, no_text, Lists, listed_so, not_listed}

@@ -15,8 +15,9 @@ use Rattle.setl_code.specs.CodeCore.{Operand, Pops, popped, CodeCore}
 use Rattle.setl_code.specs.CodeMeans.{code_first}
 use Rattle.setl_code.specs.CodeOf.{code_of}
 use Rattle.setl_code.specs.Machine.{machine, fetch, do_step, on_popped, print_values}
-use Rattle.setl_machine.specs.Declaring.{tested}
-use Rattle.setl_machine.specs.Outcome.{said, start, AtPrint, AtRead, EndsWriteNothing}
+use Rattle.setl_storing.specs.Declaring.{tested}
+use Rattle.setl_storing.specs.Answers.{said, start}
+use Rattle.setl_machine.specs.Outcome.{AtPrint, AtRead, EndsWriteNothing}
 use Rattle.setl_simulation.specs.Claims.{CodeEndsAlike, CodeMeansAlike, CodeEndsInTheSameState, CodeReachesTheSameStates, CodeReadsWhereMeant, CodePrintsWhereMeant}
 use Rattle.setl_simulation.specs.States.{CodeReaches}
 use Rattle.setl_top.specs.Moments.{AtState}

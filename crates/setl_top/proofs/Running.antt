@@ -18,14 +18,16 @@ use Rattle.setl_code.specs.CodeMeans.{CodeMeans, code_first}
 use Rattle.setl_code.specs.CodeOf.{code_of}
 use Rattle.setl_code.specs.Machine.{machine}
 use Rattle.setl_store.specs.Standing.{Standing, started}
-use Rattle.setl_machine.specs.Control.{ControlState, IsRest, kept_for, stood_for}
-use Rattle.setl_machine.specs.Declaring.{Modes}
+use Rattle.setl_storing.specs.Control.{ControlState, IsRest, kept_for, stood_for}
+use Rattle.setl_storing.specs.Declaring.{Modes}
 use Rattle.setl_machine.specs.Hearing.{events_told, Hears}
-use Rattle.setl_machine.specs.Outcome.{IsLikely, kind_of, said, AtPrint, AtRead, Before, NoFault}
+use Rattle.setl_storing.specs.Answers.{IsLikely, kind_of, said}
+use Rattle.setl_machine.specs.Outcome.{AtPrint, AtRead, Before, NoFault}
+use Rattle.setl_storing.specs.Answers as answers
 use Rattle.setl_machine.specs.Outcome as outcome
-use Rattle.setl_machine.specs.declared.end.End.{End}
-use Rattle.setl_machine.specs.declared.end.End.TheVariants as end
-use Rattle.setl_machine.specs.declared.end.StopKind.{StopKind}
+use Rattle.setl_storing.specs.declared.end.End.{End}
+use Rattle.setl_storing.specs.declared.end.End.TheVariants as end
+use Rattle.setl_storing.specs.declared.end.StopKind.{StopKind}
 use Rattle.setl_top.specs.code.CodeRuns.{RunsCode, seen_before, seen_now}
 use Rattle.setl_top.specs.Headline.{IsInput, IsLeft}
 use Rattle.setl_top.specs.Moments as moments
@@ -60,19 +62,19 @@ record EndsAs (x : Next CodeCore) (k : CodeCore) (e : run.End) : Type 0 where
   pub is : x ≡ Ends e state
   pub likely : IsLikely state.core k
 
-done : (modes : Modes) (x : Next CodeCore) (k : CodeCore) → outcome.Answers modes x k end.Done → EndsAs x k run.Done
+done : (modes : Modes) (x : Next CodeCore) (k : CodeCore) → answers.Answers modes x k end.Done → EndsAs x k run.Done
 done modes (Goes s) k h = absurd h
 done modes (Ends e s) k h = record { state = s; is = ap (λ f. Ends f s) h.0; likely = h.1 }
 
-stopped : (modes : Modes) (x : Next CodeCore) (k : CodeCore) (why : StopKind) (line : ℕ) → outcome.Answers modes x k (end.Stopped why line) → EndsAs x k (run.Stopped (kind_of modes why) line)
+stopped : (modes : Modes) (x : Next CodeCore) (k : CodeCore) (why : StopKind) (line : ℕ) → answers.Answers modes x k (end.Stopped why line) → EndsAs x k (run.Stopped (kind_of modes why) line)
 stopped modes (Goes s) k why line h = absurd h
 stopped modes (Ends e s) k why line h = record { state = s; is = ap (λ f. Ends f s) h.0; likely = h.1 }
 
-spent : (modes : Modes) (x : Next CodeCore) (k : CodeCore) → outcome.Answers modes x k end.Spent → EndsAs x k run.Spent
+spent : (modes : Modes) (x : Next CodeCore) (k : CodeCore) → answers.Answers modes x k end.Spent → EndsAs x k run.Spent
 spent modes (Goes s) k h = absurd h
 spent modes (Ends e s) k h = record { state = s; is = ap (λ f. Ends f s) h.0; likely = h.1 }
 
-stuck : (modes : Modes) (x : Next CodeCore) (k : CodeCore) → outcome.Answers modes x k end.Stuck → EndsAs x k run.Stuck
+stuck : (modes : Modes) (x : Next CodeCore) (k : CodeCore) → answers.Answers modes x k end.Stuck → EndsAs x k run.Stuck
 stuck modes (Goes s) k h = absurd h
 stuck modes (Ends e s) k h = record { state = s; is = ap (λ f. Ends f s) h.0; likely = h.1 }
 

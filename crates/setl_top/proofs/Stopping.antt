@@ -5,10 +5,10 @@ use Rattle.setl_run.specs.Variable.{Bound, name_of}
 use Rattle.setl_model.specs.Answers.{stop_text}
 use Rattle.setl_program.specs.declared.program.Declared.{Declared}
 use Rattle.setl_program.specs.code.Plain.{plain_variable, plain_declared}
-use Rattle.setl_machine.specs.Declaring.{declared_at}
-use Rattle.setl_machine.specs.Outcome.{kind_of}
-use Rattle.setl_machine.specs.declared.end.StopKind.{StopKind}
-use Rattle.setl_machine.specs.declared.end.StopKind.TheVariants as kind
+use Rattle.setl_storing.specs.Declaring.{declared_at}
+use Rattle.setl_storing.specs.Answers.{kind_of}
+use Rattle.setl_storing.specs.declared.end.StopKind.{StopKind}
+use Rattle.setl_storing.specs.declared.end.StopKind.TheVariants as kind
 
 at_place : (ds : List Declared) (k : ℕ) (d : Declared) → slice_get ds k ≡ Some d → declared_at (map plain_declared ds) k ≡ plain_variable d.variable
 at_place [] k d h = absurd (cc)

@@ -2,9 +2,9 @@
 use Rattle.std.proofs.Common.{◌≡◌, ◌^◌, ◌-◌, ℕ, Bool, true, List, [], ◌∷◌, ◌++◌, Option, Some, refl, sym, subst, arith, codes}
 use Rattle.std.specs.Io.KnownBytes.{Appends}
 use Rattle.setl_io.specs.Faults.{Rose}
-use Rattle.setl_machine.specs.Outcome.{kind_of}
-use Rattle.setl_machine.specs.declared.end.End.{End}
-use Rattle.setl_machine.specs.declared.end.End.TheVariants as end
+use Rattle.setl_storing.specs.Answers.{kind_of}
+use Rattle.setl_storing.specs.declared.end.End.{End}
+use Rattle.setl_storing.specs.declared.end.End.TheVariants as end
 use Rattle.setl_model.specs.Answers.{RunStatus, IsDone, IsStopped, IsSpent, status_of, error_line}
 use Rattle.setl_model.specs.Means.{Means}
 use Rattle.setl_program.specs.Program.{Program}

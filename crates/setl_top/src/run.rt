@@ -2,7 +2,7 @@
 ghost use Rattle.std.specs.Prelude.{◌≡◌, ◌<◌, ◌^◌, map, IfOk, OnErr};
 ghost use Rattle.setl_code.specs.MayRun.{MayRun};
 ghost use Rattle.setl_code.specs.Plain.{plain_code};
-ghost use Rattle.setl_machine.specs.Declaring.{IsBare, AreOfMain};
+ghost use Rattle.setl_storing.specs.Declaring.{IsBare, AreOfMain};
 ghost use Rattle.setl_program.specs.code.Plain.{plain_declared, plain_program};
 ghost use Rattle.setl_top.specs.code.CodeRuns.{RunsCode};
 ghost use Rattle.setl_top.specs.code.Runs.{IsMeant, Runs, TakesInput, counted, streams};

@@ -2,7 +2,7 @@
 ghost use Rattle.std.specs.Prelude.{◌≡◌, ◌++◌, [], map, slice_get, Some, None, IfSome, IfNone, IfOk};
 ghost use Rattle.setl_run.specs.Events.{Stopped};
 ghost use Rattle.setl_model.specs.Answers.{stop_text, error_line};
-ghost use Rattle.setl_machine.specs.Outcome.{kind_of};
+ghost use Rattle.setl_storing.specs.Answers.{kind_of};
 ghost use Rattle.setl_program.specs.code.Plain.{plain_declared, plain_variable};
 ghost use Rattle.setl_run.specs.Variable.{name_of};
 

@@ -1,6 +1,6 @@
 //! What the error output gains at the end of a call.
 ghost use Rattle.std.specs.Prelude.{◌≡◌, ◌∷◌, ◌++◌, List, ℕ, [], map, string_bytes, IfOk};
-ghost use Rattle.setl_machine.specs.Outcome.{kind_of};
+ghost use Rattle.setl_storing.specs.Answers.{kind_of};
 ghost use Rattle.setl_model.specs.Answers.{error_line};
 ghost use Rattle.setl_program.specs.code.Plain.{plain_declared};
 ghost use Rattle.setl_run.specs.Events.{Stopped};

@@ -5,10 +5,10 @@ use Rattle.setl_io.specs.Faults.{Rose}
 use Rattle.setl_io.specs.declared.whole.WriteFault.TheVariants.{Failed, NoMemory}
 use Rattle.setl_run.specs.Events as run
 use Rattle.setl_model.specs.Answers.{error_line}
-use Rattle.setl_machine.specs.Declaring.{Modes}
-use Rattle.setl_machine.specs.Outcome.{kind_of}
-use Rattle.setl_machine.specs.declared.end.End.{End}
-use Rattle.setl_machine.specs.declared.end.End.TheVariants as end
+use Rattle.setl_storing.specs.Declaring.{Modes}
+use Rattle.setl_storing.specs.Answers.{kind_of}
+use Rattle.setl_storing.specs.declared.end.End.{End}
+use Rattle.setl_storing.specs.declared.end.End.TheVariants as end
 use Rattle.setl_watch.specs.Watches.{Watched}
 use Rattle.setl_top.specs.Watching.{all_told}
 use Rattle.setl_top.specs.Lines.{AppendsFront, AppendsFronts, fault_line}

@@ -2,9 +2,9 @@
 use Rattle.std.specs.Prelude.{◌≡◌, ◌-◌, ◌^◌, ℕ, Bool, true, List, [], ◌∷◌, ◌++◌, Option, None, codes}
 use Rattle.setl_model.specs.Answers.{error_line}
 use Rattle.setl_model.specs.Means.{Means}
-use Rattle.setl_machine.specs.Outcome.{kind_of}
-use Rattle.setl_machine.specs.declared.end.End.{End}
-use Rattle.setl_machine.specs.declared.end.End.TheVariants as end
+use Rattle.setl_storing.specs.Answers.{kind_of}
+use Rattle.setl_storing.specs.declared.end.End.{End}
+use Rattle.setl_storing.specs.declared.end.End.TheVariants as end
 use Rattle.setl_program.specs.Program.{Program}
 use Rattle.setl_run.specs.Events as run
 use Rattle.setl_top.specs.Accepted.{Accepted, IsRefusedFor}

@@ -2,9 +2,9 @@ use Rattle.std.proofs.Common.{Some}
 use Rattle.std.proofs.lemmas.Result.{IfOk-weaker}
 use Rattle.setl_code.specs.Code.{Operate}
 use Rattle.setl_value.specs.code.DatumOf.{datum}
-use Rattle.setl_machine.specs.Freely.{PutsForTwo}
-use Rattle.setl_machine.specs.Working.{Does}
-use Rattle.setl_machine.proofs.Freely.{two_on_top, operated_freely}
+use Rattle.setl_machine.specs.Operating.{PutsForTwo}
+use Rattle.setl_storing.specs.Working.{Does}
+use Rattle.setl_machine.proofs.Operated.{two_on_top, operated_freely}
 use Rattle.setl_machine.proofs.operating.operate.Goals as goal
 
 pub put_for_two-requires-clause-two : goal.put_for_two-requires-clause-two

@@ -1,14 +1,13 @@
-use Rattle.std.proofs.Common.{◌≡◌, [], ◌∷◌, Some, Err, drop, subst}
+use Rattle.std.proofs.Common.{◌≡◌, ℕ, [], ◌∷◌, Some, Err, drop, subst}
 use Rattle.std.proofs.lemmas.Result.{IfOk-weaker}
 use Rattle.setl_code.specs.Code.{Operate}
 use Rattle.setl_value.specs.code.DatumOf.{datum, part}
 use Rattle.setl_map.specs.code.Answers.{Tells}
 use Rattle.setl_map.specs.Operators.{op_of}
 use Rattle.setl_map.specs.Outcome.{Gives}
-use Rattle.setl_machine.specs.Control.{ControlState}
-use Rattle.setl_machine.specs.Freely.{PutsForTwo}
-use Rattle.setl_machine.specs.Working.{Does}
-use Rattle.setl_machine.proofs.Freely.{operated_two, two_not, two_there}
+use Rattle.setl_machine.specs.Operating.{PutsForTwo}
+use Rattle.setl_storing.specs.Working.{Does}
+use Rattle.setl_machine.proofs.Operated.{operated_two, two_not, two_there}
 use Rattle.setl_machine.proofs.operating.operate_on_two.Goals as goal
 
 pub put_for_two-requires-clause-two : goal.put_for_two-requires-clause-two
@@ -23,7 +22,7 @@ returns-in-Ok-clause-did c =
     let from = c.args.control.now in
     let to = c.charge.new.self in
     let gives : op_of c.args.what (Some (datum c.in-Some.a.now) ∷ Some (datum c.in-Some.b.now) ∷ []) from.turns ≡ Gives (part c.in-Ok.answer.value) c.in-Ok.answer.charged =
-    subst (λ (d : ControlState). op_of c.args.what (Some (datum c.in-Some.a.now) ∷ Some (datum c.in-Some.b.now) ∷ []) d.turns ≡ Gives (part c.in-Ok.answer.value) c.in-Ok.answer.charged) c.control.view_is c.in-Ok.ensures in
+    subst (λ (turns : ℕ). op_of c.args.what (Some (datum c.in-Some.a.now) ∷ Some (datum c.in-Some.b.now) ∷ []) turns ≡ Gives (part c.in-Ok.answer.value) c.in-Ok.answer.charged) c.turns.ensures c.in-Ok.ensures in
     IfOk-weaker c.put_for_two.result (λ e. PutsForTwo old (part c.in-Ok.answer.value) new e) (λ e. Does old from c.args.line (Operate c.args.what c.args.count) new to e)
     (λ e h. operated_two old new from to c.args.line c.args.count c.in-Ok.answer.charged c.args.what (Some (datum c.in-Some.a.now)) (Some (datum c.in-Some.b.now)) (part c.in-Ok.answer.value) e c.requires.two c.requires.fits c.in-Some.ensures gives c.charge.ensures h)
     c.put_for_two.ensures
@@ -32,5 +31,5 @@ pub returns-in-Err-clause-did : goal.returns-in-Err-clause-did
 returns-in-Err-clause-did c =
     let from = c.args.control.now in
     let told : Tells (Err c.in-Err.fault) (op_of c.args.what (Some (datum c.in-Some.a.now) ∷ Some (datum c.in-Some.b.now) ∷ []) from.turns) =
-    subst (λ (d : ControlState). Tells (Err c.in-Err.fault) (op_of c.args.what (Some (datum c.in-Some.a.now) ∷ Some (datum c.in-Some.b.now) ∷ []) d.turns)) c.control.view_is c.in-Err.ensures in
+    subst (λ (turns : ℕ). Tells (Err c.in-Err.fault) (op_of c.args.what (Some (datum c.in-Some.a.now) ∷ Some (datum c.in-Some.b.now) ∷ []) turns)) c.turns.ensures c.in-Err.ensures in
     two_not c.args.store.now from c.args.line c.args.count c.args.what (Some (datum c.in-Some.a.now)) (Some (datum c.in-Some.b.now)) c.in-Err.fault c.end_by.result c.requires.two c.requires.fits c.in-Some.ensures told c.end_by.ensures

@@ -2,7 +2,7 @@ use Rattle.std.proofs.Common.{subst, sym, ap}
 use Rattle.setl_value.specs.code.DatumOf.{part}
 use Rattle.setl_store.specs.Operands.{IsPlainTop}
 use Rattle.setl_store.specs.Standing.{Standing}
-use Rattle.setl_machine.proofs.Freely.{some_of_two, plain_of_two, put_two}
+use Rattle.setl_machine.proofs.Operated.{some_of_two, plain_of_two, put_two}
 use Rattle.setl_machine.proofs.operating.put_for_two.Goals as goal
 
 pub drop_top-requires : goal.drop_top-requires

@@ -1,4 +1,4 @@
-use Rattle.std.proofs.Common.{◌∙◌, [], map, ap, sym}
+use Rattle.std.proofs.Common.{◌∙◌, [], map, ap, sym, refl, Ok, Err}
 use Rattle.std.specs.Prelude.{cond}
 use Rattle.setl_code.specs.Code.{Alter}
 use Rattle.setl_code.specs.Plain.{plain_slot, plain_bracket, plain_alteration}
@@ -6,11 +6,10 @@ use Rattle.setl_store.specs.Standing.{variables}
 use Rattle.setl_telling.specs.Told.{store_told}
 use Rattle.setl_watch.specs.Notices.{noticed}
 use Rattle.setl_watch.specs.code.NoticeOf.{notice_of}
-use Rattle.setl_machine.specs.Control.{stood_for}
-use Rattle.setl_machine.specs.Declaring.{modes_of}
+use Rattle.setl_storing.specs.Control.{stood_for}
+use Rattle.setl_storing.specs.Declaring.{modes_of}
 use Rattle.setl_machine.proofs.Told.{in_body, slot_stays, stayed_alter, tells_store, tells_alter, telling_on, telling_ends}
 use Rattle.setl_machine.proofs.telling.alter_telling.Goals as goal
-use Rattle.setl_machine.proofs.telling.alter_telling.Goals.{in-Paused+then-updated+in_ok-stored_events-in-Paused, in-Paused+else-updated, in_default}
 
 pub stored_events-requires : goal.stored_events-requires
 stored_events-requires c =
@@ -19,8 +18,8 @@ stored_events-requires c =
     let stayed = stayed_alter (modes_of c.args.declarations.now) old new c.args.control.now c.alter.new.control c.args.line (plain_alteration c.args.what) (plain_slot (variables old.core) c.args.slot) (map plain_bracket c.args.brackets.now) c.in_ok-updated.updated.end c.in_ok-updated.ensures.did c.in-Paused.is in
     slot_stays old new c.args.slot stayed.0 stayed.1 (in_body old c.body-body.result c.body-body.ensures.number c.body-body.ensures.variables) c.requires.there
 
-pub returns-clause-did : goal.returns-clause-did
-returns-clause-did c =
+pub returns-in_ok-stored_events-in-Paused-clause-did : goal.returns-in_ok-stored_events-in-Paused-clause-did
+returns-in_ok-stored_events-in-Paused-clause-did c =
     let old = c.args.store.now in
     let new = c.alter.new.store in
     let from = c.args.control.now in
@@ -31,17 +30,38 @@ returns-clause-did c =
     let bs = map plain_bracket c.args.brackets.now in
     let u = c.in_ok-updated.updated in
     let did = c.in_ok-updated.ensures.did in
-    let r = c.match-updated.result in
-    elim c.match-updated.branch [
-      | in-Paused+then-updated+in_ok-stored_events-in-Paused w ↦
-          let events = w.in_ok-stored_events-in-Paused.field-0 in
-          let stayed = stayed_alter modes old new from to c.args.line a x bs u.end did w.in-Paused.is in
-          telling_on modes old new from to c.args.line (Alter a x bs) u.end r events w.in-Paused.is w.result-is did.1 did.0
-          (tells_alter old new from to c.args.line a x bs u.stored events.items (c.in_ok-updated.ensures.stored w.in-Paused.is)
-          (λ rest rest'. tells_store old new from to c.args.line c.args.slot events.items stayed.0 stayed.1 (in_body old c.body-body.result c.body-body.ensures.number c.body-body.ensures.variables) w.in_ok-stored_events-in-Paused.ensures rest rest' ∙ ap (λ b. map noticed (cond b (store_told c.args.line x (stood_for new.core to rest')) [])) (sym w.if-updated.true)))
-      | in-Paused+else-updated w ↦
-          telling_on modes old new from to c.args.line (Alter a x bs) u.end r w.new.result w.in-Paused.is w.result-is did.1 did.0
-          (tells_alter old new from to c.args.line a x bs u.stored w.new.result.items (c.in_ok-updated.ensures.stored w.in-Paused.is)
-          (λ rest rest'. ap (map notice_of) w.new.ensures.items ∙ ap (λ b. map noticed (cond b (store_told c.args.line x (stood_for new.core to rest')) [])) (sym w.if-updated.false)))
-      | in_default w ↦ telling_ends modes old new from to c.args.line (Alter a x bs) u.end r w.in_default.not-Paused w.result-is did.1
-    ]
+    let events = c.in_ok-stored_events-in-Paused.field-0 in
+    let stayed = stayed_alter modes old new from to c.args.line a x bs u.end did c.in-Paused.is in
+    telling_on modes old new from to c.args.line (Alter a x bs) u.end (Ok events) events c.in-Paused.is refl did.1 did.0
+    (tells_alter old new from to c.args.line a x bs u.stored events.items (c.in_ok-updated.ensures.stored c.in-Paused.is)
+    (λ rest rest'. tells_store old new from to c.args.line c.args.slot events.items stayed.0 stayed.1 (in_body old c.body-body.result c.body-body.ensures.number c.body-body.ensures.variables) c.in_ok-stored_events-in-Paused.ensures rest rest' ∙ ap (λ b. map noticed (cond b (store_told c.args.line x (stood_for new.core to rest')) [])) (sym c.if-updated.true)))
+
+pub returns-else-updated-clause-did : goal.returns-else-updated-clause-did
+returns-else-updated-clause-did c =
+    let old = c.args.store.now in
+    let new = c.alter.new.store in
+    let from = c.args.control.now in
+    let to = c.alter.new.control in
+    let modes = modes_of c.args.declarations.now in
+    let a = plain_alteration c.args.what in
+    let x = plain_slot (variables old.core) c.args.slot in
+    let bs = map plain_bracket c.args.brackets.now in
+    let u = c.in_ok-updated.updated in
+    let did = c.in_ok-updated.ensures.did in
+    telling_on modes old new from to c.args.line (Alter a x bs) u.end (Ok c.new.result) c.new.result c.in-Paused.is refl did.1 did.0
+    (tells_alter old new from to c.args.line a x bs u.stored c.new.result.items (c.in_ok-updated.ensures.stored c.in-Paused.is)
+    (λ rest rest'. ap (map notice_of) c.new.ensures.items ∙ ap (λ b. map noticed (cond b (store_told c.args.line x (stood_for new.core to rest')) [])) (sym c.if-updated.false)))
+
+pub returns-in_default-clause-did : goal.returns-in_default-clause-did
+returns-in_default-clause-did c =
+    let old = c.args.store.now in
+    let new = c.alter.new.store in
+    let from = c.args.control.now in
+    let to = c.alter.new.control in
+    let modes = modes_of c.args.declarations.now in
+    let a = plain_alteration c.args.what in
+    let x = plain_slot (variables old.core) c.args.slot in
+    let bs = map plain_bracket c.args.brackets.now in
+    let u = c.in_ok-updated.updated in
+    let did = c.in_ok-updated.ensures.did in
+    telling_ends modes old new from to c.args.line (Alter a x bs) u.end (Err u.end) c.in_default.not-Paused refl did.1

@@ -1,18 +1,17 @@
-use Rattle.std.proofs.Common.{◌∙◌, map, Some, ap}
+use Rattle.std.proofs.Common.{◌∙◌, map, Some, ap, refl, Ok, Err}
 use Rattle.std.specs.Prelude.{slice_get}
 use Rattle.setl_code.specs.Code.{CallBody}
 use Rattle.setl_code.specs.Plain.{plain_code}
 use Rattle.setl_telling.specs.Notes.{call_notices}
 use Rattle.setl_value.specs.code.DatumOf.{part}
-use Rattle.setl_machine.specs.Declaring.{modes_of}
+use Rattle.setl_storing.specs.Declaring.{modes_of}
 use Rattle.setl_machine.specs.Working.{TakesArguments}
 use Rattle.setl_machine.proofs.Entering.{begun}
 use Rattle.setl_machine.proofs.Told.{tells_call, telling_on, telling_ends}
 use Rattle.setl_machine.proofs.telling.call_telling.Goals as goal
-use Rattle.setl_machine.proofs.telling.call_telling.Goals.{in-Paused+in_ok-call_events-in-Paused, in_default-2}
 
-pub returns-clause-did : goal.returns-clause-did
-returns-clause-did c =
+pub returns-in_ok-call_events-in-Paused-clause-did : goal.returns-in_ok-call_events-in-Paused-clause-did
+returns-in_ok-call_events-in-Paused-clause-did c =
     let old = c.args.store.now in
     let mid = c.arguments.new.store in
     let new = c.begin.new.store in
@@ -23,16 +22,27 @@ returns-clause-did c =
     let line = c.args.line in
     let vs = map part c.in-Some.values.items in
     let end = c.in_ok-end.end in
-    let r = c.match-branch-5.result in
     let taken : TakesArguments n old (Some vs) mid = rw c.in-Some.is at c.in_ok-values.ensures.taken in
     let did = begun modes old mid new from to n line vs end c.requires.serves.main c.requires.serves.bare taken c.in_ok-end.ensures.did in
-    elim c.match-branch-5.branch [
-      | in-Paused+in_ok-call_events-in-Paused w ↦
-          let events = w.in_ok-call_events-in-Paused.field-0 in
-          let told =
-          w.in_ok-call_events-in-Paused.ensures
-          ∙ ap (λ d. call_notices n (slice_get (plain_code d).bodies n) line (map part c.in_ok-told.told.items)) w.code.ensures
-          ∙ ap (λ us. call_notices n (slice_get (plain_code new.code).bodies n) line (map part us)) (c.in_ok-told.ensures ∙ c.deref.ensures.value) in
-          telling_on modes old new from to line (CallBody n) end r events w.in-Paused.is w.result-is did.1 did.0 (tells_call old mid new from to n line vs events.items taken did.0 told)
-      | in_default-2 w ↦ telling_ends modes old new from to line (CallBody n) end r w.in_default-2.not-Paused w.result-is did.1
-    ]
+    let events = c.in_ok-call_events-in-Paused.field-0 in
+    let told =
+    c.in_ok-call_events-in-Paused.ensures
+    ∙ ap (λ d. call_notices n (slice_get (plain_code d).bodies n) line (map part c.in_ok-told.told.items)) c.code.ensures
+    ∙ ap (λ us. call_notices n (slice_get (plain_code new.code).bodies n) line (map part us)) (c.in_ok-told.ensures ∙ c.deref.ensures.value) in
+    telling_on modes old new from to line (CallBody n) end (Ok events) events c.in-Paused.is refl did.1 did.0 (tells_call old mid new from to n line vs events.items taken did.0 told)
+
+pub returns-in_default-2-clause-did : goal.returns-in_default-2-clause-did
+returns-in_default-2-clause-did c =
+    let old = c.args.store.now in
+    let mid = c.arguments.new.store in
+    let new = c.begin.new.store in
+    let from = c.args.control.now in
+    let to = c.begin.new.control in
+    let modes = modes_of c.args.declarations.now in
+    let n = c.args.body in
+    let line = c.args.line in
+    let vs = map part c.in-Some.values.items in
+    let end = c.in_ok-end.end in
+    let taken : TakesArguments n old (Some vs) mid = rw c.in-Some.is at c.in_ok-values.ensures.taken in
+    let did = begun modes old mid new from to n line vs end c.requires.serves.main c.requires.serves.bare taken c.in_ok-end.ensures.did in
+    telling_ends modes old new from to line (CallBody n) end (Err end) c.in_default-2.not-Paused refl did.1

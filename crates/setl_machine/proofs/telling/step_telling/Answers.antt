@@ -1,19 +1,20 @@
-use Rattle.std.proofs.Common.{◌≡◌, ◌∙◌, [], inl, Some, refl, ap, sym, subst}
+use Rattle.std.proofs.Common.{◌≡◌, ◌∙◌, [], inl, inr, Some, refl, ap, sym, subst}
 use Rattle.setl_code.specs.declared.code.Instr.TheVariants.{Print, Read}
 use Rattle.setl_code.specs.Code.{PrintTop, ReadOne}
 use Rattle.setl_code.specs.Machine.{fetch}
 use Rattle.setl_code.specs.Plain.{plain_code, plain_instr}
 use Rattle.setl_store.specs.Standing.{variables}
 use Rattle.setl_text.specs.code.Reads.{ReaderState, ahead}
-use Rattle.setl_machine.specs.Control.{world_of, stood_for, IsRest}
-use Rattle.setl_machine.specs.Declaring.{modes_of}
+use Rattle.setl_storing.specs.Control.{world_of, stood_for, IsRest}
+use Rattle.setl_storing.specs.Declaring.{modes_of}
 use Rattle.setl_machine.specs.Hearing.{ended}
-use Rattle.setl_machine.specs.Outcome.{seen, next_of, Steps}
+use Rattle.setl_storing.specs.Answers.{next_of}
+use Rattle.setl_machine.specs.Outcome.{seen, Steps}
+use Rattle.setl_storing.specs.declared.end.End.TheVariants.{Paused}
 use Rattle.setl_machine.proofs.Stays.{takes_none}
 use Rattle.setl_machine.proofs.Stepping.{in_hand, by_step, quiet_steps, quiet_no_write, quiet_no_read, stays_honest}
 use Rattle.setl_machine.proofs.Told.{tells_code, tells_ends, tells_here, on_ok}
 use Rattle.setl_machine.proofs.telling.step_telling.Goals as goal
-use Rattle.setl_machine.proofs.telling.step_telling.Goals.{in-Paused, in_default-read}
 
 pub returns-in-Print-clause-did : goal.returns-in-Print-clause-did
 returns-in-Print-clause-did g c =
@@ -42,8 +43,8 @@ returns-in-Print-clause-ends g c = tells_ends c.args.store.now c.print_telling.n
 pub returns-in-Print-clause-code : goal.returns-in-Print-clause-code
 returns-in-Print-clause-code g c = tells_code c.args.store.now c.print_telling.new.store c.args.control.now c.args.control.now 0 (PrintTop c.in-Print.count) c.print_telling.result (c.print_telling.ensures.tells 0)
 
-pub returns-after-read-clause-did : goal.returns-after-read-clause-did
-returns-after-read-clause-did g c =
+pub returns-in-Paused-clause-did : goal.returns-in-Paused-clause-did
+returns-in-Paused-clause-did g c =
     let s = c.args.store.now in
     let m = plain_code s.code in
     let modes = modes_of c.args.declarations.now in
@@ -53,16 +54,39 @@ returns-after-read-clause-did g c =
     let faults = g.O.Sink.faults c.args.out.now in
     let old = seen held faults (g.I.Source.faults c.args.input.now) in
     let new = seen held faults (g.I.Source.faults c.read.new.input) in
-    let end : c.read.result ≡ ended c.match-read.result =
-    elim c.match-read.branch [
-      | in-Paused w ↦ w.in-Paused.is ∙ sym (ap ended w.result-is)
-      | in_default-read w ↦ sym (ap ended w.result-is)
-    ] in
     λ rest h.
     let did = c.read.ensures.did modes held faults rest h in
     let k = stood_for s.core c.args.control.now did.0 in
     let to = stood_for c.read.new.store.core c.read.new.control rest in
-    (did.0, did.1, by_step modes m k to line ReadOne old new (ended c.match-read.result) here (subst (λ e. Steps modes (next_of modes m line ReadOne k) old new to e) end did.2))
+    (did.0, did.1, by_step modes m k to line ReadOne old new Paused here (subst (λ e. Steps modes (next_of modes m line ReadOne k) old new to e) c.in-Paused.is did.2))
+
+pub returns-in_default-read : goal.returns-in_default-read
+returns-in_default-read g c =
+    let s = c.args.store.now in
+    let m = plain_code s.code in
+    let modes = modes_of c.args.declarations.now in
+    let line = c.in-Some.step.now.line in
+    let here : fetch m s.core.now.body s.core.now.at ≡ Some (line, ReadOne) = in_hand m s.core (variables s.core) c.in-Some.step.now Read c.in-Some.ensures.some c.in-Read.is in
+    let held = g.O.Sink.held c.args.out.now in
+    let faults = g.O.Sink.faults c.args.out.now in
+    let old = seen held faults (g.I.Source.faults c.args.input.now) in
+    let new = seen held faults (g.I.Source.faults c.read.new.input) in
+    record {
+      did = λ rest h.
+          let did = c.read.ensures.did modes held faults rest h in
+          let k = stood_for s.core c.args.control.now did.0 in
+          let to = stood_for c.read.new.store.core c.read.new.control rest in
+          (did.0, did.1, by_step modes m k to line ReadOne old new c.read.result here did.2);
+      tells = λ line' i f. c.in_default-read.not-Paused;
+      prints = λ e. absurd (c.read.ensures.no_write e);
+      reads = λ e. (line, here);
+      reads_only = inr (line, here);
+      ends = c.in_default-read.not-Paused;
+      code = tt;
+      goes_on = tt;
+      took = c.read.ensures.took;
+      honest = c.read.ensures.honest;
+    }
 
 pub returns-in_default-what : goal.returns-in_default-what
 returns-in_default-what g c =

@@ -1,6 +1,6 @@
 use Rattle.std.proofs.Common.{subst, sym}
 use Rattle.setl_code.specs.Plain.{plain_code}
-use Rattle.setl_machine.specs.Declaring.{AreOfMain}
+use Rattle.setl_storing.specs.Declaring.{AreOfMain}
 use Rattle.setl_program.specs.Formed.{Formed}
 use Rattle.setl_program.specs.Placed.{Placed}
 use Rattle.setl_program.specs.code.Plain.{plain_program}
