@@ -1,3 +1,1 @@
-pub mod Deeper
-pub mod Lists
 pub mod Faults

@@ -3,10 +3,6 @@
 
 mod fault;
 mod laws;
-mod modes;
-mod nested;
-mod programs;
-mod statements;
 
 ghost use Rattle.std.specs.Prelude.{◌≡◌, ◌≢◌, IfOk, IfErr, MatchResult};
 ghost use Rattle.setl_tree.specs.Programs as grammar;
@@ -14,12 +10,12 @@ ghost use Rattle.setl_tree.specs.Programs.{Derives};
 ghost use Rattle.setl_expressions.specs.Plain.{plain_tokens};
 ghost use Rattle.setl_parse.specs.Places.{IsFaultOf};
 
-use crate::programs::program;
 pub use fault::ParseFault;
 use fault::fault_at;
 pub use laws::one_fault;
 use setl_expressions::Cursor;
 use setl_reading::{faults_are_exact, reading_meets_grammar, tree_is_unique};
+use setl_statements::program;
 use setl_token::TokenList;
 use setl_tree::Tree;
 use std::alloc::Global;

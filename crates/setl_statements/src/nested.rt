@@ -4,8 +4,8 @@ ghost use Rattle.std.specs.Prelude.{◌≡◌};
 ghost use Rattle.setl_reading.specs.code.Reading.{Reads};
 ghost use Rattle.setl_reading.specs.code.ReadStatements as spec;
 ghost use Rattle.setl_reading.specs.code.ReadStatements.{nested_stmts};
-ghost use Rattle.setl_parse.specs.code.Nests.{NestsStmts};
-ghost use Rattle.setl_parse.specs.code.Parts as parts;
+ghost use Rattle.setl_statements.specs.code.Nests.{NestsStmts};
+ghost use Rattle.setl_statements.specs.code.Parts as parts;
 
 use crate::statements::{
     behind_name, ended, print_stmt, read_stmt, return_stmt, simple_stmt, tuple_assign,
@@ -58,7 +58,7 @@ impl<'s, G: Fn(&mut Cursor<'_>, usize) -> Result<Items<Stmt>, Fault>> Rule for E
     ghost use Rattle.setl_tree.specs.declared.kind.Kind.TheVariants as k;
     ghost use Rattle.setl_reading.specs.code.Reading.{expect, ◌>>◌};
     ghost use Rattle.setl_reading.specs.code.ReadStatements.{nested_stmts, branch};
-    ghost use Rattle.setl_parse.specs.code.Nests.{NestsStmts};
+    ghost use Rattle.setl_statements.specs.code.Nests.{NestsStmts};
 
     ghost can_read = { λ s. NestsStmts s.statements.now.room (G.pre s.statements.now.deep) (G.post s.statements.now.deep) };
 
@@ -94,7 +94,7 @@ impl<'s, G: Fn(&mut Cursor<'_>, usize) -> Result<Items<Stmt>, Fault>> Rule for E
     ghost use Rattle.setl_tree.specs.declared.kind.Kind.TheVariants as k;
     ghost use Rattle.setl_reading.specs.code.Reading.{expect, ◌>>◌};
     ghost use Rattle.setl_reading.specs.code.ReadStatements.{nested_stmts};
-    ghost use Rattle.setl_parse.specs.code.Nests.{NestsStmts};
+    ghost use Rattle.setl_statements.specs.code.Nests.{NestsStmts};
 
     ghost can_read = { λ s. NestsStmts s.statements.now.room (G.pre s.statements.now.deep) (G.post s.statements.now.deep) };
 
@@ -129,7 +129,7 @@ impl<'s, G: Fn(&mut Cursor<'_>, usize) -> Result<Items<Stmt>, Fault>> Rule for S
     ghost use Rattle.setl_tree.specs.declared.kind.Kind.TheVariants as k;
     ghost use Rattle.setl_reading.specs.code.Reading.{is};
     ghost use Rattle.setl_reading.specs.code.ReadStatements.{nested_stmts, stmt};
-    ghost use Rattle.setl_parse.specs.code.Nests.{NestsStmts};
+    ghost use Rattle.setl_statements.specs.code.Nests.{NestsStmts};
 
     ghost can_read = { λ s. NestsStmts s.statements.now.room (G.pre s.statements.now.deep) (G.post s.statements.now.deep) };
 

@@ -6,7 +6,7 @@ ghost use Rattle.setl_tree.specs.Statements as grammar;
 ghost use Rattle.setl_tree.specs.Tokens.{Token};
 ghost use Rattle.setl_reading.specs.code.Reading.{Reads, begins_as};
 ghost use Rattle.setl_reading.specs.code.ReadStatements as spec;
-ghost use Rattle.setl_parse.specs.code.Parts as parts;
+ghost use Rattle.setl_statements.specs.code.Parts as parts;
 
 use setl_expressions::{
     Cursor, ListedRule, NestedExpr, Repeated, Rule, SeparatedRule, begins_selector, beside, braces,

@@ -6,7 +6,7 @@ ghost use Rattle.setl_tree.specs.Modes as grammar;
 ghost use Rattle.setl_reading.specs.code.Reading.{Reads};
 ghost use Rattle.setl_reading.specs.code.ReadModes as spec;
 ghost use Rattle.setl_reading.specs.code.ReadModes.{nested_mode};
-ghost use Rattle.setl_parse.specs.code.Nests.{NestsModes};
+ghost use Rattle.setl_statements.specs.code.Nests.{NestsModes};
 
 use crate::statements::ended;
 use setl_expressions::{
@@ -141,7 +141,7 @@ impl<'m, H: Fn(&mut Cursor<'_>, usize) -> Result<WrittenMode, Fault>> Rule for D
     type Out = Boxed<WrittenMode>;
 
     ghost use Rattle.setl_reading.specs.code.ReadModes.{nested_mode};
-    ghost use Rattle.setl_parse.specs.code.Nests.{NestsModes};
+    ghost use Rattle.setl_statements.specs.code.Nests.{NestsModes};
 
     ghost can_read = { λ s. NestsModes s.modes.now.room (H.pre s.modes.now.deep) (H.post s.modes.now.deep) };
 

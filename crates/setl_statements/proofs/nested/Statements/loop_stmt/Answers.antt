@@ -1,7 +1,7 @@
 use Rattle.std.proofs.Common.{arith, rules}
 use Rattle.std.proofs.lemmas.Grind.{common_steps}
 use Rattle.setl_reading.specs.code.ReadStatements as spec
-use Rattle.setl_parse.proofs.nested.Statements.loop_stmt.Goals as goal
+use Rattle.setl_statements.proofs.nested.Statements.loop_stmt.Goals as goal
 
 pub returns-in_err-open : goal.returns-in_err-open
 unfolding spec.loop spec.for_or_while

@@ -7,8 +7,8 @@ ghost use Rattle.setl_reading.specs.code.Reading.{Reads, is, expect};
 ghost use Rattle.setl_reading.specs.code.ReadPrograms as spec;
 ghost use Rattle.setl_expressions.specs.Plain.{next_token};
 ghost use Rattle.setl_expressions.specs.code.Behind.{beside};
-ghost use Rattle.setl_parse.specs.code.Parts as parts;
-ghost use Rattle.setl_parse.specs.code.Parts.{proc_from, program_from};
+ghost use Rattle.setl_statements.specs.code.Parts as parts;
+ghost use Rattle.setl_statements.specs.code.Parts.{proc_from, program_from};
 
 use crate::modes::{DeclaredRule, ReprRule};
 use crate::nested::stmts;
@@ -389,7 +389,7 @@ struct VarsRule;
 impl Rule for VarsRule {
     type Out = Items<Declared>;
 
-    ghost use Rattle.setl_parse.specs.code.Parts.{joined_vars};
+    ghost use Rattle.setl_statements.specs.code.Parts.{joined_vars};
 
     ghost can_read = { λ s. Unit {0} };
 
@@ -402,7 +402,9 @@ impl Rule for VarsRule {
     }
 }
 
-/// A program.
+/// A program, where so many nestings may still open.
+///
+/// The error is the fault of the tokens with how many of them are left at it, or want of memory.
 #[tactic(auto, unfolding(setl_reading::specs::code::ReadPrograms::program, setl_reading::specs::code::ReadPrograms::vars))]
 pub fn program(room: usize, tokens: &mut Cursor<'_>) -> Result<Tree, Fault>
     ensures { Reads (spec.program room tokens.old) result tokens.new }

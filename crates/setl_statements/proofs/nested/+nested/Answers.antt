@@ -1,7 +1,7 @@
 use Rattle.std.proofs.Common.{◌≡◌, refl, arith}
 use Rattle.setl_reading.specs.code.ReadStatements.{nested_stmts, stmts}
-use Rattle.setl_parse.proofs.Deeper.{deeper}
-use Rattle.setl_parse.proofs.nested.+nested.Goals as goal
+use Rattle.setl_statements.proofs.Deeper.{deeper}
+use Rattle.setl_statements.proofs.nested.+nested.Goals as goal
 
 pub returns-then-room-eq0 : goal.returns-then-room-eq0
 unfolding nested_stmts

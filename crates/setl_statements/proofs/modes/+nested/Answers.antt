@@ -1,7 +1,7 @@
 use Rattle.std.proofs.Common.{◌≡◌, refl, arith}
 use Rattle.setl_reading.specs.code.ReadModes.{nested_mode}
-use Rattle.setl_parse.proofs.Deeper.{deeper}
-use Rattle.setl_parse.proofs.modes.+nested.Goals as goal
+use Rattle.setl_statements.proofs.Deeper.{deeper}
+use Rattle.setl_statements.proofs.modes.+nested.Goals as goal
 
 pub returns-then-room-eq0 : goal.returns-then-room-eq0
 unfolding nested_mode
