@@ -1,5 +1,5 @@
 -- Rules 19 to 28, on the declarations of a `repr` section: the lines at which each is broken.
-use Rattle.std.specs.Prelude.{◌≡◌, refl, codes, ℕ, Bool, true, false, not, ◌||◌, ◌&&◌, List, [], ◌∷◌, ◌++◌, map, Option, Some, None, if◌then◌else◌}
+use Rattle.std.specs.Prelude.{◌≡◌, refl, codes, ℕ, Bool, not, ◌||◌, ◌&&◌, List, [], ◌∷◌, ◌++◌, map, Option, Some, None, if◌then◌else◌}
 use Rattle.std.specs.List.{list_any}
 use Rattle.setl_tree.specs.declared.mode.ReprLine.{ReprLine}
 use Rattle.setl_tree.specs.declared.mode.ReprLine.TheVariants as rl
