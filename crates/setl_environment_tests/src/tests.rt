@@ -139,20 +139,19 @@ fn tell(values: &[Held], told: &mut String) -> Result<(), Memory> {
 // Makes a call, and adds what it gives.
 fn call(alloc: Global, env: &mut Env, name: &str, n: u64, told: &mut String) -> Result<(), Memory> {
     match name {
-        "add" => add(env, n)?,
-        "push_slots" => push_slots(alloc, env, n)?,
-        "keep" => env.keep(n)?,
-        "is_kept" => write!(told, " {}", env.is_kept())?,
-        "set" => set(env)?,
-        "drop_last" => drop_last(env)?,
-        "cut" => cut(env)?,
-        "replace" => replace(env, told)?,
-        "pop_operand" => pop_operand(env, told)?,
-        "pop_operands" => pop_operands(env, told)?,
-        "pop_members" => pop_members(env, told)?,
-        _ => back(env, told)?,
+        "add" => add(env, n),
+        "push_slots" => push_slots(alloc, env, n),
+        "keep" => env.keep(n),
+        "is_kept" => write!(told, " {}", env.is_kept()),
+        "set" => set(env),
+        "drop_last" => drop_last(env),
+        "cut" => cut(env),
+        "replace" => replace(env, told),
+        "pop_operand" => pop_operand(env, told),
+        "pop_operands" => pop_operands(env, told),
+        "pop_members" => pop_members(env, told),
+        _ => back(env, told),
     }
-    Ok(())
 }
 
 #[derive(Clone, Copy)]
@@ -192,27 +191,52 @@ fn show(env: &Env, told: &mut String) -> Result<(), Memory> {
     write!(told, " | {}", env.members())
 }
 
-// What a call gives, and what is there after it.
-fn told(alloc: Global, env: &mut Env, step: &str) -> Result<String, Memory> {
+// Makes the call of a step, and adds the step, what it gives and what is there after it.
+fn take_step(alloc: Global, env: &mut Env, step: &str, told: &mut String) -> Result<(), Memory> {
+    write!(told, "{step}:")?;
     let (name, n) = step.split_once(' ').unwrap_or((step, "0"));
-    let mut told = String::new(alloc);
-    call(alloc, env, name, n.parse().unwrap_or(0), &mut told)?;
-    show(env, &mut told)?;
-    Ok(told)
+    call(alloc, env, name, n.parse().unwrap_or(0), told)?;
+    show(env, told)
 }
 
-// Makes the calls of steps, and compares what each gives and what is there after it.
-fn expect(rt: &impl Abort, alloc: Global, env: &mut Env, steps: &str) -> Result<(), Fail> {
+// Writes a line anew, and compares.
+fn expect_step(
+    rt: &impl Abort,
+    alloc: Global,
+    env: &mut Env,
+    line: &str,
+    told: &mut String,
+) -> Result<(), Fail> {
+    let (step, _) = line.split_once(':').unwrap_or((line, ""));
+    told.clear();
+    take_step(alloc, env, step, told)?;
+    assert_eq!(rt; told.as_str(), line);
+    Ok(())
+}
+
+fn expect_steps(
+    rt: &impl Abort,
+    alloc: Global,
+    env: &mut Env,
+    steps: &str,
+    told: &mut String,
+) -> Result<(), Fail> {
     for line in steps.lines() {
-        let (step, expected) = line.split_once(':').unwrap_or((line, ""));
-        assert_eq!(rt; told(alloc, env, step)?.as_str(), expected, "{line}");
+        expect_step(rt, alloc, env, line, told)?;
     }
     Ok(())
 }
 
-fn expect_all(rt: &impl Abort, alloc: Global, env: &mut Env, parts: [&str; 3]) -> Result<(), Fail> {
+// Takes the steps of three parts.
+fn expect_all(
+    rt: &impl Abort,
+    alloc: Global,
+    env: &mut Env,
+    parts: [&str; 3],
+    told: &mut String,
+) -> Result<(), Fail> {
     for steps in parts {
-        expect(rt, alloc, env, steps)?;
+        expect_steps(rt, alloc, env, steps, told)?;
     }
     Ok(())
 }
@@ -220,7 +244,7 @@ fn expect_all(rt: &impl Abort, alloc: Global, env: &mut Env, parts: [&str; 3]) -
 // The same, on an environment that is empty at first.
 fn run(rt: &impl Abort, alloc: Global, parts: [&str; 3]) -> Result<(), Fail> {
     let mut env = Environment::new(alloc)?;
-    expect_all(rt, alloc, &mut env, parts)
+    expect_all(rt, alloc, &mut env, parts, &mut String::new(alloc))
 }
 
 #[test]

@@ -1,7 +1,7 @@
 use setl_code::Begin;
 use setl_environment::Copied;
 use setl_io::SureSource;
-use setl_iterator::{Item, Iterator, OpFault, begin};
+use setl_iterator::{Item, Iterator, begin};
 use setl_program::Source;
 use setl_text::{Got, Reader, text};
 use setl_value::{Memory, Value};
@@ -10,32 +10,34 @@ use std::fmt::Write;
 use std::process::Abort;
 use std::test::Fail;
 
-// Rows, a line each: how an iterator begins, its sources, and its items: members, or arguments each with its image.
-const ITEMS: &str = "values | {3 1 2} | members 1 2 3
-values | [5 * 7] | members 5 * 7
-values | 'ab' | members 'a' 'b'
-values | {} | members
-between | 2 4 | members 2 3 4
-between | 4 4 | members 4
-between | 4 3 | members
-between | 170141183460469231731687303715884105726 170141183460469231731687303715884105727 | members 170141183460469231731687303715884105726 170141183460469231731687303715884105727
-set_steps | 1 3 6 | members 1 3 5
-set_steps | 5 3 0 | members 1 3 5
-set_steps | 5 3 5 | members 5
-set_steps | 5 3 6 | members
-set_steps | 5 7 4 | members
-set_steps | 170141183460469231731687303715884105727 -170141183460469231731687303715884105728 -170141183460469231731687303715884105728 | members -170141183460469231731687303715884105728 170141183460469231731687303715884105727
-tuple_steps | 1 3 6 | members 1 3 5
-tuple_steps | 5 3 0 | members 5 3 1
-tuple_steps | 5 7 4 | members
-tuple_steps | 170141183460469231731687303715884105727 -170141183460469231731687303715884105728 -170141183460469231731687303715884105728 | members 170141183460469231731687303715884105727 -170141183460469231731687303715884105728
-tuple_steps | -170141183460469231731687303715884105728 170141183460469231731687303715884105727 170141183460469231731687303715884105726 | members -170141183460469231731687303715884105728
-points | {[1 2] [1 3] [2 5]} | pairs 1->* 2->5
-points | {[1 2] [2 5] [3 6] [3 7]} | pairs 1->2 2->5 3->*
-points | {} | pairs
-points | [7 * 9] | pairs 1->7 2->* 3->9
-points | 'ab' | pairs 1->'a' 2->'b'
-points | '' | pairs";
+// Rows, a line each: how an iterator begins, its sources, its items, which are members or arguments each with its image,
+// and behind a stroke what a copy gives that is made behind the first item.
+const ITEMS: &str = "values | {3 1 2} | members 1 2 3 / 2 3
+values | [5 * 7] | members 5 * 7 / * 7
+values | 'ab' | members 'a' 'b' / 'b'
+values | {} | members /
+between | 2 4 | members 2 3 4 / 3 4
+between | 4 4 | members 4 /
+between | 4 3 | members /
+between | 170141183460469231731687303715884105726 170141183460469231731687303715884105727 | members 170141183460469231731687303715884105726 170141183460469231731687303715884105727 / 170141183460469231731687303715884105727
+set_steps | 1 3 6 | members 1 3 5 / 3 5
+set_steps | 5 3 0 | members 1 3 5 / 3 5
+set_steps | 5 3 5 | members 5 /
+set_steps | 5 3 6 | members /
+set_steps | 5 7 4 | members /
+set_steps | 170141183460469231731687303715884105727 -170141183460469231731687303715884105728 -170141183460469231731687303715884105728 | members -170141183460469231731687303715884105728 170141183460469231731687303715884105727 / 170141183460469231731687303715884105727
+tuple_steps | 1 3 6 | members 1 3 5 / 3 5
+tuple_steps | 5 3 0 | members 5 3 1 / 3 1
+tuple_steps | 5 7 4 | members /
+tuple_steps | 170141183460469231731687303715884105727 -170141183460469231731687303715884105728 -170141183460469231731687303715884105728 | members 170141183460469231731687303715884105727 -170141183460469231731687303715884105728 / -170141183460469231731687303715884105728
+tuple_steps | -170141183460469231731687303715884105728 170141183460469231731687303715884105727 170141183460469231731687303715884105726 | members -170141183460469231731687303715884105728 /
+points | {[1 2] [1 3] [2 5]} | pairs 1->* 2->5 / 2->5
+points | {[1 2] [2 5] [3 6] [3 7]} | pairs 1->2 2->5 3->* / 2->5 3->*
+points | {[1 2] [2 5] [3 6]} | pairs 1->2 2->5 3->6 / 2->5 3->6
+points | {} | pairs /
+points | [7 * 9] | pairs 1->7 2->* 3->9 / 2->* 3->9
+points | 'ab' | pairs 1->'a' 2->'b' / 2->'b'
+points | '' | pairs /";
 
 // Rows, a line each: how an iterator would begin, its sources, and why it doesn't.
 const FAULTS: &str = "values | 5 | Kind
@@ -52,51 +54,50 @@ points | {[1 2] [* 3]} | Kind
 points | * | Om";
 
 #[test]
-fn each_source_gives_its_items(rt: HostRuntime) -> Result<(), Fail> {
-    expect_rows(&rt, rt.alloc(), ITEMS)
+fn each_source_gives_its_items_and_so_does_a_copy(rt: HostRuntime) -> Result<(), Fail> {
+    expect_rows(&rt, rt.alloc(), ITEMS, &mut String::new(rt.alloc()))
 }
 
 #[test]
 fn each_fault_is_told(rt: HostRuntime) -> Result<(), Fail> {
-    expect_rows(&rt, rt.alloc(), FAULTS)
+    expect_rows(&rt, rt.alloc(), FAULTS, &mut String::new(rt.alloc()))
 }
 
-#[test]
-fn a_copy_goes_on_by_itself(rt: HostRuntime) -> Result<(), Fail> {
-    let alloc = rt.alloc();
-    let mut iterator = begun(alloc, "points | {[1 2] [2 5] [3 6]}")?;
-    let mut shown = String::new(alloc);
-    show_with_copy(alloc, &mut iterator, &mut shown)?;
-    assert_eq!(rt; shown.as_str(), " 1->2 / 2->5 3->6 / 2->5 3->6");
-    Ok(())
-}
-
-fn expect_rows(rt: &impl Abort, alloc: Global, rows: &str) -> Result<(), Fail> {
+fn expect_rows(rt: &impl Abort, alloc: Global, rows: &str, shown: &mut String) -> Result<(), Fail> {
     for row in rows.lines() {
-        let (start, expected) = row.rsplit_once(" | ").unwrap_or((row, ""));
-        assert_eq!(rt; outcome(alloc, start)?.as_str(), expected, "{row}");
+        expect_row(rt, alloc, row, shown)?;
     }
     Ok(())
 }
 
-// What the items are and the items of an iterator, or why it doesn't begin.
-fn outcome(alloc: Global, start: &str) -> Result<String, Memory> {
-    let mut shown = String::new(alloc);
-    match begun(alloc, start) {
-        Ok(mut iterator) => show_all(alloc, &mut iterator, &mut shown)?,
-        Err(e) => write!(shown, "{e:?}")?,
-    }
-    Ok(shown)
+// Writes a row anew, and compares.
+fn expect_row(rt: &impl Abort, alloc: Global, row: &str, shown: &mut String) -> Result<(), Fail> {
+    let (start, _) = row.rsplit_once(" | ").unwrap_or((row, ""));
+    shown.clear();
+    show_row(alloc, start, shown)?;
+    assert_eq!(rt; shown.as_str(), row);
+    Ok(())
 }
 
-// The iterator that begins as the first word says over the sources behind it.
-fn begun(alloc: Global, start: &str) -> Result<Iterator, OpFault> {
+// The row of an iterator that begins as the first word says over the sources behind it.
+fn show_row(alloc: Global, start: &str, shown: &mut String) -> Result<(), Memory> {
+    write!(shown, "{start} | ")?;
     let (how, sources) = start.split_once(" | ").unwrap_or((start, ""));
-    begin(
-        alloc,
-        begin_of_word(how),
-        values(alloc, sources)?.as_slice(),
-    )
+    let sources = values(alloc, sources)?;
+    show_outcome(alloc, begin_of_word(how), sources.as_slice(), shown)
+}
+
+// The items of an iterator, or why it doesn't begin.
+fn show_outcome(
+    alloc: Global,
+    how: Begin,
+    sources: &[Option<Value>],
+    shown: &mut String,
+) -> Result<(), Memory> {
+    match begin(alloc, how, sources) {
+        Ok(mut iterator) => show_items(alloc, &mut iterator, shown),
+        Err(e) => write!(shown, "{e:?}"),
+    }
 }
 
 fn begin_of_word(how: &str) -> Begin {
@@ -114,38 +115,41 @@ fn values(alloc: Global, denotations: &str) -> Result<Vec<Option<Value>>, Memory
     let mut source = SureSource::new(denotations.as_bytes().to_vec(alloc)?);
     let mut reader = Reader::new(alloc)?;
     let mut all = Vec::new(alloc);
+    read_values(&mut reader, &mut source, &mut all)?;
+    Ok(all)
+}
+
+fn read_values(
+    reader: &mut Reader,
+    source: &mut SureSource,
+    all: &mut Vec<Option<Value>>,
+) -> Result<(), Memory> {
     for _ in 0..20 {
-        match reader.next(&mut source) {
+        match reader.next(source) {
             Ok(Got::Value(v)) => all.push(Some(v))?,
             Ok(Got::Om) => all.push(None)?,
             _ => break,
         }
     }
-    Ok(all)
+    Ok(())
 }
 
-fn show_all(alloc: Global, iterator: &mut Iterator, shown: &mut String) -> Result<(), Memory> {
-    let kind = if iterator.is_of_pairs() {
-        "pairs"
-    } else {
-        "members"
-    };
-    shown.push_str(kind)?;
-    show_rest(alloc, iterator, shown)
-}
-
-// The first item, those that are left behind it, and those that a copy gives which was made before these were taken.
-fn show_with_copy(
-    alloc: Global,
-    iterator: &mut Iterator,
-    shown: &mut String,
-) -> Result<(), Memory> {
+// What the items are, the items, and those that a copy gives which is made behind the first one.
+fn show_items(alloc: Global, iterator: &mut Iterator, shown: &mut String) -> Result<(), Memory> {
+    shown.push_str(kind_of(iterator))?;
     show_next(alloc, iterator, shown)?;
     let mut copy = iterator.copied()?;
-    shown.push_str(" /")?;
     show_rest(alloc, iterator, shown)?;
     shown.push_str(" /")?;
     show_rest(alloc, &mut copy, shown)
+}
+
+fn kind_of(iterator: &Iterator) -> &'static str {
+    if iterator.is_of_pairs() {
+        "pairs"
+    } else {
+        "members"
+    }
 }
 
 // The items that are left, up to 20.
@@ -161,22 +165,23 @@ fn show_next(alloc: Global, iterator: &mut Iterator, shown: &mut String) -> Resu
     if iterator.is_at_end() {
         return Ok(());
     }
-    shown.push_str(" ")?;
-    show_item(alloc, &iterator.advance(alloc)?, shown)
+    let item = iterator.advance(alloc)?;
+    show_item(alloc, &item, shown)
 }
 
 fn show_item(alloc: Global, item: &Item, shown: &mut String) -> Result<(), Memory> {
     match item {
-        Item::One(v) => show(alloc, v, shown),
+        Item::One(v) => show(alloc, " ", v, shown),
         Item::Two { argument, image } => {
-            show(alloc, argument, shown)?;
-            shown.push_str("->")?;
-            show(alloc, image, shown)
+            show(alloc, " ", argument, shown)?;
+            show(alloc, "->", image, shown)
         }
     }
 }
 
-fn show(alloc: Global, v: &Option<Value>, shown: &mut String) -> Result<(), Memory> {
+// A value or `om`, behind what stands before it.
+fn show(alloc: Global, before: &str, v: &Option<Value>, shown: &mut String) -> Result<(), Memory> {
+    shown.push_str(before)?;
     match v {
         Some(v) => show_bytes(text(alloc, v)?.as_slice(), shown),
         None => shown.push_str("*"),
