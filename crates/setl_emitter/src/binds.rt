@@ -80,8 +80,8 @@ fn store_argument<'p>(to: &mut Emitter<'p>, line: u32, x: &'p Argument) -> Resul
 pub fn store_set<'p>(to: &mut Emitter<'p>, line: u32, all: &'p [Argument]) -> Result<(), Memory>
     ensures { OnOk result (held to.new ≡ after (store_slots line (set_by (plain_arguments all.now))) (held to.old)) }
 {
-    for x in all {
-        store_argument(to, line, x)?;
+    for k in 0..all.len() {
+        store_argument(to, line, &all[k])?;
     }
     Ok(())
 }

@@ -1,10 +1,9 @@
 -- Own names, and bodies.
-use Rattle.std.proofs.Common.{◌≡◌, ℕ, suc, ◌+◌, ◌<◌, ◌||◌, Bool, true, false, cond, List, [], ◌∷◌, ◌++◌, drop, length, map, refl, ap, sym, subst, ◌∙◌, append_assoc, None, arith}
+use Rattle.std.proofs.Common.{◌≡◌, ℕ, suc, ◌+◌, ◌<◌, List, [], ◌∷◌, ◌++◌, drop, length, map, refl, ap, sym, subst, ◌∙◌, append_assoc, None, arith}
 use Rattle.std.proofs.Math.ListN.{get_or}
-use Rattle.std.proofs.lemmas.List.{append-nil}
 use Rattle.std.specs.Prelude.{Result, Ok, Err, IfOk, OnOk}
 use Rattle.setl_tree.specs.declared.tree.Param.{Param}
-use Rattle.setl_run.specs.Variable.{Variable, Global, Own, is_variable}
+use Rattle.setl_run.specs.Variable.{Variable, Global, Own}
 use Rattle.setl_program.specs.declared.stmt.Stmt.{Stmt}
 use Rattle.setl_program.specs.declared.program.Procedure.{Procedure}
 use Rattle.setl_program.specs.declared.program.Program.{Program}
@@ -18,11 +17,11 @@ use Rattle.setl_code.specs.Code as plain
 use Rattle.setl_code.specs.Code.{Push, ReturnTop, StopRun}
 use Rattle.setl_code.specs.CodeOf.{main_body, procedure_body, code_of}
 use Rattle.setl_code.specs.Generated.{block, main_code, procedure_code}
-use Rattle.setl_code.specs.Names.{is_among, is_own, first_among, in_block}
+use Rattle.setl_code.specs.Names.{in_block}
 use Rattle.setl_code.specs.Piece.{Laid, one, no_loop, steps_of}
 use Rattle.setl_code.specs.Plain.{plain_name, plain_step, plain_body, plain_bodies, plain_code}
 use Rattle.setl_emitter.specs.declared.hole.Hole.{Hole}
-use Rattle.setl_emitter.specs.Table.{Table, variables, with_all, all_noted}
+use Rattle.setl_emitter.specs.Table.{Table, variables, all_noted}
 use Rattle.setl_emitter.specs.Emitted.{Emitted, after}
 use Rattle.setl_gen.specs.Bodies.{table_of, blank, finished}
 use Rattle.setl_emitter.specs.TableLaws.{all_first}

@@ -7,7 +7,7 @@ use Rattle.setl_program.specs.declared.kinds.Collection.{Collection}
 use Rattle.setl_program.specs.declared.kinds.Quantifier.{Quantifier}
 use Rattle.setl_program.specs.Program.{Binding, begin_of, Expr, Apply, Connect, Choose, Former, Selection, Quantified, Call, Exprs, Iterators, no_iterator, more_iterators, Condition, Arguments}
 use Rattle.setl_model.specs.Iterations.{decided}
-use Rattle.setl_code.specs.Code.{Push, Operate, Decides, TestBool, Unless, Jump, DropTop, DupTop, BeginOver, NextOr, BeginOf, AddBelow, LeaveAll, CallBody}
+use Rattle.setl_code.specs.Code.{Push, Operate, Decides, TestBool, Unless, Jump, DupTop, BeginOver, NextOr, BeginOf, AddBelow, LeaveAll, CallBody}
 use Rattle.setl_code.specs.Piece.{Laid, ◌⨾◌, nothing, one, jumps_out, over, either, with_end, with_start}
 use Rattle.setl_code.specs.Generated.{store_slots, set_by, bind, count, levels, negated, keep_or_drop, expr, exprs, iterators, condition, arguments}
 use Rattle.setl_emitter.specs.declared.hole.Hole.{Hole}

@@ -1,5 +1,5 @@
 -- Places and choices of statements.
-use Rattle.std.proofs.Common.{◌≡◌, ℕ, zero, suc, ◌+◌, ◌<◌, ◌≤◌, List, [], ◌∷◌, ◌++◌, drop, length, map, refl, ap, sym, ◌∙◌, append_assoc, Option, Some, true, false}
+use Rattle.std.proofs.Common.{◌≡◌, ℕ, suc, ◌+◌, ◌<◌, ◌≤◌, List, [], ◌∷◌, ◌++◌, drop, length, map, refl, ap, sym, ◌∙◌, append_assoc, Option, Some, true, false}
 use Rattle.std.proofs.Math.ListN.{get_or}
 use Rattle.std.proofs.lemmas.List.{drop_all, length-set, map-append, append-nil}
 use Rattle.setl_run.specs.Variable.{Variable}
@@ -23,9 +23,9 @@ use Rattle.setl_program.specs.Program.{Selectors, Iterators, Condition, Update, 
 use Rattle.setl_program.specs.code.Plain.{plain_variable, plain_place, plain_expr, plain_iterators, condition_of, plain_stmt, plain_block, plain_branch, selectors_of, otherwise, kind_step, branch_step, stmt_step}
 use Rattle.setl_code.specs.declared.code.Bracket as rust
 use Rattle.setl_code.specs.Plain.{plain_bracket}
-use Rattle.setl_code.specs.Code.{Alteration, Putting, Bracket, Unless, Jump, Alter, StoreIn, ReadOne, NextOr, PayRound, LeaveAll}
-use Rattle.setl_code.specs.Piece.{Laid, ◌⨾◌, nothing, one, over, either, jumps_out, going_on, with_end, with_start}
-use Rattle.setl_code.specs.Generated.{expr, selectors, brackets, alter, put, read_all, stmt, block, quit, levels, iterators, condition}
+use Rattle.setl_code.specs.Code.{Alteration, Putting, Bracket, Unless, Jump, Alter, StoreIn, ReadOne, NextOr, PayRound}
+use Rattle.setl_code.specs.Piece.{Laid, ◌⨾◌, nothing, one, over, either, going_on, with_end, with_start}
+use Rattle.setl_code.specs.Generated.{expr, selectors, brackets, alter, put, read_all, stmt, block, levels, iterators, condition}
 use Rattle.setl_emitter.specs.declared.hole.Hole.{Hole}
 use Rattle.setl_emitter.specs.Emitted.{Emitted, here, hole, after, with_step, all_filled, closed, with_exits, with_again}
 use Rattle.setl_gen.specs.Heads.{opened}

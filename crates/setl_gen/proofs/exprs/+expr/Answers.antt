@@ -1,4 +1,4 @@
-use Rattle.std.proofs.Common.{◌≡◌, ◌∙◌, List, length, ap, refl, sym, arith, Some}
+use Rattle.std.proofs.Common.{◌∙◌, List, length, ap, refl, sym, arith}
 use Rattle.std.specs.Option.{option_map}
 use Rattle.setl_program.specs.declared.expr.Expr.{Expr}
 use Rattle.setl_program.specs.declared.expr.Iterator.{Iterator}
@@ -12,13 +12,11 @@ use Rattle.setl_code.specs.Code.{Unless}
 use Rattle.setl_code.specs.Piece.{one}
 use Rattle.setl_code.specs.Generated as code
 use Rattle.setl_emitter.specs.Emitted.{held, here, after}
-use Rattle.setl_gen.specs.Heads.{opened}
-use Rattle.setl_emitter.specs.ShortCode.{with_end_undecided}
 use Rattle.setl_emitter.specs.EmittedLaws.{done_made, after_nothing, then_made}
 use Rattle.setl_gen.proofs.Rounds.{exprs_round, arguments_round, count_is, levels_is, iterator_begun, iterator_headed}
 use Rattle.setl_gen.proofs.ExprKinds.{former_is, selection_is, as_kind}
 use Rattle.setl_gen.proofs.Constructs.{apply_made, choose_made, former_made, selection_made, quantified_made, call_made}
-use Rattle.setl_gen.proofs.Links.{unary_is, binary_is, connect_is, as_link, binary_made, ternary_made, connected, chain_round, links_made, chain_made}
+use Rattle.setl_gen.proofs.Links.{unary_is, binary_is, connect_is, as_link, binary_made, ternary_made, connected, chain_round, links_made}
 use Rattle.setl_gen.proofs.exprs.+expr.Goals as goal
 
 pub exprs-loop-e-preserved : goal.exprs-loop-e-preserved
