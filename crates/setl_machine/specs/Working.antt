@@ -5,7 +5,6 @@ use Rattle.std.specs.Io.KnownBytes.{Appends}
 use Rattle.setl_io.specs.Faults.{Rose}
 use Rattle.setl_io.specs.Sink.{AppendsPart}
 use Rattle.setl_value.specs.Datum.{Datum, bool}
-use Rattle.setl_value.specs.code.DatumOf.{part}
 use Rattle.setl_text.specs.Texts.{print_line}
 use Rattle.setl_text.specs.declared.ReadFault.{ReadFault}
 use Rattle.setl_text.specs.declared.ReadFault.TheVariants as read
@@ -15,10 +14,10 @@ use Rattle.setl_run.specs.Run.{Move}
 use Rattle.setl_model.specs.World.{branch}
 use Rattle.setl_code.specs.declared.code.Instr as code
 use Rattle.setl_code.specs.declared.code.Instr.TheVariants as i
-use Rattle.setl_code.specs.Code.{Body, Instr}
+use Rattle.setl_code.specs.Code.{Body}
 use Rattle.setl_code.specs.Plain.{plain_code}
 use Rattle.setl_code.specs.CodeCore.{Operand, Result as Holds, Pops, Lacks, popped, CodeCore}
-use Rattle.setl_code.specs.Machine.{next, on_top}
+use Rattle.setl_code.specs.Machine.{on_top}
 use Rattle.setl_store.specs.Bodies.{entered}
 use Rattle.setl_store.specs.Standing.{Standing, over, at_place}
 use Rattle.setl_storing.specs.Control.{ControlState, TakesTurn}

@@ -1,6 +1,6 @@
 use Rattle.std.proofs.Common.{IfOk, refl, sym, subst}
 use Rattle.setl_code.specs.declared.code.Instr.{Instr}
-use Rattle.setl_code.specs.declared.code.Instr.TheVariants.{Store, Call}
+use Rattle.setl_code.specs.declared.code.Instr.TheVariants.{Store}
 use Rattle.setl_code.specs.Plain.{plain_instr}
 use Rattle.setl_store.specs.Standing.{variables}
 use Rattle.setl_storing.specs.Declaring.{modes_of}

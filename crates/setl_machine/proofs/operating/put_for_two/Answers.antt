@@ -1,4 +1,4 @@
-use Rattle.std.proofs.Common.{subst, sym, ap}
+use Rattle.std.proofs.Common.{subst, sym}
 use Rattle.setl_value.specs.code.DatumOf.{part}
 use Rattle.setl_store.specs.Operands.{IsPlainTop}
 use Rattle.setl_store.specs.Standing.{Standing}

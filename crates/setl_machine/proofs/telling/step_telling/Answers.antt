@@ -1,4 +1,4 @@
-use Rattle.std.proofs.Common.{◌≡◌, ◌∙◌, [], inl, inr, Some, refl, ap, sym, subst}
+use Rattle.std.proofs.Common.{◌≡◌, ◌∙◌, [], inl, inr, Some, refl, ap, subst}
 use Rattle.setl_code.specs.declared.code.Instr.TheVariants.{Print, Read}
 use Rattle.setl_code.specs.Code.{PrintTop, ReadOne}
 use Rattle.setl_code.specs.Machine.{fetch}
