@@ -3,3 +3,5 @@ pub mod Inside
 pub mod Takings
 pub mod Images
 pub mod Image
+pub mod Component
+pub mod Parts

@@ -54,7 +54,7 @@ told_kind (Err Spent) new h = absurd h
 
 -- ---- the first component
 
-trim_ends : (p : Option Datum) (ps : List (Option Datum)) → EndsIn p ps → trim (p ∷ ps) ≡ p ∷ ps
+pub trim_ends : (p : Option Datum) (ps : List (Option Datum)) → EndsIn p ps → trim (p ∷ ps) ≡ p ∷ ps
 trim_ends None [] h = absurd h
 trim_ends (Some d) [] h = refl
 trim_ends None (q ∷ ps) h = ap (trim_onto None) (trim_ends q ps h)

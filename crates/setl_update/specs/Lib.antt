@@ -2,3 +2,4 @@ pub mod Selectors
 pub mod Updates
 pub mod Takes
 pub mod Parts
+pub mod Changing

@@ -10,7 +10,7 @@ ghost use Rattle.setl_model.specs.Places.{with_part_at_all, combined};
 ghost use Rattle.setl_update.specs.Selectors.{selected};
 ghost use Rattle.setl_update.specs.Updates.{Updates};
 
-use crate::one_image::combine_image;
+use crate::one_part::combine_there;
 use crate::selectors::{Selector, apply, part_at, put_part};
 use setl_arithmetic::{minus_in_place, plus_in_place};
 use setl_collections::{add_image_in_place, less_in_place, lessf_in_place, with_in_place};
@@ -98,7 +98,7 @@ fn combine_part(
             combine_images(alloc, whole, x, y, turns)
         }
         (_, Selector::Round(Some(x)), Some(y)) => {
-            match combine_image(alloc, what, whole, x, y, turns)? {
+            match combine_there(alloc, what, whole, x, y, turns)? {
                 Some(answer) => answer,
                 None => combine_copy(alloc, what, whole, at, value, turns),
             }
