@@ -5,7 +5,7 @@ use Rattle.setl_modes.specs.Declarations.{variables_of}
 use Rattle.setl_names.specs.Names.{Name, in_order, has}
 use Rattle.setl_names.specs.Variables.{OfProgram, OfBody, var_names}
 use Rattle.setl_program.specs.Program.{Program}
-use Rattle.setl_program.specs.ProgramOf.{main_scope, declaration_of, program_of}
+use Rattle.setl_program.specs.ProgramOf.{main_scope, declaration_of}
 use Rattle.setl_program.specs.Scope.{variable_of, variable_by}
 use Rattle.setl_program.specs.declared.program.Declared.{Declared}
 use Rattle.setl_program.specs.code.Plain.{plain_declared}
@@ -15,7 +15,7 @@ use Rattle.setl_code.specs.Code.{Code}
 use Rattle.setl_code.specs.CodeOf.{code_of}
 use Rattle.setl_code.specs.Plain.{plain_code}
 use Rattle.setl_store.specs.Standing.{Standing, started}
-use Rattle.setl_storing.specs.Declaring.{Modes, DeclarationTable, modes_of, IsOfMain, AreOfMain, IsBare, Serves}
+use Rattle.setl_storing.specs.Declaring.{DeclarationTable, modes_of, IsOfMain, AreOfMain, IsBare, Serves}
 use Rattle.setl_top.specs.code.Runs.{IsMeant, counted}
 use Rattle.setl_words.specs.Words.{Options}
 

@@ -1,5 +1,5 @@
 -- The name that the line of a stop tells.
-use Rattle.std.proofs.Common.{◌≡◌, ◌∙◌, ℕ, zero, suc, List, [], ◌∷◌, ◌++◌, map, Option, None, Some, refl, ap, subst, sym, codes}
+use Rattle.std.proofs.Common.{◌≡◌, ◌∙◌, ℕ, zero, suc, List, [], ◌∷◌, ◌++◌, map, None, Some, refl, ap, subst, sym, codes}
 use Rattle.std.specs.Prelude.{slice_get}
 use Rattle.setl_run.specs.Variable.{Bound, name_of}
 use Rattle.setl_model.specs.Answers.{stop_text}
