@@ -1,5 +1,5 @@
 -- The component at a place of a tuple that a closure changed in place.
-use Rattle.std.proofs.Common.{◌≡◌, ◌∙◌, ap, sym, subst, refl, ℕ, ℤ, pos, ◌+◌, ◌-◌, ◌≤◌, ◌<◌, true, List, [], ◌∷◌, ◌++◌, Option, Some, None, length, take, drop, replicate, arith}
+use Rattle.std.proofs.Common.{◌≡◌, ◌∙◌, ap, sym, subst, refl, ℕ, ℤ, pos, ◌+◌, ◌-◌, ◌<◌, true, List, [], ◌∷◌, ◌++◌, Option, Some, None, length, take, drop, replicate, arith}
 use Rattle.std.specs.Prelude.{Ok, Err, nat_le, int_le, slice_get, slice_set}
 use Rattle.std.specs.Borrow.{MutBor}
 use Rattle.std.specs.Fn.{Once}
@@ -14,7 +14,7 @@ use Rattle.setl_value.specs.WellFormed.{IsTrimmed, IsTupleList, trim}
 use Rattle.setl_value.specs.code.Changing.{Leaves}
 use Rattle.setl_tuple.specs.declared.TupleFault.TheVariants.{Range}
 use Rattle.setl_tuple.specs.Tuples.{index_of, put_of}
-use Rattle.setl_map.specs.Outcome.{Outcome, Gives, Fails, Overspends, RangeFault, value, within_depth, adding, charging}
+use Rattle.setl_map.specs.Outcome.{Gives, Fails, Overspends, RangeFault, value, within_depth, adding, charging}
 use Rattle.setl_map.specs.Puts.{put_part}
 use Rattle.setl_map.specs.Selections.{component}
 use Rattle.setl_model.specs.Core.{Round}

@@ -1,5 +1,5 @@
 -- `whole(x) with:= y` and `whole(x) +:= y`: the part is read, combined with y, and put.
-use Rattle.std.proofs.Common.{◌≡◌, ◌∙◌, ap, sym, subst, refl, ℕ, List, [], ◌∷◌, Option, Some, arith}
+use Rattle.std.proofs.Common.{◌≡◌, ◌∙◌, ap, sym, subst, refl, ℕ, [], ◌∷◌, Option, Some, arith}
 use Rattle.std.specs.Prelude.{Result, Ok, Err, None, IfSome}
 use Rattle.std.specs.Option.{unwrap_or}
 use Rattle.std.proofs.lemmas.Option.{none-some}
