@@ -71,17 +71,8 @@ impl<'p> Declarations<'p> {
     {
         let mut globals = IndexMap::new(alloc);
         let mut own = IndexMap::new(alloc);
-        let mut at = declared.len();
-        while at > 0 {
-            at -= 1;
-            put_place(alloc, &declared[at].variable, at, &mut globals, &mut own)?;
-        }
-        Ok(Declarations {
-            code,
-            declared,
-            globals: seen_places(alloc, code.vars.as_slice(), &globals)?,
-            own: main_places(alloc, code, &own)?,
-        })
+        put_places(alloc, declared, &mut globals, &mut own)?;
+        by_slots(alloc, code, declared, &globals, &own)
     }
 
     /// The declaration of a slot's variable, where it has one. It costs one look into a table, and none where nothing is
@@ -130,6 +121,45 @@ fn place_at(places: &[Option<u32>], k: u32) -> Option<u32>
         None => None,
         Some(place) => *place,
     }
+}
+
+/// The declarations by the slots of a code, from the tables of their places.
+fn by_slots<'p>(
+    alloc: Global,
+    code: &'p Code,
+    declared: &'p [Declared],
+    globals: &IndexMap<Vec<u8>, u32>,
+    own: &IndexMap<Vec<u8>, u32>,
+) -> Result<Declarations<'p>, Memory>
+    requires { Finds 0 (map plain_declared declared.now) globals.now own.now }
+    ensures { IfOk result (λ d. d ≡ record { code = code.now; declared = declared.now }) }
+{
+    let globals = seen_places(alloc, code.vars.as_slice(), globals)?;
+    let own = main_places(alloc, code, own)?;
+    Ok(Declarations {
+        code,
+        declared,
+        globals,
+        own,
+    })
+}
+
+/// Puts the places of declarations into two empty tables. Of two of one variable the first counts.
+fn put_places(
+    alloc: Global,
+    declared: &[Declared],
+    globals: &mut IndexMap<Vec<u8>, u32>,
+    own: &mut IndexMap<Vec<u8>, u32>,
+) -> Result<(), Memory>
+    requires { Finds (length declared.now) [] globals.old own.old }
+    ensures { OnOk result (Finds 0 (map plain_declared declared.now) globals.new own.new) }
+{
+    let mut at = declared.len();
+    while at > 0 {
+        at -= 1;
+        put_place(alloc, &declared[at].variable, at, globals, own)?;
+    }
+    Ok(())
 }
 
 /// Puts the place of a declaration into a table, at the name of its variable, instead of what is there.

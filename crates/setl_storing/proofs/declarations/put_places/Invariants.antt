@@ -1,7 +1,7 @@
 use Rattle.std.proofs.Common.{◌≤◌, drop, length, map}
 use Rattle.setl_program.specs.code.Plain.{plain_declared}
 use Rattle.setl_storing.specs.Tables.{Finds}
-use Rattle.setl_storing.proofs.declarations.Declarations.new.Given as goal
+use Rattle.setl_storing.proofs.declarations.put_places.Given as goal
 
 abbrev pub decreases-loop-at : goal.decreases-loop-at
 decreases-loop-at l = l.at

@@ -3,7 +3,7 @@ use Rattle.setl_modes.specs.Modes.{mode_of}
 use Rattle.setl_program.specs.code.Plain.{plain_declared}
 use Rattle.setl_storing.specs.Tables.{Finds}
 use Rattle.setl_storing.proofs.Finding.{finds_before}
-use Rattle.setl_storing.proofs.declarations.Declarations.new.Goals as goal
+use Rattle.setl_storing.proofs.declarations.put_places.Goals as goal
 
 pub loop-at-preserved : goal.loop-at-preserved
 loop-at-preserved c =
