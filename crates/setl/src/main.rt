@@ -4,11 +4,7 @@
 //! and ends with the number of the status that it answers.
 #![tactic(auto)]
 
-mod adapters;
-#[cfg(test)]
-mod tests;
-
-use adapters::{DiskFiles, ReaderSource, WriterSink};
+use setl_adapters::{DiskFiles, ReaderSource, WriterSink};
 use setl_top::{Status, setl};
 use setl_watch::{Cover, Memory, Trace, Watcher};
 use std::alloc::Global;

@@ -1,6 +1,6 @@
 ghost use Rattle.std.specs.Prelude.{◌≤◌, IfOk};
 
-use crate::adapters::{DiskFiles, ReaderSource, WriterSink};
+use crate::{DiskFiles, ReaderSource, WriterSink};
 use setl_io::{Files, Load, Put, Sink, Source, Took};
 use std::io::{Read, Write};
 use std::test::Fail;
