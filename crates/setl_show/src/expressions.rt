@@ -1,15 +1,17 @@
 //! Expressions.
 
-ghost use Rattle.std.specs.Prelude.{◌≡◌, OnOk, map, option_map};
+ghost use Rattle.std.specs.Prelude.{◌≡◌, [], ◌∷◌, ◌++◌, OnOk, map, option_map};
+ghost use Rattle.setl_tree.specs.declared.kind.Kind.TheVariants as k;
 ghost use Rattle.setl_tree.specs.Canonical as spec;
-ghost use Rattle.setl_tree.specs.Canonical.{expr_tokens, inner_tokens, iter_tokens, selector_tokens, shown, tokens_of};
+ghost use Rattle.setl_tree.specs.Canonical.{sign, name_token, bracketed, expr_tokens, inner_tokens, iter_tokens, selector_tokens, shown, tokens_of};
 ghost use Rattle.setl_token.specs.Spellings.{IsSpelled};
 ghost use Rattle.setl_show.specs.Text.{with_tokens};
 
 use crate::lists::with_commas;
-use crate::operators::{op_kind, prefixes, quantifier_kind, relation_kind};
+use crate::operators::prefixes;
 use crate::writer::Writer;
-use setl_tree::{BinaryOp, Bound, Boxed, Expr, Inner, Iter, Kind, Selector, Slot};
+use setl_notation::{is_operation, is_selection, op_kind, quantifier_kind, relation_kind};
+use setl_tree::{BinaryOp, Bound, Boxed, Expr, Inner, Iter, Kind, Selector, Slot, Text};
 use std::alloc::AllocError;
 
 /// Names in brackets.
@@ -31,54 +33,13 @@ fn bound(b: &Bound, to: &mut Writer) -> Result<(), AllocError>
     }
 }
 
-/// Whether an expression stands in parentheses as an operand.
-fn is_operation(x: &Expr) -> bool
-    ensures { result ≡ (shown x.now).is_operation }
+/// The image of a map at an argument, and what it is bound to.
+fn image(value: &Text, name: &Text, argument: &Text, to: &mut Writer) -> Result<(), AllocError>
+    ensures { OnOk result (to.new ≡ with_tokens to.old (name_token value.now ∷ sign k.Equal ∷ name_token name.now ∷ sign k.LeftParen ∷ name_token argument.now ∷ sign k.RightParen ∷ [])) }
 {
-    match x {
-        Expr::If(_, _, _) => true,
-        Expr::Chain(_, _) => true,
-        Expr::Compare(_, _, _) => true,
-        Expr::Prefixed(_, _) => true,
-        Expr::Quantified(_, _, _) => true,
-        Expr::Selected(_, _) => false,
-        Expr::Number(_) => false,
-        Expr::Text(_) => false,
-        Expr::Om => false,
-        Expr::True => false,
-        Expr::False => false,
-        Expr::Newat => false,
-        Expr::Eof => false,
-        Expr::Ok => false,
-        Expr::Name(_) => false,
-        Expr::Set(_) => false,
-        Expr::Tuple(_) => false,
-    }
-}
-
-/// Whether an expression is a primary expression with selectors.
-fn is_selection(x: &Expr) -> bool
-    ensures { result ≡ (shown x.now).is_selection }
-{
-    match x {
-        Expr::If(_, _, _) => false,
-        Expr::Chain(_, _) => false,
-        Expr::Compare(_, _, _) => false,
-        Expr::Prefixed(_, _) => false,
-        Expr::Quantified(_, _, _) => false,
-        Expr::Selected(_, _) => true,
-        Expr::Number(_) => false,
-        Expr::Text(_) => false,
-        Expr::Om => false,
-        Expr::True => false,
-        Expr::False => false,
-        Expr::Newat => false,
-        Expr::Eof => false,
-        Expr::Ok => false,
-        Expr::Name(_) => false,
-        Expr::Set(_) => false,
-        Expr::Tuple(_) => false,
-    }
+    to.name_before(value, Kind::Equal)?;
+    to.name_before(name, Kind::LeftParen)?;
+    to.name_before(argument, Kind::RightParen)
 }
 
 /// An expression.
@@ -97,32 +58,19 @@ pub fn expr(x: &Expr, to: &mut Writer) -> Result<(), AllocError>
         Expr::Ok => to.sign(Kind::Ok),
         Expr::Name(name) => to.name(name),
         Expr::If(a, b, c) => {
-            to.sign(Kind::If)?;
-            expr(a.get(), to)?;
-            to.sign(Kind::Then)?;
+            between(Kind::If, a.get(), Kind::Then, to)?;
             expr(b.get(), to)?;
-            to.sign(Kind::Else)?;
-            expr(c.get(), to)?;
-            to.sign(Kind::End)
+            between(Kind::Else, c.get(), Kind::End, to)
         }
-        Expr::Set(x) => {
-            to.sign(Kind::LeftBrace)?;
-            inner(x, to)?;
-            to.sign(Kind::RightBrace)
-        }
-        Expr::Tuple(x) => {
-            to.sign(Kind::LeftBracket)?;
-            inner(x, to)?;
-            to.sign(Kind::RightBracket)
-        }
+        Expr::Set(x) => inner_between(Kind::LeftBrace, x, Kind::RightBrace, to),
+        Expr::Tuple(x) => inner_between(Kind::LeftBracket, x, Kind::RightBracket, to),
         Expr::Chain(first, others) => {
             operand(first.get(), to)?;
             operands(others.as_slice(), to)
         }
         Expr::Compare(a, relation, b) => {
             operand(a.get(), to)?;
-            to.sign(relation_kind(*relation))?;
-            operand(b.get(), to)
+            operand_behind(relation_kind(*relation), b.get(), to)
         }
         Expr::Prefixed(ps, x) => {
             prefixes(ps.as_slice(), to)?;
@@ -133,12 +81,32 @@ pub fn expr(x: &Expr, to: &mut Writer) -> Result<(), AllocError>
             selectors(ss.as_slice(), to)
         }
         Expr::Quantified(quantifier, over, x) => {
-            to.sign(quantifier_kind(*quantifier))?;
-            iters(over.as_slice(), to)?;
-            to.sign(Kind::Bar)?;
-            expr(x.get(), to)
+            iters_behind(quantifier_kind(*quantifier), over.as_slice(), to)?;
+            expr_behind(Kind::Bar, x.get(), to)
         }
     }
+}
+
+/// An expression between two tokens.
+#[cycle(showing)]
+pub fn between(left: Kind, x: &Expr, right: Kind, to: &mut Writer) -> Result<(), AllocError>
+    requires left { IsSpelled left }
+    requires right { IsSpelled right }
+    ensures { OnOk result (to.new ≡ with_tokens to.old (bracketed left (expr_tokens x.now) right)) }
+{
+    to.sign(left)?;
+    expr(x, to)?;
+    to.sign(right)
+}
+
+/// An expression behind a token.
+#[cycle(showing)]
+pub fn expr_behind(kind: Kind, x: &Expr, to: &mut Writer) -> Result<(), AllocError>
+    requires { IsSpelled kind }
+    ensures { OnOk result (to.new ≡ with_tokens to.old (sign kind ∷ expr_tokens x.now)) }
+{
+    to.sign(kind)?;
+    expr(x, to)
 }
 
 /// An expression as an operand.
@@ -147,9 +115,7 @@ fn operand(x: &Expr, to: &mut Writer) -> Result<(), AllocError>
     ensures { OnOk result (to.new ≡ with_tokens to.old (spec.as_operand (shown x.now))) }
 {
     if is_operation(x) {
-        to.sign(Kind::LeftParen)?;
-        expr(x, to)?;
-        to.sign(Kind::RightParen)
+        between(Kind::LeftParen, x, Kind::RightParen, to)
     } else {
         expr(x, to)
     }
@@ -161,12 +127,20 @@ fn selected(x: &Expr, to: &mut Writer) -> Result<(), AllocError>
     ensures { OnOk result (to.new ≡ with_tokens to.old (spec.as_primary (shown x.now))) }
 {
     if is_selection(x) {
-        to.sign(Kind::LeftParen)?;
-        expr(x, to)?;
-        to.sign(Kind::RightParen)
+        between(Kind::LeftParen, x, Kind::RightParen, to)
     } else {
         operand(x, to)
     }
+}
+
+/// An expression as an operand behind a token.
+#[cycle(showing)]
+fn operand_behind(kind: Kind, x: &Expr, to: &mut Writer) -> Result<(), AllocError>
+    requires { IsSpelled kind }
+    ensures { OnOk result (to.new ≡ with_tokens to.old (sign kind ∷ spec.as_operand (shown x.now))) }
+{
+    to.sign(kind)?;
+    operand(x, to)
 }
 
 /// Operators with their right operands.
@@ -175,8 +149,7 @@ fn operands(others: &[(BinaryOp, Expr)], to: &mut Writer) -> Result<(), AllocErr
     ensures { OnOk result (to.new ≡ with_tokens to.old (spec.operand_tokens (map (λ x. (x.0, shown x.1)) others.now))) }
 {
     for (op, x) in others {
-        to.sign(op_kind(*op))?;
-        operand(x, to)?;
+        operand_behind(op_kind(*op), x, to)?;
     }
     Ok(())
 }
@@ -191,8 +164,7 @@ pub fn exprs(xs: &[Expr], to: &mut Writer) -> Result<(), AllocError>
     }
     expr(&xs[0], to)?;
     for i in 1..xs.len() {
-        to.sign(Kind::Comma)?;
-        expr(&xs[i], to)?;
+        expr_behind(Kind::Comma, &xs[i], to)?;
     }
     Ok(())
 }
@@ -205,10 +177,7 @@ fn behind(kind: Kind, x: &Option<Boxed<Expr>>, to: &mut Writer) -> Result<(), Al
 {
     match x {
         None => Ok(()),
-        Some(x) => {
-            to.sign(kind)?;
-            expr(x.get(), to)
-        }
+        Some(x) => expr_behind(kind, x.get(), to),
     }
 }
 
@@ -222,23 +191,39 @@ fn inner(x: &Inner, to: &mut Writer) -> Result<(), AllocError>
         Inner::Range(a, b, c) => {
             expr(a.get(), to)?;
             behind(Kind::Comma, b, to)?;
-            to.sign(Kind::Dots)?;
-            expr(c.get(), to)
+            expr_behind(Kind::Dots, c.get(), to)
         }
         Inner::Former(x, over, c) => {
             expr(x.get(), to)?;
-            to.sign(Kind::Colon)?;
-            iters(over.as_slice(), to)?;
+            iters_behind(Kind::Colon, over.as_slice(), to)?;
             behind(Kind::Bar, c, to)
         }
         Inner::Filter(b, source, c) => {
-            bound(b, to)?;
-            to.sign(Kind::In)?;
-            operand(source.get(), to)?;
-            to.sign(Kind::Bar)?;
-            expr(c.get(), to)
+            members(b, source.get(), to)?;
+            expr_behind(Kind::Bar, c.get(), to)
         }
     }
+}
+
+/// What stands inside braces or brackets, with these.
+#[cycle(showing)]
+fn inner_between(left: Kind, x: &Inner, right: Kind, to: &mut Writer) -> Result<(), AllocError>
+    requires left { IsSpelled left }
+    requires right { IsSpelled right }
+    ensures { OnOk result (to.new ≡ with_tokens to.old (bracketed left (inner_tokens x.now) right)) }
+{
+    to.sign(left)?;
+    inner(x, to)?;
+    to.sign(right)
+}
+
+/// What is bound to the members of an expression.
+#[cycle(showing)]
+fn members(b: &Bound, source: &Expr, to: &mut Writer) -> Result<(), AllocError>
+    ensures { OnOk result (to.new ≡ with_tokens to.old (spec.bound_tokens b.now ++ sign k.In ∷ spec.as_operand (shown source.now))) }
+{
+    bound(b, to)?;
+    operand_behind(Kind::In, source, to)
 }
 
 /// What a former, a loop or a quantifier runs over.
@@ -247,27 +232,18 @@ fn iter(x: &Iter, to: &mut Writer) -> Result<(), AllocError>
     ensures { OnOk result (to.new ≡ with_tokens to.old (iter_tokens x.now)) }
 {
     match x {
-        Iter::Over(b, source) => {
-            bound(b, to)?;
-            to.sign(Kind::In)?;
-            operand(source, to)
-        }
-        Iter::Image(value, map, argument) => {
-            to.name(value)?;
-            to.sign(Kind::Equal)?;
-            to.name(map)?;
-            to.sign(Kind::LeftParen)?;
-            to.name(argument)?;
-            to.sign(Kind::RightParen)
-        }
+        Iter::Over(b, source) => members(b, source, to),
+        Iter::Image(value, map, argument) => image(value, map, argument, to),
     }
 }
 
-/// Iterators with commas between.
+/// Iterators with commas between, behind a token.
 #[cycle(showing)]
-pub fn iters(xs: &[Iter], to: &mut Writer) -> Result<(), AllocError>
-    ensures { OnOk result (to.new ≡ with_tokens to.old (spec.with_commas (map iter_tokens xs.now))) }
+pub fn iters_behind(kind: Kind, xs: &[Iter], to: &mut Writer) -> Result<(), AllocError>
+    requires { IsSpelled kind }
+    ensures { OnOk result (to.new ≡ with_tokens to.old (sign kind ∷ spec.with_commas (map iter_tokens xs.now))) }
 {
+    to.sign(kind)?;
     if xs.is_empty() {
         return Ok(());
     }
@@ -285,26 +261,28 @@ fn selector(x: &Selector, to: &mut Writer) -> Result<(), AllocError>
     ensures { OnOk result (to.new ≡ with_tokens to.old (selector_tokens x.now)) }
 {
     match x {
-        Selector::Round(xs) => {
-            to.sign(Kind::LeftParen)?;
-            exprs(xs.as_slice(), to)?;
-            to.sign(Kind::RightParen)
-        }
+        Selector::Round(xs) => exprs_between(Kind::LeftParen, xs.as_slice(), Kind::RightParen, to),
         Selector::Slice(a, b) => {
-            to.sign(Kind::LeftParen)?;
-            expr(a.get(), to)?;
-            to.sign(Kind::Dots)?;
+            between(Kind::LeftParen, a.get(), Kind::Dots, to)?;
             if let Some(b) = b {
                 expr(b.get(), to)?;
             }
             to.sign(Kind::RightParen)
         }
-        Selector::Braces(xs) => {
-            to.sign(Kind::LeftBrace)?;
-            exprs(xs.as_slice(), to)?;
-            to.sign(Kind::RightBrace)
-        }
+        Selector::Braces(xs) => exprs_between(Kind::LeftBrace, xs.as_slice(), Kind::RightBrace, to),
     }
+}
+
+/// Expressions with commas between, in brackets of some kind.
+#[cycle(showing)]
+fn exprs_between(left: Kind, xs: &[Expr], right: Kind, to: &mut Writer) -> Result<(), AllocError>
+    requires left { IsSpelled left }
+    requires right { IsSpelled right }
+    ensures { OnOk result (to.new ≡ with_tokens to.old (bracketed left (spec.with_commas (tokens_of (map shown xs.now))) right)) }
+{
+    to.sign(left)?;
+    exprs(xs, to)?;
+    to.sign(right)
 }
 
 /// Selectors.

@@ -4,8 +4,8 @@ ghost use Rattle.std.specs.Prelude.{◌≡◌, OnOk, map};
 ghost use Rattle.setl_tree.specs.Canonical as spec;
 ghost use Rattle.setl_show.specs.Text.{with_tokens};
 
-use crate::operators::passing_kind;
 use crate::writer::Writer;
+use setl_notation::passing_kind;
 use setl_tree::{Declared, Kind, Param, Slot, Text};
 use std::alloc::AllocError;
 

@@ -1,15 +1,16 @@
 //! Modes and the lines of a `repr` section.
 
-ghost use Rattle.std.specs.Prelude.{◌≡◌, ℕ, OnOk, map};
+ghost use Rattle.std.specs.Prelude.{◌≡◌, ℕ, ◌∷◌, OnOk, map};
 ghost use Rattle.setl_tree.specs.Canonical as spec;
-ghost use Rattle.setl_tree.specs.Canonical.{mode_tokens};
+ghost use Rattle.setl_tree.specs.Canonical.{sign, bracketed, mode_tokens};
+ghost use Rattle.setl_token.specs.Spellings.{IsSpelled};
 ghost use Rattle.setl_show.specs.Text.{with_tokens};
 ghost use Rattle.setl_show.specs.Parts.{core_tokens};
 
 use crate::lists::with_commas;
-use crate::operators::attribute_kind;
 use crate::simple::ending;
 use crate::writer::Writer;
+use setl_notation::attribute_kind;
 use setl_tree::{Core, Kind, ReprLine, WrittenMode};
 use std::alloc::AllocError;
 
@@ -42,33 +43,48 @@ fn core(x: &Core, to: &mut Writer) -> Result<(), AllocError>
             to.sign(Kind::Elmt)?;
             to.name(base)
         }
-        Core::Set(m) => {
-            to.sign(Kind::Set)?;
-            to.sign(Kind::LeftParen)?;
-            mode(m.get(), to)?;
-            to.sign(Kind::RightParen)
-        }
-        Core::Tuple(m) => {
-            to.sign(Kind::Tuple)?;
-            to.sign(Kind::LeftParen)?;
-            mode(m.get(), to)?;
-            to.sign(Kind::RightParen)
-        }
+        Core::Set(m) => mode_between(Kind::Set, Kind::LeftParen, m.get(), Kind::RightParen, to),
+        Core::Tuple(m) => mode_between(Kind::Tuple, Kind::LeftParen, m.get(), Kind::RightParen, to),
         Core::Smap(domain, range) => {
-            to.sign(Kind::Smap)?;
-            to.sign(Kind::LeftParen)?;
-            mode(domain.get(), to)?;
-            to.sign(Kind::RightParen)?;
+            mode_between(
+                Kind::Smap,
+                Kind::LeftParen,
+                domain.get(),
+                Kind::RightParen,
+                to,
+            )?;
             mode(range.get(), to)
         }
         Core::Mmap(domain, range) => {
-            to.sign(Kind::Mmap)?;
-            to.sign(Kind::LeftBrace)?;
-            mode(domain.get(), to)?;
-            to.sign(Kind::RightBrace)?;
+            mode_between(
+                Kind::Mmap,
+                Kind::LeftBrace,
+                domain.get(),
+                Kind::RightBrace,
+                to,
+            )?;
             mode(range.get(), to)
         }
     }
+}
+
+/// A word, and a mode in brackets of some kind.
+#[cycle(modes)]
+fn mode_between(
+    word: Kind,
+    left: Kind,
+    m: &WrittenMode,
+    right: Kind,
+    to: &mut Writer,
+) -> Result<(), AllocError>
+    requires word { IsSpelled word }
+    requires left { IsSpelled left }
+    requires right { IsSpelled right }
+    ensures { OnOk result (to.new ≡ with_tokens to.old (sign word ∷ bracketed left (mode_tokens m.now) right)) }
+{
+    to.signs(word, left)?;
+    mode(m, to)?;
+    to.sign(right)
 }
 
 /// A mode behind a colon, if there is one.

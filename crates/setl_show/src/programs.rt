@@ -17,14 +17,10 @@ fn named_ending(word: Kind, name: &Option<Text>, to: &mut Writer) -> Result<(), 
     requires { IsSpelled word }
     ensures { OnOk result (to.new ≡ with_tokens to.old (spec.named_ending_tokens 0 word name.now)) }
 {
-    to.sign(Kind::End)?;
-    to.sign(word)?;
+    to.signs(Kind::End, word)?;
     match name {
         None => to.sign(Kind::Semicolon),
-        Some(name) => {
-            to.name(name)?;
-            to.sign(Kind::Semicolon)
-        }
+        Some(name) => to.name_before(name, Kind::Semicolon),
     }
 }
 
@@ -45,11 +41,9 @@ fn procedure(p: &Proc, to: &mut Writer) -> Result<(), AllocError>
     ensures { OnOk result (to.new ≡ with_tokens to.old (spec.proc_tokens p.now)) }
 {
     to.sign(Kind::Proc)?;
-    to.name(&p.name)?;
-    to.sign(Kind::LeftParen)?;
+    to.name_before(&p.name, Kind::LeftParen)?;
     with_commas(p.params.as_slice(), to)?;
-    to.sign(Kind::RightParen)?;
-    to.sign(Kind::Semicolon)?;
+    to.signs(Kind::RightParen, Kind::Semicolon)?;
     stmts(p.body.as_slice(), to)?;
     named_ending(Kind::Proc, &p.end_name, to)
 }
@@ -70,8 +64,7 @@ pub fn program(t: &Tree, to: &mut Writer) -> Result<(), AllocError>
     ensures { OnOk result (to.new ≡ with_tokens to.old (spec.canonical t.now)) }
 {
     to.sign(Kind::Program)?;
-    to.name(&t.name)?;
-    to.sign(Kind::Semicolon)?;
+    to.name_before(&t.name, Kind::Semicolon)?;
     variables(t.vars.as_slice(), to)?;
     repr_section(t.modes.as_slice(), to)?;
     stmts(t.body.as_slice(), to)?;

@@ -3,15 +3,15 @@
 ghost use Rattle.std.specs.Prelude.{◌≡◌, [], ◌∷◌, ◌++◌, OnOk, map};
 ghost use Rattle.setl_tree.specs.declared.kind.Kind.TheVariants as k;
 ghost use Rattle.setl_tree.specs.Canonical as spec;
-ghost use Rattle.setl_tree.specs.Canonical.{sign, name_token, expr_tokens};
+ghost use Rattle.setl_tree.specs.Canonical.{sign, name_token, bracketed, expr_tokens, iter_tokens};
 ghost use Rattle.setl_token.specs.Spellings.{IsSpelled};
 ghost use Rattle.setl_show.specs.Text.{with_tokens};
 
-use crate::expressions::{expr, exprs, pattern, selectors};
+use crate::expressions::{between, expr_behind, exprs, iters_behind, pattern, selectors};
 use crate::lists::with_commas;
-use crate::operators::{from_kind, op_kind};
 use crate::writer::Writer;
-use setl_tree::{BinaryOp, Expr, FromEnd, Kind, Place, Slot, Text};
+use setl_notation::{from_kind, op_kind};
+use setl_tree::{BinaryOp, Expr, FromEnd, Iter, Kind, Place, Slot, Text};
 use std::alloc::AllocError;
 
 /// `end`, a word and `;`.
@@ -20,8 +20,7 @@ pub fn ending(word: Kind, to: &mut Writer) -> Result<(), AllocError>
     ensures { OnOk result (to.new ≡ with_tokens to.old (spec.ending_tokens word)) }
 {
     to.sign(Kind::End)?;
-    to.sign(word)?;
-    to.sign(Kind::Semicolon)
+    to.signs(word, Kind::Semicolon)
 }
 
 /// A name with selectors.
@@ -36,9 +35,7 @@ fn place(p: &Place, to: &mut Writer) -> Result<(), AllocError>
 fn value(x: &Expr, to: &mut Writer) -> Result<(), AllocError>
     ensures { OnOk result (to.new ≡ with_tokens to.old (sign k.Assign ∷ (expr_tokens x.now ++ sign k.Semicolon ∷ []))) }
 {
-    to.sign(Kind::Assign)?;
-    expr(x, to)?;
-    to.sign(Kind::Semicolon)
+    between(Kind::Assign, x, Kind::Semicolon, to)
 }
 
 /// An assignment to a place.
@@ -70,8 +67,7 @@ pub fn tuple_assign(slots: &[Slot], x: &Expr, to: &mut Writer) -> Result<(), All
 pub fn take(name: &Text, end: FromEnd, p: &Place, to: &mut Writer) -> Result<(), AllocError>
     ensures { OnOk result (to.new ≡ with_tokens to.old (name_token name.now ∷ sign (spec.from_kind end) ∷ (spec.place_tokens 0 p.now ++ sign k.Semicolon ∷ []))) }
 {
-    to.name(name)?;
-    to.sign(from_kind(end))?;
+    to.name_before(name, from_kind(end))?;
     place(p, to)?;
     to.sign(Kind::Semicolon)
 }
@@ -89,8 +85,7 @@ pub fn arguments(xs: &[Expr], to: &mut Writer) -> Result<(), AllocError>
 {
     to.sign(Kind::LeftParen)?;
     expr_list(xs, to)?;
-    to.sign(Kind::RightParen)?;
-    to.sign(Kind::Semicolon)
+    to.signs(Kind::RightParen, Kind::Semicolon)
 }
 
 /// Names in parentheses, and `;`.
@@ -99,33 +94,44 @@ pub fn names(xs: &[Text], to: &mut Writer) -> Result<(), AllocError>
 {
     to.sign(Kind::LeftParen)?;
     with_commas(xs, to)?;
-    to.sign(Kind::RightParen)?;
-    to.sign(Kind::Semicolon)
+    to.signs(Kind::RightParen, Kind::Semicolon)
 }
 
 /// A condition behind a bar, if there is one.
-pub fn condition(x: &Option<Expr>, to: &mut Writer) -> Result<(), AllocError>
+fn condition(x: &Option<Expr>, to: &mut Writer) -> Result<(), AllocError>
     ensures { OnOk result (to.new ≡ with_tokens to.old (spec.bar_tokens x.now)) }
 {
     match x {
         None => Ok(()),
-        Some(x) => {
-            to.sign(Kind::Bar)?;
-            expr(x, to)
-        }
+        Some(x) => expr_behind(Kind::Bar, x, to),
     }
 }
 
-/// The expression of a `return`, if there is one, and `;`.
-pub fn result_value(x: &Option<Expr>, to: &mut Writer) -> Result<(), AllocError>
-    ensures { OnOk result (to.new ≡ with_tokens to.old (spec.result_tokens x.now ++ sign k.Semicolon ∷ [])) }
+/// The head of a `for` loop.
+pub fn for_head(over: &[Iter], c: &Option<Expr>, to: &mut Writer) -> Result<(), AllocError>
+    ensures { OnOk result (to.new ≡ with_tokens to.old (sign k.LeftParen ∷ sign k.For ∷ (spec.with_commas (map iter_tokens over.now) ++ (spec.bar_tokens c.now ++ sign k.RightParen ∷ [])))) }
+{
+    to.sign(Kind::LeftParen)?;
+    iters_behind(Kind::For, over, to)?;
+    condition(c, to)?;
+    to.sign(Kind::RightParen)
+}
+
+/// The head of a `while` loop.
+pub fn while_head(c: &Expr, to: &mut Writer) -> Result<(), AllocError>
+    ensures { OnOk result (to.new ≡ with_tokens to.old (sign k.LeftParen ∷ bracketed k.While (expr_tokens c.now) k.RightParen)) }
+{
+    to.sign(Kind::LeftParen)?;
+    between(Kind::While, c, Kind::RightParen, to)
+}
+
+/// A `return`, with its expression if there is one.
+pub fn return_result(x: &Option<Expr>, to: &mut Writer) -> Result<(), AllocError>
+    ensures { OnOk result (to.new ≡ with_tokens to.old (sign k.Return ∷ (spec.result_tokens x.now ++ sign k.Semicolon ∷ []))) }
 {
     match x {
-        None => to.sign(Kind::Semicolon),
-        Some(x) => {
-            expr(x, to)?;
-            to.sign(Kind::Semicolon)
-        }
+        None => to.signs(Kind::Return, Kind::Semicolon),
+        Some(x) => between(Kind::Return, x, Kind::Semicolon, to),
     }
 }
 
@@ -134,6 +140,5 @@ pub fn word(kind: Kind, to: &mut Writer) -> Result<(), AllocError>
     requires { IsSpelled kind }
     ensures { OnOk result (to.new ≡ with_tokens to.old (sign kind ∷ sign k.Semicolon ∷ [])) }
 {
-    to.sign(kind)?;
-    to.sign(Kind::Semicolon)
+    to.signs(kind, Kind::Semicolon)
 }

@@ -1,14 +1,16 @@
 //! Statements.
 
-ghost use Rattle.std.specs.Prelude.{◌≡◌, ℕ, OnOk, map};
+ghost use Rattle.std.specs.Prelude.{◌≡◌, ℕ, ◌∷◌, ◌++◌, OnOk, map};
 ghost use Rattle.setl_tree.specs.Canonical as spec;
-ghost use Rattle.setl_tree.specs.Canonical.{stmt_tokens};
+ghost use Rattle.setl_tree.specs.Canonical.{sign, stmt_tokens};
+ghost use Rattle.setl_token.specs.Spellings.{IsSpelled};
 ghost use Rattle.setl_show.specs.Text.{with_tokens};
 ghost use Rattle.setl_show.specs.Parts.{kind_tokens, branch_tokens};
 
-use crate::expressions::{expr, iters};
+use crate::expressions::between;
 use crate::simple::{
-    arguments, assign, condition, ending, names, result_value, take, tuple_assign, update, word,
+    arguments, assign, ending, for_head, names, return_result, take, tuple_assign, update,
+    while_head, word,
 };
 use crate::writer::Writer;
 use setl_tree::{Branch, Kind, Stmt, StmtKind};
@@ -48,41 +50,30 @@ fn stmt_kind(x: &StmtKind, to: &mut Writer) -> Result<(), AllocError>
             arguments(xs.as_slice(), to)
         }
         StmtKind::If(first, others, last) => {
-            to.sign(Kind::If)?;
-            branch(first, to)?;
+            branch(Kind::If, first, to)?;
             branches(others.as_slice(), to)?;
-            if let Some(body) = last {
-                to.sign(Kind::Else)?;
-                stmts(body.as_slice(), to)?;
+            match last {
+                None => ending(Kind::If, to),
+                Some(body) => {
+                    to.sign(Kind::Else)?;
+                    block(body.as_slice(), Kind::If, to)
+                }
             }
-            ending(Kind::If, to)
         }
         StmtKind::For(over, c, body) => {
-            to.sign(Kind::LeftParen)?;
-            to.sign(Kind::For)?;
-            iters(over.as_slice(), to)?;
-            condition(c, to)?;
-            to.sign(Kind::RightParen)?;
-            stmts(body.as_slice(), to)?;
-            ending(Kind::For, to)
+            for_head(over.as_slice(), c, to)?;
+            block(body.as_slice(), Kind::For, to)
         }
         StmtKind::While(c, body) => {
-            to.sign(Kind::LeftParen)?;
-            to.sign(Kind::While)?;
-            expr(c, to)?;
-            to.sign(Kind::RightParen)?;
-            stmts(body.as_slice(), to)?;
-            ending(Kind::While, to)
+            while_head(c, to)?;
+            block(body.as_slice(), Kind::While, to)
         }
         StmtKind::Quit => word(Kind::Quit, to),
         StmtKind::Continue => word(Kind::Continue, to),
         StmtKind::Fail => word(Kind::Fail, to),
         StmtKind::Stop => word(Kind::Stop, to),
         StmtKind::Pass => word(Kind::Pass, to),
-        StmtKind::Return(x) => {
-            to.sign(Kind::Return)?;
-            result_value(x, to)
-        }
+        StmtKind::Return(x) => return_result(x, to),
         StmtKind::Print(xs) => {
             to.sign(Kind::Print)?;
             arguments(xs.as_slice(), to)
@@ -94,13 +85,23 @@ fn stmt_kind(x: &StmtKind, to: &mut Writer) -> Result<(), AllocError>
     }
 }
 
-/// A condition with the statements that it guards.
+/// Statements and the end of what they stand in.
 #[cycle(statements)]
-fn branch(x: &Branch, to: &mut Writer) -> Result<(), AllocError>
-    ensures { OnOk result (to.new ≡ with_tokens to.old (branch_tokens x.now)) }
+fn block(xs: &[Stmt], word: Kind, to: &mut Writer) -> Result<(), AllocError>
+    requires { IsSpelled word }
+    ensures { OnOk result (to.new ≡ with_tokens to.old (spec.all_of (map stmt_tokens xs.now) ++ spec.ending_tokens word)) }
 {
-    expr(&x.condition, to)?;
-    to.sign(Kind::Then)?;
+    stmts(xs, to)?;
+    ending(word, to)
+}
+
+/// A condition behind a word, with the statements that it guards.
+#[cycle(statements)]
+fn branch(word: Kind, x: &Branch, to: &mut Writer) -> Result<(), AllocError>
+    requires { IsSpelled word }
+    ensures { OnOk result (to.new ≡ with_tokens to.old (sign word ∷ branch_tokens x.now)) }
+{
+    between(word, &x.condition, Kind::Then, to)?;
     stmts(x.body.as_slice(), to)
 }
 
@@ -110,8 +111,7 @@ fn branches(xs: &[Branch], to: &mut Writer) -> Result<(), AllocError>
     ensures { OnOk result (to.new ≡ with_tokens to.old (spec.elseif_tokens (map branch_tokens xs.now))) }
 {
     for x in xs {
-        to.sign(Kind::Elseif)?;
-        branch(x, to)?;
+        branch(Kind::Elseif, x, to)?;
     }
     Ok(())
 }

@@ -90,6 +90,25 @@ impl Writer {
         self.token(kind, spelling(kind).as_bytes())
     }
 
+    /// Two reserved words or signs.
+    pub fn signs(&mut self, first: Kind, second: Kind) -> Result<(), AllocError>
+        requires first { IsSpelled first }
+        requires second { IsSpelled second }
+        ensures { OnOk result (self.new ≡ put (put self.old first [] (pos 0)) second [] (pos 0)) }
+    {
+        self.sign(first)?;
+        self.sign(second)
+    }
+
+    /// A name, and a reserved word or a sign behind it.
+    pub fn name_before(&mut self, name: &Text, kind: Kind) -> Result<(), AllocError>
+        requires { IsSpelled kind }
+        ensures { OnOk result (self.new ≡ put (put self.old k.Name name.now (pos 0)) kind [] (pos 0)) }
+    {
+        self.name(name)?;
+        self.sign(kind)
+    }
+
     /// A name.
     #[tactic(auto, unfolding(crate::specs::Text::bytes_of))]
     pub fn name(&mut self, name: &Text) -> Result<(), AllocError>

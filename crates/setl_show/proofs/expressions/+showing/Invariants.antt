@@ -10,8 +10,8 @@ invariant-operands-loop-op l = with_tokens l.to (spec.operand_tokens (map (λ x.
 abbrev pub invariant-exprs-loop-i : goal.invariant-exprs-loop-i
 invariant-exprs-loop-i l = with_tokens l.to (spec.behind_commas (tokens_of (map shown (drop l.i l.xs)))) ≡ with_tokens l.initial.to (spec.behind_commas (tokens_of (map shown (drop 1 l.xs))))
 
-abbrev pub invariant-iters-loop-i : goal.invariant-iters-loop-i
-invariant-iters-loop-i l = with_tokens l.to (spec.behind_commas (map iter_tokens (drop l.i l.xs))) ≡ with_tokens l.initial.to (spec.behind_commas (map iter_tokens (drop 1 l.xs)))
+abbrev pub invariant-iters_behind-loop-i : goal.invariant-iters_behind-loop-i
+invariant-iters_behind-loop-i l = with_tokens l.to (spec.behind_commas (map iter_tokens (drop l.i l.xs))) ≡ with_tokens l.initial.to (spec.behind_commas (map iter_tokens (drop 1 l.xs)))
 
 abbrev pub invariant-selectors-loop-x : goal.invariant-selectors-loop-x
 invariant-selectors-loop-x l = with_tokens l.to (spec.all_of (map selector_tokens (drop l.x-index l.xs))) ≡ with_tokens l.initial.to (spec.all_of (map selector_tokens l.xs))
