@@ -1,18 +1,16 @@
 -- The variables of the bodies of a code.
-use Rattle.std.proofs.Common.{◌≡◌, ℕ, zero, suc, ◌+◌, ◌<◌, ◌≤◌, Bool, true, false, List, [], ◌∷◌, ◌++◌, length, map, refl, sym, ap, ◌∙◌, subst, arith, Option, Some, None}
-use Rattle.std.specs.Prelude.{slice_get, ◌||◌}
+use Rattle.std.proofs.Common.{◌≡◌, ℕ, zero, suc, ◌+◌, ◌<◌, List, [], ◌∷◌, ◌++◌, length, map, refl, sym, ap, ◌∙◌, subst, arith, Option, Some, None}
+use Rattle.std.specs.Prelude.{slice_get}
 use Rattle.std.specs.Option.{option_map}
-use Rattle.std.proofs.lemmas.List.{length-map, length-append}
 use Rattle.setl_tree.specs.declared.tree.Param.{Param}
-use Rattle.setl_run.specs.Variable.{Variable, Global, Own, Bound, is_variable}
+use Rattle.setl_run.specs.Variable.{Variable, Global, Own, Bound}
 use Rattle.setl_program.specs.ProgramOf.{parameter_of}
 use Rattle.setl_model.specs.Calls.{parameter}
 use Rattle.setl_code.specs.declared.code.Body.{Body}
 use Rattle.setl_code.specs.declared.code.Code.{Code}
 use Rattle.setl_code.specs.declared.code.OwnName.{OwnName}
 use Rattle.setl_code.specs.declared.code.OwnName.TheVariants as name
-use Rattle.setl_code.specs.Code as plain
-use Rattle.setl_code.specs.CodeCore.{Held, CodeCore, held, held_in, with_held, write, variables_of}
+use Rattle.setl_code.specs.CodeCore.{Held, CodeCore, held, held_in, with_held, write}
 use Rattle.setl_code.specs.Plain.{plain_name, own_variables, variable_at, plain_body, plain_bodies, plain_code}
 use Rattle.setl_code.specs.MayRun.{Differ, StepsFit, BodiesFit, MayRun}
 use Rattle.setl_store.specs.Flat.{names_of}

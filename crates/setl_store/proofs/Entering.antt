@@ -1,12 +1,11 @@
 -- What a call enters, and where a code starts.
-use Rattle.std.proofs.Common.{◌≡◌, ℕ, zero, suc, ◌+◌, ◌-◌, ◌<◌, ◌≤◌, Bool, true, false, List, [], ◌∷◌, ◌++◌, length, take, drop, map, reverse, replicate, refl, sym, ap, ◌∙◌, subst, arith, Option, Some, None}
+use Rattle.std.proofs.Common.{◌≡◌, ℕ, zero, suc, ◌+◌, ◌<◌, ◌≤◌, false, List, [], ◌∷◌, ◌++◌, length, drop, map, reverse, replicate, refl, sym, ap, ◌∙◌, subst, arith, Option, Some, None}
 use Rattle.std.specs.Prelude.{slice_get, cond, ◌||◌, IfSome}
 use Rattle.std.specs.Option.{option_map}
 use Rattle.std.proofs.lemmas.List.{length-map, length-append, length-replicate, length_push, append_assoc, take-append-le, take_at, take_all, drop_at, drop_all, reverse-append}
 use Rattle.setl_value.specs.Datum.{Datum}
 use Rattle.setl_value.specs.code.DatumOf.{part}
 use Rattle.setl_value.specs.declared.Value.{Value}
-use Rattle.setl_tree.specs.declared.tree.Param.{Param}
 use Rattle.setl_run.specs.Run.{Store}
 use Rattle.setl_run.specs.Variable.{Variable, Global, is_variable}
 use Rattle.setl_run.specs.VariableLaws.{variable_itself}
@@ -23,12 +22,12 @@ use Rattle.setl_code.specs.MayRun.{Differ, MayRun}
 use Rattle.setl_code.specs.Names.{is_among}
 use Rattle.setl_code.specs.Plain.{plain_body, plain_code, plain_name}
 use Rattle.setl_store.specs.declared.cells.Frame.{Frame}
-use Rattle.setl_store.specs.declared.cells.Held.{Held as Slot}
+use Rattle.setl_cells.specs.declared.cells.Held.{Held as Slot}
 use Rattle.setl_store.specs.Bodies.{with_stores, entered}
 use Rattle.setl_store.specs.Flat.{Here, held_of, operand_of, cells, names_of, helds, results, activation, callers, core_of, copy_of, stands, own_count_of, IsShaped, IsSound, AllSound}
 use Rattle.setl_store.specs.Returning.{parameter_count_of, name_count_of}
 use Rattle.setl_store.specs.Standing.{Standing, no_world, started, variables_by}
-use Rattle.setl_store.proofs.Bodies.{body_at, names_same, names_differ, own_by}
+use Rattle.setl_store.proofs.Bodies.{body_at, names_same, names_differ}
 use Rattle.setl_store.proofs.OperandLists.{Changed, changed}
 use Rattle.setl_store.proofs.Slots.{or_false, cells_agree, Innermost, innermost, innermost_of, sizes}
 use Rattle.setl_store.proofs.Steps.{counted}

@@ -1,9 +1,9 @@
 -- Steps of the iterator on top.
-use Rattle.std.proofs.Common.{◌≡◌, ℕ, zero, suc, ◌+◌, ◌-◌, ◌<◌, Bool, true, false, List, [], ◌∷◌, ◌++◌, length, take, drop, reverse, set, get_or, refl, sym, ap, ◌∙◌, subst, arith, eq-eqb, eqb-true, Option, Some, None}
+use Rattle.std.proofs.Common.{◌≡◌, ℕ, zero, suc, ◌+◌, ◌-◌, ◌<◌, Bool, true, false, List, [], ◌∷◌, length, drop, reverse, set, get_or, refl, sym, ap, ◌∙◌, subst, arith, eq-eqb, eqb-true, Option, Some, None}
 use Rattle.std.specs.Prelude.{slice_get, nat_eq, Result, Ok, Err, IfOk, OnOk, OnErr}
 use Rattle.std.specs.Option.{unwrap_or}
 use Rattle.std.specs.declared.alloc.AllocError.{AllocError}
-use Rattle.std.proofs.lemmas.List.{length-set, set-set, take_all, take_more_set}
+use Rattle.std.proofs.lemmas.List.{set-set}
 use Rattle.std.proofs.lemmas.Option.{slice_get-get_or}
 use Rattle.setl_value.specs.code.DatumOf.{part}
 use Rattle.setl_value.specs.declared.Value.{Value}
@@ -22,13 +22,13 @@ use Rattle.setl_store.specs.declared.cells.Operand.{Operand}
 use Rattle.setl_store.specs.declared.cells.Operand.TheVariants as operand
 use Rattle.setl_store.specs.declared.iterating.Ahead.TheVariants as ahead
 use Rattle.setl_store.specs.Standing.{Standing, iterator_by, over}
-use Rattle.setl_store.specs.Flat.{Here, iterator_of, operand_of, stands, IsSound, AllSound, HasMembers, with_operand, cut_to}
+use Rattle.setl_store.specs.Flat.{Here, iterator_of, operand_of, stands, IsSound, AllSound, HasMembers, with_operand}
 use Rattle.setl_store.specs.Iterating.{IsAtItem, IsFirst, advanced, with_item}
 use Rattle.setl_store.specs.Returning.{operand_by}
 use Rattle.setl_store.specs.Operands.{IsAhead, Advances}
 use Rattle.setl_store.proofs.NewOperands.{NowHas, now_has}
 use Rattle.setl_store.proofs.LastOperand.{behind, operand_set}
-use Rattle.setl_store.proofs.OperandLists.{Changed, top_is, some_below, lowest_of, lowest_below, pops, pushes, got_iterator}
+use Rattle.setl_store.proofs.OperandLists.{Changed, top_is, some_below, lowest_of, lowest_below, pushes, got_iterator}
 
 -- ---- what is ahead
 

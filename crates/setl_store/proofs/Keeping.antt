@@ -1,15 +1,14 @@
 -- What `ok` keeps.
-use Rattle.std.proofs.Common.{◌≡◌, ℕ, suc, ◌+◌, List, [], ◌∷◌, ◌++◌, length, drop, map, reverse, set, refl, sym, ap, ◌∙◌, subst, arith, Bool, true, false, Some}
+use Rattle.std.proofs.Common.{◌≡◌, ℕ, suc, ◌+◌, List, [], ◌∷◌, ◌++◌, length, drop, map, set, refl, sym, ap, ◌∙◌, subst, arith, Bool, true, false, Some}
 use Rattle.setl_value.specs.Datum.{bool}
 use Rattle.setl_value.specs.declared.Value.TheVariants as value
 use Rattle.setl_code.specs.declared.code.Code.{Code}
-use Rattle.setl_code.specs.Code as plain
 use Rattle.setl_code.specs.CodeCore.{Result as Holds, Copy, CodeCore}
 use Rattle.setl_code.specs.MayRun.{MayRun}
 use Rattle.setl_code.specs.Plain.{plain_code}
 use Rattle.setl_store.specs.declared.cells.Operand.{Operand}
 use Rattle.setl_store.specs.declared.cells.Operand.TheVariants as operand
-use Rattle.setl_store.specs.Standing.{Standing, over, at_place, kept as with_kept}
+use Rattle.setl_store.specs.Standing.{Standing, over, kept as with_kept}
 use Rattle.setl_store.specs.Flat.{Here, copy_of, core_of, stands, IsSound, AllSound, with_operand, now_operands}
 use Rattle.setl_store.proofs.OperandLists.{Changed, pushes, same_holds}
 

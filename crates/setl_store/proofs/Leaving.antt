@@ -1,11 +1,12 @@
 -- What a return hands back, and what it leaves.
-use Rattle.std.proofs.Common.{◌≡◌, ℕ, zero, suc, ◌+◌, ◌-◌, ◌<◌, ◌≤◌, Bool, true, false, List, [], ◌∷◌, ◌++◌, length, take, drop, map, reverse, get_or, refl, sym, ap, ◌∙◌, subst, arith, Option, Some, None}
-use Rattle.std.specs.Prelude.{slice_get, cond, ◌||◌}
+use Rattle.std.proofs.Common.{◌≡◌, ℕ, zero, suc, ◌+◌, ◌-◌, ◌≤◌, false, List, [], ◌∷◌, ◌++◌, length, take, drop, map, reverse, refl, sym, ap, ◌∙◌, subst, arith, Option, Some, None}
+use Rattle.std.specs.Prelude.{slice_get, cond}
 use Rattle.std.specs.Option.{option_map}
-use Rattle.std.proofs.lemmas.List.{reverse-append, map-append, append_assoc, append-nil, length-map, length-reverse, length-take-le, length_push, take-map, take-take, length-drop, drop_all, drop-append-le}
-use Rattle.std.proofs.lemmas.Option.{same_Some, slice_get_read}
+use Rattle.std.specs.Global.{Vec}
+use Rattle.std.proofs.lemmas.List.{reverse-append, append_assoc, append-nil, length-map, length-reverse, length-take-le, take-map, take-take, length-drop, drop-map}
+use Rattle.std.proofs.lemmas.Option.{same_Some}
 use Rattle.setl_value.specs.Datum.{Datum}
-use Rattle.setl_value.specs.code.DatumOf.{part}
+use Rattle.setl_value.specs.code.DatumOf.{datum, part}
 use Rattle.setl_value.specs.declared.Value.{Value}
 use Rattle.setl_tree.specs.declared.tree.Param.{Param}
 use Rattle.setl_tree.specs.declared.tree.Passing.{Passing}
@@ -25,17 +26,19 @@ use Rattle.setl_code.specs.MayRun.{Differ, MayRun}
 use Rattle.setl_code.specs.Names.{is_among}
 use Rattle.setl_code.specs.Plain.{plain_body, plain_code, plain_name}
 use Rattle.setl_store.specs.declared.cells.Frame.{Frame}
-use Rattle.setl_store.specs.declared.cells.Held.{Held as Slot}
+use Rattle.setl_cells.specs.declared.cells.Held.{Held as Slot}
+use Rattle.setl_cells.specs.declared.cells.Held.TheVariants as slot
+use Rattle.setl_cells.specs.Handed.{and_held, and_handed}
+use Rattle.setl_cells.specs.Handed as cells
 use Rattle.setl_store.specs.declared.cells.Operand.{Operand}
-use Rattle.setl_store.specs.declared.cells.Operand.TheVariants as operand
 use Rattle.setl_store.specs.Bodies.{left, left_for}
-use Rattle.setl_store.specs.Flat.{Here, cells, names_of, held_of, helds, operand_of, results, body_in, slots_in, lowest_in, own_in, operands_in, activation, callers, core_of, copy_of, stands, own_count_of, GotThese, AllGot, HasMembers, members_below, IsShaped, IsSound, AllSound, with_operand}
-use Rattle.setl_store.specs.Returning.{operand_by, pushed_on, handed, handed_by, handed_in, Hands, parameter_count_of}
-use Rattle.setl_store.specs.Standing.{Standing, no_world, variables_by, over}
+use Rattle.setl_store.specs.Flat.{Here, cells, held_of, helds, operand_of, results, body_in, slots_in, operands_in, activation, callers, core_of, stands, own_count_of, AllGot, HasMembers, members_below, IsShaped, IsSound, AllSound, with_operand}
+use Rattle.setl_store.specs.Returning.{operand_by, pushed_on, handed, handed_by, handed_in, parameter_count_of}
+use Rattle.setl_store.specs.Standing.{Standing, variables_by, over}
 use Rattle.setl_store.proofs.Bodies.{body_at, names_same, names_differ}
 use Rattle.setl_store.proofs.Entering.{among_left, core_over}
 use Rattle.setl_store.proofs.OperandLists.{has_below, below_within, cut_results, got_take, Changed, pushes}
-use Rattle.setl_store.proofs.Slots.{or_false, cells_agree, own_counted, globals_below, slice_get_map, slice_get_drop}
+use Rattle.setl_store.proofs.Slots.{or_false, cells_agree, own_counted, globals_below}
 use Rattle.setl_store.proofs.Steps.{counted}
 
 -- ---- the members of lower operands
@@ -91,68 +94,37 @@ pub pushed_last : (vs : List (Option Datum)) (v : Option Datum) (xs : List core.
 pushed_last [] v xs = refl
 pushed_last (w ∷ vs) v xs = pushed_last vs v (core.Result w ∷ xs)
 
-none_stays : (p : Passing) (h : Held) → hand p h None ≡ None
-none_stays Rd h = refl
-none_stays Wr Gone = refl
-none_stays Wr (There v) = refl
-none_stays Rw Gone = refl
-none_stays Rw (There v) = refl
+-- what one parameter hands back, as values and as operands
+held_too : (h : Slot) (o : Option (List (Option Datum))) (xs : List core.Operand) → push_held (held_of h) (option_map (λ vs. pushed_on vs xs) o) ≡ option_map (λ vs. pushed_on vs xs) (and_held h o)
+held_too slot.Om None xs = refl
+held_too slot.Om (Some vs) xs = ap (λ l. Some l) (sym (pushed_last vs None xs))
+held_too (slot.Value v) None xs = refl
+held_too (slot.Value v) (Some vs) xs = ap (λ l. Some l) (sym (pushed_last vs (Some (datum v)) xs))
+held_too slot.Taken None xs = refl
+held_too slot.Taken (Some vs) xs = refl
 
--- where one of the later parameters was taken, so it is with all
-pub lost : (k : ℕ) (ps : List Param) (hs : List Held) (xs : List core.Operand) → handed (drop k ps) (drop k hs) xs ≡ None → handed ps hs xs ≡ None
-lost zero ps hs xs e = e
-lost (suc k) [] hs xs e = e
-lost (suc k) (p ∷ ps) [] xs e = refl
-lost (suc k) (p ∷ ps) (h ∷ hs) xs e = ap (hand p.passing h) (lost k ps hs xs e) ∙ none_stays p.passing h
+handed_too : (p : Passing) (h : Slot) (o : Option (List (Option Datum))) (xs : List core.Operand) → hand p (held_of h) (option_map (λ vs. pushed_on vs xs) o) ≡ option_map (λ vs. pushed_on vs xs) (and_handed p h o)
+handed_too Rd h o xs = refl
+handed_too Wr h o xs = held_too h o xs
+handed_too Rw h o xs = held_too h o xs
 
-pub drop_one_less : {A : Type 0} (n : ℕ) (xs : List A) (x : A) → Some x ≡ slice_get xs n → drop n xs ≡ x ∷ drop (suc n) xs
-drop_one_less n [] x e = absurd (cc)
-drop_one_less zero (y ∷ ys) x e = ap (λ z. z ∷ ys) (sym (same_Some x y e))
-drop_one_less (suc n) (y ∷ ys) x e = drop_one_less n ys x e
+all_handed : (ps : List Param) (hs : List Slot) (v : Option Datum) (xs : List core.Operand) → handed ps (map held_of hs) (core.Result v ∷ xs) ≡ option_map (λ vs. pushed_on vs xs) (cells.handed ps hs v)
+all_handed [] hs v xs = refl
+all_handed (p ∷ ps) [] v xs = refl
+all_handed (p ∷ ps) (h ∷ hs) v xs = ap (hand p.passing (held_of h)) (all_handed ps hs v xs) ∙ handed_too p.passing h (cells.handed ps hs v) xs
 
-pub handed_from : (n : ℕ) (ps : List Param) (hs : List Held) (xs : List core.Operand) (p : Param) (h : Held) → Some p ≡ slice_get ps n → Some h ≡ slice_get hs n →
-    handed (drop n ps) (drop n hs) xs ≡ hand p.passing h (handed (drop (suc n) ps) (drop (suc n) hs) xs)
-handed_from n ps hs xs p h pe he = λ i. handed (drop_one_less n ps p pe i) (drop_one_less n hs h he i) xs
+in_turn : (all : Option (Vec (Option Value))) (xs : List core.Operand) → option_map (λ vs. pushed_on vs xs) (option_map (λ (values : Vec (Option Value)). map part values.items) all) ≡ option_map (λ (values : Vec (Option Value)). pushed_on (map part values.items) xs) all
+in_turn None xs = refl
+in_turn (Some values) xs = refl
 
--- a slot's value that is added
-pub held_added : (h : Slot) (v : Option Value) (old new : List (Option Value)) → held_of h ≡ There (part v) → new ≡ old ++ v ∷ [] →
-    (xs : List core.Operand) → push_held (held_of h) (Some (pushed_on (map part old) xs)) ≡ Some (pushed_on (map part new) xs)
-held_added h v old new is added xs =
-    ap (λ x. push_held x (Some (pushed_on (map part old) xs))) is
-    ∙ ap (λ l. Some l) (sym (ap (λ l. pushed_on (map part l) xs) added ∙ ap (λ l. pushed_on l xs) (map-append part old (v ∷ [])) ∙ pushed_last (map part old) (part v) xs))
-
-pub handed_at_end : (n : ℕ) (ps : List Param) (hs : List Held) (xs : List core.Operand) → n ≡ length ps → handed (drop n ps) (drop n hs) xs ≡ Some xs
-handed_at_end n ps hs xs e = ap (λ l. handed l (drop n hs) xs) (drop_all n ps (omega (arith, e)))
-
--- one parameter more
-handed_at : (ps : List Param) (slots : List Slot) (lowest at i : ℕ) (p : Param) (h : Slot) (old : List (Option Datum)) (xs ys : List core.Operand) → at ≡ length ps - 1 - i → i < length ps → p ≡ get_or ps at p → Some h ≡ slice_get slots (lowest + at) →
-    handed (drop (length ps - i) ps) (drop (length ps - i) (drop lowest (map held_of slots))) xs ≡ Some (pushed_on old ys) →
-    handed (drop at ps) (drop at (drop lowest (map held_of slots))) xs ≡ hand p.passing (held_of h) (Some (pushed_on old ys))
-handed_at ps slots lowest at i p h old xs ys place within is there before =
-    let hs = drop lowest (map held_of slots) in
-    let holds = slice_get_map held_of slots (lowest + at) h there ∙ sym (slice_get_drop lowest (map held_of slots) at) in
-    let next : suc at ≡ length ps - i = omega (arith, place, within) in
-    handed_from at ps hs xs p (held_of h) (sym (slice_get_read ps (length ps) at p refl (omega (arith, place, within)) is)) holds
-    ∙ ap (hand p.passing (held_of h)) (ap (λ m. handed (drop m ps) (drop m hs) xs) next ∙ before)
-
-pub handed_on : (ps : List Param) (slots : List Slot) (lowest at i : ℕ) (p : Param) (h : Slot) (old new : List (Option Datum)) (xs ys : List core.Operand) (done : Bool) → at ≡ length ps - 1 - i → i < length ps → p ≡ get_or ps at p → Some h ≡ slice_get slots (lowest + at) →
-    handed (drop (length ps - i) ps) (drop (length ps - i) (drop lowest (map held_of slots))) xs ≡ Some (pushed_on old ys) →
-    Hands (hand p.passing (held_of h) (Some (pushed_on old ys))) done (pushed_on new ys) → done ≡ true →
-    handed (drop (length ps - (i + 1)) ps) (drop (length ps - (i + 1)) (drop lowest (map held_of slots))) xs ≡ Some (pushed_on new ys)
-handed_on ps slots lowest at i p h old new xs ys done place within is there before after so =
-    let same : length ps - (i + 1) ≡ at = omega (arith, place, within) in
-    ap (λ m. handed (drop m ps) (drop m (drop lowest (map held_of slots))) xs) same
-    ∙ handed_at ps slots lowest at i p h old xs ys place within is there before
-    ∙ subst (λ b. Hands (hand p.passing (held_of h) (Some (pushed_on old ys))) b (pushed_on new ys)) so after
-
-pub handed_none : (ps : List Param) (slots : List Slot) (lowest at i : ℕ) (p : Param) (h : Slot) (old new : List (Option Datum)) (xs ys : List core.Operand) (done : Bool) → at ≡ length ps - 1 - i → i < length ps → p ≡ get_or ps at p → Some h ≡ slice_get slots (lowest + at) →
-    handed (drop (length ps - i) ps) (drop (length ps - i) (drop lowest (map held_of slots))) xs ≡ Some (pushed_on old ys) →
-    Hands (hand p.passing (held_of h) (Some (pushed_on old ys))) done (pushed_on new ys) → done ≡ false →
-    handed ps (drop lowest (map held_of slots)) xs ≡ None
-handed_none ps slots lowest at i p h old new xs ys done place within is there before after so =
-    lost at ps (drop lowest (map held_of slots)) xs
-    (handed_at ps slots lowest at i p h old xs ys place within is there before
-    ∙ subst (λ b. Hands (hand p.passing (held_of h) (Some (pushed_on old ys))) b (pushed_on new ys)) so after)
+-- the values that are handed back are the operands
+pub handed_slots : (ps : List Param) (slots : List Slot) (lowest : ℕ) (v : Option Datum) (all : Option (Vec (Option Value))) → cells.handed ps (drop lowest slots) v ≡ option_map (λ (values : Vec (Option Value)). map part values.items) all →
+    (xs : List core.Operand) → handed ps (drop lowest (map held_of slots)) (core.Result v ∷ xs) ≡ option_map (λ (values : Vec (Option Value)). pushed_on (map part values.items) xs) all
+handed_slots ps slots lowest v all h xs =
+    ap (λ hs. handed ps hs (core.Result v ∷ xs)) (drop-map held_of lowest slots)
+    ∙ all_handed ps (drop lowest slots) v xs
+    ∙ ap (option_map (λ vs. pushed_on vs xs)) h
+    ∙ in_turn all xs
 
 -- ---- the same, by variables
 

@@ -1,5 +1,5 @@
 -- Changes of the operands of the body at work.
-use Rattle.std.proofs.Common.{◌≡◌, ℕ, zero, suc, ◌+◌, ◌-◌, ◌<◌, ◌≤◌, List, [], ◌∷◌, ◌++◌, length, take, drop, map, reverse, refl, sym, ap, ◌∙◌, subst, arith, Bool, true, false, Option, Some, None}
+use Rattle.std.proofs.Common.{◌≡◌, ℕ, zero, suc, ◌+◌, ◌-◌, ◌<◌, ◌≤◌, List, [], ◌∷◌, ◌++◌, length, take, drop, map, reverse, refl, sym, ap, ◌∙◌, subst, arith, Bool, true, false, Some, None}
 use Rattle.std.proofs.lemmas.List.{drop-append-le, take_at, drop_at, drop_all, length-take-le, length-map, map-append, length_push, reverse-append, reverse-reverse, take-append-drop, append_assoc, drop-take, take-take, take-map, length-drop, length-reverse}
 use Rattle.std.specs.Prelude.{slice_get}
 use Rattle.setl_program.specs.declared.kinds.Collection.{Collection}
@@ -11,7 +11,7 @@ use Rattle.setl_code.specs.CodeCore.{Cells, Activation, CodeCore}
 use Rattle.setl_code.specs.MayRun.{MayRun}
 use Rattle.setl_code.specs.Plain.{plain_code}
 use Rattle.setl_store.specs.declared.cells.Frame.{Frame}
-use Rattle.setl_store.specs.declared.cells.Held.{Held}
+use Rattle.setl_cells.specs.declared.cells.Held.{Held}
 use Rattle.setl_store.specs.declared.cells.Member.{Member}
 use Rattle.setl_store.specs.declared.cells.Operand.{Operand}
 use Rattle.setl_store.specs.declared.cells.Operand.TheVariants as operand

@@ -1,6 +1,5 @@
 -- Iterators at work, and what lies below them, in the flat lists. No public clause cites this module.
 use Rattle.std.specs.Prelude.{◌≡◌, ◌<◌, List, [], ◌∷◌, length, drop, Option, Some, None}
-use Rattle.setl_value.specs.declared.Value.{Value}
 use Rattle.setl_map.specs.Outcome.{Fault, OmFault, DeepFault}
 use Rattle.setl_map.specs.declared.OpFault.{OpFault}
 use Rattle.setl_map.specs.declared.OpFault.TheVariants as fault

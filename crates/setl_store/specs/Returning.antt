@@ -1,5 +1,5 @@
 -- What a return hands back, by slots. No public clause cites this module.
-use Rattle.std.specs.Prelude.{◌≡◌, ℕ, Bool, true, false, List, [], ◌∷◌, drop, length, Option, Some, None, slice_get}
+use Rattle.std.specs.Prelude.{ℕ, List, [], ◌∷◌, drop, length, Option, Some, None, slice_get}
 use Rattle.setl_value.specs.Datum.{Datum}
 use Rattle.setl_value.specs.declared.Value.{Value}
 use Rattle.setl_tree.specs.declared.tree.Param.{Param}
@@ -36,11 +36,6 @@ abbrev pub handed_in : List Body → List Frame → List Held → List core.Oper
 handed_in bs [] hs xs = None
 handed_in bs (f ∷ []) hs xs = None
 handed_in bs (f ∷ g ∷ fs) hs xs = handed_by (slice_get bs f.body) (drop f.slots hs) xs
-
--- it was handed back, or was taken
-abbrev pub Hands : Option (List core.Operand) → Bool → List core.Operand → Type 0
-Hands to true new = to ≡ Some new
-Hands to false new = to ≡ None
 
 -- how many parameters and how many names a body has that may not exist
 abbrev pub parameter_count_of : Option Body → ℕ

@@ -6,9 +6,10 @@ ghost use Rattle.setl_value.specs.code.DatumOf.{part};
 ghost use Rattle.setl_store.specs.Flat.{helds, HasMembers, members_below};
 ghost use Rattle.setl_store.specs.Returning.{operand_by};
 
-use crate::cells::{Contents, Frame, Held, Operand};
+use crate::cells::{Contents, Frame, Operand};
 use crate::changes::reserve_one_more;
 use crate::store::{held, operand};
+use setl_cells::Held;
 use setl_environment::Memory;
 use setl_value::Value;
 use std::alloc::AllocError;

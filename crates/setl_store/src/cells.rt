@@ -1,18 +1,10 @@
-//! What slots and operands hold.
+//! What operands hold, and what lies in the environment of a store.
 
+use setl_cells::Held;
 use setl_environment::{Copied, Environment, Memory};
 use setl_iterator::Iterator;
 use setl_program::Collection;
 use setl_value::Value;
-
-/// What a slot holds.
-#[derive(Drop)]
-pub(crate) enum Held {
-    Om,
-    Value(Value),
-    /// Nothing: its value was taken, and it is stored before it is read again.
-    Taken,
-}
 
 /// An operand.
 #[derive(Drop)]
@@ -42,16 +34,6 @@ pub(crate) struct Frame {
 /// The slots, the operands, the activations and the members of collections, and what `ok` kept, each with its place in
 /// the code.
 pub(crate) type Contents = Environment<Held, Operand, Frame, Member, usize>;
-
-impl Copied for Held {
-    fn copied(&self) -> Result<Held, Memory> {
-        match self {
-            Held::Om => Ok(Held::Om),
-            Held::Value(value) => Ok(Held::Value(value.copy()?)),
-            Held::Taken => Ok(Held::Taken),
-        }
-    }
-}
 
 impl Copied for Operand {
     fn copied(&self) -> Result<Operand, Memory> {

@@ -3,7 +3,8 @@
 ghost use Rattle.std.specs.Prelude.{◌≡◌, ◌<◌, ◌-◌, ◌+◌, ◌≤◌, length, slice_get, slice_set, drop, Some, IfOk, OnOk, OnErr};
 ghost use Rattle.setl_store.specs.Flat.{with_operand, with_slot, cut_to};
 
-use crate::cells::{Contents, Held, Member, Operand};
+use crate::cells::{Contents, Member, Operand};
+use setl_cells::Held;
 use setl_environment::Memory;
 use std::alloc::AllocError;
 

@@ -1,18 +1,17 @@
 //! What a return hands back.
 
-ghost use Rattle.std.specs.Prelude.{◌<◌, ◌+◌, ◌≤◌, ◌≡◌, ◌∷◌, Some, map, drop, length, reverse, slice_get, IfOk};
+ghost use Rattle.std.specs.Prelude.{◌<◌, ◌+◌, ◌≤◌, ◌≡◌, ◌∷◌, map, drop, length, reverse, slice_get, IfOk};
 ghost use Rattle.std.specs.Option.{option_map};
 ghost use Rattle.setl_code.specs.CodeCore.{Result as Holds};
-ghost use Rattle.setl_code.specs.Machine.{hand, push_held};
 ghost use Rattle.setl_value.specs.code.DatumOf.{part};
-ghost use Rattle.setl_store.specs.Flat.{held_of, helds, body_in, slots_in};
-ghost use Rattle.setl_store.specs.Returning.{Hands, handed, handed_in, parameter_count_of, pushed_on};
+ghost use Rattle.setl_store.specs.Flat.{helds, body_in, slots_in};
+ghost use Rattle.setl_store.specs.Returning.{handed, handed_in, parameter_count_of, pushed_on};
 
 use crate::activations::innermost;
-use crate::cells::{Contents, Held};
+use crate::cells::Contents;
 use setl_code::Code;
 use setl_environment::Memory;
-use setl_tree::{Param, Passing};
+use setl_tree::Param;
 use setl_value::Value;
 use std::alloc::Global;
 
@@ -55,41 +54,5 @@ fn from_slots(
     requires { lowest + length parameters.now ≤ length environment.now.now.slots }
     ensures { IfOk result (λ all. (xs : _) → handed parameters.now (drop lowest (helds environment.now.now)) (Holds (part value) ∷ xs) ≡ option_map (λ values. pushed_on (map part values.items) xs) all) }
 {
-    let mut all = Vec::new(alloc);
-    all.push(value)?;
-    let _slots = environment.slots();
-    let count = parameters.len();
-    for i in 0..count {
-        let at = count - 1 - i;
-        if !add_handed(
-            parameters[at].passing,
-            environment.slot(lowest + at),
-            &mut all,
-        )? {
-            return Ok(None);
-        }
-    }
-    Ok(Some(all))
-}
-
-// Adds what a parameter's slot holds, where it is handed back. Its answer is false where that was taken.
-fn add_handed(passing: Passing, slot: &Held, all: &mut Vec<Option<Value>>) -> Result<bool, Memory>
-    ensures { IfOk result (λ done. (xs : _) → Hands (hand passing (held_of slot.now) (Some (pushed_on (map part all.old.items) xs))) done (pushed_on (map part all.new.items) xs)) }
-{
-    match passing {
-        Passing::Rd => Ok(true),
-        Passing::Wr | Passing::Rw => add_held(slot, all),
-    }
-}
-
-// Adds what a slot holds. Its answer is false where that was taken.
-fn add_held(slot: &Held, all: &mut Vec<Option<Value>>) -> Result<bool, Memory>
-    ensures { IfOk result (λ done. (xs : _) → Hands (push_held (held_of slot.now) (Some (pushed_on (map part all.old.items) xs))) done (pushed_on (map part all.new.items) xs)) }
-{
-    match slot {
-        Held::Taken => return Ok(false),
-        Held::Om => all.push(None)?,
-        Held::Value(value) => all.push(Some(value.copy()?))?,
-    }
-    Ok(true)
+    setl_cells::handed_back(alloc, parameters, environment, lowest, value)
 }

@@ -10,8 +10,9 @@ ghost use Rattle.setl_store.specs.Operands.{IsThere};
 ghost use Rattle.setl_store.specs.Returning.{operand_by};
 ghost use Rattle.setl_store.specs.Standing.{over, at_place, iterator_by, variables, Shows, IsHeld};
 
-use crate::cells::{Contents, Held, Operand};
+use crate::cells::{Contents, Operand};
 use crate::changes::{add_operand, take_slot, write_slot};
+use setl_cells::Held;
 use setl_code::{Code, Slot};
 use setl_environment::Memory;
 use setl_iterator::Iterator;

@@ -1,15 +1,23 @@
-use Rattle.std.proofs.Common.{◌-◌, ◌∷◌, length, map, get_or, ap, refl}
+use Rattle.std.proofs.Common.{◌≡◌, List, ◌∷◌, map, drop, Option}
+use Rattle.std.proofs.lemmas.Result.{IfOk-weaker}
+use Rattle.std.specs.Global.{Vec}
+use Rattle.std.specs.Option.{option_map}
 use Rattle.setl_value.specs.code.DatumOf.{part}
+use Rattle.setl_value.specs.declared.Value.{Value}
 use Rattle.setl_code.specs.CodeCore as core
-use Rattle.setl_store.proofs.Leaving.{handed_on, handed_none}
+use Rattle.setl_cells.specs.Handed as cells
+use Rattle.setl_store.specs.Flat.{helds}
+use Rattle.setl_store.specs.Returning.{handed, pushed_on}
+use Rattle.setl_store.proofs.Leaving.{handed_slots}
 use Rattle.setl_store.proofs.returning.from_slots.Goals as goal
 
-pub returns-then-not-branch : goal.returns-then-not-branch
-returns-then-not-branch c =
-    λ xs. handed_none c.args.parameters.now c.args.environment.now.now.slots c.args.lowest (length c.args.parameters.now - 1 - c.loop-i.i) c.loop-i.i (get_or c.args.parameters.now (length c.args.parameters.now - 1 - c.loop-i.i) c.index-parameters-at.result) c.slot.result.now
-    (map part c.loop-i.all.items) (map part c.add_handed.new.all.items) (core.Result (part c.args.value) ∷ xs) xs c.in_ok-add_handed.field-0 refl c.loop-i-test.true (ap (get_or c.args.parameters.now (length c.args.parameters.now - 1 - c.loop-i.i)) c.index-parameters-at.is) c.slot.ensures (c.loop-i.invariant xs) (c.in_ok-add_handed.ensures xs) c.if-not-branch.true
-
-pub loop-i-preserved : goal.loop-i-preserved
-loop-i-preserved c =
-    λ xs. handed_on c.args.parameters.now c.args.environment.now.now.slots c.args.lowest (length c.args.parameters.now - 1 - c.loop-i.i) c.loop-i.i (get_or c.args.parameters.now (length c.args.parameters.now - 1 - c.loop-i.i) c.index-parameters-at.result) c.slot.result.now
-    (map part c.loop-i.all.items) (map part c.add_handed.new.all.items) (core.Result (part c.args.value) ∷ xs) xs c.in_ok-add_handed.field-0 refl c.loop-i-test.true (ap (get_or c.args.parameters.now (length c.args.parameters.now - 1 - c.loop-i.i)) c.index-parameters-at.is) c.slot.ensures (c.loop-i.invariant xs) (c.in_ok-add_handed.ensures xs) c.if-not-branch.false
+pub returns : goal.returns
+returns c =
+    let ps = c.args.parameters.now in
+    let now = c.args.environment.now.now in
+    let v = part c.args.value in
+    IfOk-weaker c.handed_back.result
+    (λ (all : Option (Vec (Option Value))). cells.handed ps (drop c.args.lowest now.slots) v ≡ option_map (λ (values : Vec (Option Value)). map part values.items) all)
+    (λ (all : Option (Vec (Option Value))). (xs : List core.Operand) → handed ps (drop c.args.lowest (helds now)) (core.Result v ∷ xs) ≡ option_map (λ (values : Vec (Option Value)). pushed_on (map part values.items) xs) all)
+    (λ all h xs. handed_slots ps now.slots c.args.lowest v all h xs)
+    c.handed_back.ensures

@@ -1,5 +1,4 @@
-use Rattle.std.proofs.Common.{◌≡◌, ◌∙◌, sym, ap, reverse, take, arith, ◌+◌, ◌-◌, length}
-use Rattle.std.proofs.lemmas.List.{reverse-append}
+use Rattle.std.proofs.Common.{sym, ap, arith, ◌+◌}
 use Rattle.setl_store.specs.Flat.{slots_in}
 use Rattle.setl_store.proofs.Lists.{innermost_is}
 use Rattle.setl_store.proofs.store.own_place.Goals as goal

@@ -1,5 +1,4 @@
-use Rattle.std.proofs.Common.{◌∙◌, ◌-◌, ◌≤◌, length, drop, ap, subst, sym}
-use Rattle.setl_store.specs.Flat.{cut_to}
+use Rattle.std.proofs.Common.{◌-◌, drop, ap}
 use Rattle.setl_store.specs.Standing.{over}
 use Rattle.setl_store.proofs.LastOperand.{last_off, last_within}
 use Rattle.setl_store.proofs.OperandLists.{Changed}

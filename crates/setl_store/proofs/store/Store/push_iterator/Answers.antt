@@ -1,9 +1,7 @@
-use Rattle.std.proofs.Common.{[], ◌∷◌, reverse, length, refl}
-use Rattle.setl_code.specs.CodeCore.{Result as Holds, Collecting}
-use Rattle.setl_value.specs.code.DatumOf.{part}
+use Rattle.std.proofs.Common.{◌∷◌, refl}
 use Rattle.setl_store.specs.declared.cells.Operand.TheVariants as operand
 use Rattle.setl_store.specs.Standing.{iterator_by, over}
-use Rattle.setl_store.proofs.OperandLists.{Changed, pushes, same_holds, got_iterator, collection_alone}
+use Rattle.setl_store.proofs.OperandLists.{Changed, pushes, got_iterator}
 use Rattle.setl_store.proofs.store.Store.push_iterator.Goals as goal
 use Rattle.setl_store.proofs.store.Store.push_iterator.Goals.{In_ok-add_operand}
 

@@ -1,12 +1,10 @@
-use Rattle.std.proofs.Common.{◌∙◌, ◌<◌, length, sym, ap, subst, refl}
+use Rattle.std.proofs.Common.{◌<◌, length, sym, subst}
 use Rattle.setl_value.specs.code.DatumOf.{part}
-use Rattle.setl_code.specs.CodeCore.{There, Gone, write}
+use Rattle.setl_code.specs.CodeCore.{There, write}
 use Rattle.setl_code.specs.Plain.{plain_slot}
-use Rattle.setl_store.specs.declared.cells.Held.TheVariants as held
-use Rattle.setl_store.specs.Flat.{held_of}
 use Rattle.setl_store.specs.Standing.{variables}
 use Rattle.setl_store.proofs.OperandLists.{Changed}
-use Rattle.setl_store.proofs.Slots.{place_within, slot_at, slot_stored}
+use Rattle.setl_store.proofs.Slots.{place_within, slot_stored}
 use Rattle.setl_store.proofs.store.Store.set_slot.Goals as goal
 use Rattle.setl_store.proofs.store.Store.set_slot.Goals.{In_ok-write_slot}
 
