@@ -8,7 +8,8 @@ use crate::names::name_break;
 use crate::rules::mode_break;
 use crate::table::mode_table;
 use setl_modes::ModeTable;
-use setl_names::{Break, RuleFault, names_of_bodies};
+use setl_names::{Break, RuleFault};
+use setl_resolution::names_of_bodies;
 use setl_tree::{Items, Tree};
 use std::alloc::{AllocError, Global};
 

@@ -33,23 +33,6 @@ with_key ks k = by_test (list_any (same_key k) ks) ks k ∙ ap (λ b. cond b (ma
 pub taken : (n : ℕ) (ks : List (Vec ℕ)) → map items_of (take n ks) ≡ take n (map items_of ks)
 taken n ks = sym (take-map items_of n ks)
 
--- names behind one another
-pub with_names_append : (xs ys zs : List Name) → with_names (with_names xs ys) zs ≡ with_names xs (ys ++ zs)
-with_names_append xs [] zs = refl
-with_names_append xs (y ∷ ys) zs = with_names_append (with_name xs y) ys zs
-
-longer : (b : Bool) (xs : List Name) (y : Name) (all : List Name) → ((ws : List Name) × (all ≡ cond b xs (xs ++ y ∷ []) ++ ws)) → (ws : List Name) × (all ≡ xs ++ ws)
-longer true xs y all g = g
-longer false xs y all g = (y ∷ g.0, g.1 ∙ append_assoc xs (y ∷ []) g.0)
-
-grown : (xs ys : List Name) → (ws : List Name) × (with_names xs ys ≡ xs ++ ws)
-grown xs [] = ([], sym (append-nil xs))
-grown xs (y ∷ ys) = longer (has xs y) xs y (with_names (with_name xs y) ys) (grown (with_name xs y) ys)
-
--- the names that were there stay in front
-pub taken_back : (xs ys : List Name) → take (length xs) (with_names xs ys) ≡ xs
-taken_back xs ys = ap (take (length xs)) (grown xs ys).1 ∙ take-append_seam xs (grown xs ys).0
-
 one_more : (b : Bool) (all xs : List Name) (y : Name) → BeginsWith all xs → BeginsWith (cond b all (all ++ y ∷ [])) xs
 one_more true all xs y f = f
 one_more false all xs y f = (f.0 ++ y ∷ [], ap (λ (zs : List Name). zs ++ y ∷ []) f.1 ∙ append_assoc xs f.0 (y ∷ []))

@@ -1,5 +1,2 @@
-pub mod Scopes
-pub mod Walks
 pub mod Tables
 pub mod Stores
-pub mod Found

@@ -4,7 +4,7 @@ ghost use Rattle.std.specs.Prelude.{◌≡◌};
 ghost use Rattle.setl_names.specs.Places as spec;
 
 /// Whether a statement stands in a loop of its body, and whether it stands in a procedure.
-#[derive(Clone, Copy, Debug)]
+#[derive(Clone, Copy)]
 pub struct Around {
     pub in_loop: bool,
     pub in_procedure: bool,

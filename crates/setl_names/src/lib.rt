@@ -1,30 +1,28 @@
-//! Name resolution of SETL, and the rules of names.
+//! Names of SETL programs, and the rules on what stands in statements.
 //!
-//! `resolve` tests the rules 1 to 18 of a program on its syntax tree, and gives the variables of each body.
+//! `Names` and `Procs` are tables of names. `body_break` tests the rules 9 to 18 on what stands in the statements of a
+//! body.
 #![tactic(auto)]
 
 mod around;
 mod bodies;
-mod bound;
 mod broken;
-mod expressions;
 mod head;
 mod laws;
 mod name;
 mod names;
 mod occurrence;
 mod procs;
-mod program;
 mod rules;
-mod scope;
-mod simple;
-mod statements;
-mod walk;
 
+pub use around::Around;
 pub use bodies::{BodyNames, names_of_params, names_of_vars};
 pub use broken::{Break, RuleFault, noted, noted_if};
+pub use head::Entry;
 pub use laws::worked_rows;
+pub use name::Name;
 pub use names::Names;
+pub use occurrence::{Argument, Occurrence, What};
 pub use procs::Procs;
-pub use program::{names_of_bodies, resolve};
+pub use rules::body_break;
 pub use std::alloc::AllocError as Memory;

@@ -1,7 +1,7 @@
 //! The variables of programs, and the rules of names that they break.
 
 use crate::reading::read;
-use setl_names::resolve;
+use setl_resolution::resolve;
 use std::alloc::Global;
 use std::fmt::Write;
 use std::test::Fail;

@@ -1,5 +1,5 @@
 -- What the code finds out of the arguments for `wr` and `rw` parameters, and the breaks of a call.
-use Rattle.std.specs.Prelude.{ℕ, Bool, true, false, not, ◌||◌, ◌&&◌, List, [], ◌∷◌, ◌++◌, Option, Some, None, if◌then◌else◌}
+use Rattle.std.specs.Prelude.{ℕ, Bool, true, false, ◌||◌, List, [], ◌∷◌, ◌++◌, Option, Some, None, if◌then◌else◌}
 use Rattle.std.specs.List.{list_any}
 use Rattle.setl_tree.specs.declared.tree.Param.{Param}
 use Rattle.setl_tree.specs.declared.tree.Proc.{Proc}
@@ -8,8 +8,8 @@ use Rattle.setl_names.specs.declared.occurrence.Argument.{Argument}
 use Rattle.setl_names.specs.declared.occurrence.Argument.TheVariants as arg
 use Rattle.setl_names.specs.declared.rules.Stores.{Stores}
 use Rattle.setl_names.specs.Breaks.{broken}
-use Rattle.setl_names.specs.Names.{Name, has, with_name}
-use Rattle.setl_names.specs.Procedures.{params_of, is_procedure}
+use Rattle.setl_names.specs.Names.{Name}
+use Rattle.setl_names.specs.Procedures.{params_of}
 use Rattle.setl_names.specs.Rules.{is_stored, is_no_variable, is_bound_around, argument_names, is_empty, has_other_count, stores_no_variable, stores_bound_around, stores_twice}
 
 abbrev pub no_stores : Stores
@@ -43,11 +43,3 @@ applied_by line (Some ps) xs = call_breaks line ps xs
 -- the breaks of a name before a list in round brackets
 abbrev pub applied_breaks : List Proc → ℕ → Name → List Argument → List Break
 applied_breaks procs line f xs = applied_by line (params_of procs f) xs
-
--- whether a name is none of a procedure, of a parameter or in `var`
-abbrev pub is_own_name : List Proc → (params vars : List Name) → Name → Bool
-is_own_name procs params vars x = not (is_procedure procs x) && (not (has params x) && not (has vars x))
-
--- the names, with one more behind them if it is none of a procedure, of a parameter or in `var`, and isn't there
-abbrev pub with_own_name : List Proc → (params vars : List Name) → List Name → Name → List Name
-with_own_name procs params vars xs x = if is_own_name procs params vars x then with_name xs x else xs

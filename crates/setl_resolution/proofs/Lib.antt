@@ -1,0 +1,4 @@
+pub mod NameLists
+pub mod Own
+pub mod Whole
+pub mod Formers

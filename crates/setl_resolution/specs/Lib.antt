@@ -1,0 +1,4 @@
+pub mod Own
+pub mod Scopes
+pub mod Walks
+pub mod Found
