@@ -1,7 +1,2 @@
-pub mod Plain
-pub mod Undoubled
-pub mod Clean
-pub mod Slots
-pub mod Turns
 pub mod Deeper
-pub mod Onto
+pub mod Slots

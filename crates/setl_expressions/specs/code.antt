@@ -1,2 +1,2 @@
 pub mod Nests
-pub mod Behind
+pub mod Parts

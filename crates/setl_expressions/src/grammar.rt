@@ -4,11 +4,10 @@ ghost use Rattle.std.specs.Prelude.{◌≡◌};
 ghost use Rattle.setl_tree.specs.declared.kind.Kind.TheVariants as k;
 ghost use Rattle.setl_reading.specs.code.Reading.{Reads};
 ghost use Rattle.setl_reading.specs.code.ReadExpressions.{nested};
-ghost use Rattle.setl_expressions.specs.code.Behind as behind;
+ghost use Rattle.setl_cursor.specs.code.Behind as behind;
 ghost use Rattle.setl_expressions.specs.code.Nests.{Nests};
 
-use crate::cursor::Cursor;
-use crate::rule::followed;
+use setl_cursor::{Cursor, followed};
 use setl_reading::Fault;
 use setl_tree::{Boxed, Expr, Kind};
 

@@ -1,21 +1,20 @@
 //! What stands inside braces and brackets.
 
-ghost use Rattle.std.specs.Prelude.{◌≡◌, ◌-◌, IfOk, IfErr};
+ghost use Rattle.std.specs.Prelude.{◌≡◌, ◌-◌};
 ghost use Rattle.setl_reading.specs.code.Reading.{Reads};
 ghost use Rattle.setl_reading.specs.code.ReadExpressions as spec;
 ghost use Rattle.setl_reading.specs.code.ReadExpressions.{nested};
-ghost use Rattle.setl_expressions.specs.code.Behind as behind;
 ghost use Rattle.setl_expressions.specs.code.Nests.{Nests};
-ghost use Rattle.setl_reading.specs.code.Scan.{bound_expr};
+ghost use Rattle.setl_expressions.specs.code.Parts as parts;
 
-use crate::ahead::{ahead, bound_as_expr};
-use crate::cursor::{Cursor, same_kind};
 use crate::grammar::{Grammar, Part};
-use crate::iterators::bound;
-use crate::rule::{Repeated, Rule, boxed_second, followed, more_onto, one, two, with_optional};
+use crate::made::{membership, range, stepped};
+use setl_cursor::{
+    Cursor, Repeated, Rule, ahead, bound, boxed_second, closes, followed, more_onto, one,
+    same_kind, two, with_optional,
+};
 use setl_reading::{Ahead, Fault};
-use setl_tree::{Bound, Boxed, Expr, Inner, Items, Iter, Kind, Relation};
-use std::alloc::Global;
+use setl_tree::{Bound, Boxed, Expr, Inner, Items, Iter, Kind};
 
 /// An expression one nesting deeper.
 #[derive(Drop)]
@@ -75,45 +74,11 @@ impl<'g, F: Fn(&mut Cursor<'_>, usize, Part) -> Result<Expr, Fault>> Repeated
     }
 }
 
-/// `first .. last`
-fn range(alloc: Global, first: Expr, last: Boxed<Expr>) -> Result<Inner, Fault>
-    ensures ok { IfOk result (λ i. i ≡ Inner.Range first None last) }
-    ensures err { IfErr result (λ e. e ≡ Fault.Memory) }
-{
-    Ok(Inner::Range(Boxed::new(alloc, first)?, None, last))
-}
-
-/// `first, second .. last`
-fn stepped(alloc: Global, between: (Expr, Expr), last: Boxed<Expr>) -> Result<Inner, Fault>
-    ensures ok { IfOk result (λ i. i ≡ Inner.Range between.0 (Some between.1) last) }
-    ensures err { IfErr result (λ e. e ≡ Fault.Memory) }
-{
-    let (first, second) = boxed_second(alloc, between.0, between.1)?;
-    Ok(Inner::Range(Boxed::new(alloc, first)?, Some(second), last))
-}
-
-/// The closing signs that an empty list may stand before.
-#[tactic(auto, unfolding(setl_reading::specs::code::ReadExpressions::closes))]
-fn closes(kind: Kind) -> bool
-    ensures { result ≡ spec.closes kind }
-{
-    matches!(kind, Kind::RightBrace | Kind::RightBracket)
-}
-
-/// What a filter binds, as the expression that has the same tokens, compared by `in`.
-fn membership(alloc: Global, bound: Bound, source: Boxed<Expr>) -> Result<Expr, Fault>
-    ensures ok { IfOk result (λ e. e ≡ Expr.Compare (bound_expr bound) Relation.In source) }
-    ensures err { IfErr result (λ e. e ≡ Fault.Memory) }
-{
-    let left = bound_as_expr(alloc, bound)?;
-    Ok(Expr::Compare(Boxed::new(alloc, left)?, Relation::In, source))
-}
-
 impl<F: Fn(&mut Cursor<'_>, usize, Part) -> Result<Expr, Fault>> Grammar<F> {
     /// The iterators of a former, and its condition.
     fn clauses(&self, tokens: &mut Cursor<'_>) -> Result<(Items<Iter>, Option<Boxed<Expr>>), Fault>
         requires { Nests self.now.room (F.pre self.now.inside) (F.post self.now.inside) }
-        ensures { Reads (behind.clauses (self.now.room - 1) (nested self.now.room) tokens.old) result tokens.new }
+        ensures { Reads (parts.clauses (self.now.room - 1) (nested self.now.room) tokens.old) result tokens.new }
     {
         let over = self.iters(tokens)?;
         with_optional(over, &ConditionRule { grammar: self }, tokens)
@@ -133,7 +98,7 @@ impl<F: Fn(&mut Cursor<'_>, usize, Part) -> Result<Expr, Fault>> Grammar<F> {
     /// What stands behind `a, b`, where no `..` does.
     fn two_and_more(&self, a: Expr, b: Expr, tokens: &mut Cursor<'_>) -> Result<Items<Expr>, Fault>
         requires { Nests self.now.room (F.pre self.now.inside) (F.post self.now.inside) }
-        ensures { Reads (behind.two_and_more a b (nested self.now.room).expr tokens.old) result tokens.new }
+        ensures { Reads (parts.two_and_more a b (nested self.now.room).expr tokens.old) result tokens.new }
     {
         let front = two(tokens.alloc(), a, b)?;
         more_onto(front, &ExprRule { grammar: self }, tokens)
@@ -241,7 +206,7 @@ impl<F: Fn(&mut Cursor<'_>, usize, Part) -> Result<Expr, Fault>> Grammar<F> {
     /// `bound in source`, the source in a box.
     fn bound_in(&self, tokens: &mut Cursor<'_>) -> Result<(Bound, Boxed<Expr>), Fault>
         requires { Nests self.now.room (F.pre self.now.inside) (F.post self.now.inside) }
-        ensures { Reads (behind.bound_in (self.now.room - 1) (nested self.now.room).source tokens.old) result tokens.new }
+        ensures { Reads (parts.bound_in (self.now.room - 1) (nested self.now.room).source tokens.old) result tokens.new }
     {
         let bound = bound(self.room.saturating_sub(1), tokens)?;
         let (bound, source) = self.over(bound, tokens)?;

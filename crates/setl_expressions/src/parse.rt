@@ -5,9 +5,8 @@ ghost use Rattle.setl_reading.specs.code.Reading.{Reads};
 ghost use Rattle.setl_reading.specs.code.ReadExpressions as spec;
 ghost use Rattle.setl_expressions.specs.code.Nests.{reader_of};
 
-use crate::cursor::{Cursor, same_kind};
 use crate::grammar::{Grammar, Part};
-use crate::rule::{Repeated, Rule};
+use setl_cursor::{Cursor, Repeated, Rule, same_kind};
 use setl_reading::Fault;
 use setl_tree::{Expr, Items, Iter, Kind, Selector};
 

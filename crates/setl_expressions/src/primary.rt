@@ -2,47 +2,24 @@
 
 ghost use Rattle.std.specs.Prelude.{◌≡◌, ◌-◌, suc};
 ghost use Rattle.setl_tree.specs.declared.kind.Kind.TheVariants as k;
-ghost use Rattle.setl_tree.specs.Operators.{quantifier};
-ghost use Rattle.setl_reading.specs.code.Reading.{Reads, opening_one_of};
+ghost use Rattle.setl_reading.specs.code.Reading.{Reads};
 ghost use Rattle.setl_reading.specs.code.ReadExpressions as spec;
 ghost use Rattle.setl_reading.specs.code.ReadExpressions.{nested};
-ghost use Rattle.setl_expressions.specs.code.Behind as behind;
+ghost use Rattle.setl_cursor.specs.code.Behind as behind;
 ghost use Rattle.setl_expressions.specs.code.Nests.{Nests, reader_of};
+ghost use Rattle.setl_expressions.specs.code.Parts as parts;
 
-use crate::chain::{Chain, NotRule, PrefixRule, chain_from};
-use crate::cursor::{Cursor, same_kind};
+use crate::chain::{Chain, chain_from};
 use crate::grammar::{Grammar, Part};
 use crate::inner::ExprRule;
-use crate::operators::{constant, prefixed, quantifier, relation_op, selected};
-use crate::rule::{
-    Repeated, Rule, SeparatedRule, boxed_second, enclosed, followed, many, more_onto, one,
+use crate::made::{constant, prefixed, selected};
+use setl_cursor::{
+    Cursor, NotRule, PrefixRule, Repeated, Rule, SeparatedRule, begins_selector, boxed_second,
+    enclosed, followed, many, more_onto, one, open_quantifier, quantifier, relation_op, same_kind,
     with_many,
 };
 use setl_reading::Fault;
-use setl_tree::{Boxed, Expr, Items, Kind, Quantifier, Selector};
-
-/// Whether a token of this kind opens a selector: `(` or `{`.
-#[tactic(auto, unfolding(setl_reading::specs::code::ReadExpressions::begins_selector))]
-pub fn begins_selector(kind: Kind) -> bool
-    ensures { result ≡ spec.begins_selector kind }
-{
-    matches!(kind, Kind::LeftParen | Kind::LeftBrace)
-}
-
-/// The word of a quantifier, where so many nestings may still open and it opens one.
-#[tactic(auto, unfolding(setl_reading::specs::code::Reading::opening_one_of))]
-fn open_quantifier(room: usize, tokens: &mut Cursor<'_>) -> Result<Quantifier, Fault>
-    ensures { Reads (opening_one_of room quantifier tokens.old) result tokens.new }
-{
-    let Some(word) = quantifier(tokens.kind()) else {
-        return Err(tokens.refuse());
-    };
-    if room == 0 {
-        return Err(Fault::Nesting(tokens.left()));
-    }
-    tokens.pass();
-    Ok(word)
-}
+use setl_tree::{Boxed, Expr, Items, Kind, Selector};
 
 /// A selector.
 #[derive(Drop)]
@@ -211,7 +188,7 @@ impl<F: Fn(&mut Cursor<'_>, usize, Part) -> Result<Expr, Fault>> Grammar<F> {
     /// The two values of a conditional expression, behind `then`.
     fn branches(&self, tokens: &mut Cursor<'_>) -> Result<(Boxed<Expr>, Boxed<Expr>), Fault>
         requires { Nests self.now.room (F.pre self.now.inside) (F.post self.now.inside) }
-        ensures { Reads (behind.branches (nested self.now.room).expr tokens.old) result tokens.new }
+        ensures { Reads (parts.branches (nested self.now.room).expr tokens.old) result tokens.new }
     {
         let value = self.boxed_before(Kind::Else, tokens)?;
         let other = self.boxed_before(Kind::End, tokens)?;

@@ -7,7 +7,7 @@ use Rattle.setl_reading.specs.declared.fault.Fault.TheVariants as left
 use Rattle.setl_reading.specs.Claims.{FaultIsUnique, ProgramsHaveNoFault, LeftoverIsExact}
 use Rattle.setl_reading.specs.Fronts.{FaultOf}
 use Rattle.setl_reading.specs.code.ReadPrograms as reading
-use Rattle.setl_expressions.specs.Plain.{plain_tokens}
+use Rattle.setl_cursor.specs.Plain.{plain_tokens}
 use Rattle.setl_parse.specs.Places.{fault_of}
 use Rattle.setl_parse.specs.Places as places
 

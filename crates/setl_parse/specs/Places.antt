@@ -7,7 +7,7 @@ use Rattle.setl_token.specs.Text.{Lexed}
 use Rattle.setl_reading.specs.declared.fault.Fault.{Fault}
 use Rattle.setl_reading.specs.declared.fault.Fault.TheVariants as left
 use Rattle.setl_reading.specs.Fronts.{FaultOf}
-use Rattle.setl_expressions.specs.Plain.{plain_tokens}
+use Rattle.setl_cursor.specs.Plain.{plain_tokens}
 use Rattle.setl_parse.specs.declared.fault.ParseFault.{ParseFault}
 use Rattle.setl_parse.specs.declared.fault.ParseFault.TheVariants as at
 

@@ -7,13 +7,13 @@ mod laws;
 ghost use Rattle.std.specs.Prelude.{◌≡◌, ◌≢◌, IfOk, IfErr, MatchResult};
 ghost use Rattle.setl_tree.specs.Programs as grammar;
 ghost use Rattle.setl_tree.specs.Programs.{Derives};
-ghost use Rattle.setl_expressions.specs.Plain.{plain_tokens};
+ghost use Rattle.setl_cursor.specs.Plain.{plain_tokens};
 ghost use Rattle.setl_parse.specs.Places.{IsFaultOf};
 
 pub use fault::ParseFault;
 use fault::fault_at;
 pub use laws::one_fault;
-use setl_expressions::Cursor;
+use setl_cursor::Cursor;
 use setl_reading::{faults_are_exact, reading_meets_grammar, tree_is_unique};
 use setl_statements::program;
 use setl_token::TokenList;

@@ -18,7 +18,7 @@ use Rattle.setl_token.specs.Lex.{Spelled}
 use Rattle.setl_token.specs.Text.{Lexed, token_text}
 use Rattle.setl_token.specs.Spellings.{spellings, spelling, IsSpelled, listed, signs, kind_in}
 use Rattle.setl_show.specs.Text.{quoted}
-use Rattle.setl_expressions.specs.Plain.{kind_of, content_of, value_of, plain_token, plain_tokens}
+use Rattle.setl_cursor.specs.Plain.{kind_of, content_of, value_of, plain_token, plain_tokens}
 use Rattle.setl_spelling.specs.Reading.{Reads, AreRead, IsSpelledAs}
 use Rattle.setl_spelling.proofs.Formed.{AllFormed, all_formed}
 

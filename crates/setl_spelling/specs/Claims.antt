@@ -10,7 +10,7 @@ use Rattle.setl_reading.specs.Fronts.{FaultOf}
 use Rattle.setl_token.specs.Lex.{Spelled}
 use Rattle.setl_token.specs.Text.{Lexed}
 use Rattle.setl_show.specs.Text.{text_of}
-use Rattle.setl_expressions.specs.Plain.{plain_tokens}
+use Rattle.setl_cursor.specs.Plain.{plain_tokens}
 use Rattle.setl_parse.specs.declared.fault.ParseFault.{ParseFault}
 use Rattle.setl_parse.specs.declared.fault.ParseFault.TheVariants as fault
 use Rattle.setl_spelling.specs.Lines.{SameTree, SameTokens}

@@ -2,7 +2,7 @@
 
 ghost use Rattle.setl_spelling.specs.Claims.{TextIsSpelled, SpellingIsDetermined, CanonicalTextIsSpelled, LinesDoNotMatter, CanonicalTextDerives, SourceIsSpelled, ShownTextHasTokens, ShownTextDerives, ShownTextDerivesNoOther, ShownTextIsRead, SameTreesAreShownAlike, ShownTextStays};
 
-use setl_expressions::string_holds_its_body;
+use setl_cursor::string_holds_its_body;
 use setl_reading::{
     canonical_tokens_derive, faults_are_exact, nestings_may_be_fewer, reading_meets_grammar,
     tree_is_unique,

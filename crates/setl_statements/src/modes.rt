@@ -9,7 +9,7 @@ ghost use Rattle.setl_reading.specs.code.ReadModes.{nested_mode};
 ghost use Rattle.setl_statements.specs.code.Nests.{NestsModes};
 
 use crate::statements::ended;
-use setl_expressions::{
+use setl_cursor::{
     Cursor, Repeated, Rule, beside, enclosed, followed, many, optional, same_kind, separated,
     with_optional,
 };

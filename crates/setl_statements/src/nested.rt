@@ -10,10 +10,8 @@ ghost use Rattle.setl_statements.specs.code.Parts as parts;
 use crate::statements::{
     behind_name, ended, print_stmt, read_stmt, return_stmt, simple_stmt, tuple_assign,
 };
-use setl_expressions::{
-    Condition, Cursor, Repeated, Rule, followed, iters, many, nested_expr, same_kind, with_many,
-    with_optional,
-};
+use setl_cursor::{Cursor, Repeated, Rule, followed, many, same_kind, with_many, with_optional};
+use setl_expressions::{Condition, iters, nested_expr};
 use setl_reading::Fault;
 use setl_tree::{Branch, Expr, Items, Iter, Kind, Stmt, StmtKind};
 

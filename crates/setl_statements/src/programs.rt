@@ -5,15 +5,15 @@ ghost use Rattle.setl_tree.specs.Programs as grammar;
 ghost use Rattle.setl_tree.specs.declared.kind.Kind.TheVariants as k;
 ghost use Rattle.setl_reading.specs.code.Reading.{Reads, is, expect};
 ghost use Rattle.setl_reading.specs.code.ReadPrograms as spec;
-ghost use Rattle.setl_expressions.specs.Plain.{next_token};
-ghost use Rattle.setl_expressions.specs.code.Behind.{beside};
+ghost use Rattle.setl_cursor.specs.Plain.{next_token};
+ghost use Rattle.setl_cursor.specs.code.Behind.{beside};
 ghost use Rattle.setl_statements.specs.code.Parts as parts;
 ghost use Rattle.setl_statements.specs.code.Parts.{proc_from, program_from};
 
 use crate::modes::{DeclaredRule, ReprRule};
 use crate::nested::stmts;
 use crate::statements::NameRule;
-use setl_expressions::{
+use setl_cursor::{
     Cursor, ListedRule, Repeated, Rule, beside, enclosed, followed, many, optional, same_kind,
     separated, with_many, with_optional,
 };

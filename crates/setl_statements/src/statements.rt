@@ -8,10 +8,11 @@ ghost use Rattle.setl_reading.specs.code.Reading.{Reads, begins_as};
 ghost use Rattle.setl_reading.specs.code.ReadStatements as spec;
 ghost use Rattle.setl_statements.specs.code.Parts as parts;
 
-use setl_expressions::{
-    Cursor, ListedRule, NestedExpr, Repeated, Rule, SeparatedRule, begins_selector, beside, braces,
-    enclosed, expr, followed, many_onto, one, pattern, same_kind, with_many,
+use setl_cursor::{
+    Cursor, ListedRule, Repeated, Rule, SeparatedRule, begins_selector, beside, enclosed, followed,
+    many_onto, one, pattern, same_kind, with_many,
 };
+use setl_expressions::{NestedExpr, braces, expr};
 use setl_reading::Fault;
 use setl_tree::{BinaryOp, Expr, FromEnd, Items, Kind, Place, Selector, StmtKind, Text};
 

@@ -1,7 +1,7 @@
 -- What accepted sources have by the laws.
 use Rattle.std.proofs.Common.{ℕ, List, subst, sym}
 use Rattle.setl_acceptance.specs.Claims.{IsAccepted, AcceptedIsFormed}
-use Rattle.setl_expressions.specs.Plain.{plain_tokens}
+use Rattle.setl_cursor.specs.Plain.{plain_tokens}
 use Rattle.setl_model.specs.Ending.{EveryRunEnds, NoneIsStuck}
 use Rattle.setl_program.specs.Formed.{Formed}
 use Rattle.setl_program.specs.Program.{Program}

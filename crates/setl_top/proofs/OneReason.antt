@@ -7,7 +7,7 @@ use Rattle.setl_token.specs.declared.Token.{Token}
 use Rattle.setl_tree.specs.Programs as grammar
 use Rattle.setl_tree.specs.declared.tree.Tree.{Tree}
 use Rattle.setl_reading.specs.Claims.{TreeIsUnique}
-use Rattle.setl_expressions.specs.Plain.{plain_tokens}
+use Rattle.setl_cursor.specs.Plain.{plain_tokens}
 use Rattle.setl_parse.specs.Places.{FaultIsUnique, ProgramsHaveNoFault, IsFaultOf}
 use Rattle.setl_parse.specs.declared.fault.ParseFault.{ParseFault}
 use Rattle.setl_parse.specs.declared.fault.ParseFault.TheVariants as fault

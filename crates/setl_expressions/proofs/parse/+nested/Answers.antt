@@ -1,7 +1,6 @@
 use Rattle.std.proofs.Common.{◌≡◌, arith}
 use Rattle.setl_reading.specs.code.ReadExpressions.{nested}
-use Rattle.setl_expressions.proofs.Turns.{deeper}
-use Rattle.setl_expressions.proofs.Deeper.{refuses}
+use Rattle.setl_expressions.proofs.Deeper.{refuses, deeper}
 use Rattle.setl_expressions.proofs.parse.+nested.Goals as goal
 
 pub returns-then-room-eq0 : goal.returns-then-room-eq0

@@ -4,7 +4,7 @@ use Rattle.setl_tree.specs.Tokens.{Tokens}
 use Rattle.setl_reading.specs.declared.fault.Fault.TheVariants.{Nesting}
 use Rattle.setl_reading.specs.code.ReadPrograms as reading
 use Rattle.setl_show.specs.Text.{text_of}
-use Rattle.setl_expressions.specs.Plain.{plain_tokens}
+use Rattle.setl_cursor.specs.Plain.{plain_tokens}
 use Rattle.setl_spelling.specs.Lines.{bare_tree}
 use Rattle.setl_spelling.specs.Reading.{IsSpelledAs}
 use Rattle.setl_spelling.specs.Claims.{ShownTextHasTokens, ShownTextDerives, ShownTextDerivesNoOther, ShownTextIsRead, ShownTextStays}

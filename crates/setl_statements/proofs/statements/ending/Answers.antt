@@ -1,7 +1,7 @@
 use Rattle.std.proofs.Common.{arith, rules}
 use Rattle.std.proofs.lemmas.Grind.{common_steps}
 use Rattle.setl_reading.specs.code.ReadStatements.{ending}
-use Rattle.setl_expressions.specs.Plain.{next_token}
+use Rattle.setl_cursor.specs.Plain.{next_token}
 use Rattle.setl_statements.proofs.statements.ending.Goals as goal
 
 pub returns-clause-ok : goal.returns-clause-ok
