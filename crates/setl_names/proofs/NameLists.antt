@@ -1,11 +1,11 @@
 -- Lists of names and the keys that stand for them.
 use Rattle.std.proofs.Common.{◌≡◌, ℕ, Bool, true, false, cond, List, [], ◌∷◌, ◌++◌, ◌||◌, map, take, length, refl, ap, sym, ◌∙◌, bytes_eq, append_assoc}
-use Rattle.std.proofs.lemmas.List.{append-nil, take-map}
+use Rattle.std.proofs.lemmas.List.{take-map}
 use Rattle.std.proofs.Math.Seq.{take-append_seam}
 use Rattle.std.specs.Global.{Vec}
 use Rattle.std.specs.List.{list_any}
 use Rattle.indexmap.specs.IndexSet.{insert_key}
-use Rattle.setl_names.specs.Names.{Name, BeginsWith, has, with_name, with_names}
+use Rattle.setl_names.specs.Names.{Name, BeginsWith, has, with_name}
 
 abbrev pub items_of : Vec ℕ → List ℕ
 items_of v = v.items

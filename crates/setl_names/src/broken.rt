@@ -3,7 +3,6 @@
 ghost use Rattle.std.specs.Prelude.{◌≡◌, fold};
 ghost use Rattle.setl_names.specs.Breaks as spec;
 
-use setl_tree::{Items, Param, Text};
 use std::alloc::AllocError;
 
 /// A rule that is broken, by its number, and the line of the break.

@@ -3,6 +3,7 @@
 ghost use Rattle.std.specs.Prelude.{◌≡◌, fold, IfOk, OnOk};
 ghost use Rattle.setl_names.specs.Breaks as spec;
 ghost use Rattle.setl_names.specs.Breaks.{earlier};
+ghost use Rattle.setl_names.specs.Names.{has_repeat};
 ghost use Rattle.setl_names.specs.Rules as rules;
 ghost use Rattle.setl_names.specs.code.Stores as found;
 ghost use Rattle.setl_names.specs.code.Stores.{stores_of};
@@ -90,6 +91,21 @@ fn find_stores<'t>(
     Ok(all)
 }
 
+/// The first break so far and of the rules on the arguments for the `wr` and `rw` parameters of a call.
+fn store_break(
+    alloc: Global,
+    first: Option<Break>,
+    line: u32,
+    stores: &Stores<'_>,
+) -> Result<Option<Break>, AllocError>
+    ensures { IfOk result (λ f. f ≡ fold earlier first (found.store_breaks line stores.now)) }
+{
+    let twice = has_repeat(alloc, stores.names.as_slice())?;
+    let first = noted_if(first, line, 11, stores.no_variable);
+    let first = noted_if(first, line, 16, stores.bound_around);
+    Ok(noted_if(first, line, 18, twice))
+}
+
 /// The first break so far and of the rules on a call of a procedure with these parameters.
 fn call_break(
     alloc: Global,
@@ -100,12 +116,9 @@ fn call_break(
 ) -> Result<Option<Break>, AllocError>
     ensures { IfOk result (λ f. f ≡ fold earlier first (found.call_breaks line params.now arguments.now)) }
 {
-    let stores = find_stores(alloc, params, arguments)?;
-    let twice = has_repeat(alloc, stores.names.as_slice())?;
     let first = noted_if(first, line, 10, arguments.len() != params.len());
-    let first = noted_if(first, line, 11, stores.no_variable);
-    let first = noted_if(first, line, 16, stores.bound_around);
-    Ok(noted_if(first, line, 18, twice))
+    let stores = find_stores(alloc, params, arguments)?;
+    store_break(alloc, first, line, &stores)
 }
 
 /// The first break so far and of the rules on a name before a list in round brackets.
@@ -123,6 +136,20 @@ fn applied_break(
         None => Ok(noted_if(first, line, 12, arguments.is_empty())),
         Some(params) => call_break(alloc, first, line, params, arguments),
     }
+}
+
+/// The first break so far and of a rule that names break if one stands twice among them.
+fn repeat_break(
+    alloc: Global,
+    first: Option<Break>,
+    line: u32,
+    rule: u8,
+    names: &[Name<'_>],
+) -> Result<Option<Break>, AllocError>
+    ensures { IfOk result (λ f. f ≡ fold earlier first (spec.broken line rule (has_repeat names.now))) }
+{
+    let is_broken = has_repeat(alloc, names)?;
+    Ok(noted_if(first, line, rule, is_broken))
 }
 
 /// The first break so far and of one thing that stands in a statement.
@@ -148,9 +175,9 @@ fn occurrence_break(
         ),
         What::CallStatement(name) => Ok(noted_if(first, line, 12, !procs.has(name.text().bytes()))),
         What::EmptyList => Ok(noted(first, line, 12)),
-        What::Bound(names) => Ok(noted_if(first, line, 15, has_repeat(alloc, names.as_slice())?)),
+        What::Bound(names) => repeat_break(alloc, first, line, 15, names.as_slice()),
         What::Quantified(_, inside) => Ok(noted_if(first, line, 16, *inside)),
-        What::Target(names) => Ok(noted_if(first, line, 17, has_repeat(alloc, names.as_slice())?)),
+        What::Target(names) => repeat_break(alloc, first, line, 17, names.as_slice()),
         What::Quit(in_loop) => Ok(noted_if(first, line, 13, !*in_loop)),
         What::Return(in_procedure) => Ok(noted_if(first, line, 14, !*in_procedure)),
     }

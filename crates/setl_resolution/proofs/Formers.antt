@@ -1,19 +1,12 @@
 -- Formers, step by step.
-use Rattle.std.proofs.Common.{◌≡◌, ◌<◌, ◌+◌, ◌∙◌, ℕ, suc, true, List, ◌∷◌, ◌++◌, map, drop, take, length, get_or, Option, Some, None, sym, ap, append_assoc, add-one, drop-cons}
-use Rattle.std.specs.Option.{option_map}
-use Rattle.setl_tree.specs.declared.expr.Bound.{Bound}
-use Rattle.setl_tree.specs.declared.expr.Expr.{Expr}
-use Rattle.setl_tree.specs.declared.expr.Expr.TheOpen.{Inner-F}
-use Rattle.setl_tree.specs.declared.expr.Inner.{Inner, fold-roll-Inner}
-use Rattle.setl_tree.specs.declared.expr.Inner.TheVariants as inn
+use Rattle.std.proofs.Common.{◌≡◌, ◌<◌, ◌+◌, ◌∙◌, ℕ, suc, true, List, ◌∷◌, ◌++◌, map, drop, take, length, get_or, Option, sym, ap, append_assoc, add-one, drop-cons}
 use Rattle.setl_tree.specs.declared.expr.Iter.{Iter}
 use Rattle.setl_names.specs.declared.occurrence.Occurrence.{Occurrence}
 use Rattle.setl_resolution.specs.declared.scope.Scope.{Scope}
 use Rattle.setl_resolution.specs.declared.scope.Mark.{Mark}
 use Rattle.setl_resolution.specs.declared.walk.Walk.{Walk}
 use Rattle.setl_names.specs.Names.{Name, with_names}
-use Rattle.setl_names.specs.Occurrences.{Part, Standing, Turn, Behind, expr_step, inner_step, iter_step, selector_step, inner_standing, names_of_bound, turn, part, names_of_turns, own_turns, optional_part, bound, bound_names, former, filter}
-use Rattle.setl_names.specs.Places.{Place}
+use Rattle.setl_names.specs.Occurrences.{Part, Turn, turn, names_of_turns, own_turns, optional_part, bound, bound_names, former, filter}
 use Rattle.setl_resolution.specs.Scopes.{mark_of, back_to}
 use Rattle.setl_resolution.specs.Walks.{here, after, with_own, inside_former, with_filter}
 use Rattle.setl_resolution.proofs.NameLists.{taken_back, with_names_append}
@@ -100,12 +93,3 @@ turn_walked line turns i x w w1 w2 whole h is inv e1 e2 =
     ∙ one_turn line (turn x) (map turn (drop (i + 1) turns)) w
     ∙ ap (λ (z : List Iter). turned line (map turn z) w) (sym (split turns i x h is))
     ∙ inv
-
--- ---- what stands inside braces or brackets
-
-pub is_former : (x : Inner) (v : Expr) (is : List Iter) (c : Option Expr) (p : Place) → x ≡ inn.Former v is c → inner_standing x p ≡ former (part v) (map turn is) (option_map part c) p
-is_former x v is None p h = ap (λ (z : Inner). inner_standing z p) h ∙ ap (λ (s : Standing). s p) (ap inner_standing (sym (inn.rolls-Former v is None)) ∙ fold-roll-Inner Part Standing Turn Behind expr_step inner_step iter_step selector_step (Inner-F.Former v is None))
-is_former x v is (Some c) p h = ap (λ (z : Inner). inner_standing z p) h ∙ ap (λ (s : Standing). s p) (ap inner_standing (sym (inn.rolls-Former v is (Some c))) ∙ fold-roll-Inner Part Standing Turn Behind expr_step inner_step iter_step selector_step (Inner-F.Former v is (Some c)))
-
-pub is_filter : (x : Inner) (b : Bound) (s c : Expr) (p : Place) → x ≡ inn.Filter b s c → inner_standing x p ≡ filter (names_of_bound b) (part s) (part c) p
-is_filter x b s c p h = ap (λ (z : Inner). inner_standing z p) h ∙ ap (λ (z : Standing). z p) (ap inner_standing (sym (inn.rolls-Filter b s c)) ∙ fold-roll-Inner Part Standing Turn Behind expr_step inner_step iter_step selector_step (Inner-F.Filter b s c))

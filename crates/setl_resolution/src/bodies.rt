@@ -106,23 +106,8 @@ fn add_slots(
     Ok(())
 }
 
-/// Adds the body's own names in the order of their first appearance.
-fn add_own_names(
-    alloc: Global,
-    procs: &Procs<'_>,
-    vars: &Names,
-    params: &Names,
-    occurrences: &[Occurrence<'_>],
-    all: &mut Items<Text>,
-) -> Result<(), AllocError>
-    requires { all.now ≡ [] }
-    ensures { OnOk result (all.new ≡ spec.slots_among procs.now params.now vars.now occurrences.now) }
-{
-    let mut seen = Names::new(alloc);
-    add_slots(alloc, procs, vars, params, occurrences, &mut seen, all)
-}
-
-/// Adds the names of the own variables of a body with these parameters. An error is want of memory.
+/// Adds the own names of a body with these parameters in the order of their first appearance. An error is want of
+/// memory.
 fn add_body_slots(
     alloc: Global,
     procs: &Procs<'_>,
@@ -135,7 +120,8 @@ fn add_body_slots(
     ensures { OnOk result (all.new ≡ spec.slots_among procs.now (in_order (param_names params.now)) vars.now occurrences.now) }
 {
     let names = names_of_params(alloc, params)?;
-    add_own_names(alloc, procs, vars, &names, occurrences, all)
+    let mut seen = Names::new(alloc);
+    add_slots(alloc, procs, vars, &names, occurrences, &mut seen, all)
 }
 
 /// The names of a body without its slots. An error is want of memory.

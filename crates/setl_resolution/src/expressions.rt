@@ -2,7 +2,7 @@
 
 ghost use Rattle.std.specs.Prelude.{◌≡◌, ◌++◌, map, option_map, OnOk, OnErr, IfOk, IfSome};
 ghost use Rattle.setl_names.specs.Occurrences as spec;
-ghost use Rattle.setl_names.specs.Occurrences.{part, turn, behind, standing_in, inner_standing, names_of_turns};
+ghost use Rattle.setl_names.specs.Occurrences.{part, turn, behind, standing_in, inner_standing, names_of_turns, names_of_bound};
 ghost use Rattle.setl_resolution.specs.Scopes.{place};
 ghost use Rattle.setl_resolution.specs.Walks.{here, after, with_own};
 
@@ -13,7 +13,7 @@ use crate::bound::{
 use crate::scope::Scope;
 use crate::walk::Walk;
 use setl_names::{Argument, Name, What};
-use setl_tree::{BinaryOp, Boxed, Expr, Inner, Items, Iter, Selector, Text};
+use setl_tree::{BinaryOp, Bound, Boxed, Expr, Inner, Items, Iter, Selector, Text};
 use std::alloc::{AllocError, Global};
 
 /// The name that an expression is, if it is a name alone.
@@ -102,34 +102,91 @@ pub fn expr<'t>(x: &'t Expr, line: u32, walk: &mut Walk<'t>) -> Result<(), Alloc
         Expr::Eof => Ok(()),
         Expr::Ok => Ok(()),
         Expr::Name(name) => named(name, line, walk),
-        Expr::If(a, b, c) => {
-            expr(a.get(), line, walk)?;
-            expr(b.get(), line, walk)?;
-            expr(c.get(), line, walk)
-        }
+        Expr::If(a, b, c) => choice(a.get(), b.get(), c.get(), line, walk),
         Expr::Set(x) => inner(x, line, walk),
         Expr::Tuple(x) => inner(x, line, walk),
-        Expr::Chain(first, others) => {
-            expr(first.get(), line, walk)?;
-            operands(others.as_slice(), line, walk)
-        }
-        Expr::Compare(a, _, b) => {
-            expr(a.get(), line, walk)?;
-            expr(b.get(), line, walk)
-        }
+        Expr::Chain(first, others) => chain(others.as_slice(), first.get(), line, walk),
+        Expr::Compare(a, _, b) => comparison(a.get(), b.get(), line, walk),
         Expr::Prefixed(_, x) => expr(x.get(), line, walk),
-        Expr::Selected(x, ss) => match name_of(x.get()) {
-            None => {
-                expr(x.get(), line, walk)?;
-                selectors(ss.as_slice(), line, walk)
-            }
-            Some(name) => name_selected(ss.as_slice(), name.text(), line, walk),
-        },
-        Expr::Quantified(_, turns, x) => {
-            quantified_turns(turns.as_slice(), line, walk)?;
-            expr(x.get(), line, walk)
-        }
+        Expr::Selected(x, ss) => selection(ss.as_slice(), x.get(), line, walk),
+        Expr::Quantified(_, turns, x) => quantified(turns.as_slice(), x.get(), line, walk),
     }
+}
+
+/// What stands in an `if` expression.
+#[cycle(standing)]
+fn choice<'t>(
+    a: &'t Expr,
+    b: &'t Expr,
+    c: &'t Expr,
+    line: u32,
+    walk: &mut Walk<'t>,
+) -> Result<(), AllocError>
+    ensures { OnOk result (walk.new ≡ after (standing_in a.now (here line walk.old) ++ (standing_in b.now (here line walk.old) ++ standing_in c.now (here line walk.old))) walk.old) }
+{
+    expr(a, line, walk)?;
+    comparison(b, c, line, walk)
+}
+
+/// What stands in two expressions.
+#[cycle(standing)]
+fn comparison<'t>(
+    a: &'t Expr,
+    b: &'t Expr,
+    line: u32,
+    walk: &mut Walk<'t>,
+) -> Result<(), AllocError>
+    ensures { OnOk result (walk.new ≡ after (standing_in a.now (here line walk.old) ++ standing_in b.now (here line walk.old)) walk.old) }
+{
+    expr(a, line, walk)?;
+    expr(b, line, walk)
+}
+
+/// What stands in a chain of operators.
+#[cycle(standing)]
+fn chain<'t>(
+    others: &'t [(BinaryOp, Expr)],
+    first: &'t Expr,
+    line: u32,
+    walk: &mut Walk<'t>,
+) -> Result<(), AllocError>
+    ensures { OnOk result (walk.new ≡ after (standing_in first.now (here line walk.old) ++ spec.operands (map (λ x. (x.0, part x.1)) others.now) (here line walk.old)) walk.old) }
+{
+    expr(first, line, walk)?;
+    operands(others, line, walk)
+}
+
+/// What stands in a selection.
+#[cycle(standing)]
+fn selection<'t>(
+    ss: &'t [Selector],
+    x: &'t Expr,
+    line: u32,
+    walk: &mut Walk<'t>,
+) -> Result<(), AllocError>
+    ensures { OnOk result (walk.new ≡ after (spec.selected (part x.now) (map behind ss.now) (here line walk.old)) walk.old) }
+{
+    match name_of(x) {
+        None => {
+            expr(x, line, walk)?;
+            selectors(ss, line, walk)
+        }
+        Some(name) => name_selected(ss, name.text(), line, walk),
+    }
+}
+
+/// What stands in a quantified expression.
+#[cycle(standing)]
+fn quantified<'t>(
+    turns: &'t [Iter],
+    x: &'t Expr,
+    line: u32,
+    walk: &mut Walk<'t>,
+) -> Result<(), AllocError>
+    ensures { OnOk result (walk.new ≡ after (spec.quantified_turns (map turn turns.now) (here line walk.old) ++ standing_in x.now (here line walk.old)) walk.old) }
+{
+    quantified_turns(turns, line, walk)?;
+    expr(x, line, walk)
 }
 
 /// What stands in expressions.
@@ -284,31 +341,71 @@ fn inner<'t>(x: &'t Inner, line: u32, walk: &mut Walk<'t>) -> Result<(), AllocEr
 {
     match x {
         Inner::List(xs) => exprs(xs.as_slice(), line, walk),
-        Inner::Range(a, b, c) => {
-            expr(a.get(), line, walk)?;
-            optional(b, line, walk)?;
-            expr(c.get(), line, walk)
-        }
+        Inner::Range(a, b, c) => range(a.get(), b, c.get(), line, walk),
         Inner::Former(value, turns, condition) => {
-            let mark = enter_former(turns.as_slice(), walk)?;
-            expr(value.get(), line, walk)?;
-            walk.scope.own.truncate(mark.own);
-            own_turns(turns.as_slice(), line, walk)?;
-            optional(condition, line, walk)?;
-            walk.scope.leave(mark);
-            bind_turns(turns.as_slice(), line, walk)?;
-            Ok(())
+            former(value.get(), turns.as_slice(), condition, line, walk)
         }
         Inner::Filter(names, source, condition) => {
-            let mark = enter_filter(names, line, walk)?;
-            expr(source.get(), line, walk)?;
-            put_bound(names, walk)?;
-            expr(condition.get(), line, walk)?;
-            walk.scope.leave(mark);
-            bind_bound(names, line, walk)?;
-            Ok(())
+            filter(source.get(), names, condition.get(), line, walk)
         }
     }
+}
+
+/// What stands in a range.
+#[cycle(standing)]
+fn range<'t>(
+    a: &'t Expr,
+    b: &'t Option<Boxed<Expr>>,
+    c: &'t Expr,
+    line: u32,
+    walk: &mut Walk<'t>,
+) -> Result<(), AllocError>
+    ensures { OnOk result (walk.new ≡ after (standing_in a.now (here line walk.old) ++ (spec.optional_part (option_map part b.now) (here line walk.old) ++ standing_in c.now (here line walk.old))) walk.old) }
+{
+    expr(a, line, walk)?;
+    optional(b, line, walk)?;
+    expr(c, line, walk)
+}
+
+/// What stands in a former.
+#[cycle(standing)]
+fn former<'t>(
+    value: &'t Expr,
+    turns: &'t [Iter],
+    condition: &'t Option<Boxed<Expr>>,
+    line: u32,
+    walk: &mut Walk<'t>,
+) -> Result<(), AllocError>
+    ensures { OnOk result (walk.new ≡ after (spec.former (part value.now) (map turn turns.now) (option_map part condition.now) (here line walk.old)) walk.old) }
+{
+    let mark = enter_former(turns, walk)?;
+    expr(value, line, walk)?;
+    walk.scope.own.truncate(mark.own);
+    own_turns(turns, line, walk)?;
+    optional(condition, line, walk)?;
+    walk.scope.leave(mark);
+    bind_turns(turns, line, walk)?;
+    Ok(())
+}
+
+/// What stands in a former that collects what it binds.
+#[cycle(standing)]
+fn filter<'t>(
+    source: &'t Expr,
+    names: &'t Bound,
+    condition: &'t Expr,
+    line: u32,
+    walk: &mut Walk<'t>,
+) -> Result<(), AllocError>
+    ensures { OnOk result (walk.new ≡ after (spec.filter (names_of_bound names.now) (part source.now) (part condition.now) (here line walk.old)) walk.old) }
+{
+    let mark = enter_filter(names, line, walk)?;
+    expr(source, line, walk)?;
+    put_bound(names, walk)?;
+    expr(condition, line, walk)?;
+    walk.scope.leave(mark);
+    bind_bound(names, line, walk)?;
+    Ok(())
 }
 
 /// What stands in selectors.

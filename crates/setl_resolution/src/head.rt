@@ -6,69 +6,71 @@ ghost use Rattle.setl_names.specs.Breaks.{earlier, tagged};
 ghost use Rattle.setl_names.specs.Heads as heads;
 
 use setl_names::{Break, Entry, Name, Names, Procs, noted, noted_if};
-use setl_tree::{Declared, Items, Param, Proc, Text, Tree};
+use setl_tree::{Declared, Param, Proc, Text, Tree};
 use std::alloc::{AllocError, Global};
 
-/// Procedures as entries.
-fn proc_entries<'t>(alloc: Global, procs: &'t [Proc]) -> Result<Items<Entry<'t>>, AllocError>
-    ensures { IfOk result (λ es. es ≡ map heads.proc_entry procs.now) }
-{
-    let mut entries = Items::new(alloc);
-    for proc in procs {
-        entries.push(Entry {
-            line: proc.line,
-            name: Name::new(&proc.name),
-        })?;
-    }
-    Ok(entries)
+/// What declares a name.
+trait Declares {
+    ghost use Rattle.setl_names.specs.declared.head.Entry.{Entry};
+
+    ghost entry_of: { Self → Entry };
+
+    /// The name with the line at which a break is told.
+    fn entry(&self) -> Entry<'_>
+        ensures { result ≡ entry_of self.now };
 }
 
-/// Parameters as entries.
-fn param_entries<'t>(alloc: Global, params: &'t [Param]) -> Result<Items<Entry<'t>>, AllocError>
-    ensures { IfOk result (λ es. es ≡ map heads.param_entry params.now) }
-{
-    let mut entries = Items::new(alloc);
-    for param in params {
-        entries.push(Entry {
-            line: param.line,
-            name: Name::new(&param.name),
-        })?;
-    }
-    Ok(entries)
-}
+impl Declares for Proc {
+    ghost use Rattle.setl_names.specs.Heads.{proc_entry};
 
-/// A declared name as an entry.
-fn declared_entry(item: &Declared) -> Entry<'_>
-    ensures { result ≡ heads.declared_entry item.now }
-{
-    Entry {
-        line: item.line,
-        name: Name::new(&item.name),
+    ghost entry_of = { proc_entry };
+
+    fn entry(&self) -> Entry<'_> {
+        Entry {
+            line: self.line,
+            name: Name::new(&self.name),
+        }
     }
 }
 
-/// Declared names as entries.
-fn declared_entries<'t>(alloc: Global, vars: &'t [Declared]) -> Result<Items<Entry<'t>>, AllocError>
-    ensures { IfOk result (λ es. es ≡ map heads.declared_entry vars.now) }
-{
-    let mut entries = Items::new(alloc);
-    for item in vars {
-        entries.push(declared_entry(item))?;
+impl Declares for Param {
+    ghost use Rattle.setl_names.specs.Heads.{param_entry};
+
+    ghost entry_of = { param_entry };
+
+    fn entry(&self) -> Entry<'_> {
+        Entry {
+            line: self.line,
+            name: Name::new(&self.name),
+        }
     }
-    Ok(entries)
 }
 
-/// The first break so far and of a rule that an entry whose name is a procedure's breaks.
-fn of_procedures(
+impl Declares for Declared {
+    ghost use Rattle.setl_names.specs.Heads.{declared_entry};
+
+    ghost entry_of = { declared_entry };
+
+    fn entry(&self) -> Entry<'_> {
+        Entry {
+            line: self.line,
+            name: Name::new(&self.name),
+        }
+    }
+}
+
+/// The first break so far and of a rule that what declares a procedure's name breaks.
+fn of_procedures<T: Declares>(
     first: Option<Break>,
     rule: u8,
     procs: &Procs<'_>,
-    entries: &[Entry<'_>],
+    items: &[T],
 ) -> Option<Break>
-    ensures { result ≡ fold earlier first (tagged rule (heads.lines_of_procedures procs.now entries.now)) }
+    ensures { result ≡ fold earlier first (tagged rule (heads.lines_of_procedures procs.now (map T.entry_of items.now))) }
 {
     let mut first = first;
-    for entry in entries {
+    for item in items {
+        let entry = item.entry();
         if procs.has(entry.name.text().bytes()) {
             first = noted(first, entry.line, rule);
         }
@@ -76,18 +78,19 @@ fn of_procedures(
     first
 }
 
-/// The first break so far and of a rule that an entry whose name stands earlier breaks.
-fn again(
+/// The first break so far and of a rule that what declares a name that was declared before breaks.
+fn again<T: Declares>(
     alloc: Global,
     first: Option<Break>,
     rule: u8,
-    entries: &[Entry<'_>],
+    items: &[T],
 ) -> Result<Option<Break>, AllocError>
-    ensures { IfOk result (λ f. f ≡ fold earlier first (tagged rule (heads.lines_again [] entries.now))) }
+    ensures { IfOk result (λ f. f ≡ fold earlier first (tagged rule (heads.lines_again [] (map T.entry_of items.now)))) }
 {
     let mut first = first;
     let mut seen = Names::new(alloc);
-    for entry in entries {
+    for item in items {
+        let entry = item.entry();
         if !seen.put(entry.name.text().bytes())? {
             first = noted(first, entry.line, rule);
         }
@@ -140,9 +143,8 @@ fn param_break(
 ) -> Result<Option<Break>, AllocError>
     ensures { IfOk result (λ f. f ≡ fold earlier first (spec.list_breaks procs.now params.now)) }
 {
-    let entries = param_entries(alloc, params)?;
-    let first = again(alloc, first, 7, entries.as_slice())?;
-    Ok(of_procedures(first, 8, procs, entries.as_slice()))
+    let first = again(alloc, first, 7, params)?;
+    Ok(of_procedures(first, 8, procs, params))
 }
 
 /// The first break so far and of the rules on parameter lists.
@@ -171,8 +173,7 @@ fn proc_breaks(
     ensures { IfOk result (λ f. f ≡ fold earlier first (spec.proc_breaks name.now procs.now)) }
 {
     let first = ends(first, procs);
-    let entries = proc_entries(alloc, procs)?;
-    let first = again(alloc, first, 3, entries.as_slice())?;
+    let first = again(alloc, first, 3, procs)?;
     Ok(program_names(first, name, procs))
 }
 
@@ -185,9 +186,8 @@ fn var_breaks(
 ) -> Result<Option<Break>, AllocError>
     ensures { IfOk result (λ f. f ≡ fold earlier first (spec.var_breaks table.now names.now)) }
 {
-    let entries = declared_entries(alloc, names)?;
-    let first = again(alloc, first, 5, entries.as_slice())?;
-    Ok(of_procedures(first, 6, table, entries.as_slice()))
+    let first = again(alloc, first, 5, names)?;
+    Ok(of_procedures(first, 6, table, names))
 }
 
 /// The first break of the rules 1 to 8.

@@ -1,6 +1,6 @@
 //! What the formers around a place bind.
 
-ghost use Rattle.std.specs.Prelude.{◌≡◌, length, take, OnOk, OnErr, IfOk};
+ghost use Rattle.std.specs.Prelude.{◌≡◌, OnOk, OnErr, IfOk};
 ghost use Rattle.setl_names.specs.Names.{with_names};
 ghost use Rattle.setl_resolution.specs.Scopes.{no_scope, mark_of, back_to};
 

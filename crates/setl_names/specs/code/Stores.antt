@@ -1,5 +1,5 @@
 -- What the code finds out of the arguments for `wr` and `rw` parameters, and the breaks of a call.
-use Rattle.std.specs.Prelude.{ℕ, Bool, true, false, ◌||◌, List, [], ◌∷◌, ◌++◌, Option, Some, None, if◌then◌else◌}
+use Rattle.std.specs.Prelude.{ℕ, true, false, ◌||◌, List, [], ◌∷◌, ◌++◌, Option, Some, None, if◌then◌else◌}
 use Rattle.std.specs.List.{list_any}
 use Rattle.setl_tree.specs.declared.tree.Param.{Param}
 use Rattle.setl_tree.specs.declared.tree.Proc.{Proc}
@@ -8,7 +8,7 @@ use Rattle.setl_names.specs.declared.occurrence.Argument.{Argument}
 use Rattle.setl_names.specs.declared.occurrence.Argument.TheVariants as arg
 use Rattle.setl_names.specs.declared.rules.Stores.{Stores}
 use Rattle.setl_names.specs.Breaks.{broken}
-use Rattle.setl_names.specs.Names.{Name}
+use Rattle.setl_names.specs.Names.{Name, has_repeat}
 use Rattle.setl_names.specs.Procedures.{params_of}
 use Rattle.setl_names.specs.Rules.{is_stored, is_no_variable, is_bound_around, argument_names, is_empty, has_other_count, stores_no_variable, stores_bound_around, stores_twice}
 
@@ -29,6 +29,10 @@ stores_from s xs = record { no_variable = s.no_variable || list_any is_no_variab
 
 abbrev pub stores_of : List Argument → Stores
 stores_of xs = stores_from no_stores xs
+
+-- the breaks of what was found out of them
+abbrev pub store_breaks : ℕ → Stores → List Break
+store_breaks line s = broken line 11 s.no_variable ++ (broken line 16 s.bound_around ++ broken line 18 (has_repeat s.names))
 
 -- the breaks of a call of a procedure with these parameters
 abbrev pub call_breaks : ℕ → List Param → List Argument → List Break

@@ -1,6 +1,6 @@
 use Rattle.std.proofs.Common.{◌≡◌, drop, fold}
 use Rattle.setl_names.specs.Breaks as spec
-use Rattle.setl_names.specs.Breaks.{earlier, tagged}
+use Rattle.setl_names.specs.Breaks.{earlier}
 use Rattle.setl_names.proofs.rules.body_break.Given as goal
 
 abbrev pub invariant-loop-occurrence : goal.invariant-loop-occurrence

@@ -1,6 +1,6 @@
 use Rattle.std.proofs.Common.{◌≡◌, drop, fold}
 use Rattle.setl_names.specs.Breaks as spec
-use Rattle.setl_names.specs.Breaks.{earlier, tagged}
+use Rattle.setl_names.specs.Breaks.{earlier}
 use Rattle.setl_resolution.proofs.head.param_breaks.Given as goal
 
 abbrev pub invariant-loop-proc : goal.invariant-loop-proc
