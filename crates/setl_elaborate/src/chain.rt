@@ -2,7 +2,7 @@
 
 ghost use Rattle.std.specs.Prelude.{◌≡◌, option_map, IfOk, OnOk};
 ghost use Rattle.setl_program.specs.Expressions as spec;
-ghost use Rattle.setl_program.specs.Operators.{one, two, binary};
+ghost use Rattle.setl_program.specs.Operators.{binary};
 ghost use Rattle.setl_program.specs.code.Plain.{plain_expr, plain_link};
 ghost use Rattle.setl_elaborate.specs.Chains.{plain_chain};
 
@@ -32,25 +32,11 @@ impl Chain {
 
     /// Puts a link at the end. An error is want of memory.
     #[tactic(auto, using(crate::proofs::Links::one_more))]
-    fn push(&mut self, link: Link) -> Result<(), AllocError>
+    pub fn push(&mut self, link: Link) -> Result<(), AllocError>
         ensures { OnOk result (plain_chain self.new ≡ plain_link link (plain_chain self.old)) }
     {
         self.links.push(link)?;
         Ok(())
-    }
-
-    /// An operator over what stands here. An error is want of memory.
-    pub fn one(&mut self, operator: Operator) -> Result<(), AllocError>
-        ensures { OnOk result (plain_chain self.new ≡ one operator (plain_chain self.old)) }
-    {
-        self.push(Link::Unary(operator))
-    }
-
-    /// An operator over what stands here and a second operand. An error is want of memory.
-    pub fn two(&mut self, operator: Operator, right: Boxed<Expr>) -> Result<(), AllocError>
-        ensures { OnOk result (plain_chain self.new ≡ two operator (plain_chain self.old) (plain_expr right)) }
-    {
-        self.push(Link::Binary(operator, right.into_inner()))
     }
 
     /// A binary operator over what stands here and its right operand. An error is want of memory.
@@ -58,7 +44,7 @@ impl Chain {
         ensures { OnOk result (plain_chain self.new ≡ binary op (plain_chain self.old) (plain_expr right)) }
     {
         match operators::connective(op) {
-            None => self.two(operators::updating(op), right),
+            None => self.push(Link::Binary(operators::updating(op), right.into_inner())),
             Some(connective) => self.push(Link::Connect(connective, right)),
         }
     }
@@ -68,7 +54,7 @@ impl Chain {
         ensures { OnOk result (plain_chain self.new ≡ spec.with_bound (plain_chain self.old) (plain_expr first) (option_map plain_expr last)) }
     {
         match last {
-            None => self.two(Operator::Tail, first),
+            None => self.push(Link::Binary(Operator::Tail, first.into_inner())),
             Some(last) => self.push(Link::Ternary(Operator::Slice, first, last)),
         }
     }

@@ -1,15 +1,14 @@
 //! Where elaboration stands.
 
-ghost use Rattle.std.specs.Prelude.{◌≡◌, ℕ, List, suc, map, OnOk, IfOk};
-ghost use Rattle.setl_names.specs.Names.{Name, in_order};
-ghost use Rattle.setl_program.specs.Expressions.{turn_of, names_of_turns};
-ghost use Rattle.setl_program.specs.Numbered.{opened};
+ghost use Rattle.std.specs.Prelude.{◌≡◌, ℕ, List, IfOk, OnOk};
+ghost use Rattle.setl_names.specs.Names.{Name};
+ghost use Rattle.setl_program.specs.ProgramOf.{main_scope};
 ghost use Rattle.setl_elaborate.specs.declared.elaborator.Elaborator.{Elaborator as Walk};
-ghost use Rattle.setl_elaborate.specs.Elaborators.{past, inside};
+ghost use Rattle.setl_elaborate.specs.Elaborators.{inside};
 
 use setl_names::Names;
 use setl_scope::{Opened, Scope};
-use setl_tree::Iter;
+use setl_tree::Tree;
 use std::alloc::{AllocError, Global};
 
 /// The place where elaboration stands, and how many formers of its body are opened before it.
@@ -20,23 +19,17 @@ pub struct Elaborator<'t> {
     pub opened: Opened,
 }
 
-impl Elaborator<'_> {
-    /// The number of the former that is opened. An error is want of memory: there are 2^32 - 1 formers already.
-    pub fn open(&mut self) -> Result<u32, AllocError>
-        ensures number { IfOk result (λ m. m ≡ suc self.old.opened) }
-        ensures counted { OnOk result (self.new ≡ past (λ s. opened) self.old) }
+impl<'t> Elaborator<'t> {
+    /// Where the main body of a program begins. An error is want of memory.
+    pub fn main(alloc: Global, tree: &'t Tree) -> Result<Elaborator<'t>, AllocError>
+        ensures { IfOk result (λ w. w.scope ≡ main_scope tree.now) }
     {
-        self.opened.open()
-    }
-
-    /// The number of the former with these iterators, which is opened, and the names that they bind. An error is want of
-    /// memory: there may be 2^32 - 1 formers already.
-    pub fn open_over(&mut self, turns: &[Iter]) -> Result<(u32, Names), AllocError>
-        ensures number { IfOk result (λ r. r.0 ≡ suc self.old.opened) }
-        ensures names { IfOk result (λ r. r.1 ≡ in_order (names_of_turns (map turn_of turns.now))) }
-        ensures counted { OnOk result (self.new ≡ past (λ s. opened) self.old) }
-    {
-        self.opened.open_over(self.alloc, turns)
+        let scope = Scope::main(alloc, tree)?;
+        Ok(Elaborator {
+            alloc,
+            scope,
+            opened: Opened::none(),
+        })
     }
 
     /// Enters a former that binds these names. An error is want of memory.

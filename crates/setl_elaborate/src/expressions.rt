@@ -8,6 +8,7 @@ ghost use Rattle.setl_elaborate.specs.Elaborators.{made, past, plain_range};
 
 use crate::chain::Chain;
 use crate::elaborator::Elaborator;
+use crate::makers::beside;
 use crate::{makers, operators, ranges};
 use setl_program::{Collection, Expr, Source};
 use setl_tree::{
@@ -49,14 +50,14 @@ impl Elaborator<'_> {
         ensures state { OnOk result (self.new ≡ past (term_of x.now) self.old) }
     {
         match x {
-            TreeExpr::Number(n) => makers::integer(self.alloc, *n),
+            TreeExpr::Number(n) => Boxed::new(self.alloc, Expr::Integer(*n)),
             TreeExpr::Text(text) => makers::string(self.alloc, text),
-            TreeExpr::Om => makers::undefined(self.alloc),
-            TreeExpr::True => makers::truth(self.alloc, true),
-            TreeExpr::False => makers::truth(self.alloc, false),
-            TreeExpr::Newat => makers::newat(self.alloc),
-            TreeExpr::Eof => makers::eof(self.alloc),
-            TreeExpr::Ok => makers::ok(self.alloc),
+            TreeExpr::Om => Boxed::new(self.alloc, Expr::Undefined),
+            TreeExpr::True => Boxed::new(self.alloc, Expr::Truth(true)),
+            TreeExpr::False => Boxed::new(self.alloc, Expr::Truth(false)),
+            TreeExpr::Newat => Boxed::new(self.alloc, Expr::Newat),
+            TreeExpr::Eof => Boxed::new(self.alloc, Expr::Eof),
+            TreeExpr::Ok => Boxed::new(self.alloc, Expr::Ok),
             TreeExpr::Name(name) => self.name(name),
             TreeExpr::If(a, b, c) => self.choice(a.get(), b.get(), c.get()),
             TreeExpr::Set(inner) => self.inner(inner, Collection::OfSet),
@@ -85,7 +86,7 @@ impl Elaborator<'_> {
         let condition = self.expr(a)?;
         let value = self.expr(b)?;
         let other = self.expr(c)?;
-        makers::choose(self.alloc, condition, value, other)
+        Boxed::new(self.alloc, Expr::Choose(condition, value, other))
     }
 
     /// What a chain of operators becomes. An error is want of memory.
@@ -99,7 +100,12 @@ impl Elaborator<'_> {
         ensures state { OnOk result (self.new ≡ past (spec.chain (part_of first.now) (map (λ x. (x.0, part_of x.1)) others.now)) self.old) }
     {
         let left = self.expr(first)?;
-        self.chain_on(others, left)
+        let mut all = Chain::new(self.alloc, left);
+        for (op, x) in others {
+            let right = self.expr(x)?;
+            all.binary(*op, right)?;
+        }
+        all.finish(self.alloc)
     }
 
     /// What a comparison becomes. An error is want of memory.
@@ -135,23 +141,12 @@ impl Elaborator<'_> {
         ensures state { OnOk result (self.new ≡ past (spec.selection (part_of x.now) (map behind_of selectors.now)) self.old) }
     {
         match name_of(x) {
-            None => self.value_selection(selectors, x),
+            None => {
+                let value = self.expr(x)?;
+                self.selected(selectors, Chain::new(self.alloc, value))
+            }
             Some(name) => self.name_selection(selectors, name),
         }
-    }
-
-    /// What an expression with selectors becomes that isn't a name alone. An error is want of memory.
-    #[cycle(expressions)]
-    fn value_selection(
-        &mut self,
-        selectors: &[Selector],
-        x: &TreeExpr,
-    ) -> Result<Boxed<Expr>, AllocError>
-        ensures value { IfOk result (λ e. plain_expr e ≡ made (spec.selected_part (part_of x.now) (map behind_of selectors.now)) self.old) }
-        ensures state { OnOk result (self.new ≡ past (spec.selected_part (part_of x.now) (map behind_of selectors.now)) self.old) }
-    {
-        let value = self.expr(x)?;
-        self.selected(selectors, Chain::new(self.alloc, value))
     }
 
     /// What a quantifier becomes. An error is want of memory.
@@ -167,12 +162,8 @@ impl Elaborator<'_> {
     {
         let iterators = self.iterators(turns)?;
         let condition = self.expr(x)?;
-        makers::quantified(
-            self.alloc,
-            operators::quantifier(word),
-            iterators,
-            condition,
-        )
+        let word = operators::quantifier(word);
+        Boxed::new(self.alloc, Expr::Quantified(word, iterators, condition))
     }
 
     /// What expressions become. An error is want of memory.
@@ -204,24 +195,6 @@ impl Elaborator<'_> {
         }
     }
 
-    /// What operators with their right operands become behind an expression. An error is want of memory.
-    #[cycle(expressions)]
-    fn chain_on(
-        &mut self,
-        others: &[(BinaryOp, TreeExpr)],
-        left: Boxed<Expr>,
-    ) -> Result<Boxed<Expr>, AllocError>
-        ensures value { IfOk result (λ e. plain_expr e ≡ made (spec.chain_on (plain_expr left) (map (λ x. (x.0, part_of x.1)) others.now)) self.old) }
-        ensures state { OnOk result (self.new ≡ past (spec.chain_on (plain_expr left) (map (λ x. (x.0, part_of x.1)) others.now)) self.old) }
-    {
-        let mut all = Chain::new(self.alloc, left);
-        for (op, x) in others {
-            let right = self.expr(x)?;
-            all.binary(*op, right)?;
-        }
-        all.finish(self.alloc)
-    }
-
     /// What the inside of braces or brackets becomes. An error is want of memory.
     #[cycle(expressions)]
     fn inner(&mut self, x: &Inner, collection: Collection) -> Result<Boxed<Expr>, AllocError>
@@ -229,7 +202,11 @@ impl Elaborator<'_> {
         ensures state { OnOk result (self.new ≡ past ((inner_of x.now).term collection) self.old) }
     {
         match x {
-            Inner::List(xs) => self.enumerated(xs.as_slice(), collection),
+            Inner::List(xs) => {
+                let all = self.exprs(xs.as_slice())?;
+                let operator = operators::enumeration(collection);
+                Boxed::new(self.alloc, Expr::Apply(operator, all))
+            }
             Inner::Range(a, b, c) => self.range(a.get(), b, c.get(), collection),
             Inner::Former(value, turns, condition) => {
                 self.former(value.get(), turns.as_slice(), condition, collection)
@@ -238,20 +215,6 @@ impl Elaborator<'_> {
                 self.filter(names, source.get(), condition.get(), collection)
             }
         }
-    }
-
-    /// What listed members become. An error is want of memory.
-    #[cycle(expressions)]
-    fn enumerated(
-        &mut self,
-        xs: &[TreeExpr],
-        collection: Collection,
-    ) -> Result<Boxed<Expr>, AllocError>
-        ensures value { IfOk result (λ e. plain_expr e ≡ made (spec.enumerated (map part_of xs.now) collection) self.old) }
-        ensures state { OnOk result (self.new ≡ past (spec.enumerated (map part_of xs.now) collection) self.old) }
-    {
-        let all = self.exprs(xs)?;
-        makers::apply(self.alloc, operators::enumeration(collection), all)
     }
 
     /// What a range becomes. An error is want of memory.
@@ -267,8 +230,8 @@ impl Elaborator<'_> {
         ensures state { OnOk result (self.new ≡ past (spec.range (part_of a.now) (option_map part_of b.now) (part_of c.now) collection) self.old) }
     {
         let first = self.expr(a)?;
-        let second = self.optional(b)?;
-        let last = self.expr(c)?;
+        let (first, second) = beside(first, self.optional(b))?;
+        let ((first, second), last) = beside((first, second), self.expr(c))?;
         ranges::range(self.alloc, collection, first, second, last)
     }
 
@@ -284,11 +247,15 @@ impl Elaborator<'_> {
         ensures value { IfOk result (λ e. plain_expr e ≡ made (spec.former (part_of value.now) (map turn_of turns.now) (option_map part_of condition.now) collection) self.old) }
         ensures state { OnOk result (self.new ≡ past (spec.former (part_of value.now) (map turn_of turns.now) (option_map part_of condition.now) collection) self.old) }
     {
-        let (number, names) = self.open_over(turns)?;
+        let (number, names) = self.opened.open_over(self.alloc, turns)?;
         let value = self.expr_within(value, number, names)?;
-        let iterators = self.own_iterators(turns, number)?;
-        let condition = self.own_condition(condition, number, turns)?;
-        makers::former(self.alloc, collection, value, iterators, condition)
+        let (value, iterators) = beside(value, self.own_iterators(turns, number))?;
+        let condition = self.own_condition(condition, number, turns);
+        let ((value, iterators), condition) = beside((value, iterators), condition)?;
+        Boxed::new(
+            self.alloc,
+            Expr::Former(collection, value, iterators, condition),
+        )
     }
 
     /// What a former becomes that collects its members. An error is want of memory.
@@ -303,9 +270,10 @@ impl Elaborator<'_> {
         ensures value { IfOk result (λ e. plain_expr e ≡ made (spec.filter bound.now (part_of source.now) (part_of condition.now) collection) self.old) }
         ensures state { OnOk result (self.new ≡ past (spec.filter bound.now (part_of source.now) (part_of condition.now) collection) self.old) }
     {
-        let number = self.open()?;
+        let number = self.opened.open()?;
         let iterator = self.over(Some(number), bound, source)?;
-        let condition = self.bound_condition(condition, number, bound)?;
+        let condition = self.bound_condition(condition, number, bound);
+        let (iterator, condition) = beside(iterator, condition)?;
         makers::selection(self.alloc, collection, iterator, condition)
     }
 
@@ -332,7 +300,10 @@ impl Elaborator<'_> {
             | TreeExpr::Compare(_, _, _)
             | TreeExpr::Prefixed(_, _)
             | TreeExpr::Selected(_, _)
-            | TreeExpr::Quantified(_, _, _) => { self.value_source(x) }
+            | TreeExpr::Quantified(_, _, _) => {
+                let value = self.expr(x)?;
+                ranges::values(self.alloc, value)
+            }
         }
     }
 
@@ -355,16 +326,6 @@ impl Elaborator<'_> {
         }
     }
 
-    /// What an expression becomes whose value is the source of an iterator. An error is want of memory.
-    #[cycle(expressions)]
-    fn value_source(&mut self, x: &TreeExpr) -> Result<(Source, Items<Expr>), AllocError>
-        ensures value { IfOk result (λ r. plain_range r ≡ made (spec.value_source (term_of x.now)) self.old) }
-        ensures state { OnOk result (self.new ≡ past (spec.value_source (term_of x.now)) self.old) }
-    {
-        let value = self.expr(x)?;
-        ranges::values(self.alloc, value)
-    }
-
     /// What a range becomes as the source of an iterator. An error is want of memory.
     #[cycle(expressions)]
     fn range_source(
@@ -378,8 +339,8 @@ impl Elaborator<'_> {
         ensures state { OnOk result (self.new ≡ past (spec.source_range (part_of a.now) (option_map part_of b.now) (part_of c.now) collection) self.old) }
     {
         let first = self.expr(a)?;
-        let second = self.optional(b)?;
-        let last = self.expr(c)?;
+        let (first, second) = beside(first, self.optional(b))?;
+        let ((first, second), last) = beside((first, second), self.expr(c))?;
         ranges::range_source(self.alloc, collection, first, second, last)
     }
 }

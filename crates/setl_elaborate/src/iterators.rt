@@ -10,6 +10,8 @@ ghost use Rattle.setl_program.specs.Scope.{in_former};
 ghost use Rattle.setl_elaborate.specs.Elaborators.{made, past};
 
 use crate::elaborator::Elaborator;
+use crate::makers;
+use crate::makers::beside;
 use setl_names::Names;
 use setl_program::{Expr, Iterator};
 use setl_scope::{names_of_bound, names_of_turns, put_turn};
@@ -173,8 +175,7 @@ impl Elaborator<'_> {
         ensures { IfOk result (λ i. plain_iterator i ≡ made (spec.image value.now map.now argument.now former) self.now) }
     {
         let (map, binding) = self.scope.image(former, value, map, argument)?;
-        let mut sources = Items::new(self.alloc);
-        sources.push(Expr::Name(map))?;
+        let (binding, sources) = beside(binding, makers::alone(self.alloc, Expr::Name(map)))?;
         Ok(Iterator { binding, sources })
     }
 }

@@ -10,7 +10,6 @@ mod operators;
 mod ranges;
 mod selections;
 mod statements;
-mod stmt_makers;
 mod tree;
 
 pub use std::alloc::AllocError as Memory;

@@ -1,24 +1,35 @@
 //! Expressions of a program by their parts. An error of each is want of memory.
 
-ghost use Rattle.std.specs.Prelude.{◌≡◌, map, option_map, IfOk};
+ghost use Rattle.std.specs.Prelude.{◌≡◌, [], ◌∷◌, Ok, IfOk};
 ghost use Rattle.setl_value.specs.Datum as datum;
 ghost use Rattle.setl_program.specs.Operators as spec;
 ghost use Rattle.setl_program.specs.Expressions as terms;
 ghost use Rattle.setl_program.specs.Program as plain;
-ghost use Rattle.setl_program.specs.code.Plain.{plain_variable, plain_expr, plain_exprs, plain_iterator, plain_iterators, plain_arguments, condition_of};
+ghost use Rattle.setl_program.specs.code.Plain.{plain_expr, plain_iterator, plain_arguments};
 
 use crate::chain::Chain;
 use crate::operators;
 use setl_map::Operator;
-use setl_program::{Argument, Collection, Expr, Iterator, Quantifier, Variable};
+use setl_program::{Argument, Collection, Expr, Iterator, Link};
 use setl_tree::{Boxed, Items, Prefix, Text};
 use std::alloc::{AllocError, Global};
 
-/// A literal number.
-pub fn integer(alloc: Global, n: i128) -> Result<Boxed<Expr>, AllocError>
-    ensures { IfOk result (λ e. plain_expr e ≡ plain.Literal (datum.int n)) }
+/// What was made before, and what is made now. An error is that of the second.
+pub fn beside<T: Drop, U: Drop>(held: T, other: Result<U, AllocError>) -> Result<(T, U), AllocError>
+    ensures held { IfOk result (λ both. both.0 ≡ held) }
+    ensures other { IfOk result (λ both. other ≡ Ok both.1) }
 {
-    Boxed::new(alloc, Expr::Integer(n))
+    let other = other?;
+    Ok((held, other))
+}
+
+/// The list of one expression.
+pub fn alone(alloc: Global, x: Expr) -> Result<Items<Expr>, AllocError>
+    ensures { IfOk result (λ all. all ≡ x ∷ []) }
+{
+    let mut all = Items::new(alloc);
+    all.push(x)?;
+    Ok(all)
 }
 
 /// A literal string.
@@ -26,59 +37,6 @@ pub fn string(alloc: Global, text: &Text) -> Result<Boxed<Expr>, AllocError>
     ensures { IfOk result (λ e. plain_expr e ≡ plain.Literal (datum.text text.now)) }
 {
     Boxed::new(alloc, Expr::Text(text.copy()?))
-}
-
-/// `true` or `false`.
-pub fn truth(alloc: Global, truth: bool) -> Result<Boxed<Expr>, AllocError>
-    ensures { IfOk result (λ e. plain_expr e ≡ plain.Literal (datum.bool truth)) }
-{
-    Boxed::new(alloc, Expr::Truth(truth))
-}
-
-/// `om`
-pub fn undefined(alloc: Global) -> Result<Boxed<Expr>, AllocError>
-    ensures { IfOk result (λ e. plain_expr e ≡ plain.Undefined) }
-{
-    Boxed::new(alloc, Expr::Undefined)
-}
-
-/// `newat`
-pub fn newat(alloc: Global) -> Result<Boxed<Expr>, AllocError>
-    ensures { IfOk result (λ e. plain_expr e ≡ plain.Newat) }
-{
-    Boxed::new(alloc, Expr::Newat)
-}
-
-/// `eof`
-pub fn eof(alloc: Global) -> Result<Boxed<Expr>, AllocError>
-    ensures { IfOk result (λ e. plain_expr e ≡ plain.Eof) }
-{
-    Boxed::new(alloc, Expr::Eof)
-}
-
-/// `ok`
-pub fn ok(alloc: Global) -> Result<Boxed<Expr>, AllocError>
-    ensures { IfOk result (λ e. plain_expr e ≡ plain.Ok) }
-{
-    Boxed::new(alloc, Expr::Ok)
-}
-
-/// A variable.
-pub fn name(alloc: Global, variable: Variable) -> Result<Boxed<Expr>, AllocError>
-    ensures { IfOk result (λ e. plain_expr e ≡ plain.Name (plain_variable variable)) }
-{
-    Boxed::new(alloc, Expr::Name(variable))
-}
-
-/// An operator over its operands.
-pub fn apply(
-    alloc: Global,
-    operator: Operator,
-    operands: Items<Expr>,
-) -> Result<Boxed<Expr>, AllocError>
-    ensures { IfOk result (λ e. plain_expr e ≡ plain.Apply operator (plain_exprs operands)) }
-{
-    Boxed::new(alloc, Expr::Apply(operator, operands))
 }
 
 /// An operator over two operands.
@@ -91,7 +49,7 @@ pub fn two(
     ensures { IfOk result (λ e. plain_expr e ≡ spec.two operator (plain_expr left) (plain_expr right)) }
 {
     let mut all = Chain::new(alloc, left);
-    all.two(operator, right)?;
+    all.push(Link::Binary(operator, right.into_inner()))?;
     all.finish(alloc)
 }
 
@@ -107,34 +65,9 @@ pub fn prefixes(
     let mut left = prefixes.len();
     while left > 0 {
         left -= 1;
-        all.one(operators::prefix(prefixes[left]))?;
+        all.push(Link::Unary(operators::prefix(prefixes[left])))?;
     }
     all.finish(alloc)
-}
-
-/// `if condition then value else other end`
-pub fn choose(
-    alloc: Global,
-    condition: Boxed<Expr>,
-    value: Boxed<Expr>,
-    other: Boxed<Expr>,
-) -> Result<Boxed<Expr>, AllocError>
-    ensures { IfOk result (λ e. plain_expr e ≡ plain.Choose (plain_expr condition) (plain_expr value) (plain_expr other)) }
-{
-    Boxed::new(alloc, Expr::Choose(condition, value, other))
-}
-
-/// A former that collects an expression.
-pub fn former(
-    alloc: Global,
-    collection: Collection,
-    value: Boxed<Expr>,
-    iterators: Items<Iterator>,
-    condition: Option<Boxed<Expr>>,
-) -> Result<Boxed<Expr>, AllocError>
-    ensures { IfOk result (λ e. plain_expr e ≡ plain.Former collection (plain_expr value) (plain_iterators iterators) (condition_of (option_map plain_expr condition))) }
-{
-    Boxed::new(alloc, Expr::Former(collection, value, iterators, condition))
 }
 
 /// A former that collects its members.
@@ -151,18 +84,6 @@ pub fn selection(
         alloc,
         Expr::Selection(collection, binding, sources, condition),
     )
-}
-
-/// A quantifier.
-pub fn quantified(
-    alloc: Global,
-    quantifier: Quantifier,
-    iterators: Items<Iterator>,
-    condition: Boxed<Expr>,
-) -> Result<Boxed<Expr>, AllocError>
-    ensures { IfOk result (λ e. plain_expr e ≡ plain.Quantified quantifier (plain_iterators iterators) (plain_expr condition)) }
-{
-    Boxed::new(alloc, Expr::Quantified(quantifier, iterators, condition))
 }
 
 /// A call of the procedure at a place. Want of memory is also that the place doesn't fit 32 bits.

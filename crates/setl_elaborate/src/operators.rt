@@ -5,7 +5,7 @@ ghost use Rattle.setl_program.specs.Operators as spec;
 ghost use Rattle.setl_program.specs.Expressions as terms;
 
 use setl_map::Operator;
-use setl_program::{Collection, Connective, Quantifier, Source, Taking};
+use setl_program::{Collection, Connective, Quantifier, Taking};
 use setl_tree::{BinaryOp, Fold, FromEnd, Prefix, Relation};
 
 /// The connective of an operator that looks at its right part only where it needs it; `None` for another.
@@ -129,35 +129,5 @@ pub fn enumeration(collection: Collection) -> Operator
     match collection {
         Collection::OfSet => Operator::SetOf,
         Collection::OfTuple => Operator::TupleOf,
-    }
-}
-
-/// The operator of a range by its two bounds.
-pub fn range_operator(collection: Collection) -> Operator
-    ensures { result ≡ terms.range_operator collection }
-{
-    match collection {
-        Collection::OfSet => Operator::SetRange,
-        Collection::OfTuple => Operator::TupleRange,
-    }
-}
-
-/// The operator of a range by its first two members and its bound.
-pub fn step_operator(collection: Collection) -> Operator
-    ensures { result ≡ terms.step_operator collection }
-{
-    match collection {
-        Collection::OfSet => Operator::SetStep,
-        Collection::OfTuple => Operator::TupleStep,
-    }
-}
-
-/// How the members come of a range by its first two members and its bound.
-pub fn steps(collection: Collection) -> Source
-    ensures { result ≡ terms.steps collection }
-{
-    match collection {
-        Collection::OfSet => Source::SetSteps,
-        Collection::OfTuple => Source::TupleSteps,
     }
 }

@@ -5,7 +5,7 @@ ghost use Rattle.setl_program.specs.Expressions as spec;
 ghost use Rattle.setl_program.specs.code.Plain.{plain_expr};
 ghost use Rattle.setl_elaborate.specs.Elaborators.{plain_range};
 
-use crate::{makers, operators};
+use crate::makers;
 use setl_map::Operator;
 use setl_program::{Collection, Expr, Source};
 use setl_tree::{Boxed, Items};
@@ -15,8 +15,7 @@ use std::alloc::{AllocError, Global};
 pub fn values(alloc: Global, value: Boxed<Expr>) -> Result<(Source, Items<Expr>), AllocError>
     ensures { IfOk result (λ r. plain_range r ≡ (Source.Values, plain_expr value ∷ [])) }
 {
-    let mut all = Items::new(alloc);
-    all.push(value.into_inner())?;
+    let all = makers::alone(alloc, value.into_inner())?;
     Ok((Source::Values, all))
 }
 
@@ -42,9 +41,11 @@ fn bounds(
 fn bounded_operator(collection: Collection, second: &Option<Boxed<Expr>>) -> Operator
     ensures { result ≡ spec.bounded_operator collection (option_map plain_expr second.now) }
 {
-    match second {
-        None => operators::range_operator(collection),
-        Some(_) => operators::step_operator(collection),
+    match (collection, second) {
+        (Collection::OfSet, None) => Operator::SetRange,
+        (Collection::OfTuple, None) => Operator::TupleRange,
+        (Collection::OfSet, Some(_)) => Operator::SetStep,
+        (Collection::OfTuple, Some(_)) => Operator::TupleStep,
     }
 }
 
@@ -52,9 +53,10 @@ fn bounded_operator(collection: Collection, second: &Option<Boxed<Expr>>) -> Ope
 fn bounded_source(collection: Collection, second: &Option<Boxed<Expr>>) -> Source
     ensures { result ≡ spec.bounded_source collection (option_map plain_expr second.now) }
 {
-    match second {
-        None => Source::Between,
-        Some(_) => operators::steps(collection),
+    match (collection, second) {
+        (_, None) => Source::Between,
+        (Collection::OfSet, Some(_)) => Source::SetSteps,
+        (Collection::OfTuple, Some(_)) => Source::TupleSteps,
     }
 }
 
@@ -70,7 +72,7 @@ pub fn range(
 {
     let operator = bounded_operator(collection, &second);
     let all = bounds(alloc, first, second, last)?;
-    makers::apply(alloc, operator, all)
+    Boxed::new(alloc, Expr::Apply(operator, all))
 }
 
 /// A range that is written directly as a source, by its bounds. An error is want of memory.
@@ -98,5 +100,5 @@ pub fn tuple_of_several(alloc: Global, all: Items<Expr>) -> Result<Boxed<Expr>, 
             return Boxed::new(alloc, only);
         }
     }
-    makers::apply(alloc, Operator::TupleOf, all)
+    Boxed::new(alloc, Expr::Apply(Operator::TupleOf, all))
 }

@@ -13,7 +13,7 @@ use crate::elaborator::Elaborator;
 use crate::expressions::name_of;
 use crate::{makers, ranges};
 use setl_map::Operator;
-use setl_program::{Argument, Expr};
+use setl_program::{Argument, Expr, Link};
 use setl_tree::{Boxed, Expr as TreeExpr, Items, Param, Passing, Selector, Text};
 use std::alloc::AllocError;
 
@@ -22,7 +22,8 @@ impl Elaborator<'_> {
     pub fn name(&self, name: &Text) -> Result<Boxed<Expr>, AllocError>
         ensures { IfOk result (λ e. plain_expr e ≡ spec.named name.now self.now.scope) }
     {
-        makers::name(self.alloc, self.scope.variable(name)?)
+        let variable = self.scope.variable(name)?;
+        Boxed::new(self.alloc, Expr::Name(variable))
     }
 
     /// What a chain becomes with selectors behind it. An error is want of memory.
@@ -71,7 +72,7 @@ impl Elaborator<'_> {
         ensures state { OnOk result (self.new ≡ past (spec.at_list operator (map part_of xs.now) (plain_chain all.old)) self.old) }
     {
         let list = self.listed(xs)?;
-        all.two(operator, list)
+        all.push(Link::Binary(operator, list.into_inner()))
     }
 
     /// What a list in brackets becomes: one expression alone, or the tuple of several. An error is want of memory.
@@ -100,23 +101,11 @@ impl Elaborator<'_> {
                 let value = self.application(xs.as_slice(), name)?;
                 self.selected(others, value)
             }
-            [Selector::Slice(_, _), ..] => self.variable_selection(selectors, name),
-            [Selector::Braces(_), ..] => self.variable_selection(selectors, name),
+            [Selector::Slice(_, _), ..] | [Selector::Braces(_), ..] => {
+                let value = self.name(name)?;
+                self.selected(selectors, Chain::new(self.alloc, value))
+            }
         }
-    }
-
-    /// What a variable with selectors becomes. An error is want of memory.
-    #[cycle(expressions)]
-    fn variable_selection(
-        &mut self,
-        selectors: &[Selector],
-        name: &Text,
-    ) -> Result<Boxed<Expr>, AllocError>
-        ensures value { IfOk result (λ e. plain_expr e ≡ made (λ s. spec.selected (spec.named name.now s) (map behind_of selectors.now) s) self.old) }
-        ensures state { OnOk result (self.new ≡ past (λ s. spec.selected (spec.named name.now s) (map behind_of selectors.now) s) self.old) }
-    {
-        let value = self.name(name)?;
-        self.selected(selectors, Chain::new(self.alloc, value))
     }
 
     /// What a name before a list in round brackets becomes: a call if it is a procedure's. An error is want of memory.
@@ -189,18 +178,9 @@ impl Elaborator<'_> {
             (Passing::Wr, Some(name)) => { all.push(Argument::Wr(self.scope.variable(name)?)) }
             (Passing::Rw, Some(name)) => { all.push(Argument::Rw(self.scope.variable(name)?)) }
             (Passing::Wr, None) | (Passing::Rw, None) | (Passing::Rd, _) => {
-                self.value_argument(x, all)
+                let value = self.expr(x)?;
+                all.push(Argument::Rd(value.into_inner()))
             }
         }
-    }
-
-    /// What an argument becomes that is passed as a value. It is put at the end. An error is want of memory.
-    #[cycle(expressions)]
-    fn value_argument(&mut self, x: &TreeExpr, all: &mut Items<Argument>) -> Result<(), AllocError>
-        ensures value { OnOk result (map plain_argument all.new ≡ map plain_argument all.old ++ made (spec.value_argument (part_of x.now)) self.old ∷ []) }
-        ensures state { OnOk result (self.new ≡ past (spec.value_argument (part_of x.now)) self.old) }
-    {
-        let made = self.expr(x)?;
-        all.push(Argument::Rd(made.into_inner()))
     }
 }

@@ -3,17 +3,18 @@
 ghost use Rattle.std.specs.Prelude.{◌≡◌, map, option_map, OnOk, IfOk};
 ghost use Rattle.setl_program.specs.Expressions as terms;
 ghost use Rattle.setl_program.specs.Expressions.{part_of, turn_of, behind_of};
-ghost use Rattle.setl_program.specs.code.Plain.{plain_expr, plain_selector, plain_place, plain_stmt, plain_branch};
+ghost use Rattle.setl_program.specs.code.Plain.{plain_expr, plain_selector, plain_place, plain_kind, plain_stmt, plain_branch};
 ghost use Rattle.setl_program.specs.Statements as spec;
 ghost use Rattle.setl_program.specs.Statements.{kind_of, branch_of, lined};
 ghost use Rattle.setl_elaborate.specs.Elaborators.{made, past};
 
 use crate::elaborator::Elaborator;
-use crate::{makers, operators, stmt_makers};
-use setl_program::{Branch, Expr, Place, Selector, Stmt};
+use crate::makers::beside;
+use crate::operators;
+use setl_program::{Branch, Expr, Place, Selector, Stmt, StmtKind};
 use setl_tree::{
-    BinaryOp, Boxed, Branch as TreeBranch, Expr as TreeExpr, FromEnd, Items, Iter,
-    Place as TreePlace, Selector as TreeSelector, Slot, Stmt as TreeStmt, StmtKind, Text,
+    BinaryOp, Branch as TreeBranch, Expr as TreeExpr, FromEnd, Items, Iter, Place as TreePlace,
+    Selector as TreeSelector, Slot, Stmt as TreeStmt, StmtKind as TreeKind, Text,
 };
 use std::alloc::AllocError;
 
@@ -64,120 +65,95 @@ impl Elaborator<'_> {
     }
 
     /// What an assignment becomes. An error is want of memory.
-    fn assignment(
-        &mut self,
-        line: u32,
-        place: &TreePlace,
-        value: &TreeExpr,
-    ) -> Result<Stmt, AllocError>
-        ensures value { IfOk result (λ x. plain_stmt x ≡ (line, made (spec.assignment place.now (part_of value.now)) self.old)) }
+    fn assignment(&mut self, place: &TreePlace, value: &TreeExpr) -> Result<StmtKind, AllocError>
+        ensures value { IfOk result (λ x. plain_kind x ≡ made (spec.assignment place.now (part_of value.now)) self.old) }
         ensures state { OnOk result (self.new ≡ past (spec.assignment place.now (part_of value.now)) self.old) }
     {
         let place = self.place(place)?;
         let value = self.expr(value)?;
-        Ok(stmt_makers::assign(line, place, value))
+        Ok(StmtKind::Assign(place, value.into_inner()))
     }
 
     /// What an update becomes. An error is want of memory.
     fn update(
         &mut self,
-        line: u32,
         place: &TreePlace,
         op: BinaryOp,
         value: &TreeExpr,
-    ) -> Result<Stmt, AllocError>
-        ensures value { IfOk result (λ x. plain_stmt x ≡ (line, made (spec.update place.now op (part_of value.now)) self.old)) }
+    ) -> Result<StmtKind, AllocError>
+        ensures value { IfOk result (λ x. plain_kind x ≡ made (spec.update place.now op (part_of value.now)) self.old) }
         ensures state { OnOk result (self.new ≡ past (spec.update place.now op (part_of value.now)) self.old) }
     {
         let place = self.place(place)?;
         let value = self.expr(value)?;
-        Ok(stmt_makers::update(line, operators::updating(op), place, value))
+        Ok(StmtKind::Update(operators::updating(op), place, value.into_inner()))
     }
 
     /// What an assignment to a tuple of names becomes. An error is want of memory.
-    fn parts_assignment(
-        &mut self,
-        line: u32,
-        slots: &[Slot],
-        value: &TreeExpr,
-    ) -> Result<Stmt, AllocError>
-        ensures value { IfOk result (λ x. plain_stmt x ≡ (line, made (spec.parts_assignment slots.now (part_of value.now)) self.old)) }
+    fn parts_assignment(&mut self, slots: &[Slot], value: &TreeExpr) -> Result<StmtKind, AllocError>
+        ensures value { IfOk result (λ x. plain_kind x ≡ made (spec.parts_assignment slots.now (part_of value.now)) self.old) }
         ensures state { OnOk result (self.new ≡ past (spec.parts_assignment slots.now (part_of value.now)) self.old) }
     {
         let value = self.expr(value)?;
         let slots = self.scope.slots(self.alloc, None, slots)?;
-        Ok(stmt_makers::assign_parts(line, slots, value))
+        Ok(StmtKind::AssignParts(slots, value.into_inner()))
     }
 
     /// What `from` and the like become. An error is want of memory.
     fn taking_from(
         &mut self,
-        line: u32,
         name: &Text,
         end: FromEnd,
         place: &TreePlace,
-    ) -> Result<Stmt, AllocError>
-        ensures value { IfOk result (λ x. plain_stmt x ≡ (line, made (spec.taking_from name.now end place.now) self.old)) }
+    ) -> Result<StmtKind, AllocError>
+        ensures value { IfOk result (λ x. plain_kind x ≡ made (spec.taking_from name.now end place.now) self.old) }
         ensures state { OnOk result (self.new ≡ past (spec.taking_from name.now end place.now) self.old) }
     {
         let place = self.place(place)?;
         let variable = self.scope.variable(name)?;
-        Ok(stmt_makers::take_from(line, operators::taking(end), variable, place))
+        Ok(StmtKind::TakeFrom(operators::taking(end), variable, place))
     }
 
     /// What a call statement becomes. An error is want of memory.
-    fn performance(&mut self, line: u32, name: &Text, xs: &[TreeExpr]) -> Result<Stmt, AllocError>
-        ensures value { IfOk result (λ x. plain_stmt x ≡ (line, made (spec.performance name.now (map part_of xs.now)) self.old)) }
+    fn performance(&mut self, name: &Text, xs: &[TreeExpr]) -> Result<StmtKind, AllocError>
+        ensures value { IfOk result (λ x. plain_kind x ≡ made (spec.performance name.now (map part_of xs.now)) self.old) }
         ensures state { OnOk result (self.new ≡ past (spec.performance name.now (map part_of xs.now)) self.old) }
     {
         match self.scope.procedure(name) {
-            None => {
-                let nothing = makers::undefined(self.alloc)?;
-                Ok(stmt_makers::perform(line, nothing))
-            }
+            None => Ok(StmtKind::Perform(Expr::Undefined)),
             Some((place, parameters)) => {
                 let call = self.call(xs, place, parameters)?;
-                Ok(stmt_makers::perform(line, call))
+                Ok(StmtKind::Perform(call.into_inner()))
             }
         }
     }
 
     /// What an expression becomes, if there is one. An error is want of memory.
-    fn optional_expr(&mut self, x: &Option<TreeExpr>) -> Result<Option<Boxed<Expr>>, AllocError>
+    fn optional_expr(&mut self, x: &Option<TreeExpr>) -> Result<Option<Expr>, AllocError>
         ensures value { IfOk result (λ e. option_map plain_expr e ≡ made (terms.optional (option_map part_of x.now)) self.old) }
         ensures state { OnOk result (self.new ≡ past (terms.optional (option_map part_of x.now)) self.old) }
     {
         match x {
             None => Ok(None),
-            Some(x) => Ok(Some(self.expr(x)?)),
+            Some(x) => {
+                let value = self.expr(x)?;
+                Ok(Some(value.into_inner()))
+            }
         }
     }
 
     /// What `return` becomes. An error is want of memory.
-    fn return_of(&mut self, line: u32, x: &Option<TreeExpr>) -> Result<Stmt, AllocError>
-        ensures value { IfOk result (λ y. plain_stmt y ≡ (line, made (spec.return_of (option_map part_of x.now)) self.old)) }
+    fn return_of(&mut self, x: &Option<TreeExpr>) -> Result<StmtKind, AllocError>
+        ensures value { IfOk result (λ y. plain_kind y ≡ made (spec.return_of (option_map part_of x.now)) self.old) }
         ensures state { OnOk result (self.new ≡ past (spec.return_of (option_map part_of x.now)) self.old) }
     {
-        let value = self.optional_expr(x)?;
-        Ok(stmt_makers::return_(line, value))
-    }
-
-    /// What `print` becomes. An error is want of memory.
-    fn print_of(&mut self, line: u32, xs: &[TreeExpr]) -> Result<Stmt, AllocError>
-        ensures value { IfOk result (λ x. plain_stmt x ≡ (line, made (spec.print_of (map part_of xs.now)) self.old)) }
-        ensures state { OnOk result (self.new ≡ past (spec.print_of (map part_of xs.now)) self.old) }
-    {
-        let values = self.exprs(xs)?;
-        Ok(stmt_makers::print(line, values))
-    }
-
-    /// What `read` becomes. An error is want of memory.
-    fn read_of(&mut self, line: u32, names: &[Text]) -> Result<Stmt, AllocError>
-        ensures value { IfOk result (λ x. plain_stmt x ≡ (line, made (spec.read_of names.now) self.old)) }
-        ensures state { OnOk result (self.new ≡ past (spec.read_of names.now) self.old) }
-    {
-        let variables = self.scope.variables(self.alloc, names)?;
-        Ok(stmt_makers::read(line, variables))
+        match x {
+            None => Ok(StmtKind::Return(Expr::Undefined)),
+            Some(x) => {
+                let value = self.expr(x)?;
+                Ok(StmtKind::Return(value.into_inner()))
+            }
+        }
     }
 
     /// What statements become. An error is want of memory.
@@ -199,36 +175,43 @@ impl Elaborator<'_> {
         ensures value { IfOk result (λ y. plain_stmt y ≡ made (lined x.now) self.old) }
         ensures state { OnOk result (self.new ≡ past (lined x.now) self.old) }
     {
-        self.kind(x.line, &x.kind)
+        let kind = self.kind(x.line, &x.kind)?;
+        Ok(Stmt { line: x.line, kind })
     }
 
     /// What a statement on this line becomes. An error is want of memory.
     #[cycle(statements)]
-    fn kind(&mut self, line: u32, x: &StmtKind) -> Result<Stmt, AllocError>
-        ensures value { IfOk result (λ y. plain_stmt y ≡ (line, made (kind_of x.now line) self.old)) }
+    fn kind(&mut self, line: u32, x: &TreeKind) -> Result<StmtKind, AllocError>
+        ensures value { IfOk result (λ y. plain_kind y ≡ made (kind_of x.now line) self.old) }
         ensures state { OnOk result (self.new ≡ past (kind_of x.now line) self.old) }
     {
         match x {
-            StmtKind::Assign(place, value) => self.assignment(line, place, value),
-            StmtKind::Update(place, op, value) => self.update(line, place, *op, value),
-            StmtKind::TupleAssign(slots, value) => {
-                self.parts_assignment(line, slots.as_slice(), value)
+            TreeKind::Assign(place, value) => self.assignment(place, value),
+            TreeKind::Update(place, op, value) => self.update(place, *op, value),
+            TreeKind::TupleAssign(slots, value) => {
+                self.parts_assignment(slots.as_slice(), value)
             }
-            StmtKind::Take(name, end, place) => self.taking_from(line, name, *end, place),
-            StmtKind::Call(name, xs) => self.performance(line, name, xs.as_slice()),
-            StmtKind::If(first, others, last) => self.if_of(line, first, others.as_slice(), last),
-            StmtKind::For(turns, condition, body) => {
-                self.for_loop(line, body.as_slice(), turns.as_slice(), condition)
+            TreeKind::Take(name, end, place) => self.taking_from(name, *end, place),
+            TreeKind::Call(name, xs) => self.performance(name, xs.as_slice()),
+            TreeKind::If(first, others, last) => self.if_of(line, first, others.as_slice(), last),
+            TreeKind::For(turns, condition, body) => {
+                self.for_loop(body.as_slice(), turns.as_slice(), condition)
             }
-            StmtKind::While(condition, body) => self.while_loop(line, body.as_slice(), condition),
-            StmtKind::Quit => Ok(stmt_makers::quit(line)),
-            StmtKind::Continue => Ok(stmt_makers::continue_(line)),
-            StmtKind::Fail => Ok(stmt_makers::fail(line)),
-            StmtKind::Stop => Ok(stmt_makers::stop(line)),
-            StmtKind::Pass => Ok(stmt_makers::pass(line)),
-            StmtKind::Return(value) => self.return_of(line, value),
-            StmtKind::Print(xs) => self.print_of(line, xs.as_slice()),
-            StmtKind::Read(names) => self.read_of(line, names.as_slice()),
+            TreeKind::While(condition, body) => self.while_loop(body.as_slice(), condition),
+            TreeKind::Quit => Ok(StmtKind::Quit),
+            TreeKind::Continue => Ok(StmtKind::Continue),
+            TreeKind::Fail => Ok(StmtKind::Fail),
+            TreeKind::Stop => Ok(StmtKind::Stop),
+            TreeKind::Pass => Ok(StmtKind::Pass),
+            TreeKind::Return(value) => self.return_of(value),
+            TreeKind::Print(xs) => {
+                let values = self.exprs(xs.as_slice())?;
+                Ok(StmtKind::Print(values))
+            }
+            TreeKind::Read(names) => {
+                let variables = self.scope.variables(self.alloc, names.as_slice())?;
+                Ok(StmtKind::Read(variables))
+            }
         }
     }
 
@@ -240,15 +223,15 @@ impl Elaborator<'_> {
         first: &TreeBranch,
         others: &[TreeBranch],
         last: &Option<Items<TreeStmt>>,
-    ) -> Result<Stmt, AllocError>
-        ensures value { IfOk result (λ x. plain_stmt x ≡ (line, made (spec.choice line (branch_of first.now) (map branch_of others.now) (option_map (map lined) last.now)) self.old)) }
+    ) -> Result<StmtKind, AllocError>
+        ensures value { IfOk result (λ x. plain_kind x ≡ made (spec.choice line (branch_of first.now) (map branch_of others.now) (option_map (map lined) last.now)) self.old) }
         ensures state { OnOk result (self.new ≡ past (spec.choice line (branch_of first.now) (map branch_of others.now) (option_map (map lined) last.now)) self.old) }
     {
         let condition = self.expr(&first.condition)?;
         let body = self.stmts(first.body.as_slice())?;
         let branches = self.branches(line, others)?;
         let last = self.optional_block(last)?;
-        Ok(stmt_makers::choice(line, condition, body, branches, last))
+        Ok(StmtKind::If(condition.into_inner(), body, branches, last))
     }
 
     /// What the statements of an `else` become, if there are any. An error is want of memory.
@@ -284,40 +267,42 @@ impl Elaborator<'_> {
     {
         let condition = self.expr(&branch.condition)?;
         let body = self.stmts(branch.body.as_slice())?;
-        Ok(stmt_makers::branch(line, condition, body))
+        Ok(Branch {
+            line,
+            condition: condition.into_inner(),
+            body,
+        })
     }
 
     /// What a loop over iterators becomes. An error is want of memory.
     #[cycle(statements)]
     fn for_loop(
         &mut self,
-        line: u32,
         body: &[TreeStmt],
         turns: &[Iter],
         condition: &Option<TreeExpr>,
-    ) -> Result<Stmt, AllocError>
-        ensures value { IfOk result (λ x. plain_stmt x ≡ (line, made (spec.for_loop (map turn_of turns.now) (option_map part_of condition.now) (map lined body.now)) self.old)) }
+    ) -> Result<StmtKind, AllocError>
+        ensures value { IfOk result (λ x. plain_kind x ≡ made (spec.for_loop (map turn_of turns.now) (option_map part_of condition.now) (map lined body.now)) self.old) }
         ensures state { OnOk result (self.new ≡ past (spec.for_loop (map turn_of turns.now) (option_map part_of condition.now) (map lined body.now)) self.old) }
     {
         let iterators = self.iterators(turns)?;
-        let condition = self.optional_expr(condition)?;
-        let body = self.stmts(body)?;
-        Ok(stmt_makers::for_loop(line, iterators, condition, body))
+        let (iterators, condition) = beside(iterators, self.optional_expr(condition))?;
+        let ((iterators, condition), body) = beside((iterators, condition), self.stmts(body))?;
+        Ok(StmtKind::For(iterators, condition, body))
     }
 
     /// What a loop with a condition becomes. An error is want of memory.
     #[cycle(statements)]
     fn while_loop(
         &mut self,
-        line: u32,
         body: &[TreeStmt],
         condition: &TreeExpr,
-    ) -> Result<Stmt, AllocError>
-        ensures value { IfOk result (λ x. plain_stmt x ≡ (line, made (spec.while_loop (part_of condition.now) (map lined body.now)) self.old)) }
+    ) -> Result<StmtKind, AllocError>
+        ensures value { IfOk result (λ x. plain_kind x ≡ made (spec.while_loop (part_of condition.now) (map lined body.now)) self.old) }
         ensures state { OnOk result (self.new ≡ past (spec.while_loop (part_of condition.now) (map lined body.now)) self.old) }
     {
         let condition = self.expr(condition)?;
         let body = self.stmts(body)?;
-        Ok(stmt_makers::while_loop(line, condition, body))
+        Ok(StmtKind::While(condition.into_inner(), body))
     }
 }

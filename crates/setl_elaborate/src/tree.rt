@@ -9,9 +9,10 @@ ghost use Rattle.setl_program.specs.ProgramOf.{main_scope, in_body, procedure_of
 ghost use Rattle.setl_program.specs.Statements.{body_of};
 
 use crate::elaborator::Elaborator;
+use crate::makers::beside;
 use setl_modes::NamedMode;
 use setl_program::{Declared, Procedure, Program, Stmt};
-use setl_scope::{Opened, Scope};
+use setl_scope::Opened;
 use setl_tree::{Declared as TreeDeclared, Items, Param, Proc, Stmt as TreeStmt, Text, Tree};
 use std::alloc::{AllocError, Global};
 
@@ -42,6 +43,24 @@ fn parameters(alloc: Global, params: &[Param]) -> Result<Items<Param>, AllocErro
     Ok(all)
 }
 
+/// The name of a procedure and its parameters. An error is want of memory.
+fn head(alloc: Global, proc: &Proc) -> Result<(Text, Items<Param>), AllocError>
+    ensures name { IfOk result (λ r. r.0 ≡ proc.now.name) }
+    ensures parameters { IfOk result (λ r. r.1 ≡ proc.now.params) }
+{
+    let name = proc.name.copy()?;
+    beside(name, parameters(alloc, proc.params.as_slice()))
+}
+
+/// The name of a program and the names in its `var`. An error is want of memory.
+fn names(alloc: Global, tree: &Tree) -> Result<(Text, Items<Text>), AllocError>
+    ensures name { IfOk result (λ r. r.0 ≡ tree.now.name) }
+    ensures vars { IfOk result (λ r. r.1 ≡ var_names tree.now.vars) }
+{
+    let name = tree.name.copy()?;
+    beside(name, vars(alloc, tree.vars.as_slice()))
+}
+
 impl Elaborator<'_> {
     /// What the statements of a body become, whose formers are counted from 1. An error is want of memory.
     fn body(&mut self, xs: &[TreeStmt]) -> Result<Items<Stmt>, AllocError>
@@ -57,13 +76,12 @@ impl Elaborator<'_> {
         ensures value { IfOk result (λ p. plain_procedure p ≡ procedure_of_tree self.old.scope (suc self.old.scope.body) proc.now) }
         ensures state { OnOk result (self.new.scope ≡ in_body (suc self.old.scope.body) proc.now.params self.old.scope) }
     {
-        let params = proc.params.as_slice();
-        self.scope.next_body(self.alloc, params)?;
+        self.scope.next_body(self.alloc, proc.params.as_slice())?;
         let body = self.body(proc.body.as_slice())?;
-        let name = proc.name.copy()?;
+        let (body, (name, parameters)) = beside(body, head(self.alloc, proc))?;
         Ok(Procedure {
             name,
-            parameters: parameters(self.alloc, params)?,
+            parameters,
             body,
             end_line: proc.end_line,
         })
@@ -80,17 +98,23 @@ impl Elaborator<'_> {
         Ok(all)
     }
 
+    /// A declared variable with its mode. An error is want of memory.
+    fn declaration(&self, named: NamedMode) -> Result<Declared, AllocError>
+        ensures { IfOk result (λ d. (plain_variable d.variable, mode_of d.mode) ≡ declaration_of self.now.scope (named.name, mode_of named.mode)) }
+    {
+        let NamedMode { name, mode } = named;
+        let variable = self.scope.variable(&name);
+        let (mode, variable) = beside(mode, variable)?;
+        Ok(Declared { variable, mode })
+    }
+
     /// The declared variables with their modes. An error is want of memory.
     fn declared(&self, modes: Items<NamedMode>) -> Result<Items<Declared>, AllocError>
         ensures { IfOk result (λ all. map (λ d. (plain_variable d.variable, mode_of d.mode)) all ≡ map (declaration_of self.now.scope) (map (λ d. (d.name, mode_of d.mode)) modes)) }
     {
         let mut all = Items::new(self.alloc);
         for named in modes.into_vec() {
-            let variable = self.scope.variable(&named.name)?;
-            all.push(Declared {
-                variable,
-                mode: named.mode,
-            })?;
+            all.push(self.declaration(named)?)?;
         }
         Ok(all)
     }
@@ -101,13 +125,15 @@ impl Elaborator<'_> {
         requires modes { map (λ d. (d.name, mode_of d.mode)) modes ≡ variables_of tree.now.modes }
         ensures { IfOk result (λ p. plain_program p ≡ program_of tree.now) }
     {
-        let main = self.body(tree.body.as_slice())?;
         let declared = self.declared(modes)?;
-        let procedures = self.procedures(tree.procs.as_slice())?;
-        let name = tree.name.copy()?;
+        let (declared, main) = beside(declared, self.body(tree.body.as_slice()))?;
+        let held = (declared, main);
+        let (held, procedures) = beside(held, self.procedures(tree.procs.as_slice()))?;
+        let (held, (name, vars)) = beside((held, procedures), names(self.alloc, tree))?;
+        let ((declared, main), procedures) = held;
         Ok(Program {
             name,
-            vars: vars(self.alloc, tree.vars.as_slice())?,
+            vars,
             main,
             end_line: tree.end_line,
             procedures,
@@ -122,11 +148,6 @@ pub fn elaborate(alloc: Global, tree: &Tree, modes: Items<NamedMode>) -> Result<
     requires { map (λ d. (d.name, mode_of d.mode)) modes ≡ variables_of tree.now.modes }
     ensures { IfOk result (λ p. plain_program p ≡ program_of tree.now) }
 {
-    let scope = Scope::main(alloc, tree)?;
-    let mut elaborator = Elaborator {
-        alloc,
-        scope,
-        opened: Opened::none(),
-    };
+    let (modes, mut elaborator) = beside(modes, Elaborator::main(alloc, tree))?;
     elaborator.program(tree, modes)
 }

@@ -1,6 +1,6 @@
 //! Which variable a name stands for where it stands.
 
-ghost use Rattle.std.specs.Prelude.{◌≡◌, ℕ, List, suc, None, map, option_map, IfOk, OnOk};
+ghost use Rattle.std.specs.Prelude.{◌≡◌, ℕ, List, suc, None, Ok, map, option_map, IfOk, OnOk};
 ghost use Rattle.setl_names.specs.Names.{Name};
 ghost use Rattle.setl_program.specs.code.Plain.{plain_variable, plain_slots, plain_binding};
 ghost use Rattle.setl_program.specs.ProgramOf.{main_scope, in_body};
@@ -27,6 +27,15 @@ impl Model for Former {
     ghost Value = { spec.Former };
 
     ghost view = { λ f. record { number = f.number; names = f.names } };
+}
+
+/// What was made before, and what is made now. An error is that of the second.
+fn beside<T: Drop, U: Drop>(held: T, other: Result<U, AllocError>) -> Result<(T, U), AllocError>
+    ensures held { IfOk result (λ both. both.0 ≡ held) }
+    ensures other { IfOk result (λ both. other ≡ Ok both.1) }
+{
+    let other = other?;
+    Ok((held, other))
 }
 
 /// Where an expression stands: the number of its body, its parameters and the names in `var`, the formers around it, the
@@ -58,7 +67,7 @@ impl<'t> Scope<'t> {
         ensures { IfOk result (λ s. s ≡ main_scope tree.now) }
     {
         let vars = names_of_vars(alloc, tree.vars.as_slice())?;
-        let procedures = Procs::new(alloc, tree.procs.as_slice())?;
+        let (vars, procedures) = beside(vars, Procs::new(alloc, tree.procs.as_slice()))?;
         Ok(Scope {
             body: 0,
             parameters: Names::new(alloc),
@@ -195,6 +204,21 @@ impl<'t> Scope<'t> {
         }
     }
 
+    /// What an iterator over the images of a map binds: the variables of an image and of its argument. An error is want of
+    /// memory.
+    fn point(
+        &self,
+        former: Option<u32>,
+        value: &Text,
+        argument: &Text,
+    ) -> Result<Binding, AllocError>
+        ensures { IfOk result (λ b. plain_binding b ≡ Point (spec.bound_by former self.now value.now) (spec.bound_by former self.now argument.now)) }
+    {
+        let image = self.bound_variable(former, value)?;
+        let (image, argument) = beside(image, self.bound_variable(former, argument))?;
+        Ok(Binding::Point(image, argument))
+    }
+
     /// The variable of the map of an iterator over its images, and what the iterator binds: the map's name stands for what
     /// it stands for outside of the iterator. An error is want of memory.
     pub fn image(
@@ -208,9 +232,7 @@ impl<'t> Scope<'t> {
         ensures binding { IfOk result (λ r. plain_binding r.1 ≡ Point (spec.bound_by former self.now value.now) (spec.bound_by former self.now argument.now)) }
     {
         let map = self.variable(map)?;
-        let image = self.bound_variable(former, value)?;
-        let argument = self.bound_variable(former, argument)?;
-        Ok((map, Binding::Point(image, argument)))
+        beside(map, self.point(former, value, argument))
     }
 
     /// The variables that names stand for. An error is want of memory.

@@ -17,10 +17,10 @@ invariant-exprs-loop-x l = record {
   state : past (spec.terms (map part_of (drop l.x-index l.xs))) l.self ≡ past (spec.terms (map part_of l.xs)) l.initial.self;
 }
 
-abbrev pub invariant-chain_on-loop-op : goal.invariant-chain_on-loop-op
-invariant-chain_on-loop-op l = record {
-  value : made (spec.chain_on (plain_chain l.all) (map (λ x. (x.0, part_of x.1)) (drop l.op-index l.others))) l.self ≡ made (spec.chain_on (plain_chain l.initial.all) (map (λ x. (x.0, part_of x.1)) l.others)) l.initial.self;
-  state : past (spec.chain_on (plain_chain l.all) (map (λ x. (x.0, part_of x.1)) (drop l.op-index l.others))) l.self ≡ past (spec.chain_on (plain_chain l.initial.all) (map (λ x. (x.0, part_of x.1)) l.others)) l.initial.self;
+abbrev pub invariant-chain-loop-op : goal.invariant-chain-loop-op
+invariant-chain-loop-op l = record {
+  value : made (spec.chain_on (plain_chain l.all) (map (λ x. (x.0, part_of x.1)) (drop l.op-index l.others))) l.self ≡ made (spec.chain (part_of l.first) (map (λ x. (x.0, part_of x.1)) l.others)) l.fn.self;
+  state : past (spec.chain_on (plain_chain l.all) (map (λ x. (x.0, part_of x.1)) (drop l.op-index l.others))) l.self ≡ past (spec.chain (part_of l.first) (map (λ x. (x.0, part_of x.1)) l.others)) l.fn.self;
 }
 
 abbrev pub invariant-selected-loop-selector : goal.invariant-selected-loop-selector
@@ -58,91 +58,76 @@ abbrev inside : Option ExprTree → ℕ
 inside = weighed-Inner-Range-1.weight _ expr.the_size
 
 abbrev pub decreases-expr : goal.decreases-expr
-decreases-expr l = by (goal.size-expr l ∷ []) 0
+decreases-expr l = 8 * goal.size-expr l
 
 abbrev pub decreases-exprs : goal.decreases-exprs
-decreases-exprs l = by (goal.size-exprs l ∷ []) 1
+decreases-exprs l = 8 * goal.size-exprs l + 1
 
 abbrev pub decreases-optional : goal.decreases-optional
-decreases-optional l = by (goal.size-optional l ∷ []) 1
-
-abbrev pub decreases-chain_on : goal.decreases-chain_on
-decreases-chain_on l = by (goal.size-chain_on l ∷ []) 1
+decreases-optional l = 8 * goal.size-optional l + 1
 
 abbrev pub decreases-prefixed : goal.decreases-prefixed
-decreases-prefixed l = by (goal.size-prefixed l ∷ []) 1
+decreases-prefixed l = 8 * goal.size-prefixed l + 1
 
 abbrev pub decreases-selected : goal.decreases-selected
-decreases-selected l = by (goal.size-selected l ∷ []) 1
+decreases-selected l = 8 * goal.size-selected l + 1
 
 abbrev pub decreases-applied : goal.decreases-applied
-decreases-applied l = by (goal.size-applied l ∷ []) 0
+decreases-applied l = 8 * goal.size-applied l
 
 abbrev pub decreases-at_list : goal.decreases-at_list
-decreases-at_list l = by (goal.size-at_list l ∷ []) 3
+decreases-at_list l = 8 * goal.size-at_list l + 3
 
 abbrev pub decreases-listed : goal.decreases-listed
-decreases-listed l = by (goal.size-listed l ∷ []) 2
+decreases-listed l = 8 * goal.size-listed l + 2
 
 abbrev pub decreases-name_selection : goal.decreases-name_selection
-decreases-name_selection l = by (goal.size-name_selection l ∷ []) 3
-
-abbrev pub decreases-variable_selection : goal.decreases-variable_selection
-decreases-variable_selection l = by (goal.size-variable_selection l ∷ []) 2
+decreases-name_selection l = 8 * goal.size-name_selection l + 3
 
 abbrev pub decreases-application : goal.decreases-application
-decreases-application l = by (goal.size-application l ∷ []) 5
+decreases-application l = 8 * goal.size-application l + 5
 
 abbrev pub decreases-call : goal.decreases-call
-decreases-call l = by (goal.size-call l ∷ []) 4
+decreases-call l = 8 * goal.size-call l + 4
 
 abbrev pub decreases-arguments : goal.decreases-arguments
-decreases-arguments l = by (goal.size-arguments l ∷ []) 3
+decreases-arguments l = 8 * goal.size-arguments l + 3
 
 abbrev pub decreases-argument : goal.decreases-argument
-decreases-argument l = by (goal.size-argument l ∷ []) 2
-
-abbrev pub decreases-value_argument : goal.decreases-value_argument
-decreases-value_argument l = by (goal.size-value_argument l ∷ []) 1
+decreases-argument l = 8 * goal.size-argument l + 2
 
 abbrev pub decreases-iterators : goal.decreases-iterators
-decreases-iterators l = by (goal.size-iterators l ∷ []) 1
+decreases-iterators l = 8 * goal.size-iterators l + 1
 
 abbrev pub decreases-own_iterator : goal.decreases-own_iterator
-decreases-own_iterator l = by (goal.size-own_iterator l ∷ []) 1
+decreases-own_iterator l = 8 * goal.size-own_iterator l + 1
 
 abbrev pub decreases-own_iterators : goal.decreases-own_iterators
-decreases-own_iterators l = by (goal.size-own_iterators l ∷ []) 2
+decreases-own_iterators l = 8 * goal.size-own_iterators l + 2
 
 abbrev pub decreases-iterator : goal.decreases-iterator
-decreases-iterator l = by (goal.size-iterator l ∷ []) 0
+decreases-iterator l = 8 * goal.size-iterator l
 
 abbrev pub decreases-inner : goal.decreases-inner
-decreases-inner l = by (goal.size-inner l ∷ []) 0
-
-abbrev pub decreases-enumerated : goal.decreases-enumerated
-decreases-enumerated l = by (goal.size-enumerated l ∷ []) 2
+decreases-inner l = 8 * goal.size-inner l
 
 abbrev pub decreases-expr_within : goal.decreases-expr_within
-decreases-expr_within l = by (goal.size-expr_within l ∷ []) 1
+decreases-expr_within l = 8 * goal.size-expr_within l + 1
 
 abbrev pub decreases-own_condition : goal.decreases-own_condition
-decreases-own_condition l = by (goal.size-own_condition l ∷ []) 2
+decreases-own_condition l = 8 * goal.size-own_condition l + 2
 
 abbrev pub decreases-bound_condition : goal.decreases-bound_condition
-decreases-bound_condition l = by (goal.size-bound_condition l ∷ []) 2
+decreases-bound_condition l = 8 * goal.size-bound_condition l + 2
 
 abbrev pub decreases-source : goal.decreases-source
-decreases-source l = by (goal.size-source l ∷ []) 2
-
-abbrev pub decreases-value_source : goal.decreases-value_source
-decreases-value_source l = by (goal.size-value_source l ∷ []) 1
+decreases-source l = 8 * goal.size-source l + 2
 
 abbrev pub decreases-inner_source : goal.decreases-inner_source
-decreases-inner_source l = by (goal.size-inner_source l ∷ []) 1
+decreases-inner_source l = 8 * goal.size-inner_source l + 1
 
 abbrev pub decreases-over : goal.decreases-over
-decreases-over l = by (goal.size-over l ∷ []) 3
+decreases-over l = 8 * goal.size-over l + 3
 
 abbrev pub decreases-choice : goal.decreases-choice
 decreases-choice l = by (goal.size-choice l ∷ expr.the_size l.b.now ∷ expr.the_size l.c.now ∷ []) 1
@@ -155,9 +140,6 @@ decreases-comparison l = by (goal.size-comparison l ∷ expr.the_size l.b.now �
 
 abbrev pub decreases-selection : goal.decreases-selection
 decreases-selection l = by (goal.size-selection l ∷ expr.the_size l.x.now ∷ []) 4
-
-abbrev pub decreases-value_selection : goal.decreases-value_selection
-decreases-value_selection l = by (goal.size-value_selection l ∷ expr.the_size l.x.now ∷ []) 2
 
 abbrev pub decreases-quantified : goal.decreases-quantified
 decreases-quantified l = by (goal.size-quantified l ∷ expr.the_size l.x.now ∷ []) 2

@@ -28,28 +28,28 @@ abbrev by : List ℕ → ℕ → ℕ
 by depths rank = 8 * most (λ n. n) depths + rank
 
 abbrev pub decreases-stmts : goal.decreases-stmts
-decreases-stmts l = by (goal.size-stmts l ∷ []) 1
+decreases-stmts l = 8 * goal.size-stmts l + 1
 
 abbrev pub decreases-stmt : goal.decreases-stmt
-decreases-stmt l = by (goal.size-stmt l ∷ []) 0
+decreases-stmt l = 8 * goal.size-stmt l
 
 abbrev pub decreases-kind : goal.decreases-kind
-decreases-kind l = by (goal.size-kind l ∷ []) 0
+decreases-kind l = 8 * goal.size-kind l
 
 abbrev pub decreases-branch : goal.decreases-branch
-decreases-branch l = by (goal.size-branch l ∷ []) 0
+decreases-branch l = 8 * goal.size-branch l
 
 abbrev pub decreases-branches : goal.decreases-branches
-decreases-branches l = by (goal.size-branches l ∷ []) 1
+decreases-branches l = 8 * goal.size-branches l + 1
 
 abbrev pub decreases-optional_block : goal.decreases-optional_block
-decreases-optional_block l = by (goal.size-optional_block l ∷ []) 2
+decreases-optional_block l = 8 * goal.size-optional_block l + 2
 
 abbrev pub decreases-for_loop : goal.decreases-for_loop
-decreases-for_loop l = by (goal.size-for_loop l ∷ []) 2
+decreases-for_loop l = 8 * goal.size-for_loop l + 2
 
 abbrev pub decreases-while_loop : goal.decreases-while_loop
-decreases-while_loop l = by (goal.size-while_loop l ∷ []) 2
+decreases-while_loop l = 8 * goal.size-while_loop l + 2
 
 abbrev pub decreases-if_of : goal.decreases-if_of
 decreases-if_of l = by (goal.size-if_of l ∷ most branch.the_size l.others.now ∷ weighed-StmtKind-If-2.weight _ stmt.the_size l.last.now ∷ []) 3
