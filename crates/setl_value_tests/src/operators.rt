@@ -7,7 +7,7 @@ ghost use Rattle.std.specs.Bool.{OnTrue};
 ghost use Rattle.std.specs.Prelude.{◌≡◌};
 ghost use Rattle.setl_map.specs.Operators.{operand_count, TakesOperands};
 
-use crate::written::values;
+use crate::written::{Parts, add_values, show_part};
 use setl_operators::Operator::{
     Above, Abs, Add, Arb, AtLeast, AtMost, Below, Divide, Domain, Equal, Even, FoldAdd, FoldAnd,
     FoldMax, FoldMin, FoldMultiply, FoldOr, Get, Images, In, Includes, IsAtom, IsBoolean,
@@ -15,14 +15,13 @@ use setl_operators::Operator::{
     Not, NotEqual, NotIn, Npow, Odd, Pow, Power, Put, PutImages, Range, SetOf, SetRange, SetStep,
     Size, Slice, Str, Subset, Subtract, Tail, TupleOf, TupleRange, TupleStep, With,
 };
-use setl_operators::{Answer, OpFault, Operator, op};
-use setl_text::text;
+use setl_operators::{Answer, OpFault, Operator, op, op_one, op_two};
 use setl_value::{Memory, Value};
 use std::alloc::Global;
-use std::test::Fail;
+use std::fmt::Write;
 
 // The operators of the tables.
-const OPERATORS: [Operator; 58] = [
+const OPERATORS: &[Operator] = &[
     Above,
     Abs,
     Add,
@@ -85,7 +84,8 @@ const OPERATORS: [Operator; 58] = [
 
 // Rows, a line each: an operator, its operands, the turns left, and what is given. The prover reads a table as one word,
 // so a row costs nothing.
-const NUMBERS: &str = "Negate | 5 | 0 | -5
+pub const NUMBERS: &str = "Add | 1 1 | 0 | 2
+Negate | 5 | 0 | -5
 Negate | -170141183460469231731687303715884105728 | 0 | Wide
 Negate | -5 | 0 | 5
 Negate | 0 | 0 | 0
@@ -203,7 +203,8 @@ Multiply | {1 2 3 4 5 6 7 8 9 10 11 12 13 14 15 16 17 18 19 20 21 22 23 24 25 26
 Multiply | {7 99} {1 2 3 4 5 6 7 8 9 10 11 12 13 14 15 16 17 18 19 20 21 22 23 24 25 26 27 28 29 30 31 32 33 34 35 36 37 38 39 40 41 42 43 44 45 46 47 48} | 0 | {7}
 Modulo | {1 2 3 4 5 6 7 8 9 10 11 12 13 14 15 16 17 18 19 20 21 22 23 24 25 26 27 28 29 30 31 32 33 34 35 36 37 38 39 40 41 42 43 44 45 46 47 48} {7 99} | 0 | {1 2 3 4 5 6 8 9 10 11 12 13 14 15 16 17 18 19 20 21 22 23 24 25 26 27 28 29 30 31 32 33 34 35 36 37 38 39 40 41 42 43 44 45 46 47 48 99}";
 
-const TRUTHS: &str = "Not | true | 0 | false
+pub const TRUTHS: &str = "Equal | {} * | 0 | false
+Not | true | 0 | false
 Not | 1 | 0 | Kind
 IsInteger | 1 | 0 | true
 IsInteger | * | 0 | false
@@ -211,6 +212,7 @@ IsString | 'a' | 0 | true
 IsString | '' | 0 | true
 IsBoolean | false | 0 | true
 IsAtom | 1 | 0 | false
+IsAtom | atom 7 | 0 | true
 IsTuple | [] | 0 | true
 IsSet | {1} | 0 | true
 IsSet | {} | 0 | true
@@ -259,7 +261,10 @@ Includes | {1} {1 2} | 0 | false
 Subset | {7 9} {1 2 3 4 5 6 7 8 9 10 11 12 13 14 15 16 17 18 19 20 21 22 23 24 25 26 27 28 29 30 31 32 33 34 35 36 37 38 39 40 41 42 43 44 45 46 47 48} | 0 | true
 Subset | {7 99} {1 2 3 4 5 6 7 8 9 10 11 12 13 14 15 16 17 18 19 20 21 22 23 24 25 26 27 28 29 30 31 32 33 34 35 36 37 38 39 40 41 42 43 44 45 46 47 48} | 0 | false";
 
-const WHOLES: &str = "Size | 'abc' | 0 | 3
+pub const WHOLES: &str = "With | {} 1 | 0 | {1}
+Size | {1} | 0 | 1
+Size | {} | 0 | 0
+Size | 'abc' | 0 | 3
 Size | [* 1] | 0 | 2
 Size | {3 1 2} | 0 | 3
 Size | [4 * 6] | 0 | 3
@@ -378,7 +383,7 @@ PutImages | {[1 2] [2 5]} 1 * | 0 | Om
 PutImages | {[2 5] [1 3] [1 2]} 1 {8 9} | 0 | {[1 8] [1 9] [2 5]}
 PutImages | {[2 7]} 2 {} | 0 | {}";
 
-const FOLDS: &str = "FoldAdd | {1 2 3} | 0 | 6
+pub const FOLDS: &str = "FoldAdd | {1 2 3} | 0 | 6
 FoldAdd | ['a' 'b' 'c'] | 0 | 'abc'
 FoldAdd | [1 * 3] | 0 | Om
 FoldAdd | [1 'a' *] | 0 | Kind
@@ -469,75 +474,100 @@ fn takes(what: Operator, n: usize) -> bool
 }
 
 // The value and the charge, or the fault.
-fn shown(alloc: Global, answer: &Result<Answer, OpFault>) -> Result<Vec<u8>, Memory> {
+fn show_outcome(
+    alloc: Global,
+    answer: &Result<Answer, OpFault>,
+    shown: &mut String,
+) -> Result<(), Memory> {
     match answer {
         Ok(a) => {
-            let mut all = shown_part(alloc, &a.value)?;
-            if a.charged > 0 {
-                all.extend_from_slice(format!(in alloc; " charges {}", a.charged)?.as_bytes())?;
-            }
-            Ok(all)
+            show_part(alloc, &a.value, shown)?;
+            show_charge(a.charged, shown)
         }
-        Err(e) => format!(in alloc; "{e:?}")?.as_bytes().to_vec(alloc),
+        Err(e) => write!(shown, "{e:?}"),
     }
 }
 
-// The text of a value, or of `om`.
-fn shown_part(alloc: Global, v: &Option<Value>) -> Result<Vec<u8>, Memory> {
-    match v {
-        Some(v) => text(alloc, v),
-        None => b"*".to_vec(alloc),
+/// The charge, where there is one.
+pub fn show_charge(charged: u64, shown: &mut String) -> Result<(), Memory> {
+    if charged > 0 {
+        write!(shown, " charges {charged}")
+    } else {
+        Ok(())
     }
 }
 
-// What an operator makes of some operands, as it is shown.
-fn answer(alloc: Global, what: Operator, denotations: &str, turns: u64) -> Result<Vec<u8>, Memory> {
-    let args = values(alloc, denotations)?;
-    if !takes(what, args.len()) {
-        return b"another number of operands".to_vec(alloc);
+// What an operator makes of operands that it is handed.
+fn show_answer(
+    alloc: Global,
+    what: Operator,
+    args: Parts,
+    turns: u64,
+    shown: &mut String,
+) -> Result<(), Memory> {
+    if takes(what, args.len()) {
+        show_outcome(alloc, &op(alloc, what, args, turns), shown)
+    } else {
+        shown.push_str("another number of operands")
     }
-    shown(alloc, &op(alloc, what, args, turns))
+}
+
+// What an operator makes of one or two operands that it is lent, and whether it is lent any.
+fn show_lent(
+    alloc: Global,
+    what: Operator,
+    args: &[Option<Value>],
+    turns: u64,
+    shown: &mut String,
+) -> Result<(), Memory> {
+    match (count(what), args) {
+        (Some(1), [a]) => show_outcome(alloc, &op_one(alloc, what, a.as_ref(), turns), shown),
+        (Some(2), [a, b]) => {
+            let answer = op_two(alloc, what, a.as_ref(), b.as_ref(), turns);
+            show_outcome(alloc, &answer, shown)
+        }
+        _ => shown.push_str("another number of operands"),
+    }
 }
 
 // The operator of this name.
-fn named(alloc: Global, name: &str) -> Result<Option<Operator>, Memory> {
+fn named(name: &str, spelled: &mut String) -> Result<Option<Operator>, Memory> {
     for what in OPERATORS {
-        if format!(in alloc; "{what:?}")?.as_str() == name {
-            return Ok(Some(what));
+        spelled.clear();
+        write!(spelled, "{what:?}")?;
+        if spelled.as_str() == name {
+            return Ok(Some(*what));
         }
     }
     Ok(None)
 }
 
-// What is given for the operator, the operands and the turns of a row.
-fn given(alloc: Global, call: &str) -> Result<Vec<u8>, Memory> {
-    let mut fields = call.split(" | ");
-    let what = named(alloc, fields.next().unwrap_or(""))?;
-    let denotations = fields.next().unwrap_or("");
-    let turns = fields.next().unwrap_or("").parse();
-    match (what, turns) {
-        (Some(what), Ok(turns)) => answer(alloc, what, denotations, turns),
-        _ => b"no operator, or no number of turns".to_vec(alloc),
+// What an operator makes of its operands. One with one or two may be lent them.
+fn show_call(
+    alloc: Global,
+    lends: bool,
+    what: Operator,
+    args: Parts,
+    turns: u64,
+    shown: &mut String,
+) -> Result<(), Memory> {
+    if lends && matches!(count(what), Some(1 | 2)) {
+        show_lent(alloc, what, args.as_slice(), turns, shown)
+    } else {
+        show_answer(alloc, what, args, turns, shown)
     }
 }
 
-#[test]
-fn operators_answer_as_the_table_says(rt: HostRuntime) -> Result<(), Fail> {
-    let alloc = rt.alloc();
-    for table in [NUMBERS, TRUTHS, WHOLES, FOLDS] {
-        for row in table.lines() {
-            let (call, expected) = row.rsplit_once(" | ").unwrap_or((row, ""));
-            let given = given(alloc, call)?;
-            assert_eq!(rt; given.as_slice(), expected.as_bytes(), "{call}");
-        }
-    }
-    Ok(())
-}
-
-#[test]
-fn an_atom_is_an_atom(rt: HostRuntime) -> Result<(), Fail> {
-    let alloc = rt.alloc();
-    let given = op(alloc, IsAtom, vec![in alloc; Some(Value::Atom(7))]?, 0);
-    assert_eq!(rt; shown(alloc, &given)?.as_slice(), b"true".as_slice());
-    Ok(())
+/// What is given for the operator, the operands and the turns of a row. An operator with one or two operands may be lent
+/// them.
+pub fn show_row(alloc: Global, lends: bool, row: &str, shown: &mut String) -> Result<(), Memory> {
+    let (name, rest) = row.split_once(" | ").unwrap_or((row, ""));
+    let (operands, turns) = rest.rsplit_once(" | ").unwrap_or((rest, ""));
+    let what = named(name, &mut String::new(alloc))?;
+    let (Some(what), Ok(turns)) = (what, turns.parse()) else {
+        return shown.push_str("no operator, or no number of turns");
+    };
+    let mut args = Vec::new(alloc);
+    add_values(alloc, operands, &mut args)?;
+    show_call(alloc, lends, what, args, turns, shown)
 }

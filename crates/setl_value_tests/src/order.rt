@@ -1,71 +1,127 @@
 //! The canonical order of all kinds, values as keys, and the greatest depth.
 
-use crate::written::{value, values};
-use setl_tuple::{TupleFault, put, with};
-use setl_value::{Memory, TupleBody, Value};
+use crate::written::{Parts, add_values};
+use setl_value::{Memory, Value};
 use std::alloc::Global;
 use std::cmp::Ordering;
 use std::collections::{BTreeMap, HashMap};
+use std::process::Abort;
 use std::test::Fail;
 
-fn add_values(alloc: Global, all: &mut Vec<Value>, denotations: &str) -> Result<(), Memory> {
-    for v in values(alloc, denotations)? {
-        if let Some(v) = v {
-            all.push(v)?;
-        }
+// 18 values, the least first.
+const RISING: &str = "false true -5 3 '' 'a' 'ab' 'b'
+atom 1
+atom 2
+[] [* 1] [1] [1 2] {} {1} {1 2} {2}";
+
+// The least of these is written in the front.
+const DEEP: &str = "set 499
+set 500";
+
+fn add_rows(alloc: Global, rows: &str, all: &mut Parts) -> Result<(), Memory> {
+    for row in rows.lines() {
+        add_values(alloc, row, all)?;
     }
     Ok(())
 }
 
-// 18 values, the least first. An atom has no denotation.
-fn rising_values(alloc: Global) -> Result<Vec<Value>, Memory> {
-    let mut all = Vec::new(alloc);
-    add_values(alloc, &mut all, "false true -5 3 '' 'a' 'ab' 'b'")?;
-    all.push(Value::Atom(1))?;
-    all.push(Value::Atom(2))?;
-    add_values(alloc, &mut all, "[] [* 1] [1] [1 2] {} {1} {1 2} {2}")?;
-    Ok(all)
+fn compare(v: &Option<Value>, w: &Option<Value>) -> Option<Ordering> {
+    Some(v.as_ref()?.compare(w.as_ref()?))
 }
 
-#[test]
-fn kinds_and_their_values_stand_in_the_canonical_order(rt: HostRuntime) -> Result<(), Fail> {
-    let all = rising_values(rt.alloc())?;
-    assert_eq!(rt; all.len(), 18);
+// Compares the value at this place with each.
+fn expect_place(rt: &impl Abort, all: &[Option<Value>], i: usize, v: &Option<Value>) {
+    for (j, w) in all.iter().enumerate() {
+        assert_eq!(rt; compare(v, w), Some(i.cmp(&j)), "at {i} and {j}");
+    }
+}
+
+fn expect_rising(rt: &impl Abort, all: &[Option<Value>]) {
     for (i, v) in all.iter().enumerate() {
-        for (j, w) in all.iter().enumerate() {
-            assert_eq!(rt; v.compare(w), i.cmp(&j), "at {i} and {j}");
+        expect_place(rt, all, i, v);
+    }
+}
+
+// Copies of all but the first value become keys of their places.
+fn add_keys(
+    all: &[Option<Value>],
+    tree: &mut BTreeMap<Value, usize>,
+    hash: &mut HashMap<Value, usize>,
+) -> Result<(), Memory> {
+    for (i, v) in all.iter().enumerate().skip(1) {
+        if let Some(v) = v {
+            tree.insert(v.copy()?, i)?;
+            hash.insert(v.copy()?, i)?;
         }
     }
     Ok(())
 }
 
-#[test]
-fn values_are_keys_of_maps(rt: HostRuntime) -> Result<(), Fail> {
-    let alloc = rt.alloc();
-    let all = rising_values(alloc)?;
+fn place_in_tree(tree: &BTreeMap<Value, usize>, v: &Option<Value>) -> Option<usize> {
+    tree.get(v.as_ref()?).copied()
+}
+
+fn place_in_hash(hash: &HashMap<Value, usize>, v: &Option<Value>) -> Option<usize> {
+    hash.get(v.as_ref()?).copied()
+}
+
+// Each value but the first finds its place.
+fn expect_places(
+    rt: &impl Abort,
+    all: &[Option<Value>],
+    tree: &BTreeMap<Value, usize>,
+    hash: &HashMap<Value, usize>,
+) {
+    for (i, v) in all.iter().enumerate() {
+        let place = if i == 0 { None } else { Some(i) };
+        assert_eq!(rt; place_in_tree(tree, v), place);
+        assert_eq!(rt; place_in_hash(hash, v), place);
+    }
+}
+
+fn expect_keys(rt: &impl Abort, alloc: Global, all: &[Option<Value>]) -> Result<(), Memory> {
     let mut tree = BTreeMap::new(alloc);
     let mut hash = HashMap::new(alloc);
-    for (i, v) in all.iter().enumerate() {
-        tree.insert(v.copy()?, i)?;
-        hash.insert(v.copy()?, i)?;
-    }
-    for (i, v) in all.iter().enumerate() {
-        assert_eq!(rt; tree.get(v).copied(), Some(i));
-        assert_eq!(rt; hash.get(v).copied(), Some(i));
-    }
+    add_keys(all, &mut tree, &mut hash)?;
+    expect_places(rt, all, &tree, &hash);
     Ok(())
 }
 
-// The text of a set or tuple of nothing but this many brackets of each kind.
-fn tower(alloc: Global, open: u8, close: u8, height: usize) -> Result<Value, Memory> {
-    let mut text = String::new(alloc);
-    for _ in 0..height {
-        text.push(open as char)?;
+// These values are as many, stand in the canonical order, and are keys of maps.
+fn expect_order(
+    rt: &impl Abort,
+    alloc: Global,
+    rows: &str,
+    count: usize,
+    all: &mut Parts,
+) -> Result<(), Memory> {
+    add_rows(alloc, rows, all)?;
+    assert_eq!(rt; all.len(), count);
+    expect_rising(rt, all);
+    expect_keys(rt, alloc, all)
+}
+
+// A copy of a value is equal, and as deep.
+fn expect_copy(rt: &impl Abort, v: &Value, depth: u32) -> Result<(), Memory> {
+    let copy = v.copy()?;
+    assert_eq!(rt; copy.depth(), depth);
+    assert_eq!(rt; copy.compare(v), Ordering::Equal);
+    Ok(())
+}
+
+#[test]
+fn values_stand_in_the_canonical_order_and_are_keys_of_maps(rt: HostRuntime) -> Result<(), Fail> {
+    let alloc = rt.alloc();
+    expect_order(&rt, alloc, RISING, 18, &mut Vec::new(alloc))?;
+    Ok(())
+}
+
+fn expect_deep(rt: &impl Abort, alloc: Global, all: &mut Parts) -> Result<(), Memory> {
+    expect_order(rt, alloc, DEEP, 2, all)?;
+    match all.last() {
+        Some(Some(v)) => expect_copy(rt, v, 500),
+        _ => panic!(rt; "no value"),
     }
-    for _ in 0..height {
-        text.push(close as char)?;
-    }
-    value(alloc, &text)
 }
 
 #[test]
@@ -73,39 +129,6 @@ fn values_of_depth_500_are_built_compared_copied_hashed_and_dropped(
     rt: HostRuntime,
 ) -> Result<(), Fail> {
     let alloc = rt.alloc();
-    let high = tower(alloc, b'{', b'}', 500)?;
-    let low = tower(alloc, b'{', b'}', 499)?;
-    let copy = high.copy()?;
-    assert_eq!(rt; copy.depth(), 500);
-    assert_eq!(rt; copy.compare(&high), Ordering::Equal);
-    assert_eq!(rt; low.compare(&high), Ordering::Less);
-    let mut keys = HashMap::new(alloc);
-    keys.insert(high, 1)?;
-    assert_eq!(rt; keys.get(&copy).copied(), Some(1));
-    assert_eq!(rt; keys.get(&low).copied(), None);
-    Ok(())
-}
-
-// [1] with a tuple of this depth at its end: its depth then
-fn deepened(alloc: Global, height: usize) -> Result<u32, TupleFault> {
-    let mut t = TupleBody::of(alloc, Vec::new(alloc))?;
-    with(&mut t, Value::Int(1))?;
-    with(&mut t, tower(alloc, b'[', b']', height)?)?;
-    Ok(t.depth())
-}
-
-fn put_past_the_end(alloc: Global, height: usize) -> Result<u32, TupleFault> {
-    let mut t = TupleBody::of(alloc, Vec::new(alloc))?;
-    put(alloc, &mut t, 9, Some(tower(alloc, b'[', b']', height)?))?;
-    Ok(t.depth())
-}
-
-#[test]
-fn tuples_grow_up_to_the_greatest_depth(rt: HostRuntime) -> Result<(), Fail> {
-    let alloc = rt.alloc();
-    for (height, depth) in [(499, Ok(500)), (500, Err(TupleFault::Deep))] {
-        assert_eq!(rt; deepened(alloc, height), depth);
-        assert_eq!(rt; put_past_the_end(alloc, height), depth);
-    }
+    expect_deep(&rt, alloc, &mut Vec::new(alloc))?;
     Ok(())
 }

@@ -1,217 +1,238 @@
 //! The outside in memory: what is loaded, read and written, with each call failing in turn.
 
-ghost use Rattle.std.specs.Prelude.{◌<◌};
-
+use crate::written::show_bytes;
 use setl_io::{
     Files, Load, MemFiles, MemSink, MemSource, Memory, Put, Sink, Source, SureFiles, SureSink,
     SureSource, Took, WriteFault, write_all,
 };
 use std::alloc::Global;
-use std::test::Fail;
+use std::fmt::Write;
 
-// Each text under its name; the one of `a` comes in place of another.
-const TEXTS: [(&str, &str); 3] = [("a", "other"), ("b", "d"), ("a", "abc")];
+// Each text behind its name; the second one of `a` comes in place of the first.
+const TEXTS: &str = "a other
+b d
+a abc";
 
-fn mem_files(alloc: Global, fails: Vec<u64>) -> Result<MemFiles, Memory> {
-    let mut files = MemFiles::new(alloc, fails)?;
-    for (name, text) in TEXTS {
-        files.add(
-            String::from_str(alloc, name)?,
-            text.as_bytes().to_vec(alloc)?,
-        )?;
-    }
-    Ok(files)
-}
-
-fn sure_files(alloc: Global) -> Result<SureFiles, Memory> {
-    let mut files = SureFiles::new(alloc)?;
-    for (name, text) in TEXTS {
-        files.add(
-            String::from_str(alloc, name)?,
-            text.as_bytes().to_vec(alloc)?,
-        )?;
-    }
-    Ok(files)
-}
-
-// A mark for what became of a load, and the text that stands there then.
-fn loaded<F: Files>(
-    alloc: Global,
-    files: &mut F,
-    name: &str,
-    limit: u64,
-) -> Result<Vec<u8>, Memory> {
-    let mut into = vec![in alloc; b'?'; 1]?;
-    let mark = match files.load(name, limit, &mut into) {
-        Load::Loaded => b'=',
-        Load::TooLong => b'+',
-        Load::Failed => b'!',
-        Load::NoMemory => b'0',
-    };
-    into.push(mark)?;
-    Ok(into)
-}
-
-#[test]
-fn a_text_is_loaded_up_to_the_limit(rt: HostRuntime) -> Result<(), Fail> {
-    let alloc = rt.alloc();
-    let mut files = mem_files(alloc, Vec::new(alloc))?;
-    let mut sure = sure_files(alloc)?;
-    for (name, limit, expected, by_sure) in [
-        ("a", 3, "abc=", "abc="),
-        ("a", 2, "+", "+"),
-        ("b", 9, "d=", "d="),
-        ("c", 9, "!", "="),
-    ] {
-        let answer = loaded(alloc, &mut files, name, limit)?;
-        assert_eq!(rt; answer.as_slice(), expected.as_bytes());
-        let answer = loaded(alloc, &mut sure, name, limit)?;
-        assert_eq!(rt; answer.as_slice(), by_sure.as_bytes());
+fn add_to_mem(alloc: Global, files: &mut MemFiles) -> Result<(), Memory> {
+    for row in TEXTS.lines() {
+        let (name, text) = row.split_once(' ').unwrap_or((row, ""));
+        let text = text.as_bytes().to_vec(alloc)?;
+        files.add(String::from_str(alloc, name)?, text)?;
     }
     Ok(())
 }
 
-// Three loads of `a`, of which the one of this number fails.
-fn three_loads(alloc: Global, failing: u64) -> Result<Vec<u8>, Memory> {
-    let mut files = mem_files(alloc, vec![in alloc; failing]?)?;
-    let mut all = Vec::new(alloc);
-    for _ in 0..3 {
-        all.extend_from_slice(loaded(alloc, &mut files, "a", 3)?.as_slice())?;
+fn add_to_sure(alloc: Global, files: &mut SureFiles) -> Result<(), Memory> {
+    for row in TEXTS.lines() {
+        let (name, text) = row.split_once(' ').unwrap_or((row, ""));
+        let text = text.as_bytes().to_vec(alloc)?;
+        files.add(String::from_str(alloc, name)?, text)?;
     }
-    Ok(all)
+    Ok(())
 }
 
-// Four reads with room for two bytes: the bytes, and a mark for each answer.
-fn four_reads<S: Source>(alloc: Global, source: &mut S) -> Result<Vec<u8>, Memory> {
-    let mut all = Vec::new(alloc);
-    for _ in 0..4 {
-        let mut room = [0u8; 2];
-        let mark = match source.read(&mut room) {
-            Took::Bytes(count) => {
-                all.extend_from_slice(&room[..count])?;
-                b'|'
-            }
-            Took::End => b'.',
-            Took::Failed => b'!',
-        };
-        all.push(mark)?;
+// A mark for what became of a load.
+fn mark_of_load(load: Load) -> char {
+    match load {
+        Load::Loaded => '=',
+        Load::TooLong => '+',
+        Load::Failed => '!',
+        Load::NoMemory => '0',
     }
-    Ok(all)
+}
+
+// Loads a text, which is written with its limit, into a list that isn't empty: what stands there then, and the mark.
+fn show_load<F: Files>(
+    alloc: Global,
+    files: &mut F,
+    text: &str,
+    shown: &mut String,
+) -> Result<(), Memory> {
+    let (name, limit) = text.split_once(':').unwrap_or((text, ""));
+    let mut into = vec![in alloc; b'?'; 1]?;
+    let load = files.load(name, limit.parse().unwrap_or(0), &mut into);
+    show_bytes(into.as_slice(), shown)?;
+    shown.push(mark_of_load(load))
+}
+
+fn show_loads<F: Files>(
+    alloc: Global,
+    files: &mut F,
+    texts: &str,
+    shown: &mut String,
+) -> Result<(), Memory> {
+    for text in texts.split(',') {
+        show_load(alloc, files, text, shown)?;
+    }
+    Ok(())
+}
+
+// Loads, of which the one of this number fails.
+fn show_mem_loads(
+    alloc: Global,
+    failing: u64,
+    texts: &str,
+    shown: &mut String,
+) -> Result<(), Memory> {
+    let mut files = MemFiles::new(alloc, vec![in alloc; failing; 1]?)?;
+    add_to_mem(alloc, &mut files)?;
+    show_loads(alloc, &mut files, texts, shown)
+}
+
+fn show_sure_loads(alloc: Global, texts: &str, shown: &mut String) -> Result<(), Memory> {
+    let mut files = SureFiles::new(alloc)?;
+    add_to_sure(alloc, &mut files)?;
+    show_loads(alloc, &mut files, texts, shown)
+}
+
+// A read with room for two bytes: the bytes, and a mark for the answer.
+fn show_read<S: Source>(source: &mut S, shown: &mut String) -> Result<(), Memory> {
+    let mut room = [0u8; 2];
+    match source.read(&mut room) {
+        Took::Bytes(count) => {
+            show_bytes(&room[..count], shown)?;
+            shown.push('|')
+        }
+        Took::End => shown.push('.'),
+        Took::Failed => shown.push('!'),
+    }
+}
+
+fn show_reads<S: Source>(source: &mut S, shown: &mut String) -> Result<(), Memory> {
+    for _ in 0..4 {
+        show_read(source, shown)?;
+    }
+    Ok(())
 }
 
 // Four reads of `abc`, which comes in pieces, and of which the read of this number fails.
-fn reads_in_pieces(alloc: Global, piece: usize, failing: u64) -> Result<Vec<u8>, Memory>
-    requires { 0 < piece }
-{
+fn show_mem_reads(
+    alloc: Global,
+    piece: usize,
+    failing: u64,
+    shown: &mut String,
+) -> Result<(), Memory> {
+    if piece == 0 {
+        return Ok(());
+    }
     let bytes = b"abc".to_vec(alloc)?;
-    four_reads(
-        alloc,
-        &mut MemSource::new(bytes, piece, vec![in alloc; failing]?),
-    )
+    let fails = vec![in alloc; failing; 1]?;
+    show_reads(&mut MemSource::new(bytes, piece, fails), shown)
 }
 
-// Three writes of `ab`: a mark for each answer.
-fn three_writes<S: Sink>(alloc: Global, sink: &mut S) -> Result<Vec<u8>, Memory> {
-    let mut all = Vec::new(alloc);
-    for _ in 0..3 {
-        let mark = match sink.write(b"ab") {
-            Put::Took(1) => b'1',
-            Put::Took(2) => b'2',
-            Put::Took(_) => b'?',
-            Put::Failed => b'!',
-            Put::NoMemory => b'0',
-        };
-        all.push(mark)?;
+// A write of `ab`: the number of bytes that are taken, or a mark.
+fn show_write<S: Sink>(sink: &mut S, shown: &mut String) -> Result<(), Memory> {
+    match sink.write(b"ab") {
+        Put::Took(count) => write!(shown, "{count}"),
+        Put::Failed => shown.push('!'),
+        Put::NoMemory => shown.push('N'),
     }
-    Ok(all)
+}
+
+fn show_writes<S: Sink>(sink: &mut S, shown: &mut String) -> Result<(), Memory> {
+    for _ in 0..3 {
+        show_write(sink, shown)?;
+    }
+    Ok(())
+}
+
+fn mark_of_writing(outcome: Result<(), WriteFault>) -> char {
+    match outcome {
+        Ok(()) => '=',
+        Err(WriteFault::Failed) => '!',
+        Err(WriteFault::NoMemory) => '0',
+    }
 }
 
 // Three writes to a sink that takes so many bytes a call and fails at the call of this number, and what it holds then.
-fn writes_in_pieces(alloc: Global, most: usize, failing: u64) -> Result<Vec<u8>, Memory> {
-    let mut sink = MemSink::new(alloc, most, vec![in alloc; failing]?)?;
-    let mut all = three_writes(alloc, &mut sink)?;
-    all.extend_from_slice(sink.held())?;
-    Ok(all)
+fn show_mem_writes(
+    alloc: Global,
+    most: usize,
+    failing: u64,
+    shown: &mut String,
+) -> Result<(), Memory> {
+    let mut sink = MemSink::new(alloc, most, vec![in alloc; failing; 1]?)?;
+    show_writes(&mut sink, shown)?;
+    show_bytes(sink.held(), shown)
 }
 
-#[test]
-fn each_call_fails_in_turn(rt: HostRuntime) -> Result<(), Fail> {
-    let alloc = rt.alloc();
-    for (failing, expected) in [(1, "!abc=abc="), (2, "abc=!abc="), (3, "abc=abc=!")] {
-        assert_eq!(rt;
-            three_loads(alloc, failing)?.as_slice(),
-            expected.as_bytes()
-        );
-    }
-    for (piece, failing, expected) in [
-        (1, 0, "a|b|c|."),
-        (9, 0, "ab|c|.."),
-        (9, 1, "!ab|c|."),
-        (9, 2, "ab|!c|."),
-        (9, 3, "ab|c|!."),
-        (1, 4, "a|b|c|!"),
-    ] {
-        let all = reads_in_pieces(alloc, piece, failing)?;
-        assert_eq!(rt; all.as_slice(), expected.as_bytes());
-    }
-    for (most, failing, expected) in [
-        (9, 0, "222ababab"),
-        (1, 0, "111aaa"),
-        (0, 0, "!!!"),
-        (9, 1, "!22abab"),
-        (9, 2, "2!2abab"),
-        (1, 3, "11!aa"),
-    ] {
-        let all = writes_in_pieces(alloc, most, failing)?;
-        assert_eq!(rt; all.as_slice(), expected.as_bytes());
-    }
-    Ok(())
+// A whole piece written to such a sink, and what the sink holds then.
+fn show_whole(
+    alloc: Global,
+    most: usize,
+    failing: u64,
+    piece: &str,
+    shown: &mut String,
+) -> Result<(), Memory> {
+    let mut sink = MemSink::new(alloc, most, vec![in alloc; failing; 1]?)?;
+    let outcome = write_all(&mut sink, piece.as_bytes());
+    shown.push(mark_of_writing(outcome))?;
+    show_bytes(sink.held(), shown)
 }
 
-#[test]
-fn sure_objects_never_fail(rt: HostRuntime) -> Result<(), Fail> {
-    let alloc = rt.alloc();
-    let mut source = SureSource::new(b"abc".to_vec(alloc)?);
-    assert_eq!(rt;
-        four_reads(alloc, &mut source)?.as_slice(),
-        b"ab|c|..".as_slice()
-    );
+fn show_sure_reads(alloc: Global, shown: &mut String) -> Result<(), Memory> {
+    show_reads(&mut SureSource::new(b"abc".to_vec(alloc)?), shown)
+}
+
+fn show_sure_writes(alloc: Global, shown: &mut String) -> Result<(), Memory> {
     let mut sink = SureSink::new(alloc)?;
-    assert_eq!(rt;
-        three_writes(alloc, &mut sink)?.as_slice(),
-        b"222".as_slice()
-    );
-    assert_eq!(rt; sink.held(), b"ababab".as_slice());
-    Ok(())
+    show_writes(&mut sink, shown)?;
+    show_bytes(sink.held(), shown)
 }
 
-// A whole piece written to such a sink, and what the sink holds then, with a mark at its end.
-fn written(alloc: Global, most: usize, failing: u64, piece: &str) -> Result<Vec<u8>, Memory> {
-    let mut sink = MemSink::new(alloc, most, vec![in alloc; failing]?)?;
-    let mark = match write_all(&mut sink, piece.as_bytes()) {
-        Ok(()) => b'=',
-        Err(WriteFault::Failed) => b'!',
-        Err(WriteFault::NoMemory) => b'0',
-    };
-    let mut all = sink.held().to_vec(alloc)?;
-    all.push(mark)?;
-    Ok(all)
+/// Rows, a line each: calls of an object, how many bytes it gives or takes a call, the number of the call that fails, and
+/// texts. A load tells the text and `=`, `+` where it is too long, or `!` where it failed; a read the bytes and a stroke,
+/// a full stop at the end, or `!`; a write how many bytes were taken, or `!`. What a sink holds then is told last.
+pub const CALLS: &str = "mem_files 0 0 a:3,a:2,b:9,c:9 | abc=+d=!
+sure_files 0 0 a:3,a:2,b:9,c:9 | abc=+d==
+mem_files 0 1 a:3,a:3,a:3 | !abc=abc=
+mem_files 0 2 a:3,a:3,a:3 | abc=!abc=
+mem_files 0 3 a:3,a:3,a:3 | abc=abc=!
+mem_source 1 0 | a|b|c|.
+mem_source 9 0 | ab|c|..
+mem_source 9 1 | !ab|c|.
+mem_source 9 2 | ab|!c|.
+mem_source 9 3 | ab|c|!.
+mem_source 1 4 | a|b|c|!
+sure_source 0 0 | ab|c|..
+mem_sink 9 0 | 222ababab
+mem_sink 1 0 | 111aaa
+mem_sink 0 0 | !!!
+mem_sink 9 1 | !22abab
+mem_sink 9 2 | 2!2abab
+mem_sink 1 3 | 11!aa
+sure_sink 0 0 | 222ababab
+write_all 9 0 abc | =abc
+write_all 1 0 abc | =abc
+write_all 1 4 abc | =abc
+write_all 0 1 | =
+write_all 0 0 abc | !
+write_all 9 1 abc | !
+write_all 1 3 abc | !ab";
+
+// The four fields of a row.
+fn fields(row: &str) -> [&str; 4] {
+    let mut all = row.split(' ');
+    [
+        all.next().unwrap_or(""),
+        all.next().unwrap_or(""),
+        all.next().unwrap_or(""),
+        all.next().unwrap_or(""),
+    ]
 }
 
-#[test]
-fn a_piece_is_written_whole_or_up_to_the_first_fault(rt: HostRuntime) -> Result<(), Fail> {
-    let alloc = rt.alloc();
-    for (most, failing, piece, expected) in [
-        (9, 0, "abc", "abc="),
-        (1, 0, "abc", "abc="),
-        (1, 4, "abc", "abc="),
-        (0, 1, "", "="),
-        (0, 0, "abc", "!"),
-        (9, 1, "abc", "!"),
-        (1, 3, "abc", "ab!"),
-    ] {
-        let all = written(alloc, most, failing, piece)?;
-        assert_eq!(rt; all.as_slice(), expected.as_bytes());
+/// What the calls of a row tell.
+pub fn show_calls(alloc: Global, row: &str, shown: &mut String) -> Result<(), Memory> {
+    let [call, bytes, failing, text] = fields(row);
+    let bytes = bytes.parse().unwrap_or(0);
+    let failing = failing.parse().unwrap_or(0);
+    match call {
+        "mem_files" => show_mem_loads(alloc, failing, text, shown),
+        "sure_files" => show_sure_loads(alloc, text, shown),
+        "mem_source" => show_mem_reads(alloc, bytes, failing, shown),
+        "sure_source" => show_sure_reads(alloc, shown),
+        "mem_sink" => show_mem_writes(alloc, bytes, failing, shown),
+        "sure_sink" => show_sure_writes(alloc, shown),
+        _ => show_whole(alloc, bytes, failing, text, shown),
     }
-    Ok(())
 }

@@ -2,70 +2,83 @@
 
 ghost use Rattle.std.specs.Prelude.{◌<◌};
 
-use crate::written::values;
+use crate::written::{add_values, show, show_bytes, show_part};
 use setl_io::{MemSource, Source, SureSource};
-use setl_text::{Got, ReadFault, Reader, line, text};
+use setl_text::{Got, ReadFault, Reader, line};
 use setl_value::{Memory, Value};
 use std::alloc::Global;
+use std::process::Abort;
 use std::test::Fail;
 
 // The letter of a fault.
-fn letter(fault: ReadFault) -> u8 {
+fn letter(fault: ReadFault) -> char {
     match fault {
-        ReadFault::Form => b'F',
-        ReadFault::Wide => b'W',
-        ReadFault::Deep => b'D',
-        ReadFault::Source => b'S',
-        ReadFault::NoMemory => b'N',
+        ReadFault::Form => 'F',
+        ReadFault::Wide => 'W',
+        ReadFault::Deep => 'D',
+        ReadFault::Source => 'S',
+        ReadFault::NoMemory => 'N',
     }
 }
 
 // The text of an answer and a blank, a full stop at the end of the input, or the letter of a fault.
-fn answer_text(alloc: Global, answer: &Result<Got, ReadFault>) -> Result<Vec<u8>, Memory> {
+fn show_answer(
+    alloc: Global,
+    answer: &Result<Got, ReadFault>,
+    shown: &mut String,
+) -> Result<(), Memory> {
     match answer {
         Ok(Got::Value(v)) => {
-            let mut all = text(alloc, v)?;
-            all.push(b' ')?;
-            Ok(all)
+            show(alloc, v, shown)?;
+            shown.push(' ')
         }
-        Ok(Got::Om) => b"* ".to_vec(alloc),
-        Ok(Got::End) => b".".to_vec(alloc),
-        Err(fault) => vec![in alloc; letter(*fault); 1],
+        Ok(Got::Om) => shown.push_str("* "),
+        Ok(Got::End) => shown.push('.'),
+        Err(fault) => shown.push(letter(*fault)),
     }
 }
 
-// Whether the next answer may be another one.
-fn goes_on(answer: &Result<Got, ReadFault>) -> bool {
-    matches!(answer, Ok(Got::Value(_) | Got::Om))
+// The next answer.
+fn show_next<I: Source>(
+    alloc: Global,
+    reader: &mut Reader,
+    input: &mut I,
+    shown: &mut String,
+) -> Result<(), Memory> {
+    show_answer(alloc, &reader.next(input), shown)
 }
 
 // The answers up to the first that ends the reading, and the one after it.
-fn answers<I: Source>(alloc: Global, input: &mut I) -> Result<Vec<u8>, Memory> {
-    let mut reader = Reader::new(alloc)?;
-    let mut all = Vec::new(alloc);
+fn show_answers<I: Source>(
+    alloc: Global,
+    reader: &mut Reader,
+    input: &mut I,
+    shown: &mut String,
+) -> Result<(), Memory> {
     for _ in 0..20 {
-        let answer = reader.next(input);
-        all.extend_from_slice(&answer_text(alloc, &answer)?)?;
-        if !goes_on(&answer) {
+        show_next(alloc, reader, input, shown)?;
+        // Another answer may follow only after a blank.
+        if !shown.ends_with(" ") {
             break;
         }
     }
-    let answer = reader.next(input);
-    all.extend_from_slice(&answer_text(alloc, &answer)?)?;
-    Ok(all)
+    show_next(alloc, reader, input, shown)
 }
 
 // The answers of an input that gives so many bytes a call, and whose calls of these numbers fail.
-fn read_in_pieces(
+fn show_pieces(
     alloc: Global,
     input: &str,
     piece: usize,
-    fails: Vec<u64>,
-) -> Result<Vec<u8>, Memory>
+    fails: &[u64],
+    shown: &mut String,
+) -> Result<(), Memory>
     requires { 0 < piece }
 {
     let bytes = input.as_bytes().to_vec(alloc)?;
-    answers(alloc, &mut MemSource::new(bytes, piece, fails))
+    let mut source = MemSource::new(bytes, piece, fails.to_vec(alloc)?);
+    let mut reader = Reader::new(alloc)?;
+    show_answers(alloc, &mut reader, &mut source, shown)
 }
 
 // Inputs and their answers, with an empty line between two rows.
@@ -103,68 +116,109 @@ const INPUTS: &str = "{1 [2 'a']} 7 => {1 [2 'a']} 7 ..
 
 -170141183460469231731687303715884105728 -170141183460469231731687303715884105729 => -170141183460469231731687303715884105728 WW";
 
+// Reads the input of a row in pieces of this size, and compares.
+fn expect_pieces(
+    rt: &impl Abort,
+    alloc: Global,
+    row: &str,
+    piece: usize,
+    shown: &mut String,
+) -> Result<(), Memory>
+    requires { 0 < piece }
+{
+    let (input, answers) = row.split_once(" => ").unwrap_or((row, ""));
+    shown.clear();
+    show_pieces(alloc, input, piece, &[], shown)?;
+    assert_eq!(rt; shown.as_str(), answers, "{piece} of {input}");
+    Ok(())
+}
+
+fn expect_input(
+    rt: &impl Abort,
+    alloc: Global,
+    row: &str,
+    shown: &mut String,
+) -> Result<(), Memory> {
+    for piece in 1..30 {
+        expect_pieces(rt, alloc, row, piece, shown)?;
+    }
+    Ok(())
+}
+
+fn expect_inputs(rt: &impl Abort, alloc: Global, shown: &mut String) -> Result<(), Memory> {
+    for row in INPUTS.split("\n\n") {
+        expect_input(rt, alloc, row, shown)?;
+    }
+    Ok(())
+}
+
 #[test]
 fn denotations_are_read_in_pieces_of_each_size(rt: HostRuntime) -> Result<(), Fail> {
     let alloc = rt.alloc();
-    for row in INPUTS.split("\n\n") {
-        let (input, expected) = row.split_once(" => ").unwrap_or((row, ""));
-        for piece in 1..30 {
-            let all = read_in_pieces(alloc, input, piece, Vec::new(alloc))?;
-            assert_eq!(rt; all.as_slice(), expected.as_bytes(), "{piece} of {input}");
-        }
-    }
+    expect_inputs(&rt, alloc, &mut String::new(alloc))?;
     Ok(())
 }
 
-#[test]
-fn an_input_fails_at_each_read(rt: HostRuntime) -> Result<(), Fail> {
-    let alloc = rt.alloc();
-    for (failing, expected) in [
-        (1, "SS"),
-        (2, "SS"),
-        (3, "12 SS"),
-        (4, "12 {3} SS"),
-        (5, "12 {3} .."),
-    ] {
-        let all = read_in_pieces(alloc, "12 {3}", 2, vec![in alloc; failing]?)?;
-        assert_eq!(rt; all.as_slice(), expected.as_bytes(), "failing at {failing}");
-    }
-    Ok(())
-}
+/// Rows, a line each: what is read. `12 {3}` is read in pieces of 2 bytes, and the read of this number fails; or so many
+/// opening brackets and as many closing ones are read whole, with the first sign of what is told.
+pub const READS: &str = "failing 1 | SS
+failing 2 | SS
+failing 3 | 12 SS
+failing 4 | 12 {3} SS
+failing 5 | 12 {3} ..
+deep 500 | [
+deep 501 | D";
 
-// The first letter of the answers to so many opening brackets, and as many closing ones.
-fn first_letter(alloc: Global, depth: usize) -> Result<Option<u8>, Memory> {
+// What is told of so many opening brackets, and as many closing ones.
+fn show_brackets(alloc: Global, depth: usize, shown: &mut String) -> Result<(), Memory> {
     let mut bytes = vec![in alloc; b'['; depth]?;
     bytes.extend_from_slice(vec![in alloc; b']'; depth]?.as_slice())?;
-    Ok(
-        answers(alloc, &mut SureSource::new(bytes))?
-            .first()
-            .copied(),
-    )
+    let mut reader = Reader::new(alloc)?;
+    show_answers(alloc, &mut reader, &mut SureSource::new(bytes), shown)
 }
 
-#[test]
-fn a_value_is_at_most_500_deep(rt: HostRuntime) -> Result<(), Fail> {
-    let alloc = rt.alloc();
-    assert_eq!(rt; first_letter(alloc, 500)?, Some(b'['));
-    assert_eq!(rt; first_letter(alloc, 501)?, Some(b'D'));
-    Ok(())
-}
-
-fn printed(alloc: Global, arguments: &str) -> Result<Vec<u8>, Memory> {
-    line(alloc, values(alloc, arguments)?.as_slice())
-}
-
-#[test]
-fn a_line_has_the_texts_of_its_arguments(rt: HostRuntime) -> Result<(), Fail> {
-    let alloc = rt.alloc();
-    for (arguments, expected) in [
-        ("{3 1 2 1} [1 * 2] 'it''s'", "{1 2 3} [1 * 2] it's\n"),
-        ("* true", "* true\n"),
-        ("", "\n"),
-    ] {
-        assert_eq!(rt; printed(alloc, arguments)?.as_slice(), expected.as_bytes());
+// The first sign of it.
+fn show_first_sign(alloc: Global, depth: usize, shown: &mut String) -> Result<(), Memory> {
+    let mut all = String::new(alloc);
+    show_brackets(alloc, depth, &mut all)?;
+    match all.as_bytes().first() {
+        Some(sign) => shown.push(char::from(*sign)),
+        None => Ok(()),
     }
-    assert_eq!(rt; text(alloc, &Value::Atom(7))?.as_slice(), b"#7".as_slice());
+}
+
+/// What is told of the input of a row.
+pub fn show_read(alloc: Global, row: &str, shown: &mut String) -> Result<(), Memory> {
+    let (input, number) = row.split_once(' ').unwrap_or((row, ""));
+    match input {
+        "failing" => show_pieces(alloc, "12 {3}", 2, &[number.parse().unwrap_or(0)], shown),
+        _ => show_first_sign(alloc, number.parse().unwrap_or(0), shown),
+    }
+}
+
+/// Rows, a line each: arguments, the line of them, whose end is written as `$`, and their texts.
+pub const LINES: &str = "{3 1 2 1} [1 * 2] 'it''s' | {1 2 3} [1 * 2] it's$ {1 2 3} [1 * 2] 'it''s'
+* true | * true$ * true
+ | $
+atom 7 | #7$ #7";
+
+/// Adds the line of these arguments.
+pub fn show_line(alloc: Global, parts: &[Option<Value>], shown: &mut String) -> Result<(), Memory> {
+    show_bytes(line(alloc, parts)?.as_slice(), shown)
+}
+
+fn show_texts(alloc: Global, parts: &[Option<Value>], shown: &mut String) -> Result<(), Memory> {
+    for part in parts {
+        shown.push(' ')?;
+        show_part(alloc, part, shown)?;
+    }
     Ok(())
+}
+
+/// The line of the arguments of a row, and their texts.
+pub fn show_line_and_texts(alloc: Global, row: &str, shown: &mut String) -> Result<(), Memory> {
+    let mut all = Vec::new(alloc);
+    add_values(alloc, row, &mut all)?;
+    show_line(alloc, all.as_slice(), shown)?;
+    show_texts(alloc, all.as_slice(), shown)
 }
