@@ -1,15 +1,13 @@
 //! Bodies that change while a copy is held, and bounds on counts and depths.
 
-use crate::reading::show_line;
-use crate::written::{Parts, add_values, next, push};
+use crate::written::Work;
 use setl_operators::{Operator, op_two};
 use setl_scalar::ScalarFault;
 use setl_set::{less, walk};
-use setl_text::text;
+use setl_text::{line, text};
 use setl_tuple::{TupleFault, put, repeat, with};
 use setl_value::{Memory, SetBody, Text, TupleBody, Value};
 use std::alloc::Global;
-use std::fmt::Write;
 
 /// Rows, a line each: what is done with a value, the value, what is told while it is done, and the value after it.
 pub const WORKS: &str = "change | {1 2} | {1 2} true {2 3}$
@@ -22,130 +20,120 @@ lend | {} | {1} {}$
 make | 0 | {} ab -5 0$";
 
 // 3 is put into a set and 1 is taken out: a copy of the set as it was before, and whether both was done.
-fn change_set(alloc: Global, s: &mut SetBody, parts: &mut Parts) -> Result<(), Memory> {
-    push(parts, Some(Value::Set(s.copy()?)))?;
-    let is_done = setl_set::with(alloc, s, Value::Int(3)).is_ok()
-        && less(s, &Value::Int(1)).is_ok();
-    push(parts, Some(Value::Bool(is_done)))
+fn change_set(w: &mut Work, s: &mut SetBody) -> Result<(), Memory> {
+    w.add(Some(Value::Set(s.copy()?)));
+    let is_in = setl_set::with(w.alloc, s, Value::Int(3)).is_ok();
+    let is_out = less(s, &Value::Int(1)).is_ok();
+    w.add(Some(Value::Bool(is_in && is_out)));
+    Ok(())
 }
 
 // The first member of a set is taken out: a copy of the set as it was before, and that member.
-fn cut_set(s: &mut SetBody, parts: &mut Parts) -> Result<(), Memory> {
-    push(parts, Some(Value::Set(s.copy()?)))?;
-    if s.len() == 0 {
-        return Ok(());
-    }
-    push(parts, Some(s.cut_at(0)?))
-}
-
-// The members as they are visited.
-fn visit(s: &SetBody, parts: &mut Parts) -> Result<(), Memory> {
-    for v in walk(s) {
-        push(parts, Some(v.copy()?))?;
+fn cut_set(w: &mut Work, s: &mut SetBody) -> Result<(), Memory> {
+    w.add(Some(Value::Set(s.copy()?)));
+    if s.len() > 0 {
+        w.add_made(s.cut_at(0));
     }
     Ok(())
 }
 
-fn work_on_set(
-    alloc: Global,
-    call: &str,
-    s: &mut SetBody,
-    parts: &mut Parts,
-) -> Result<(), Memory> {
+// The members as they are visited.
+fn visit(w: &mut Work, s: &SetBody) {
+    for v in walk(s) {
+        w.add_made(v.copy());
+    }
+}
+
+fn work_on_set(w: &mut Work, call: &str, s: &mut SetBody) -> Result<(), Memory> {
     match call {
-        "change" => change_set(alloc, s, parts),
-        "cut" => cut_set(s, parts),
-        _ => visit(s, parts),
+        "change" => change_set(w, s),
+        "cut" => cut_set(w, s),
+        _ => {
+            visit(w, s);
+            Ok(())
+        }
     }
 }
 
 // The first component of a tuple becomes 3: a copy of the tuple as it was before, and whether it was done.
-fn change_tuple(alloc: Global, t: &mut TupleBody, parts: &mut Parts) -> Result<(), Memory> {
-    push(parts, Some(Value::Tuple(t.copy()?)))?;
-    let is_done = put(alloc, t, 1, Some(Value::Int(3))).is_ok();
-    push(parts, Some(Value::Bool(is_done)))
+fn change_tuple(w: &mut Work, t: &mut TupleBody) -> Result<(), Memory> {
+    w.add(Some(Value::Tuple(t.copy()?)));
+    let is_done = put(w.alloc, t, 1, Some(Value::Int(3))).is_ok();
+    w.add(Some(Value::Bool(is_done)));
+    Ok(())
 }
 
 // The first and the last component of a tuple.
-fn cut_tuple(t: &mut TupleBody, parts: &mut Parts) -> Result<(), Memory> {
+fn cut_tuple(w: &mut Work, t: &mut TupleBody) -> Result<(), Memory> {
     if t.len() < 2 {
         return Ok(());
     }
-    push(parts, t.cut_front()?)?;
-    push(parts, t.cut_back()?)
+    w.add(t.cut_front()?);
+    w.add(t.cut_back()?);
+    Ok(())
 }
 
-fn work_on_tuple(
-    alloc: Global,
-    call: &str,
-    t: &mut TupleBody,
-    parts: &mut Parts,
-) -> Result<(), Memory> {
+fn work_on_tuple(w: &mut Work, call: &str, t: &mut TupleBody) -> Result<(), Memory> {
     match call {
-        "change" => change_tuple(alloc, t, parts),
-        _ => cut_tuple(t, parts),
+        "change" => change_tuple(w, t),
+        _ => cut_tuple(w, t),
     }
 }
 
 // Whether a copy is equal, and the copy.
-fn copy(v: &Value, parts: &mut Parts) -> Result<(), Memory> {
+fn copy(w: &mut Work, v: &Value) -> Result<(), Memory> {
     let copy = v.copy()?;
-    push(parts, Some(Value::Bool(copy == *v)))?;
-    push(parts, Some(copy))
+    w.add(Some(Value::Bool(copy == *v)));
+    w.add(Some(copy));
+    Ok(())
 }
 
 // What `with` makes of a value that it is lent, and 1.
-fn lend(alloc: Global, v: &Value, parts: &mut Parts) -> Result<(), Memory> {
-    match op_two(alloc, Operator::With, Some(v), Some(&Value::Int(1)), 0) {
-        Ok(answer) => push(parts, answer.value),
-        Err(_) => push(parts, None),
+fn lend(w: &mut Work, v: &Value) {
+    match op_two(w.alloc, Operator::With, Some(v), Some(&Value::Int(1)), 0) {
+        Ok(answer) => w.add(answer.value),
+        Err(_) => w.add(None),
     }
 }
 
 // An empty set, a string of these bytes and one of the text of an integer.
-fn make(alloc: Global, parts: &mut Parts) -> Result<(), Memory> {
-    push(parts, Some(Value::Set(SetBody::new(alloc)?)))?;
-    push(parts, Some(Value::Text(Text::of(alloc, b"ab")?)))?;
-    let five = text(alloc, &Value::Int(-5))?;
-    push(parts, Some(Value::Text(Text::from_bytes(alloc, five)?)))
+fn make(w: &mut Work) -> Result<(), Memory> {
+    w.add(Some(Value::Set(SetBody::new(w.alloc)?)));
+    w.add(Some(Value::Text(Text::of(w.alloc, b"ab")?)));
+    let five = text(w.alloc, &Value::Int(-5))?;
+    w.add(Some(Value::Text(Text::from_bytes(w.alloc, five)?)));
+    Ok(())
 }
 
-fn work_on_body(alloc: Global, call: &str, v: &mut Value, parts: &mut Parts) -> Result<(), Memory> {
+fn work_on_body(w: &mut Work, call: &str, v: &mut Value) -> Result<(), Memory> {
     match v {
-        Value::Set(s) => work_on_set(alloc, call, s, parts),
-        Value::Tuple(t) => work_on_tuple(alloc, call, t, parts),
-        _ => make(alloc, parts),
+        Value::Set(s) => work_on_set(w, call, s),
+        Value::Tuple(t) => work_on_tuple(w, call, t),
+        _ => make(w),
     }
 }
 
-fn work(alloc: Global, call: &str, v: &mut Value, parts: &mut Parts) -> Result<(), Memory> {
+fn work(w: &mut Work, call: &str, v: &mut Value) -> Result<(), Memory> {
     match call {
-        "copy" => copy(v, parts),
-        "lend" => lend(alloc, v, parts),
-        _ => work_on_body(alloc, call, v, parts),
+        "copy" => copy(w, v),
+        "lend" => {
+            lend(w, v);
+            Ok(())
+        }
+        _ => work_on_body(w, call, v),
     }
-}
-
-// What is done with a value, and the value after it.
-fn show_done(
-    alloc: Global,
-    call: &str,
-    mut v: Value,
-    parts: &mut Parts,
-    shown: &mut String,
-) -> Result<(), Memory> {
-    work(alloc, call, &mut v, parts)?;
-    push(parts, Some(v))?;
-    show_line(alloc, parts.as_slice(), shown)
 }
 
 /// What is done with the value of a row, and the value after it.
-pub fn show_work(alloc: Global, row: &str, shown: &mut String) -> Result<(), Memory> {
+pub fn put_work(w: &mut Work, row: &str) {
     let (call, written) = row.split_once(" | ").unwrap_or((row, ""));
-    let mut all = Vec::new(alloc);
-    add_values(alloc, written, &mut all)?;
-    let v = next(&mut all);
-    show_done(alloc, call, v, &mut all, shown)
+    w.read(written);
+    let mut v = w.next();
+    let outcome = work(w, call, &mut v);
+    w.note(outcome);
+    w.add(Some(v));
+    let made = line(w.alloc, w.values.as_slice());
+    w.put_made(&made);
 }
 
 /// Rows, a line each: `repeat`, as often as a count can say, and `put_far`, at the greatest place, with what is then the
@@ -173,12 +161,13 @@ fn copies_of_text(alloc: Global, t: &Text) -> Result<usize, ScalarFault> {
     Ok(setl_scalar::repeat(alloc, t, i128::MAX)?.bytes().len())
 }
 
-fn show_length(alloc: Global, call: &str, v: &mut Value, shown: &mut String) -> Result<(), Memory> {
-    match v {
-        Value::Tuple(t) if call == "repeat" => write!(shown, "{:?}", copies_of(alloc, t)),
-        Value::Tuple(t) => write!(shown, "{:?}", put_far(alloc, t)),
-        Value::Text(t) => write!(shown, "{:?}", copies_of_text(alloc, t)),
-        _ => shown.push_str("neither a tuple nor a string"),
+fn put_length(w: &mut Work, call: &str, mut v: Value) {
+    let alloc = w.alloc;
+    match &mut v {
+        Value::Tuple(t) if call == "repeat" => w.put_debug(copies_of(alloc, t)),
+        Value::Tuple(t) => w.put_debug(put_far(alloc, t)),
+        Value::Text(t) => w.put_debug(copies_of_text(alloc, t)),
+        _ => {}
     }
 }
 
@@ -194,22 +183,26 @@ fn put_past_the_end(alloc: Global, t: &mut TupleBody, v: Value) -> Result<u32, T
     Ok(t.depth())
 }
 
-fn show_depth(alloc: Global, call: &str, v: Value, shown: &mut String) -> Result<(), Memory> {
+fn depth(alloc: Global, call: &str, v: Value) -> Result<u32, TupleFault> {
     let mut t = TupleBody::of(alloc, Vec::new(alloc))?;
-    let depth = match call {
+    match call {
         "put" => put_past_the_end(alloc, &mut t, v),
         _ => with_both(&mut t, v),
-    };
-    write!(shown, "{depth:?}")
+    }
+}
+
+fn put_depth(w: &mut Work, call: &str, v: Value) {
+    let depth = depth(w.alloc, call, v);
+    w.put_debug(depth);
 }
 
 /// The length or the depth of a row.
-pub fn show_bound(alloc: Global, row: &str, shown: &mut String) -> Result<(), Memory> {
+pub fn put_bound(w: &mut Work, row: &str) {
     let (call, written) = row.split_once(" | ").unwrap_or((row, ""));
-    let mut all = Vec::new(alloc);
-    add_values(alloc, written, &mut all)?;
+    w.read(written);
+    let v = w.next();
     match call {
-        "put" | "with" => show_depth(alloc, call, next(&mut all), shown),
-        _ => show_length(alloc, call, &mut next(&mut all), shown),
+        "put" | "with" => put_depth(w, call, v),
+        _ => put_length(w, call, v),
     }
 }

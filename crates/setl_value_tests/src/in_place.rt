@@ -1,7 +1,7 @@
 //! Changes in place: what stands after each call, on rows of denotations.
 
-use crate::operators::show_charge;
-use crate::written::{Parts, add_values, next, show};
+use crate::operators::put_charge;
+use crate::written::Work;
 use setl_arithmetic::{minus_in_place, plus_in_place};
 use setl_collections::{
     add_image_in_place, less_in_place, lessf_in_place, put_images_in_place, put_in_place,
@@ -9,9 +9,8 @@ use setl_collections::{
 };
 use setl_map::Taken;
 use setl_operators::OpFault;
-use setl_value::{Memory, Value};
+use setl_value::Value;
 use std::alloc::Global;
-use std::fmt::Write;
 
 /// Rows, a line each: a call, the value that it changes, its operands, and what the value becomes with what the call
 /// charges, or why it is refused.
@@ -51,20 +50,16 @@ add_image | [1 2] | 1 3 | Kind
 - | {1} | 1 | Kind
 - | [1] | [1] | Kind";
 
-// What a call makes of a value, and its charge.
-fn change(
-    alloc: Global,
-    call: &str,
-    whole: &mut Value,
-    operands: &mut Parts,
-) -> Result<u64, OpFault> {
+// What a call makes of a value and the operands that were read, and its charge.
+fn change(w: &mut Work, call: &str, whole: &mut Value) -> Result<u64, OpFault> {
+    let alloc = w.alloc;
     match call {
-        "with" => with_in_place(alloc, whole, next(operands)),
-        "less" => less_in_place(whole, &next(operands)),
-        "lessf" => lessf_in_place(alloc, whole, &next(operands)),
-        "+" => plus_in_place(alloc, whole, &next(operands)),
-        "-" => minus_in_place(alloc, whole, &next(operands)),
-        _ => change_part(alloc, call, whole, next(operands), next(operands)),
+        "with" => with_in_place(alloc, whole, w.next()),
+        "less" => less_in_place(whole, &w.next()),
+        "lessf" => lessf_in_place(alloc, whole, &w.next()),
+        "+" => plus_in_place(alloc, whole, &w.next()),
+        "-" => minus_in_place(alloc, whole, &w.next()),
+        _ => change_part(alloc, call, whole, w.next(), w.next()),
     }
 }
 
@@ -84,78 +79,55 @@ fn change_part(
 }
 
 // What a value became and the charge, or the fault.
-fn show_changed(
-    alloc: Global,
-    whole: &Value,
-    charge: Result<u64, OpFault>,
-    shown: &mut String,
-) -> Result<(), Memory> {
+fn put_changed(w: &mut Work, whole: &Value, charge: Result<u64, OpFault>) {
     match charge {
         Ok(n) => {
-            show(alloc, whole, shown)?;
-            show_charge(n, shown)
+            w.put_value(whole);
+            put_charge(w, n);
         }
-        Err(e) => write!(shown, "{e:?}"),
+        Err(e) => w.put_debug(e),
     }
 }
 
-// Changes a value, and writes the row anew with a value that has to be as that one was before.
-fn show_both(
-    alloc: Global,
-    (call, operands): (&str, &str),
-    all: &mut Parts,
-    copy: &Value,
-    whole: &mut Value,
-    shown: &mut String,
-) -> Result<(), Memory> {
-    let charge = change(alloc, call, whole, all);
-    write!(shown, "{call} | ")?;
-    show(alloc, copy, shown)?;
-    write!(shown, " | {operands} | ")?;
-    show_changed(alloc, whole, charge, shown)
+// Changes a value by the operands that were read: a value that has to be as that one was before, and what it became.
+fn put_both(w: &mut Work, call: &str, operands: &str, copy: &Value, whole: &mut Value) {
+    let charge = change(w, call, whole);
+    w.put_value(copy);
+    w.put(" | ");
+    w.put(operands);
+    w.put(" | ");
+    put_changed(w, whole, charge);
 }
 
 // Changes the first value. The last one is the same, and shares nothing with it.
-fn show_alone(
-    alloc: Global,
-    row: (&str, &str),
-    all: &mut Parts,
-    shown: &mut String,
-) -> Result<(), Memory> {
-    let copy = all.pop().flatten().unwrap_or(Value::Bool(false));
-    let mut whole = next(all);
-    show_both(alloc, row, all, &copy, &mut whole, shown)
+fn put_alone(w: &mut Work, call: &str, operands: &str) {
+    let copy = w.values.pop().flatten().unwrap_or(Value::Bool(false));
+    let mut whole = w.next();
+    put_both(w, call, operands, &copy, &mut whole);
 }
 
 // Changes the first value while there is a copy of it.
-fn show_shared(
-    alloc: Global,
-    row: (&str, &str),
-    all: &mut Parts,
-    shown: &mut String,
-) -> Result<(), Memory> {
-    let mut whole = next(all);
-    let copy = whole.copy()?;
-    show_both(alloc, row, all, &copy, &mut whole, shown)
+fn put_shared(w: &mut Work, call: &str, operands: &str) {
+    let mut whole = w.next();
+    match &whole.copy() {
+        Ok(copy) => put_both(w, call, operands, copy, &mut whole),
+        Err(_) => w.is_refused = true,
+    }
 }
 
 /// Writes anew the row of a change, of a value that nobody else holds or of one with a copy, which stays.
-pub fn show_change(
-    alloc: Global,
-    is_shared: bool,
-    row: &str,
-    shown: &mut String,
-) -> Result<(), Memory> {
+pub fn put_change(w: &mut Work, is_shared: bool, row: &str) {
     let (call, rest) = row.split_once(" | ").unwrap_or((row, ""));
     let (whole, operands) = rest.split_once(" | ").unwrap_or((rest, ""));
-    let mut all = Vec::new(alloc);
-    add_values(alloc, whole, &mut all)?;
-    add_values(alloc, operands, &mut all)?;
-    add_values(alloc, whole, &mut all)?;
+    w.read(whole);
+    w.read(operands);
+    w.read(whole);
+    w.put(call);
+    w.put(" | ");
     if is_shared {
-        show_shared(alloc, (call, operands), &mut all, shown)
+        put_shared(w, call, operands);
     } else {
-        show_alone(alloc, (call, operands), &mut all, shown)
+        put_alone(w, call, operands);
     }
 }
 
@@ -177,40 +149,26 @@ fn take(call: &str, whole: &mut Value) -> Result<Taken, OpFault> {
 }
 
 // What was taken, or the fault.
-fn show_taken(
-    alloc: Global,
-    part: &Result<Taken, OpFault>,
-    shown: &mut String,
-) -> Result<(), Memory> {
+fn put_taken(w: &mut Work, part: &Result<Taken, OpFault>) {
     match part {
         Ok(
             Taken {
                 value: Some(v),
                 stored: true,
             },
-        ) => show(alloc, v, shown),
-        Ok(Taken { stored: true, .. }) => shown.push_str("om"),
-        Ok(_) => shown.push_str("none"),
-        Err(e) => write!(shown, "{e:?}"),
+        ) => w.put_value(v),
+        Ok(Taken { stored: true, .. }) => w.put("om"),
+        Ok(_) => w.put("none"),
+        Err(e) => w.put_debug(*e),
     }
 }
 
-// What is taken of a value, and what is left.
-fn show_parts(
-    alloc: Global,
-    call: &str,
-    whole: &mut Value,
-    shown: &mut String,
-) -> Result<(), Memory> {
-    show_taken(alloc, &take(call, whole), shown)?;
-    shown.push_str(" and ")?;
-    show(alloc, whole, shown)
-}
-
 /// What is taken of the value of a row, and what is left.
-pub fn show_take(alloc: Global, row: &str, shown: &mut String) -> Result<(), Memory> {
+pub fn put_take(w: &mut Work, row: &str) {
     let (call, whole) = row.split_once(" | ").unwrap_or((row, ""));
-    let mut all = Vec::new(alloc);
-    add_values(alloc, whole, &mut all)?;
-    show_parts(alloc, call, &mut next(&mut all), shown)
+    w.read(whole);
+    let mut whole = w.next();
+    put_taken(w, &take(call, &mut whole));
+    w.put(" and ");
+    w.put_value(&whole);
 }

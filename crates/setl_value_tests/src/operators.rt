@@ -7,7 +7,7 @@ ghost use Rattle.std.specs.Bool.{OnTrue};
 ghost use Rattle.std.specs.Prelude.{◌≡◌};
 ghost use Rattle.setl_map.specs.Operators.{operand_count, TakesOperands};
 
-use crate::written::{Parts, add_values, show_part};
+use crate::written::Work;
 use setl_operators::Operator::{
     Above, Abs, Add, Arb, AtLeast, AtMost, Below, Divide, Domain, Equal, Even, FoldAdd, FoldAnd,
     FoldMax, FoldMin, FoldMultiply, FoldOr, Get, Images, In, Includes, IsAtom, IsBoolean,
@@ -16,7 +16,7 @@ use setl_operators::Operator::{
     Size, Slice, Str, Subset, Subtract, Tail, TupleOf, TupleRange, TupleStep, With,
 };
 use setl_operators::{Answer, OpFault, Operator, op, op_one, op_two};
-use setl_value::{Memory, Value};
+use setl_value::Value;
 use std::alloc::Global;
 use std::fmt::Write;
 
@@ -474,100 +474,83 @@ fn takes(what: Operator, n: usize) -> bool
 }
 
 // The value and the charge, or the fault.
-fn show_outcome(
-    alloc: Global,
-    answer: &Result<Answer, OpFault>,
-    shown: &mut String,
-) -> Result<(), Memory> {
+fn put_outcome(w: &mut Work, answer: &Result<Answer, OpFault>) {
     match answer {
         Ok(a) => {
-            show_part(alloc, &a.value, shown)?;
-            show_charge(a.charged, shown)
+            w.put_part(&a.value);
+            put_charge(w, a.charged);
         }
-        Err(e) => write!(shown, "{e:?}"),
+        Err(e) => w.put_debug(*e),
     }
 }
 
 /// The charge, where there is one.
-pub fn show_charge(charged: u64, shown: &mut String) -> Result<(), Memory> {
+pub fn put_charge(w: &mut Work, charged: u64) {
     if charged > 0 {
-        write!(shown, " charges {charged}")
-    } else {
-        Ok(())
+        w.put(" charges ");
+        w.put_debug(charged);
     }
 }
 
 // What an operator makes of operands that it is handed.
-fn show_answer(
-    alloc: Global,
-    what: Operator,
-    args: Parts,
-    turns: u64,
-    shown: &mut String,
-) -> Result<(), Memory> {
+fn put_answer(w: &mut Work, what: Operator, turns: u64) {
+    let args = std::mem::replace(&mut w.values, Vec::new(w.alloc));
     if takes(what, args.len()) {
-        show_outcome(alloc, &op(alloc, what, args, turns), shown)
-    } else {
-        shown.push_str("another number of operands")
+        let answer = op(w.alloc, what, args, turns);
+        put_outcome(w, &answer);
     }
 }
 
-// What an operator makes of one or two operands that it is lent, and whether it is lent any.
-fn show_lent(
+// What an operator makes of one or two operands that it is lent.
+fn lent(
     alloc: Global,
     what: Operator,
     args: &[Option<Value>],
     turns: u64,
-    shown: &mut String,
-) -> Result<(), Memory> {
+) -> Option<Result<Answer, OpFault>> {
     match (count(what), args) {
-        (Some(1), [a]) => show_outcome(alloc, &op_one(alloc, what, a.as_ref(), turns), shown),
-        (Some(2), [a, b]) => {
-            let answer = op_two(alloc, what, a.as_ref(), b.as_ref(), turns);
-            show_outcome(alloc, &answer, shown)
-        }
-        _ => shown.push_str("another number of operands"),
+        (Some(1), [a]) => Some(op_one(alloc, what, a.as_ref(), turns)),
+        (Some(2), [a, b]) => Some(op_two(alloc, what, a.as_ref(), b.as_ref(), turns)),
+        _ => None,
     }
+}
+
+// What an operator makes of its operands, of which it is lent one or two.
+fn put_lent(w: &mut Work, what: Operator, turns: u64) {
+    match &lent(w.alloc, what, w.values.as_slice(), turns) {
+        Some(answer) => put_outcome(w, answer),
+        None => put_answer(w, what, turns),
+    }
+}
+
+fn is_named(what: Operator, name: &str, spelled: &mut String) -> bool {
+    spelled.clear();
+    write!(spelled, "{what:?}").is_ok() && spelled.as_str() == name
 }
 
 // The operator of this name.
-fn named(name: &str, spelled: &mut String) -> Result<Option<Operator>, Memory> {
+fn named(name: &str, spelled: &mut String) -> Option<Operator> {
     for what in OPERATORS {
-        spelled.clear();
-        write!(spelled, "{what:?}")?;
-        if spelled.as_str() == name {
-            return Ok(Some(*what));
+        if is_named(*what, name, spelled) {
+            return Some(*what);
         }
     }
-    Ok(None)
-}
-
-// What an operator makes of its operands. One with one or two may be lent them.
-fn show_call(
-    alloc: Global,
-    lends: bool,
-    what: Operator,
-    args: Parts,
-    turns: u64,
-    shown: &mut String,
-) -> Result<(), Memory> {
-    if lends && matches!(count(what), Some(1 | 2)) {
-        show_lent(alloc, what, args.as_slice(), turns, shown)
-    } else {
-        show_answer(alloc, what, args, turns, shown)
-    }
+    None
 }
 
 /// What is given for the operator, the operands and the turns of a row. An operator with one or two operands may be lent
 /// them.
-pub fn show_row(alloc: Global, lends: bool, row: &str, shown: &mut String) -> Result<(), Memory> {
+pub fn put_row(w: &mut Work, lends: bool, row: &str) {
     let (name, rest) = row.split_once(" | ").unwrap_or((row, ""));
     let (operands, turns) = rest.rsplit_once(" | ").unwrap_or((rest, ""));
-    let what = named(name, &mut String::new(alloc))?;
+    w.read(operands);
+    let what = named(name, &mut String::new(w.alloc));
     let (Some(what), Ok(turns)) = (what, turns.parse()) else {
-        return shown.push_str("no operator, or no number of turns");
+        return;
     };
-    let mut args = Vec::new(alloc);
-    add_values(alloc, operands, &mut args)?;
-    show_call(alloc, lends, what, args, turns, shown)
+    if lends {
+        put_lent(w, what, turns);
+    } else {
+        put_answer(w, what, turns);
+    }
 }

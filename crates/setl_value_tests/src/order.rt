@@ -1,6 +1,6 @@
 //! The canonical order of all kinds, values as keys, and the greatest depth.
 
-use crate::written::{Parts, add_values};
+use crate::written::Work;
 use setl_value::{Memory, Value};
 use std::alloc::Global;
 use std::cmp::Ordering;
@@ -14,16 +14,9 @@ atom 1
 atom 2
 [] [* 1] [1] [1 2] {} {1} {1 2} {2}";
 
-// The least of these is written in the front.
+// The least first.
 const DEEP: &str = "set 499
 set 500";
-
-fn add_rows(alloc: Global, rows: &str, all: &mut Parts) -> Result<(), Memory> {
-    for row in rows.lines() {
-        add_values(alloc, row, all)?;
-    }
-    Ok(())
-}
 
 fn compare(v: &Option<Value>, w: &Option<Value>) -> Option<Ordering> {
     Some(v.as_ref()?.compare(w.as_ref()?))
@@ -32,7 +25,7 @@ fn compare(v: &Option<Value>, w: &Option<Value>) -> Option<Ordering> {
 // Compares the value at this place with each.
 fn expect_place(rt: &impl Abort, all: &[Option<Value>], i: usize, v: &Option<Value>) {
     for (j, w) in all.iter().enumerate() {
-        assert_eq!(rt; compare(v, w), Some(i.cmp(&j)), "at {i} and {j}");
+        assert!(rt; compare(v, w) == Some(i.cmp(&j)));
     }
 }
 
@@ -42,13 +35,14 @@ fn expect_rising(rt: &impl Abort, all: &[Option<Value>]) {
     }
 }
 
-// Copies of all but the first value become keys of their places.
+// Copies of the values from this place on become keys of their places.
 fn add_keys(
     all: &[Option<Value>],
+    from: usize,
     tree: &mut BTreeMap<Value, usize>,
     hash: &mut HashMap<Value, usize>,
 ) -> Result<(), Memory> {
-    for (i, v) in all.iter().enumerate().skip(1) {
+    for (i, v) in all.iter().enumerate().skip(from) {
         if let Some(v) = v {
             tree.insert(v.copy()?, i)?;
             hash.insert(v.copy()?, i)?;
@@ -65,40 +59,48 @@ fn place_in_hash(hash: &HashMap<Value, usize>, v: &Option<Value>) -> Option<usiz
     hash.get(v.as_ref()?).copied()
 }
 
-// Each value but the first finds its place.
+// Each value from this place on finds its place, and none before it.
 fn expect_places(
     rt: &impl Abort,
     all: &[Option<Value>],
+    from: usize,
     tree: &BTreeMap<Value, usize>,
     hash: &HashMap<Value, usize>,
 ) {
     for (i, v) in all.iter().enumerate() {
-        let place = if i == 0 { None } else { Some(i) };
-        assert_eq!(rt; place_in_tree(tree, v), place);
-        assert_eq!(rt; place_in_hash(hash, v), place);
+        let place = if i < from { None } else { Some(i) };
+        assert!(rt; place_in_tree(tree, v) == place);
+        assert!(rt; place_in_hash(hash, v) == place);
     }
 }
 
-fn expect_keys(rt: &impl Abort, alloc: Global, all: &[Option<Value>]) -> Result<(), Memory> {
+fn expect_keys(
+    rt: &impl Abort,
+    alloc: Global,
+    all: &[Option<Value>],
+    from: usize,
+) -> Result<(), Memory> {
     let mut tree = BTreeMap::new(alloc);
     let mut hash = HashMap::new(alloc);
-    add_keys(all, &mut tree, &mut hash)?;
-    expect_places(rt, all, &tree, &hash);
+    add_keys(all, from, &mut tree, &mut hash)?;
+    expect_places(rt, all, from, &tree, &hash);
     Ok(())
 }
 
-// These values are as many, stand in the canonical order, and are keys of maps.
+// These values are as many and stand in the canonical order, and those from this place on are keys of maps.
 fn expect_order(
     rt: &impl Abort,
-    alloc: Global,
+    w: &mut Work,
     rows: &str,
     count: usize,
-    all: &mut Parts,
+    from: usize,
 ) -> Result<(), Memory> {
-    add_rows(alloc, rows, all)?;
-    assert_eq!(rt; all.len(), count);
-    expect_rising(rt, all);
-    expect_keys(rt, alloc, all)
+    for row in rows.lines() {
+        w.read(row);
+    }
+    assert_eq!(rt; w.values.len(), count);
+    expect_rising(rt, w.values.as_slice());
+    expect_keys(rt, w.alloc, w.values.as_slice(), from)
 }
 
 // A copy of a value is equal, and as deep.
@@ -111,14 +113,13 @@ fn expect_copy(rt: &impl Abort, v: &Value, depth: u32) -> Result<(), Memory> {
 
 #[test]
 fn values_stand_in_the_canonical_order_and_are_keys_of_maps(rt: HostRuntime) -> Result<(), Fail> {
-    let alloc = rt.alloc();
-    expect_order(&rt, alloc, RISING, 18, &mut Vec::new(alloc))?;
+    expect_order(&rt, &mut Work::new(rt.alloc()), RISING, 18, 0)?;
     Ok(())
 }
 
-fn expect_deep(rt: &impl Abort, alloc: Global, all: &mut Parts) -> Result<(), Memory> {
-    expect_order(rt, alloc, DEEP, 2, all)?;
-    match all.last() {
+fn expect_deep(rt: &impl Abort, w: &mut Work) -> Result<(), Memory> {
+    expect_order(rt, w, DEEP, 2, 1)?;
+    match w.values.last() {
         Some(Some(v)) => expect_copy(rt, v, 500),
         _ => panic!(rt; "no value"),
     }
@@ -128,7 +129,6 @@ fn expect_deep(rt: &impl Abort, alloc: Global, all: &mut Parts) -> Result<(), Me
 fn values_of_depth_500_are_built_compared_copied_hashed_and_dropped(
     rt: HostRuntime,
 ) -> Result<(), Fail> {
-    let alloc = rt.alloc();
-    expect_deep(&rt, alloc, &mut Vec::new(alloc))?;
+    expect_deep(&rt, &mut Work::new(rt.alloc()))?;
     Ok(())
 }

@@ -1,12 +1,11 @@
 //! The outside in memory: what is loaded, read and written, with each call failing in turn.
 
-use crate::written::show_bytes;
+use crate::written::Work;
 use setl_io::{
     Files, Load, MemFiles, MemSink, MemSource, Memory, Put, Sink, Source, SureFiles, SureSink,
     SureSource, Took, WriteFault, write_all,
 };
 use std::alloc::Global;
-use std::fmt::Write;
 
 // Each text behind its name; the second one of `a` comes in place of the first.
 const TEXTS: &str = "a other
@@ -32,152 +31,114 @@ fn add_to_sure(alloc: Global, files: &mut SureFiles) -> Result<(), Memory> {
 }
 
 // A mark for what became of a load.
-fn mark_of_load(load: Load) -> char {
+fn mark_of_load(load: Load) -> &'static str {
     match load {
-        Load::Loaded => '=',
-        Load::TooLong => '+',
-        Load::Failed => '!',
-        Load::NoMemory => '0',
+        Load::Loaded => "=",
+        Load::TooLong => "+",
+        Load::Failed => "!",
+        Load::NoMemory => "0",
     }
 }
 
 // Loads a text, which is written with its limit, into a list that isn't empty: what stands there then, and the mark.
-fn show_load<F: Files>(
-    alloc: Global,
-    files: &mut F,
-    text: &str,
-    shown: &mut String,
-) -> Result<(), Memory> {
+fn put_load<F: Files>(w: &mut Work, files: &mut F, text: &str) -> Result<(), Memory> {
     let (name, limit) = text.split_once(':').unwrap_or((text, ""));
-    let mut into = vec![in alloc; b'?'; 1]?;
+    let mut into = vec![in w.alloc; b'?'; 1]?;
     let load = files.load(name, limit.parse().unwrap_or(0), &mut into);
-    show_bytes(into.as_slice(), shown)?;
-    shown.push(mark_of_load(load))
+    w.put_bytes(into.as_slice());
+    w.put(mark_of_load(load));
+    Ok(())
 }
 
-fn show_loads<F: Files>(
-    alloc: Global,
-    files: &mut F,
-    texts: &str,
-    shown: &mut String,
-) -> Result<(), Memory> {
+fn put_loads<F: Files>(w: &mut Work, files: &mut F, texts: &str) -> Result<(), Memory> {
     for text in texts.split(',') {
-        show_load(alloc, files, text, shown)?;
+        put_load(w, files, text)?;
     }
     Ok(())
 }
 
 // Loads, of which the one of this number fails.
-fn show_mem_loads(
-    alloc: Global,
-    failing: u64,
-    texts: &str,
-    shown: &mut String,
-) -> Result<(), Memory> {
-    let mut files = MemFiles::new(alloc, vec![in alloc; failing; 1]?)?;
-    add_to_mem(alloc, &mut files)?;
-    show_loads(alloc, &mut files, texts, shown)
+fn put_mem_loads(w: &mut Work, failing: u64, texts: &str) -> Result<(), Memory> {
+    let mut files = MemFiles::new(w.alloc, vec![in w.alloc; failing; 1]?)?;
+    add_to_mem(w.alloc, &mut files)?;
+    put_loads(w, &mut files, texts)
 }
 
-fn show_sure_loads(alloc: Global, texts: &str, shown: &mut String) -> Result<(), Memory> {
-    let mut files = SureFiles::new(alloc)?;
-    add_to_sure(alloc, &mut files)?;
-    show_loads(alloc, &mut files, texts, shown)
+fn put_sure_loads(w: &mut Work, texts: &str) -> Result<(), Memory> {
+    let mut files = SureFiles::new(w.alloc)?;
+    add_to_sure(w.alloc, &mut files)?;
+    put_loads(w, &mut files, texts)
 }
 
-// A read with room for two bytes: the bytes, and a mark for the answer.
-fn show_read<S: Source>(source: &mut S, shown: &mut String) -> Result<(), Memory> {
-    let mut room = [0u8; 2];
-    match source.read(&mut room) {
-        Took::Bytes(count) => {
-            show_bytes(&room[..count], shown)?;
-            shown.push('|')
-        }
-        Took::End => shown.push('.'),
-        Took::Failed => shown.push('!'),
-    }
-}
-
-fn show_reads<S: Source>(source: &mut S, shown: &mut String) -> Result<(), Memory> {
+// Four reads with room for two bytes: the bytes, and a mark for each answer.
+fn put_reads<S: Source>(w: &mut Work, source: &mut S) {
     for _ in 0..4 {
-        show_read(source, shown)?;
+        let mut room = [0u8; 2];
+        match source.read(&mut room) {
+            Took::Bytes(count) => {
+                w.put_bytes(&room[..count]);
+                w.put("|");
+            }
+            Took::End => w.put("."),
+            Took::Failed => w.put("!"),
+        }
     }
-    Ok(())
 }
 
 // Four reads of `abc`, which comes in pieces, and of which the read of this number fails.
-fn show_mem_reads(
-    alloc: Global,
-    piece: usize,
-    failing: u64,
-    shown: &mut String,
-) -> Result<(), Memory> {
+fn put_mem_reads(w: &mut Work, piece: usize, failing: u64) -> Result<(), Memory> {
     if piece == 0 {
         return Ok(());
     }
-    let bytes = b"abc".to_vec(alloc)?;
-    let fails = vec![in alloc; failing; 1]?;
-    show_reads(&mut MemSource::new(bytes, piece, fails), shown)
-}
-
-// A write of `ab`: the number of bytes that are taken, or a mark.
-fn show_write<S: Sink>(sink: &mut S, shown: &mut String) -> Result<(), Memory> {
-    match sink.write(b"ab") {
-        Put::Took(count) => write!(shown, "{count}"),
-        Put::Failed => shown.push('!'),
-        Put::NoMemory => shown.push('N'),
-    }
-}
-
-fn show_writes<S: Sink>(sink: &mut S, shown: &mut String) -> Result<(), Memory> {
-    for _ in 0..3 {
-        show_write(sink, shown)?;
-    }
+    let bytes = b"abc".to_vec(w.alloc)?;
+    let fails = vec![in w.alloc; failing; 1]?;
+    put_reads(w, &mut MemSource::new(bytes, piece, fails));
     Ok(())
 }
 
-fn mark_of_writing(outcome: Result<(), WriteFault>) -> char {
-    match outcome {
-        Ok(()) => '=',
-        Err(WriteFault::Failed) => '!',
-        Err(WriteFault::NoMemory) => '0',
+// Three writes of `ab`: the number of bytes that are taken, or a mark.
+fn put_writes<S: Sink>(w: &mut Work, sink: &mut S) {
+    for _ in 0..3 {
+        match sink.write(b"ab") {
+            Put::Took(count) => w.put_debug(count),
+            Put::Failed => w.put("!"),
+            Put::NoMemory => w.put("N"),
+        }
     }
 }
 
-// Three writes to a sink that takes so many bytes a call and fails at the call of this number, and what it holds then.
-fn show_mem_writes(
-    alloc: Global,
-    most: usize,
-    failing: u64,
-    shown: &mut String,
-) -> Result<(), Memory> {
-    let mut sink = MemSink::new(alloc, most, vec![in alloc; failing; 1]?)?;
-    show_writes(&mut sink, shown)?;
-    show_bytes(sink.held(), shown)
+fn mark_of_writing(outcome: Result<(), WriteFault>) -> &'static str {
+    match outcome {
+        Ok(()) => "=",
+        Err(WriteFault::Failed) => "!",
+        Err(WriteFault::NoMemory) => "0",
+    }
 }
 
-// A whole piece written to such a sink, and what the sink holds then.
-fn show_whole(
-    alloc: Global,
-    most: usize,
-    failing: u64,
-    piece: &str,
-    shown: &mut String,
-) -> Result<(), Memory> {
-    let mut sink = MemSink::new(alloc, most, vec![in alloc; failing; 1]?)?;
-    let outcome = write_all(&mut sink, piece.as_bytes());
-    shown.push(mark_of_writing(outcome))?;
-    show_bytes(sink.held(), shown)
+// Three writes to a sink, or a whole piece written to it, and what the sink holds then. It takes so many bytes a call and
+// fails at the call of this number.
+fn put_mem_writes(w: &mut Work, most: usize, failing: u64, piece: &str) -> Result<(), Memory> {
+    let mut sink = MemSink::new(w.alloc, most, vec![in w.alloc; failing; 1]?)?;
+    if piece == "thrice" {
+        put_writes(w, &mut sink);
+    } else {
+        w.put(mark_of_writing(write_all(&mut sink, piece.as_bytes())));
+    }
+    w.put_bytes(sink.held());
+    Ok(())
 }
 
-fn show_sure_reads(alloc: Global, shown: &mut String) -> Result<(), Memory> {
-    show_reads(&mut SureSource::new(b"abc".to_vec(alloc)?), shown)
+fn put_sure_reads(w: &mut Work) -> Result<(), Memory> {
+    let mut source = SureSource::new(b"abc".to_vec(w.alloc)?);
+    put_reads(w, &mut source);
+    Ok(())
 }
 
-fn show_sure_writes(alloc: Global, shown: &mut String) -> Result<(), Memory> {
-    let mut sink = SureSink::new(alloc)?;
-    show_writes(&mut sink, shown)?;
-    show_bytes(sink.held(), shown)
+fn put_sure_writes(w: &mut Work) -> Result<(), Memory> {
+    let mut sink = SureSink::new(w.alloc)?;
+    put_writes(w, &mut sink);
+    w.put_bytes(sink.held());
+    Ok(())
 }
 
 /// Rows, a line each: calls of an object, how many bytes it gives or takes a call, the number of the call that fails, and
@@ -195,20 +156,20 @@ mem_source 9 2 | ab|!c|.
 mem_source 9 3 | ab|c|!.
 mem_source 1 4 | a|b|c|!
 sure_source 0 0 | ab|c|..
-mem_sink 9 0 | 222ababab
-mem_sink 1 0 | 111aaa
-mem_sink 0 0 | !!!
-mem_sink 9 1 | !22abab
-mem_sink 9 2 | 2!2abab
-mem_sink 1 3 | 11!aa
+mem_sink 9 0 thrice | 222ababab
+mem_sink 1 0 thrice | 111aaa
+mem_sink 0 0 thrice | !!!
+mem_sink 9 1 thrice | !22abab
+mem_sink 9 2 thrice | 2!2abab
+mem_sink 1 3 thrice | 11!aa
 sure_sink 0 0 | 222ababab
-write_all 9 0 abc | =abc
-write_all 1 0 abc | =abc
-write_all 1 4 abc | =abc
-write_all 0 1 | =
-write_all 0 0 abc | !
-write_all 9 1 abc | !
-write_all 1 3 abc | !ab";
+mem_sink 9 0 abc | =abc
+mem_sink 1 0 abc | =abc
+mem_sink 1 4 abc | =abc
+mem_sink 0 1 | =
+mem_sink 0 0 abc | !
+mem_sink 9 1 abc | !
+mem_sink 1 3 abc | !ab";
 
 // The four fields of a row.
 fn fields(row: &str) -> [&str; 4] {
@@ -221,18 +182,22 @@ fn fields(row: &str) -> [&str; 4] {
     ]
 }
 
-/// What the calls of a row tell.
-pub fn show_calls(alloc: Global, row: &str, shown: &mut String) -> Result<(), Memory> {
+fn calls(w: &mut Work, row: &str) -> Result<(), Memory> {
     let [call, bytes, failing, text] = fields(row);
     let bytes = bytes.parse().unwrap_or(0);
     let failing = failing.parse().unwrap_or(0);
     match call {
-        "mem_files" => show_mem_loads(alloc, failing, text, shown),
-        "sure_files" => show_sure_loads(alloc, text, shown),
-        "mem_source" => show_mem_reads(alloc, bytes, failing, shown),
-        "sure_source" => show_sure_reads(alloc, shown),
-        "mem_sink" => show_mem_writes(alloc, bytes, failing, shown),
-        "sure_sink" => show_sure_writes(alloc, shown),
-        _ => show_whole(alloc, bytes, failing, text, shown),
+        "mem_files" => put_mem_loads(w, failing, text),
+        "sure_files" => put_sure_loads(w, text),
+        "mem_source" => put_mem_reads(w, bytes, failing),
+        "sure_source" => put_sure_reads(w),
+        "mem_sink" => put_mem_writes(w, bytes, failing, text),
+        _ => put_sure_writes(w),
     }
+}
+
+/// What the calls of a row tell.
+pub fn put_calls(w: &mut Work, row: &str) {
+    let outcome = calls(w, row);
+    w.note(outcome);
 }

@@ -2,83 +2,67 @@
 
 ghost use Rattle.std.specs.Prelude.{◌<◌};
 
-use crate::written::{add_values, show, show_bytes, show_part};
+use crate::written::Work;
 use setl_io::{MemSource, Source, SureSource};
 use setl_text::{Got, ReadFault, Reader, line};
-use setl_value::{Memory, Value};
-use std::alloc::Global;
+use setl_value::Memory;
 use std::process::Abort;
 use std::test::Fail;
 
 // The letter of a fault.
-fn letter(fault: ReadFault) -> char {
+fn letter(fault: ReadFault) -> &'static str {
     match fault {
-        ReadFault::Form => 'F',
-        ReadFault::Wide => 'W',
-        ReadFault::Deep => 'D',
-        ReadFault::Source => 'S',
-        ReadFault::NoMemory => 'N',
+        ReadFault::Form => "F",
+        ReadFault::Wide => "W",
+        ReadFault::Deep => "D",
+        ReadFault::Source => "S",
+        ReadFault::NoMemory => "N",
     }
 }
 
-// The text of an answer and a blank, a full stop at the end of the input, or the letter of a fault.
-fn show_answer(
-    alloc: Global,
-    answer: &Result<Got, ReadFault>,
-    shown: &mut String,
-) -> Result<(), Memory> {
+// The text of an answer and a blank, a full stop at the end of the input, or the letter of a fault. It says whether
+// another answer may follow.
+fn put_answer(w: &mut Work, answer: &Result<Got, ReadFault>) -> bool {
     match answer {
         Ok(Got::Value(v)) => {
-            show(alloc, v, shown)?;
-            shown.push(' ')
+            w.put_value(v);
+            w.put(" ");
+            true
         }
-        Ok(Got::Om) => shown.push_str("* "),
-        Ok(Got::End) => shown.push('.'),
-        Err(fault) => shown.push(letter(*fault)),
+        Ok(Got::Om) => {
+            w.put("* ");
+            true
+        }
+        Ok(Got::End) => {
+            w.put(".");
+            false
+        }
+        Err(fault) => {
+            w.put(letter(*fault));
+            false
+        }
     }
-}
-
-// The next answer.
-fn show_next<I: Source>(
-    alloc: Global,
-    reader: &mut Reader,
-    input: &mut I,
-    shown: &mut String,
-) -> Result<(), Memory> {
-    show_answer(alloc, &reader.next(input), shown)
 }
 
 // The answers up to the first that ends the reading, and the one after it.
-fn show_answers<I: Source>(
-    alloc: Global,
-    reader: &mut Reader,
-    input: &mut I,
-    shown: &mut String,
-) -> Result<(), Memory> {
+fn put_answers<I: Source>(w: &mut Work, reader: &mut Reader, input: &mut I) {
     for _ in 0..20 {
-        show_next(alloc, reader, input, shown)?;
-        // Another answer may follow only after a blank.
-        if !shown.ends_with(" ") {
+        if !put_answer(w, &reader.next(input)) {
             break;
         }
     }
-    show_next(alloc, reader, input, shown)
+    put_answer(w, &reader.next(input));
 }
 
 // The answers of an input that gives so many bytes a call, and whose calls of these numbers fail.
-fn show_pieces(
-    alloc: Global,
-    input: &str,
-    piece: usize,
-    fails: &[u64],
-    shown: &mut String,
-) -> Result<(), Memory>
+fn put_pieces(w: &mut Work, input: &str, piece: usize, fails: &[u64]) -> Result<(), Memory>
     requires { 0 < piece }
 {
-    let bytes = input.as_bytes().to_vec(alloc)?;
-    let mut source = MemSource::new(bytes, piece, fails.to_vec(alloc)?);
-    let mut reader = Reader::new(alloc)?;
-    show_answers(alloc, &mut reader, &mut source, shown)
+    let bytes = input.as_bytes().to_vec(w.alloc)?;
+    let mut source = MemSource::new(bytes, piece, fails.to_vec(w.alloc)?);
+    let mut reader = Reader::new(w.alloc)?;
+    put_answers(w, &mut reader, &mut source);
+    Ok(())
 }
 
 // Inputs and their answers, with an empty line between two rows.
@@ -116,46 +100,31 @@ const INPUTS: &str = "{1 [2 'a']} 7 => {1 [2 'a']} 7 ..
 
 -170141183460469231731687303715884105728 -170141183460469231731687303715884105729 => -170141183460469231731687303715884105728 WW";
 
-// Reads the input of a row in pieces of this size, and compares.
-fn expect_pieces(
-    rt: &impl Abort,
-    alloc: Global,
-    row: &str,
-    piece: usize,
-    shown: &mut String,
-) -> Result<(), Memory>
+// Reads the input of a row in pieces of this size, writes the row anew, and compares.
+fn expect_pieces(rt: &impl Abort, w: &mut Work, row: &str, piece: usize) -> Result<(), Memory>
     requires { 0 < piece }
 {
-    let (input, answers) = row.split_once(" => ").unwrap_or((row, ""));
-    shown.clear();
-    show_pieces(alloc, input, piece, &[], shown)?;
-    assert_eq!(rt; shown.as_str(), answers, "{piece} of {input}");
+    let (input, _) = row.split_once(" => ").unwrap_or((row, ""));
+    w.clear();
+    w.put(input);
+    w.put(" => ");
+    put_pieces(w, input, piece, &[])?;
+    assert_eq!(rt; w.text.as_str(), row);
     Ok(())
 }
 
-fn expect_input(
-    rt: &impl Abort,
-    alloc: Global,
-    row: &str,
-    shown: &mut String,
-) -> Result<(), Memory> {
+fn expect_input(rt: &impl Abort, w: &mut Work, row: &str) -> Result<(), Memory> {
     for piece in 1..30 {
-        expect_pieces(rt, alloc, row, piece, shown)?;
-    }
-    Ok(())
-}
-
-fn expect_inputs(rt: &impl Abort, alloc: Global, shown: &mut String) -> Result<(), Memory> {
-    for row in INPUTS.split("\n\n") {
-        expect_input(rt, alloc, row, shown)?;
+        expect_pieces(rt, w, row, piece)?;
     }
     Ok(())
 }
 
 #[test]
 fn denotations_are_read_in_pieces_of_each_size(rt: HostRuntime) -> Result<(), Fail> {
-    let alloc = rt.alloc();
-    expect_inputs(&rt, alloc, &mut String::new(alloc))?;
+    for row in INPUTS.split("\n\n") {
+        expect_input(&rt, &mut Work::new(rt.alloc()), row)?;
+    }
     Ok(())
 }
 
@@ -170,30 +139,30 @@ deep 500 | [
 deep 501 | D";
 
 // What is told of so many opening brackets, and as many closing ones.
-fn show_brackets(alloc: Global, depth: usize, shown: &mut String) -> Result<(), Memory> {
-    let mut bytes = vec![in alloc; b'['; depth]?;
-    bytes.extend_from_slice(vec![in alloc; b']'; depth]?.as_slice())?;
-    let mut reader = Reader::new(alloc)?;
-    show_answers(alloc, &mut reader, &mut SureSource::new(bytes), shown)
+fn put_brackets(w: &mut Work, depth: usize) -> Result<(), Memory> {
+    let mut bytes = vec![in w.alloc; b'['; depth]?;
+    bytes.extend_from_slice(vec![in w.alloc; b']'; depth]?.as_slice())?;
+    let mut reader = Reader::new(w.alloc)?;
+    put_answers(w, &mut reader, &mut SureSource::new(bytes));
+    Ok(())
 }
 
 // The first sign of it.
-fn show_first_sign(alloc: Global, depth: usize, shown: &mut String) -> Result<(), Memory> {
-    let mut all = String::new(alloc);
-    show_brackets(alloc, depth, &mut all)?;
-    match all.as_bytes().first() {
-        Some(sign) => shown.push(char::from(*sign)),
-        None => Ok(()),
-    }
+fn put_first_sign(w: &mut Work, depth: usize) -> Result<(), Memory> {
+    let mut all = Work::new(w.alloc);
+    put_brackets(&mut all, depth)?;
+    w.put_bytes(all.text.as_bytes().get(..1).unwrap_or(b"?"));
+    Ok(())
 }
 
 /// What is told of the input of a row.
-pub fn show_read(alloc: Global, row: &str, shown: &mut String) -> Result<(), Memory> {
+pub fn put_read(w: &mut Work, row: &str) {
     let (input, number) = row.split_once(' ').unwrap_or((row, ""));
-    match input {
-        "failing" => show_pieces(alloc, "12 {3}", 2, &[number.parse().unwrap_or(0)], shown),
-        _ => show_first_sign(alloc, number.parse().unwrap_or(0), shown),
-    }
+    let outcome = match input {
+        "failing" => put_pieces(w, "12 {3}", 2, &[number.parse().unwrap_or(0)]),
+        _ => put_first_sign(w, number.parse().unwrap_or(0)),
+    };
+    w.note(outcome);
 }
 
 /// Rows, a line each: arguments, the line of them, whose end is written as `$`, and their texts.
@@ -202,23 +171,12 @@ pub const LINES: &str = "{3 1 2 1} [1 * 2] 'it''s' | {1 2 3} [1 * 2] it's$ {1 2 
  | $
 atom 7 | #7$ #7";
 
-/// Adds the line of these arguments.
-pub fn show_line(alloc: Global, parts: &[Option<Value>], shown: &mut String) -> Result<(), Memory> {
-    show_bytes(line(alloc, parts)?.as_slice(), shown)
-}
-
-fn show_texts(alloc: Global, parts: &[Option<Value>], shown: &mut String) -> Result<(), Memory> {
-    for part in parts {
-        shown.push(' ')?;
-        show_part(alloc, part, shown)?;
-    }
-    Ok(())
-}
-
 /// The line of the arguments of a row, and their texts.
-pub fn show_line_and_texts(alloc: Global, row: &str, shown: &mut String) -> Result<(), Memory> {
-    let mut all = Vec::new(alloc);
-    add_values(alloc, row, &mut all)?;
-    show_line(alloc, all.as_slice(), shown)?;
-    show_texts(alloc, all.as_slice(), shown)
+pub fn put_line_and_texts(w: &mut Work, row: &str) {
+    w.read(row);
+    let made = line(w.alloc, w.values.as_slice());
+    w.put_made(&made);
+    for _ in 0..20 {
+        w.put_next();
+    }
 }

@@ -6,11 +6,9 @@ use crate::in_place::{CHANGES, TAKES};
 use crate::operators::{FOLDS, NUMBERS, TRUTHS, WHOLES};
 use crate::outside::CALLS;
 use crate::reading::{LINES, READS};
+use crate::written::Work;
 use crate::{bodies, in_place, operators, outside, reading};
-use setl_value::Memory;
-use std::alloc::Global;
 use std::process::Abort;
-use std::test::Fail;
 
 /// What the rows of a table call.
 #[derive(Clone, Copy)]
@@ -32,95 +30,66 @@ enum Table {
 }
 
 /// Writes the rows anew, and compares.
-fn expect_rows(
-    rt: &impl Abort,
-    alloc: Global,
-    table: Table,
-    rows: &str,
-    shown: &mut String,
-) -> Result<(), Fail> {
+fn expect_rows(rt: &impl Abort, w: &mut Work, table: Table, rows: &str) {
     for row in rows.lines() {
-        expect_row(rt, alloc, table, row, shown)?;
+        expect_row(rt, w, table, row);
     }
-    Ok(())
 }
 
-fn expect_row(
-    rt: &impl Abort,
-    alloc: Global,
-    table: Table,
-    row: &str,
-    shown: &mut String,
-) -> Result<(), Fail> {
+fn expect_row(rt: &impl Abort, w: &mut Work, table: Table, row: &str) {
     let (start, _) = row.rsplit_once(" | ").unwrap_or((row, ""));
-    shown.clear();
-    show_row(alloc, table, start, shown)?;
-    assert_eq!(rt; shown.as_str(), row);
-    Ok(())
+    w.clear();
+    put_row(w, table, start);
+    assert!(rt; !w.is_refused);
+    assert_eq!(rt; w.text.as_str(), row);
 }
 
-fn show_row(alloc: Global, table: Table, start: &str, shown: &mut String) -> Result<(), Memory> {
+fn put_row(w: &mut Work, table: Table, start: &str) {
     match table {
-        Table::Changes => in_place::show_change(alloc, false, start, shown),
-        Table::SharedChanges => in_place::show_change(alloc, true, start, shown),
+        Table::Changes => in_place::put_change(w, false, start),
+        Table::SharedChanges => in_place::put_change(w, true, start),
         _ => {
-            shown.push_str(start)?;
-            shown.push_str(" | ")?;
-            show_answer(alloc, table, start, shown)
+            w.put(start);
+            w.put(" | ");
+            put_answer(w, table, start);
         }
     }
 }
 
-fn show_answer(alloc: Global, table: Table, start: &str, shown: &mut String) -> Result<(), Memory> {
+fn put_answer(w: &mut Work, table: Table, start: &str) {
     match table {
-        Table::Operators => operators::show_row(alloc, false, start, shown),
-        Table::LentOperators => operators::show_row(alloc, true, start, shown),
-        Table::Takes => in_place::show_take(alloc, start, shown),
-        Table::Bodies => bodies::show_work(alloc, start, shown),
-        Table::Bounds => bodies::show_bound(alloc, start, shown),
-        Table::Reads => reading::show_read(alloc, start, shown),
-        Table::Lines => reading::show_line_and_texts(alloc, start, shown),
-        _ => outside::show_calls(alloc, start, shown),
+        Table::Operators => operators::put_row(w, false, start),
+        Table::LentOperators => operators::put_row(w, true, start),
+        Table::Takes => in_place::put_take(w, start),
+        Table::Bodies => bodies::put_work(w, start),
+        Table::Bounds => bodies::put_bound(w, start),
+        Table::Reads => reading::put_read(w, start),
+        Table::Lines => reading::put_line_and_texts(w, start),
+        _ => outside::put_calls(w, start),
     }
 }
 
 #[test]
-fn operators_answer_as_the_tables_say(rt: HostRuntime) -> Result<(), Fail> {
-    let alloc = rt.alloc();
+fn operators_answer_as_the_tables_say(rt: HostRuntime) {
     for table in [Table::Operators, Table::LentOperators] {
         for rows in [NUMBERS, TRUTHS, WHOLES, FOLDS] {
-            expect_rows(&rt, alloc, table, rows, &mut String::new(alloc))?;
+            expect_rows(&rt, &mut Work::new(rt.alloc()), table, rows);
         }
     }
-    Ok(())
 }
 
 #[test]
-fn values_change_in_place_and_copies_stay(rt: HostRuntime) -> Result<(), Fail> {
-    let alloc = rt.alloc();
+fn calls_answer_as_the_tables_say_and_copies_stay(rt: HostRuntime) {
     for (table, rows) in [
         (Table::Changes, CHANGES),
         (Table::SharedChanges, CHANGES),
         (Table::Takes, TAKES),
         (Table::Bodies, WORKS),
         (Table::Bounds, BOUNDS),
-    ] {
-        expect_rows(&rt, alloc, table, rows, &mut String::new(alloc))?;
-    }
-    Ok(())
-}
-
-#[test]
-fn texts_are_read_and_written_and_each_call_of_the_outside_fails_in_turn(
-    rt: HostRuntime,
-) -> Result<(), Fail> {
-    let alloc = rt.alloc();
-    for (table, rows) in [
         (Table::Reads, READS),
         (Table::Lines, LINES),
         (Table::Outside, CALLS),
     ] {
-        expect_rows(&rt, alloc, table, rows, &mut String::new(alloc))?;
+        expect_rows(&rt, &mut Work::new(rt.alloc()), table, rows);
     }
-    Ok(())
 }
