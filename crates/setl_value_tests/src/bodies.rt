@@ -1,147 +1,208 @@
-//! Bodies that change while a copy is held, and counts that no memory holds.
+//! Bodies that change while a copy is held, and bounds on counts and depths.
 
-use crate::written::value;
+use crate::written::Work;
+use setl_operators::{Operator, op_two};
 use setl_scalar::ScalarFault;
-use setl_set::{less, walk, with};
+use setl_set::{less, walk};
 use setl_text::{line, text};
-use setl_tuple::{TupleFault, put, repeat};
+use setl_tuple::{TupleFault, put, repeat, with};
 use setl_value::{Memory, SetBody, Text, TupleBody, Value};
 use std::alloc::Global;
-use std::process::Abort;
-use std::test::Fail;
 
-type Parts = Vec<Option<Value>>;
+/// Rows, a line each: what is done with a value, the value, what is told while it is done, and the value after it.
+pub const WORKS: &str = "change | {1 2} | {1 2} true {2 3}$
+cut | {1 2} | {1 2} 1 {2}$
+visit | {3 1 2 1} | 1 2 3 {1 2 3}$
+change | [1 *] | [1] true [3]$
+cut | [1 * 5] | 1 5 []$
+copy | [1 {2}] | true [1 {2}] [1 {2}]$
+lend | {} | {1} {}$
+make | 0 | {} ab -5 0$";
 
-fn set(alloc: Global, denotation: &str) -> Result<SetBody, Memory> {
-    match value(alloc, denotation)? {
-        Value::Set(s) => Ok(s),
-        _ => SetBody::new(alloc),
-    }
+// 3 is put into a set and 1 is taken out: a copy of the set as it was before, and whether both was done.
+fn change_set(w: &mut Work, s: &mut SetBody) -> Result<(), Memory> {
+    w.add(Some(Value::Set(s.copy()?)));
+    let is_in = setl_set::with(w.alloc, s, Value::Int(3)).is_ok();
+    let is_out = less(s, &Value::Int(1)).is_ok();
+    w.add(Some(Value::Bool(is_in && is_out)));
+    Ok(())
 }
 
-fn tuple(alloc: Global, denotation: &str) -> Result<TupleBody, Memory> {
-    match value(alloc, denotation)? {
-        Value::Tuple(t) => Ok(t),
-        _ => TupleBody::of(alloc, Vec::new(alloc)),
+// The first member of a set is taken out: a copy of the set as it was before, and that member.
+fn cut_set(w: &mut Work, s: &mut SetBody) -> Result<(), Memory> {
+    w.add(Some(Value::Set(s.copy()?)));
+    if s.len() > 0 {
+        w.add_made(s.cut_at(0));
     }
-}
-
-// A set that gained 3 and lost 1, and a copy of it as it was before.
-fn changed_set(alloc: Global) -> Result<Parts, Fail> {
-    let mut s = set(alloc, "{1 2}")?;
-    let copy = s.copy()?;
-    with(alloc, &mut s, Value::Int(3))?;
-    less(&mut s, &Value::Int(1))?;
-    Ok(vec![in alloc; Some(Value::Set(s)), Some(Value::Set(copy))]?)
-}
-
-// A set after its first member was taken out, that member, and a copy of the set as it was before.
-fn cut_set(alloc: Global) -> Result<Parts, Fail> {
-    let mut s = set(alloc, "{1 2}")?;
-    let copy = s.copy()?;
-    if s.len() == 0 {
-        return Ok(Vec::new(alloc));
-    }
-    let first = s.cut_at(0)?;
-    Ok(vec![in alloc; Some(Value::Set(s)), Some(first), Some(Value::Set(copy))]?)
+    Ok(())
 }
 
 // The members as they are visited.
-fn visited(alloc: Global) -> Result<Parts, Fail> {
-    let s = set(alloc, "{3 1 2 1}")?;
-    let mut all = Vec::new(alloc);
-    for v in walk(&s) {
-        all.push(Some(v.copy()?))?;
+fn visit(w: &mut Work, s: &SetBody) {
+    for v in walk(s) {
+        w.add_made(v.copy());
     }
-    Ok(all)
 }
 
-// A tuple whose first component became 3, and a copy of it as it was before.
-fn changed_tuple(alloc: Global) -> Result<Parts, Fail> {
-    let mut t = tuple(alloc, "[1 *]")?;
-    let copy = t.copy()?;
-    put(alloc, &mut t, 1, Some(Value::Int(3)))?;
-    Ok(vec![in alloc; Some(Value::Tuple(t)), Some(Value::Tuple(copy))]?)
-}
-
-// The first and the last component of a tuple, and the tuple without them.
-fn cut_tuple(alloc: Global) -> Result<Parts, Fail> {
-    let mut t = tuple(alloc, "[1 * 5]")?;
-    if t.len() < 2 {
-        return Ok(Vec::new(alloc));
+fn work_on_set(w: &mut Work, call: &str, s: &mut SetBody) -> Result<(), Memory> {
+    match call {
+        "change" => change_set(w, s),
+        "cut" => cut_set(w, s),
+        _ => {
+            visit(w, s);
+            Ok(())
+        }
     }
-    let first = t.cut_front()?;
-    let last = t.cut_back()?;
-    Ok(vec![in alloc; first, last, Some(Value::Tuple(t))]?)
 }
 
-// Two strings, one made of these bytes and one of the text of an integer.
-fn strings(alloc: Global) -> Result<Parts, Fail> {
-    let ab = Text::of(alloc, b"ab")?;
-    let five = Text::from_bytes(alloc, text(alloc, &Value::Int(-5))?)?;
-    Ok(vec![in alloc; Some(Value::Text(ab)), Some(Value::Text(five))]?)
-}
-
-// A copy of a tuple with a set in it, and whether it is equal.
-fn copied(alloc: Global) -> Result<Parts, Fail> {
-    let v = value(alloc, "[1 {2}]")?;
-    let copy = v.copy()?;
-    let same = Value::Bool(copy == v);
-    Ok(vec![in alloc; Some(copy), Some(same)]?)
-}
-
-fn expect(rt: &impl Abort, alloc: Global, parts: Parts, line_of: &str) -> Result<(), Fail> {
-    assert_eq!(rt;
-        line(alloc, parts.as_slice())?.as_slice(),
-        line_of.as_bytes()
-    );
+// The first component of a tuple becomes 3: a copy of the tuple as it was before, and whether it was done.
+fn change_tuple(w: &mut Work, t: &mut TupleBody) -> Result<(), Memory> {
+    w.add(Some(Value::Tuple(t.copy()?)));
+    let is_done = put(w.alloc, t, 1, Some(Value::Int(3))).is_ok();
+    w.add(Some(Value::Bool(is_done)));
     Ok(())
 }
 
-#[test]
-fn bodies_change_and_their_copies_stay(rt: HostRuntime) -> Result<(), Fail> {
-    let alloc = rt.alloc();
-    expect(&rt, alloc, changed_set(alloc)?, "{2 3} {1 2}\n")?;
-    expect(&rt, alloc, cut_set(alloc)?, "{2} 1 {1 2}\n")?;
-    expect(&rt, alloc, visited(alloc)?, "1 2 3\n")?;
-    expect(&rt, alloc, changed_tuple(alloc)?, "[3] [1]\n")?;
-    expect(&rt, alloc, cut_tuple(alloc)?, "1 5 []\n")?;
-    expect(&rt, alloc, strings(alloc)?, "ab -5\n")?;
-    expect(&rt, alloc, copied(alloc)?, "[1 {2}] true\n")
+// The first and the last component of a tuple.
+fn cut_tuple(w: &mut Work, t: &mut TupleBody) -> Result<(), Memory> {
+    if t.len() < 2 {
+        return Ok(());
+    }
+    w.add(t.cut_front()?);
+    w.add(t.cut_back()?);
+    Ok(())
 }
 
-// The number of components of so many copies of a tuple.
-fn copies_of(alloc: Global, denotation: &str) -> Result<usize, TupleFault> {
-    Ok(repeat(alloc, &tuple(alloc, denotation)?, i128::MAX)?.len())
+fn work_on_tuple(w: &mut Work, call: &str, t: &mut TupleBody) -> Result<(), Memory> {
+    match call {
+        "change" => change_tuple(w, t),
+        _ => cut_tuple(w, t),
+    }
 }
 
-// The number of components after a put at the greatest place.
-fn put_far(alloc: Global) -> Result<usize, TupleFault> {
-    let mut t = tuple(alloc, "[1]")?;
-    put(alloc, &mut t, i128::MAX, Some(Value::Int(9)))?;
+// Whether a copy is equal, and the copy.
+fn copy(w: &mut Work, v: &Value) -> Result<(), Memory> {
+    let copy = v.copy()?;
+    w.add(Some(Value::Bool(copy == *v)));
+    w.add(Some(copy));
+    Ok(())
+}
+
+// What `with` makes of a value that it is lent, and 1.
+fn lend(w: &mut Work, v: &Value) {
+    match op_two(w.alloc, Operator::With, Some(v), Some(&Value::Int(1)), 0) {
+        Ok(answer) => w.add(answer.value),
+        Err(_) => w.add(None),
+    }
+}
+
+// An empty set, a string of these bytes and one of the text of an integer.
+fn make(w: &mut Work) -> Result<(), Memory> {
+    w.add(Some(Value::Set(SetBody::new(w.alloc)?)));
+    w.add(Some(Value::Text(Text::of(w.alloc, b"ab")?)));
+    let five = text(w.alloc, &Value::Int(-5))?;
+    w.add(Some(Value::Text(Text::from_bytes(w.alloc, five)?)));
+    Ok(())
+}
+
+fn work_on_body(w: &mut Work, call: &str, v: &mut Value) -> Result<(), Memory> {
+    match v {
+        Value::Set(s) => work_on_set(w, call, s),
+        Value::Tuple(t) => work_on_tuple(w, call, t),
+        _ => make(w),
+    }
+}
+
+fn work(w: &mut Work, call: &str, v: &mut Value) -> Result<(), Memory> {
+    match call {
+        "copy" => copy(w, v),
+        "lend" => {
+            lend(w, v);
+            Ok(())
+        }
+        _ => work_on_body(w, call, v),
+    }
+}
+
+/// What is done with the value of a row, and the value after it.
+pub fn put_work(w: &mut Work, row: &str) {
+    let (call, written) = row.split_once(" | ").unwrap_or((row, ""));
+    w.read(written);
+    let mut v = w.next();
+    let outcome = work(w, call, &mut v);
+    w.note(outcome);
+    w.add(Some(v));
+    let made = line(w.alloc, w.values.as_slice());
+    w.put_made(&made);
+}
+
+/// Rows, a line each: `repeat`, as often as a count can say, and `put_far`, at the greatest place, with what is then the
+/// length of the tuple or string; and `put` and `with` of a value into a short tuple, with what is then its depth.
+pub const BOUNDS: &str = "repeat | [1] | Err(NoMemory)
+repeat | [] | Ok(0)
+put_far | [1] | Err(NoMemory)
+repeat | 'ab' | Err(NoMemory)
+repeat | '' | Ok(0)
+put | tuple 499 | Ok(500)
+put | tuple 500 | Err(Deep)
+with | tuple 499 | Ok(500)
+with | tuple 500 | Err(Deep)";
+
+fn copies_of(alloc: Global, t: &TupleBody) -> Result<usize, TupleFault> {
+    Ok(repeat(alloc, t, i128::MAX)?.len())
+}
+
+fn put_far(alloc: Global, t: &mut TupleBody) -> Result<usize, TupleFault> {
+    put(alloc, t, i128::MAX, Some(Value::Int(9)))?;
     Ok(t.len())
 }
 
-// The number of bytes of so many copies of a string.
-fn copies_of_text(alloc: Global, bytes: &str) -> Result<usize, ScalarFault> {
-    let copies = setl_scalar::repeat(alloc, &string(alloc, bytes)?, i128::MAX)?;
-    Ok(copies.bytes().len())
+fn copies_of_text(alloc: Global, t: &Text) -> Result<usize, ScalarFault> {
+    Ok(setl_scalar::repeat(alloc, t, i128::MAX)?.bytes().len())
 }
 
-fn string(alloc: Global, denotation: &str) -> Result<Text, Memory> {
-    match value(alloc, denotation)? {
-        Value::Text(t) => Ok(t),
-        _ => Text::of(alloc, b""),
+fn put_length(w: &mut Work, call: &str, mut v: Value) {
+    let alloc = w.alloc;
+    match &mut v {
+        Value::Tuple(t) if call == "repeat" => w.put_debug(copies_of(alloc, t)),
+        Value::Tuple(t) => w.put_debug(put_far(alloc, t)),
+        Value::Text(t) => w.put_debug(copies_of_text(alloc, t)),
+        _ => {}
     }
 }
 
-#[test]
-fn counts_that_no_memory_holds_are_refused(rt: HostRuntime) -> Result<(), Fail> {
-    let alloc = rt.alloc();
-    assert_eq!(rt; copies_of(alloc, "[1]"), Err(TupleFault::NoMemory));
-    assert_eq!(rt; copies_of(alloc, "[]"), Ok(0));
-    assert_eq!(rt; put_far(alloc), Err(TupleFault::NoMemory));
-    assert_eq!(rt; copies_of_text(alloc, "'ab'"), Err(ScalarFault::NoMemory));
-    assert_eq!(rt; copies_of_text(alloc, "''"), Ok(0));
-    Ok(())
+// The depth after a value was put behind 1.
+fn with_both(t: &mut TupleBody, v: Value) -> Result<u32, TupleFault> {
+    with(t, Value::Int(1))?;
+    with(t, v)?;
+    Ok(t.depth())
+}
+
+fn put_past_the_end(alloc: Global, t: &mut TupleBody, v: Value) -> Result<u32, TupleFault> {
+    put(alloc, t, 9, Some(v))?;
+    Ok(t.depth())
+}
+
+fn depth(alloc: Global, call: &str, v: Value) -> Result<u32, TupleFault> {
+    let mut t = TupleBody::of(alloc, Vec::new(alloc))?;
+    match call {
+        "put" => put_past_the_end(alloc, &mut t, v),
+        _ => with_both(&mut t, v),
+    }
+}
+
+fn put_depth(w: &mut Work, call: &str, v: Value) {
+    let depth = depth(w.alloc, call, v);
+    w.put_debug(depth);
+}
+
+/// The length or the depth of a row.
+pub fn put_bound(w: &mut Work, row: &str) {
+    let (call, written) = row.split_once(" | ").unwrap_or((row, ""));
+    w.read(written);
+    let v = w.next();
+    match call {
+        "put" | "with" => put_depth(w, call, v),
+        _ => put_length(w, call, v),
+    }
 }

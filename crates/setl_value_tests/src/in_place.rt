@@ -1,6 +1,7 @@
 //! Changes in place: what stands after each call, on rows of denotations.
 
-use crate::written::value;
+use crate::operators::put_charge;
+use crate::written::Work;
 use setl_arithmetic::{minus_in_place, plus_in_place};
 use setl_collections::{
     add_image_in_place, less_in_place, lessf_in_place, put_images_in_place, put_in_place,
@@ -8,52 +9,62 @@ use setl_collections::{
 };
 use setl_map::Taken;
 use setl_operators::OpFault;
-use setl_text::text;
-use setl_value::{Memory, Value};
+use setl_value::Value;
 use std::alloc::Global;
-use std::process::Abort;
-use std::test::Fail;
 
-// Rows, a line each: a call, the value that it changes, two operands, the second of which some calls leave alone, and what
-// the value becomes with what the call charges, or why it is refused.
-const CHANGES: &str = "with | {2} | 1 |  | {1 2}
-with | [1] | 2 |  | [1 2]
-with | 'a' | 'b' |  | Kind
-less | {1 2} | 2 |  | {1}
-less | [1] | 1 |  | Kind
-lessf | {[1 3] [1 5] [2 7]} | 1 |  | {[2 7]}
-put | [1] | 3 | 2 | [1 * 2] charges 1
-put | [1] | 0 | 2 | Range
-put | {[1 2]} | 1 | 5 | {[1 5]}
-put_images | {[1 2]} | 1 | {3 4} | {[1 3] [1 4]}
-put_images | {[1 2]} | 1 | 3 | Kind
-add_image | {[1 2] [1 4] [3 5]} | 1 | 3 | {[1 2] [1 3] [1 4] [3 5]}
-add_image | {[1 2] [1 4]} | 1 | 4 | {[1 2] [1 4]}
-add_image | {[1 2] [3 4]} | 2 | [] | {[1 2] [2 []] [3 4]}
-add_image | {} | 'a' | {1} | {['a' {1}]}
-add_image | {[1 2] [1 3 4]} | 1 | 3 | Kind
-add_image | [1 2] | 1 | 3 | Kind
-+ | 2 | 3 |  | 5
-+ | 'ab' | 'c' |  | 'abc'
-+ | '' | 'c' |  | 'c'
-+ | [1 * 2] | [* 3] |  | [1 * 2 * 3]
-+ | [] | [3] |  | [3]
-+ | {1 3} | {2} |  | {1 2 3}
-+ | {1 3} | {3} |  | {1 3}
-+ | {1 3} | {2 3} |  | {1 2 3}
-+ | {} | {} |  | {}
-+ | {1} | [1] |  | Kind
-+ | true | true |  | Kind
-- | 2 | 3 |  | -1
-- | {1 2 3} | {2} |  | {1 3}
-- | {1 3} | {2} |  | {1 3}
-- | {1 2 3} | {2 3} |  | {1}
-- | {1} | {1} |  | {}
-- | {1} | 1 |  | Kind
-- | [1] | [1] |  | Kind";
+/// Rows, a line each: a call, the value that it changes, its operands, and what the value becomes with what the call
+/// charges, or why it is refused.
+pub const CHANGES: &str = "with | {2} | 1 | {1 2}
+with | [1] | 2 | [1 2]
+with | 'a' | 'b' | Kind
+less | {1 2} | 2 | {1}
+less | [1] | 1 | Kind
+lessf | {[1 3] [1 5] [2 7]} | 1 | {[2 7]}
+put | [1] | 3 2 | [1 * 2] charges 1
+put | [1] | 0 2 | Range
+put | {[1 2]} | 1 5 | {[1 5]}
+put_images | {[1 2]} | 1 {3 4} | {[1 3] [1 4]}
+put_images | {[1 2]} | 1 3 | Kind
+add_image | {[1 2] [1 4] [3 5]} | 1 3 | {[1 2] [1 3] [1 4] [3 5]}
+add_image | {[1 2] [1 4]} | 1 4 | {[1 2] [1 4]}
+add_image | {[1 2] [3 4]} | 2 [] | {[1 2] [2 []] [3 4]}
+add_image | {} | 'a' {1} | {['a' {1}]}
+add_image | {[1 2] [1 3 4]} | 1 3 | Kind
+add_image | [1 2] | 1 3 | Kind
++ | 2 | 3 | 5
++ | 'ab' | 'c' | 'abc'
++ | '' | 'c' | 'c'
++ | [1 * 2] | [* 3] | [1 * 2 * 3]
++ | [] | [3] | [3]
++ | {1 3} | {2} | {1 2 3}
++ | {1 3} | {3} | {1 3}
++ | {1 3} | {2 3} | {1 2 3}
++ | {} | {} | {}
++ | {1} | [1] | Kind
++ | true | true | Kind
+- | 2 | 3 | -1
+- | {1 2 3} | {2} | {1 3}
+- | {1 3} | {2} | {1 3}
+- | {1 2 3} | {2 3} | {1}
+- | {1} | {1} | {}
+- | {1} | 1 | Kind
+- | [1] | [1] | Kind";
 
-// What a call makes of a value, and its charge.
-fn change(
+// What a call makes of a value and the operands that were read, and its charge.
+fn change(w: &mut Work, call: &str, whole: &mut Value) -> Result<u64, OpFault> {
+    let alloc = w.alloc;
+    match call {
+        "with" => with_in_place(alloc, whole, w.next()),
+        "less" => less_in_place(whole, &w.next()),
+        "lessf" => lessf_in_place(alloc, whole, &w.next()),
+        "+" => plus_in_place(alloc, whole, &w.next()),
+        "-" => minus_in_place(alloc, whole, &w.next()),
+        _ => change_part(alloc, call, whole, w.next(), w.next()),
+    }
+}
+
+// What a call with two operands makes of a value, and its charge.
+fn change_part(
     alloc: Global,
     call: &str,
     whole: &mut Value,
@@ -61,81 +72,73 @@ fn change(
     y: Value,
 ) -> Result<u64, OpFault> {
     match call {
-        "with" => with_in_place(alloc, whole, x),
-        "less" => less_in_place(whole, &x),
-        "lessf" => lessf_in_place(alloc, whole, &x),
         "put" => put_in_place(alloc, whole, x, Some(y), 9),
         "put_images" => put_images_in_place(alloc, whole, x, &y),
-        "add_image" => add_image_in_place(alloc, whole, x, y),
-        "+" => plus_in_place(alloc, whole, &x),
-        _ => minus_in_place(alloc, whole, &x),
+        _ => add_image_in_place(alloc, whole, x, y),
     }
 }
 
-// What a value became, or the fault.
-fn shown(alloc: Global, whole: &Value, charge: Result<u64, OpFault>) -> Result<Vec<u8>, Memory> {
+// What a value became and the charge, or the fault.
+fn put_changed(w: &mut Work, whole: &Value, charge: Result<u64, OpFault>) {
     match charge {
-        Ok(0) => text(alloc, whole),
         Ok(n) => {
-            let mut all = text(alloc, whole)?;
-            all.extend_from_slice(format!(in alloc; " charges {n}")?.as_bytes())?;
-            Ok(all)
+            w.put_value(whole);
+            put_charge(w, n);
         }
-        Err(e) => format!(in alloc; "{e:?}")?.as_bytes().to_vec(alloc),
+        Err(e) => w.put_debug(e),
     }
 }
 
-// What a call of a row makes of a value, as it is shown.
-fn changed(
-    alloc: Global,
-    call: &str,
-    whole: &mut Value,
-    first: &str,
-    second: &str,
-) -> Result<Vec<u8>, Memory> {
-    let charge = change(
-        alloc,
-        call,
-        whole,
-        value(alloc, first)?,
-        value(alloc, second)?,
-    );
-    shown(alloc, whole, charge)
+// Changes a value by the operands that were read: a value that has to be as that one was before, and what it became.
+fn put_both(w: &mut Work, call: &str, operands: &str, copy: &Value, whole: &mut Value) {
+    let charge = change(w, call, whole);
+    w.put_value(copy);
+    w.put(" | ");
+    w.put(operands);
+    w.put(" | ");
+    put_changed(w, whole, charge);
 }
 
-// A row holds of a value that nobody else holds, and of one with a copy, which stays.
-fn expect_change(rt: &impl Abort, alloc: Global, row: &str) -> Result<(), Fail> {
-    let fields: Vec<&str> = row.split(" | ").collect(alloc)?;
-    let [call, start, first, second, expected] = fields.as_slice() else {
-        panic!(rt; "{row}");
-    };
-    let mut alone = value(alloc, start)?;
-    let answer = changed(alloc, call, &mut alone, first, second)?;
-    assert_eq!(rt; answer.as_slice(), expected.as_bytes(), "{row}");
-    let mut shared = value(alloc, start)?;
-    let copy = shared.copy()?;
-    let answer = changed(alloc, call, &mut shared, first, second)?;
-    assert_eq!(rt; answer.as_slice(), expected.as_bytes(), "{row}");
-    assert!(rt; copy == value(alloc, start)?, "{row}");
-    Ok(())
+// Changes the first value. The last one is the same, and shares nothing with it.
+fn put_alone(w: &mut Work, call: &str, operands: &str) {
+    let copy = w.values.pop().flatten().unwrap_or(Value::Bool(false));
+    let mut whole = w.next();
+    put_both(w, call, operands, &copy, &mut whole);
 }
 
-#[test]
-fn values_change_in_place_and_copies_stay(rt: HostRuntime) -> Result<(), Fail> {
-    for row in CHANGES.lines() {
-        expect_change(&rt, rt.alloc(), row)?;
+// Changes the first value while there is a copy of it.
+fn put_shared(w: &mut Work, call: &str, operands: &str) {
+    let mut whole = w.next();
+    match &whole.copy() {
+        Ok(copy) => put_both(w, call, operands, copy, &mut whole),
+        Err(_) => w.is_refused = true,
     }
-    Ok(())
 }
 
-// Rows, a line each: which part is taken, of which value, that part, and what is left.
-const TAKES: &str = "least | {2 1} | 1 | {2}
-least | {} | none | {}
-least | 1 | Kind | 1
-first | [1 * 2] | 1 | [* 2]
-first | [* 2] | om | [2]
-last | [* 2] | 2 | []
-last | [] | none | []";
+/// Writes anew the row of a change, of a value that nobody else holds or of one with a copy, which stays.
+pub fn put_change(w: &mut Work, is_shared: bool, row: &str) {
+    let (call, rest) = row.split_once(" | ").unwrap_or((row, ""));
+    let (whole, operands) = rest.split_once(" | ").unwrap_or((rest, ""));
+    w.read(whole);
+    w.read(operands);
+    w.read(whole);
+    w.put(call);
+    w.put(" | ");
+    if is_shared {
+        put_shared(w, call, operands);
+    } else {
+        put_alone(w, call, operands);
+    }
+}
+
+/// Rows, a line each: which part is taken, of which value, that part, and what is left.
+pub const TAKES: &str = "least | {2 1} | 1 and {2}
+least | {} | none and {}
+least | 1 | Kind and 1
+first | [1 * 2] | 1 and [* 2]
+first | [* 2] | om and [2]
+last | [* 2] | 2 and []
+last | [] | none and []";
 
 fn take(call: &str, whole: &mut Value) -> Result<Taken, OpFault> {
     match call {
@@ -146,32 +149,26 @@ fn take(call: &str, whole: &mut Value) -> Result<Taken, OpFault> {
 }
 
 // What was taken, or the fault.
-fn taken(alloc: Global, part: Result<Taken, OpFault>) -> Result<Vec<u8>, Memory> {
+fn put_taken(w: &mut Work, part: &Result<Taken, OpFault>) {
     match part {
         Ok(
             Taken {
                 value: Some(v),
                 stored: true,
             },
-        ) => text(alloc, &v),
-        Ok(Taken { stored: true, .. }) => b"om".to_vec(alloc),
-        Ok(_) => b"none".to_vec(alloc),
-        Err(e) => format!(in alloc; "{e:?}")?.as_bytes().to_vec(alloc),
+        ) => w.put_value(v),
+        Ok(Taken { stored: true, .. }) => w.put("om"),
+        Ok(_) => w.put("none"),
+        Err(e) => w.put_debug(*e),
     }
 }
 
-#[test]
-fn parts_are_taken_out(rt: HostRuntime) -> Result<(), Fail> {
-    let alloc = rt.alloc();
-    for row in TAKES.lines() {
-        let fields: Vec<&str> = row.split(" | ").collect(alloc)?;
-        let [call, start, part, rest] = fields.as_slice() else {
-            panic!(rt; "{row}");
-        };
-        let mut whole = value(alloc, start)?;
-        let answer = taken(alloc, take(call, &mut whole))?;
-        assert_eq!(rt; answer.as_slice(), part.as_bytes(), "{row}");
-        assert_eq!(rt; text(alloc, &whole)?.as_slice(), rest.as_bytes(), "{row}");
-    }
-    Ok(())
+/// What is taken of the value of a row, and what is left.
+pub fn put_take(w: &mut Work, row: &str) {
+    let (call, whole) = row.split_once(" | ").unwrap_or((row, ""));
+    w.read(whole);
+    let mut whole = w.next();
+    put_taken(w, &take(call, &mut whole));
+    w.put(" and ");
+    w.put_value(&whole);
 }

@@ -9,8 +9,6 @@ mod bodies;
 #[cfg(test)]
 mod in_place;
 #[cfg(test)]
-mod lent;
-#[cfg(test)]
 mod operators;
 #[cfg(test)]
 mod order;
@@ -18,5 +16,7 @@ mod order;
 mod outside;
 #[cfg(test)]
 mod reading;
+#[cfg(test)]
+mod rows;
 #[cfg(test)]
 mod written;

@@ -7,7 +7,7 @@ ghost use Rattle.std.specs.Bool.{OnTrue};
 ghost use Rattle.std.specs.Prelude.{◌≡◌};
 ghost use Rattle.setl_map.specs.Operators.{operand_count, TakesOperands};
 
-use crate::written::values;
+use crate::written::Work;
 use setl_operators::Operator::{
     Above, Abs, Add, Arb, AtLeast, AtMost, Below, Divide, Domain, Equal, Even, FoldAdd, FoldAnd,
     FoldMax, FoldMin, FoldMultiply, FoldOr, Get, Images, In, Includes, IsAtom, IsBoolean,
@@ -15,14 +15,13 @@ use setl_operators::Operator::{
     Not, NotEqual, NotIn, Npow, Odd, Pow, Power, Put, PutImages, Range, SetOf, SetRange, SetStep,
     Size, Slice, Str, Subset, Subtract, Tail, TupleOf, TupleRange, TupleStep, With,
 };
-use setl_operators::{Answer, OpFault, Operator, op};
-use setl_text::text;
-use setl_value::{Memory, Value};
+use setl_operators::{Answer, OpFault, Operator, op, op_one, op_two};
+use setl_value::Value;
 use std::alloc::Global;
-use std::test::Fail;
+use std::fmt::Write;
 
 // The operators of the tables.
-const OPERATORS: [Operator; 58] = [
+const OPERATORS: &[Operator] = &[
     Above,
     Abs,
     Add,
@@ -85,7 +84,8 @@ const OPERATORS: [Operator; 58] = [
 
 // Rows, a line each: an operator, its operands, the turns left, and what is given. The prover reads a table as one word,
 // so a row costs nothing.
-const NUMBERS: &str = "Negate | 5 | 0 | -5
+pub const NUMBERS: &str = "Add | 1 1 | 0 | 2
+Negate | 5 | 0 | -5
 Negate | -170141183460469231731687303715884105728 | 0 | Wide
 Negate | -5 | 0 | 5
 Negate | 0 | 0 | 0
@@ -203,7 +203,8 @@ Multiply | {1 2 3 4 5 6 7 8 9 10 11 12 13 14 15 16 17 18 19 20 21 22 23 24 25 26
 Multiply | {7 99} {1 2 3 4 5 6 7 8 9 10 11 12 13 14 15 16 17 18 19 20 21 22 23 24 25 26 27 28 29 30 31 32 33 34 35 36 37 38 39 40 41 42 43 44 45 46 47 48} | 0 | {7}
 Modulo | {1 2 3 4 5 6 7 8 9 10 11 12 13 14 15 16 17 18 19 20 21 22 23 24 25 26 27 28 29 30 31 32 33 34 35 36 37 38 39 40 41 42 43 44 45 46 47 48} {7 99} | 0 | {1 2 3 4 5 6 8 9 10 11 12 13 14 15 16 17 18 19 20 21 22 23 24 25 26 27 28 29 30 31 32 33 34 35 36 37 38 39 40 41 42 43 44 45 46 47 48 99}";
 
-const TRUTHS: &str = "Not | true | 0 | false
+pub const TRUTHS: &str = "Equal | {} * | 0 | false
+Not | true | 0 | false
 Not | 1 | 0 | Kind
 IsInteger | 1 | 0 | true
 IsInteger | * | 0 | false
@@ -211,6 +212,7 @@ IsString | 'a' | 0 | true
 IsString | '' | 0 | true
 IsBoolean | false | 0 | true
 IsAtom | 1 | 0 | false
+IsAtom | atom 7 | 0 | true
 IsTuple | [] | 0 | true
 IsSet | {1} | 0 | true
 IsSet | {} | 0 | true
@@ -259,7 +261,10 @@ Includes | {1} {1 2} | 0 | false
 Subset | {7 9} {1 2 3 4 5 6 7 8 9 10 11 12 13 14 15 16 17 18 19 20 21 22 23 24 25 26 27 28 29 30 31 32 33 34 35 36 37 38 39 40 41 42 43 44 45 46 47 48} | 0 | true
 Subset | {7 99} {1 2 3 4 5 6 7 8 9 10 11 12 13 14 15 16 17 18 19 20 21 22 23 24 25 26 27 28 29 30 31 32 33 34 35 36 37 38 39 40 41 42 43 44 45 46 47 48} | 0 | false";
 
-const WHOLES: &str = "Size | 'abc' | 0 | 3
+pub const WHOLES: &str = "With | {} 1 | 0 | {1}
+Size | {1} | 0 | 1
+Size | {} | 0 | 0
+Size | 'abc' | 0 | 3
 Size | [* 1] | 0 | 2
 Size | {3 1 2} | 0 | 3
 Size | [4 * 6] | 0 | 3
@@ -378,7 +383,7 @@ PutImages | {[1 2] [2 5]} 1 * | 0 | Om
 PutImages | {[2 5] [1 3] [1 2]} 1 {8 9} | 0 | {[1 8] [1 9] [2 5]}
 PutImages | {[2 7]} 2 {} | 0 | {}";
 
-const FOLDS: &str = "FoldAdd | {1 2 3} | 0 | 6
+pub const FOLDS: &str = "FoldAdd | {1 2 3} | 0 | 6
 FoldAdd | ['a' 'b' 'c'] | 0 | 'abc'
 FoldAdd | [1 * 3] | 0 | Om
 FoldAdd | [1 'a' *] | 0 | Kind
@@ -469,75 +474,83 @@ fn takes(what: Operator, n: usize) -> bool
 }
 
 // The value and the charge, or the fault.
-fn shown(alloc: Global, answer: &Result<Answer, OpFault>) -> Result<Vec<u8>, Memory> {
+fn put_outcome(w: &mut Work, answer: &Result<Answer, OpFault>) {
     match answer {
         Ok(a) => {
-            let mut all = shown_part(alloc, &a.value)?;
-            if a.charged > 0 {
-                all.extend_from_slice(format!(in alloc; " charges {}", a.charged)?.as_bytes())?;
-            }
-            Ok(all)
+            w.put_part(&a.value);
+            put_charge(w, a.charged);
         }
-        Err(e) => format!(in alloc; "{e:?}")?.as_bytes().to_vec(alloc),
+        Err(e) => w.put_debug(*e),
     }
 }
 
-// The text of a value, or of `om`.
-fn shown_part(alloc: Global, v: &Option<Value>) -> Result<Vec<u8>, Memory> {
-    match v {
-        Some(v) => text(alloc, v),
-        None => b"*".to_vec(alloc),
+/// The charge, where there is one.
+pub fn put_charge(w: &mut Work, charged: u64) {
+    if charged > 0 {
+        w.put(" charges ");
+        w.put_debug(charged);
     }
 }
 
-// What an operator makes of some operands, as it is shown.
-fn answer(alloc: Global, what: Operator, denotations: &str, turns: u64) -> Result<Vec<u8>, Memory> {
-    let args = values(alloc, denotations)?;
-    if !takes(what, args.len()) {
-        return b"another number of operands".to_vec(alloc);
+// What an operator makes of operands that it is handed.
+fn put_answer(w: &mut Work, what: Operator, turns: u64) {
+    let args = std::mem::replace(&mut w.values, Vec::new(w.alloc));
+    if takes(what, args.len()) {
+        let answer = op(w.alloc, what, args, turns);
+        put_outcome(w, &answer);
     }
-    shown(alloc, &op(alloc, what, args, turns))
+}
+
+// What an operator makes of one or two operands that it is lent.
+fn lent(
+    alloc: Global,
+    what: Operator,
+    args: &[Option<Value>],
+    turns: u64,
+) -> Option<Result<Answer, OpFault>> {
+    match (count(what), args) {
+        (Some(1), [a]) => Some(op_one(alloc, what, a.as_ref(), turns)),
+        (Some(2), [a, b]) => Some(op_two(alloc, what, a.as_ref(), b.as_ref(), turns)),
+        _ => None,
+    }
+}
+
+// What an operator makes of its operands, of which it is lent one or two.
+fn put_lent(w: &mut Work, what: Operator, turns: u64) {
+    match &lent(w.alloc, what, w.values.as_slice(), turns) {
+        Some(answer) => put_outcome(w, answer),
+        None => put_answer(w, what, turns),
+    }
+}
+
+fn is_named(what: Operator, name: &str, spelled: &mut String) -> bool {
+    spelled.clear();
+    write!(spelled, "{what:?}").is_ok() && spelled.as_str() == name
 }
 
 // The operator of this name.
-fn named(alloc: Global, name: &str) -> Result<Option<Operator>, Memory> {
+fn named(name: &str, spelled: &mut String) -> Option<Operator> {
     for what in OPERATORS {
-        if format!(in alloc; "{what:?}")?.as_str() == name {
-            return Ok(Some(what));
+        if is_named(*what, name, spelled) {
+            return Some(*what);
         }
     }
-    Ok(None)
+    None
 }
 
-// What is given for the operator, the operands and the turns of a row.
-fn given(alloc: Global, call: &str) -> Result<Vec<u8>, Memory> {
-    let mut fields = call.split(" | ");
-    let what = named(alloc, fields.next().unwrap_or(""))?;
-    let denotations = fields.next().unwrap_or("");
-    let turns = fields.next().unwrap_or("").parse();
-    match (what, turns) {
-        (Some(what), Ok(turns)) => answer(alloc, what, denotations, turns),
-        _ => b"no operator, or no number of turns".to_vec(alloc),
+/// What is given for the operator, the operands and the turns of a row. An operator with one or two operands may be lent
+/// them.
+pub fn put_row(w: &mut Work, lends: bool, row: &str) {
+    let (name, rest) = row.split_once(" | ").unwrap_or((row, ""));
+    let (operands, turns) = rest.rsplit_once(" | ").unwrap_or((rest, ""));
+    w.read(operands);
+    let what = named(name, &mut String::new(w.alloc));
+    let (Some(what), Ok(turns)) = (what, turns.parse()) else {
+        return;
+    };
+    if lends {
+        put_lent(w, what, turns);
+    } else {
+        put_answer(w, what, turns);
     }
-}
-
-#[test]
-fn operators_answer_as_the_table_says(rt: HostRuntime) -> Result<(), Fail> {
-    let alloc = rt.alloc();
-    for table in [NUMBERS, TRUTHS, WHOLES, FOLDS] {
-        for row in table.lines() {
-            let (call, expected) = row.rsplit_once(" | ").unwrap_or((row, ""));
-            let given = given(alloc, call)?;
-            assert_eq!(rt; given.as_slice(), expected.as_bytes(), "{call}");
-        }
-    }
-    Ok(())
-}
-
-#[test]
-fn an_atom_is_an_atom(rt: HostRuntime) -> Result<(), Fail> {
-    let alloc = rt.alloc();
-    let given = op(alloc, IsAtom, vec![in alloc; Some(Value::Atom(7))]?, 0);
-    assert_eq!(rt; shown(alloc, &given)?.as_slice(), b"true".as_slice());
-    Ok(())
 }

@@ -1,111 +1,134 @@
 //! The canonical order of all kinds, values as keys, and the greatest depth.
 
-use crate::written::{value, values};
-use setl_tuple::{TupleFault, put, with};
-use setl_value::{Memory, TupleBody, Value};
+use crate::written::Work;
+use setl_value::{Memory, Value};
 use std::alloc::Global;
 use std::cmp::Ordering;
 use std::collections::{BTreeMap, HashMap};
+use std::process::Abort;
 use std::test::Fail;
 
-fn add_values(alloc: Global, all: &mut Vec<Value>, denotations: &str) -> Result<(), Memory> {
-    for v in values(alloc, denotations)? {
-        if let Some(v) = v {
-            all.push(v)?;
-        }
+// 18 values, the least first.
+const RISING: &str = "false true -5 3 '' 'a' 'ab' 'b'
+atom 1
+atom 2
+[] [* 1] [1] [1 2] {} {1} {1 2} {2}";
+
+// The least first.
+const DEEP: &str = "set 499
+set 500";
+
+fn compare(v: &Option<Value>, w: &Option<Value>) -> Option<Ordering> {
+    Some(v.as_ref()?.compare(w.as_ref()?))
+}
+
+// Compares the value at this place with each.
+fn expect_place(rt: &impl Abort, all: &[Option<Value>], i: usize, v: &Option<Value>) {
+    for (j, w) in all.iter().enumerate() {
+        assert!(rt; compare(v, w) == Some(i.cmp(&j)));
     }
-    Ok(())
 }
 
-// 18 values, the least first. An atom has no denotation.
-fn rising_values(alloc: Global) -> Result<Vec<Value>, Memory> {
-    let mut all = Vec::new(alloc);
-    add_values(alloc, &mut all, "false true -5 3 '' 'a' 'ab' 'b'")?;
-    all.push(Value::Atom(1))?;
-    all.push(Value::Atom(2))?;
-    add_values(alloc, &mut all, "[] [* 1] [1] [1 2] {} {1} {1 2} {2}")?;
-    Ok(all)
-}
-
-#[test]
-fn kinds_and_their_values_stand_in_the_canonical_order(rt: HostRuntime) -> Result<(), Fail> {
-    let all = rising_values(rt.alloc())?;
-    assert_eq!(rt; all.len(), 18);
+fn expect_rising(rt: &impl Abort, all: &[Option<Value>]) {
     for (i, v) in all.iter().enumerate() {
-        for (j, w) in all.iter().enumerate() {
-            assert_eq!(rt; v.compare(w), i.cmp(&j), "at {i} and {j}");
+        expect_place(rt, all, i, v);
+    }
+}
+
+// Copies of the values from this place on become keys of their places.
+fn add_keys(
+    all: &[Option<Value>],
+    from: usize,
+    tree: &mut BTreeMap<Value, usize>,
+    hash: &mut HashMap<Value, usize>,
+) -> Result<(), Memory> {
+    for (i, v) in all.iter().enumerate().skip(from) {
+        if let Some(v) = v {
+            tree.insert(v.copy()?, i)?;
+            hash.insert(v.copy()?, i)?;
         }
     }
     Ok(())
 }
 
-#[test]
-fn values_are_keys_of_maps(rt: HostRuntime) -> Result<(), Fail> {
-    let alloc = rt.alloc();
-    let all = rising_values(alloc)?;
+fn place_in_tree(tree: &BTreeMap<Value, usize>, v: &Option<Value>) -> Option<usize> {
+    tree.get(v.as_ref()?).copied()
+}
+
+fn place_in_hash(hash: &HashMap<Value, usize>, v: &Option<Value>) -> Option<usize> {
+    hash.get(v.as_ref()?).copied()
+}
+
+// Each value from this place on finds its place, and none before it.
+fn expect_places(
+    rt: &impl Abort,
+    all: &[Option<Value>],
+    from: usize,
+    tree: &BTreeMap<Value, usize>,
+    hash: &HashMap<Value, usize>,
+) {
+    for (i, v) in all.iter().enumerate() {
+        let place = if i < from { None } else { Some(i) };
+        assert!(rt; place_in_tree(tree, v) == place);
+        assert!(rt; place_in_hash(hash, v) == place);
+    }
+}
+
+fn expect_keys(
+    rt: &impl Abort,
+    alloc: Global,
+    all: &[Option<Value>],
+    from: usize,
+) -> Result<(), Memory> {
     let mut tree = BTreeMap::new(alloc);
     let mut hash = HashMap::new(alloc);
-    for (i, v) in all.iter().enumerate() {
-        tree.insert(v.copy()?, i)?;
-        hash.insert(v.copy()?, i)?;
-    }
-    for (i, v) in all.iter().enumerate() {
-        assert_eq!(rt; tree.get(v).copied(), Some(i));
-        assert_eq!(rt; hash.get(v).copied(), Some(i));
-    }
+    add_keys(all, from, &mut tree, &mut hash)?;
+    expect_places(rt, all, from, &tree, &hash);
     Ok(())
 }
 
-// The text of a set or tuple of nothing but this many brackets of each kind.
-fn tower(alloc: Global, open: u8, close: u8, height: usize) -> Result<Value, Memory> {
-    let mut text = String::new(alloc);
-    for _ in 0..height {
-        text.push(open as char)?;
+// These values are as many and stand in the canonical order, and those from this place on are keys of maps.
+fn expect_order(
+    rt: &impl Abort,
+    w: &mut Work,
+    rows: &str,
+    count: usize,
+    from: usize,
+) -> Result<(), Memory> {
+    for row in rows.lines() {
+        w.read(row);
     }
-    for _ in 0..height {
-        text.push(close as char)?;
+    assert_eq!(rt; w.values.len(), count);
+    expect_rising(rt, w.values.as_slice());
+    expect_keys(rt, w.alloc, w.values.as_slice(), from)
+}
+
+// A copy of a value is equal, and as deep.
+fn expect_copy(rt: &impl Abort, v: &Value, depth: u32) -> Result<(), Memory> {
+    let copy = v.copy()?;
+    assert_eq!(rt; copy.depth(), depth);
+    assert_eq!(rt; copy.compare(v), Ordering::Equal);
+    Ok(())
+}
+
+#[test]
+fn values_stand_in_the_canonical_order_and_are_keys_of_maps(rt: HostRuntime) -> Result<(), Fail> {
+    expect_order(&rt, &mut Work::new(rt.alloc()), RISING, 18, 0)?;
+    Ok(())
+}
+
+fn expect_deep(rt: &impl Abort, w: &mut Work) -> Result<(), Memory> {
+    expect_order(rt, w, DEEP, 2, 1)?;
+    match w.values.last() {
+        Some(Some(v)) => expect_copy(rt, v, 500),
+        _ => panic!(rt; "no value"),
     }
-    value(alloc, &text)
 }
 
 #[test]
 fn values_of_depth_500_are_built_compared_copied_hashed_and_dropped(
     rt: HostRuntime,
 ) -> Result<(), Fail> {
-    let alloc = rt.alloc();
-    let high = tower(alloc, b'{', b'}', 500)?;
-    let low = tower(alloc, b'{', b'}', 499)?;
-    let copy = high.copy()?;
-    assert_eq!(rt; copy.depth(), 500);
-    assert_eq!(rt; copy.compare(&high), Ordering::Equal);
-    assert_eq!(rt; low.compare(&high), Ordering::Less);
-    let mut keys = HashMap::new(alloc);
-    keys.insert(high, 1)?;
-    assert_eq!(rt; keys.get(&copy).copied(), Some(1));
-    assert_eq!(rt; keys.get(&low).copied(), None);
-    Ok(())
-}
-
-// [1] with a tuple of this depth at its end: its depth then
-fn deepened(alloc: Global, height: usize) -> Result<u32, TupleFault> {
-    let mut t = TupleBody::of(alloc, Vec::new(alloc))?;
-    with(&mut t, Value::Int(1))?;
-    with(&mut t, tower(alloc, b'[', b']', height)?)?;
-    Ok(t.depth())
-}
-
-fn put_past_the_end(alloc: Global, height: usize) -> Result<u32, TupleFault> {
-    let mut t = TupleBody::of(alloc, Vec::new(alloc))?;
-    put(alloc, &mut t, 9, Some(tower(alloc, b'[', b']', height)?))?;
-    Ok(t.depth())
-}
-
-#[test]
-fn tuples_grow_up_to_the_greatest_depth(rt: HostRuntime) -> Result<(), Fail> {
-    let alloc = rt.alloc();
-    for (height, depth) in [(499, Ok(500)), (500, Err(TupleFault::Deep))] {
-        assert_eq!(rt; deepened(alloc, height), depth);
-        assert_eq!(rt; put_past_the_end(alloc, height), depth);
-    }
+    expect_deep(&rt, &mut Work::new(rt.alloc()))?;
     Ok(())
 }

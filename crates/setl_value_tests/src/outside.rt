@@ -1,217 +1,203 @@
 //! The outside in memory: what is loaded, read and written, with each call failing in turn.
 
-ghost use Rattle.std.specs.Prelude.{◌<◌};
-
+use crate::written::Work;
 use setl_io::{
     Files, Load, MemFiles, MemSink, MemSource, Memory, Put, Sink, Source, SureFiles, SureSink,
     SureSource, Took, WriteFault, write_all,
 };
 use std::alloc::Global;
-use std::test::Fail;
 
-// Each text under its name; the one of `a` comes in place of another.
-const TEXTS: [(&str, &str); 3] = [("a", "other"), ("b", "d"), ("a", "abc")];
+// Each text behind its name; the second one of `a` comes in place of the first.
+const TEXTS: &str = "a other
+b d
+a abc";
 
-fn mem_files(alloc: Global, fails: Vec<u64>) -> Result<MemFiles, Memory> {
-    let mut files = MemFiles::new(alloc, fails)?;
-    for (name, text) in TEXTS {
-        files.add(
-            String::from_str(alloc, name)?,
-            text.as_bytes().to_vec(alloc)?,
-        )?;
-    }
-    Ok(files)
-}
-
-fn sure_files(alloc: Global) -> Result<SureFiles, Memory> {
-    let mut files = SureFiles::new(alloc)?;
-    for (name, text) in TEXTS {
-        files.add(
-            String::from_str(alloc, name)?,
-            text.as_bytes().to_vec(alloc)?,
-        )?;
-    }
-    Ok(files)
-}
-
-// A mark for what became of a load, and the text that stands there then.
-fn loaded<F: Files>(
-    alloc: Global,
-    files: &mut F,
-    name: &str,
-    limit: u64,
-) -> Result<Vec<u8>, Memory> {
-    let mut into = vec![in alloc; b'?'; 1]?;
-    let mark = match files.load(name, limit, &mut into) {
-        Load::Loaded => b'=',
-        Load::TooLong => b'+',
-        Load::Failed => b'!',
-        Load::NoMemory => b'0',
-    };
-    into.push(mark)?;
-    Ok(into)
-}
-
-#[test]
-fn a_text_is_loaded_up_to_the_limit(rt: HostRuntime) -> Result<(), Fail> {
-    let alloc = rt.alloc();
-    let mut files = mem_files(alloc, Vec::new(alloc))?;
-    let mut sure = sure_files(alloc)?;
-    for (name, limit, expected, by_sure) in [
-        ("a", 3, "abc=", "abc="),
-        ("a", 2, "+", "+"),
-        ("b", 9, "d=", "d="),
-        ("c", 9, "!", "="),
-    ] {
-        let answer = loaded(alloc, &mut files, name, limit)?;
-        assert_eq!(rt; answer.as_slice(), expected.as_bytes());
-        let answer = loaded(alloc, &mut sure, name, limit)?;
-        assert_eq!(rt; answer.as_slice(), by_sure.as_bytes());
+fn add_to_mem(alloc: Global, files: &mut MemFiles) -> Result<(), Memory> {
+    for row in TEXTS.lines() {
+        let (name, text) = row.split_once(' ').unwrap_or((row, ""));
+        let text = text.as_bytes().to_vec(alloc)?;
+        files.add(String::from_str(alloc, name)?, text)?;
     }
     Ok(())
 }
 
-// Three loads of `a`, of which the one of this number fails.
-fn three_loads(alloc: Global, failing: u64) -> Result<Vec<u8>, Memory> {
-    let mut files = mem_files(alloc, vec![in alloc; failing]?)?;
-    let mut all = Vec::new(alloc);
-    for _ in 0..3 {
-        all.extend_from_slice(loaded(alloc, &mut files, "a", 3)?.as_slice())?;
+fn add_to_sure(alloc: Global, files: &mut SureFiles) -> Result<(), Memory> {
+    for row in TEXTS.lines() {
+        let (name, text) = row.split_once(' ').unwrap_or((row, ""));
+        let text = text.as_bytes().to_vec(alloc)?;
+        files.add(String::from_str(alloc, name)?, text)?;
     }
-    Ok(all)
+    Ok(())
+}
+
+// A mark for what became of a load.
+fn mark_of_load(load: Load) -> &'static str {
+    match load {
+        Load::Loaded => "=",
+        Load::TooLong => "+",
+        Load::Failed => "!",
+        Load::NoMemory => "0",
+    }
+}
+
+// Loads a text, which is written with its limit, into a list that isn't empty: what stands there then, and the mark.
+fn put_load<F: Files>(w: &mut Work, files: &mut F, text: &str) -> Result<(), Memory> {
+    let (name, limit) = text.split_once(':').unwrap_or((text, ""));
+    let mut into = vec![in w.alloc; b'?'; 1]?;
+    let load = files.load(name, limit.parse().unwrap_or(0), &mut into);
+    w.put_bytes(into.as_slice());
+    w.put(mark_of_load(load));
+    Ok(())
+}
+
+fn put_loads<F: Files>(w: &mut Work, files: &mut F, texts: &str) -> Result<(), Memory> {
+    for text in texts.split(',') {
+        put_load(w, files, text)?;
+    }
+    Ok(())
+}
+
+// Loads, of which the one of this number fails.
+fn put_mem_loads(w: &mut Work, failing: u64, texts: &str) -> Result<(), Memory> {
+    let mut files = MemFiles::new(w.alloc, vec![in w.alloc; failing; 1]?)?;
+    add_to_mem(w.alloc, &mut files)?;
+    put_loads(w, &mut files, texts)
+}
+
+fn put_sure_loads(w: &mut Work, texts: &str) -> Result<(), Memory> {
+    let mut files = SureFiles::new(w.alloc)?;
+    add_to_sure(w.alloc, &mut files)?;
+    put_loads(w, &mut files, texts)
 }
 
 // Four reads with room for two bytes: the bytes, and a mark for each answer.
-fn four_reads<S: Source>(alloc: Global, source: &mut S) -> Result<Vec<u8>, Memory> {
-    let mut all = Vec::new(alloc);
+fn put_reads<S: Source>(w: &mut Work, source: &mut S) {
     for _ in 0..4 {
         let mut room = [0u8; 2];
-        let mark = match source.read(&mut room) {
+        match source.read(&mut room) {
             Took::Bytes(count) => {
-                all.extend_from_slice(&room[..count])?;
-                b'|'
+                w.put_bytes(&room[..count]);
+                w.put("|");
             }
-            Took::End => b'.',
-            Took::Failed => b'!',
-        };
-        all.push(mark)?;
+            Took::End => w.put("."),
+            Took::Failed => w.put("!"),
+        }
     }
-    Ok(all)
 }
 
 // Four reads of `abc`, which comes in pieces, and of which the read of this number fails.
-fn reads_in_pieces(alloc: Global, piece: usize, failing: u64) -> Result<Vec<u8>, Memory>
-    requires { 0 < piece }
-{
-    let bytes = b"abc".to_vec(alloc)?;
-    four_reads(
-        alloc,
-        &mut MemSource::new(bytes, piece, vec![in alloc; failing]?),
-    )
+fn put_mem_reads(w: &mut Work, piece: usize, failing: u64) -> Result<(), Memory> {
+    if piece == 0 {
+        return Ok(());
+    }
+    let bytes = b"abc".to_vec(w.alloc)?;
+    let fails = vec![in w.alloc; failing; 1]?;
+    put_reads(w, &mut MemSource::new(bytes, piece, fails));
+    Ok(())
 }
 
-// Three writes of `ab`: a mark for each answer.
-fn three_writes<S: Sink>(alloc: Global, sink: &mut S) -> Result<Vec<u8>, Memory> {
-    let mut all = Vec::new(alloc);
+// Three writes of `ab`: the number of bytes that are taken, or a mark.
+fn put_writes<S: Sink>(w: &mut Work, sink: &mut S) {
     for _ in 0..3 {
-        let mark = match sink.write(b"ab") {
-            Put::Took(1) => b'1',
-            Put::Took(2) => b'2',
-            Put::Took(_) => b'?',
-            Put::Failed => b'!',
-            Put::NoMemory => b'0',
-        };
-        all.push(mark)?;
+        match sink.write(b"ab") {
+            Put::Took(count) => w.put_debug(count),
+            Put::Failed => w.put("!"),
+            Put::NoMemory => w.put("N"),
+        }
     }
-    Ok(all)
 }
 
-// Three writes to a sink that takes so many bytes a call and fails at the call of this number, and what it holds then.
-fn writes_in_pieces(alloc: Global, most: usize, failing: u64) -> Result<Vec<u8>, Memory> {
-    let mut sink = MemSink::new(alloc, most, vec![in alloc; failing]?)?;
-    let mut all = three_writes(alloc, &mut sink)?;
-    all.extend_from_slice(sink.held())?;
-    Ok(all)
+fn mark_of_writing(outcome: Result<(), WriteFault>) -> &'static str {
+    match outcome {
+        Ok(()) => "=",
+        Err(WriteFault::Failed) => "!",
+        Err(WriteFault::NoMemory) => "0",
+    }
 }
 
-#[test]
-fn each_call_fails_in_turn(rt: HostRuntime) -> Result<(), Fail> {
-    let alloc = rt.alloc();
-    for (failing, expected) in [(1, "!abc=abc="), (2, "abc=!abc="), (3, "abc=abc=!")] {
-        assert_eq!(rt;
-            three_loads(alloc, failing)?.as_slice(),
-            expected.as_bytes()
-        );
+// Three writes to a sink, or a whole piece written to it, and what the sink holds then. It takes so many bytes a call and
+// fails at the call of this number.
+fn put_mem_writes(w: &mut Work, most: usize, failing: u64, piece: &str) -> Result<(), Memory> {
+    let mut sink = MemSink::new(w.alloc, most, vec![in w.alloc; failing; 1]?)?;
+    if piece == "thrice" {
+        put_writes(w, &mut sink);
+    } else {
+        w.put(mark_of_writing(write_all(&mut sink, piece.as_bytes())));
     }
-    for (piece, failing, expected) in [
-        (1, 0, "a|b|c|."),
-        (9, 0, "ab|c|.."),
-        (9, 1, "!ab|c|."),
-        (9, 2, "ab|!c|."),
-        (9, 3, "ab|c|!."),
-        (1, 4, "a|b|c|!"),
-    ] {
-        let all = reads_in_pieces(alloc, piece, failing)?;
-        assert_eq!(rt; all.as_slice(), expected.as_bytes());
-    }
-    for (most, failing, expected) in [
-        (9, 0, "222ababab"),
-        (1, 0, "111aaa"),
-        (0, 0, "!!!"),
-        (9, 1, "!22abab"),
-        (9, 2, "2!2abab"),
-        (1, 3, "11!aa"),
-    ] {
-        let all = writes_in_pieces(alloc, most, failing)?;
-        assert_eq!(rt; all.as_slice(), expected.as_bytes());
-    }
+    w.put_bytes(sink.held());
     Ok(())
 }
 
-#[test]
-fn sure_objects_never_fail(rt: HostRuntime) -> Result<(), Fail> {
-    let alloc = rt.alloc();
-    let mut source = SureSource::new(b"abc".to_vec(alloc)?);
-    assert_eq!(rt;
-        four_reads(alloc, &mut source)?.as_slice(),
-        b"ab|c|..".as_slice()
-    );
-    let mut sink = SureSink::new(alloc)?;
-    assert_eq!(rt;
-        three_writes(alloc, &mut sink)?.as_slice(),
-        b"222".as_slice()
-    );
-    assert_eq!(rt; sink.held(), b"ababab".as_slice());
+fn put_sure_reads(w: &mut Work) -> Result<(), Memory> {
+    let mut source = SureSource::new(b"abc".to_vec(w.alloc)?);
+    put_reads(w, &mut source);
     Ok(())
 }
 
-// A whole piece written to such a sink, and what the sink holds then, with a mark at its end.
-fn written(alloc: Global, most: usize, failing: u64, piece: &str) -> Result<Vec<u8>, Memory> {
-    let mut sink = MemSink::new(alloc, most, vec![in alloc; failing]?)?;
-    let mark = match write_all(&mut sink, piece.as_bytes()) {
-        Ok(()) => b'=',
-        Err(WriteFault::Failed) => b'!',
-        Err(WriteFault::NoMemory) => b'0',
-    };
-    let mut all = sink.held().to_vec(alloc)?;
-    all.push(mark)?;
-    Ok(all)
+fn put_sure_writes(w: &mut Work) -> Result<(), Memory> {
+    let mut sink = SureSink::new(w.alloc)?;
+    put_writes(w, &mut sink);
+    w.put_bytes(sink.held());
+    Ok(())
 }
 
-#[test]
-fn a_piece_is_written_whole_or_up_to_the_first_fault(rt: HostRuntime) -> Result<(), Fail> {
-    let alloc = rt.alloc();
-    for (most, failing, piece, expected) in [
-        (9, 0, "abc", "abc="),
-        (1, 0, "abc", "abc="),
-        (1, 4, "abc", "abc="),
-        (0, 1, "", "="),
-        (0, 0, "abc", "!"),
-        (9, 1, "abc", "!"),
-        (1, 3, "abc", "ab!"),
-    ] {
-        let all = written(alloc, most, failing, piece)?;
-        assert_eq!(rt; all.as_slice(), expected.as_bytes());
+/// Rows, a line each: calls of an object, how many bytes it gives or takes a call, the number of the call that fails, and
+/// texts. A load tells the text and `=`, `+` where it is too long, or `!` where it failed; a read the bytes and a stroke,
+/// a full stop at the end, or `!`; a write how many bytes were taken, or `!`. What a sink holds then is told last.
+pub const CALLS: &str = "mem_files 0 0 a:3,a:2,b:9,c:9 | abc=+d=!
+sure_files 0 0 a:3,a:2,b:9,c:9 | abc=+d==
+mem_files 0 1 a:3,a:3,a:3 | !abc=abc=
+mem_files 0 2 a:3,a:3,a:3 | abc=!abc=
+mem_files 0 3 a:3,a:3,a:3 | abc=abc=!
+mem_source 1 0 | a|b|c|.
+mem_source 9 0 | ab|c|..
+mem_source 9 1 | !ab|c|.
+mem_source 9 2 | ab|!c|.
+mem_source 9 3 | ab|c|!.
+mem_source 1 4 | a|b|c|!
+sure_source 0 0 | ab|c|..
+mem_sink 9 0 thrice | 222ababab
+mem_sink 1 0 thrice | 111aaa
+mem_sink 0 0 thrice | !!!
+mem_sink 9 1 thrice | !22abab
+mem_sink 9 2 thrice | 2!2abab
+mem_sink 1 3 thrice | 11!aa
+sure_sink 0 0 | 222ababab
+mem_sink 9 0 abc | =abc
+mem_sink 1 0 abc | =abc
+mem_sink 1 4 abc | =abc
+mem_sink 0 1 | =
+mem_sink 0 0 abc | !
+mem_sink 9 1 abc | !
+mem_sink 1 3 abc | !ab";
+
+// The four fields of a row.
+fn fields(row: &str) -> [&str; 4] {
+    let mut all = row.split(' ');
+    [
+        all.next().unwrap_or(""),
+        all.next().unwrap_or(""),
+        all.next().unwrap_or(""),
+        all.next().unwrap_or(""),
+    ]
+}
+
+fn calls(w: &mut Work, row: &str) -> Result<(), Memory> {
+    let [call, bytes, failing, text] = fields(row);
+    let bytes = bytes.parse().unwrap_or(0);
+    let failing = failing.parse().unwrap_or(0);
+    match call {
+        "mem_files" => put_mem_loads(w, failing, text),
+        "sure_files" => put_sure_loads(w, text),
+        "mem_source" => put_mem_reads(w, bytes, failing),
+        "sure_source" => put_sure_reads(w),
+        "mem_sink" => put_mem_writes(w, bytes, failing, text),
+        _ => put_sure_writes(w),
     }
-    Ok(())
+}
+
+/// What the calls of a row tell.
+pub fn put_calls(w: &mut Work, row: &str) {
+    let outcome = calls(w, row);
+    w.note(outcome);
 }

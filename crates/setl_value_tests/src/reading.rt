@@ -2,70 +2,67 @@
 
 ghost use Rattle.std.specs.Prelude.{◌<◌};
 
-use crate::written::values;
+use crate::written::Work;
 use setl_io::{MemSource, Source, SureSource};
-use setl_text::{Got, ReadFault, Reader, line, text};
-use setl_value::{Memory, Value};
-use std::alloc::Global;
+use setl_text::{Got, ReadFault, Reader, line};
+use setl_value::Memory;
+use std::process::Abort;
 use std::test::Fail;
 
 // The letter of a fault.
-fn letter(fault: ReadFault) -> u8 {
+fn letter(fault: ReadFault) -> &'static str {
     match fault {
-        ReadFault::Form => b'F',
-        ReadFault::Wide => b'W',
-        ReadFault::Deep => b'D',
-        ReadFault::Source => b'S',
-        ReadFault::NoMemory => b'N',
+        ReadFault::Form => "F",
+        ReadFault::Wide => "W",
+        ReadFault::Deep => "D",
+        ReadFault::Source => "S",
+        ReadFault::NoMemory => "N",
     }
 }
 
-// The text of an answer and a blank, a full stop at the end of the input, or the letter of a fault.
-fn answer_text(alloc: Global, answer: &Result<Got, ReadFault>) -> Result<Vec<u8>, Memory> {
+// The text of an answer and a blank, a full stop at the end of the input, or the letter of a fault. It says whether
+// another answer may follow.
+fn put_answer(w: &mut Work, answer: &Result<Got, ReadFault>) -> bool {
     match answer {
         Ok(Got::Value(v)) => {
-            let mut all = text(alloc, v)?;
-            all.push(b' ')?;
-            Ok(all)
+            w.put_value(v);
+            w.put(" ");
+            true
         }
-        Ok(Got::Om) => b"* ".to_vec(alloc),
-        Ok(Got::End) => b".".to_vec(alloc),
-        Err(fault) => vec![in alloc; letter(*fault); 1],
+        Ok(Got::Om) => {
+            w.put("* ");
+            true
+        }
+        Ok(Got::End) => {
+            w.put(".");
+            false
+        }
+        Err(fault) => {
+            w.put(letter(*fault));
+            false
+        }
     }
-}
-
-// Whether the next answer may be another one.
-fn goes_on(answer: &Result<Got, ReadFault>) -> bool {
-    matches!(answer, Ok(Got::Value(_) | Got::Om))
 }
 
 // The answers up to the first that ends the reading, and the one after it.
-fn answers<I: Source>(alloc: Global, input: &mut I) -> Result<Vec<u8>, Memory> {
-    let mut reader = Reader::new(alloc)?;
-    let mut all = Vec::new(alloc);
+fn put_answers<I: Source>(w: &mut Work, reader: &mut Reader, input: &mut I) {
     for _ in 0..20 {
-        let answer = reader.next(input);
-        all.extend_from_slice(&answer_text(alloc, &answer)?)?;
-        if !goes_on(&answer) {
+        if !put_answer(w, &reader.next(input)) {
             break;
         }
     }
-    let answer = reader.next(input);
-    all.extend_from_slice(&answer_text(alloc, &answer)?)?;
-    Ok(all)
+    put_answer(w, &reader.next(input));
 }
 
 // The answers of an input that gives so many bytes a call, and whose calls of these numbers fail.
-fn read_in_pieces(
-    alloc: Global,
-    input: &str,
-    piece: usize,
-    fails: Vec<u64>,
-) -> Result<Vec<u8>, Memory>
+fn put_pieces(w: &mut Work, input: &str, piece: usize, fails: &[u64]) -> Result<(), Memory>
     requires { 0 < piece }
 {
-    let bytes = input.as_bytes().to_vec(alloc)?;
-    answers(alloc, &mut MemSource::new(bytes, piece, fails))
+    let bytes = input.as_bytes().to_vec(w.alloc)?;
+    let mut source = MemSource::new(bytes, piece, fails.to_vec(w.alloc)?);
+    let mut reader = Reader::new(w.alloc)?;
+    put_answers(w, &mut reader, &mut source);
+    Ok(())
 }
 
 // Inputs and their answers, with an empty line between two rows.
@@ -103,68 +100,83 @@ const INPUTS: &str = "{1 [2 'a']} 7 => {1 [2 'a']} 7 ..
 
 -170141183460469231731687303715884105728 -170141183460469231731687303715884105729 => -170141183460469231731687303715884105728 WW";
 
+// Reads the input of a row in pieces of this size, writes the row anew, and compares.
+fn expect_pieces(rt: &impl Abort, w: &mut Work, row: &str, piece: usize) -> Result<(), Memory>
+    requires { 0 < piece }
+{
+    let (input, _) = row.split_once(" => ").unwrap_or((row, ""));
+    w.clear();
+    w.put(input);
+    w.put(" => ");
+    put_pieces(w, input, piece, &[])?;
+    assert_eq!(rt; w.text.as_str(), row);
+    Ok(())
+}
+
+fn expect_input(rt: &impl Abort, w: &mut Work, row: &str) -> Result<(), Memory> {
+    for piece in 1..30 {
+        expect_pieces(rt, w, row, piece)?;
+    }
+    Ok(())
+}
+
 #[test]
 fn denotations_are_read_in_pieces_of_each_size(rt: HostRuntime) -> Result<(), Fail> {
-    let alloc = rt.alloc();
     for row in INPUTS.split("\n\n") {
-        let (input, expected) = row.split_once(" => ").unwrap_or((row, ""));
-        for piece in 1..30 {
-            let all = read_in_pieces(alloc, input, piece, Vec::new(alloc))?;
-            assert_eq!(rt; all.as_slice(), expected.as_bytes(), "{piece} of {input}");
-        }
+        expect_input(&rt, &mut Work::new(rt.alloc()), row)?;
     }
     Ok(())
 }
 
-#[test]
-fn an_input_fails_at_each_read(rt: HostRuntime) -> Result<(), Fail> {
-    let alloc = rt.alloc();
-    for (failing, expected) in [
-        (1, "SS"),
-        (2, "SS"),
-        (3, "12 SS"),
-        (4, "12 {3} SS"),
-        (5, "12 {3} .."),
-    ] {
-        let all = read_in_pieces(alloc, "12 {3}", 2, vec![in alloc; failing]?)?;
-        assert_eq!(rt; all.as_slice(), expected.as_bytes(), "failing at {failing}");
+/// Rows, a line each: what is read. `12 {3}` is read in pieces of 2 bytes, and the read of this number fails; or so many
+/// opening brackets and as many closing ones are read whole, with the first sign of what is told.
+pub const READS: &str = "failing 1 | SS
+failing 2 | SS
+failing 3 | 12 SS
+failing 4 | 12 {3} SS
+failing 5 | 12 {3} ..
+deep 500 | [
+deep 501 | D";
+
+// What is told of so many opening brackets, and as many closing ones.
+fn put_brackets(w: &mut Work, depth: usize) -> Result<(), Memory> {
+    let mut bytes = vec![in w.alloc; b'['; depth]?;
+    bytes.extend_from_slice(vec![in w.alloc; b']'; depth]?.as_slice())?;
+    let mut reader = Reader::new(w.alloc)?;
+    put_answers(w, &mut reader, &mut SureSource::new(bytes));
+    Ok(())
+}
+
+// The first sign of it.
+fn put_first_sign(w: &mut Work, depth: usize) -> Result<(), Memory> {
+    let mut all = Work::new(w.alloc);
+    put_brackets(&mut all, depth)?;
+    w.put_bytes(all.text.as_bytes().get(..1).unwrap_or(b"?"));
+    Ok(())
+}
+
+/// What is told of the input of a row.
+pub fn put_read(w: &mut Work, row: &str) {
+    let (input, number) = row.split_once(' ').unwrap_or((row, ""));
+    let outcome = match input {
+        "failing" => put_pieces(w, "12 {3}", 2, &[number.parse().unwrap_or(0)]),
+        _ => put_first_sign(w, number.parse().unwrap_or(0)),
+    };
+    w.note(outcome);
+}
+
+/// Rows, a line each: arguments, the line of them, whose end is written as `$`, and their texts.
+pub const LINES: &str = "{3 1 2 1} [1 * 2] 'it''s' | {1 2 3} [1 * 2] it's$ {1 2 3} [1 * 2] 'it''s'
+* true | * true$ * true
+ | $
+atom 7 | #7$ #7";
+
+/// The line of the arguments of a row, and their texts.
+pub fn put_line_and_texts(w: &mut Work, row: &str) {
+    w.read(row);
+    let made = line(w.alloc, w.values.as_slice());
+    w.put_made(&made);
+    for _ in 0..20 {
+        w.put_next();
     }
-    Ok(())
-}
-
-// The first letter of the answers to so many opening brackets, and as many closing ones.
-fn first_letter(alloc: Global, depth: usize) -> Result<Option<u8>, Memory> {
-    let mut bytes = vec![in alloc; b'['; depth]?;
-    bytes.extend_from_slice(vec![in alloc; b']'; depth]?.as_slice())?;
-    Ok(
-        answers(alloc, &mut SureSource::new(bytes))?
-            .first()
-            .copied(),
-    )
-}
-
-#[test]
-fn a_value_is_at_most_500_deep(rt: HostRuntime) -> Result<(), Fail> {
-    let alloc = rt.alloc();
-    assert_eq!(rt; first_letter(alloc, 500)?, Some(b'['));
-    assert_eq!(rt; first_letter(alloc, 501)?, Some(b'D'));
-    Ok(())
-}
-
-fn printed(alloc: Global, arguments: &str) -> Result<Vec<u8>, Memory> {
-    line(alloc, values(alloc, arguments)?.as_slice())
-}
-
-#[test]
-fn a_line_has_the_texts_of_its_arguments(rt: HostRuntime) -> Result<(), Fail> {
-    let alloc = rt.alloc();
-    for (arguments, expected) in [
-        ("{3 1 2 1} [1 * 2] 'it''s'", "{1 2 3} [1 * 2] it's\n"),
-        ("* true", "* true\n"),
-        ("", "\n"),
-    ] {
-        assert_eq!(rt; printed(alloc, arguments)?.as_slice(), expected.as_bytes());
-    }
-    assert_eq!(rt; text(alloc, &Value::Atom(7))?.as_slice(), b"#7".as_slice());
-    Ok(())
 }
