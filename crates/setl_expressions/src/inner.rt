@@ -232,17 +232,31 @@ impl<F: Fn(&mut Cursor<'_>, usize, Part) -> Result<Expr, Fault>> Grammar<F> {
         let (bound, source) = self.bound_in(tokens)?;
         self.filter(bound, source, tokens)
     }
+}
 
-    /// What stands inside braces or brackets.
+/// What stands inside braces or brackets.
+#[derive(Drop)]
+pub struct InnerRule<'g, F> {
+    pub grammar: &'g Grammar<F>,
+}
+
+impl<'g, F: Fn(&mut Cursor<'_>, usize, Part) -> Result<Expr, Fault>> Rule for InnerRule<'g, F> {
+    type Out = Inner;
+
+    ghost use Rattle.std.specs.Prelude.{◌-◌};
+    ghost use Rattle.setl_reading.specs.code.ReadExpressions.{nested, inner};
+    ghost use Rattle.setl_expressions.specs.code.Nests.{Nests};
+
+    ghost can_read = { λ s. Nests s.grammar.now.room (F.pre s.grammar.now.inside) (F.post s.grammar.now.inside) };
+
+    ghost reader = { λ s. inner (s.grammar.now.room - 1) (nested s.grammar.now.room) };
+
     #[tactic(auto, unfolding(setl_reading::specs::code::ReadExpressions::inner))]
-    pub fn inner(&self, tokens: &mut Cursor<'_>) -> Result<Inner, Fault>
-        requires { Nests self.now.room (F.pre self.now.inside) (F.post self.now.inside) }
-        ensures { Reads (spec.inner (self.now.room - 1) (nested self.now.room) tokens.old) result tokens.new }
-    {
+    fn read(&self, tokens: &mut Cursor<'_>) -> Result<Inner, Fault> {
         match ahead(tokens) {
-            Ahead::Expression => self.plain(tokens),
-            Ahead::Either => self.either(tokens),
-            Ahead::Pattern => self.pattern_filter(tokens),
+            Ahead::Expression => self.grammar.plain(tokens),
+            Ahead::Either => self.grammar.either(tokens),
+            Ahead::Pattern => self.grammar.pattern_filter(tokens),
         }
     }
 }

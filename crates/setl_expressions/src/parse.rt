@@ -1,27 +1,43 @@
 //! Expressions with at most so many nestings.
 
-ghost use Rattle.std.specs.Prelude.{◌-◌};
-ghost use Rattle.setl_reading.specs.code.Reading.{Reads};
+ghost use Rattle.std.specs.Prelude.{◌-◌, suc};
+ghost use Rattle.setl_reading.specs.code.Reading.{Reads, refuse};
 ghost use Rattle.setl_reading.specs.code.ReadExpressions as spec;
-ghost use Rattle.setl_expressions.specs.code.Nests.{reader_of};
+ghost use Rattle.setl_expressions.specs.code.Nests.{Nests, reader_of};
 
 use crate::grammar::{Grammar, Part};
 use setl_cursor::{Cursor, Repeated, Rule, same_kind};
 use setl_reading::Fault;
 use setl_tree::{Expr, Items, Iter, Kind, Selector};
 
+/// The fault of what may not be read, which is let go.
+fn refused<T: Drop>(_part: T, tokens: &mut Cursor<'_>) -> Result<Expr, Fault>
+    ensures { Reads (refuse tokens.old) result tokens.new }
+{
+    Err(tokens.refuse())
+}
+
+/// A part of expressions, by what reads the parts one nesting deeper.
+fn part_with<F: Fn(&mut Cursor<'_>, usize, Part) -> Result<Expr, Fault>>(
+    room: usize,
+    inside: F,
+    part: Part,
+    tokens: &mut Cursor<'_>,
+) -> Result<Expr, Fault>
+    requires { Nests room (F.pre inside) (F.post inside) }
+    ensures { Reads (reader_of (spec.nested (suc room)) part tokens.old) result tokens.new }
+{
+    Grammar { room, inside }.part(part, tokens)
+}
+
 /// A part of expressions where so many nestings may still open around it.
 fn nested(tokens: &mut Cursor<'_>, room: usize, part: Part) -> Result<Expr, Fault>
     ensures { Reads (reader_of (spec.nested room) part tokens.old) result tokens.new }
 {
     if room == 0 {
-        return Err(tokens.refuse());
+        return refused(part, tokens);
     }
-    Grammar {
-        room: room - 1,
-        inside: nested,
-    }
-    .part(part, tokens)
+    part_with(room - 1, nested, part, tokens)
 }
 
 /// Reads an expression with at most so many nestings inside one another.

@@ -11,7 +11,7 @@ ghost use Rattle.setl_expressions.specs.code.Parts as parts;
 
 use crate::chain::{Chain, chain_from};
 use crate::grammar::{Grammar, Part};
-use crate::inner::ExprRule;
+use crate::inner::{ExprRule, InnerRule};
 use crate::made::{constant, prefixed, selected};
 use setl_cursor::{
     Cursor, NotRule, PrefixRule, Repeated, Rule, SeparatedRule, begins_selector, boxed_second,
@@ -38,8 +38,13 @@ impl<'g, F: Fn(&mut Cursor<'_>, usize, Part) -> Result<Expr, Fault>> Rule for Se
 
     ghost reader = { λ s. selector s.grammar.now.room (nested s.grammar.now.room) };
 
+    #[tactic(auto, unfolding(setl_reading::specs::code::ReadExpressions::selector))]
     fn read(&self, tokens: &mut Cursor<'_>) -> Result<Selector, Fault> {
-        self.grammar.selector(tokens)
+        if same_kind(tokens.kind(), Kind::LeftParen) {
+            tokens.open(self.grammar.room, Kind::LeftParen)?;
+            return self.grammar.round(tokens);
+        }
+        self.grammar.braces(tokens)
     }
 }
 
@@ -71,8 +76,11 @@ impl<'g, F: Fn(&mut Cursor<'_>, usize, Part) -> Result<Expr, Fault>> Rule for Pr
 
     ghost reader = { λ s. e11 s.grammar.now.room (nested s.grammar.now.room) };
 
+    #[tactic(auto, unfolding(setl_reading::specs::code::ReadExpressions::e11, setl_reading::specs::code::ReadExpressions::prefixes))]
     fn read(&self, tokens: &mut Cursor<'_>) -> Result<Expr, Fault> {
-        self.grammar.e11(tokens)
+        let prefixes = many(&PrefixRule, tokens)?;
+        let operand = self.grammar.e12(tokens)?;
+        prefixed(tokens.alloc(), prefixes, operand)
     }
 }
 
@@ -93,8 +101,11 @@ impl<'g, F: Fn(&mut Cursor<'_>, usize, Part) -> Result<Expr, Fault>> Rule for Co
 
     ghost reader = { λ s. e5 s.grammar.now.room (nested s.grammar.now.room) };
 
+    #[tactic(auto, unfolding(setl_reading::specs::code::ReadExpressions::e5, setl_reading::specs::code::ReadExpressions::nots))]
     fn read(&self, tokens: &mut Cursor<'_>) -> Result<Expr, Fault> {
-        self.grammar.e5(tokens)
+        let nots = many(&NotRule, tokens)?;
+        let operand = self.grammar.e6(tokens)?;
+        prefixed(tokens.alloc(), nots, operand)
     }
 }
 
@@ -156,19 +167,6 @@ impl<F: Fn(&mut Cursor<'_>, usize, Part) -> Result<Expr, Fault>> Grammar<F> {
         Ok(Selector::Braces(all))
     }
 
-    /// A selector.
-    #[tactic(auto, unfolding(setl_reading::specs::code::ReadExpressions::selector))]
-    fn selector(&self, tokens: &mut Cursor<'_>) -> Result<Selector, Fault>
-        requires { Nests self.now.room (F.pre self.now.inside) (F.post self.now.inside) }
-        ensures { Reads (spec.selector self.now.room (nested self.now.room) tokens.old) result tokens.new }
-    {
-        if same_kind(tokens.kind(), Kind::LeftParen) {
-            tokens.open(self.room, Kind::LeftParen)?;
-            return self.round(tokens);
-        }
-        self.braces(tokens)
-    }
-
     /// An expression in round brackets.
     #[tactic(auto, unfolding(setl_reading::specs::code::ReadExpressions::parenthesized))]
     fn parenthesized(&self, tokens: &mut Cursor<'_>) -> Result<Expr, Fault>
@@ -213,9 +211,8 @@ impl<F: Fn(&mut Cursor<'_>, usize, Part) -> Result<Expr, Fault>> Grammar<F> {
         requires { Nests self.now.room (F.pre self.now.inside) (F.post self.now.inside) }
         ensures { Reads (spec.set self.now.room (nested self.now.room) tokens.old) result tokens.new }
     {
-        tokens.open(self.room, Kind::LeftBrace)?;
-        let inner = self.inner(tokens)?;
-        let inner = followed(inner, Kind::RightBrace, tokens)?;
+        let inner = InnerRule { grammar: self };
+        let inner = enclosed(self.room, Kind::LeftBrace, &inner, Kind::RightBrace, tokens)?;
         Ok(Expr::Set(inner))
     }
 
@@ -225,9 +222,14 @@ impl<F: Fn(&mut Cursor<'_>, usize, Part) -> Result<Expr, Fault>> Grammar<F> {
         requires { Nests self.now.room (F.pre self.now.inside) (F.post self.now.inside) }
         ensures { Reads (spec.tuple self.now.room (nested self.now.room) tokens.old) result tokens.new }
     {
-        tokens.open(self.room, Kind::LeftBracket)?;
-        let inner = self.inner(tokens)?;
-        let inner = followed(inner, Kind::RightBracket, tokens)?;
+        let inner = InnerRule { grammar: self };
+        let inner = enclosed(
+            self.room,
+            Kind::LeftBracket,
+            &inner,
+            Kind::RightBracket,
+            tokens,
+        )?;
         Ok(Expr::Tuple(inner))
     }
 
@@ -294,17 +296,6 @@ impl<F: Fn(&mut Cursor<'_>, usize, Part) -> Result<Expr, Fault>> Grammar<F> {
         selected(tokens.alloc(), primary, selectors)
     }
 
-    /// An operand with its prefixes.
-    #[tactic(auto, unfolding(setl_reading::specs::code::ReadExpressions::e11, setl_reading::specs::code::ReadExpressions::prefixes))]
-    fn e11(&self, tokens: &mut Cursor<'_>) -> Result<Expr, Fault>
-        requires { Nests self.now.room (F.pre self.now.inside) (F.post self.now.inside) }
-        ensures { Reads (spec.e11 self.now.room (nested self.now.room) tokens.old) result tokens.new }
-    {
-        let prefixes = many(&PrefixRule, tokens)?;
-        let operand = self.e12(tokens)?;
-        prefixed(tokens.alloc(), prefixes, operand)
-    }
-
     /// What comparisons compare.
     #[tactic(auto, unfolding(setl_reading::specs::code::ReadExpressions::e7))]
     pub fn e7(&self, tokens: &mut Cursor<'_>) -> Result<Expr, Fault>
@@ -365,17 +356,6 @@ impl<F: Fn(&mut Cursor<'_>, usize, Part) -> Result<Expr, Fault>> Grammar<F> {
     {
         let a = self.e7(tokens)?;
         self.compared(a, tokens)
-    }
-
-    /// A comparison with its prefixes `not`.
-    #[tactic(auto, unfolding(setl_reading::specs::code::ReadExpressions::e5, setl_reading::specs::code::ReadExpressions::nots))]
-    fn e5(&self, tokens: &mut Cursor<'_>) -> Result<Expr, Fault>
-        requires { Nests self.now.room (F.pre self.now.inside) (F.post self.now.inside) }
-        ensures { Reads (spec.e5 self.now.room (nested self.now.room) tokens.old) result tokens.new }
-    {
-        let nots = many(&NotRule, tokens)?;
-        let operand = self.e6(tokens)?;
-        prefixed(tokens.alloc(), nots, operand)
     }
 
     /// An expression that is no quantifier.

@@ -148,20 +148,12 @@ impl<'m, H: Fn(&mut Cursor<'_>, usize) -> Result<WrittenMode, Fault>> Rule for D
     ghost reader = { λ s. nested_mode s.modes.now.room };
 
     fn read(&self, tokens: &mut Cursor<'_>) -> Result<Boxed<WrittenMode>, Fault> {
-        self.modes.deeper(tokens)
+        let mode = (self.modes.deep)(tokens, self.modes.room)?;
+        Ok(Boxed::new(tokens.alloc(), mode)?)
     }
 }
 
 impl<H: Fn(&mut Cursor<'_>, usize) -> Result<WrittenMode, Fault>> Modes<H> {
-    /// A mode one nesting deeper.
-    fn deeper(&self, tokens: &mut Cursor<'_>) -> Result<Boxed<WrittenMode>, Fault>
-        requires { NestsModes self.now.room (H.pre self.now.deep) (H.post self.now.deep) }
-        ensures { Reads (nested_mode self.now.room tokens.old) result tokens.new }
-    {
-        let mode = (self.deep)(tokens, self.room)?;
-        Ok(Boxed::new(tokens.alloc(), mode)?)
-    }
-
     /// A mode in brackets.
     #[tactic(auto, unfolding(setl_reading::specs::code::ReadModes::round_mode))]
     fn round_mode(&self, tokens: &mut Cursor<'_>) -> Result<Boxed<WrittenMode>, Fault>

@@ -133,8 +133,11 @@ impl<'s, G: Fn(&mut Cursor<'_>, usize) -> Result<Items<Stmt>, Fault>> Rule for S
 
     ghost reader = { λ s. stmt s.statements.now.room (nested_stmts s.statements.now.room) };
 
+    #[tactic(auto, unfolding(setl_reading::specs::code::ReadStatements::stmt))]
     fn read(&self, tokens: &mut Cursor<'_>) -> Result<Stmt, Fault> {
-        self.statements.stmt(tokens)
+        let line = tokens.line();
+        let kind = self.statements.stmt_kind(tokens)?;
+        Ok(Stmt { line, kind })
     }
 }
 
@@ -284,17 +287,6 @@ impl<G: Fn(&mut Cursor<'_>, usize) -> Result<Items<Stmt>, Fault>> Statements<G> 
             Kind::Read => read_stmt(self.room, tokens),
             _ => simple_stmt(self.room, tokens),
         }
-    }
-
-    /// A statement.
-    #[tactic(auto, unfolding(setl_reading::specs::code::ReadStatements::stmt))]
-    fn stmt(&self, tokens: &mut Cursor<'_>) -> Result<Stmt, Fault>
-        requires { NestsStmts self.now.room (G.pre self.now.deep) (G.post self.now.deep) }
-        ensures { Reads (spec.stmt self.now.room (nested_stmts self.now.room) tokens.old) result tokens.new }
-    {
-        let line = tokens.line();
-        let kind = self.stmt_kind(tokens)?;
-        Ok(Stmt { line, kind })
     }
 
     /// Statements.

@@ -6,7 +6,6 @@ ghost use Rattle.setl_tree.specs.declared.kind.Kind.TheVariants as k;
 ghost use Rattle.setl_reading.specs.code.Reading.{Reads, is, expect};
 ghost use Rattle.setl_reading.specs.code.ReadPrograms as spec;
 ghost use Rattle.setl_cursor.specs.Plain.{next_token};
-ghost use Rattle.setl_cursor.specs.code.Behind.{beside};
 ghost use Rattle.setl_statements.specs.code.Parts as parts;
 ghost use Rattle.setl_statements.specs.code.Parts.{proc_from, program_from};
 
@@ -210,14 +209,24 @@ fn proc_name(tokens: &mut Cursor<'_>) -> Result<Option<Text>, Fault>
 }
 
 /// The end of a procedure.
-#[tactic(auto, unfolding(setl_reading::specs::code::ReadPrograms::named_ending))]
-fn proc_end(tokens: &mut Cursor<'_>) -> Result<(u32, Option<Text>), Fault>
-    ensures { Reads (spec.named_ending spec.begins_proc spec.proc_word tokens.old) result tokens.new }
-{
-    let line = tokens.line();
-    tokens.expect(Kind::End)?;
-    let name = proc_name(tokens)?;
-    followed((line, name), Kind::Semicolon, tokens)
+struct ProcEnd;
+
+impl Rule for ProcEnd {
+    type Out = (u32, Option<Text>);
+
+    ghost use Rattle.setl_reading.specs.code.ReadPrograms.{named_ending, begins_proc, proc_word};
+
+    ghost can_read = { λ s. Unit {0} };
+
+    ghost reader = { λ s. named_ending begins_proc proc_word };
+
+    #[tactic(auto, unfolding(setl_reading::specs::code::ReadPrograms::named_ending))]
+    fn read(&self, tokens: &mut Cursor<'_>) -> Result<(u32, Option<Text>), Fault> {
+        let line = tokens.line();
+        tokens.expect(Kind::End)?;
+        let name = proc_name(tokens)?;
+        followed((line, name), Kind::Semicolon, tokens)
+    }
 }
 
 /// The word behind the `end` of a program, with its name; both may be left out.
@@ -233,36 +242,24 @@ fn program_name(tokens: &mut Cursor<'_>) -> Result<Option<Text>, Fault>
 }
 
 /// The end of a program.
-#[tactic(auto, unfolding(setl_reading::specs::code::ReadPrograms::program_end, setl_reading::specs::code::ReadPrograms::named_ending))]
-fn program_end(tokens: &mut Cursor<'_>) -> Result<(u32, Option<Text>), Fault>
-    ensures { Reads (spec.program_end tokens.old) result tokens.new }
-{
-    let line = tokens.line();
-    tokens.expect(Kind::End)?;
-    let name = program_name(tokens)?;
-    followed((line, name), Kind::Semicolon, tokens)
-}
+struct ProgramEnd;
 
-/// What was read of a procedure, and beside it its end.
-fn with_proc_end<T: Drop>(
-    head: T,
-    tokens: &mut Cursor<'_>,
-) -> Result<(T, (u32, Option<Text>)), Fault>
-    ensures { Reads (beside head (spec.named_ending spec.begins_proc spec.proc_word) tokens.old) result tokens.new }
-{
-    let end = proc_end(tokens)?;
-    Ok((head, end))
-}
+impl Rule for ProgramEnd {
+    type Out = (u32, Option<Text>);
 
-/// What was read of a program, and beside it its end.
-fn with_program_end<T: Drop>(
-    head: T,
-    tokens: &mut Cursor<'_>,
-) -> Result<(T, (u32, Option<Text>)), Fault>
-    ensures { Reads (beside head spec.program_end tokens.old) result tokens.new }
-{
-    let end = program_end(tokens)?;
-    Ok((head, end))
+    ghost use Rattle.setl_reading.specs.code.ReadPrograms.{program_end};
+
+    ghost can_read = { λ s. Unit {0} };
+
+    ghost reader = { λ s. program_end };
+
+    #[tactic(auto, unfolding(setl_reading::specs::code::ReadPrograms::program_end, setl_reading::specs::code::ReadPrograms::named_ending))]
+    fn read(&self, tokens: &mut Cursor<'_>) -> Result<(u32, Option<Text>), Fault> {
+        let line = tokens.line();
+        tokens.expect(Kind::End)?;
+        let name = program_name(tokens)?;
+        followed((line, name), Kind::Semicolon, tokens)
+    }
 }
 
 /// What was read of a procedure, and behind it `;`, its statements and its end.
@@ -275,7 +272,7 @@ fn proc_parts<T: Drop>(
 {
     let head = followed(head, Kind::Semicolon, tokens)?;
     let body = stmts(room, tokens)?;
-    let (both, end) = with_proc_end((head, body), tokens)?;
+    let (both, end) = beside((head, body), &ProcEnd, tokens)?;
     Ok((both.0, both.1, end))
 }
 
@@ -348,7 +345,7 @@ fn program_parts<T: Drop>(
 {
     let body = stmts(room, tokens)?;
     let both = with_many((head, body), &ProcRule { room }, tokens)?;
-    let (((head, body), procs), end) = with_program_end(both, tokens)?;
+    let (((head, body), procs), end) = beside(both, &ProgramEnd, tokens)?;
     Ok((head, body, procs, end))
 }
 
