@@ -17,7 +17,7 @@ use Rattle.setl_store.specs.Operands.{IsPlainTop}
 use Rattle.setl_store.specs.Standing.{Standing, over, at_place, top_of}
 use Rattle.setl_storing.specs.Control.{ControlState, stood_for}
 use Rattle.setl_storing.specs.Declaring.{tested}
-use Rattle.setl_storing.specs.Freely.{OnTop}
+use Rattle.setl_variables.specs.Freely.{OnTop}
 use Rattle.setl_machine.specs.Operating.{AreTwo, PutsForTwo, PutsForOne}
 use Rattle.setl_storing.specs.Answers.{start, Quiet}
 use Rattle.setl_storing.specs.Working.{Does, EndsBy, Halted}

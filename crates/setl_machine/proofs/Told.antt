@@ -22,7 +22,7 @@ use Rattle.setl_code.specs.Plain.{Variables, plain_code, plain_slot}
 use Rattle.setl_telling.specs.Told.{value_held, store_told, popped_values, none_taken, alter_told, call_told}
 use Rattle.setl_telling.specs.Notes.{told_name, own_slots, variable_of, store_notices, call_notices}
 use Rattle.setl_store.specs.Standing.{Standing, no_world, variables, variables_by, variables_in}
-use Rattle.setl_storing.specs.Altered.{stores_new}
+use Rattle.setl_variables.specs.Altered.{stores_new}
 use Rattle.setl_storing.specs.Control.{ControlState, in_world, stood_for}
 use Rattle.setl_storing.specs.Declaring.{Modes}
 use Rattle.setl_machine.specs.Hearing.{Tells, TellsOf, DoesTelling, TellsInHand}

@@ -18,11 +18,9 @@ use crate::operating::{operate, push_atom, push_eof, round};
 use setl_code::Instr;
 use setl_environment::Memory;
 use setl_store::Store;
-use setl_storing::{
-    Control, Declarations, End, back, keep, load, push, push_integer, push_text, store_in, take,
-    update,
-};
+use setl_storing::{Control, End, back, keep};
 use setl_value::Value;
+use setl_variables::{Declarations, load, push, push_integer, push_text, store_in, take, update};
 use std::alloc::Global;
 
 /// Does an instruction that neither reads nor writes, and says how the run stands then.

@@ -16,7 +16,8 @@ use crate::outside::{print, read};
 use setl_code::Instr;
 use setl_io::{Sink, Source};
 use setl_store::Store;
-use setl_storing::{Control, Declarations, End};
+use setl_storing::{Control, End};
+use setl_variables::Declarations;
 
 /// Does the next instructions, at most `steps` of them.
 ///

@@ -11,8 +11,9 @@ ghost use Rattle.setl_storing.specs.Working.{Does};
 use setl_environment::Memory;
 use setl_operators::{Operator, op, op_one, op_two};
 use setl_store::Store;
-use setl_storing::{Control, End, end_by, freely_of_top, go_on};
+use setl_storing::{Control, End, end_by, go_on};
 use setl_value::Value;
+use setl_variables::freely_of_top;
 
 /// Pops so many operands, and pushes what the operator makes of them for its charge.
 pub(crate) fn operate(

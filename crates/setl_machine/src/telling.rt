@@ -29,9 +29,10 @@ use setl_code::{Alteration, Bracket, Code, Instr, Slot};
 use setl_environment::Memory;
 use setl_io::{Sink, Source};
 use setl_store::{Content, Store};
-use setl_storing::{Control, Declarations, End, alter, copied, store_in};
+use setl_storing::{Control, End, copied};
 use setl_telling::{call_events, return_events, store_events};
 use setl_value::Value;
+use setl_variables::{Declarations, alter, store_in};
 use setl_watch::Event;
 use std::alloc::Global;
 

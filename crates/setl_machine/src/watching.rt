@@ -14,8 +14,9 @@ use crate::machine::run_whole;
 use crate::telling::step_telling;
 use setl_io::{Sink, Source};
 use setl_store::Store;
-use setl_storing::{Control, Declarations, End};
+use setl_storing::{Control, End};
 use setl_telling::{ends_tell_nothing, events_are};
+use setl_variables::Declarations;
 use setl_watch::{Watcher, tell_each, told_in_parts};
 
 /// Does instructions up to the end of the run, as `run_whole` does, and tells the watchers each event.

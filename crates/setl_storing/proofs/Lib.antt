@@ -1,7 +1,2 @@
 pub mod Denotations
-pub mod Storing
-pub mod Altered
-pub mod Taking
-pub mod Places
-pub mod Finding
-pub mod Freely
+pub mod Ending

@@ -1,7 +1,7 @@
 -- Declared variables, and how they are tested.
 use Rattle.std.specs.Prelude.{◌≡◌, ℕ, zero, suc, true, false, List, [], ◌∷◌, map, cond, slice_get, Option, Some, None, IfSome}
 use Rattle.setl_value.specs.Datum.{Datum}
-use Rattle.setl_modes.specs.Modes.{Mode}
+use Rattle.setl_modes.specs.Modes.{Mode, mode_of}
 use Rattle.setl_run.specs.Run.{Test}
 use Rattle.setl_run.specs.Variable.{Variable, Global, Own, Bound, is_variable}
 use Rattle.setl_program.specs.declared.program.Declared.{Declared}
@@ -10,6 +10,7 @@ use Rattle.setl_model.specs.Step.{test_of, declared_mode}
 use Rattle.setl_code.specs.declared.code.Code as code
 use Rattle.setl_code.specs.Code.{Code}
 use Rattle.setl_code.specs.Plain.{variable_at, plain_code}
+use Rattle.setl_storing.specs.declared.declaration.Declaration.{Declaration}
 
 -- the declared variables with their modes, in the order of the declarations
 abbrev pub Modes : Type 0
@@ -70,6 +71,11 @@ pub record Serves (d : DeclarationTable) (c : code.Code) : Type 0 where
 abbrev pub Tests : Modes → Variable → Option Datum → Option ℕ → Type 0
 Tests modes x v None = tested modes x v ≡ true
 Tests modes x v (Some k) = (tested modes x v ≡ false) × (declared_at modes k ≡ x) × IsOfMain x
+
+-- it is the declaration of this variable, if it has one
+abbrev pub IsDeclared : Modes → Variable → Option Declaration → Type 0
+IsDeclared modes x None = declared_mode modes x ≡ None
+IsDeclared modes x (Some d) = (declared_mode modes x ≡ Some (mode_of d.mode.now)) × (declared_at modes d.place ≡ x) × IsOfMain x
 
 -- what a declared variable held is kept; one that isn't declared takes every value
 abbrev pub Keeps : Modes → Variable → Option Datum → Option (Option Datum) → Type 0

@@ -1,9 +1,7 @@
 pub mod Control
 pub mod Declaring
-pub mod Tables
 pub mod Answers
 pub mod Working
 pub mod Reading
-pub mod Altered
-pub mod Freely
+pub mod Settling
 pub mod Laws

@@ -1,22 +1,16 @@
-//! The instructions on variables, with declarations and updates in place; `ok` and `fail`; the control, and how a run ends.
+//! The control, and how a run ends; which values declared variables take, and how an update of one ends; `ok` and `fail`.
 #![tactic(auto)]
 
-mod altering;
 mod backtracking;
 mod control;
-mod declarations;
+mod declaration;
 mod end;
-mod in_place;
-mod integers;
 mod operands;
-mod variables;
+mod updating;
 
-pub use altering::{Updated, alter};
 pub use backtracking::{back, keep};
 pub use control::Control;
-pub use declarations::Declarations;
+pub use declaration::{Declaration, refusal};
 pub use end::{End, StopKind};
-pub use in_place::update;
-pub use integers::freely_of_top;
 pub use operands::{copied, end_by, go_on, pop_top};
-pub use variables::{load, push, push_integer, push_text, store_in, take};
+pub use updating::{Target, end_update};

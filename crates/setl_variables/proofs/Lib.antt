@@ -1,0 +1,6 @@
+pub mod Storing
+pub mod Altered
+pub mod Taking
+pub mod Places
+pub mod Finding
+pub mod Freely

@@ -1,0 +1,3 @@
+pub mod Tables
+pub mod Altered
+pub mod Freely
