@@ -17,7 +17,7 @@ ghost use Rattle.setl_machine.specs.Working.{TakesLine, WritesLine, EndsReading}
 ghost use Rattle.setl_storing.specs.declared.end.End.{End};
 
 use setl_environment::Memory;
-use setl_io::{Sink, Source, WriteFault};
+use setl_io::{Sink, Source, WriteFault, write_all};
 use setl_store::Store;
 use setl_storing::{Control, End, StopKind, go_on};
 use setl_text::{ReadFault, line};
@@ -59,7 +59,7 @@ pub(crate) fn write_line<O: Sink>(line: &[u8], store: &mut Store<'_>, out: &mut 
     requires { store.old.core.now.at + 1 < 2 ^ 64 }
     ensures { (n : ℕ) → WritesLine line.now store.old (seen (O.held out.old) (O.faults out.old) n) store.new (seen (O.held out.new) (O.faults out.new) n) result }
 {
-    match setl_printing::write_line(line, out) {
+    match write_all(out, line) {
         Ok(()) => {
             go_on(store);
             End::Paused
