@@ -7,11 +7,11 @@
 mod lines;
 mod reason;
 mod status;
-mod tell;
+mod telling;
 mod texts;
 
 pub use lines::try_line;
 pub use reason::{Reason, at_line, push_number};
 pub use status::Status;
-pub use tell::{refuse, tell, tell_made};
+pub use telling::{refuse, tell, tell_made};
 pub use texts::{load_source, write_text};

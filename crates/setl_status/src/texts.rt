@@ -6,7 +6,7 @@ ghost use Rattle.setl_status.specs.code.Writes.{Written, gain};
 use crate::Status;
 use crate::lines::try_line;
 use crate::reason::Reason;
-use crate::tell::refuse;
+use crate::telling::refuse;
 use setl_io::{Files, Load, Sink, WriteFault, write_all};
 use std::alloc::Global;
 

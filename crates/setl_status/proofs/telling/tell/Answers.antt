@@ -1,6 +1,6 @@
 use Rattle.std.proofs.Common.{refl}
 use Rattle.setl_status.specs.code.Tells.{whole, failed, no_memory}
-use Rattle.setl_status.proofs.tell.tell.Goals as goal
+use Rattle.setl_status.proofs.telling.tell.Goals as goal
 
 pub returns-in-Ok : goal.returns-in-Ok
 returns-in-Ok g c = record { told = whole c.in-Ok.ensures.whole c.in-Ok.ensures.ok }
