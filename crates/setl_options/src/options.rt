@@ -19,10 +19,6 @@ impl Options {
     pub fn counted<T>(self, declared: &[T]) -> &[T]
         ensures { result.now ≡ (if self.based then declared.now else []) }
     {
-        if self.based {
-            declared
-        } else {
-            &[]
-        }
+        if self.based { declared } else { &[] }
     }
 }

@@ -21,11 +21,7 @@ pub fn tell<E: Sink>(err: &mut E, line: &[u8], status: Status) -> Status
 }
 
 /// Writes the last line of an end, for which memory may have been refused.
-pub fn tell_made<E: Sink>(
-    err: &mut E,
-    line: Result<Vec<u8>, AllocError>,
-    status: Status,
-) -> Status
+pub fn tell_made<E: Sink>(err: &mut E, line: Result<Vec<u8>, AllocError>, status: Status) -> Status
     ensures told { (bytes : List ℕ) → IfOk line (λ l. l.items ≡ bytes) → Tells status bytes (E.held err.old) (E.held err.new) (E.faults err.old) (E.faults err.new) result }
 {
     match line {

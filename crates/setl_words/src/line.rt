@@ -125,8 +125,9 @@ fn with_file<'a>(alloc: Global, name: &'a str, about: &'a str) -> Result<Command
 fn trial<'a>(alloc: Global) -> Result<Command<'a>, AllocError>
     ensures { Builds trial_app result }
 {
-    let command =
-        Command::new(alloc, "trial").about("Run a fixed program on an input that is drawn");
+    let command = Command::new(alloc, "trial").about(
+        "Run a fixed program on an input that is drawn",
+    );
     let command = with_arg(Ok(command), seed(alloc));
     with_arg(command, nodes(alloc))
 }
