@@ -95,33 +95,17 @@ fn gained(alloc: Global, status: Status, outside: &Outside) -> Result<Left, Memo
     Ok(Left { status, out, err })
 }
 
-/// Adds a trace.
-pub fn add_trace(alloc: Global, watchers: &mut Vec<Box<dyn Watcher>>) -> Result<(), Memory> {
-    watchers.push(Box::new(alloc, Trace::new(alloc)?)?)
-}
-
-/// Adds a cover.
-pub fn add_cover(alloc: Global, watchers: &mut Vec<Box<dyn Watcher>>) -> Result<(), Memory> {
-    watchers.push(Box::new(alloc, Cover::new(alloc)?)?)
-}
-
-/// A trace and a cover.
-fn both(alloc: Global) -> Result<Vec<Box<dyn Watcher>>, Memory> {
-    let mut watchers: Vec<Box<dyn Watcher>> = Vec::new(alloc);
-    add_trace(alloc, &mut watchers)?;
-    add_cover(alloc, &mut watchers)?;
-    Ok(watchers)
-}
-
-/// A call with these words over this outside, which is handed these watchers.
+/// A call with these words over this outside, which is handed a trace and a cover.
 fn called<I: Source>(
     alloc: Global,
     words: &[String],
-    watchers: Vec<Box<dyn Watcher>>,
     outside: &mut Outside,
     input: &mut I,
-) -> Status {
-    setl(
+) -> Result<Status, Memory> {
+    let mut watchers: Vec<Box<dyn Watcher>> = Vec::new(alloc);
+    watchers.push(Box::new(alloc, Trace::new(alloc)?)?)?;
+    watchers.push(Box::new(alloc, Cover::new(alloc)?)?)?;
+    Ok(setl(
         alloc,
         words,
         watchers,
@@ -129,7 +113,7 @@ fn called<I: Source>(
         input,
         &mut outside.out,
         &mut outside.err,
-    )
+    ))
 }
 
 /// A run of this source with the words `run --watch trace a`, which is handed these watchers.
@@ -141,7 +125,15 @@ pub fn call_watched(
     let words = words_of(alloc, "run --watch trace a")?;
     let mut outside = outside_of(alloc, source.as_bytes(), NO_FAULTS)?;
     let mut input = SureSource::new(Vec::new(alloc));
-    let status = called(alloc, &words, watchers, &mut outside, &mut input);
+    let status = setl(
+        alloc,
+        &words,
+        watchers,
+        &mut outside.files,
+        &mut input,
+        &mut outside.out,
+        &mut outside.err,
+    );
     gained(alloc, status, &outside)
 }
 
@@ -155,7 +147,7 @@ pub fn call_with<I: Source>(
 ) -> Result<Left, Memory> {
     let words = words_of(alloc, line)?;
     let mut outside = outside_of(alloc, source, faults)?;
-    let status = called(alloc, &words, both(alloc)?, &mut outside, input);
+    let status = called(alloc, &words, &mut outside, input)?;
     gained(alloc, status, &outside)
 }
 

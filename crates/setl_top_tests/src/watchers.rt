@@ -1,11 +1,8 @@
 //! Watchers of a run, and what they report.
 
-use crate::calls::{
-    Faults, Left, NO_FAULTS, add_cover, add_trace, answer, call_on, call_watched, expect_calls,
-};
-use crate::rows::{BETWEEN, fields, numbers, text};
+use crate::calls::{Faults, NO_FAULTS, answer, call_on, call_watched, expect_calls};
 use setl_top::Status;
-use setl_watch::{Event, Memory, Wants, Watcher};
+use setl_watch::{Cover, Event, Memory, Trace, Wants, Watcher};
 use std::alloc::{AllocError, Global};
 use std::test::Fail;
 
@@ -235,103 +232,45 @@ fn at_once(refuses: bool) -> AtOnce {
     AtOnce { told: 0, refuses }
 }
 
-/// Adds a watcher that has enough at once, or refuses memory.
-fn add_at_once(
-    alloc: Global,
-    watchers: &mut Vec<Box<dyn Watcher>>,
-    refuses: bool,
-) -> Result<(), Memory> {
-    watchers.push(Box::new(alloc, at_once(refuses))?)
-}
-
-/// Adds the watcher that goes by this word.
-fn add(alloc: Global, watchers: &mut Vec<Box<dyn Watcher>>, word: &str) -> Result<(), Memory> {
-    match word {
-        "trace" => add_trace(alloc, watchers),
-        "cover" => add_cover(alloc, watchers),
-        "refuses" => add_at_once(alloc, watchers, true),
-        _ => add_at_once(alloc, watchers, false),
-    }
-}
-
-/// Watchers that are handed in, where a trace is asked for; the source, what is printed, what is told, and the status. One
-/// that has enough at once reports first. One may refuse memory. Where none has the name, the words are refused before the
-/// file is read.
-const HANDED: &str = "once
---
-program q;
-x := p(); print(x); if x = 1 then fail; end if;
-proc p(); if ok then return 1; else return 2; end if; end proc;
-end program;
---
-1
-2
---
-1
---
-0
-====
-cover trace once once
---
-program p; x := 1; end program;
---
---
-1
-1
-store 1 x 1
---
-0
-====
-refuses
---
-program q;
-x := p(); print(x); if x = 1 then fail; end if;
-proc p(); if ok then return 1; else return 2; end if; end proc;
-end program;
---
---
-no memory
---
-7
-====
---
-program q;
-x := p(); print(x); if x = 1 then fail; end if;
-proc p(); if ok then return 1; else return 2; end if; end proc;
-end program;
---
---
-no such watcher
---
-2
-====
-cover
---
-no program
---
---
-no such watcher
---
-2
-";
-
-/// A run of this source that is handed the watchers of a line of words.
-fn handed(alloc: Global, words: &str, source: &str) -> Result<Left, Memory> {
+#[test]
+fn the_first_to_have_enough_reports_first(rt: HostRuntime) -> Result<(), Fail> {
+    let alloc = rt.alloc();
     let mut watchers: Vec<Box<dyn Watcher>> = Vec::new(alloc);
-    for word in words.split_whitespace() {
-        add(alloc, &mut watchers, word)?;
-    }
-    call_watched(alloc, source, watchers)
+    watchers.push(Box::new(alloc, at_once(false))?)?;
+    let left = call_watched(alloc, GOES_BACK, watchers)?;
+    assert!(rt; left.is(Status::Done, "1\n2\n", "1\n"), "alone");
+    let mut watchers: Vec<Box<dyn Watcher>> = Vec::new(alloc);
+    watchers.push(Box::new(alloc, Cover::new(alloc)?)?)?;
+    watchers.push(Box::new(alloc, Trace::new(alloc)?)?)?;
+    watchers.push(Box::new(alloc, at_once(false))?)?;
+    watchers.push(Box::new(alloc, at_once(false))?)?;
+    let left = call_watched(alloc, "program p; x := 1; end program;", watchers)?;
+    assert!(rt;
+        left.is(Status::Done, "", "1\n1\nstore 1 x 1\n"),
+        "among others"
+    );
+    Ok(())
 }
 
 #[test]
-fn watchers_that_are_handed_in_report_or_are_refused(rt: HostRuntime) -> Result<(), Fail> {
-    for row in HANDED.split(BETWEEN) {
-        let [words, source, out, err, status] = fields(row);
-        let [status, ..] = numbers(status);
-        let left = handed(rt.alloc(), words, text(source))?;
-        assert!(rt; left.ends(status, out, err), "at {row}");
-    }
+fn a_watcher_may_refuse_memory(rt: HostRuntime) -> Result<(), Fail> {
+    let alloc = rt.alloc();
+    let mut watchers: Vec<Box<dyn Watcher>> = Vec::new(alloc);
+    watchers.push(Box::new(alloc, at_once(true))?)?;
+    let left = call_watched(alloc, GOES_BACK, watchers)?;
+    assert!(rt; left.is(Status::NoMemory, "", "no memory\n"));
+    Ok(())
+}
+
+#[test]
+fn a_watcher_that_is_not_there_is_refused(rt: HostRuntime) -> Result<(), Fail> {
+    let alloc = rt.alloc();
+    let left = call_watched(alloc, GOES_BACK, Vec::new(alloc))?;
+    assert!(rt; left.is(Status::Words, "", "no such watcher\n"), "none");
+    let mut watchers: Vec<Box<dyn Watcher>> = Vec::new(alloc);
+    watchers.push(Box::new(alloc, Cover::new(alloc)?)?)?;
+    let left = call_watched(alloc, "no program", watchers)?;
+    assert!(rt; left.is(Status::Words, "", "no such watcher\n"), "another");
     Ok(())
 }
 
