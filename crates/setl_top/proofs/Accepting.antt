@@ -10,7 +10,7 @@ use Rattle.setl_top.specs.Accepted.{lexed, IsProgram, Accepted}
 use Rattle.setl_top.specs.Laws.{AcceptedRunsEnd, NoAcceptedRunIsStuck}
 use Rattle.setl_names.specs.Breaks as names
 use Rattle.setl_declarations.specs.Declares as declarations
-use Rattle.setl_top.proofs.Breaking.{none_before}
+use Rattle.setl_rules.specs.RulesLaws.{none_before}
 
 -- the tree of a program is accepted
 pub is_accepted : (source : List ℕ) (tree : Tree) → IsProgram source tree → IsAccepted tree

@@ -49,3 +49,8 @@ serves code declared d store made begun bare main = record {
   bare = subst (λ (s : Standing). IsBare (plain_code s.code)) (sym begun) bare;
   main = subst AreOfMain (sym (ap modes_of made)) main;
 }
+
+-- what is made of all or none is all or none of what is made
+pub map_counted : {A B : Type 0} (f : A → B) (b : Bool) (xs : List A) → map f (if b then xs else []) ≡ (if b then map f xs else [])
+map_counted f true xs = refl
+map_counted f false xs = refl

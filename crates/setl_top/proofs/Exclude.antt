@@ -16,9 +16,9 @@ use Rattle.setl_top.specs.Laws.{IsComplete, FaultyWordsReadNothing, WordsExactly
 use Rattle.setl_top.specs.Listings.{listing_of}
 use Rattle.setl_top.specs.Trials.{trial_source, trial_input, trial_line}
 use Rattle.setl_top.specs.Watching.{asked_for, IsThere, IsNoRequest, reports_of}
-use Rattle.setl_top.specs.Reasons.{reason_line}
-use Rattle.setl_top.specs.declared.status.Status.{Status}
-use Rattle.setl_top.specs.declared.status.Status.TheVariants.{Done, Refused, Words, Stopped, Spent, ReadFault, WriteFault, NoMemory}
+use Rattle.setl_status.specs.Reasons.{reason_line}
+use Rattle.setl_status.specs.declared.status.Status.{Status}
+use Rattle.setl_status.specs.declared.status.Status.TheVariants.{Done, Refused, Words, Stopped, Spent, ReadFault, WriteFault, NoMemory}
 use Rattle.setl_words.specs.Words.{Command, Run, Check, Code, Trial, Spells, HasFile, RunsFile, watched_by, OneCommand}
 use Rattle.setl_top.proofs.OneReason.{FrontLaws, one_reason, one_program_tree, not_refused}
 

@@ -1,10 +1,8 @@
-pub mod Fronts
 pub mod Keeping
 pub mod Loading
 pub mod Ends
 pub mod OneReason
 pub mod Exclude
-pub mod Breaking
 pub mod Parsing
 pub mod Stopping
 pub mod Asked

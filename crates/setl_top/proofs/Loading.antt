@@ -3,15 +3,25 @@ use Rattle.std.proofs.Common.{◌≡◌, ℕ, List, [], ◌∷◌, ◌++◌, Opt
 use Rattle.setl_io.specs.Files.{Texts, IsText}
 use Rattle.setl_tree.specs.declared.tree.Tree.{Tree}
 use Rattle.setl_top.specs.Accepted.{IsRefusedFor}
-use Rattle.setl_top.specs.Lines.{AppendsFront}
+use Rattle.setl_status.specs.Lines.{AppendsFront}
 use Rattle.setl_top.specs.Listings.{listing_of}
-use Rattle.setl_top.specs.code.Lists.{Gain, Written, Lists, listed_so}
-use Rattle.setl_top.specs.code.Loads.{Loaded, Sides, sides, IsStill, NotLoaded, not_accepted, no_room}
-use Rattle.setl_top.specs.Reasons.{reason_line}
-use Rattle.setl_top.specs.code.Tells.{Tells}
-use Rattle.setl_top.specs.declared.reason.Reason.{Reason}
-use Rattle.setl_top.specs.declared.status.Status.{Status}
-use Rattle.setl_top.specs.declared.status.Status.TheVariants as status
+use Rattle.setl_status.specs.code.Writes.{Gain, Written}
+use Rattle.setl_top.specs.code.Lists.{Lists, listed_so}
+use Rattle.setl_status.specs.code.Loads.{Sides, sides, IsStill, NoText}
+use Rattle.setl_status.specs.code.Loads as loads
+use Rattle.setl_top.specs.code.Loads.{Loaded, NotLoaded, not_accepted, not_read, no_room}
+use Rattle.setl_status.specs.Reasons.{reason_line}
+use Rattle.setl_status.specs.code.Tells.{Tells}
+use Rattle.setl_status.specs.declared.reason.Reason.{Reason}
+use Rattle.setl_status.specs.declared.reason.Reason.TheVariants as reason
+use Rattle.setl_status.specs.declared.status.Status.{Status}
+use Rattle.setl_status.specs.declared.status.Status.TheVariants as status
+
+-- where there is no text, there is no program
+pub not_loaded_by : (texts : Texts) (name : List ℕ) (s : Sides) (ends : Status) → NoText texts name s ends → NotLoaded texts name s ends
+not_loaded_by texts name s ends (loads.too_long source _ is long still told) = not_accepted source reason.TooLong ends is long still told
+not_loaded_by texts name s ends (loads.not_read rose told) = not_read rose told
+not_loaded_by texts name s ends (loads.no_room told) = no_room told
 
 -- a refusal that was told then
 pub not_accepted_then : (texts : Texts) (name : List ℕ) (s : Sides) → IsStill s → (new : Option (List ℕ)) (err_now : ℕ) (source : List ℕ) (reason : Reason) (ends : Status) → IsText texts name source → IsRefusedFor source reason → Tells status.Refused (reason_line reason ++ 10 ∷ []) s.new new s.err_now err_now ends → NotLoaded texts name (sides s.files_before s.files_now s.old new s.err_before err_now) ends

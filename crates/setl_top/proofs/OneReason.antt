@@ -14,9 +14,9 @@ use Rattle.setl_parse.specs.declared.fault.ParseFault.TheVariants as fault
 use Rattle.setl_names.specs.Breaks.{first_break, break_at}
 use Rattle.setl_names.specs.declared.broken.Break.{Break}
 use Rattle.setl_top.specs.Accepted.{lexed, IsParsed, IsProgram, IsUnspelled, IsUnparsed, IsUnsound, IsRefusedFor}
-use Rattle.setl_top.specs.Rules.{all_breaks}
-use Rattle.setl_top.specs.declared.reason.Reason.{Reason}
-use Rattle.setl_top.specs.declared.reason.Reason.TheVariants as reason
+use Rattle.setl_rules.specs.Rules.{all_breaks}
+use Rattle.setl_status.specs.declared.reason.Reason.{Reason}
+use Rattle.setl_status.specs.declared.reason.Reason.TheVariants as reason
 
 -- the laws of lexing and of the grammar
 pub record FrontLaws : Type 0 where

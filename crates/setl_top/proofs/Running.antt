@@ -36,7 +36,7 @@ use Rattle.setl_top.specs.code.Runs.{Streams, streams, counted, RunsTo, RunsInto
 use Rattle.setl_simulation.specs.Claims.{Ended}
 use Rattle.setl_watch.specs.Watches.{Watch, Watched, watched, told_all}
 use Rattle.setl_words.specs.Words.{Options}
-use Rattle.setl_top.proofs.Fronts.{appends_none}
+use Rattle.setl_status.specs.FrontLaws.{appends_none}
 use Rattle.setl_top.proofs.Reaching.{CodeLaws, Taken, coded, as_meant, Came, ends_at, came_at_state, came_at_read, came_at_print}
 
 -- ---- what is left of the input

@@ -15,10 +15,10 @@ use Rattle.setl_names.specs.Breaks.{first_break, break_at}
 use Rattle.setl_names.specs.declared.broken.Break.{Break}
 use Rattle.setl_program.specs.Program.{Program}
 use Rattle.setl_program.specs.ProgramOf.{program_of}
-use Rattle.setl_top.specs.Reasons.{reason_line}
-use Rattle.setl_top.specs.Rules.{all_breaks}
-use Rattle.setl_top.specs.declared.reason.Reason.{Reason}
-use Rattle.setl_top.specs.declared.reason.Reason.TheVariants as reason
+use Rattle.setl_status.specs.Reasons.{reason_line}
+use Rattle.setl_rules.specs.Rules.{all_breaks}
+use Rattle.setl_status.specs.declared.reason.Reason.{Reason}
+use Rattle.setl_status.specs.declared.reason.Reason.TheVariants as reason
 
 -- ---- programs
 

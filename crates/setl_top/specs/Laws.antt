@@ -10,9 +10,9 @@ use Rattle.setl_top.specs.Accepted.{IsProgram, Accepted, Refusal}
 use Rattle.setl_top.specs.Headline.{Moment, Headline, InputLeft, Ended, AnyRose, Answers, Job, IsToRun, IsTried, trial_output, status_for}
 use Rattle.setl_top.specs.Listings.{listing_of}
 use Rattle.setl_top.specs.Watching.{IsThere, IsNoRequest, reports_of}
-use Rattle.setl_top.specs.declared.status.Status.{Status}
-use Rattle.setl_top.specs.declared.status.Status.TheVariants.{NoMemory, ReadFault, Refused}
-use Rattle.setl_top.specs.declared.status.Status.TheVariants as ended
+use Rattle.setl_status.specs.declared.status.Status.{Status}
+use Rattle.setl_status.specs.declared.status.Status.TheVariants.{NoMemory, ReadFault, Refused}
+use Rattle.setl_status.specs.declared.status.Status.TheVariants as ended
 use Rattle.setl_words.specs.Words.{Command, Check, Code, Trial, Spells, HasFile, watched_by}
 
 -- the call failed in none of the three ways only where it came to its end

@@ -1,8 +1,3 @@
-pub mod Status
-pub mod Fronts
-pub mod Lines
-pub mod Reasons
-pub mod Rules
 pub mod Accepted
 pub mod Moments
 pub mod Listings

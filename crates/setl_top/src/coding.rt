@@ -4,7 +4,7 @@ ghost use Rattle.setl_code.specs.CodeOf.{code_of};
 ghost use Rattle.setl_code.specs.Plain.{plain_code};
 ghost use Rattle.setl_program.specs.code.Plain.{plain_program};
 ghost use Rattle.setl_program.specs.ProgramOf.{program_of};
-ghost use Rattle.setl_top.specs.Rules.{AreModes};
+ghost use Rattle.setl_rules.specs.Rules.{AreModes};
 
 use crate::front::Checked;
 use setl_code::Code;

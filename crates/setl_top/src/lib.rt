@@ -10,12 +10,9 @@ mod coding;
 mod front;
 mod generated;
 mod laws;
-mod lines;
 mod listing;
 mod load;
-mod reason;
 mod run;
-mod status;
 mod stop;
 mod tell;
 mod top;
@@ -26,5 +23,5 @@ pub use laws::{
     checks_exactly, completeness, ends_exactly, every_accepted_run_ends, faulty_words_read_nothing,
     lists_exactly, refused_exactly, trials_read_nothing, tries_exactly, words_exactly,
 };
-pub use status::Status;
+pub use setl_status::Status;
 pub use top::setl;

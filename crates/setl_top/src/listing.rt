@@ -1,17 +1,18 @@
 //! Listings of programs.
 ghost use Rattle.std.specs.Prelude.{◌≡◌, IfOk};
 ghost use Rattle.setl_top.specs.Listings.{listing_of};
-ghost use Rattle.setl_top.specs.code.Lists.{Lists, Written, gain};
-ghost use Rattle.setl_top.specs.code.Loads.{sides};
-ghost use Rattle.setl_top.specs.Rules.{AreModes};
+ghost use Rattle.setl_status.specs.code.Loads.{sides};
+ghost use Rattle.setl_status.specs.code.Writes.{Written, gain};
+ghost use Rattle.setl_top.specs.code.Lists.{Lists};
+ghost use Rattle.setl_rules.specs.Rules.{AreModes};
 
 use crate::Status;
 use crate::coding::code_of_source;
 use crate::front::Checked;
-use crate::lines::try_line;
 use crate::load::load_program;
-use setl_io::{Files, Sink, WriteFault, write_all};
+use setl_io::{Files, Sink};
 use setl_listing::listing;
+use setl_status::{try_line, write_text};
 use std::alloc::{AllocError, Global};
 
 /// The listing of the code of the program of a source. The error is want of memory.
@@ -21,23 +22,6 @@ fn listed(alloc: Global, source: Checked) -> Result<Vec<u8>, AllocError>
 {
     let code = code_of_source(alloc, source)?;
     listing(alloc, &code)
-}
-
-/// Writes a text to the output. Where that fails, the fault's line was tried.
-pub fn write_text<O: Sink, E: Sink>(text: &[u8], out: &mut O, err: &mut E) -> Status
-    ensures { Written text.now (gain (O.held out.old) (O.held out.new) (O.faults out.old) (O.faults out.new)) (E.held err.old) (E.held err.new) (E.faults err.old) (E.faults err.new) result }
-{
-    match write_all(out, text) {
-        Ok(()) => Status::Done,
-        Err(WriteFault::Failed) => {
-            try_line(err, b"write fault\n");
-            Status::WriteFault
-        }
-        Err(WriteFault::NoMemory) => {
-            try_line(err, b"no memory\n");
-            Status::NoMemory
-        }
-    }
 }
 
 /// Writes the listing of the code of the program of a source. Where that fails, the fault's line was tried.

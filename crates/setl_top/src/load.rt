@@ -1,47 +1,17 @@
 //! Sources that are loaded and read.
 ghost use Rattle.std.specs.Prelude.{IfOk, IfErr, OnOk};
-ghost use Rattle.setl_top.specs.code.Loads.{HasText, Loaded, LoadedAs, NotLoaded, Checks, IsStill, sides};
-ghost use Rattle.setl_top.specs.Rules.{AreModes};
+ghost use Rattle.setl_status.specs.code.Loads.{IsStill, sides};
+ghost use Rattle.setl_top.specs.code.Loads.{Loaded, LoadedAs, NotLoaded, Checks};
+ghost use Rattle.setl_rules.specs.Rules.{AreModes};
 ghost use Rattle.setl_program.specs.code.Plain.{plain_program};
 
 use crate::Status;
 use crate::coding::program_of_source;
 use crate::front::{Checked, Unread, read_program};
-use crate::lines::try_line;
-use crate::reason::Reason;
-use crate::tell::refuse;
-use setl_io::{Files, Load, Sink};
+use setl_io::{Files, Sink};
 use setl_program::Program;
+use setl_status::{load_source, refuse, try_line};
 use std::alloc::Global;
-
-/// The greatest length of a source.
-const MAX_SOURCE: u64 = 1 << 24;
-
-/// Loads the text of a file. At `Err` the last line was told.
-fn load_source<F: Files, E: Sink>(
-    alloc: Global,
-    name: &str,
-    files: &mut F,
-    err: &mut E,
-) -> Result<Vec<u8>, Status>
-    ensures loaded { IfOk result (λ source. HasText (F.texts files.old) name.now source.items) }
-    ensures still { OnOk result (IsStill (sides (F.faults files.old) (F.faults files.new) (E.held err.old) (E.held err.new) (E.faults err.old) (E.faults err.new))) }
-    ensures not_loaded { IfErr result (NotLoaded (F.texts files.old) name.now (sides (F.faults files.old) (F.faults files.new) (E.held err.old) (E.held err.new) (E.faults err.old) (E.faults err.new))) }
-{
-    let mut source = Vec::new(alloc);
-    match files.load(name, MAX_SOURCE, &mut source) {
-        Load::Loaded => Ok(source),
-        Load::TooLong => Err(refuse(alloc, err, Reason::TooLong)),
-        Load::Failed => {
-            try_line(err, b"read fault\n");
-            Err(Status::ReadFault)
-        }
-        Load::NoMemory => {
-            try_line(err, b"no memory\n");
-            Err(Status::NoMemory)
-        }
-    }
-}
 
 /// Loads the program of a file. At `Err` the last line was told.
 pub fn load_program<F: Files, E: Sink>(

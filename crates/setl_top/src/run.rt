@@ -23,11 +23,7 @@ use std::alloc::{AllocError, Global};
 pub fn counted(asked: Options, program: &Program) -> &[Declared]
     ensures { map plain_declared result.now ≡ counted (options_now asked) (plain_program program.now) }
 {
-    if asked.based {
-        program.declared.as_slice()
-    } else {
-        &[]
-    }
+    asked.counted(program.declared.as_slice())
 }
 
 /// Runs a code from its first step, with so many turns, where these variables are declared, and tells the watchers its

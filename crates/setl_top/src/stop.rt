@@ -6,9 +6,9 @@ ghost use Rattle.setl_storing.specs.Answers.{kind_of};
 ghost use Rattle.setl_program.specs.code.Plain.{plain_declared, plain_variable};
 ghost use Rattle.setl_run.specs.Variable.{name_of};
 
-use crate::reason::at_line;
 use setl_machine::StopKind;
 use setl_program::{Declared, Variable};
+use setl_status::at_line;
 use std::alloc::{AllocError, Global};
 
 /// The words for a stop, before the name of the variable if one is told.

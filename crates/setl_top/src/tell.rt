@@ -1,57 +1,25 @@
 //! What the error output gains at the end of a call.
-ghost use Rattle.std.specs.Prelude.{◌≡◌, ◌∷◌, ◌++◌, List, ℕ, [], map, string_bytes, IfOk};
+ghost use Rattle.std.specs.Prelude.{◌≡◌, ◌++◌, List, ℕ, map, string_bytes, IfOk};
 ghost use Rattle.setl_storing.specs.Answers.{kind_of};
 ghost use Rattle.setl_model.specs.Answers.{error_line};
 ghost use Rattle.setl_program.specs.code.Plain.{plain_declared};
 ghost use Rattle.setl_run.specs.Events.{Stopped};
-ghost use Rattle.setl_top.specs.Reasons.{reason_line};
-ghost use Rattle.setl_top.specs.code.Tells.{Tells, TellsEnd};
+ghost use Rattle.setl_status.specs.code.Tells.{Tells};
+ghost use Rattle.setl_top.specs.code.Tells.{TellsEnd};
 ghost use Rattle.setl_top.specs.Watching.{all_told};
 ghost use Rattle.setl_watch.specs.Watches.{watched};
 ghost use Rattle.setl_words.specs.Told.{TellsFaulty};
 
 use crate::Status;
-use crate::lines::{try_line, write_line};
-use crate::reason::{Reason, reason_line};
 use crate::stop::stop_line;
 use crate::watching::all_told;
-use setl_io::{Sink, WriteFault};
+use setl_io::Sink;
 use setl_machine::{End, StopKind};
 use setl_program::Declared;
+use setl_status::{tell, tell_made, try_line};
 use setl_watch::Watcher;
 use setl_words::fault_text;
 use std::alloc::{AllocError, Global};
-
-/// Writes the last line of an end.
-pub fn tell<E: Sink>(err: &mut E, line: &[u8], status: Status) -> Status
-    ensures told { Tells status line.now (E.held err.old) (E.held err.new) (E.faults err.old) (E.faults err.new) result }
-{
-    match write_line(err, line) {
-        Ok(()) => status,
-        Err(WriteFault::Failed) => Status::WriteFault,
-        Err(WriteFault::NoMemory) => Status::NoMemory,
-    }
-}
-
-/// Writes the last line of an end, for which memory may have been refused.
-fn tell_made<E: Sink>(err: &mut E, line: Result<Vec<u8>, AllocError>, status: Status) -> Status
-    ensures told { (bytes : List ℕ) → IfOk line (λ l. l.items ≡ bytes) → Tells status bytes (E.held err.old) (E.held err.new) (E.faults err.old) (E.faults err.new) result }
-{
-    match line {
-        Ok(line) => tell(err, &line, status),
-        Err(_) => {
-            try_line(err, b"no memory\n");
-            Status::NoMemory
-        }
-    }
-}
-
-/// Tells why a source is refused.
-pub fn refuse<E: Sink>(alloc: Global, err: &mut E, reason: Reason) -> Status
-    ensures told { Tells Status.Refused (reason_line reason ++ 10 ∷ []) (E.held err.old) (E.held err.new) (E.faults err.old) (E.faults err.new) result }
-{
-    tell_made(err, reason_line(alloc, reason), Status::Refused)
-}
 
 /// Tells what the watchers of a run of the machine report, behind the reports of those that left, and how the run ended, in
 /// which these variables were declared. It is neither paused nor stuck. Reports are told only where it ended as its

@@ -3,7 +3,7 @@ ghost use Rattle.std.specs.Prelude.{◌≡◌, ◌≤◌, ◌↔◌, true, IsTru
 ghost use Rattle.setl_program.specs.code.Plain.{plain_program};
 ghost use Rattle.setl_top.specs.Accepted.{Accepted};
 ghost use Rattle.setl_top.specs.Trials.{trial_source, trial_input, trial_line};
-ghost use Rattle.setl_top.specs.code.Lists.{Written, gain};
+ghost use Rattle.setl_status.specs.code.Writes.{Written, gain};
 ghost use Rattle.setl_top.specs.code.Runs.{IsMeant};
 ghost use Rattle.setl_top.specs.code.Tries.{RunEnds, Tries};
 
@@ -11,13 +11,12 @@ use crate::Status;
 use crate::coding::program_of_source;
 use crate::front::{Unread, read_program};
 use crate::generated::{trial_input, trial_line, trial_source};
-use crate::lines::try_line;
-use crate::listing::write_text;
 use crate::run::run_program;
-use crate::tell::{refuse, tell_end};
+use crate::tell::tell_end;
 use setl_io::{Sink, SureSink, SureSource};
 use setl_machine::End;
 use setl_program::Program;
+use setl_status::{refuse, try_line, write_text};
 use setl_words::Options;
 use std::alloc::{AllocError, Global};
 

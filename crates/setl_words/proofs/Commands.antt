@@ -3,8 +3,9 @@ use Rattle.std.proofs.Common.{subst, ◌≡◌, ◌≢◌, ◌≤◌, ◌∙◌,
 use Rattle.std.proofs.lemmas.Fmt.{decimal_injective}
 use Rattle.std.specs.List.{flat_map}
 use Rattle.setl_words.specs.Words.{Command, Run, Check, Code, Trial, Options, option_words, options_of, Spells, SpellsRun, SpellsTrial, IsFile, IsFaulty}
-use Rattle.setl_words.specs.code.Reading.{Leads, LeadsNowhere, is_nothing}
-use Rattle.setl_words.specs.declared.given.Given.{Given}
+use Rattle.setl_words.specs.code.Reading.{Leads, LeadsNowhere}
+use Rattle.setl_options.specs.code.Given.{is_nothing}
+use Rattle.setl_options.specs.declared.given.Given.{Given}
 use Rattle.setl_words.proofs.Order.{head_of, tail_of, one_list, first_gives, options_from, comes_to}
 
 pub no_end : (ys : List (List ℕ)) (y : List ℕ) → [] ≡ ys ++ y ∷ [] → ⊥

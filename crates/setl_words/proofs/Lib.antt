@@ -1,3 +1,4 @@
 pub mod Order
 pub mod Commands
 pub mod Refused
+pub mod Building

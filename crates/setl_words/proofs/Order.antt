@@ -2,11 +2,14 @@
 use Rattle.std.proofs.Common.{◌≡◌, ◌≢◌, ◌^◌, ◌-◌, ◌∙◌, ℕ, not, List, [], ◌∷◌, ◌++◌, length, map, Option, Some, None, IfNone, codes, refl, sym, ap, ap₂, subst, rules, arith, drop, unwrap_or}
 use Rattle.std.proofs.lemmas.Fmt.{decimal_injective}
 use Rattle.std.specs.List.{flat_map, fold}
-use Rattle.setl_words.specs.Words.{RunOption, Unbased, Turns, Watch, watcher_word, option_words, IsInRange, IsSameKind, IsOther, AreOptions, Options, with_option, options_of}
-use Rattle.setl_words.specs.code.Reading.{IsFree, AreFree, with_given, is_nothing, Gives, Leads, LeadsNowhere}
-use Rattle.setl_words.specs.declared.given.Given.{Given}
-use Rattle.setl_words.specs.declared.watching.Asked.{Asked}
-use Rattle.setl_words.specs.declared.watching.Asked.TheVariants.{Trace, Cover}
+use Rattle.setl_words.specs.Words.{watcher_word, option_words, IsInRange, IsSameKind, IsOther, AreOptions, Options, with_option, options_of}
+use Rattle.setl_words.specs.code.Reading.{AreFree, Gives, Leads, LeadsNowhere}
+use Rattle.setl_options.specs.code.Given.{IsFree, with_given, is_nothing}
+use Rattle.setl_options.specs.declared.given.Given.{Given}
+use Rattle.setl_options.specs.declared.given.RunOption.{RunOption}
+use Rattle.setl_options.specs.declared.given.RunOption.TheVariants.{Unbased, Turns, Watch}
+use Rattle.setl_options.specs.declared.watching.Asked.{Asked}
+use Rattle.setl_options.specs.declared.watching.Asked.TheVariants.{Trace, Cover}
 
 -- what holds holds also where something isn't there
 pub always : {T P : Type 0} → (r : Option T) → P → IfNone r P

@@ -2,8 +2,10 @@
 -- numbers of a trial.
 use Rattle.std.specs.Prelude.{◌≡◌, ◌≢◌, ◌<◌, ◌≤◌, ◌-◌, ◌^◌, ℕ, Bool, true, false, List, [], ◌∷◌, ◌++◌, Option, Some, None, ⊤, codes, decimal}
 use Rattle.std.specs.List.{flat_map, fold}
-use Rattle.setl_words.specs.declared.watching.Asked.{Asked}
-use Rattle.setl_words.specs.declared.watching.Asked.TheVariants.{Trace, Cover}
+use Rattle.setl_options.specs.declared.given.RunOption.{RunOption}
+use Rattle.setl_options.specs.declared.given.RunOption.TheVariants.{Unbased, Turns, Watch}
+use Rattle.setl_options.specs.declared.watching.Asked.{Asked}
+use Rattle.setl_options.specs.declared.watching.Asked.TheVariants.{Trace, Cover}
 
 -- a file's name isn't empty and doesn't begin with a dash
 abbrev pub IsFile : List ℕ → Type 0
@@ -17,18 +19,7 @@ abbrev pub watcher_word : Asked → List ℕ
 watcher_word Trace = codes "trace"
 watcher_word Cover = codes "cover"
 
--- the number that it has for a name
-abbrev pub watcher_name : Asked → ℕ
-watcher_name Trace = 1
-watcher_name Cover = 2
-
 -- ---- the options of a run
-
--- an option: declarations of bases don't count, a bound on the turns of the run, or a watcher that is told its events
-pub data RunOption : Type 0 where
-  Unbased : RunOption
-  Turns : (n : ℕ) → RunOption
-  Watch : (asked : Asked) → RunOption
 
 -- the words of an option; a number is written by decimal digits, without sign and without a leading zero
 abbrev pub option_words : RunOption → List (List ℕ)

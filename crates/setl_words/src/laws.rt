@@ -1,7 +1,7 @@
 //! What follows from the definitions alone. The functions have no effect: each states a law.
 ghost use Rattle.std.specs.Prelude.{◌∷◌, ◌-◌, ◌^◌, [], codes, true, false, Some, None};
 ghost use Rattle.setl_words.specs.Words.{OneCommand, Run, Check, Trial, Spells, IsFaulty};
-ghost use Rattle.setl_words.specs.declared.watching.Asked.TheVariants.{Trace, Cover};
+ghost use Rattle.setl_options.specs.declared.watching.Asked.TheVariants.{Trace, Cover};
 
 /// Words spell at most one command.
 pub fn one_command()

@@ -15,7 +15,7 @@ mod trial;
 mod watching;
 
 pub use laws::{faulty_words, one_command, plain_words};
-pub use reading::{Command, Options, read_words};
+pub use reading::{Command, read_words};
+pub use setl_options::{Asked, Options};
 pub use std::alloc::AllocError as Memory;
 pub use told::fault_text;
-pub use watching::Asked;

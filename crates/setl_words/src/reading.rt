@@ -3,21 +3,10 @@ ghost use Rattle.std.specs.Prelude.{◌≡◌, ◌≢◌, ◌∷◌, ◌++◌, [
 ghost use Rattle.setl_words.specs.code.Commands.{command_of};
 ghost use Rattle.setl_words.specs.Words.{Spells, IsFaulty};
 
-use crate::given::{Given, read_options};
+use crate::given::read_options;
 use crate::single::{is_check, is_code, is_file, is_run, is_trial};
 use crate::trial::read_trial;
-use crate::watching::Asked;
-
-/// The options of a run.
-#[derive(Clone, Copy, Debug, PartialEq, Eq)]
-pub struct Options {
-    /// The bound on the turns of the run, at most 2^63 - 1.
-    pub turns: u64,
-    /// Whether the program's declarations of bases count.
-    pub based: bool,
-    /// The watcher that is told the events of the run.
-    pub watch: Option<Asked>,
-}
+use setl_options::{Given, Options};
 
 /// What the words ask for, with the name of the file, or with the numbers of a trial.
 #[derive(Clone, Copy, Debug, PartialEq, Eq)]

@@ -1,30 +1,10 @@
-//! The watchers that words may ask for.
-ghost use Rattle.std.specs.Prelude.{◌≡◌, ◌≢◌, ◌↔◌, codes, IsTrue, IfSome, IfNone};
-ghost use Rattle.setl_words.specs.Words.{watcher_word, watcher_name};
-ghost use Rattle.setl_words.specs.declared.watching.Asked.{Asked};
+//! The words by which watchers are asked for.
+ghost use Rattle.std.specs.Prelude.{◌≡◌, ◌≢◌, IfSome, IfNone};
+ghost use Rattle.setl_options.specs.declared.watching.Asked.{Asked};
+ghost use Rattle.setl_words.specs.Words.{watcher_word};
 
 use crate::single::{is_cover, is_trace};
-
-/// A watcher of a run that words may ask for.
-#[derive(Clone, Copy, Debug, PartialEq, Eq)]
-pub enum Asked {
-    /// It keeps the first events of the run.
-    Trace,
-    /// It counts the stores at each line.
-    Cover,
-}
-
-impl Asked {
-    /// The number that such a watcher has for a name.
-    pub fn name(self) -> u8
-        ensures { result ≡ watcher_name self }
-    {
-        match self {
-            Asked::Trace => 1,
-            Asked::Cover => 2,
-        }
-    }
-}
+use setl_options::Asked;
 
 /// The watcher that a word asks for. `None` comes exactly where it asks for none.
 pub(crate) fn read_watcher(word: &str) -> Option<Asked>

@@ -1,21 +1,22 @@
 -- What becomes of a source.
-use Rattle.std.specs.Prelude.{◌≡◌, ◌≤◌, ◌^◌, ℕ, List, length, [], ◌∷◌, ◌++◌, Option, codes}
+use Rattle.std.specs.Prelude.{◌≡◌, ℕ, List, [], ◌∷◌, ◌++◌, codes}
 use Rattle.setl_io.specs.Faults.{Rose}
 use Rattle.setl_io.specs.Files.{Texts, IsText}
 use Rattle.setl_program.specs.Program.{Program}
 use Rattle.setl_program.specs.ProgramOf.{program_of}
 use Rattle.setl_tree.specs.declared.tree.Tree.{Tree}
 use Rattle.setl_top.specs.Accepted.{IsProgram, IsRefusedFor}
-use Rattle.setl_top.specs.Lines.{AppendsFront}
-use Rattle.setl_top.specs.Reasons.{reason_line}
-use Rattle.setl_top.specs.code.Tells.{Tells}
-use Rattle.setl_top.specs.Rules.{AreModes}
+use Rattle.setl_status.specs.Lines.{AppendsFront}
+use Rattle.setl_status.specs.code.Loads.{Sides, IsStill}
+use Rattle.setl_status.specs.Reasons.{reason_line}
+use Rattle.setl_status.specs.code.Tells.{Tells}
+use Rattle.setl_rules.specs.Rules.{AreModes}
 use Rattle.setl_top.specs.declared.front.Checked.{Checked}
 use Rattle.setl_top.specs.declared.front.Unread.{Unread}
 use Rattle.setl_top.specs.declared.front.Unread.TheVariants as unread
-use Rattle.setl_top.specs.declared.reason.Reason.{Reason}
-use Rattle.setl_top.specs.declared.status.Status.{Status}
-use Rattle.setl_top.specs.declared.status.Status.TheVariants as status
+use Rattle.setl_status.specs.declared.reason.Reason.{Reason}
+use Rattle.setl_status.specs.declared.status.Status.{Status}
+use Rattle.setl_status.specs.declared.status.Status.TheVariants as status
 
 -- a source that wasn't read is refused for this reason, or memory was refused
 abbrev pub TellsWhy : List ℕ → Unread → Type 0
@@ -26,11 +27,6 @@ TellsWhy source unread.NoMemory = Unit {0}
 pub record IsChecked (source : List ℕ) (checked : Checked) : Type 0 where
   pub is_program : IsProgram source checked.tree
   pub modes : AreModes checked.tree checked.modes
-
--- the text of a file that was loaded
-pub record HasText (texts : Texts) (name source : List ℕ) : Type 0 where
-  pub text : IsText texts name source
-  pub short : length source ≤ 2 ^ 24
 
 -- the program of a file that was loaded
 pub record Loaded (texts : Texts) (name : List ℕ) (tree : Tree) : Type 0 where
@@ -43,25 +39,6 @@ pub record LoadedAs (texts : Texts) (name : List ℕ) (program : Program) : Type
   pub tree : Tree
   pub loaded : Loaded texts name tree
   pub meaning : program ≡ program_of tree
-
--- what is seen of the files and of the error output before and after
-pub record Sides : Type 0 where
-  pub files_before : ℕ
-  pub files_now : ℕ
-  pub old : Option (List ℕ)
-  pub new : Option (List ℕ)
-  pub err_before : ℕ
-  pub err_now : ℕ
-
-abbrev pub sides : ℕ → ℕ → Option (List ℕ) → Option (List ℕ) → ℕ → ℕ → Sides
-sides files_before files_now old new err_before err_now =
-    record { files_before = files_before; files_now = files_now; old = old; new = new; err_before = err_before; err_now = err_now }
-
--- nothing was told, and nothing failed
-pub record IsStill (s : Sides) : Type 0 where
-  pub files : s.files_now ≡ s.files_before
-  pub held : s.new ≡ s.old
-  pub err : s.err_now ≡ s.err_before
 
 -- why there is no program to work on, and what was told of it
 pub data NotLoaded (texts : Texts) (name : List ℕ) (s : Sides) : Status → Type 0 where

@@ -1,8 +1,5 @@
--- What becomes of the last line of a call.
-use Rattle.std.specs.Prelude.{◌≡◌, ℕ, List, [], ◌∷◌, ◌++◌, Option, codes}
-use Rattle.std.specs.Io.KnownBytes.{Appends}
-use Rattle.setl_io.specs.Faults.{Rose}
-use Rattle.setl_io.specs.declared.whole.WriteFault.TheVariants.{Failed, NoMemory}
+-- What is told at an end of the machine.
+use Rattle.std.specs.Prelude.{ℕ, List, ◌++◌, Option, codes}
 use Rattle.setl_run.specs.Events as run
 use Rattle.setl_model.specs.Answers.{error_line}
 use Rattle.setl_storing.specs.Declaring.{Modes}
@@ -11,19 +8,9 @@ use Rattle.setl_storing.specs.declared.end.End.{End}
 use Rattle.setl_storing.specs.declared.end.End.TheVariants as end
 use Rattle.setl_watch.specs.Watches.{Watched}
 use Rattle.setl_top.specs.Watching.{all_told}
-use Rattle.setl_top.specs.Lines.{AppendsFront, AppendsFronts, fault_line}
-use Rattle.setl_top.specs.declared.status.Status.{Status}
-use Rattle.setl_top.specs.declared.status.Status.TheVariants as status
-
--- the status stands where the line was written, and else it is the fault's
-pub data Tells (ends : Status) (line : List ℕ) (old new : Option (List ℕ)) (before now : ℕ) : Status → Type 0 where
-  whole : Appends old new line → now ≡ before → Tells ends line old new before now ends
-  failed : Rose before now → AppendsFronts old new line (fault_line Failed) → Tells ends line old new before now status.WriteFault
-  no_memory : AppendsFronts old new line (fault_line NoMemory) → Tells ends line old new before now status.NoMemory
-
--- the status stands, and the line was tried
-abbrev pub Tries : Status → List ℕ → Option (List ℕ) → Option (List ℕ) → Status → Type 0
-Tries ends line old new status = (status ≡ ends) × AppendsFront old new (line ++ 10 ∷ [])
+use Rattle.setl_status.specs.code.Tells.{Tells, Tries}
+use Rattle.setl_status.specs.declared.status.Status.{Status}
+use Rattle.setl_status.specs.declared.status.Status.TheVariants as status
 
 -- the reports of the watchers and then the line of an end of the machine, where these variables are declared, were told with
 -- its status, or the line was tried at a fault

@@ -1,6 +1,6 @@
 -- The commands and options that those of the code stand for.
 use Rattle.setl_words.specs.Words as words
-use Rattle.setl_words.specs.declared.reading.Options.{Options}
+use Rattle.setl_options.specs.declared.options.Options.{Options}
 use Rattle.setl_words.specs.declared.reading.Command.{Command}
 use Rattle.setl_words.specs.declared.reading.Command.TheVariants as asked
 

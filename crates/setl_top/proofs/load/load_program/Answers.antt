@@ -1,5 +1,8 @@
-use Rattle.setl_top.proofs.Loading.{not_accepted_then, no_room_then}
+use Rattle.setl_top.proofs.Loading.{not_loaded_by, not_accepted_then, no_room_then}
 use Rattle.setl_top.proofs.load.load_program.Goals as goal
+
+pub returns-in-Err-clause-not_loaded : goal.returns-in-Err-clause-not_loaded
+returns-in-Err-clause-not_loaded g c = not_loaded_by _ _ _ _ c.in-Err.ensures.not_loaded
 
 pub returns-in-Err-Refused-clause-not_loaded : goal.returns-in-Err-Refused-clause-not_loaded
 returns-in-Err-Refused-clause-not_loaded g c =

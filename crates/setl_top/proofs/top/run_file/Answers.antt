@@ -8,7 +8,7 @@ use Rattle.setl_program.specs.ProgramOf.{program_of}
 use Rattle.setl_top.specs.code.Runs.{Runs, TakesInput, counted}
 use Rattle.setl_top.proofs.Accepting.{is_accepted}
 use Rattle.setl_top.proofs.Ends.{not_loaded, run_ends, run_takes, tells_then}
-use Rattle.setl_top.proofs.Fronts.{appends_none}
+use Rattle.setl_status.specs.FrontLaws.{appends_none}
 use Rattle.setl_top.proofs.Running.{runs_or, runs_as, takes_as, not_paused, not_at_stuck, heard_from}
 use Rattle.setl_top.proofs.top.run_file.Goals as goal
 

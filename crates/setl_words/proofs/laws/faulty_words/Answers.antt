@@ -2,10 +2,13 @@ use Rattle.std.proofs.Common.{◌≡◌, ◌≢◌, ◌<◌, ◌^◌, ◌∙◌,
 use Rattle.std.proofs.lemmas.Fmt.{decimal_digit, decimal_injective, decimal_is_IsNumeral}
 use Rattle.std.specs.Fmt.{digits}
 use Rattle.std.specs.Str.Parse.{digits_value}
-use Rattle.setl_words.specs.Words.{RunOption, Unbased, Turns, Watch, IsInRange, IsFaulty, SpellsTrial, option_words, watcher_word}
-use Rattle.setl_words.specs.declared.watching.Asked.{Asked}
-use Rattle.setl_words.specs.declared.watching.Asked.TheVariants.{Trace, Cover}
-use Rattle.setl_words.specs.code.Reading.{LeadsNowhere, with_given, is_nothing}
+use Rattle.setl_words.specs.Words.{IsInRange, IsFaulty, SpellsTrial, option_words, watcher_word}
+use Rattle.setl_options.specs.code.Given.{with_given, is_nothing}
+use Rattle.setl_options.specs.declared.given.RunOption.{RunOption}
+use Rattle.setl_options.specs.declared.given.RunOption.TheVariants.{Unbased, Turns, Watch}
+use Rattle.setl_options.specs.declared.watching.Asked.{Asked}
+use Rattle.setl_options.specs.declared.watching.Asked.TheVariants.{Trace, Cover}
+use Rattle.setl_words.specs.code.Reading.{LeadsNowhere}
 use Rattle.setl_words.proofs.Order.{turns_or_watch, head_of, tail_of, nowhere_on, nowhere_again, nowhere_else}
 use Rattle.setl_words.proofs.Commands.{no_end, few_are_faulty, run_is_faulty, dash_is_faulty, run_or_trial, trial_is_faulty, two_numbers}
 use Rattle.setl_words.proofs.laws.faulty_words.Goals as goal

@@ -1,8 +1,9 @@
 use Rattle.std.proofs.Common.{◌≡◌, [], ◌∷◌, ◌++◌, codes, decimal, refl, arith}
 use Rattle.std.specs.Fmt.{digits}
 use Rattle.std.specs.List.{flat_map}
-use Rattle.setl_words.specs.Words.{IsFile, Unbased, Turns, Watch, option_words}
-use Rattle.setl_words.specs.declared.watching.Asked.TheVariants.{Trace, Cover}
+use Rattle.setl_words.specs.Words.{IsFile, option_words}
+use Rattle.setl_options.specs.declared.given.RunOption.TheVariants.{Unbased, Turns, Watch}
+use Rattle.setl_options.specs.declared.watching.Asked.TheVariants.{Trace, Cover}
 use Rattle.setl_words.proofs.laws.plain_words.Goals as goal
 
 is_file : IsFile (codes "q")

@@ -1,0 +1,24 @@
+//! The options of a run.
+ghost use Rattle.std.specs.Prelude.{◌≡◌, [], if◌then◌else◌};
+
+use crate::watching::Asked;
+
+/// The options of a run.
+#[derive(Clone, Copy, Debug, PartialEq, Eq)]
+pub struct Options {
+    /// The bound on the turns of the run, at most 2^63 - 1.
+    pub turns: u64,
+    /// Whether the program's declarations of bases count.
+    pub based: bool,
+    /// The watcher that is told the events of the run.
+    pub watch: Option<Asked>,
+}
+
+impl Options {
+    /// Those of a program's declarations that count in a run: all or none.
+    pub fn counted<T>(self, declared: &[T]) -> &[T]
+        ensures { result.now ≡ (if self.based then declared.now else []) }
+    {
+        if self.based { declared } else { &[] }
+    }
+}
