@@ -148,6 +148,6 @@ pub fn elaborate(alloc: Global, tree: &Tree, modes: Items<NamedMode>) -> Result<
     requires { map (λ d. (d.name, mode_of d.mode)) modes ≡ variables_of tree.now.modes }
     ensures { IfOk result (λ p. plain_program p ≡ program_of tree.now) }
 {
-    let (modes, mut elaborator) = beside(modes, Elaborator::main(alloc, tree))?;
-    elaborator.program(tree, modes)
+    let mut walk = Elaborator::main(alloc, tree)?;
+    walk.program(tree, modes)
 }
