@@ -64,7 +64,10 @@ impl Elaborator<'_> {
             TreeExpr::Tuple(inner) => self.inner(inner, Collection::OfTuple),
             TreeExpr::Chain(first, others) => self.chain(others.as_slice(), first.get()),
             TreeExpr::Compare(a, relation, b) => self.comparison(a.get(), *relation, b.get()),
-            TreeExpr::Prefixed(prefixes, x) => self.prefixed(prefixes.as_slice(), x.get()),
+            TreeExpr::Prefixed(prefixes, x) => {
+                let operand = self.expr(x.get())?;
+                makers::prefixes(self.alloc, prefixes.as_slice(), operand)
+            }
             TreeExpr::Selected(x, selectors) => self.selection(selectors.as_slice(), x.get()),
             TreeExpr::Quantified(word, turns, x) => {
                 self.quantified(*word, turns.as_slice(), x.get())
@@ -83,8 +86,8 @@ impl Elaborator<'_> {
         ensures { IfOk result (λ e. (plain_expr e, self.new) ≡ does (spec.choice (part_of a.now) (part_of b.now) (part_of c.now)) self.old) }
     {
         let condition = self.expr(a)?;
-        let value = self.expr(b)?;
-        let other = self.expr(c)?;
+        let both = beside(condition, self.expr(b))?;
+        let ((condition, value), other) = beside(both, self.expr(c))?;
         Boxed::new(self.alloc, Expr::Choose(condition, value, other))
     }
 
@@ -119,15 +122,6 @@ impl Elaborator<'_> {
         let left = self.expr(a)?;
         let right = self.expr(b)?;
         makers::two(self.alloc, operators::relation(relation), left, right)
-    }
-
-    /// What prefixes before an operand become. An error is want of memory.
-    #[cycle(expressions)]
-    fn prefixed(&mut self, prefixes: &[Prefix], x: &TreeExpr) -> Result<Boxed<Expr>, AllocError>
-        ensures { IfOk result (λ e. (plain_expr e, self.new) ≡ does (spec.prefixed prefixes.now (part_of x.now)) self.old) }
-    {
-        let operand = self.expr(x)?;
-        makers::prefixes(self.alloc, prefixes, operand)
     }
 
     /// What an expression with selectors becomes. An error is want of memory.

@@ -1,6 +1,6 @@
 //! What selections and calls become.
 
-ghost use Rattle.std.specs.Prelude.{◌≡◌, map, option_map, OnOk, IfOk};
+ghost use Rattle.std.specs.Prelude.{◌≡◌, map, OnOk, IfOk};
 ghost use Rattle.setl_program.specs.Expressions as spec;
 ghost use Rattle.setl_program.specs.Expressions.{part_of, behind_of};
 ghost use Rattle.setl_program.specs.code.Plain.{plain_expr, plain_argument};
@@ -11,6 +11,7 @@ ghost use Rattle.setl_elaborate.specs.Elaborators.{does, puts};
 use crate::chain::Chain;
 use crate::elaborator::Elaborator;
 use crate::expressions::name_of;
+use crate::makers::beside;
 use crate::{makers, ranges};
 use setl_map::Operator;
 use setl_program::{Argument, Expr, Link};
@@ -51,7 +52,7 @@ impl Elaborator<'_> {
             Selector::Round(xs) => self.at_list(xs.as_slice(), Operator::Get, all),
             Selector::Slice(a, b) => {
                 let first = self.expr(a.get())?;
-                let last = self.optional(b)?;
+                let (first, last) = beside(first, self.optional(b))?;
                 all.slice(first, last)
             }
             Selector::Braces(xs) => self.at_list(xs.as_slice(), Operator::Images, all),

@@ -226,23 +226,15 @@ impl Elaborator<'_> {
     {
         let mut all = Items::new(self.alloc);
         for branch in branches {
-            all.push(self.branch(line, branch)?)?;
+            let condition = self.expr(&branch.condition)?;
+            let (condition, body) = beside(condition, self.stmts(branch.body.as_slice()))?;
+            all.push(Branch {
+                line,
+                condition: condition.into_inner(),
+                body,
+            })?;
         }
         Ok(all)
-    }
-
-    /// What an `elseif` branch becomes. An error is want of memory.
-    #[cycle(statements)]
-    fn branch(&mut self, line: u32, branch: &TreeBranch) -> Result<Branch, AllocError>
-        ensures { IfOk result (λ b. (plain_branch b, self.new) ≡ does (spec.guarded line (branch_of branch.now)) self.old) }
-    {
-        let condition = self.expr(&branch.condition)?;
-        let body = self.stmts(branch.body.as_slice())?;
-        Ok(Branch {
-            line,
-            condition: condition.into_inner(),
-            body,
-        })
     }
 
     /// What a loop over iterators becomes. An error is want of memory.
@@ -271,7 +263,7 @@ impl Elaborator<'_> {
         ensures { IfOk result (λ x. (plain_kind x, self.new) ≡ does (spec.while_loop (part_of condition.now) (map lined body.now)) self.old) }
     {
         let condition = self.expr(condition)?;
-        let body = self.stmts(body)?;
+        let (condition, body) = beside(condition, self.stmts(body))?;
         Ok(StmtKind::While(condition.into_inner(), body))
     }
 }

@@ -48,9 +48,6 @@ decreases-exprs l = 8 * goal.size-exprs l + 1
 abbrev pub decreases-optional : goal.decreases-optional
 decreases-optional l = 8 * goal.size-optional l + 1
 
-abbrev pub decreases-prefixed : goal.decreases-prefixed
-decreases-prefixed l = 8 * goal.size-prefixed l + 1
-
 abbrev pub decreases-selected : goal.decreases-selected
 decreases-selected l = 8 * goal.size-selected l + 1
 

@@ -27,9 +27,6 @@ decreases-stmts l = 8 * goal.size-stmts l + 1
 abbrev pub decreases-kind : goal.decreases-kind
 decreases-kind l = 8 * goal.size-kind l
 
-abbrev pub decreases-branch : goal.decreases-branch
-decreases-branch l = 8 * goal.size-branch l
-
 abbrev pub decreases-branches : goal.decreases-branches
 decreases-branches l = 8 * goal.size-branches l + 1
 
