@@ -120,7 +120,7 @@ impl Elaborator<'_> {
         ensures { IfOk result (λ e. (plain_expr e, self.new) ≡ does (spec.comparison (part_of a.now) relation (part_of b.now)) self.old) }
     {
         let left = self.expr(a)?;
-        let right = self.expr(b)?;
+        let (left, right) = beside(left, self.expr(b))?;
         makers::two(self.alloc, operators::relation(relation), left, right)
     }
 

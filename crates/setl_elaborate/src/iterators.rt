@@ -152,7 +152,8 @@ impl Elaborator<'_> {
         ensures { IfOk result (λ i. (plain_iterator i, self.new) ≡ does (spec.over bound.now (part_of source.now) former) self.old) }
     {
         let (kind, sources) = self.source(source)?;
-        let binding = self.scope.binding(self.alloc, former, bound, kind)?;
+        let binding = self.scope.binding(self.alloc, former, bound, kind);
+        let (sources, binding) = beside(sources, binding)?;
         Ok(Iterator { binding, sources })
     }
 

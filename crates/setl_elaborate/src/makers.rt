@@ -23,6 +23,13 @@ pub fn beside<T: Drop, U: Drop>(held: T, other: Result<U, AllocError>) -> Result
     Ok((held, other))
 }
 
+/// What was made, where the other is let go.
+pub fn without<T: Drop, U: Drop>(_other: T, made: U) -> U
+    ensures { result ≡ made }
+{
+    made
+}
+
 /// The list of one expression.
 pub fn alone(alloc: Global, x: Expr) -> Result<Items<Expr>, AllocError>
     ensures { IfOk result (λ all. all ≡ x ∷ []) }

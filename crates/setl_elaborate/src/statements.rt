@@ -55,8 +55,9 @@ impl Elaborator<'_> {
         ensures { IfOk result (λ p. (plain_place p, self.new) ≡ does (spec.place place.now) self.old) }
     {
         let selectors = self.selectors(place.selectors.as_slice())?;
+        let (selectors, variable) = beside(selectors, self.scope.variable(&place.name))?;
         Ok(Place {
-            variable: self.scope.variable(&place.name)?,
+            variable,
             selectors,
         })
     }
@@ -84,7 +85,8 @@ impl Elaborator<'_> {
         ensures { IfOk result (λ x. (plain_kind x, self.new) ≡ does (spec.parts_assignment slots.now (part_of value.now)) self.old) }
     {
         let value = self.expr(value)?;
-        let slots = self.scope.slots(self.alloc, None, slots)?;
+        let slots = self.scope.slots(self.alloc, None, slots);
+        let (value, slots) = beside(value, slots)?;
         Ok(StmtKind::AssignParts(slots, value.into_inner()))
     }
 

@@ -9,7 +9,7 @@ ghost use Rattle.setl_program.specs.ProgramOf.{main_scope, in_body, procedure_of
 ghost use Rattle.setl_program.specs.Statements.{body_of};
 
 use crate::elaborator::Elaborator;
-use crate::makers::beside;
+use crate::makers::{beside, without};
 use setl_modes::NamedMode;
 use setl_program::{Declared, Procedure, Program, Stmt};
 use setl_scope::Opened;
@@ -149,5 +149,6 @@ pub fn elaborate(alloc: Global, tree: &Tree, modes: Items<NamedMode>) -> Result<
     ensures { IfOk result (λ p. plain_program p ≡ program_of tree.now) }
 {
     let mut walk = Elaborator::main(alloc, tree)?;
-    walk.program(tree, modes)
+    let program = walk.program(tree, modes);
+    without(walk, program)
 }
