@@ -11,7 +11,7 @@ ghost use Rattle.setl_elaborate.specs.Elaborators.{made, does, puts};
 
 use crate::elaborator::Elaborator;
 use crate::makers;
-use crate::makers::beside;
+use crate::makers::{beside, put};
 use setl_names::Names;
 use setl_program::{Expr, Iterator};
 use setl_scope::{names_of_bound, names_of_turns, put_turn};
@@ -129,14 +129,8 @@ impl Elaborator<'_> {
         ensures { OnOk result ((map plain_iterator all.new, self.new) ≡ puts (map plain_iterator all.old) ((turn_of turn.now).iterator former) self.old) }
     {
         match turn {
-            Iter::Over(bound, source) => {
-                let iterator = self.over(former, bound, source)?;
-                all.push(iterator)
-            }
-            Iter::Image(value, map, argument) => {
-                let iterator = self.image(former, value, map, argument)?;
-                all.push(iterator)
-            }
+            Iter::Over(bound, source) => put(all, self.over(former, bound, source)),
+            Iter::Image(value, map, argument) => put(all, self.image(former, value, map, argument)),
         }
     }
 

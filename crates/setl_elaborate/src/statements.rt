@@ -9,7 +9,7 @@ ghost use Rattle.setl_program.specs.Statements.{kind_of, branch_of, lined};
 ghost use Rattle.setl_elaborate.specs.Elaborators.{does, assigned};
 
 use crate::elaborator::Elaborator;
-use crate::makers::beside;
+use crate::makers::{beside, put};
 use crate::operators;
 use setl_program::{Branch, Expr, Place, Selector, Stmt, StmtKind};
 use setl_tree::{
@@ -45,7 +45,7 @@ impl Elaborator<'_> {
     {
         let mut all = Items::new(self.alloc);
         for selector in selectors {
-            all.push(self.selector(selector)?)?;
+            put(&mut all, self.selector(selector))?;
         }
         Ok(all)
     }

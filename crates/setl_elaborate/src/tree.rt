@@ -9,7 +9,7 @@ ghost use Rattle.setl_program.specs.ProgramOf.{main_scope, in_body, procedure_of
 ghost use Rattle.setl_program.specs.Statements.{body_of};
 
 use crate::elaborator::Elaborator;
-use crate::makers::{beside, without};
+use crate::makers::{beside, put, without};
 use setl_modes::NamedMode;
 use setl_program::{Declared, Procedure, Program, Stmt};
 use setl_scope::Opened;
@@ -22,7 +22,7 @@ fn vars(alloc: Global, declared: &[TreeDeclared]) -> Result<Items<Text>, AllocEr
 {
     let mut all = Items::new(alloc);
     for name in declared {
-        all.push(name.name.copy()?)?;
+        put(&mut all, name.name.copy())?;
     }
     Ok(all)
 }
@@ -93,7 +93,7 @@ impl Elaborator<'_> {
     {
         let mut all = Items::new(self.alloc);
         for proc in procs {
-            all.push(self.procedure(proc)?)?;
+            put(&mut all, self.procedure(proc))?;
         }
         Ok(all)
     }
@@ -114,7 +114,7 @@ impl Elaborator<'_> {
     {
         let mut all = Items::new(self.alloc);
         for named in modes.into_vec() {
-            all.push(self.declaration(named)?)?;
+            put(&mut all, self.declaration(named))?;
         }
         Ok(all)
     }
