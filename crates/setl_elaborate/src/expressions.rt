@@ -13,8 +13,8 @@ use crate::ranges::Bounds;
 use crate::{makers, operators, ranges};
 use setl_program::{Collection, Expr, Source};
 use setl_tree::{
-    BinaryOp, Bound, Boxed, Expr as TreeExpr, Inner, Items, Iter, Prefix, Quantifier, Relation,
-    Selector, Text,
+    BinaryOp, Bound, Boxed, Expr as TreeExpr, Inner, Items, Iter, Quantifier, Relation, Selector,
+    Text,
 };
 use std::alloc::AllocError;
 
