@@ -12,14 +12,25 @@ use Rattle.setl_program.specs.Program as plain
 use Rattle.setl_program.specs.Numbered.{Numbered}
 use Rattle.setl_program.specs.Scope.{Scope, in_former}
 use Rattle.setl_program.specs.Expressions.{Part, Inside, Turn, Behind, expr_step, inner_step, iter_step, selector_step, part_of, term_of, turn_of, chain, arguments, own_iterators}
-use Rattle.setl_elaborate.specs.Elaborators.{made, past, inside}
+use Rattle.setl_elaborate.specs.Elaborators.{made, past, puts, inside}
 use Rattle.setl_elaborate.specs.declared.elaborator.Elaborator.{Elaborator}
 
 -- ---- inside a former
 
--- the elaborator inside a former behind what stands there
-pub within : {A : Type 0} (t : Scope → Numbered A) (m : ℕ) (names : List Name) (w0 w1 w2 : Elaborator) → w1 ≡ inside m names w0 → w2 ≡ past t w1 → w2 ≡ inside m names (past (λ s. t (in_former m names s)) w0)
-within t m names w0 w1 w2 e1 e2 = e2 ∙ ap (past t) e1
+-- what is made inside a former, and the elaborator behind it
+pub within_both : {B : Type 0} (f : Elaborator → B × Elaborator) (m : ℕ) (names : List Name) (b : B) (w0 w1 w2 : Elaborator) → w1 ≡ inside m names w0 → (b, w2) ≡ f w1 → (b, w2) ≡ f (inside m names w0)
+within_both f m names b w0 w1 w2 e1 e2 = e2 ∙ ap f e1
+
+pub within : {B : Type 0} (f : Elaborator → B × Elaborator) (m : ℕ) (names : List Name) (b : B) (w0 w1 w2 : Elaborator) → w1 ≡ inside m names w0 → (b, w2) ≡ f w1 → w2 ≡ (f (inside m names w0)).1
+within {B = B} f m names b w0 w1 w2 e1 e2 = ap (λ (r : B × Elaborator). r.1) (within_both f m names b w0 w1 w2 e1 e2)
+
+-- the same where the former is left again
+pub left_with : {B : Type 0} (f : Elaborator → B × Elaborator) (m : ℕ) (names : List Name) (b : B) (w0 w1 w2 w3 v : Elaborator) → w1 ≡ inside m names w0 → (b, w2) ≡ f w1 →
+    (w2 ≡ (f (inside m names w0)).1 → w3 ≡ v) → ◌≡◌ {A = B × Elaborator} (b, w3) ((f (inside m names w0)).0, v)
+left_with {B = B} f m names b w0 w1 w2 w3 v e1 e2 left =
+    let outside : B × Elaborator → B × Elaborator = λ r. (r.0, w3) in
+    let before : Elaborator → B × Elaborator = λ w. ((f (inside m names w0)).0, w) in
+    ap outside (within_both f m names b w0 w1 w2 e1 e2) ∙ ap before (left (within f m names b w0 w1 w2 e1 e2))
 
 -- the scope is left again
 pub left_again : (old new : Elaborator) (m : ℕ) (names result : List Name) (w : Elaborator) → new.alloc ≡ old.alloc → new.opened ≡ old.opened →
@@ -59,19 +70,13 @@ no_arguments [] s n = refl
 no_arguments (p ∷ ps) s n = refl
 
 -- all expressions were looked at
-pub arguments_made : (rest : List Param) (xs : List ExprTree) (i : ℕ) (all whole : List Putting) (w : Elaborator) → length xs ≤ i → all ++ made (arguments rest (map part_of (drop i xs))) w ≡ whole → all ≡ whole
-arguments_made rest xs i all whole w h inv =
+pub arguments_done : (rest : List Param) (xs : List ExprTree) (i : ℕ) (all : List Putting) (w : Elaborator) (whole : List Putting × Elaborator) → length xs ≤ i →
+    (all ++ made (arguments rest (map part_of (drop i xs))) w, past (arguments rest (map part_of (drop i xs))) w) ≡ whole → (all, w) ≡ whole
+arguments_done rest xs i all w whole h inv =
     sym
-    (ap (λ (zs : List ExprTree). all ++ made (arguments rest (map part_of zs)) w) (drop_all i xs h)
-    ∙ ap (λ (r : List Putting × ℕ). all ++ r.0) (no_arguments rest w.scope w.opened)
-    ∙ append-nil all)
-    ∙ inv
-
-pub arguments_past : (rest : List Param) (xs : List ExprTree) (i : ℕ) (w whole : Elaborator) → length xs ≤ i → past (arguments rest (map part_of (drop i xs))) w ≡ whole → w ≡ whole
-arguments_past rest xs i w whole h inv =
-    sym
-    (ap (λ (zs : List ExprTree). past (arguments rest (map part_of zs)) w) (drop_all i xs h)
-    ∙ ap (λ (r : List Putting × ℕ). record { alloc = w.alloc; scope = w.scope; opened = r.1 }) (no_arguments rest w.scope w.opened))
+    (ap (λ (zs : List ExprTree). (all ++ made (arguments rest (map part_of zs)) w, past (arguments rest (map part_of zs)) w)) (drop_all i xs h)
+    ∙ ap (λ (r : List Putting × ℕ). (all ++ r.0, record { alloc = w.alloc; scope = w.scope; opened = r.1 })) (no_arguments rest w.scope w.opened)
+    ∙ ap (λ (z : List Putting). (z, w)) (append-nil all))
     ∙ inv
 
 -- ---- the iterators of a former
@@ -86,26 +91,17 @@ split turns i x h is = drop-cons turns i x h ∙ ap (λ (z : Iter). z ∷ drop (
 abbrev inner_turn : ℕ → List Name → Iter → Scope → Numbered Range
 inner_turn m seen x s = (turn_of x).iterator (Some m) (in_former m seen s)
 
-pub turn_made : (m : ℕ) (turns : List Iter) (i : ℕ) (x : Iter) (seen next : List Name) (before after whole : List Range) (w v : Elaborator) → i < length turns → x ≡ get_or turns i x →
-    after ≡ before ++ made (inner_turn m seen x) w ∷ [] → next ≡ with_names seen (turn_of x).names → v ≡ past (inner_turn m seen x) w →
-    before ++ made (own_iterators m seen (map turn_of (drop i turns))) w ≡ whole → after ++ made (own_iterators m next (map turn_of (drop (i + 1) turns))) v ≡ whole
-turn_made m turns i x seen next before after whole w v h is ea en ev inv =
+pub turn_done : (m : ℕ) (turns : List Iter) (i : ℕ) (x : Iter) (seen next : List Name) (before after : List Range) (w v : Elaborator) (whole : List Range × Elaborator) → i < length turns → x ≡ get_or turns i x →
+    (after, v) ≡ puts before (inner_turn m seen x) w → next ≡ with_names seen (turn_of x).names →
+    (before ++ made (own_iterators m seen (map turn_of (drop i turns))) w, past (own_iterators m seen (map turn_of (drop i turns))) w) ≡ whole →
+    (after ++ made (own_iterators m next (map turn_of (drop (i + 1) turns))) v, past (own_iterators m next (map turn_of (drop (i + 1) turns))) v) ≡ whole
+turn_done m turns i x seen next before after w v whole h is ea en inv =
     let rest : List Turn = map turn_of (drop (i + 1) turns) in
     let first : Range = made (inner_turn m seen x) w in
+    let behind : Elaborator = past (inner_turn m seen x) w in
     let later : List Name = with_names seen (turn_of x).names in
-    ap (λ (z : List Range). z ++ made (own_iterators m next rest) v) ea
-    ∙ ap (λ (z : List Name). (before ++ first ∷ []) ++ made (own_iterators m z rest) v) en
-    ∙ ap (λ (z : Elaborator). (before ++ first ∷ []) ++ made (own_iterators m later rest) z) ev
-    ∙ append_assoc before (first ∷ []) (made (own_iterators m later rest) (past (inner_turn m seen x) w))
-    ∙ ap (λ (z : List Iter). before ++ made (own_iterators m seen (map turn_of z)) w) (sym (split turns i x h is))
-    ∙ inv
-
-pub turn_past : (m : ℕ) (turns : List Iter) (i : ℕ) (x : Iter) (seen next : List Name) (w v whole : Elaborator) → i < length turns → x ≡ get_or turns i x →
-    next ≡ with_names seen (turn_of x).names → v ≡ past (inner_turn m seen x) w →
-    past (own_iterators m seen (map turn_of (drop i turns))) w ≡ whole → past (own_iterators m next (map turn_of (drop (i + 1) turns))) v ≡ whole
-turn_past m turns i x seen next w v whole h is en ev inv =
-    let rest : List Turn = map turn_of (drop (i + 1) turns) in
-    ap (λ (z : List Name). past (own_iterators m z rest) v) en
-    ∙ ap (past (own_iterators m (with_names seen (turn_of x).names) rest)) ev
-    ∙ ap (λ (z : List Iter). past (own_iterators m seen (map turn_of z)) w) (sym (split turns i x h is))
+    ap (λ (z : List Range × Elaborator). (z.0 ++ made (own_iterators m next rest) z.1, past (own_iterators m next rest) z.1)) ea
+    ∙ ap (λ (z : List Name). ((before ++ first ∷ []) ++ made (own_iterators m z rest) behind, past (own_iterators m z rest) behind)) en
+    ∙ ap (λ (z : List Range). (z, past (own_iterators m later rest) behind)) (append_assoc before (first ∷ []) (made (own_iterators m later rest) behind))
+    ∙ ap (λ (z : List Iter). (before ++ made (own_iterators m seen (map turn_of z)) w, past (own_iterators m seen (map turn_of z)) w)) (sym (split turns i x h is))
     ∙ inv

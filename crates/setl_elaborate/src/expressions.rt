@@ -1,19 +1,20 @@
 //! What expressions become.
 
-ghost use Rattle.std.specs.Prelude.{◌≡◌, Some, map, option_map, IfSome, OnOk, IfOk};
+ghost use Rattle.std.specs.Prelude.{◌≡◌, map, option_map, IfOk};
 ghost use Rattle.setl_program.specs.Expressions as spec;
 ghost use Rattle.setl_program.specs.Expressions.{part_of, term_of, inner_of, turn_of, behind_of};
 ghost use Rattle.setl_program.specs.code.Plain.{plain_expr};
-ghost use Rattle.setl_elaborate.specs.Elaborators.{made, past, plain_range};
+ghost use Rattle.setl_elaborate.specs.Elaborators.{does, plain_range, plain_bounds, bounds_of};
 
 use crate::chain::Chain;
 use crate::elaborator::Elaborator;
 use crate::makers::beside;
+use crate::ranges::Bounds;
 use crate::{makers, operators, ranges};
 use setl_program::{Collection, Expr, Source};
 use setl_tree::{
-    BinaryOp, Bound, Boxed, Expr as TreeExpr, Inner, Items, Iter, Prefix, Quantifier, Relation,
-    Selector, Text,
+    BinaryOp, Bound, Boxed, Expr as TreeExpr, Inner, Items, Iter, Quantifier, Relation, Selector,
+    Text,
 };
 use std::alloc::AllocError;
 
@@ -46,8 +47,7 @@ impl Elaborator<'_> {
     /// What an expression becomes. An error is want of memory.
     #[cycle(expressions)]
     pub fn expr(&mut self, x: &TreeExpr) -> Result<Boxed<Expr>, AllocError>
-        ensures value { IfOk result (λ e. plain_expr e ≡ made (term_of x.now) self.old) }
-        ensures state { OnOk result (self.new ≡ past (term_of x.now) self.old) }
+        ensures { IfOk result (λ e. (plain_expr e, self.new) ≡ does (term_of x.now) self.old) }
     {
         match x {
             TreeExpr::Number(n) => Boxed::new(self.alloc, Expr::Integer(*n)),
@@ -64,7 +64,10 @@ impl Elaborator<'_> {
             TreeExpr::Tuple(inner) => self.inner(inner, Collection::OfTuple),
             TreeExpr::Chain(first, others) => self.chain(others.as_slice(), first.get()),
             TreeExpr::Compare(a, relation, b) => self.comparison(a.get(), *relation, b.get()),
-            TreeExpr::Prefixed(prefixes, x) => self.prefixed(prefixes.as_slice(), x.get()),
+            TreeExpr::Prefixed(prefixes, x) => {
+                let operand = self.expr(x.get())?;
+                makers::prefixes(self.alloc, prefixes.as_slice(), operand)
+            }
             TreeExpr::Selected(x, selectors) => self.selection(selectors.as_slice(), x.get()),
             TreeExpr::Quantified(word, turns, x) => {
                 self.quantified(*word, turns.as_slice(), x.get())
@@ -80,12 +83,11 @@ impl Elaborator<'_> {
         b: &TreeExpr,
         c: &TreeExpr,
     ) -> Result<Boxed<Expr>, AllocError>
-        ensures value { IfOk result (λ e. plain_expr e ≡ made (spec.choice (part_of a.now) (part_of b.now) (part_of c.now)) self.old) }
-        ensures state { OnOk result (self.new ≡ past (spec.choice (part_of a.now) (part_of b.now) (part_of c.now)) self.old) }
+        ensures { IfOk result (λ e. (plain_expr e, self.new) ≡ does (spec.choice (part_of a.now) (part_of b.now) (part_of c.now)) self.old) }
     {
         let condition = self.expr(a)?;
-        let value = self.expr(b)?;
-        let other = self.expr(c)?;
+        let both = beside(condition, self.expr(b))?;
+        let ((condition, value), other) = beside(both, self.expr(c))?;
         Boxed::new(self.alloc, Expr::Choose(condition, value, other))
     }
 
@@ -96,8 +98,7 @@ impl Elaborator<'_> {
         others: &[(BinaryOp, TreeExpr)],
         first: &TreeExpr,
     ) -> Result<Boxed<Expr>, AllocError>
-        ensures value { IfOk result (λ e. plain_expr e ≡ made (spec.chain (part_of first.now) (map (λ x. (x.0, part_of x.1)) others.now)) self.old) }
-        ensures state { OnOk result (self.new ≡ past (spec.chain (part_of first.now) (map (λ x. (x.0, part_of x.1)) others.now)) self.old) }
+        ensures { IfOk result (λ e. (plain_expr e, self.new) ≡ does (spec.chain (part_of first.now) (map (λ x. (x.0, part_of x.1)) others.now)) self.old) }
     {
         let left = self.expr(first)?;
         let mut all = Chain::new(self.alloc, left);
@@ -116,29 +117,17 @@ impl Elaborator<'_> {
         relation: Relation,
         b: &TreeExpr,
     ) -> Result<Boxed<Expr>, AllocError>
-        ensures value { IfOk result (λ e. plain_expr e ≡ made (spec.comparison (part_of a.now) relation (part_of b.now)) self.old) }
-        ensures state { OnOk result (self.new ≡ past (spec.comparison (part_of a.now) relation (part_of b.now)) self.old) }
+        ensures { IfOk result (λ e. (plain_expr e, self.new) ≡ does (spec.comparison (part_of a.now) relation (part_of b.now)) self.old) }
     {
         let left = self.expr(a)?;
-        let right = self.expr(b)?;
+        let (left, right) = beside(left, self.expr(b))?;
         makers::two(self.alloc, operators::relation(relation), left, right)
-    }
-
-    /// What prefixes before an operand become. An error is want of memory.
-    #[cycle(expressions)]
-    fn prefixed(&mut self, prefixes: &[Prefix], x: &TreeExpr) -> Result<Boxed<Expr>, AllocError>
-        ensures value { IfOk result (λ e. plain_expr e ≡ made (spec.prefixed prefixes.now (part_of x.now)) self.old) }
-        ensures state { OnOk result (self.new ≡ past (spec.prefixed prefixes.now (part_of x.now)) self.old) }
-    {
-        let operand = self.expr(x)?;
-        makers::prefixes(self.alloc, prefixes, operand)
     }
 
     /// What an expression with selectors becomes. An error is want of memory.
     #[cycle(expressions)]
     fn selection(&mut self, selectors: &[Selector], x: &TreeExpr) -> Result<Boxed<Expr>, AllocError>
-        ensures value { IfOk result (λ e. plain_expr e ≡ made (spec.selection (part_of x.now) (map behind_of selectors.now)) self.old) }
-        ensures state { OnOk result (self.new ≡ past (spec.selection (part_of x.now) (map behind_of selectors.now)) self.old) }
+        ensures { IfOk result (λ e. (plain_expr e, self.new) ≡ does (spec.selection (part_of x.now) (map behind_of selectors.now)) self.old) }
     {
         match name_of(x) {
             None => {
@@ -157,8 +146,7 @@ impl Elaborator<'_> {
         turns: &[Iter],
         x: &TreeExpr,
     ) -> Result<Boxed<Expr>, AllocError>
-        ensures value { IfOk result (λ e. plain_expr e ≡ made (spec.quantified word (map turn_of turns.now) (part_of x.now)) self.old) }
-        ensures state { OnOk result (self.new ≡ past (spec.quantified word (map turn_of turns.now) (part_of x.now)) self.old) }
+        ensures { IfOk result (λ e. (plain_expr e, self.new) ≡ does (spec.quantified word (map turn_of turns.now) (part_of x.now)) self.old) }
     {
         let iterators = self.iterators(turns)?;
         let condition = self.expr(x)?;
@@ -169,8 +157,7 @@ impl Elaborator<'_> {
     /// What expressions become. An error is want of memory.
     #[cycle(expressions)]
     pub fn exprs(&mut self, xs: &[TreeExpr]) -> Result<Items<Expr>, AllocError>
-        ensures value { IfOk result (λ es. map plain_expr es ≡ made (spec.terms (map part_of xs.now)) self.old) }
-        ensures state { OnOk result (self.new ≡ past (spec.terms (map part_of xs.now)) self.old) }
+        ensures { IfOk result (λ es. (map plain_expr es, self.new) ≡ does (spec.terms (map part_of xs.now)) self.old) }
     {
         let mut all = Items::new(self.alloc);
         for x in xs {
@@ -186,8 +173,7 @@ impl Elaborator<'_> {
         &mut self,
         x: &Option<Boxed<TreeExpr>>,
     ) -> Result<Option<Boxed<Expr>>, AllocError>
-        ensures value { IfOk result (λ e. option_map plain_expr e ≡ made (spec.optional (option_map part_of x.now)) self.old) }
-        ensures state { OnOk result (self.new ≡ past (spec.optional (option_map part_of x.now)) self.old) }
+        ensures { IfOk result (λ e. (option_map plain_expr e, self.new) ≡ does (spec.optional (option_map part_of x.now)) self.old) }
     {
         match x {
             None => Ok(None),
@@ -198,8 +184,7 @@ impl Elaborator<'_> {
     /// What the inside of braces or brackets becomes. An error is want of memory.
     #[cycle(expressions)]
     fn inner(&mut self, x: &Inner, collection: Collection) -> Result<Boxed<Expr>, AllocError>
-        ensures value { IfOk result (λ e. plain_expr e ≡ made ((inner_of x.now).term collection) self.old) }
-        ensures state { OnOk result (self.new ≡ past ((inner_of x.now).term collection) self.old) }
+        ensures { IfOk result (λ e. (plain_expr e, self.new) ≡ does ((inner_of x.now).term collection) self.old) }
     {
         match x {
             Inner::List(xs) => {
@@ -207,7 +192,10 @@ impl Elaborator<'_> {
                 let operator = operators::enumeration(collection);
                 Boxed::new(self.alloc, Expr::Apply(operator, all))
             }
-            Inner::Range(a, b, c) => self.range(a.get(), b, c.get(), collection),
+            Inner::Range(a, b, c) => {
+                let bounds = self.bounds(a.get(), b, c.get())?;
+                ranges::range(self.alloc, collection, bounds)
+            }
             Inner::Former(value, turns, condition) => {
                 self.former(value.get(), turns.as_slice(), condition, collection)
             }
@@ -217,22 +205,19 @@ impl Elaborator<'_> {
         }
     }
 
-    /// What a range becomes. An error is want of memory.
+    /// What the bounds of a range become. An error is want of memory.
     #[cycle(expressions)]
-    fn range(
+    fn bounds(
         &mut self,
         a: &TreeExpr,
         b: &Option<Boxed<TreeExpr>>,
         c: &TreeExpr,
-        collection: Collection,
-    ) -> Result<Boxed<Expr>, AllocError>
-        ensures value { IfOk result (λ e. plain_expr e ≡ made (spec.range (part_of a.now) (option_map part_of b.now) (part_of c.now) collection) self.old) }
-        ensures state { OnOk result (self.new ≡ past (spec.range (part_of a.now) (option_map part_of b.now) (part_of c.now) collection) self.old) }
+    ) -> Result<Bounds, AllocError>
+        ensures { IfOk result (λ r. (plain_bounds r, self.new) ≡ does (bounds_of (part_of a.now) (option_map part_of b.now) (part_of c.now)) self.old) }
     {
         let first = self.expr(a)?;
-        let (first, second) = beside(first, self.optional(b))?;
-        let ((first, second), last) = beside((first, second), self.expr(c))?;
-        ranges::range(self.alloc, collection, first, second, last)
+        let both = beside(first, self.optional(b))?;
+        beside(both, self.expr(c))
     }
 
     /// What a former becomes that collects an expression. An error is want of memory.
@@ -244,14 +229,13 @@ impl Elaborator<'_> {
         condition: &Option<Boxed<TreeExpr>>,
         collection: Collection,
     ) -> Result<Boxed<Expr>, AllocError>
-        ensures value { IfOk result (λ e. plain_expr e ≡ made (spec.former (part_of value.now) (map turn_of turns.now) (option_map part_of condition.now) collection) self.old) }
-        ensures state { OnOk result (self.new ≡ past (spec.former (part_of value.now) (map turn_of turns.now) (option_map part_of condition.now) collection) self.old) }
+        ensures { IfOk result (λ e. (plain_expr e, self.new) ≡ does (spec.former (part_of value.now) (map turn_of turns.now) (option_map part_of condition.now) collection) self.old) }
     {
         let (number, names) = self.opened.open_over(self.alloc, turns)?;
         let value = self.expr_within(value, number, names)?;
-        let (value, iterators) = beside(value, self.own_iterators(turns, number))?;
+        let held = beside(value, self.own_iterators(turns, number))?;
         let condition = self.own_condition(condition, number, turns);
-        let ((value, iterators), condition) = beside((value, iterators), condition)?;
+        let ((value, iterators), condition) = beside(held, condition)?;
         Boxed::new(
             self.alloc,
             Expr::Former(collection, value, iterators, condition),
@@ -267,8 +251,7 @@ impl Elaborator<'_> {
         condition: &TreeExpr,
         collection: Collection,
     ) -> Result<Boxed<Expr>, AllocError>
-        ensures value { IfOk result (λ e. plain_expr e ≡ made (spec.filter bound.now (part_of source.now) (part_of condition.now) collection) self.old) }
-        ensures state { OnOk result (self.new ≡ past (spec.filter bound.now (part_of source.now) (part_of condition.now) collection) self.old) }
+        ensures { IfOk result (λ e. (plain_expr e, self.new) ≡ does (spec.filter bound.now (part_of source.now) (part_of condition.now) collection) self.old) }
     {
         let number = self.opened.open()?;
         let iterator = self.over(Some(number), bound, source)?;
@@ -280,8 +263,7 @@ impl Elaborator<'_> {
     /// What an expression becomes as the source of an iterator. An error is want of memory.
     #[cycle(expressions)]
     pub fn source(&mut self, x: &TreeExpr) -> Result<(Source, Items<Expr>), AllocError>
-        ensures value { IfOk result (λ r. plain_range r ≡ made (part_of x.now).source self.old) }
-        ensures state { OnOk result (self.new ≡ past (part_of x.now).source self.old) }
+        ensures { IfOk result (λ r. (plain_range r, self.new) ≡ does (part_of x.now).source self.old) }
     {
         match x {
             TreeExpr::Set(inner) => self.inner_source(inner, Collection::OfSet),
@@ -314,33 +296,17 @@ impl Elaborator<'_> {
         x: &Inner,
         collection: Collection,
     ) -> Result<(Source, Items<Expr>), AllocError>
-        ensures value { IfOk result (λ r. plain_range r ≡ made ((inner_of x.now).source collection) self.old) }
-        ensures state { OnOk result (self.new ≡ past ((inner_of x.now).source collection) self.old) }
+        ensures { IfOk result (λ r. (plain_range r, self.new) ≡ does ((inner_of x.now).source collection) self.old) }
     {
         match x {
-            Inner::Range(a, b, c) => self.range_source(a.get(), b, c.get(), collection),
+            Inner::Range(a, b, c) => {
+                let bounds = self.bounds(a.get(), b, c.get())?;
+                ranges::range_source(self.alloc, collection, bounds)
+            }
             Inner::List(_) | Inner::Former(_, _, _) | Inner::Filter(_, _, _) => {
                 let value = self.inner(x, collection)?;
                 ranges::values(self.alloc, value)
             }
         }
-    }
-
-    /// What a range becomes as the source of an iterator. An error is want of memory.
-    #[cycle(expressions)]
-    fn range_source(
-        &mut self,
-        a: &TreeExpr,
-        b: &Option<Boxed<TreeExpr>>,
-        c: &TreeExpr,
-        collection: Collection,
-    ) -> Result<(Source, Items<Expr>), AllocError>
-        ensures value { IfOk result (λ r. plain_range r ≡ made (spec.source_range (part_of a.now) (option_map part_of b.now) (part_of c.now) collection) self.old) }
-        ensures state { OnOk result (self.new ≡ past (spec.source_range (part_of a.now) (option_map part_of b.now) (part_of c.now) collection) self.old) }
-    {
-        let first = self.expr(a)?;
-        let (first, second) = beside(first, self.optional(b))?;
-        let ((first, second), last) = beside((first, second), self.expr(c))?;
-        ranges::range_source(self.alloc, collection, first, second, last)
     }
 }

@@ -1,17 +1,17 @@
 //! What iterators become, and what stands inside a former.
 
-ghost use Rattle.std.specs.Prelude.{◌≡◌, [], ◌∷◌, ◌++◌, Some, map, option_map, OnOk, IfOk};
+ghost use Rattle.std.specs.Prelude.{◌≡◌, [], Some, map, option_map, OnOk, IfOk};
 ghost use Rattle.setl_names.specs.Names.{with_names, in_order};
 ghost use Rattle.setl_names.specs.Occurrences as names;
 ghost use Rattle.setl_program.specs.Expressions as spec;
 ghost use Rattle.setl_program.specs.Expressions.{part_of, term_of, turn_of};
 ghost use Rattle.setl_program.specs.code.Plain.{plain_expr, plain_iterator};
 ghost use Rattle.setl_program.specs.Scope.{in_former};
-ghost use Rattle.setl_elaborate.specs.Elaborators.{made, past};
+ghost use Rattle.setl_elaborate.specs.Elaborators.{made, does, puts};
 
 use crate::elaborator::Elaborator;
 use crate::makers;
-use crate::makers::beside;
+use crate::makers::{beside, put};
 use setl_names::Names;
 use setl_program::{Expr, Iterator};
 use setl_scope::{names_of_bound, names_of_turns, put_turn};
@@ -27,8 +27,7 @@ impl Elaborator<'_> {
         number: u32,
         names: Names,
     ) -> Result<Boxed<Expr>, AllocError>
-        ensures value { IfOk result (λ e. plain_expr e ≡ made (λ s. term_of x.now (in_former number names s)) self.old) }
-        ensures state { OnOk result (self.new ≡ past (λ s. term_of x.now (in_former number names s)) self.old) }
+        ensures { IfOk result (λ e. (plain_expr e, self.new) ≡ does (λ s. term_of x.now (in_former number names s)) self.old) }
     {
         self.enter(number, names)?;
         let made = self.expr(x)?;
@@ -44,8 +43,7 @@ impl Elaborator<'_> {
         number: u32,
         bound: &Bound,
     ) -> Result<Boxed<Expr>, AllocError>
-        ensures value { IfOk result (λ e. plain_expr e ≡ made (λ s. term_of x.now (in_former number (in_order (names.names_of_bound bound.now)) s)) self.old) }
-        ensures state { OnOk result (self.new ≡ past (λ s. term_of x.now (in_former number (in_order (names.names_of_bound bound.now)) s)) self.old) }
+        ensures { IfOk result (λ e. (plain_expr e, self.new) ≡ does (λ s. term_of x.now (in_former number (in_order (names.names_of_bound bound.now)) s)) self.old) }
     {
         let names = names_of_bound(self.alloc, bound)?;
         self.expr_within(x, number, names)
@@ -59,8 +57,7 @@ impl Elaborator<'_> {
         number: u32,
         turns: &[Iter],
     ) -> Result<Option<Boxed<Expr>>, AllocError>
-        ensures value { IfOk result (λ e. option_map plain_expr e ≡ made (λ s. spec.optional (option_map part_of x.now) (in_former number (in_order (spec.names_of_turns (map turn_of turns.now))) s)) self.old) }
-        ensures state { OnOk result (self.new ≡ past (λ s. spec.optional (option_map part_of x.now) (in_former number (in_order (spec.names_of_turns (map turn_of turns.now))) s)) self.old) }
+        ensures { IfOk result (λ e. (option_map plain_expr e, self.new) ≡ does (λ s. spec.optional (option_map part_of x.now) (in_former number (in_order (spec.names_of_turns (map turn_of turns.now))) s)) self.old) }
     {
         match x {
             None => Ok(None),
@@ -74,8 +71,7 @@ impl Elaborator<'_> {
     /// What iterators become that bind variables. An error is want of memory.
     #[cycle(expressions)]
     pub fn iterators(&mut self, turns: &[Iter]) -> Result<Items<Iterator>, AllocError>
-        ensures value { IfOk result (λ is. map plain_iterator is ≡ made (spec.iterators (map turn_of turns.now)) self.old) }
-        ensures state { OnOk result (self.new ≡ past (spec.iterators (map turn_of turns.now)) self.old) }
+        ensures { IfOk result (λ is. (map plain_iterator is, self.new) ≡ does (spec.iterators (map turn_of turns.now)) self.old) }
     {
         let mut all = Items::new(self.alloc);
         for turn in turns {
@@ -91,8 +87,7 @@ impl Elaborator<'_> {
         turns: &[Iter],
         number: u32,
     ) -> Result<Items<Iterator>, AllocError>
-        ensures value { IfOk result (λ is. map plain_iterator is ≡ made (spec.own_iterators number [] (map turn_of turns.now)) self.old) }
-        ensures state { OnOk result (self.new ≡ past (spec.own_iterators number [] (map turn_of turns.now)) self.old) }
+        ensures { IfOk result (λ is. (map plain_iterator is, self.new) ≡ does (spec.own_iterators number [] (map turn_of turns.now)) self.old) }
     {
         let mut all = Items::new(self.alloc);
         let mut seen = Names::new(self.alloc);
@@ -112,9 +107,8 @@ impl Elaborator<'_> {
         seen: Names,
         all: &mut Items<Iterator>,
     ) -> Result<Names, AllocError>
-        ensures value { OnOk result (map plain_iterator all.new ≡ map plain_iterator all.old ++ made (λ s. (turn_of turn.now).iterator (Some number) (in_former number seen s)) self.old ∷ []) }
+        ensures value { OnOk result ((map plain_iterator all.new, self.new) ≡ puts (map plain_iterator all.old) (λ s. (turn_of turn.now).iterator (Some number) (in_former number seen s)) self.old) }
         ensures names { IfOk result (λ names. names ≡ with_names seen (turn_of turn.now).names) }
-        ensures state { OnOk result (self.new ≡ past (λ s. (turn_of turn.now).iterator (Some number) (in_former number seen s)) self.old) }
     {
         self.enter(number, seen)?;
         self.iterator(turn, Some(number), all)?;
@@ -132,18 +126,11 @@ impl Elaborator<'_> {
         former: Option<u32>,
         all: &mut Items<Iterator>,
     ) -> Result<(), AllocError>
-        ensures value { OnOk result (map plain_iterator all.new ≡ map plain_iterator all.old ++ made ((turn_of turn.now).iterator former) self.old ∷ []) }
-        ensures state { OnOk result (self.new ≡ past ((turn_of turn.now).iterator former) self.old) }
+        ensures { OnOk result ((map plain_iterator all.new, self.new) ≡ puts (map plain_iterator all.old) ((turn_of turn.now).iterator former) self.old) }
     {
         match turn {
-            Iter::Over(bound, source) => {
-                let iterator = self.over(former, bound, source)?;
-                all.push(iterator)
-            }
-            Iter::Image(value, map, argument) => {
-                let iterator = self.image(former, value, map, argument)?;
-                all.push(iterator)
-            }
+            Iter::Over(bound, source) => put(all, self.over(former, bound, source)),
+            Iter::Image(value, map, argument) => put(all, self.image(former, value, map, argument)),
         }
     }
 
@@ -156,11 +143,11 @@ impl Elaborator<'_> {
         bound: &Bound,
         source: &TreeExpr,
     ) -> Result<Iterator, AllocError>
-        ensures value { IfOk result (λ i. plain_iterator i ≡ made (spec.over bound.now (part_of source.now) former) self.old) }
-        ensures state { OnOk result (self.new ≡ past (spec.over bound.now (part_of source.now) former) self.old) }
+        ensures { IfOk result (λ i. (plain_iterator i, self.new) ≡ does (spec.over bound.now (part_of source.now) former) self.old) }
     {
         let (kind, sources) = self.source(source)?;
-        let binding = self.scope.binding(self.alloc, former, bound, kind)?;
+        let binding = self.scope.binding(self.alloc, former, bound, kind);
+        let (sources, binding) = beside(sources, binding)?;
         Ok(Iterator { binding, sources })
     }
 

@@ -1,6 +1,6 @@
 //! Expressions of a program by their parts. An error of each is want of memory.
 
-ghost use Rattle.std.specs.Prelude.{◌≡◌, [], ◌∷◌, Ok, IfOk};
+ghost use Rattle.std.specs.Prelude.{◌≡◌, [], ◌∷◌, ◌++◌, Ok, IfOk, OnOk};
 ghost use Rattle.setl_value.specs.Datum as datum;
 ghost use Rattle.setl_program.specs.Operators as spec;
 ghost use Rattle.setl_program.specs.Expressions as terms;
@@ -21,6 +21,20 @@ pub fn beside<T: Drop, U: Drop>(held: T, other: Result<U, AllocError>) -> Result
 {
     let other = other?;
     Ok((held, other))
+}
+
+/// What was made, where the other is let go.
+pub fn without<T: Drop, U: Drop>(_other: T, made: U) -> U
+    ensures { result ≡ made }
+{
+    made
+}
+
+/// Puts what was made at the end of a list. An error is also that of what was to be made.
+pub fn put<T: Drop>(all: &mut Items<T>, made: Result<T, AllocError>) -> Result<(), AllocError>
+    ensures { OnOk result ((x : T) × (made ≡ Ok x) × (all.new ≡ all.old ++ x ∷ [])) }
+{
+    all.push(made?)
 }
 
 /// The list of one expression.

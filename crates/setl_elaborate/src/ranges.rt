@@ -11,6 +11,9 @@ use setl_program::{Collection, Expr, Source};
 use setl_tree::{Boxed, Items};
 use std::alloc::{AllocError, Global};
 
+/// The bounds of a range, of which the second may not be there.
+pub type Bounds = ((Boxed<Expr>, Option<Boxed<Expr>>), Boxed<Expr>);
+
 /// The one expression as a source. An error is want of memory.
 pub fn values(alloc: Global, value: Boxed<Expr>) -> Result<(Source, Items<Expr>), AllocError>
     ensures { IfOk result (λ r. plain_range r ≡ (Source.Values, plain_expr value ∷ [])) }
@@ -20,7 +23,7 @@ pub fn values(alloc: Global, value: Boxed<Expr>) -> Result<(Source, Items<Expr>)
 }
 
 /// The bounds of a range in their order, without the second where it isn't there. An error is want of memory.
-fn bounds(
+fn in_order(
     alloc: Global,
     first: Boxed<Expr>,
     second: Option<Boxed<Expr>>,
@@ -64,14 +67,13 @@ fn bounded_source(collection: Collection, second: &Option<Boxed<Expr>>) -> Sourc
 pub fn range(
     alloc: Global,
     collection: Collection,
-    first: Boxed<Expr>,
-    second: Option<Boxed<Expr>>,
-    last: Boxed<Expr>,
+    bounds: Bounds,
 ) -> Result<Boxed<Expr>, AllocError>
-    ensures { IfOk result (λ e. plain_expr e ≡ spec.range_of collection (plain_expr first) (option_map plain_expr second) (plain_expr last)) }
+    ensures { IfOk result (λ e. plain_expr e ≡ spec.range_of collection (plain_expr bounds.0.0) (option_map plain_expr bounds.0.1) (plain_expr bounds.1)) }
 {
+    let ((first, second), last) = bounds;
     let operator = bounded_operator(collection, &second);
-    let all = bounds(alloc, first, second, last)?;
+    let all = in_order(alloc, first, second, last)?;
     Boxed::new(alloc, Expr::Apply(operator, all))
 }
 
@@ -79,14 +81,13 @@ pub fn range(
 pub fn range_source(
     alloc: Global,
     collection: Collection,
-    first: Boxed<Expr>,
-    second: Option<Boxed<Expr>>,
-    last: Boxed<Expr>,
+    bounds: Bounds,
 ) -> Result<(Source, Items<Expr>), AllocError>
-    ensures { IfOk result (λ r. plain_range r ≡ spec.range_source collection (plain_expr first) (option_map plain_expr second) (plain_expr last)) }
+    ensures { IfOk result (λ r. plain_range r ≡ spec.range_source collection (plain_expr bounds.0.0) (option_map plain_expr bounds.0.1) (plain_expr bounds.1)) }
 {
+    let ((first, second), last) = bounds;
     let source = bounded_source(collection, &second);
-    let all = bounds(alloc, first, second, last)?;
+    let all = in_order(alloc, first, second, last)?;
     Ok((source, all))
 }
 

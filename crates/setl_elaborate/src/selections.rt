@@ -1,16 +1,17 @@
 //! What selections and calls become.
 
-ghost use Rattle.std.specs.Prelude.{◌≡◌, [], ◌∷◌, ◌++◌, map, option_map, OnOk, IfOk};
+ghost use Rattle.std.specs.Prelude.{◌≡◌, map, OnOk, IfOk};
 ghost use Rattle.setl_program.specs.Expressions as spec;
 ghost use Rattle.setl_program.specs.Expressions.{part_of, behind_of};
 ghost use Rattle.setl_program.specs.code.Plain.{plain_expr, plain_argument};
 ghost use Rattle.setl_program.specs.Scope.{procedure_of};
 ghost use Rattle.setl_elaborate.specs.Chains.{plain_chain};
-ghost use Rattle.setl_elaborate.specs.Elaborators.{made, past};
+ghost use Rattle.setl_elaborate.specs.Elaborators.{does, puts};
 
 use crate::chain::Chain;
 use crate::elaborator::Elaborator;
 use crate::expressions::name_of;
+use crate::makers::beside;
 use crate::{makers, ranges};
 use setl_map::Operator;
 use setl_program::{Argument, Expr, Link};
@@ -33,8 +34,7 @@ impl Elaborator<'_> {
         selectors: &[Selector],
         value: Chain,
     ) -> Result<Boxed<Expr>, AllocError>
-        ensures value { IfOk result (λ e. plain_expr e ≡ made (spec.selected (plain_chain value) (map behind_of selectors.now)) self.old) }
-        ensures state { OnOk result (self.new ≡ past (spec.selected (plain_chain value) (map behind_of selectors.now)) self.old) }
+        ensures { IfOk result (λ e. (plain_expr e, self.new) ≡ does (spec.selected (plain_chain value) (map behind_of selectors.now)) self.old) }
     {
         let mut all = value;
         for selector in selectors {
@@ -46,14 +46,13 @@ impl Elaborator<'_> {
     /// Puts a selector behind a chain. An error is want of memory.
     #[cycle(expressions)]
     fn applied(&mut self, selector: &Selector, all: &mut Chain) -> Result<(), AllocError>
-        ensures value { OnOk result (plain_chain all.new ≡ made ((behind_of selector.now).applied (plain_chain all.old)) self.old) }
-        ensures state { OnOk result (self.new ≡ past ((behind_of selector.now).applied (plain_chain all.old)) self.old) }
+        ensures { OnOk result ((plain_chain all.new, self.new) ≡ does ((behind_of selector.now).applied (plain_chain all.old)) self.old) }
     {
         match selector {
             Selector::Round(xs) => self.at_list(xs.as_slice(), Operator::Get, all),
             Selector::Slice(a, b) => {
                 let first = self.expr(a.get())?;
-                let last = self.optional(b)?;
+                let (first, last) = beside(first, self.optional(b))?;
                 all.slice(first, last)
             }
             Selector::Braces(xs) => self.at_list(xs.as_slice(), Operator::Images, all),
@@ -68,8 +67,7 @@ impl Elaborator<'_> {
         operator: Operator,
         all: &mut Chain,
     ) -> Result<(), AllocError>
-        ensures value { OnOk result (plain_chain all.new ≡ made (spec.at_list operator (map part_of xs.now) (plain_chain all.old)) self.old) }
-        ensures state { OnOk result (self.new ≡ past (spec.at_list operator (map part_of xs.now) (plain_chain all.old)) self.old) }
+        ensures { OnOk result ((plain_chain all.new, self.new) ≡ does (spec.at_list operator (map part_of xs.now) (plain_chain all.old)) self.old) }
     {
         let list = self.listed(xs)?;
         all.push(Link::Binary(operator, list.into_inner()))
@@ -78,8 +76,7 @@ impl Elaborator<'_> {
     /// What a list in brackets becomes: one expression alone, or the tuple of several. An error is want of memory.
     #[cycle(expressions)]
     pub fn listed(&mut self, xs: &[TreeExpr]) -> Result<Boxed<Expr>, AllocError>
-        ensures value { IfOk result (λ e. plain_expr e ≡ made (spec.listed (map part_of xs.now)) self.old) }
-        ensures state { OnOk result (self.new ≡ past (spec.listed (map part_of xs.now)) self.old) }
+        ensures { IfOk result (λ e. (plain_expr e, self.new) ≡ does (spec.listed (map part_of xs.now)) self.old) }
     {
         let all = self.exprs(xs)?;
         ranges::tuple_of_several(self.alloc, all)
@@ -92,8 +89,7 @@ impl Elaborator<'_> {
         selectors: &[Selector],
         name: &Text,
     ) -> Result<Boxed<Expr>, AllocError>
-        ensures value { IfOk result (λ e. plain_expr e ≡ made (spec.name_selection name.now (map behind_of selectors.now)) self.old) }
-        ensures state { OnOk result (self.new ≡ past (spec.name_selection name.now (map behind_of selectors.now)) self.old) }
+        ensures { IfOk result (λ e. (plain_expr e, self.new) ≡ does (spec.name_selection name.now (map behind_of selectors.now)) self.old) }
     {
         match selectors {
             [] => self.name(name),
@@ -111,8 +107,7 @@ impl Elaborator<'_> {
     /// What a name before a list in round brackets becomes: a call if it is a procedure's. An error is want of memory.
     #[cycle(expressions)]
     fn application(&mut self, xs: &[TreeExpr], name: &Text) -> Result<Chain, AllocError>
-        ensures value { IfOk result (λ e. plain_chain e ≡ made (λ s. spec.application (procedure_of s name.now) name.now (map part_of xs.now) s) self.old) }
-        ensures state { OnOk result (self.new ≡ past (λ s. spec.application (procedure_of s name.now) name.now (map part_of xs.now) s) self.old) }
+        ensures { IfOk result (λ e. (plain_chain e, self.new) ≡ does (λ s. spec.application (procedure_of s name.now) name.now (map part_of xs.now) s) self.old) }
     {
         match self.scope.procedure(name) {
             None => {
@@ -135,8 +130,7 @@ impl Elaborator<'_> {
         place: usize,
         parameters: &[Param],
     ) -> Result<Boxed<Expr>, AllocError>
-        ensures value { IfOk result (λ e. plain_expr e ≡ made (spec.call place parameters.now (map part_of xs.now)) self.old) }
-        ensures state { OnOk result (self.new ≡ past (spec.call place parameters.now (map part_of xs.now)) self.old) }
+        ensures { IfOk result (λ e. (plain_expr e, self.new) ≡ does (spec.call place parameters.now (map part_of xs.now)) self.old) }
     {
         let all = self.arguments(xs, parameters)?;
         makers::call(self.alloc, place, all)
@@ -149,8 +143,7 @@ impl Elaborator<'_> {
         xs: &[TreeExpr],
         parameters: &[Param],
     ) -> Result<Items<Argument>, AllocError>
-        ensures value { IfOk result (λ all. map plain_argument all ≡ made (spec.arguments parameters.now (map part_of xs.now)) self.old) }
-        ensures state { OnOk result (self.new ≡ past (spec.arguments parameters.now (map part_of xs.now)) self.old) }
+        ensures { IfOk result (λ all. (map plain_argument all, self.new) ≡ does (spec.arguments parameters.now (map part_of xs.now)) self.old) }
     {
         let mut all = Items::new(self.alloc);
         let mut left = parameters;
@@ -171,8 +164,7 @@ impl Elaborator<'_> {
         passing: Passing,
         all: &mut Items<Argument>,
     ) -> Result<(), AllocError>
-        ensures value { OnOk result (map plain_argument all.new ≡ map plain_argument all.old ++ made (spec.argument passing (part_of x.now)) self.old ∷ []) }
-        ensures state { OnOk result (self.new ≡ past (spec.argument passing (part_of x.now)) self.old) }
+        ensures { OnOk result ((map plain_argument all.new, self.new) ≡ puts (map plain_argument all.old) (spec.argument passing (part_of x.now)) self.old) }
     {
         match (passing, name_of(x)) {
             (Passing::Wr, Some(name)) => { all.push(Argument::Wr(self.scope.variable(name)?)) }

@@ -1,15 +1,15 @@
 //! What statements become.
 
-ghost use Rattle.std.specs.Prelude.{◌≡◌, map, option_map, OnOk, IfOk};
+ghost use Rattle.std.specs.Prelude.{◌≡◌, map, option_map, IfOk};
 ghost use Rattle.setl_program.specs.Expressions as terms;
 ghost use Rattle.setl_program.specs.Expressions.{part_of, turn_of, behind_of};
 ghost use Rattle.setl_program.specs.code.Plain.{plain_expr, plain_selector, plain_place, plain_kind, plain_stmt, plain_branch};
 ghost use Rattle.setl_program.specs.Statements as spec;
 ghost use Rattle.setl_program.specs.Statements.{kind_of, branch_of, lined};
-ghost use Rattle.setl_elaborate.specs.Elaborators.{made, past};
+ghost use Rattle.setl_elaborate.specs.Elaborators.{does, assigned};
 
 use crate::elaborator::Elaborator;
-use crate::makers::beside;
+use crate::makers::{beside, put};
 use crate::operators;
 use setl_program::{Branch, Expr, Place, Selector, Stmt, StmtKind};
 use setl_tree::{
@@ -21,8 +21,7 @@ use std::alloc::AllocError;
 impl Elaborator<'_> {
     /// What a selector of a place becomes. An error is want of memory.
     fn selector(&mut self, selector: &TreeSelector) -> Result<Selector, AllocError>
-        ensures value { IfOk result (λ x. plain_selector x ≡ made (behind_of selector.now).selector self.old) }
-        ensures state { OnOk result (self.new ≡ past (behind_of selector.now).selector self.old) }
+        ensures { IfOk result (λ x. (plain_selector x, self.new) ≡ does (behind_of selector.now).selector self.old) }
     {
         match selector {
             TreeSelector::Round(xs) => {
@@ -42,60 +41,52 @@ impl Elaborator<'_> {
 
     /// What the selectors of a place become. An error is want of memory.
     fn selectors(&mut self, selectors: &[TreeSelector]) -> Result<Items<Selector>, AllocError>
-        ensures value { IfOk result (λ all. map plain_selector all ≡ made (spec.selectors (map behind_of selectors.now)) self.old) }
-        ensures state { OnOk result (self.new ≡ past (spec.selectors (map behind_of selectors.now)) self.old) }
+        ensures { IfOk result (λ all. (map plain_selector all, self.new) ≡ does (spec.selectors (map behind_of selectors.now)) self.old) }
     {
         let mut all = Items::new(self.alloc);
         for selector in selectors {
-            all.push(self.selector(selector)?)?;
+            put(&mut all, self.selector(selector))?;
         }
         Ok(all)
     }
 
     /// What a place becomes. An error is want of memory.
     fn place(&mut self, place: &TreePlace) -> Result<Place, AllocError>
-        ensures value { IfOk result (λ p. plain_place p ≡ made (spec.place place.now) self.old) }
-        ensures state { OnOk result (self.new ≡ past (spec.place place.now) self.old) }
+        ensures { IfOk result (λ p. (plain_place p, self.new) ≡ does (spec.place place.now) self.old) }
     {
         let selectors = self.selectors(place.selectors.as_slice())?;
+        let (selectors, variable) = beside(selectors, self.scope.variable(&place.name))?;
         Ok(Place {
-            variable: self.scope.variable(&place.name)?,
+            variable,
             selectors,
         })
     }
 
-    /// What an assignment becomes. An error is want of memory.
-    fn assignment(&mut self, place: &TreePlace, value: &TreeExpr) -> Result<StmtKind, AllocError>
-        ensures value { IfOk result (λ x. plain_kind x ≡ made (spec.assignment place.now (part_of value.now)) self.old) }
-        ensures state { OnOk result (self.new ≡ past (spec.assignment place.now (part_of value.now)) self.old) }
-    {
-        let place = self.place(place)?;
-        let value = self.expr(value)?;
-        Ok(StmtKind::Assign(place, value.into_inner()))
-    }
-
-    /// What an update becomes. An error is want of memory.
-    fn update(
+    /// What an assignment becomes, or an update by an operator. An error is want of memory.
+    fn assignment(
         &mut self,
         place: &TreePlace,
-        op: BinaryOp,
+        op: Option<BinaryOp>,
         value: &TreeExpr,
     ) -> Result<StmtKind, AllocError>
-        ensures value { IfOk result (λ x. plain_kind x ≡ made (spec.update place.now op (part_of value.now)) self.old) }
-        ensures state { OnOk result (self.new ≡ past (spec.update place.now op (part_of value.now)) self.old) }
+        ensures { IfOk result (λ x. (plain_kind x, self.new) ≡ does (assigned op place.now (part_of value.now)) self.old) }
     {
         let place = self.place(place)?;
-        let value = self.expr(value)?;
-        Ok(StmtKind::Update(operators::updating(op), place, value.into_inner()))
+        let (place, value) = beside(place, self.expr(value))?;
+        let value = value.into_inner();
+        Ok(match op {
+            None => StmtKind::Assign(place, value),
+            Some(op) => StmtKind::Update(operators::updating(op), place, value),
+        })
     }
 
     /// What an assignment to a tuple of names becomes. An error is want of memory.
     fn parts_assignment(&mut self, slots: &[Slot], value: &TreeExpr) -> Result<StmtKind, AllocError>
-        ensures value { IfOk result (λ x. plain_kind x ≡ made (spec.parts_assignment slots.now (part_of value.now)) self.old) }
-        ensures state { OnOk result (self.new ≡ past (spec.parts_assignment slots.now (part_of value.now)) self.old) }
+        ensures { IfOk result (λ x. (plain_kind x, self.new) ≡ does (spec.parts_assignment slots.now (part_of value.now)) self.old) }
     {
         let value = self.expr(value)?;
-        let slots = self.scope.slots(self.alloc, None, slots)?;
+        let slots = self.scope.slots(self.alloc, None, slots);
+        let (value, slots) = beside(value, slots)?;
         Ok(StmtKind::AssignParts(slots, value.into_inner()))
     }
 
@@ -106,18 +97,17 @@ impl Elaborator<'_> {
         end: FromEnd,
         place: &TreePlace,
     ) -> Result<StmtKind, AllocError>
-        ensures value { IfOk result (λ x. plain_kind x ≡ made (spec.taking_from name.now end place.now) self.old) }
-        ensures state { OnOk result (self.new ≡ past (spec.taking_from name.now end place.now) self.old) }
+        ensures { IfOk result (λ x. (plain_kind x, self.new) ≡ does (spec.taking_from name.now end place.now) self.old) }
     {
+        let taking = operators::taking(end);
         let place = self.place(place)?;
-        let variable = self.scope.variable(name)?;
-        Ok(StmtKind::TakeFrom(operators::taking(end), variable, place))
+        let (place, variable) = beside(place, self.scope.variable(name))?;
+        Ok(StmtKind::TakeFrom(taking, variable, place))
     }
 
     /// What a call statement becomes. An error is want of memory.
     fn performance(&mut self, name: &Text, xs: &[TreeExpr]) -> Result<StmtKind, AllocError>
-        ensures value { IfOk result (λ x. plain_kind x ≡ made (spec.performance name.now (map part_of xs.now)) self.old) }
-        ensures state { OnOk result (self.new ≡ past (spec.performance name.now (map part_of xs.now)) self.old) }
+        ensures { IfOk result (λ x. (plain_kind x, self.new) ≡ does (spec.performance name.now (map part_of xs.now)) self.old) }
     {
         match self.scope.procedure(name) {
             None => Ok(StmtKind::Perform(Expr::Undefined)),
@@ -130,8 +120,7 @@ impl Elaborator<'_> {
 
     /// What an expression becomes, if there is one. An error is want of memory.
     fn optional_expr(&mut self, x: &Option<TreeExpr>) -> Result<Option<Expr>, AllocError>
-        ensures value { IfOk result (λ e. option_map plain_expr e ≡ made (terms.optional (option_map part_of x.now)) self.old) }
-        ensures state { OnOk result (self.new ≡ past (terms.optional (option_map part_of x.now)) self.old) }
+        ensures { IfOk result (λ e. (option_map plain_expr e, self.new) ≡ does (terms.optional (option_map part_of x.now)) self.old) }
     {
         match x {
             None => Ok(None),
@@ -144,8 +133,7 @@ impl Elaborator<'_> {
 
     /// What `return` becomes. An error is want of memory.
     fn return_of(&mut self, x: &Option<TreeExpr>) -> Result<StmtKind, AllocError>
-        ensures value { IfOk result (λ y. plain_kind y ≡ made (spec.return_of (option_map part_of x.now)) self.old) }
-        ensures state { OnOk result (self.new ≡ past (spec.return_of (option_map part_of x.now)) self.old) }
+        ensures { IfOk result (λ y. (plain_kind y, self.new) ≡ does (spec.return_of (option_map part_of x.now)) self.old) }
     {
         match x {
             None => Ok(StmtKind::Return(Expr::Undefined)),
@@ -159,35 +147,24 @@ impl Elaborator<'_> {
     /// What statements become. An error is want of memory.
     #[cycle(statements)]
     pub fn stmts(&mut self, xs: &[TreeStmt]) -> Result<Items<Stmt>, AllocError>
-        ensures value { IfOk result (λ all. map plain_stmt all ≡ made (spec.statements (map lined xs.now)) self.old) }
-        ensures state { OnOk result (self.new ≡ past (spec.statements (map lined xs.now)) self.old) }
+        ensures { IfOk result (λ all. (map plain_stmt all, self.new) ≡ does (spec.statements (map lined xs.now)) self.old) }
     {
         let mut all = Items::new(self.alloc);
         for x in xs {
-            all.push(self.stmt(x)?)?;
+            let kind = self.kind(x.line, &x.kind)?;
+            all.push(Stmt { line: x.line, kind })?;
         }
         Ok(all)
-    }
-
-    /// What a statement becomes. An error is want of memory.
-    #[cycle(statements)]
-    fn stmt(&mut self, x: &TreeStmt) -> Result<Stmt, AllocError>
-        ensures value { IfOk result (λ y. plain_stmt y ≡ made (lined x.now) self.old) }
-        ensures state { OnOk result (self.new ≡ past (lined x.now) self.old) }
-    {
-        let kind = self.kind(x.line, &x.kind)?;
-        Ok(Stmt { line: x.line, kind })
     }
 
     /// What a statement on this line becomes. An error is want of memory.
     #[cycle(statements)]
     fn kind(&mut self, line: u32, x: &TreeKind) -> Result<StmtKind, AllocError>
-        ensures value { IfOk result (λ y. plain_kind y ≡ made (kind_of x.now line) self.old) }
-        ensures state { OnOk result (self.new ≡ past (kind_of x.now line) self.old) }
+        ensures { IfOk result (λ y. (plain_kind y, self.new) ≡ does (kind_of x.now line) self.old) }
     {
         match x {
-            TreeKind::Assign(place, value) => self.assignment(place, value),
-            TreeKind::Update(place, op, value) => self.update(place, *op, value),
+            TreeKind::Assign(place, value) => self.assignment(place, None, value),
+            TreeKind::Update(place, op, value) => self.assignment(place, Some(*op), value),
             TreeKind::TupleAssign(slots, value) => {
                 self.parts_assignment(slots.as_slice(), value)
             }
@@ -224,21 +201,19 @@ impl Elaborator<'_> {
         others: &[TreeBranch],
         last: &Option<Items<TreeStmt>>,
     ) -> Result<StmtKind, AllocError>
-        ensures value { IfOk result (λ x. plain_kind x ≡ made (spec.choice line (branch_of first.now) (map branch_of others.now) (option_map (map lined) last.now)) self.old) }
-        ensures state { OnOk result (self.new ≡ past (spec.choice line (branch_of first.now) (map branch_of others.now) (option_map (map lined) last.now)) self.old) }
+        ensures { IfOk result (λ x. (plain_kind x, self.new) ≡ does (spec.choice line (branch_of first.now) (map branch_of others.now) (option_map (map lined) last.now)) self.old) }
     {
         let condition = self.expr(&first.condition)?;
-        let body = self.stmts(first.body.as_slice())?;
-        let branches = self.branches(line, others)?;
-        let last = self.optional_block(last)?;
+        let head = beside(condition, self.stmts(first.body.as_slice()))?;
+        let head = beside(head, self.branches(line, others))?;
+        let (((condition, body), branches), last) = beside(head, self.optional_block(last))?;
         Ok(StmtKind::If(condition.into_inner(), body, branches, last))
     }
 
     /// What the statements of an `else` become, if there are any. An error is want of memory.
     #[cycle(statements)]
     fn optional_block(&mut self, xs: &Option<Items<TreeStmt>>) -> Result<Items<Stmt>, AllocError>
-        ensures value { IfOk result (λ all. map plain_stmt all ≡ made (spec.optional_block (option_map (map lined) xs.now)) self.old) }
-        ensures state { OnOk result (self.new ≡ past (spec.optional_block (option_map (map lined) xs.now)) self.old) }
+        ensures { IfOk result (λ all. (map plain_stmt all, self.new) ≡ does (spec.optional_block (option_map (map lined) xs.now)) self.old) }
     {
         match xs {
             None => Ok(Items::new(self.alloc)),
@@ -249,29 +224,19 @@ impl Elaborator<'_> {
     /// What the `elseif` branches of an `if` on this line become. An error is want of memory.
     #[cycle(statements)]
     fn branches(&mut self, line: u32, branches: &[TreeBranch]) -> Result<Items<Branch>, AllocError>
-        ensures value { IfOk result (λ all. map plain_branch all ≡ made (spec.branches line (map branch_of branches.now)) self.old) }
-        ensures state { OnOk result (self.new ≡ past (spec.branches line (map branch_of branches.now)) self.old) }
+        ensures { IfOk result (λ all. (map plain_branch all, self.new) ≡ does (spec.branches line (map branch_of branches.now)) self.old) }
     {
         let mut all = Items::new(self.alloc);
         for branch in branches {
-            all.push(self.branch(line, branch)?)?;
+            let condition = self.expr(&branch.condition)?;
+            let (condition, body) = beside(condition, self.stmts(branch.body.as_slice()))?;
+            all.push(Branch {
+                line,
+                condition: condition.into_inner(),
+                body,
+            })?;
         }
         Ok(all)
-    }
-
-    /// What an `elseif` branch becomes. An error is want of memory.
-    #[cycle(statements)]
-    fn branch(&mut self, line: u32, branch: &TreeBranch) -> Result<Branch, AllocError>
-        ensures value { IfOk result (λ b. plain_branch b ≡ made (spec.guarded line (branch_of branch.now)) self.old) }
-        ensures state { OnOk result (self.new ≡ past (spec.guarded line (branch_of branch.now)) self.old) }
-    {
-        let condition = self.expr(&branch.condition)?;
-        let body = self.stmts(branch.body.as_slice())?;
-        Ok(Branch {
-            line,
-            condition: condition.into_inner(),
-            body,
-        })
     }
 
     /// What a loop over iterators becomes. An error is want of memory.
@@ -282,12 +247,11 @@ impl Elaborator<'_> {
         turns: &[Iter],
         condition: &Option<TreeExpr>,
     ) -> Result<StmtKind, AllocError>
-        ensures value { IfOk result (λ x. plain_kind x ≡ made (spec.for_loop (map turn_of turns.now) (option_map part_of condition.now) (map lined body.now)) self.old) }
-        ensures state { OnOk result (self.new ≡ past (spec.for_loop (map turn_of turns.now) (option_map part_of condition.now) (map lined body.now)) self.old) }
+        ensures { IfOk result (λ x. (plain_kind x, self.new) ≡ does (spec.for_loop (map turn_of turns.now) (option_map part_of condition.now) (map lined body.now)) self.old) }
     {
         let iterators = self.iterators(turns)?;
-        let (iterators, condition) = beside(iterators, self.optional_expr(condition))?;
-        let ((iterators, condition), body) = beside((iterators, condition), self.stmts(body))?;
+        let head = beside(iterators, self.optional_expr(condition))?;
+        let ((iterators, condition), body) = beside(head, self.stmts(body))?;
         Ok(StmtKind::For(iterators, condition, body))
     }
 
@@ -298,11 +262,10 @@ impl Elaborator<'_> {
         body: &[TreeStmt],
         condition: &TreeExpr,
     ) -> Result<StmtKind, AllocError>
-        ensures value { IfOk result (λ x. plain_kind x ≡ made (spec.while_loop (part_of condition.now) (map lined body.now)) self.old) }
-        ensures state { OnOk result (self.new ≡ past (spec.while_loop (part_of condition.now) (map lined body.now)) self.old) }
+        ensures { IfOk result (λ x. (plain_kind x, self.new) ≡ does (spec.while_loop (part_of condition.now) (map lined body.now)) self.old) }
     {
         let condition = self.expr(condition)?;
-        let body = self.stmts(body)?;
+        let (condition, body) = beside(condition, self.stmts(body))?;
         Ok(StmtKind::While(condition.into_inner(), body))
     }
 }

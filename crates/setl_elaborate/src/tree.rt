@@ -9,7 +9,7 @@ ghost use Rattle.setl_program.specs.ProgramOf.{main_scope, in_body, procedure_of
 ghost use Rattle.setl_program.specs.Statements.{body_of};
 
 use crate::elaborator::Elaborator;
-use crate::makers::beside;
+use crate::makers::{beside, put, without};
 use setl_modes::NamedMode;
 use setl_program::{Declared, Procedure, Program, Stmt};
 use setl_scope::Opened;
@@ -22,7 +22,7 @@ fn vars(alloc: Global, declared: &[TreeDeclared]) -> Result<Items<Text>, AllocEr
 {
     let mut all = Items::new(alloc);
     for name in declared {
-        all.push(name.name.copy()?)?;
+        put(&mut all, name.name.copy())?;
     }
     Ok(all)
 }
@@ -93,7 +93,7 @@ impl Elaborator<'_> {
     {
         let mut all = Items::new(self.alloc);
         for proc in procs {
-            all.push(self.procedure(proc)?)?;
+            put(&mut all, self.procedure(proc))?;
         }
         Ok(all)
     }
@@ -114,7 +114,7 @@ impl Elaborator<'_> {
     {
         let mut all = Items::new(self.alloc);
         for named in modes.into_vec() {
-            all.push(self.declaration(named)?)?;
+            put(&mut all, self.declaration(named))?;
         }
         Ok(all)
     }
@@ -148,6 +148,7 @@ pub fn elaborate(alloc: Global, tree: &Tree, modes: Items<NamedMode>) -> Result<
     requires { map (λ d. (d.name, mode_of d.mode)) modes ≡ variables_of tree.now.modes }
     ensures { IfOk result (λ p. plain_program p ≡ program_of tree.now) }
 {
-    let (modes, mut elaborator) = beside(modes, Elaborator::main(alloc, tree))?;
-    elaborator.program(tree, modes)
+    let mut walk = Elaborator::main(alloc, tree)?;
+    let program = walk.program(tree, modes);
+    without(walk, program)
 }

@@ -8,44 +8,26 @@ use Rattle.setl_program.specs.Expressions as spec
 use Rattle.setl_program.specs.Expressions.{part_of, behind_of, turn_of}
 use Rattle.setl_program.specs.code.Plain.{plain_expr, plain_iterator, plain_argument}
 use Rattle.setl_elaborate.specs.Chains.{plain_chain}
-use Rattle.setl_elaborate.specs.Elaborators.{made, past}
+use Rattle.setl_elaborate.specs.Elaborators.{made, past, does}
 use Rattle.setl_elaborate.proofs.elaborator.Elaborator.+expressions.Given as goal
 
 abbrev pub invariant-exprs-loop-x : goal.invariant-exprs-loop-x
-invariant-exprs-loop-x l = record {
-  value : map plain_expr l.all ++ made (spec.terms (map part_of (drop l.x-index l.xs))) l.self ≡ made (spec.terms (map part_of l.xs)) l.initial.self;
-  state : past (spec.terms (map part_of (drop l.x-index l.xs))) l.self ≡ past (spec.terms (map part_of l.xs)) l.initial.self;
-}
+invariant-exprs-loop-x l = (map plain_expr l.all ++ made (spec.terms (map part_of (drop l.x-index l.xs))) l.self, past (spec.terms (map part_of (drop l.x-index l.xs))) l.self) ≡ does (spec.terms (map part_of l.xs)) l.initial.self
 
 abbrev pub invariant-chain-loop-op : goal.invariant-chain-loop-op
-invariant-chain-loop-op l = record {
-  value : made (spec.chain_on (plain_chain l.all) (map (λ x. (x.0, part_of x.1)) (drop l.op-index l.others))) l.self ≡ made (spec.chain (part_of l.first) (map (λ x. (x.0, part_of x.1)) l.others)) l.fn.self;
-  state : past (spec.chain_on (plain_chain l.all) (map (λ x. (x.0, part_of x.1)) (drop l.op-index l.others))) l.self ≡ past (spec.chain (part_of l.first) (map (λ x. (x.0, part_of x.1)) l.others)) l.fn.self;
-}
+invariant-chain-loop-op l = does (spec.chain_on (plain_chain l.all) (map (λ x. (x.0, part_of x.1)) (drop l.op-index l.others))) l.self ≡ does (spec.chain (part_of l.first) (map (λ x. (x.0, part_of x.1)) l.others)) l.fn.self
 
 abbrev pub invariant-selected-loop-selector : goal.invariant-selected-loop-selector
-invariant-selected-loop-selector l = record {
-  value : made (spec.selected (plain_chain l.all) (map behind_of (drop l.selector-index l.selectors))) l.self ≡ made (spec.selected (plain_chain l.initial.all) (map behind_of l.selectors)) l.initial.self;
-  state : past (spec.selected (plain_chain l.all) (map behind_of (drop l.selector-index l.selectors))) l.self ≡ past (spec.selected (plain_chain l.initial.all) (map behind_of l.selectors)) l.initial.self;
-}
+invariant-selected-loop-selector l = does (spec.selected (plain_chain l.all) (map behind_of (drop l.selector-index l.selectors))) l.self ≡ does (spec.selected (plain_chain l.initial.all) (map behind_of l.selectors)) l.initial.self
 
 abbrev pub invariant-iterators-loop-turn : goal.invariant-iterators-loop-turn
-invariant-iterators-loop-turn l = record {
-  value : map plain_iterator l.all ++ made (spec.iterators (map turn_of (drop l.turn-index l.turns))) l.self ≡ made (spec.iterators (map turn_of l.turns)) l.initial.self;
-  state : past (spec.iterators (map turn_of (drop l.turn-index l.turns))) l.self ≡ past (spec.iterators (map turn_of l.turns)) l.initial.self;
-}
+invariant-iterators-loop-turn l = (map plain_iterator l.all ++ made (spec.iterators (map turn_of (drop l.turn-index l.turns))) l.self, past (spec.iterators (map turn_of (drop l.turn-index l.turns))) l.self) ≡ does (spec.iterators (map turn_of l.turns)) l.initial.self
 
 abbrev pub invariant-own_iterators-loop-turn : goal.invariant-own_iterators-loop-turn
-invariant-own_iterators-loop-turn l = record {
-  value : map plain_iterator l.all ++ made (spec.own_iterators l.number l.seen (map turn_of (drop l.turn-index l.turns))) l.self ≡ made (spec.own_iterators l.number [] (map turn_of l.turns)) l.initial.self;
-  state : past (spec.own_iterators l.number l.seen (map turn_of (drop l.turn-index l.turns))) l.self ≡ past (spec.own_iterators l.number [] (map turn_of l.turns)) l.initial.self;
-}
+invariant-own_iterators-loop-turn l = (map plain_iterator l.all ++ made (spec.own_iterators l.number l.seen (map turn_of (drop l.turn-index l.turns))) l.self, past (spec.own_iterators l.number l.seen (map turn_of (drop l.turn-index l.turns))) l.self) ≡ does (spec.own_iterators l.number [] (map turn_of l.turns)) l.initial.self
 
 abbrev pub invariant-arguments-loop-x : goal.invariant-arguments-loop-x
-invariant-arguments-loop-x l = record {
-  value : map plain_argument l.all ++ made (spec.arguments l.left (map part_of (drop l.x-index l.xs))) l.self ≡ made (spec.arguments l.parameters (map part_of l.xs)) l.initial.self;
-  state : past (spec.arguments l.left (map part_of (drop l.x-index l.xs))) l.self ≡ past (spec.arguments l.parameters (map part_of l.xs)) l.initial.self;
-}
+invariant-arguments-loop-x l = (map plain_argument l.all ++ made (spec.arguments l.left (map part_of (drop l.x-index l.xs))) l.self, past (spec.arguments l.left (map part_of (drop l.x-index l.xs))) l.self) ≡ does (spec.arguments l.parameters (map part_of l.xs)) l.initial.self
 
 -- ---- the walk ends
 
@@ -65,9 +47,6 @@ decreases-exprs l = 8 * goal.size-exprs l + 1
 
 abbrev pub decreases-optional : goal.decreases-optional
 decreases-optional l = 8 * goal.size-optional l + 1
-
-abbrev pub decreases-prefixed : goal.decreases-prefixed
-decreases-prefixed l = 8 * goal.size-prefixed l + 1
 
 abbrev pub decreases-selected : goal.decreases-selected
 decreases-selected l = 8 * goal.size-selected l + 1
@@ -144,11 +123,8 @@ decreases-selection l = by (goal.size-selection l ∷ expr.the_size l.x.now ∷ 
 abbrev pub decreases-quantified : goal.decreases-quantified
 decreases-quantified l = by (goal.size-quantified l ∷ expr.the_size l.x.now ∷ []) 2
 
-abbrev pub decreases-range : goal.decreases-range
-decreases-range l = by (goal.size-range l ∷ inside l.b.now ∷ expr.the_size l.c.now ∷ []) 2
-
-abbrev pub decreases-range_source : goal.decreases-range_source
-decreases-range_source l = by (goal.size-range_source l ∷ inside l.b.now ∷ expr.the_size l.c.now ∷ []) 2
+abbrev pub decreases-bounds : goal.decreases-bounds
+decreases-bounds l = by (goal.size-bounds l ∷ inside l.b.now ∷ expr.the_size l.c.now ∷ []) 2
 
 abbrev pub decreases-former : goal.decreases-former
 decreases-former l = by (goal.size-former l ∷ most iter.the_size l.turns.now ∷ inside l.condition.now ∷ []) 3

@@ -6,20 +6,14 @@ use denote.Param.Weighed.{most}
 use Rattle.setl_program.specs.code.Plain.{plain_stmt, plain_branch}
 use Rattle.setl_program.specs.Statements as spec
 use Rattle.setl_program.specs.Statements.{branch_of, lined}
-use Rattle.setl_elaborate.specs.Elaborators.{made, past}
+use Rattle.setl_elaborate.specs.Elaborators.{made, past, does}
 use Rattle.setl_elaborate.proofs.elaborator.Elaborator.+statements.Given as goal
 
 abbrev pub invariant-stmts-loop-x : goal.invariant-stmts-loop-x
-invariant-stmts-loop-x l = record {
-  value : map plain_stmt l.all ++ made (spec.statements (map lined (drop l.x-index l.xs))) l.self ≡ made (spec.statements (map lined l.xs)) l.initial.self;
-  state : past (spec.statements (map lined (drop l.x-index l.xs))) l.self ≡ past (spec.statements (map lined l.xs)) l.initial.self;
-}
+invariant-stmts-loop-x l = (map plain_stmt l.all ++ made (spec.statements (map lined (drop l.x-index l.xs))) l.self, past (spec.statements (map lined (drop l.x-index l.xs))) l.self) ≡ does (spec.statements (map lined l.xs)) l.initial.self
 
 abbrev pub invariant-branches-loop-branch : goal.invariant-branches-loop-branch
-invariant-branches-loop-branch l = record {
-  value : map plain_branch l.all ++ made (spec.branches l.line (map branch_of (drop l.branch-index l.branches))) l.self ≡ made (spec.branches l.line (map branch_of l.branches)) l.initial.self;
-  state : past (spec.branches l.line (map branch_of (drop l.branch-index l.branches))) l.self ≡ past (spec.branches l.line (map branch_of l.branches)) l.initial.self;
-}
+invariant-branches-loop-branch l = (map plain_branch l.all ++ made (spec.branches l.line (map branch_of (drop l.branch-index l.branches))) l.self, past (spec.branches l.line (map branch_of (drop l.branch-index l.branches))) l.self) ≡ does (spec.branches l.line (map branch_of l.branches)) l.initial.self
 
 -- ---- the walk ends
 
@@ -30,14 +24,8 @@ by depths rank = 8 * most (λ n. n) depths + rank
 abbrev pub decreases-stmts : goal.decreases-stmts
 decreases-stmts l = 8 * goal.size-stmts l + 1
 
-abbrev pub decreases-stmt : goal.decreases-stmt
-decreases-stmt l = 8 * goal.size-stmt l
-
 abbrev pub decreases-kind : goal.decreases-kind
 decreases-kind l = 8 * goal.size-kind l
-
-abbrev pub decreases-branch : goal.decreases-branch
-decreases-branch l = 8 * goal.size-branch l
 
 abbrev pub decreases-branches : goal.decreases-branches
 decreases-branches l = 8 * goal.size-branches l + 1
