@@ -11,9 +11,7 @@ mod nestings;
 #[cfg(test)]
 mod programs;
 #[cfg(test)]
-mod reading;
-#[cfg(test)]
-mod texts;
+mod rows;
 #[cfg(test)]
 mod tokens;
 #[cfg(test)]

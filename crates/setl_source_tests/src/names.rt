@@ -1,43 +1,51 @@
 //! The variables of programs, and the rules of names that they break.
 
-use crate::reading::read;
+use crate::rows::{read, show_bytes};
+use setl_names::BodyNames;
 use setl_resolution::resolve;
-use std::alloc::Global;
+use setl_tree::Tree;
+use std::alloc::{AllocError, Global};
 use std::fmt::Write;
-use std::test::Fail;
 
-/// The slots of all bodies of the program of a short source, each with a blank behind it, or the first rule that it
-/// breaks, as a text.
-fn slots(alloc: Global, source: &str) -> Result<Vec<u8>, Fail> {
-    let mut text = Vec::new(alloc);
-    let Some(Ok(tree)) = read(alloc, source.as_bytes()) else {
-        return Ok(text);
-    };
-    match resolve(alloc, &tree) {
-        Ok(bodies) => {
-            for body in bodies.as_slice() {
-                for slot in body.slots.as_slice() {
-                    text.extend_from_slice(slot.bytes())?;
-                    text.push(b' ')?;
-                }
-            }
-        }
-        Err(fault) => text.extend_from_slice(format!(in alloc; "{fault:?}")?.as_bytes())?,
-    }
-    Ok(text)
-}
+/// Programs, and their slots in the order of their first appearance, or the rule that each breaks. A line `====` stands
+/// between two rows.
+pub const PROGRAMS: &str = "program p;
+s := t;
+t := r;
+end; => s t r\x20
+====
+program p;
+quit;
+end; => Broken { rule: 13, line: 2 }";
 
-/// Programs, and their slots in the order of their first appearance, or the rule that each breaks.
-const PROGRAMS: [(&str, &str); 2] = [
-    ("program p;\ns := t;\nt := r;\nend;", "s t r "),
-    ("program p;\nquit;\nend;", "Broken { rule: 13, line: 2 }"),
-];
-
-#[test]
-fn finds_slots_and_broken_rules(rt: HostRuntime) -> Result<(), Fail> {
-    for (source, want) in PROGRAMS {
-        let text = slots(rt.alloc(), source)?;
-        assert_eq!(rt; text.as_slice(), want.as_bytes(), "at {source}");
+/// The slots of a body, each with a blank behind it.
+fn show_body(body: &BodyNames, shown: &mut String) -> Result<(), AllocError> {
+    for slot in body.slots.as_slice() {
+        show_bytes(slot.bytes(), shown)?;
+        shown.push(' ')?;
     }
     Ok(())
+}
+
+fn show_bodies(bodies: &[BodyNames], shown: &mut String) -> Result<(), AllocError> {
+    for body in bodies {
+        show_body(body, shown)?;
+    }
+    Ok(())
+}
+
+/// The slots of all bodies, or the first rule that the program breaks.
+fn show_names(alloc: Global, tree: &Tree, shown: &mut String) -> Result<(), AllocError> {
+    match &resolve(alloc, tree) {
+        Ok(bodies) => show_bodies(bodies.as_slice(), shown),
+        Err(fault) => write!(shown, "{fault:?}"),
+    }
+}
+
+/// The slots of the program of a short source, or the first rule that it breaks.
+pub fn show_slots(alloc: Global, source: &str, shown: &mut String) -> Result<(), AllocError> {
+    match &read(alloc, source.as_bytes()) {
+        Some(Ok(tree)) => show_names(alloc, tree, shown),
+        _ => Ok(()),
+    }
 }

@@ -1,7 +1,9 @@
 //! The limit of nestings.
 
-use crate::reading::outcome;
+use crate::rows::{Table, expect};
 use std::alloc::{AllocError, Global};
+use std::fmt::Write;
+use std::process::Abort;
 use std::test::Fail;
 
 /// Programs with nestings inside one another, a line each: the head, what opens a nesting, the middle, what closes a
@@ -35,12 +37,22 @@ fn fields(row: &str) -> [&str; 7] {
     ]
 }
 
-/// The program of a row with so many nestings.
-fn source(alloc: Global, row: &str, count: usize) -> Result<String, AllocError> {
+fn put_many(text: &str, count: usize, source: &mut String) -> Result<(), AllocError> {
+    for _ in 0..count {
+        source.push_str(text)?;
+    }
+    Ok(())
+}
+
+/// Writes the program of a row with so many nestings.
+fn put_source(row: &str, count: usize, source: &mut String) -> Result<(), AllocError> {
     let [head, open, middle, close, tail, ..] = fields(row);
-    let opened = open.repeat(alloc, count)?;
-    let closed = close.repeat(alloc, count)?;
-    format!(in alloc; "{head}{opened}{middle}{closed}{tail}")
+    source.clear();
+    source.push_str(head)?;
+    put_many(open, count, source)?;
+    source.push_str(middle)?;
+    put_many(close, count, source)?;
+    source.push_str(tail)
 }
 
 /// The outcome that is wanted of it.
@@ -49,14 +61,42 @@ fn wanted(row: &str, count: usize) -> &str {
     if count > 200 { refused } else { parsed }
 }
 
+fn expect_nestings(
+    rt: &impl Abort,
+    alloc: Global,
+    row: &str,
+    source: &mut String,
+    shown: &mut String,
+) -> Result<(), AllocError> {
+    for count in 199..202 {
+        put_source(row, count, source)?;
+        expect(
+            rt,
+            alloc,
+            Table::Outcomes,
+            source.as_str(),
+            wanted(row, count),
+            shown,
+        )?;
+    }
+    Ok(())
+}
+
+fn expect_all(
+    rt: &impl Abort,
+    alloc: Global,
+    source: &mut String,
+    shown: &mut String,
+) -> Result<(), AllocError> {
+    for row in NESTINGS.lines() {
+        expect_nestings(rt, alloc, row, source, shown)?;
+    }
+    Ok(())
+}
+
 #[test]
 fn opens_two_hundred_nestings(rt: HostRuntime) -> Result<(), Fail> {
-    for row in NESTINGS.lines() {
-        for count in 199..202 {
-            let source = source(rt.alloc(), row, count)?;
-            let text = outcome(rt.alloc(), source.as_str())?;
-            assert_eq!(rt; text.as_str(), wanted(row, count), "{count} of {row}");
-        }
-    }
+    let alloc = rt.alloc();
+    expect_all(&rt, alloc, &mut String::new(alloc), &mut String::new(alloc))?;
     Ok(())
 }

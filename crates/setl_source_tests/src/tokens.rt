@@ -1,34 +1,13 @@
 //! Sources and their tokens, and what the lexer's faults read as.
 
-use setl_token::{LexFault, tokens};
-use std::alloc::Global;
+use setl_token::{LexFault, TokenList, tokens};
+use std::alloc::{AllocError, Global};
 use std::fmt::Write;
+use std::process::Abort;
 use std::test::Fail;
 
-/// The tokens of a short source, or its fault, as a text.
-fn shown(alloc: Global, source: &str) -> Result<String, Fail> {
-    let mut text = String::new(alloc);
-    if source.len() > 1000 {
-        return Ok(text);
-    }
-    match tokens(alloc, source.as_bytes()) {
-        Ok(list) => {
-            for i in 0..list.len() {
-                let token = *list.at(i);
-                let kind = token.kind;
-                let from = token.from;
-                let to = token.to;
-                let line = token.line;
-                write!(text, "{kind:?} {from} {to} {line};")?;
-            }
-        }
-        Err(fault) => write!(text, "{fault:?}")?,
-    }
-    Ok(text)
-}
-
 /// Sources, and their tokens with their kinds, places and lines, or their faults. A line `====` stands between two rows.
-const SOURCES: &str = " =>\x20
+pub const SOURCES: &str = " =>\x20
 ====
 x:=1; => Name 0 1 1;Sign 1 3 1;Number(1) 3 4 1;Sign 4 5 1;
 ====
@@ -62,59 +41,105 @@ x := 'ab => OpenString { at: 5 }
 ====
 - 170141183460469231731687303715884105728 ? => WideNumber { at: 2 }";
 
-#[test]
-fn finds_the_tokens_of_a_source(rt: HostRuntime) -> Result<(), Fail> {
-    for row in SOURCES.split("\n====\n") {
-        let (source, want) = row.split_once(" => ").unwrap_or((row, ""));
-        let text = shown(rt.alloc(), source)?;
-        assert_eq!(rt; text.as_str(), want, "at {source}");
+fn show_token(list: &TokenList, i: usize, shown: &mut String) -> Result<(), AllocError> {
+    if i >= list.len() {
+        return Ok(());
+    }
+    let token = *list.at(i);
+    let kind = token.kind;
+    let from = token.from;
+    let to = token.to;
+    let line = token.line;
+    write!(shown, "{kind:?} {from} {to} {line};")
+}
+
+fn show_list(list: &TokenList, shown: &mut String) -> Result<(), AllocError> {
+    for i in 0..list.len() {
+        show_token(list, i, shown)?;
     }
     Ok(())
+}
+
+/// The tokens of a short source, or its fault.
+pub fn show_tokens(alloc: Global, source: &str, shown: &mut String) -> Result<(), AllocError> {
+    if source.len() > 1000 {
+        return Ok(());
+    }
+    match &tokens(alloc, source.as_bytes()) {
+        Ok(list) => show_list(list, shown),
+        Err(fault) => write!(shown, "{fault:?}"),
+    }
+}
+
+// The places of words and signs in a source, a line each, and whether they stand there.
+const PLACES: &str = "0 word if true
+0 word in false
+1 word x_1 false
+5 word if false
+2 sign /= true
+2 sign / false
+3 sign 'a' false
+4 sign ; true";
+
+fn expect_place(rt: &impl Abort, list: &TokenList, row: &str) {
+    let (at, rest) = row.split_once(' ').unwrap_or((row, ""));
+    let (kind, rest) = rest.split_once(' ').unwrap_or((rest, ""));
+    let (spelled, want) = rest.split_once(' ').unwrap_or((rest, ""));
+    let at = at.parse().unwrap_or(9);
+    let is_there = match kind {
+        "word" => list.is_word(at, spelled.as_bytes()),
+        _ => list.is_sign(at, spelled.as_bytes()),
+    };
+    assert_eq!(rt; is_there, want == "true", "{row}");
+}
+
+fn expect_places(rt: &impl Abort, list: &TokenList) {
+    for row in PLACES.lines() {
+        expect_place(rt, list, row);
+    }
+}
+
+fn expect_list(rt: &impl Abort, list: &TokenList) {
+    assert_eq!(rt; list.len(), 5);
+    assert!(rt; !list.is_empty());
+    assert_eq!(rt; list.source(), b"If x_1 /= 'a';".as_slice());
+    assert_eq!(rt; list.text(1), b"x_1".as_slice());
+    expect_places(rt, list);
 }
 
 #[test]
 fn reads_the_tokens_of_a_list(rt: HostRuntime) -> Result<(), Fail> {
     let list = tokens(rt.alloc(), b"If x_1 /= 'a';")?;
-    assert_eq!(rt; list.len(), 5);
-    assert!(rt; !list.is_empty());
-    assert_eq!(rt; list.source(), b"If x_1 /= 'a';".as_slice());
-    assert_eq!(rt; list.text(1), b"x_1".as_slice());
-    for (i, word, want) in [
-        (0, "if", true),
-        (0, "in", false),
-        (1, "x_1", false),
-        (5, "if", false),
+    expect_list(&rt, &list);
+    Ok(())
+}
+
+const SENTENCES: &str = "byte 3 begins no token
+the string at byte 4 isn't closed
+the number at byte 5 is too large
+out of memory
+";
+
+fn show_faults(shown: &mut String) -> Result<(), AllocError> {
+    for fault in [
+        LexFault::Byte { at: 3 },
+        LexFault::OpenString { at: 4 },
+        LexFault::WideNumber { at: 5 },
+        LexFault::NoMemory,
     ] {
-        assert_eq!(rt; list.is_word(i, word.as_bytes()), want, "{word} at {i}");
+        writeln!(shown, "{fault}")?;
     }
-    for (i, sign, want) in [
-        (2, "/=", true),
-        (2, "/", false),
-        (3, "'a'", false),
-        (4, ";", true),
-    ] {
-        assert_eq!(rt; list.is_sign(i, sign.as_bytes()), want, "{sign} at {i}");
-    }
+    Ok(())
+}
+
+fn expect_sentences(rt: &impl Abort, shown: &mut String) -> Result<(), AllocError> {
+    show_faults(shown)?;
+    assert_eq!(rt; shown.as_str(), SENTENCES);
     Ok(())
 }
 
 #[test]
 fn faults_read_as_sentences(rt: HostRuntime) -> Result<(), Fail> {
-    let table = [
-        (LexFault::Byte { at: 3 }, "byte 3 begins no token"),
-        (
-            LexFault::OpenString { at: 4 },
-            "the string at byte 4 isn't closed",
-        ),
-        (
-            LexFault::WideNumber { at: 5 },
-            "the number at byte 5 is too large",
-        ),
-        (LexFault::NoMemory, "out of memory"),
-    ];
-    for (fault, want) in table {
-        let text = format!(in rt.alloc(); "{fault}")?;
-        assert_eq!(rt; text.as_str(), want);
-    }
+    expect_sentences(&rt, &mut String::new(rt.alloc()))?;
     Ok(())
 }
