@@ -1,8 +1,9 @@
 use Rattle.std.proofs.Common.{◌≡◌, ◌≤◌, ◌<◌, ◌+◌, ◌⊎◌, ℕ, arith, ap, map, length, inl, inr, take}
 use Rattle.std.specs.Prelude.{suc}
-use Rattle.setl_value.specs.code.Body.{joined}
+use Rattle.setl_pages.specs.Pages.{joined}
 use Rattle.setl_value.specs.code.DatumOf.{page}
-use Rattle.setl_value.proofs.PageSearch.{stepped}
+use Rattle.setl_pages.specs.PageLaws.{stepped}
+use Rattle.setl_value.proofs.PagesOfData.{size_data}
 use Rattle.setl_value.proofs.body.place_behind.Goals as goal
 
 no_later : {a b : ℕ} {P : Type 0} → (a < b) ⊎ ((a ≡ b) × P) → a ≤ b
@@ -13,8 +14,8 @@ pub loop-index-preserved : goal.loop-index-preserved
 loop-index-preserved c =
     let ps = map page c.args.list.now in
     let k = c.loop-index.page in
-    let s = stepped ps k c.loop-index.index c.requires.pages (omega (arith, c.size_at.ensures, c.loop-index-test.true)) (omega (arith, c.loop-index.invariant.1, c.requires.there)) in (
+    let s = stepped ps k c.loop-index.index c.requires.pages (omega (arith, c.size_at.ensures, size_data c.args.list.now k, c.loop-index-test.true)) (omega (arith, c.loop-index.invariant.1, c.requires.there)) in (
       omega (arith, s.0),
-      omega (arith, ap (λ n. length (joined (take n ps))) {x = k + 1} {y = suc k} (omega arith), s.1, c.size_at-index.ensures, c.loop-index.invariant.1),
+      omega (arith, ap (λ n. length (joined (take n ps))) {x = k + 1} {y = suc k} (omega arith), s.1, c.size_at-index.ensures, size_data c.args.list.now k, c.loop-index.invariant.1),
       inl (omega (arith, no_later c.loop-index.invariant.2)),
     )
