@@ -1,12 +1,11 @@
 -- Pages of values, and the pages of data that they stand for.
-use Rattle.std.specs.Prelude.{◌≡◌, ℕ, zero, suc, ◌<◌, ◌≤◌, List, [], ◌∷◌, ◌++◌, Some, length, take, drop, map, refl, slice_get, slice_index_or, slice_set}
+use Rattle.std.specs.Prelude.{◌≡◌, ℕ, zero, suc, ◌<◌, List, [], ◌∷◌, ◌++◌, Some, length, take, drop, map, refl, slice_get, slice_index_or, slice_set}
 use Rattle.std.specs.List.{AllByRecursion, AllZip}
 use Rattle.std.specs.Option.{option_map}
-use Rattle.std.proofs.Common.{arith, ap, sym, ◌∙◌, subst}
+use Rattle.std.proofs.Common.{arith, ap, sym, ◌∙◌, subst, Result, Ok, Err, OnErr}
 use Rattle.std.proofs.lemmas.List.{drop-map, length-map, map-append, take-map}
 use Rattle.std.proofs.lemmas.Option.{slice_get-map}
 use Rattle.setl_pages.specs.Exchange.{Exchanges, page_sizes, put_size}
-use Rattle.setl_pages.specs.ListLaws.{map-between}
 use Rattle.setl_pages.specs.PageLaws.{Shared, page_was}
 use Rattle.setl_pages.specs.PageLaws as pages
 use Rattle.setl_pages.specs.Pages.{IsIn, IsPage, items, joined, page_at}
@@ -89,8 +88,8 @@ module _ (xs : List (Shared Value)) where
         subst (λ ps. Exchanges ps (map page ys) k i l j (map datum vs)) (sym (as_data xs))
         (subst (λ qs. Exchanges (map (map datum) (map items xs)) qs k i l j (map datum vs)) (sym (as_data ys)) (exchanges_map datum e))
 
-    pub put_data : {k : ℕ} → page_sizes (map items ys) ≡ put_size (page_sizes (map items xs)) k → page_sizes (map page ys) ≡ put_size (page_sizes (map page xs)) k
-    put_data {k} e =
+    pub put_data : (k : ℕ) → page_sizes (map items ys) ≡ put_size (page_sizes (map items xs)) k → page_sizes (map page ys) ≡ put_size (page_sizes (map page xs)) k
+    put_data k e =
         ap page_sizes (as_data ys) ∙ sizes_map datum (map items ys) ∙ e
         ∙ ap (λ ns. put_size ns k) (sym (ap page_sizes (as_data xs) ∙ sizes_map datum (map items xs)))
 
@@ -103,6 +102,11 @@ lent_page xs k p h e = page_data xs k ∙ ap (map datum) (page_was xs k p h e)
 
 pub unwritten : (xs : List (Shared Value)) (k : ℕ) (p q : Shared Value) → k < length xs → p ≡ slice_index_or xs k p → q.value.items ≡ p.value.items → map page (slice_set xs k q) ≡ map page xs
 unwritten xs k p q h e w = same_data xs (slice_set xs k q) (pages.unwritten xs k p q h e w)
+
+-- what holds, holds where an error is handed on
+pub still : {T E P : Type 0} (r : Result T E) → P → OnErr r P
+still (Ok v) p = tt
+still (Err e) p = p
 
 -- shares of the same pages
 pub cloned : (xs ys : List (Shared Value)) → AllZip (λ p copy. copy.value ≡ p.value) xs ys → map page ys ≡ map page xs

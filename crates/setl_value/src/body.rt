@@ -135,7 +135,6 @@ impl Pages {
     }
 
     /// The place that is `count` members behind a place.
-#[tactic(auto, using(crate::proofs::PagesOfData::size_data))]
     pub(crate) fn place_after(&self, c: Cursor, count: usize) -> Cursor
         requires place { HasPlace self.now c }
         requires there { rank self.now c + count ≤ length (Members self.now) }

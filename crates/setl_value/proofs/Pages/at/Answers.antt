@@ -9,6 +9,10 @@ use Rattle.setl_value.specs.WellFormed.{IsSetList}
 use Rattle.setl_value.proofs.PagesOfData.{item_data, size_data}
 use Rattle.setl_value.proofs.Pages.at.Goals as goal
 
+pub bounds-items_at-place : goal.bounds-items_at-place
+bounds-items_at-place c =
+    omega (arith, c.standing-place.ensures.index, ap length c.items_at.ensures, size_data c.as_slice-list.result.now c.standing-place.result.page)
+
 pub returns-clause-member : goal.returns-clause-member
 returns-clause-member c =
     let xs = c.as_slice-list.result.now in

@@ -1,6 +1,6 @@
 use Rattle.std.proofs.Common.{◌≡◌, ap, sym, subst, ◌∙◌, arith, map, Some, slice_get, slice_set}
-use Rattle.std.specs.Prelude.{IfNone, IfSome, unwrap_or, None}
-use Rattle.setl_pages.specs.Pages.{joined, page_at, rank_in}
+use Rattle.std.specs.Prelude.{◌<◌, length, IfNone, IfSome, unwrap_or, None}
+use Rattle.setl_pages.specs.Pages.{items, joined, page_at, rank_in}
 use Rattle.setl_value.specs.code.Body.{Members}
 use Rattle.setl_value.specs.code.Changing.{ChangesPair, with_member}
 use Rattle.setl_value.specs.code.Counted.{IsCounted}
@@ -10,6 +10,7 @@ use Rattle.setl_value.specs.Order.{IsRising}
 use Rattle.setl_value.specs.Pairs.{pair_parts}
 use Rattle.setl_value.specs.code.Places.{rank}
 use Rattle.setl_value.specs.WellFormed.{IsValue}
+use Rattle.std.proofs.lemmas.Option.{slice_get_within}
 use Rattle.setl_value.proofs.Changing.{in_set, member_counted, member_joined, member_kept, member_now, shallow}
 use Rattle.setl_value.proofs.Others.{counted}
 use Rattle.setl_value.proofs.PagesOfData.{body_of, item_data, size_data}
@@ -23,6 +24,16 @@ change_second-requires-clause-grows g c = λ m there.
     let i = c.standing-place.result.index in
     let r : rank_in ps k i ≡ rank_in ps c.args.c.page c.args.c.index = subst (λ l. rank_in (map page l) k i ≡ rank_in (map page l) c.args.c.page c.args.c.index) c.as_slice.ensures.value c.standing-place.ensures.rank in
     c.requires.grows m (subst (λ b. slice_get (Members b) (rank b c.args.c) ≡ Some m) c.self.view_is (ap (slice_get (joined ps)) (sym r) ∙ in_set ps k i m there))
+
+pub item_at-member-requires : goal.item_at-member-requires
+item_at-member-requires g c =
+    let ps = map page c.self.inside.list.items in
+    let ys = c.change_second.new.list.items in
+    let k = c.standing-place.result.page in
+    let i = c.standing-place.result.index in
+    let e = subst (λ o. IfSome o (λ a. (m : Datum) × (n : Datum) × (slice_get (page_at ps k) i ≡ Some m) × ChangesPair g.F.FnOnce c.args.change m a n × (map page ys ≡ with_member ps k i n))) c.in-Some.is c.in_ok-change_second.ensures.changed in
+    let here : slice_get (page_at (map page ys) k) i ≡ Some e.1 = ap (λ l. slice_get (page_at l k) i) e.4 ∙ member_now ps k i e.0 e.2 e.1 in
+    subst (λ l. i < length (page_at (map items l) k)) (sym c.as_slice-in-Some.ensures.value) (omega (arith, slice_get_within (page_at (map page ys) k) i e.1 here, size_data ys k))
 
 pub invariant_of-self-in-Some : goal.invariant_of-self-in-Some
 unfolding rank

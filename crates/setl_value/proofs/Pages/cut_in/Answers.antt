@@ -6,11 +6,30 @@ use Rattle.setl_value.proofs.Others.{count_remove}
 use Rattle.setl_pages.specs.PageLaws.{item_of}
 use Rattle.setl_pages.specs.Pages.{joined, page_at, rank_in}
 use Rattle.setl_value.specs.code.Body.{Members}
+use Rattle.setl_value.specs.code.Counted.{IsCounted}
 use Rattle.setl_value.specs.Datum.{depth, set_of}
 use Rattle.setl_value.specs.code.DatumOf.{datum, page}
 use Rattle.setl_value.specs.code.Places.{HasPlace, rank}
-use Rattle.setl_value.proofs.PagesOfData.{exchanges_data, item_data, size_data, was_in, were_pages}
+use Rattle.setl_value.proofs.PagesOfData.{body_of, exchanges_data, item_data, same_data, size_data, still, were_pages}
 use Rattle.setl_value.proofs.Pages.cut_in.Goals as goal
+
+pub cut_page-requires-clause-pages : goal.cut_page-requires-clause-pages
+cut_page-requires-clause-pages c = were_pages c.self.inside.list.items c.self.invariant.pages
+
+pub cut_page-requires-clause-item : goal.cut_page-requires-clause-item
+cut_page-requires-clause-item c =
+    let k = c.standing-place.result.page in
+    let i = c.standing-place.result.index in
+    let h : i < length (page_at (map page c.self.inside.list.items) k) = subst (λ l. i < length (page_at (map page l) k)) c.as_slice.ensures.value c.standing-place.ensures.index in
+    omega (arith, h, size_data c.self.inside.list.items k)
+
+pub invariant_of-self : goal.invariant_of-self
+invariant_of-self c =
+    subst (λ ps. IsCounted ps c.self.inside.count c.self.inside.deep c.self.inside.others) (sym (same_data c.self.inside.list.items c.cut_page.new.list.items c.in_err-v.ensures.refused)) c.self.invariant
+
+pub returns-in_err-v-clause-refused : goal.returns-in_err-v-clause-refused
+returns-in_err-v-clause-refused c =
+    still c.from_residual.result (ap body_of (same_data c.self.inside.list.items c.cut_page.new.list.items c.in_err-v.ensures.refused) ∙ c.self.view_is)
 
 pub depth_without-self-inside-requires-clause-cut : goal.depth_without-self-inside-requires-clause-cut
 depth_without-self-inside-requires-clause-cut c =

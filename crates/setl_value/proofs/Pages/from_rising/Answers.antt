@@ -22,3 +22,6 @@ invariant_of-result c =
       deepest = c.depth_of-deep.ensures ∙ ap (λ l. depth (set_of (map datum l))) c.as_slice-2.ensures.value ∙ ap (λ l. depth (set_of l)) (sym w);
       no_pairs = c.others_in-others.ensures ∙ ap (λ l. other_count (map datum l)) c.as_slice-3.ensures.value ∙ ap other_count (sym w);
     }
+
+pub returns : goal.returns
+returns c = record { made = joined_data c.in_ok-paged.field-0.items ∙ ap (map datum) c.in_ok-paged.ensures.all }

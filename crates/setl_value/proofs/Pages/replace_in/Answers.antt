@@ -5,15 +5,16 @@ use Rattle.setl_pages.specs.ListLaws.{replaced}
 use Rattle.setl_value.proofs.Bodies.{depth_replaced}
 use Rattle.setl_value.proofs.Counting.{part_counted, gone_few, gone_shallow, others_fit, depth_left}
 use Rattle.setl_pages.specs.PageLaws.{exchanged_between}
-use Rattle.setl_pages.specs.Pages.{joined, page_at, rank_in}
+use Rattle.setl_pages.specs.Pages.{IsIn, joined, page_at, rank_in}
 use Rattle.setl_value.specs.code.Body.{Members}
+use Rattle.setl_value.specs.code.Counted.{IsCounted}
 use Rattle.setl_value.specs.Datum.{depth, set_of}
 use Rattle.setl_value.specs.code.DatumOf.{datum, page}
 use Rattle.setl_value.specs.Order.{IsRising}
 use Rattle.setl_value.specs.Pairs.{other_count}
 use Rattle.setl_value.specs.code.Places.{HasPlace, rank}
 use Rattle.setl_value.specs.WellFormed.{IsWellFormed}
-use Rattle.setl_value.proofs.PagesOfData.{exchanges_data, was_in, were_pages}
+use Rattle.setl_value.proofs.PagesOfData.{body_of, exchanges_data, same_data, still, was_in, were_pages}
 use Rattle.setl_value.proofs.Pages.replace_in.Goals as goal
 
 pub leaving-gone-requires : goal.leaving-gone-requires
@@ -102,6 +103,28 @@ overflow_add-self c =
     let gone : c.leaving-gone.result.others ≡ other_count (take n (drop r (joined ps))) = c.leaving-gone.ensures.others ∙ ap (λ l. other_count (take n l)) behind in
     let there : r + n ≤ length (joined ps) = subst (λ b. rank b c.args.c + n ≤ length (Members b)) (sym c.self.view_is) c.requires.there in
     omega (arith, others_fit r n c.leaving-gone.result.others ms c.self.invariant there gone, c.others_in-others.ensures, ap (λ l. other_count (map datum l)) c.as_slice-2.ensures.value, c.in_ok-total.ensures.0, c.in_ok-total.ensures.1, c.len.ensures, length-map c.args.by.items datum)
+
+pub replace_pages-requires-clause-pages : goal.replace_pages-requires-clause-pages
+replace_pages-requires-clause-pages c = were_pages c.self.inside.list.items c.self.invariant.pages
+
+pub replace_pages-requires-clause-from : goal.replace_pages-requires-clause-from
+unfolding HasPlace
+replace_pages-requires-clause-from c =
+    was_in c.self.inside.list.items c.args.c.page c.args.c.index (subst (λ b. HasPlace b c.args.c) (sym c.self.view_is) c.requires.place)
+
+pub replace_pages-requires-clause-to : goal.replace_pages-requires-clause-to
+replace_pages-requires-clause-to c =
+    let l = c.place_behind-end.result.page in
+    let j = c.place_behind-end.result.index in
+    was_in c.self.inside.list.items l j (subst (λ q. IsIn (map page q) l j) c.as_slice-list.ensures.value c.place_behind-end.ensures.place)
+
+pub invariant_of-self : goal.invariant_of-self
+invariant_of-self c =
+    subst (λ ps. IsCounted ps c.self.inside.count c.self.inside.deep c.self.inside.others) (sym (same_data c.self.inside.list.items c.replace_pages.new.list.items c.in_err-replace_pages.ensures.refused)) c.self.invariant
+
+pub returns-in_err-replace_pages-clause-refused : goal.returns-in_err-replace_pages-clause-refused
+returns-in_err-replace_pages-clause-refused c =
+    still c.from_residual-in_err-replace_pages.result (ap body_of (same_data c.self.inside.list.items c.replace_pages.new.list.items c.in_err-replace_pages.ensures.refused) ∙ c.self.view_is)
 
 pub invariant_of-self-2 : goal.invariant_of-self-2
 unfolding HasPlace rank

@@ -1,4 +1,4 @@
-use Rattle.std.proofs.Common.{List, ℕ, max, Option, ◌≡◌, ◌∙◌, ◌+◌, ◌<◌, ◌≤◌, ◌∷◌, ap, arith, sym, subst, map, drop, length}
+use Rattle.std.proofs.Common.{List, ℕ, max, Option, ◌≡◌, ◌∙◌, ◌+◌, ◌<◌, ◌≤◌, ap, arith, sym, subst, map, drop, length}
 use Rattle.std.proofs.lemmas.Bool.{ltb-false}
 use Rattle.std.proofs.lemmas.List.{length-drop}
 use Rattle.setl_value.specs.Datum.{Datum, depth, part_depth, tuple_of}
