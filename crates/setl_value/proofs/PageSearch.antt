@@ -4,14 +4,14 @@ use Rattle.std.specs.List.{AllByRecursion}
 use Rattle.std.specs.List.Sorted.{IsStrictlySortedBy}
 use Rattle.std.specs.Ordering.{is_lt}
 use Rattle.std.specs.declared.cmp.Ordering.TheVariants.{Less}
-use Rattle.std.proofs.Common.{arith, inl, inr, ap, sym, ◌∙◌, subst}
-use Rattle.setl_pages.specs.ListLaws.{all_append, none_left}
-use Rattle.setl_pages.specs.PageLaws.{dropped, item_of, pages_before, pages_behind, rank_from, rank_grows, rank_rises, rank_within, taken}
+use Rattle.std.proofs.Common.{arith, inl, inr, sym, ◌∙◌, subst}
+use Rattle.setl_pages.specs.ListLaws.{all_append}
+use Rattle.setl_pages.specs.PageLaws.{dropped, item_of, pages_before, pages_behind, rank_grows, rank_rises, rank_within, taken}
 use Rattle.setl_pages.specs.Pages.{IsPage, joined, page_at, rank_in}
 use Rattle.setl_value.specs.Datum.{Datum}
 use Rattle.setl_value.specs.Order.{datum_cmp, IsRising}
 use Rattle.setl_value.specs.code.Places.{IsBound, IsBetween}
-use Rattle.setl_value.proofs.Halving.{raised, lowered, all_between}
+use Rattle.setl_value.proofs.Halving.{raised, lowered}
 
 all_fewer : {X : Type 0} (P : X → Type 0) (xs : List X) (n m : ℕ) → n ≤ m → AllByRecursion P (take m xs) → AllByRecursion P (take n xs)
 all_fewer P xs zero m h a = tt
@@ -49,11 +49,6 @@ bound_in_page d ps k i h b p = record {
       (all_append (λ e. is_lt (datum_cmp e d) ≡ false) (drop i (page_at ps k)) (joined (drop (suc k) ps)) p.after
       (subst (AllByRecursion (λ e. is_lt (datum_cmp e d) ≡ false)) (pages_behind ps (suc k)) b.after));
 }
-
--- at first all pages are between
-pub pages_between : (d : Datum) (ps : List (List Datum)) (n : ℕ) → n ≡ length ps → IsBetween d (joined ps) (rank_in ps 0 0) (rank_in ps n 0)
-pages_between d ps n e =
-    subst (λ m. IsBetween d (joined ps) 0 m) {x = length (joined ps)} (omega (arith, rank_from ps n, ap (λ l. length (joined l)) (none_left ps n (omega (arith, e))))) (all_between d (joined ps))
 
 -- at last one page is, or there is none
 pub one_between : (d : Datum) (ps : List (List Datum)) (low high : ℕ) → low ≤ high → high ≤ low + 1 → (low < high) ⊎ (length ps ≡ 0) → high ≤ length ps → IsBetween d (joined ps) (rank_in ps low 0) (rank_in ps high 0)
