@@ -49,7 +49,7 @@ fn add_page<T: Drop>(alloc: Global, list: &mut Vec<Page<T>>, v: T) -> Result<(),
     ensures refused { OnErr result (map items list.new.items ≡ map items list.old.items) }
 {
     let mut members = Vec::with_capacity(alloc, 1)?;
-    members.push(v)?;
+    members.push_reserved(v);
     list.push(Rc::new(alloc, members)?)?;
     Ok(())
 }
@@ -120,8 +120,8 @@ fn two_pages<T: Drop>(alloc: Global, left: Vec<T>, right: Vec<T>) -> Result<Vec<
     ensures { IfOk result (λ two. map items two.items ≡ left.items ∷ right.items ∷ []) }
 {
     let mut two = Vec::with_capacity(alloc, 2)?;
-    two.push(Rc::new(alloc, left)?)?;
-    two.push(Rc::new(alloc, right)?)?;
+    two.push_reserved(Rc::new(alloc, left)?);
+    two.push_reserved(Rc::new(alloc, right)?);
     Ok(two)
 }
 
