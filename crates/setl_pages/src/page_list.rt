@@ -18,8 +18,7 @@ pub type Page<T> = Rc<Vec<T>>;
 /// The most items of a page.
 const MOST: usize = 64;
 
-/// Puts `v` at the i-th place of the k-th page. A page that would have 65 items becomes two, of 32 and 33; where there is
-/// no page, `v` comes on a new one.
+/// Puts `v` at the i-th place of the k-th page. A page that would have 65 items becomes two.
 pub fn put_page<T: Clone + Drop>(
     alloc: Global,
     list: &mut Vec<Page<T>>,
@@ -171,9 +170,7 @@ fn cut_from_page<T: Clone + Drop>(list: &mut Vec<Page<T>>, k: usize, i: usize) -
     cut_in(changed, i)
 }
 
-/// Puts `by` in the place of what stands from the place `from` to before the place `to`, each a page and a place in it. It
-/// is written where it stands if it fits that page, and else the pages that it touches are made anew, all of about the
-/// same size.
+/// Puts `by` in the place of what stands from the i-th place of the k-th page to before the j-th place of the l-th page.
 pub fn replace_pages<T: Clone + Drop>(
     alloc: Global,
     list: &mut Vec<Page<T>>,

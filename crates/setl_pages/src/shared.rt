@@ -63,9 +63,9 @@ pub fn drop_front<T: Clone + Drop>(items: &mut Rc<Vec<T>>, n: usize) -> Result<(
     Ok(())
 }
 
-/// Takes the first item off what stands from the place `start` on, and moves that place on by one. Of a list with no other
-/// owner the item is moved out, and None stands where it was; of one with others it is copied, and the list stays as it
-/// is. Where memory is refused, nothing is changed.
+/// Takes the item at the place `start` off the front of what stands from there on, and moves the place on by one. Of a list
+/// with no other owner the item is moved out, and None stands in its place. Of one with others it is copied, and the
+/// list stays as it is. The error is want of memory, and then nothing is changed.
 pub fn take_first<T: Clone + Drop>(
     items: &mut Rc<Vec<Option<T>>>,
     start: &mut usize,
