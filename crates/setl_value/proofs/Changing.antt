@@ -9,10 +9,10 @@ use Rattle.std.proofs.lemmas.Option.{none-some, slice_get-map, slice_get_within}
 use Rattle.setl_value.specs.declared.Value.{Value}
 use Rattle.setl_value.specs.Datum.{Datum, depth, part_depth, parts_depth, parts_of, part_list-parts_of, set_of, tuple_of}
 use Rattle.setl_value.specs.code.DatumOf.{datum, page, part}
-use Rattle.setl_value.specs.code.Body.{IsPage, joined}
+use Rattle.setl_pages.specs.Pages.{IsPage, joined, page_at, rank_in}
 use Rattle.setl_value.specs.code.Counted.{IsCounted}
-use Rattle.setl_value.specs.code.Exchange.{Exchanges, with_member}
-use Rattle.setl_value.specs.code.Places.{page_at, rank_in}
+use Rattle.setl_pages.specs.Exchange.{Exchanges}
+use Rattle.setl_value.specs.code.Changing.{with_member}
 use Rattle.setl_value.specs.Order.{IsRising}
 use Rattle.setl_value.specs.Pairs.{other_count, pair, pair_parts}
 use Rattle.setl_value.specs.WellFormed.{EndsIn, IsSetList, IsTrimmed, IsTupleList, IsWellFormed, PartsAreWellFormed}
@@ -20,7 +20,8 @@ use Rattle.setl_value.proofs.Depths.{parts_cons}
 use Rattle.setl_value.proofs.Fronts.{deep_of, ends_later}
 use Rattle.setl_value.proofs.Bodies.{IsMember, set_facts, set_made}
 use Rattle.setl_value.proofs.Others.{counted}
-use Rattle.setl_value.proofs.Paging.{Shared, exchanged, exchanged_pages, member_of, one_page, page_there, page_was, size_there}
+use Rattle.setl_pages.specs.PageLaws.{Shared, exchanged, exchanged_pages, item_of, one_page, page_there, size_there}
+use Rattle.setl_value.proofs.PagesOfData.{lent_page}
 
 -- ---- lists
 
@@ -153,14 +154,14 @@ module _ (ps : List (Option Datum)) (h : is_some (pair_parts (tuple_of ps)) ≡ 
 
 -- ---- a member of a page
 
-module _ (xs : List Shared) (k i : ℕ) (p : Shared) (within : k < length xs) (lent : p ≡ slice_index_or xs k p) where
+module _ (xs : List (Shared Value)) (k i : ℕ) (p : Shared Value) (within : k < length xs) (lent : p ≡ slice_index_or xs k p) where
   pub member_was : (v : Value) → slice_get p.value.items i ≡ Some v → slice_get (page_at (map page xs) k) i ≡ Some (datum v)
-  member_was v h = ap (λ l. slice_get l i) (page_was xs k p within lent) ∙ slice_get-map datum p.value.items i ∙ ap (option_map datum) h
+  member_was v h = ap (λ l. slice_get l i) (lent_page xs k p within lent) ∙ slice_get-map datum p.value.items i ∙ ap (option_map datum) h
 
-  pub member_written : (q : Shared) (w : Value) → q.value.items ≡ slice_set p.value.items i w → map page (slice_set xs k q) ≡ with_member (map page xs) k i (datum w)
+  pub member_written : (q : Shared Value) (w : Value) → q.value.items ≡ slice_set p.value.items i w → map page (slice_set xs k q) ≡ with_member (map page xs) k i (datum w)
   member_written q w h =
       map-set page xs k q
-      ∙ ap (slice_set (map page xs) k) (ap (map datum) h ∙ map-set datum p.value.items i w ∙ ap (λ l. slice_set l i (datum w)) (sym (page_was xs k p within lent)))
+      ∙ ap (slice_set (map page xs) k) (ap (map datum) h ∙ map-set datum p.value.items i w ∙ ap (λ l. slice_set l i (datum w)) (sym (lent_page xs k p within lent)))
 
 -- ---- a member of a set
 
@@ -195,7 +196,7 @@ module _ (ps : List (List Datum)) (k i : ℕ) (m : Datum) (there : slice_get (pa
   inside = slice_get_within (page_at ps k) i m there
 
   pub in_set : slice_get (joined ps) (rank_in ps k i) ≡ Some m
-  in_set = member_of ps k i inside ∙ there
+  in_set = item_of ps k i inside ∙ there
 
   -- a member isn't too deep for one
   pub shallow : IsSetList (joined ps) → depth m < 500

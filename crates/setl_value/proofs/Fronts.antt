@@ -4,8 +4,7 @@ use Rattle.std.specs.List.{remove}
 use Rattle.std.specs.Option.{unwrap_or}
 use Rattle.std.proofs.Common.{arith, ap, sym, ◌∙◌, subst}
 use Rattle.std.proofs.Common.{◌⊎◌, inl, inr}
-use Rattle.std.proofs.lemmas.List.{append-nil, drop-append-le, drop-map, drop-set-lt, length-drop, length-map, length-set, map-append, length-append}
-use Rattle.std.proofs.lemmas.Option.{none-some}
+use Rattle.std.proofs.lemmas.List.{append-nil, drop-append-le, drop-map, length-drop, length-map, length-set, map-append, length-append}
 use Rattle.setl_value.specs.declared.Value.{Value}
 use Rattle.setl_value.specs.Datum.{Datum, depth, part_depth, parts_depth, parts_of, part_list, part_list-parts_of, tuple_of}
 use Rattle.setl_value.specs.code.DatumOf.{part}
@@ -84,17 +83,7 @@ drop_remove {X} s i xs h = go s (s + i) xs refl h
     go (suc s) (suc m) [] e h = absurd (omega (arith, h))
     go (suc s) (suc m) (x ∷ xs) e h = go s m xs (omega (arith, e)) (omega (arith, h))
 
--- the front, and what is behind it
-pub front_there : {X : Type 0} (s : ℕ) (xs : List X) (x : X) → slice_get xs s ≡ Some x → drop s xs ≡ x ∷ drop (s + 1) xs
-front_there {X} s xs x h = subst (λ k. drop s xs ≡ x ∷ drop k xs) {x = suc s} (omega arith) (go s xs h)
-  where
-    go : (s : ℕ) (xs : List X) → slice_get xs s ≡ Some x → drop s xs ≡ x ∷ drop (suc s) xs
-    go zero [] h = absurd (none-some x h)
-    go (suc s) [] h = absurd (none-some x h)
-    go zero (y ∷ xs) h = ap (λ o. unwrap_or o y ∷ xs) h
-    go (suc s) (y ∷ xs) h = go s xs h
-
-drop_one : {X : Type 0} (s : ℕ) (xs : List X) → drop (s + 1) xs ≡ drop 1 (drop s xs)
+pub drop_one : {X : Type 0} (s : ℕ) (xs : List X) → drop (s + 1) xs ≡ drop 1 (drop s xs)
 drop_one {X} s xs = subst (λ k. drop k xs ≡ drop 1 (drop s xs)) {x = suc s} (omega arith) (go s xs)
   where
     go : (s : ℕ) (xs : List X) → drop (suc s) xs ≡ drop 1 (drop s xs)
@@ -123,9 +112,6 @@ tuple_tail (Some d ∷ ps) h = ((h.0.0.1, trimmed_tail (Some d) (part_list (part
 -- ---- a list from which a component was moved out, or that stayed as it was
 
 module _ (xs ys : List (Option Value)) (s : ℕ) (left : (ys ≡ xs) ⊎ (ys ≡ slice_set xs s None)) where
-  pub left_behind : drop (s + 1) ys ≡ drop (s + 1) xs
-  left_behind = elim left [ inl e ↦ ap (drop (s + 1)) e | inr e ↦ ap (drop (s + 1)) e ∙ drop-set-lt (s + 1) xs s None (omega arith) ]
-
   pub left_less : deep_of ys ≤ deep_of xs
   left_less = elim left [ inl e ↦ omega (arith, ap deep_of e) | inr e ↦ omega (arith, ap deep_of e, om_less xs s) ]
 

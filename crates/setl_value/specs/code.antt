@@ -6,5 +6,4 @@ pub mod DatumOf
 pub mod Falls
 pub mod HashInput
 pub mod Places
-pub mod Exchange
 pub mod Sought

@@ -3,25 +3,27 @@
 
 ghost use Rattle.std.specs.Prelude.{◌≡◌, ◌<◌, ◌≤◌, ◌+◌, ◌^◌, ◌++◌, ◌⊎◌, [], length, slice_get, slice_set, take, drop, map, IfOk, IfNone, IfSome, OnErr, OnOk, Some, None};
 ghost use Rattle.std.specs.List.{insert, remove, AllByRecursion};
-ghost use Rattle.setl_value.specs.code.Body.{Members, IsPage, joined};
+ghost use Rattle.setl_pages.specs.Exchange.{PutsOnPage};
+ghost use Rattle.setl_pages.specs.Pages.{IsIn, IsPage, joined, page_at, rank_in};
+ghost use Rattle.setl_value.specs.code.Body.{Members};
 ghost use Rattle.setl_value.specs.code.Changing.{AlwaysChanges, ChangesPair, PairGrows};
 ghost use Rattle.setl_value.specs.Datum.{Datum, depth, set_of};
 ghost use Rattle.setl_value.specs.code.DatumOf.{datum, page};
-ghost use Rattle.setl_value.specs.code.Exchange.{PutsOnPage};
 ghost use Rattle.setl_value.specs.Order.{IsRising};
 ghost use Rattle.setl_value.specs.Pairs.{is_map, pair_parts};
-ghost use Rattle.setl_value.specs.code.Places.{HasPlace, IsIn, rank, rank_in, IsBound, page_at};
+ghost use Rattle.setl_value.specs.code.Places.{HasPlace, rank, IsBound};
 ghost use Rattle.setl_value.specs.code.Sought.{sought};
 ghost use Rattle.setl_value.specs.WellFormed.{IsValue, IsSetList};
 
 use crate::counts::{depth_of, depth_without, learn_members, leaving, other, others_in};
-use crate::page_list::{
-    Page, back, change_second, cut_page, member_at, members_at, paged, pages_from, put_page,
-    replace_pages, size_at,
-};
 use crate::places::{Cursor, START, Sought, bound_in, page_in};
+use crate::second::change_second;
 use crate::sets::MemberIter;
 use crate::{Memory, Pages, Value};
+use setl_pages::{
+    Page, cut_page, item_at, items_at, items_from, paged, pages_from, put_page, replace_pages,
+    size_at,
+};
 use std::alloc::{AllocError, Global};
 
 impl Pages {
@@ -98,7 +100,7 @@ impl Pages {
     {
         let list = self.list.as_slice();
         let place = standing(list, place_behind(list, self.count, START, i));
-        &members_at(list, place.page)[place.index]
+        &items_at(list, place.page)[place.index]
     }
 
     /// The members in rising order.
@@ -128,7 +130,7 @@ impl Pages {
         let page = page_in(list, what);
         Cursor {
             page,
-            index: bound_in(members_at(list, page), what),
+            index: bound_in(items_at(list, page), what),
         }
     }
 
@@ -198,7 +200,7 @@ impl Pages {
         match change_second(&mut self.list, place.page, place.index, change)? {
             None => Ok(None),
             Some(answer) => {
-                let member = member_at(self.list.as_slice(), place.page, place.index);
+                let member = item_at(self.list.as_slice(), place.page, place.index);
                 member.learn();
                 self.deep = self.deep.max(member.depth() + 1);
                 Ok(Some(answer))
@@ -256,19 +258,20 @@ fn sum_of(a: usize, b: usize) -> Result<usize, Memory>
 }
 
 // The members from a place on.
-fn members_behind(list: &[Page], c: Cursor) -> MemberIter<'_>
+fn members_behind(list: &[Page<Value>], c: Cursor) -> MemberIter<'_>
     requires pages { AllByRecursion IsPage (map page list.now) }
     requires place { IsIn (map page list.now) c.page c.index }
     ensures { result ≡ drop (rank_in (map page list.now) c.page c.index) (joined (map page list.now)) }
 {
     MemberIter {
-        rest: back(list, c.page, c.index),
+        rest: items_from(list, c.page, c.index),
         pages: pages_from(list, c.page + 1),
     }
 }
 
 // The place that is `count` members behind a place.
-fn place_behind(list: &[Page], size: usize, c: Cursor, count: usize) -> Cursor
+#[tactic(auto, using(crate::proofs::PagesOfData::size_data))]
+fn place_behind(list: &[Page<Value>], size: usize, c: Cursor, count: usize) -> Cursor
     requires pages { AllByRecursion IsPage (map page list.now) }
     requires size { size ≡ length (joined (map page list.now)) }
     requires place { IsIn (map page list.now) c.page c.index }
@@ -287,7 +290,8 @@ fn place_behind(list: &[Page], size: usize, c: Cursor, count: usize) -> Cursor
 }
 
 // The same place, at the next page where it is behind the last member of a page.
-fn standing(list: &[Page], c: Cursor) -> Cursor
+#[tactic(auto, using(crate::proofs::PagesOfData::size_data))]
+fn standing(list: &[Page<Value>], c: Cursor) -> Cursor
     requires pages { AllByRecursion IsPage (map page list.now) }
     requires place { IsIn (map page list.now) c.page c.index }
     requires there { rank_in (map page list.now) c.page c.index < length (joined (map page list.now)) }

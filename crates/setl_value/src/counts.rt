@@ -2,15 +2,15 @@
 
 ghost use Rattle.std.specs.Prelude.{◌≡◌, ◌≤◌, ◌+◌, take, map, max, is_some, slice_get, if◌then◌else◌};
 ghost use Rattle.std.specs.List.{AllByRecursion};
-ghost use Rattle.setl_value.specs.code.Body.{joined};
+ghost use Rattle.setl_pages.specs.Pages.{joined};
 ghost use Rattle.setl_value.specs.Datum.{Datum, depth, set_of, tuple_of};
 ghost use Rattle.setl_value.specs.code.DatumOf.{datum, page};
 ghost use Rattle.setl_value.specs.Pairs.{other_count, pair_parts, is_there};
 ghost use Rattle.setl_value.specs.WellFormed.{IsWellFormed};
 
-use crate::page_list::Page;
 use crate::sets::MemberIter;
 use crate::{TupleBody, Value};
+use setl_pages::Page;
 
 // Each member keeps the rules of values.
 pub(crate) fn learn_members(members: &[Value])
@@ -22,7 +22,7 @@ pub(crate) fn learn_members(members: &[Value])
 }
 
 // The depth of a set that would be `before` deep with one more member, of depth `gone`.
-pub(crate) fn depth_without(pages: &[Page], before: u32, gone: u32) -> u32
+pub(crate) fn depth_without(pages: &[Page<Value>], before: u32, gone: u32) -> u32
     requires small { before ≤ 500 }
     requires cut { max (depth (set_of (joined (map page pages.now)))) (gone + 1) ≡ before }
     ensures { result ≡ depth (set_of (joined (map page pages.now))) }
@@ -36,7 +36,7 @@ pub(crate) fn depth_without(pages: &[Page], before: u32, gone: u32) -> u32
 
 // The depth of a set of these pages, which is at most `most`. It looks from the deepest kinds down, and no further than
 // a page that makes the set `most` deep.
-fn depth_of_pages(pages: &[Page], most: u32) -> u32
+fn depth_of_pages(pages: &[Page<Value>], most: u32) -> u32
     requires small { most ≤ 500 }
     requires bound { depth (set_of (joined (map page pages.now))) ≤ most }
     ensures { result ≡ depth (set_of (joined (map page pages.now))) }

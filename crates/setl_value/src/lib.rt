@@ -19,10 +19,9 @@ mod counts;
 mod hashing;
 pub mod laws;
 mod order;
-mod page_list;
 mod places;
+mod second;
 mod sets;
-mod shared;
 mod string;
 mod tuples;
 

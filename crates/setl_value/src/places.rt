@@ -5,16 +5,17 @@ ghost use Rattle.std.specs.Prelude.{suc, ◌≡◌, ◌<◌, ◌≤◌, ◌+◌,
 ghost use Rattle.std.specs.List.{insert, remove, AllByRecursion};
 ghost use Rattle.std.specs.Option.{option_map};
 ghost use Rattle.std.specs.Ordering.{is_lt};
-ghost use Rattle.setl_value.specs.code.Body.{Members, IsPage, joined};
+ghost use Rattle.setl_pages.specs.Exchange.{PutsOnPage};
+ghost use Rattle.setl_pages.specs.Pages.{IsPage, joined, rank_in};
+ghost use Rattle.setl_value.specs.code.Body.{Members};
 ghost use Rattle.setl_value.specs.Datum.{depth, set_of};
 ghost use Rattle.setl_value.specs.code.DatumOf.{datum, page};
-ghost use Rattle.setl_value.specs.code.Exchange.{PutsOnPage};
 ghost use Rattle.setl_value.specs.Order.{datum_cmp, IsRising};
-ghost use Rattle.setl_value.specs.code.Places.{HasPlace, rank, rank_in, IsPlace, IsBound, IsBetween, point};
+ghost use Rattle.setl_value.specs.code.Places.{HasPlace, rank, IsPlace, IsBound, IsBetween, point};
 ghost use Rattle.setl_value.specs.code.Sought.{sought};
 
-use crate::page_list::{Page, first_at};
 use crate::{MemberIter, Memory, SetBody, Value};
+use setl_pages::{Page, first_at};
 use std::alloc::Global;
 use std::rc::Rc;
 
@@ -151,7 +152,7 @@ pub(crate) fn bound_in(members: &[Value], what: Sought<'_>) -> usize
 }
 
 /// The last of some pages whose first member is below what is sought, or else the first page, found by halving.
-pub(crate) fn page_in(pages: &[Page], what: Sought<'_>) -> usize
+pub(crate) fn page_in(pages: &[Page<Value>], what: Sought<'_>) -> usize
     requires pages { AllByRecursion IsPage (map page pages.now) }
     requires rising { IsRising (joined (map page pages.now)) }
     ensures there { result ≤ length pages.now - 1 }

@@ -9,8 +9,8 @@ ghost use Rattle.setl_value.specs.Datum.{Datum, depth, part_depth, tuple_of};
 ghost use Rattle.setl_value.specs.code.DatumOf.{datum, part};
 ghost use Rattle.setl_value.specs.WellFormed.{IsTupleList, PartIsWellFormed, trim, put};
 
-use crate::shared::{append_in, drop_front};
 use crate::{Memory, TupleBody, Value};
+use setl_pages::{append_in, drop_front, take_first};
 use std::alloc::Global;
 use std::rc::Rc;
 
@@ -120,8 +120,7 @@ impl TupleBody {
             self.deep = deep;
             Ok(first)
         } else {
-            let first = take_part(&mut self.parts, self.start)?;
-            self.start += 1;
+            let first = take_first(&mut self.parts, &mut self.start)?;
             Ok(first)
         }
     }
@@ -275,20 +274,6 @@ fn put_behind(
     place_part(list, start + i, v)?;
     trim_end(list, start);
     Ok(())
-}
-
-// Moves the i-th component out of a list with no other owner, and else copies it.
-fn take_part(parts: &mut Rc<Vec<Option<Value>>>, i: usize) -> Result<Option<Value>, Memory>
-    requires { i < length parts.old.value.items }
-    ensures taken { IfOk result (λ p. slice_get parts.old.value.items i ≡ Some p) }
-    ensures left { (parts.new.value.items ≡ parts.old.value.items) ⊎ (parts.new.value.items ≡ slice_set parts.old.value.items i None) }
-    ensures refused { OnErr result (parts.new.value.items ≡ parts.old.value.items) }
-{
-    if Rc::strong_count(parts) > 1 {
-        return parts[i].clone();
-    }
-    let list = Rc::make_mut(parts)?;
-    Ok(list[i].take())
 }
 
 // Takes the last component off, and then the `om` at the end, down to `start`.

@@ -1,7 +1,8 @@
 -- What a closure that is handed a value in place makes of it.
-use Rattle.std.specs.Prelude.{◌≡◌, ℕ, ◌≤◌, ◌<◌}
+use Rattle.std.specs.Prelude.{◌≡◌, ℕ, ◌≤◌, ◌<◌, List, slice_set}
 use Rattle.std.specs.Borrow.{MutBor}
 use Rattle.std.specs.Fn.{Once, FnOnceReturnsAtMut}
+use Rattle.setl_pages.specs.Pages.{page_at}
 use Rattle.setl_value.specs.declared.Value.{Value}
 use Rattle.setl_value.specs.Datum.{Datum, depth}
 use Rattle.setl_value.specs.Pairs.{pair}
@@ -40,3 +41,7 @@ module _ {F R : Type 0} (g : Once F (MutBor Value × Unit {0}) (R × (MutBor Val
   -- each such call at the second part of the pair d leaves a pair with P
   abbrev pub AlwaysChanges : Datum → (Datum → Type 0) → Type 0
   AlwaysChanges d P = (r : R) (e : Datum) → ChangesPair d r e → P e
+
+-- the pages after m takes the place of the i-th member of the k-th page
+abbrev pub with_member : List (List Datum) → ℕ → ℕ → Datum → List (List Datum)
+with_member ps k i m = slice_set ps k (slice_set (page_at ps k) i m)

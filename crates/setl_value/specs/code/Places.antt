@@ -1,24 +1,13 @@
 -- Places among the members of a set: what stands before a place, and the place of a datum.
-use Rattle.std.specs.Prelude.{◌≡◌, ℕ, ◌+◌, ◌-◌, ◌≤◌, false, List, [], ◌∷◌, Some, length, take, drop, slice_index_or}
+use Rattle.std.specs.Prelude.{◌≡◌, ℕ, ◌≤◌, false, List, [], ◌∷◌, Some, length, take, drop}
 use Rattle.std.specs.List.{AllByRecursion}
 use Rattle.std.specs.Ordering.{is_lt}
 use Rattle.std.specs.declared.cmp.Ordering.TheVariants.{Less}
 use Rattle.setl_value.specs.declared.places.Cursor.{Cursor}
-use Rattle.setl_value.specs.code.Body.{Body, joined}
+use Rattle.setl_pages.specs.Pages.{IsIn, rank_in}
+use Rattle.setl_value.specs.code.Body.{Body}
 use Rattle.setl_value.specs.Datum.{Datum, tuple_of}
 use Rattle.setl_value.specs.Order.{datum_cmp}
-
--- the k-th page, and no member past the last page
-abbrev pub page_at : {X : Type 0} → List (List X) → ℕ → List X
-page_at ps k = slice_index_or ps k []
-
--- a place in the k-th page, at its i-th member or after its last one; without pages the one place is in the page 0
-abbrev pub IsIn : {X : Type 0} → List (List X) → ℕ → ℕ → Type 0
-IsIn ps k i = (k ≤ length ps - 1) × (i ≤ length (page_at ps k))
-
--- how many members stand before it
-abbrev pub rank_in : {X : Type 0} → List (List X) → ℕ → ℕ → ℕ
-rank_in ps k i = length (joined (take k ps)) + i
 
 -- a place of the set, at a member or after the last one
 unfoldable pub HasPlace : Body → Cursor → Type 0

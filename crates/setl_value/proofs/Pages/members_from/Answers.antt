@@ -1,7 +1,8 @@
 use Rattle.std.proofs.Common.{ap, ◌∙◌, map, drop}
-use Rattle.setl_value.specs.code.Body.{Members, joined}
+use Rattle.setl_pages.specs.Pages.{joined, rank_in}
+use Rattle.setl_value.specs.code.Body.{Members}
 use Rattle.setl_value.specs.code.DatumOf.{page}
-use Rattle.setl_value.specs.code.Places.{rank, rank_in}
+use Rattle.setl_value.specs.code.Places.{rank}
 use Rattle.setl_value.proofs.Pages.members_from.Goals as goal
 
 pub returns : goal.returns

@@ -1,6 +1,6 @@
 use Rattle.std.proofs.Common.{ap, sym, subst, ◌∙◌}
 use Rattle.setl_value.specs.code.Counted.{IsCounted}
-use Rattle.setl_value.proofs.Paging.{body_of, cloned}
+use Rattle.setl_value.proofs.PagesOfData.{body_of, cloned}
 use Rattle.setl_value.proofs.PagesClone.clone.Goals as goal
 
 pub invariant_of-result : goal.invariant_of-result

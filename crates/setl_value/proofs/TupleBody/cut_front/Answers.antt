@@ -1,11 +1,11 @@
-use Rattle.std.proofs.Common.{List, ℕ, max, Option, ◌≡◌, ◌∙◌, ◌+◌, ◌<◌, ◌≤◌, ◌∷◌, ap, arith, sym, subst, map, drop, length}
+use Rattle.std.proofs.Common.{List, ℕ, max, Option, ◌≡◌, ◌∙◌, ◌+◌, ◌<◌, ◌≤◌, ap, arith, sym, subst, map, drop, length}
 use Rattle.std.proofs.lemmas.Bool.{ltb-false}
-use Rattle.std.proofs.lemmas.Option.{slice_get_within}
+use Rattle.std.proofs.lemmas.List.{length-drop}
 use Rattle.setl_value.specs.Datum.{Datum, depth, part_depth, tuple_of}
 use Rattle.std.specs.Prelude.{slice_get, unwrap_or, None}
 use Rattle.setl_value.specs.code.DatumOf.{part}
 use Rattle.setl_value.specs.WellFormed.{IsTupleList}
-use Rattle.setl_value.proofs.Fronts.{behind_front, deep_of, drop_less, front_depth, front_there, left_behind, left_less, left_long, tuple_tail}
+use Rattle.setl_value.proofs.Fronts.{behind_front, deep_of, drop_less, drop_one, front_depth, left_less, left_long, tuple_tail}
 use Rattle.setl_value.proofs.TupleBody.cut_front.Goals.{then-deep-self, else-deep-self}
 use Rattle.setl_value.proofs.TupleBody.cut_front.Goals as goal
 
@@ -32,22 +32,18 @@ pub invariant_of-self-else-self-len : goal.invariant_of-self-else-self-len
 invariant_of-self-else-self-len c =
     let s = c.self.inside.start in
     let xs = c.self.inside.parts.value.items in
-    let ys = c.take_part.new.parts.value.items in
-    let same : drop (s + 1) ys ≡ drop (s + 1) xs = left_behind xs ys s c.take_part.ensures.left in
-    let rest : c.from-2.result.now ≡ drop (s + 1) ys = c.from-2.ensures ∙ ap (drop (s + 1)) (c.deref-4.ensures.value ∙ ap (λ v. v.items) c.deref-3.ensures) ∙ sym same in
+    let t = c.take_first.new.start in
+    let ys = c.take_first.new.items.value.items in
+    let taken = c.in_ok-first-2.ensures.taken in
+    let rest : c.from-2.result.now ≡ drop t ys = c.from-2.ensures ∙ ap (drop (s + 1)) (c.deref-4.ensures.value ∙ ap (λ v. v.items) c.deref-3.ensures) ∙ drop_one s xs ∙ ap (drop 1) taken in
     let stays : c.self.inside.deep ≤ c.depth_after-deep.result =
-    elim c.if-deep-self.branch [ then-deep-self w ↦ ltb-false c.depth_after-deep.result c.self.inside.deep (sym w.value-is ∙ c.if-self-len.false) | else-deep-self w ↦ w.if-deep-self.false ] in (
-      subst IsTupleList (sym (ap (map part) same ∙ behind_front s xs)) (tuple_tail (map part (drop s xs)) c.self.invariant.0),
-      omega (arith, c.depth_after-deep.ensures, ap deep_of rest, stays, drop_less (s + 1) ys, left_less xs ys s c.take_part.ensures.left, c.self.invariant.2),
-      omega (arith, left_less xs ys s c.take_part.ensures.left, c.self.invariant.2),
-      omega (arith, left_long xs ys s c.take_part.ensures.left, slice_get_within xs s c.in_ok-first-2.first c.in_ok-first-2.ensures.taken),
+    elim c.if-deep-self.branch [ then-deep-self w ↦ ltb-false c.depth_after-deep.result c.self.inside.deep (sym w.value-is ∙ c.if-self-len.false) | else-deep-self w ↦ w.if-deep-self.false ] in
+    let deep : c.self.inside.deep ≡ deep_of (drop t ys) = omega (arith, c.depth_after-deep.ensures, ap deep_of rest, stays, drop_less t ys, left_less xs ys s c.take_first.ensures.left, c.self.invariant.2) in (
+      subst IsTupleList (ap (λ l. drop 1 (map part l)) taken) (tuple_tail (map part (drop s xs)) c.self.invariant.0),
+      deep,
+      omega (arith, left_less xs ys s c.take_first.ensures.left, c.self.invariant.2),
+      omega (arith, left_long xs ys s c.take_first.ensures.left, c.in_ok-first-2.ensures.next, ap length taken, length-drop s xs),
     )
 
 pub returns-in_ok-first-2-clause-cut : goal.returns-in_ok-first-2-clause-cut
-returns-in_ok-first-2-clause-cut c =
-    let s = c.self.inside.start in
-    let xs = c.self.inside.parts.value.items in
-    let ys = c.take_part.new.parts.value.items in
-    let first = c.in_ok-first-2.first in
-    sym c.self.view_is ∙ ap (map part) (front_there s xs first c.in_ok-first-2.ensures.taken)
-    ∙ ap (λ l. part first ∷ map part l) (sym (left_behind xs ys s c.take_part.ensures.left))
+returns-in_ok-first-2-clause-cut c = sym c.self.view_is ∙ ap (map part) c.in_ok-first-2.ensures.taken

@@ -1,7 +1,7 @@
 use Rattle.std.proofs.Common.{◌≡◌, ◌<◌, ◌≤◌, ◌-◌, ◌⊎◌, map, length}
-use Rattle.setl_value.specs.code.Body.{joined}
+use Rattle.setl_pages.specs.Pages.{joined, rank_in}
 use Rattle.setl_value.specs.code.DatumOf.{page}
-use Rattle.setl_value.specs.code.Places.{IsBetween, rank_in}
+use Rattle.setl_value.specs.code.Places.{IsBetween}
 use Rattle.setl_value.specs.code.Sought.{sought}
 use Rattle.setl_value.proofs.places.page_in.Given as goal
 

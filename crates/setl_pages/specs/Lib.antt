@@ -1,0 +1,4 @@
+pub mod Pages
+pub mod Exchange
+pub mod ListLaws
+pub mod PageLaws
