@@ -1,49 +1,14 @@
 -- What `elmt` means with one more base.
 use Rattle.std.proofs.Common.{◌≡◌, ℕ, suc, ◌+◌, ◌<◌, Bool, true, false, cond, List, [], ◌∷◌, ◌++◌, length, get_or, Option, Some, None, is_some, unwrap_or, refl, ap, sym, ◌∙◌, bytes_eq, arith, true≢false}
 use Rattle.std.specs.Global.{Vec}
-use Rattle.std.specs.Map.{lookup}
 use Rattle.std.specs.Cmp.Lexicographic.{bytes_decides}
 use Rattle.indexmap.specs.IndexMap.{IndexMap, insert_entry}
 use Rattle.setl_modes.specs.declared.mode.NamedMode.{NamedMode}
 use Rattle.setl_modes.specs.Modes.{Mode, Elements, General, mode_of}
 use Rattle.setl_modes.specs.Declarations.{Name, Bases, element_of}
 use Rattle.setl_declarations.specs.Declares.{named_modes}
-use Rattle.setl_declarations.specs.code.Elements.{number_from, value_at, Finds}
-
--- ---- tables
-
-abbrev same_key : Vec ℕ → Vec ℕ → Bool
-same_key x y = bytes_eq x.items y.items
-
--- the value at a name among entries
-abbrev at_name : {T : Type 0} → List ℕ → List (Vec ℕ × T) → Option T
-at_name name es = lookup (λ (key : Vec ℕ). bytes_eq name key.items) es
-
-twice : {T : Type 0} (b : Bool) (x y : Option T) (z : Option T) → cond b x z ≡ cond b x (cond b y z)
-twice true x y z = refl
-twice false x y z = refl
-
--- a name isn't two keys that differ
-swapped : {T : Type 0} (a b : Bool) (x y z : Option T) → (a ≡ true → b ≡ true → ⊥) → cond a x (cond b y z) ≡ cond b y (cond a x z)
-swapped true true x y z n = absurd (n refl refl)
-swapped true false x y z n = refl
-swapped false true x y z n = refl
-swapped false false x y z n = refl
-
-at_name-insert : {T : Type 0} (es : List (Vec ℕ × T)) (k : Vec ℕ) (v : T) (name : List ℕ) → at_name name (insert_entry same_key es k v) ≡ cond (bytes_eq name k.items) (Some v) (at_name name es)
-at_name-insert [] k v name = refl
-at_name-insert {T} (e ∷ es) k v name = by (same_key k e.0) refl (at_name-insert es k v name)
-  where
-    by : (b : Bool) → same_key k e.0 ≡ b → at_name name (insert_entry same_key es k v) ≡ cond (bytes_eq name k.items) (Some v) (at_name name es) → at_name name (cond b ((e.0, v) ∷ es) (e ∷ insert_entry same_key es k v)) ≡ cond (bytes_eq name k.items) (Some v) (at_name name (e ∷ es))
-    by true h later =
-        let same : e.0.items ≡ k.items = sym ((bytes_decides k.items e.0.items).0 h) in
-        ap (λ xs. cond (bytes_eq name xs) (Some v) (at_name name es)) same
-        ∙ twice (bytes_eq name k.items) (Some v) (Some e.1) (at_name name es)
-        ∙ ap (λ xs. cond (bytes_eq name k.items) (Some v) (cond (bytes_eq name xs) (Some e.1) (at_name name es))) (sym same)
-    by false h later =
-        ap (cond (bytes_eq name e.0.items) (Some e.1)) later
-        ∙ swapped (bytes_eq name e.0.items) (bytes_eq name k.items) (Some e.1) (Some v) (at_name name es)
-        (λ p q. true≢false (sym ((bytes_decides k.items e.0.items).1 (sym ((bytes_decides name k.items).0 q) ∙ (bytes_decides name e.0.items).0 p)) ∙ h))
+use Rattle.setl_names.specs.ByName.{put_at, none_at, same_key, turned, value_at}
+use Rattle.setl_declarations.specs.code.Elements.{number_from, Finds}
 
 -- ---- one more base
 
@@ -81,7 +46,7 @@ or_none (Some x) = refl
 -- ---- what the table finds
 
 pub finds_none : {S : Type 0} (table : IndexMap (Vec ℕ) ℕ S) → table.entries ≡ [] → Finds table []
-finds_none table e x = ap (λ es. at_name x es) e
+finds_none table e x = none_at table e x
 
 -- a name that a base has stays with it
 pub finds_present : {S : Type 0} (table : IndexMap (Vec ℕ) ℕ S) (y : Name) (m : Mode) → is_some (value_at table y) ≡ true → (bs : Bases) → Finds table bs → Finds table (bs ++ (y, m) ∷ [])
@@ -97,22 +62,12 @@ finds_present table y m there bs finds x = finds x ∙ sym (one_more 0 bs y m x 
         kept (value_at table x) (number_from 0 bs x) (Some (next_number 0 bs)) (ap (λ z. is_some (value_at table z)) (sym e) ∙ there) (finds x)
     by false other = or_none (number_from 0 bs x)
 
-turned : (x y : Name) → bytes_eq x y ≡ bytes_eq y x
-turned x y = by (bytes_eq x y) (bytes_eq y x) refl refl
-  where
-    by : (a b : Bool) → bytes_eq x y ≡ a → bytes_eq y x ≡ b → a ≡ b
-    by true true p q = refl
-    by false false p q = refl
-    by true false p q = sym ((bytes_decides y x).1 (sym ((bytes_decides x y).0 p))) ∙ q
-    by false true p q = sym p ∙ (bytes_decides x y).1 (sym ((bytes_decides y x).0 q))
-
 -- a new name is found at the end
 pub finds_absent : {S : Type 0} (old new : IndexMap (Vec ℕ) ℕ S) (key : Vec ℕ) (y : Name) (number : ℕ) (m : Mode) → is_some (value_at old y) ≡ false →
     key.items ≡ y → new.entries ≡ insert_entry same_key old.entries key number →
     (bs : Bases) → length bs ≡ number → Finds old bs → Finds new (bs ++ (y, m) ∷ [])
 finds_absent old new key y number m out ek en bs count finds x =
-    ap (λ es. at_name x es) en
-    ∙ at_name-insert old.entries key number x
+    put_at old new key number en x
     ∙ ap (λ k. cond (bytes_eq x k) (Some number) (value_at old x)) ek
     ∙ ap (λ o. cond (bytes_eq x y) (Some number) o) (finds x)
     ∙ by (bytes_eq x y) refl

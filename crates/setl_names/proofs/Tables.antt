@@ -1,47 +1,13 @@
 -- The table of procedures.
-use Rattle.std.proofs.Common.{◌≡◌, ◌<◌, ◌+◌, ◌∙◌, ℕ, suc, Bool, true, false, cond, List, [], ◌∷◌, drop, length, get_or, Option, Some, refl, sym, ap, true≢false, bytes_eq, add-one, drop-cons}
+use Rattle.std.proofs.Common.{◌≡◌, ◌<◌, ◌+◌, ◌∙◌, ℕ, suc, Bool, true, false, cond, List, [], ◌∷◌, drop, length, get_or, Option, Some, refl, sym, ap, bytes_eq, add-one, drop-cons}
 use Rattle.std.specs.Global.{Vec}
-use Rattle.std.specs.Map.{lookup}
 use Rattle.std.specs.Option.{option_map}
-use Rattle.std.specs.Cmp.Lexicographic.{bytes_decides}
 use Rattle.indexmap.specs.IndexMap.{IndexMap, insert_entry}
 use Rattle.setl_tree.specs.declared.tree.Param.{Param}
 use Rattle.setl_tree.specs.declared.tree.Proc.{Proc}
 use Rattle.setl_names.specs.Procedures.{params_of, found_from}
-use Rattle.setl_names.specs.code.Tables.{value_at, Finds}
-
-abbrev same_key : Vec ℕ → Vec ℕ → Bool
-same_key x y = bytes_eq x.items y.items
-
--- the value at a name among entries
-abbrev at_name : {T : Type 0} → List ℕ → List (Vec ℕ × T) → Option T
-at_name name es = lookup (λ (key : Vec ℕ). bytes_eq name key.items) es
-
-twice : {T : Type 0} (b : Bool) (x y : Option T) (z : Option T) → cond b x z ≡ cond b x (cond b y z)
-twice true x y z = refl
-twice false x y z = refl
-
--- a name isn't two keys that differ
-swapped : {T : Type 0} (a b : Bool) (x y z : Option T) → (a ≡ true → b ≡ true → ⊥) → cond a x (cond b y z) ≡ cond b y (cond a x z)
-swapped true true x y z n = absurd (n refl refl)
-swapped true false x y z n = refl
-swapped false true x y z n = refl
-swapped false false x y z n = refl
-
-at_name-insert : {T : Type 0} (es : List (Vec ℕ × T)) (k : Vec ℕ) (v : T) (name : List ℕ) → at_name name (insert_entry same_key es k v) ≡ cond (bytes_eq name k.items) (Some v) (at_name name es)
-at_name-insert [] k v name = refl
-at_name-insert {T} (e ∷ es) k v name = by (same_key k e.0) refl (at_name-insert es k v name)
-  where
-    by : (b : Bool) → same_key k e.0 ≡ b → at_name name (insert_entry same_key es k v) ≡ cond (bytes_eq name k.items) (Some v) (at_name name es) → at_name name (cond b ((e.0, v) ∷ es) (e ∷ insert_entry same_key es k v)) ≡ cond (bytes_eq name k.items) (Some v) (at_name name (e ∷ es))
-    by true h later =
-        let same : e.0.items ≡ k.items = sym ((bytes_decides k.items e.0.items).0 h) in
-        ap (λ xs. cond (bytes_eq name xs) (Some v) (at_name name es)) same
-        ∙ twice (bytes_eq name k.items) (Some v) (Some e.1) (at_name name es)
-        ∙ ap (λ xs. cond (bytes_eq name k.items) (Some v) (cond (bytes_eq name xs) (Some e.1) (at_name name es))) (sym same)
-    by false h later =
-        ap (cond (bytes_eq name e.0.items) (Some e.1)) later
-        ∙ swapped (bytes_eq name e.0.items) (bytes_eq name k.items) (Some e.1) (Some v) (at_name name es)
-        (λ p q. true≢false (sym ((bytes_decides k.items e.0.items).1 (sym ((bytes_decides name k.items).0 q) ∙ (bytes_decides name e.0.items).0 p)) ∙ h))
+use Rattle.setl_names.specs.ByName.{put_at, none_at, same_key, value_at}
+use Rattle.setl_names.specs.code.Tables.{Finds}
 
 -- what a map makes of a choice
 map_cond : {A B : Type 0} (f : A → B) (b : Bool) (x y : Option A) → option_map f (cond b x y) ≡ cond b (option_map f x) (option_map f y)
@@ -50,14 +16,13 @@ map_cond f false x y = refl
 
 -- no procedures
 pub finds_none : {T S : Type 0} (m : IndexMap (Vec ℕ) T S) (f : T → ℕ × List Param) (procs : List Proc) (at : ℕ) → m.entries ≡ [] → drop at procs ≡ [] → Finds m f at (drop at procs)
-finds_none m f procs at em ep x = ap (λ es. option_map f (at_name x es)) em ∙ sym (ap (λ (ps : List Proc). found_from at ps x) ep)
+finds_none m f procs at em ep x = ap (option_map f) (none_at m em x) ∙ sym (ap (λ (ps : List Proc). found_from at ps x) ep)
 
 -- one more procedure in front
 pub finds_more : {T S : Type 0} (m n : IndexMap (Vec ℕ) T S) (f : T → ℕ × List Param) (at : ℕ) (procs : List Proc) (proc : Proc) (key : Vec ℕ) (v : T) → key.items ≡ proc.name → f v ≡ (at, proc.params) →
     n.entries ≡ insert_entry same_key m.entries key v → Finds m f (suc at) procs → Finds n f at (proc ∷ procs)
 finds_more m n f at procs proc key v ek ef en inv x =
-    ap (λ es. option_map f (at_name x es)) en
-    ∙ ap (option_map f) (at_name-insert m.entries key v x)
+    ap (option_map f) (put_at m n key v en x)
     ∙ map_cond f (bytes_eq x key.items) (Some v) (value_at m x)
     ∙ ap (λ (k : List ℕ). cond (bytes_eq x k) (Some (f v)) (option_map f (value_at m x))) ek
     ∙ ap (λ (found : ℕ × List Param). cond (bytes_eq x proc.name) (Some found) (option_map f (value_at m x))) ef

@@ -1,4 +1,5 @@
 pub mod Names
+pub mod ByName
 pub mod Places
 pub mod Occurrences
 pub mod Statements

@@ -67,7 +67,7 @@ rank_from [] (suc k) = refl
 rank_from (p ∷ ps) zero = omega arith
 rank_from (p ∷ ps) (suc k) = omega (arith, length-append p (joined ps), length-append p (joined (take k ps)), rank_from ps k)
 
--- a item of a page
+-- an item of a page
 pub item_of : {X : Type 0} (ps : List (List X)) (k i : ℕ) → i < length (page_at ps k) → slice_get (joined ps) (rank_in ps k i) ≡ slice_get (page_at ps k) i
 item_of [] zero i h = absurd (omega arith)
 item_of [] (suc k) i h = absurd (omega arith)
@@ -80,7 +80,7 @@ page_there [] k a h = absurd (omega arith)
 page_there (p ∷ ps) zero a h = a.0
 page_there (p ∷ ps) (suc k) a h = page_there ps k a.1 (omega arith)
 
--- a page with a item is there
+-- a page with an item is there
 pub size_there : {X : Type 0} (ps : List (List X)) (k : ℕ) → 0 < length (page_at ps k) → k < length ps
 size_there [] zero h = absurd (omega arith)
 size_there [] (suc k) h = absurd (omega arith)

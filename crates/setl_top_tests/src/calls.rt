@@ -1,7 +1,7 @@
 //! Calls of the program over an outside in memory.
 
 use crate::rows::{BETWEEN, fields, text};
-use setl_io::{MemFiles, MemSink, MemSource, Memory, Source, SureSource};
+use setl_io::{MemFiles, MemSink, MemSource, Memory};
 use setl_top::{Status, setl};
 use setl_watch::{Cover, Trace, Watcher};
 use std::alloc::Global;
@@ -54,7 +54,7 @@ impl Left {
 }
 
 /// The words of a line.
-pub fn words_of(alloc: Global, line: &str) -> Result<Vec<String>, Memory> {
+fn words_of(alloc: Global, line: &str) -> Result<Vec<String>, Memory> {
     let mut words = Vec::new(alloc);
     for word in line.split_whitespace() {
         words.push(String::from_str(alloc, word)?)?;
@@ -89,31 +89,32 @@ fn outside_of(alloc: Global, source: &[u8], faults: Faults) -> Result<Outside, M
     Ok(Outside { files, out, err })
 }
 
-fn gained(alloc: Global, status: Status, outside: &Outside) -> Result<Left, Memory> {
-    let out = outside.out.held().to_vec(alloc)?;
-    let err = outside.err.held().to_vec(alloc)?;
-    Ok(Left { status, out, err })
+/// An input that is at its end.
+fn no_input(alloc: Global) -> MemSource {
+    MemSource::new(Vec::new(alloc), 1, Vec::new(alloc))
 }
 
-/// A call with these words over this outside, which is handed a trace and a cover.
-fn called<I: Source>(
+/// A call with the words of this line over this outside, which is handed these watchers.
+fn called(
     alloc: Global,
-    words: &[String],
+    line: &str,
+    watchers: Vec<Box<dyn Watcher>>,
     outside: &mut Outside,
-    input: &mut I,
-) -> Result<Status, Memory> {
-    let mut watchers: Vec<Box<dyn Watcher>> = Vec::new(alloc);
-    watchers.push(Box::new(alloc, Trace::new(alloc)?)?)?;
-    watchers.push(Box::new(alloc, Cover::new(alloc)?)?)?;
-    Ok(setl(
+    input: &mut MemSource,
+) -> Result<Left, Memory> {
+    let words = words_of(alloc, line)?;
+    let status = setl(
         alloc,
-        words,
+        &words,
         watchers,
         &mut outside.files,
         input,
         &mut outside.out,
         &mut outside.err,
-    ))
+    );
+    let out = outside.out.held().to_vec(alloc)?;
+    let err = outside.err.held().to_vec(alloc)?;
+    Ok(Left { status, out, err })
 }
 
 /// A run of this source with the words `run --watch trace a`, which is handed these watchers.
@@ -122,38 +123,35 @@ pub fn call_watched(
     source: &str,
     watchers: Vec<Box<dyn Watcher>>,
 ) -> Result<Left, Memory> {
-    let words = words_of(alloc, "run --watch trace a")?;
     let mut outside = outside_of(alloc, source.as_bytes(), NO_FAULTS)?;
-    let mut input = SureSource::new(Vec::new(alloc));
-    let status = setl(
+    let mut input = no_input(alloc);
+    called(
         alloc,
-        &words,
+        "run --watch trace a",
         watchers,
-        &mut outside.files,
+        &mut outside,
         &mut input,
-        &mut outside.out,
-        &mut outside.err,
-    );
-    gained(alloc, status, &outside)
+    )
 }
 
-/// A call with these words, with this source in the file `a` and with this input.
-pub fn call_with<I: Source>(
+/// A call with these words, with this source in the file `a` and with this input, which is handed a trace and a cover.
+pub fn call_with(
     alloc: Global,
     line: &str,
     source: &[u8],
-    input: &mut I,
+    input: &mut MemSource,
     faults: Faults,
 ) -> Result<Left, Memory> {
-    let words = words_of(alloc, line)?;
+    let mut watchers: Vec<Box<dyn Watcher>> = Vec::new(alloc);
+    watchers.push(Box::new(alloc, Trace::new(alloc)?)?)?;
+    watchers.push(Box::new(alloc, Cover::new(alloc)?)?)?;
     let mut outside = outside_of(alloc, source, faults)?;
-    let status = called(alloc, &words, &mut outside, input)?;
-    gained(alloc, status, &outside)
+    called(alloc, line, watchers, &mut outside, input)
 }
 
 /// A call without an input.
 pub fn call(alloc: Global, line: &str, source: &[u8], faults: Faults) -> Result<Left, Memory> {
-    let mut input = SureSource::new(Vec::new(alloc));
+    let mut input = no_input(alloc);
     call_with(alloc, line, source, &mut input, faults)
 }
 

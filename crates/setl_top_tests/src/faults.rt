@@ -171,6 +171,64 @@ fn faults_of_the_outside(rt: HostRuntime) -> Result<(), Fail> {
     Ok(())
 }
 
+/// Prints four lines and stops on line 1.
+const FOUR: &str =
+    "program p; print(1, {2, 3}); print(); (for x in {10, 200}) print(x); end for; fail; end program;";
+
+/// Runs of it whose first, second, .. write fails. Each `print` is one write, so no line is written in part, and none is
+/// held back.
+const PIECES: &str = "0 1 99 0 6
+--
+run a
+--
+--
+write fault
+====
+0 2 99 0 6
+--
+run a
+--
+1 {2 3}
+--
+write fault
+====
+0 3 99 0 6
+--
+run a
+--
+1 {2 3}
+
+--
+write fault
+====
+0 4 99 0 6
+--
+run a
+--
+1 {2 3}
+
+10
+--
+write fault
+====
+0 5 99 0 3
+--
+run a
+--
+1 {2 3}
+
+10
+200
+--
+line 1: nothing to go back to
+";
+
+#[test]
+fn each_print_is_one_piece(rt: HostRuntime) -> Result<(), Fail> {
+    expect_faults(&rt, rt.alloc(), FOUR, PIECES)?;
+    Ok(())
+}
+
 const READING: &str = "program p; read(a); print(a); read(b); print(b); end program;";
 
 /// Which read and which write fails, 0 for none, how many bytes the output takes a call, and the status; and what is

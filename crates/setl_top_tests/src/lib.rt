@@ -18,8 +18,6 @@ mod limits;
 #[cfg(test)]
 mod listings;
 #[cfg(test)]
-mod pieces;
-#[cfg(test)]
 mod programs;
 #[cfg(test)]
 mod refusals;

@@ -3,7 +3,7 @@
 ghost use Rattle.std.specs.Prelude.{◌<◌};
 
 use crate::written::Work;
-use setl_io::{MemSource, Source, SureSource};
+use setl_io::MemSource;
 use setl_text::{Got, ReadFault, Reader, line};
 use setl_value::Memory;
 use std::process::Abort;
@@ -45,7 +45,7 @@ fn put_answer(w: &mut Work, answer: &Result<Got, ReadFault>) -> bool {
 }
 
 // The answers up to the first that ends the reading, and the one after it.
-fn put_answers<I: Source>(w: &mut Work, reader: &mut Reader, input: &mut I) {
+fn put_answers(w: &mut Work, reader: &mut Reader, input: &mut MemSource) {
     for _ in 0..20 {
         if !put_answer(w, &reader.next(input)) {
             break;
@@ -143,7 +143,8 @@ fn put_brackets(w: &mut Work, depth: usize) -> Result<(), Memory> {
     let mut bytes = vec![in w.alloc; b'['; depth]?;
     bytes.extend_from_slice(vec![in w.alloc; b']'; depth]?.as_slice())?;
     let mut reader = Reader::new(w.alloc)?;
-    put_answers(w, &mut reader, &mut SureSource::new(bytes));
+    let mut source = MemSource::new(bytes, 4096, Vec::new(w.alloc));
+    put_answers(w, &mut reader, &mut source);
     Ok(())
 }
 

@@ -1,6 +1,6 @@
 //! What the tests work with: values that are read from denotations, and the text of what they give.
 
-use setl_io::SureSource;
+use setl_io::MemSource;
 use setl_text::{Got, Reader, text};
 use setl_value::{Memory, Value};
 use std::alloc::Global;
@@ -16,6 +16,7 @@ pub struct Work {
 }
 
 impl Work {
+    /// No values and no text.
     pub fn new(alloc: Global) -> Work {
         Work {
             alloc,
@@ -141,13 +142,14 @@ impl Work {
     }
 
     fn read_denoted(&mut self, denotations: &str) -> Result<(), Memory> {
-        let mut source = SureSource::new(denotations.as_bytes().to_vec(self.alloc)?);
+        let bytes = denotations.as_bytes().to_vec(self.alloc)?;
+        let mut source = MemSource::new(bytes, 4096, Vec::new(self.alloc));
         let mut reader = Reader::new(self.alloc)?;
         self.read_all(&mut reader, &mut source);
         Ok(())
     }
 
-    fn read_all(&mut self, reader: &mut Reader, source: &mut SureSource) {
+    fn read_all(&mut self, reader: &mut Reader, source: &mut MemSource) {
         for _ in 0..20 {
             match reader.next(source) {
                 Ok(Got::Value(v)) => self.add(Some(v)),

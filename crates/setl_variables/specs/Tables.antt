@@ -1,7 +1,8 @@
 -- The tables of declarations as the code keeps them. No public clause cites this module.
 use Rattle.std.specs.Prelude.{◌≡◌, ℕ, List, [], map, cond, slice_get, Option, Some, None, bytes_eq}
 use Rattle.std.specs.Global.{Vec}
-use Rattle.indexmap.specs.IndexMap.{IndexMap, get_by}
+use Rattle.indexmap.specs.IndexMap.{IndexMap}
+use Rattle.setl_names.specs.ByName.{value_at}
 use Rattle.setl_run.specs.Variable.{Global, Own}
 use Rattle.setl_code.specs.declared.code.Body.{Body}
 use Rattle.setl_code.specs.declared.code.Code.{Code}
@@ -9,18 +10,14 @@ use Rattle.setl_code.specs.declared.code.OwnName.{OwnName}
 use Rattle.setl_code.specs.declared.code.OwnName.TheVariants as name
 use Rattle.setl_storing.specs.Declaring.{Modes, place_from, place_of}
 
--- the place at a name
-abbrev pub place_in : {S : Type 0} → IndexMap (Vec ℕ) ℕ S → List ℕ → Option ℕ
-place_in table x = get_by (λ key. bytes_eq x key.items) table
-
 -- these tables give the places of the declarations of the variables that all bodies see and of the main body's own, where
 -- the places are counted from n
 abbrev pub Finds : {S T : Type 0} → ℕ → Modes → IndexMap (Vec ℕ) ℕ S → IndexMap (Vec ℕ) ℕ T → Type 0
-Finds n modes globals own = (x : List ℕ) → (place_in globals x ≡ place_from n modes (Global x)) × (place_in own x ≡ place_from n modes (Own 0 x))
+Finds n modes globals own = (x : List ℕ) → (value_at globals x ≡ place_from n modes (Global x)) × (value_at own x ≡ place_from n modes (Own 0 x))
 
 -- the place is put at the name
 abbrev pub Puts : {S T : Type 0} → List ℕ → ℕ → IndexMap (Vec ℕ) ℕ S → IndexMap (Vec ℕ) ℕ T → Type 0
-Puts name at old new = (x : List ℕ) → place_in new x ≡ cond (bytes_eq name x) (Some at) (place_in old x)
+Puts name at old new = (x : List ℕ) → value_at new x ≡ cond (bytes_eq name x) (Some at) (value_at old x)
 
 -- the place of a name of a body's own by those of its variables; a former's variable is not declared
 abbrev pub name_place : (List ℕ → Option ℕ) → OwnName → Option ℕ

@@ -9,7 +9,8 @@ ghost use Rattle.setl_run.specs.Variable.{Variable as PlainVariable};
 ghost use Rattle.setl_store.specs.Standing.{variables};
 ghost use Rattle.setl_value.specs.code.DatumOf.{part};
 ghost use Rattle.setl_storing.specs.Declaring.{Modes, modes_of, place_of, Serves, IsDeclared, Keeps};
-ghost use Rattle.setl_variables.specs.Tables.{Finds, Puts, place_in, names_by, name_place};
+ghost use Rattle.setl_names.specs.ByName.{value_at};
+ghost use Rattle.setl_variables.specs.Tables.{Finds, Puts, names_by, name_place};
 
 use indexmap::IndexMap;
 use setl_code::{Code, OwnName, Slot};
@@ -207,7 +208,7 @@ fn seen_places(
     names: &[Text],
     table: &IndexMap<Vec<u8>, u32>,
 ) -> Result<Vec<Option<u32>>, Memory>
-    ensures { IfOk result (λ places. places.items ≡ map (place_in table.now) names.now) }
+    ensures { IfOk result (λ places. places.items ≡ map (value_at table.now) names.now) }
 {
     names
         .iter()
@@ -221,7 +222,7 @@ fn main_places(
     code: &Code,
     table: &IndexMap<Vec<u8>, u32>,
 ) -> Result<Vec<Option<u32>>, Memory>
-    ensures { IfOk result (λ places. places.items ≡ map (name_place (place_in table.now)) (names_by (slice_get code.now.bodies 0))) }
+    ensures { IfOk result (λ places. places.items ≡ map (name_place (value_at table.now)) (names_by (slice_get code.now.bodies 0))) }
 {
     match code.bodies.as_slice().get(0) {
         None => Ok(Vec::new(alloc)),
@@ -235,7 +236,7 @@ fn name_places(
     names: &[OwnName],
     table: &IndexMap<Vec<u8>, u32>,
 ) -> Result<Vec<Option<u32>>, Memory>
-    ensures { IfOk result (λ places. places.items ≡ map (name_place (place_in table.now)) names.now) }
+    ensures { IfOk result (λ places. places.items ≡ map (name_place (value_at table.now)) names.now) }
 {
     names
         .iter()
@@ -245,14 +246,14 @@ fn name_places(
 
 /// The place of the declaration of a name, by a table.
 fn seen_place(name: &Text, table: &IndexMap<Vec<u8>, u32>) -> Option<u32>
-    ensures { result ≡ place_in table.now name.now }
+    ensures { result ≡ value_at table.now name.now }
 {
     table.get(name.bytes()).copied()
 }
 
 /// The place of the declaration of a name of the main body's own; a former's is not declared.
 fn name_place(name: &OwnName, table: &IndexMap<Vec<u8>, u32>) -> Option<u32>
-    ensures { result ≡ name_place (place_in table.now) name.now }
+    ensures { result ≡ name_place (value_at table.now) name.now }
 {
     match name {
         OwnName::Body(name) => seen_place(name, table),

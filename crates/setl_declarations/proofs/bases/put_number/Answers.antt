@@ -1,5 +1,5 @@
 use Rattle.std.proofs.Common.{◌∙◌, ap, sym, is_some}
-use Rattle.setl_declarations.specs.code.Elements.{value_at}
+use Rattle.setl_names.specs.ByName.{value_at}
 use Rattle.setl_declarations.proofs.Elements.{finds_present, finds_absent}
 use Rattle.setl_declarations.proofs.bases.put_number.Goals as goal
 
