@@ -4,7 +4,7 @@
 //! and ends with the number of the status that it answers.
 #![tactic(auto)]
 
-use setl_adapters::{DiskFiles, ReaderSource, WriterSink};
+use setl_io_adapters::{DiskFiles, ReaderSource, WriterSink};
 use setl_top::{Status, setl};
 use setl_watch::{Cover, Memory, Trace, Watcher};
 use std::alloc::Global;

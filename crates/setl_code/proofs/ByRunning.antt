@@ -1,9 +1,9 @@
 -- A code means what its run up to a bound ends with.
 use Rattle.std.proofs.Common.{◌≡◌, ℕ, Bool, List, Option, Some, None, ap}
-use Rattle.setl_run.specs.Variable.{Variable}
+use Rattle.setl_model_runs.specs.Variable.{Variable}
 use Rattle.setl_modes.specs.Modes.{Mode}
-use Rattle.setl_run.specs.Events.{End}
-use Rattle.setl_run.specs.Run.{State, Next, Goes, Ends, run}
+use Rattle.setl_model_runs.specs.Events.{End}
+use Rattle.setl_model_runs.specs.Run.{State, Next, Goes, Ends, run}
 use Rattle.setl_code.specs.Code.{Code}
 use Rattle.setl_code.specs.CodeCore.{CodeCore}
 use Rattle.setl_model.specs.Step.{test_of}

@@ -1,8 +1,8 @@
 -- The worked programs, by computation.
 use Rattle.std.proofs.Common.{◌≡◌, ℕ, true, List, Option, Some, None, refl, ap}
 use Rattle.std.specs.Fmt.{digits}
-use Rattle.setl_run.specs.Events.{End}
-use Rattle.setl_run.specs.Run.{State, Next, Goes, Ends, run}
+use Rattle.setl_model_runs.specs.Events.{End}
+use Rattle.setl_model_runs.specs.Run.{State, Next, Goes, Ends, run}
 use Rattle.setl_model.specs.Core.{Core}
 use Rattle.setl_model.specs.Means.{first}
 use Rattle.setl_model.specs.Step.{language, test_of}

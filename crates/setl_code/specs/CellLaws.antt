@@ -1,8 +1,8 @@
 -- A write changes what one cell holds.
 use Rattle.std.specs.Prelude.{◌≡◌, Bool, true, false, [], ◌∷◌, cond, refl}
 use Rattle.std.proofs.Common.{sym, ap, ◌∙◌, subst}
-use Rattle.setl_run.specs.Variable.{Variable, is_variable}
-use Rattle.setl_run.specs.VariableLaws.{same_variable}
+use Rattle.setl_model_runs.specs.Variable.{Variable, is_variable}
+use Rattle.setl_model_runs.specs.VariableLaws.{same_variable}
 use Rattle.setl_code.specs.CodeCore.{Held, Cells, held_in, with_held}
 
 pub held_after : (g : Cells) (x : Variable) (h : Held) (y : Variable) → held_in (with_held g x h) y ≡ cond (is_variable x y) h (held_in g y)

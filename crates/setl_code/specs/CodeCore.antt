@@ -2,7 +2,7 @@
 use Rattle.setl_program.specs.declared.kinds.Collection.{Collection}
 use Rattle.std.specs.Prelude.{ℕ, zero, suc, List, [], ◌∷◌, ◌++◌, map, cond, Option, Some, None}
 use Rattle.setl_value.specs.Datum.{Datum}
-use Rattle.setl_run.specs.Variable.{Variable, Global, Own, Bound, is_variable}
+use Rattle.setl_model_runs.specs.Variable.{Variable, Global, Own, Bound, is_variable}
 use Rattle.setl_model.specs.Collections.{collection}
 use Rattle.setl_model.specs.Calls.{parameter}
 use Rattle.setl_model.specs.World.{World, Holding}

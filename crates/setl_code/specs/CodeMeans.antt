@@ -1,9 +1,9 @@
 -- What a code does as a whole.
 use Rattle.std.specs.Prelude.{◌≡◌, ℕ, Bool, false, List, [], slice_get, Option, Some, None}
-use Rattle.setl_run.specs.Variable.{Variable}
+use Rattle.setl_model_runs.specs.Variable.{Variable}
 use Rattle.setl_modes.specs.Modes.{Mode}
-use Rattle.setl_run.specs.Events.{End}
-use Rattle.setl_run.specs.Run.{State, Goes, Ends, step, run}
+use Rattle.setl_model_runs.specs.Events.{End}
+use Rattle.setl_model_runs.specs.Run.{State, Goes, Ends, step, run}
 use Rattle.setl_model.specs.Step.{test_of}
 use Rattle.setl_code.specs.Code.{Body, Code}
 use Rattle.setl_code.specs.CodeCore.{Cells, cleared, variables_of, CodeCore}

@@ -1,6 +1,6 @@
 -- The code of a program.
 use Rattle.std.specs.Prelude.{[], ◌∷◌, map}
-use Rattle.setl_run.specs.Variable.{Global}
+use Rattle.setl_model_runs.specs.Variable.{Global}
 use Rattle.setl_program.specs.Program.{Procedure, Program}
 use Rattle.setl_code.specs.Code.{Body, Code}
 use Rattle.setl_code.specs.Piece.{no_loop, steps_of}

@@ -5,9 +5,9 @@ use Rattle.setl_map.specs.Outcome.{Fault, OmFault, KindFault, Outcome}
 use Rattle.setl_map.specs.Operators.{op_of}
 use Rattle.setl_text.specs.Texts.{print_line}
 use Rattle.setl_text.specs.Reading.{Reading, Denotes, AtEnd, NotForm, TooWide, TooDeep, read_denotation}
-use Rattle.setl_run.specs.Variable.{Variable, Bound}
-use Rattle.setl_run.specs.Events.{Called, Returned, Printed, Kept, Back, Form, Wide, Deep, Nothing, Done, Stopped, Stuck}
-use Rattle.setl_run.specs.Run.{Move, Moves, Halts, Machine}
+use Rattle.setl_model_runs.specs.Variable.{Variable, Bound}
+use Rattle.setl_model_runs.specs.Events.{Called, Returned, Printed, Kept, Back, Form, Wide, Deep, Nothing, Done, Stopped, Stuck}
+use Rattle.setl_model_runs.specs.Run.{Move, Moves, Halts, Machine}
 use Rattle.setl_program.specs.declared.kinds.Connective.{Connective}
 use Rattle.setl_program.specs.declared.kinds.Connective.TheVariants.{And, Or, Implies}
 use Rattle.setl_tree.specs.declared.tree.Passing.{Passing}

@@ -1,7 +1,7 @@
 -- Code that a machine may run: each slot that a step names is there, each stands for a variable of its own, and each
 -- operator has as many operands as it needs.
 use Rattle.std.specs.Prelude.{◌≡◌, ℕ, suc, ◌+◌, ◌<◌, false, List, [], ◌∷◌, length, Some}
-use Rattle.setl_run.specs.Variable.{Variable}
+use Rattle.setl_model_runs.specs.Variable.{Variable}
 use Rattle.setl_map.specs.Operators.{operand_count, TakesOperands}
 use Rattle.setl_code.specs.declared.code.Slot.{Slot}
 use Rattle.setl_code.specs.declared.code.Slot.TheVariants as slot

@@ -2,7 +2,7 @@
 use Rattle.std.specs.Prelude.{ℕ, Bool, true, false, List, [], ◌∷◌, ◌++◌, cond, bytes_eq}
 use Rattle.std.specs.List.{list_any}
 use Rattle.setl_model.specs.Slots.{variables_in}
-use Rattle.setl_run.specs.Variable.{Variable, Global, Own, Bound, is_variable}
+use Rattle.setl_model_runs.specs.Variable.{Variable, Global, Own, Bound, is_variable}
 use Rattle.setl_program.specs.Program.{Binding, Member, Components, Point, Expr, Literal, Undefined, Name, Apply, Connect, Choose, Former, Selection, Quantified, Call, Newat, Eof, Ok, Exprs, no_expr, more_exprs, Iterators, no_iterator, more_iterators, Condition, no_condition, only_if, Arguments, no_argument, rd_argument, wr_argument, rw_argument, Selectors, no_selector, round_selector, brace_selector, Place, Stmt, Assign, Update, AssignParts, TakeFrom, Perform, If, For, While, Quit, Continue, Fail, Stop, Pass, Return, Print, Read, Block, no_stmt, more_stmts, Parameter}
 
 -- the variables around the source of an iterator: in `y = f(x)` one stands before f and one behind it

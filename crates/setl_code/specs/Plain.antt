@@ -2,7 +2,7 @@
 use Rattle.std.specs.Prelude.{ℕ, zero, suc, List, [], ◌∷◌, ◌++◌, map, Some, None}
 use Rattle.setl_value.specs.Datum.{bool, int, text}
 use Rattle.setl_tree.specs.declared.tree.Param.{Param}
-use Rattle.setl_run.specs.Variable.{Variable, Global, Own, Bound}
+use Rattle.setl_model_runs.specs.Variable.{Variable, Global, Own, Bound}
 use Rattle.setl_program.specs.Program as program
 use Rattle.setl_program.specs.ProgramOf.{parameter_of}
 use Rattle.setl_code.specs.declared.code.Slot.{Slot}

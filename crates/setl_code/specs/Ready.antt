@@ -1,6 +1,6 @@
 -- States that sound code goes through: the operands have the shape of their place, and no taken slot is read.
 use Rattle.std.specs.Prelude.{◌≡◌, ℕ, suc, true, List, [], ◌∷◌, slice_get, Some, IsSome}
-use Rattle.setl_run.specs.Variable.{Variable, Global, Own, Bound}
+use Rattle.setl_model_runs.specs.Variable.{Variable, Global, Own, Bound}
 use Rattle.setl_model.specs.Core.{Item, One, Two}
 use Rattle.setl_code.specs.Code.{Instr, Body, Code}
 use Rattle.setl_code.specs.Piece.{Is}

@@ -1,7 +1,7 @@
 -- Worked programs with their listings, and what they write and how they end, by the meaning and by the run of the code.
 use Rattle.std.specs.Prelude.{◌≡◌, ℕ, true, List, [], ◌∷◌, codes, pos, Some, None}
 use Rattle.setl_value.specs.Datum.{bool, int, text}
-use Rattle.setl_run.specs.Variable.{Global, Own, Bound}
+use Rattle.setl_model_runs.specs.Variable.{Global, Own, Bound}
 use Rattle.setl_map.specs.declared.Operator.TheVariants.{Abs, Size, Pow, FoldAdd, FoldMax, Add, Subtract, With, Less, Npow, Equal, NotEqual, Below, Above, In, Get, Images, Slice, Tail, SetOf, TupleOf, TupleRange}
 use Rattle.setl_program.specs.declared.kinds.Collection.TheVariants.{OfSet, OfTuple}
 use Rattle.setl_program.specs.declared.kinds.Connective.TheVariants.{And, Or, Implies}
@@ -10,7 +10,7 @@ use Rattle.setl_program.specs.declared.kinds.Source.TheVariants.{Values, Between
 use Rattle.setl_program.specs.declared.kinds.Taking.TheVariants.{TakeLeast, TakeFirst, TakeLast}
 use Rattle.setl_tree.specs.declared.tree.Passing.TheVariants.{Rd, Wr, Rw}
 use Rattle.setl_program.specs.Program.{Member, Components, Point, Literal, Undefined, Name, Apply, Connect, Choose, Former, Selection, Quantified, Call, Newat, Eof, Ok, no_expr, more_exprs, no_iterator, more_iterators, no_condition, only_if, no_argument, rd_argument, wr_argument, rw_argument, no_selector, round_selector, brace_selector, Assign, Update, AssignParts, TakeFrom, Perform, If, For, While, Quit, Continue, Fail, Stop, Pass, Return, Print, Read, no_stmt, more_stmts, Program}
-use Rattle.setl_run.specs.Events.{Om, Nothing, Wide, End, Done, Stopped}
+use Rattle.setl_model_runs.specs.Events.{Om, Nothing, Wide, End, Done, Stopped}
 use Rattle.setl_model.specs.Means.{Means}
 use Rattle.setl_code.specs.CodeOf.{code_of}
 use Rattle.setl_code.specs.Listing.{listing}

@@ -1,7 +1,7 @@
 //! Codes made by hand, and their listings.
 
 use setl_code::{Alteration, Begin, Body, Bracket, Code, Instr, Literal, OwnName, Slot, Step};
-use setl_listing::listing;
+use setl_code_listing::listing;
 use setl_map::Operator;
 use setl_program::{Collection, Connective, Source, Taking};
 use setl_tree::{Boxed, Items, Param, Passing, Text};

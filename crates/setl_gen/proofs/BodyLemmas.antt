@@ -3,7 +3,7 @@ use Rattle.std.proofs.Common.{◌≡◌, ℕ, suc, ◌+◌, ◌<◌, List, [], �
 use Rattle.std.proofs.Math.ListN.{get_or}
 use Rattle.std.specs.Prelude.{Result, Ok, Err, IfOk, OnOk}
 use Rattle.setl_tree.specs.declared.tree.Param.{Param}
-use Rattle.setl_run.specs.Variable.{Variable, Global, Own}
+use Rattle.setl_model_runs.specs.Variable.{Variable, Global, Own}
 use Rattle.setl_program.specs.declared.stmt.Stmt.{Stmt}
 use Rattle.setl_program.specs.declared.program.Procedure.{Procedure}
 use Rattle.setl_program.specs.declared.program.Program.{Program}
@@ -20,13 +20,13 @@ use Rattle.setl_code.specs.Generated.{block, main_code, procedure_code}
 use Rattle.setl_code.specs.Names.{in_block}
 use Rattle.setl_code.specs.Piece.{Laid, one, no_loop, steps_of}
 use Rattle.setl_code.specs.Plain.{plain_name, plain_step, plain_body, plain_bodies, plain_code}
-use Rattle.setl_emitter.specs.declared.hole.Hole.{Hole}
-use Rattle.setl_emitter.specs.Table.{Table, variables, all_noted}
-use Rattle.setl_emitter.specs.Emitted.{Emitted, after}
+use Rattle.setl_gen_emitter.specs.declared.hole.Hole.{Hole}
+use Rattle.setl_gen_emitter.specs.Table.{Table, variables, all_noted}
+use Rattle.setl_gen_emitter.specs.Emitted.{Emitted, after}
 use Rattle.setl_gen.specs.Bodies.{table_of, blank, finished}
-use Rattle.setl_emitter.specs.TableLaws.{all_first}
-use Rattle.setl_emitter.specs.EmittedLaws.{then_made, then_two}
-use Rattle.setl_emitter.specs.Items.{drop_at}
+use Rattle.setl_gen_emitter.specs.TableLaws.{all_first}
+use Rattle.setl_gen_emitter.specs.EmittedLaws.{then_made, then_two}
+use Rattle.setl_gen_emitter.specs.Items.{drop_at}
 
 -- ---- bodies
 

@@ -10,11 +10,11 @@ use Rattle.setl_model.specs.Iterations.{decided}
 use Rattle.setl_code.specs.Code.{Push, Operate, Decides, TestBool, Unless, Jump, DupTop, BeginOver, NextOr, BeginOf, AddBelow, LeaveAll, CallBody}
 use Rattle.setl_code.specs.Piece.{Laid, ◌⨾◌, nothing, one, jumps_out, over, either, with_end, with_start}
 use Rattle.setl_code.specs.Generated.{store_slots, set_by, bind, count, levels, negated, keep_or_drop, expr, exprs, iterators, condition, arguments}
-use Rattle.setl_emitter.specs.declared.hole.Hole.{Hole}
-use Rattle.setl_emitter.specs.Emitted.{Emitted, here, after, with_step, with_exits}
+use Rattle.setl_gen_emitter.specs.declared.hole.Hole.{Hole}
+use Rattle.setl_gen_emitter.specs.Emitted.{Emitted, here, after, with_step, with_exits}
 use Rattle.setl_gen.specs.Heads.{begun, next, headed, opened}
-use Rattle.setl_emitter.specs.ShortCode.{undecided_code, with_end_undecided}
-use Rattle.setl_emitter.specs.EmittedLaws.{after_then, after_nothing, then_made, then_two, over_made, either_made, leaving_made}
+use Rattle.setl_gen_emitter.specs.ShortCode.{undecided_code, with_end_undecided}
+use Rattle.setl_gen_emitter.specs.EmittedLaws.{after_then, after_nothing, then_made, then_two, over_made, either_made, leaving_made}
 
 -- ---- without iterators
 

@@ -14,7 +14,7 @@ use Rattle.setl_program.specs.Program as plain
 use Rattle.setl_program.specs.Lists.{chained}
 use Rattle.setl_program.specs.code.Plain.{plain_expr, plain_link, plain_exprs, plain_iterators, plain_binding, condition_of, argument_step, expr_step, link_step, iterator_step}
 use Rattle.setl_code.specs.Generated.{expr}
-use Rattle.setl_emitter.specs.Emitted.{Emitted, after}
+use Rattle.setl_gen_emitter.specs.Emitted.{Emitted, after}
 
 abbrev Puts : Type 0
 Puts = plain.Arguments → plain.Arguments

@@ -4,7 +4,7 @@ use Rattle.std.proofs.Math.ListN.{get_or}
 use Rattle.std.proofs.lemmas.List.{append-nil, drop_all}
 use Rattle.std.specs.Prelude.{OnOk, Result, Ok, Err}
 use Rattle.setl_map.specs.declared.Operator.{Operator}
-use Rattle.setl_run.specs.Variable.{Variable}
+use Rattle.setl_model_runs.specs.Variable.{Variable}
 use Rattle.setl_program.specs.declared.kinds.Connective.{Connective}
 use Rattle.setl_program.specs.declared.expr.Expr as ex
 use Rattle.setl_program.specs.declared.expr.Expr.TheVariants as ch
@@ -19,12 +19,12 @@ use Rattle.setl_code.specs.Code.{Operate, Decides, TestBool}
 use Rattle.setl_code.specs.Piece.{◌⨾◌, nothing, one}
 use Rattle.setl_code.specs.Generated.{expr}
 use Rattle.setl_code.specs.Names.{in_expr}
-use Rattle.setl_emitter.specs.Emitted.{Emitted, here, after, with_step}
+use Rattle.setl_gen_emitter.specs.Emitted.{Emitted, here, after, with_step}
 use Rattle.setl_gen.specs.Heads.{CodeGoesOn}
-use Rattle.setl_emitter.specs.EmittedLaws.{then_made, last}
+use Rattle.setl_gen_emitter.specs.EmittedLaws.{then_made, last}
 use Rattle.setl_gen.proofs.Constructs.{apply_made, connect_made}
 use Rattle.setl_gen.proofs.ExprKinds.{chain_is, got}
-use Rattle.setl_emitter.specs.Items.{drop_at}
+use Rattle.setl_gen_emitter.specs.Items.{drop_at}
 
 -- ---- variables
 

@@ -1,7 +1,7 @@
 -- A round of each loop over a list of parts, and how many a list has.
 use Rattle.std.proofs.Common.{◌≡◌, ℕ, suc, ◌+◌, ◌<◌, List, [], ◌∷◌, drop, length, refl, ap, sym, ◌∙◌, Some, None, arith}
 use Rattle.std.proofs.Math.ListN.{get_or}
-use Rattle.setl_run.specs.Variable.{Variable}
+use Rattle.setl_model_runs.specs.Variable.{Variable}
 use Rattle.setl_program.specs.declared.expr.Expr as ex
 use Rattle.setl_program.specs.declared.expr.Iterator as it
 use Rattle.setl_program.specs.declared.expr.Argument as arg
@@ -12,9 +12,9 @@ use Rattle.setl_program.specs.code.Plain.{plain_variable, plain_binding, plain_e
 use Rattle.setl_code.specs.Code.{Push, Load, StoreIn, BeginOver, NextOr}
 use Rattle.setl_code.specs.Piece.{one}
 use Rattle.setl_code.specs.Generated.{store_slots, bind, arguments, count_from, count, levels, expr, exprs}
-use Rattle.setl_emitter.specs.Emitted.{Emitted, after}
-use Rattle.setl_emitter.specs.EmittedLaws.{after_then, last}
-use Rattle.setl_emitter.specs.Items.{drop_at, iterator_is, ArgumentLayer, layer_of}
+use Rattle.setl_gen_emitter.specs.Emitted.{Emitted, after}
+use Rattle.setl_gen_emitter.specs.EmittedLaws.{after_then, last}
+use Rattle.setl_gen_emitter.specs.Items.{drop_at, iterator_is, ArgumentLayer, layer_of}
 use Rattle.setl_gen.specs.Heads.{begun, next, argument_code}
 use Rattle.setl_gen.proofs.Constructs.{begun_made, head_made}
 

@@ -2,7 +2,7 @@
 use Rattle.std.proofs.Common.{◌≡◌, ℕ, suc, ◌+◌, ◌<◌, ◌≤◌, List, [], ◌∷◌, ◌++◌, drop, length, map, refl, ap, sym, ◌∙◌, append_assoc, Option, Some, true, false}
 use Rattle.std.proofs.Math.ListN.{get_or}
 use Rattle.std.proofs.lemmas.List.{drop_all, length-set, map-append, append-nil}
-use Rattle.setl_run.specs.Variable.{Variable}
+use Rattle.setl_model_runs.specs.Variable.{Variable}
 use Rattle.setl_program.specs.declared.expr.Variable as v
 use Rattle.setl_program.specs.declared.stmt.Selector.{Selector}
 use Rattle.setl_program.specs.declared.stmt.Selector.TheVariants as sel
@@ -26,13 +26,13 @@ use Rattle.setl_code.specs.Plain.{plain_bracket}
 use Rattle.setl_code.specs.Code.{Alteration, Putting, Bracket, Unless, Jump, Alter, StoreIn, ReadOne, NextOr, PayRound}
 use Rattle.setl_code.specs.Piece.{Laid, ◌⨾◌, nothing, one, over, either, going_on, with_end, with_start}
 use Rattle.setl_code.specs.Generated.{expr, selectors, brackets, alter, put, read_all, stmt, block, levels, iterators, condition}
-use Rattle.setl_emitter.specs.declared.hole.Hole.{Hole}
-use Rattle.setl_emitter.specs.Emitted.{Emitted, here, hole, after, with_step, all_filled, closed, with_exits, with_again}
+use Rattle.setl_gen_emitter.specs.declared.hole.Hole.{Hole}
+use Rattle.setl_gen_emitter.specs.Emitted.{Emitted, here, hole, after, with_step, all_filled, closed, with_exits, with_again}
 use Rattle.setl_gen.specs.Heads.{opened}
 use Rattle.setl_gen.specs.StmtKinds.{plain_kind, guarded, looped, selector_code, bracket_of, IsGuarded, IsBranch, AreBranches}
-use Rattle.setl_emitter.specs.EmittedLaws.{after_then, after_nothing, here_after, then_made, either_closed, last_filled, over_made, ending_made, going_made, last}
+use Rattle.setl_gen_emitter.specs.EmittedLaws.{after_then, after_nothing, here_after, then_made, either_closed, last_filled, over_made, ending_made, going_made, last}
 use Rattle.setl_gen.proofs.Constructs.{start_is, rounds_made}
-use Rattle.setl_emitter.specs.Items.{drop_at}
+use Rattle.setl_gen_emitter.specs.Items.{drop_at}
 
 -- ---- places
 

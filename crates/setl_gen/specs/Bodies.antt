@@ -5,8 +5,8 @@ use Rattle.setl_program.specs.Program.{Block}
 use Rattle.setl_program.specs.ProgramOf.{parameter_of}
 use Rattle.setl_code.specs.Code.{Body}
 use Rattle.setl_code.specs.Names.{own_names}
-use Rattle.setl_emitter.specs.Table.{Table}
-use Rattle.setl_emitter.specs.Emitted.{Emitted}
+use Rattle.setl_gen_emitter.specs.Table.{Table}
+use Rattle.setl_gen_emitter.specs.Emitted.{Emitted}
 
 -- the variables of a body with these names in `var`, this number, these parameters and these statements
 abbrev pub table_of : (vars : List (List ℕ)) → (body : ℕ) → List Param → Block → Table

@@ -1,6 +1,6 @@
 -- The variables of parts.
 use Rattle.std.specs.Prelude.{List, [], ◌∷◌, ◌++◌}
-use Rattle.setl_run.specs.Variable.{Variable}
+use Rattle.setl_model_runs.specs.Variable.{Variable}
 use Rattle.setl_program.specs.declared.stmt.Branch.{Branch, out-Branch}
 use Rattle.setl_program.specs.declared.stmt.Selector.{Selector}
 use Rattle.setl_program.specs.declared.stmt.Selector.TheVariants as s

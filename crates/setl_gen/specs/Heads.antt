@@ -4,7 +4,7 @@ use Rattle.setl_program.specs.Program.{Binding, begin_of, Expr, Exprs, Iterators
 use Rattle.setl_code.specs.Code.{Push, Load, BeginOver, NextOr}
 use Rattle.setl_code.specs.Piece.{Laid, ◌⨾◌, nothing, one}
 use Rattle.setl_code.specs.Generated.{count, bind, expr, exprs}
-use Rattle.setl_emitter.specs.Emitted.{Emitted, here, after}
+use Rattle.setl_gen_emitter.specs.Emitted.{Emitted, here, after}
 
 -- Where the first steps are the code of an expression, with those that came they are the code of what becomes of it.
 abbrev pub CodeGoesOn : (line : ℕ) → (Expr → Expr) → Emitted → Emitted → Type 0

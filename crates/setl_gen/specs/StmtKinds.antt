@@ -9,8 +9,8 @@ use Rattle.setl_program.specs.declared.stmt.Selector.TheVariants as s
 use Rattle.setl_code.specs.Code.{Bracket, InRound, InBrace, Unless, Jump}
 use Rattle.setl_code.specs.Piece.{Laid, ◌⨾◌, one, over, going_on}
 use Rattle.setl_code.specs.Generated.{expr, block}
-use Rattle.setl_emitter.specs.declared.hole.Hole.{Hole}
-use Rattle.setl_emitter.specs.Emitted.{Emitted, here, hole, after, closed}
+use Rattle.setl_gen_emitter.specs.declared.hole.Hole.{Hole}
+use Rattle.setl_gen_emitter.specs.Emitted.{Emitted, here, hole, after, closed}
 
 abbrev pub plain_kind : StmtKind → plain.Stmt
 plain_kind = fold-StmtKind plain.Stmt (plain.Block → plain.Block) (ℕ × plain.Stmt) kind_step branch_step stmt_step

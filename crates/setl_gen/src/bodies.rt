@@ -1,17 +1,17 @@
 //! Bodies, and the code of a program.
 
 ghost use Rattle.std.specs.Prelude.{◌≡◌, ◌++◌, IfOk, OnOk, map};
-ghost use Rattle.setl_run.specs.Variable as run;
+ghost use Rattle.setl_model_runs.specs.Variable as run;
 ghost use Rattle.setl_program.specs.code.Plain.{plain_block, plain_procedure, plain_program};
 ghost use Rattle.setl_code.specs.CodeOf as code;
 ghost use Rattle.setl_code.specs.Plain.{plain_body, plain_bodies, plain_code};
-ghost use Rattle.setl_emitter.specs.Emitted.{held};
+ghost use Rattle.setl_gen_emitter.specs.Emitted.{held};
 ghost use Rattle.setl_gen.specs.Bodies.{table_of, blank, finished};
 
 use crate::found::{self, Found};
 use crate::{Memory, stmts};
 use setl_code::{Body, Code, Instr};
-use setl_emitter::{Emitter, Names, number};
+use setl_gen_emitter::{Emitter, Names, number};
 use setl_program::{Procedure, Program, Stmt};
 use setl_tree::{Items, Param, Text};
 use std::alloc::Global;

@@ -7,12 +7,12 @@ ghost use Rattle.setl_program.specs.Operators.{one, two};
 ghost use Rattle.setl_program.specs.Lists.{chained};
 ghost use Rattle.setl_program.specs.code.Plain.{plain_expr, plain_link, plain_exprs, plain_binding, plain_iterator, plain_iterators, plain_argument, plain_arguments, condition_of};
 ghost use Rattle.setl_code.specs.Generated as code;
-ghost use Rattle.setl_emitter.specs.Emitted.{held, here, after};
+ghost use Rattle.setl_gen_emitter.specs.Emitted.{held, here, after};
 ghost use Rattle.setl_gen.specs.Heads.{CodeGoesOn, begun, next, opened, argument_code};
 
 use crate::Memory;
 use setl_code::{Instr, Literal};
-use setl_emitter::{
+use setl_gen_emitter::{
     Emitter, add_and_go_on, begin, begin_selection, bind, end_undecided, keep_or_drop,
     leave_decided, number, store_set,
 };

@@ -26,7 +26,7 @@ pub struct Found<'p> {
 
 impl<'p> Model for Found<'p> {
     ghost use Rattle.std.specs.Prelude.{List, map};
-    ghost use Rattle.setl_run.specs.Variable.{Variable};
+    ghost use Rattle.setl_model_runs.specs.Variable.{Variable};
     ghost use Rattle.setl_program.specs.code.Plain.{plain_variable};
 
     ghost Value = { List Variable };

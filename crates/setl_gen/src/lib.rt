@@ -12,4 +12,4 @@ mod steps;
 mod stmts;
 
 pub use bodies::emit;
-pub use setl_emitter::Memory;
+pub use setl_gen_emitter::Memory;

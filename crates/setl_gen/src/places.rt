@@ -6,13 +6,13 @@ ghost use Rattle.setl_code.specs.Code.{ReadOne, StoreIn};
 ghost use Rattle.setl_code.specs.Piece.{◌⨾◌, one};
 ghost use Rattle.setl_code.specs.Generated as code;
 ghost use Rattle.setl_code.specs.Plain.{plain_alteration, plain_bracket};
-ghost use Rattle.setl_emitter.specs.Emitted.{held, after};
+ghost use Rattle.setl_gen_emitter.specs.Emitted.{held, after};
 ghost use Rattle.setl_gen.specs.StmtKinds.{selector_code, bracket_of};
 
 use crate::Memory;
 use crate::exprs::expr;
 use setl_code::{Alteration, Bracket, Instr};
-use setl_emitter::Emitter;
+use setl_gen_emitter::Emitter;
 use setl_program::{Place, Selector, Variable};
 use setl_tree::{Boxed, Items};
 use std::alloc::Global;

@@ -4,13 +4,13 @@ ghost use Rattle.std.specs.Prelude.{◌≡◌, OnOk};
 ghost use Rattle.setl_program.specs.Program.{Assign, Update, AssignParts, TakeFrom, Perform, Return, Print};
 ghost use Rattle.setl_program.specs.code.Plain.{plain_variable, plain_slots, plain_place, plain_expr, plain_exprs};
 ghost use Rattle.setl_code.specs.Generated as code;
-ghost use Rattle.setl_emitter.specs.Emitted.{held, after};
+ghost use Rattle.setl_gen_emitter.specs.Emitted.{held, after};
 
 use crate::Memory;
 use crate::exprs::{expr, exprs};
 use crate::places::{alter, put};
 use setl_code::{Alteration, Instr};
-use setl_emitter::{Emitter, number, parts};
+use setl_gen_emitter::{Emitter, number, parts};
 use setl_map::Operator;
 use setl_program::{Expr, Place, Taking, Variable};
 

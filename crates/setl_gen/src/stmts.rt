@@ -5,7 +5,7 @@ ghost use Rattle.std.specs.Option.{option_map};
 ghost use Rattle.setl_program.specs.Program.{For, While};
 ghost use Rattle.setl_program.specs.code.Plain.{plain_expr, plain_iterators, plain_block, plain_stmt, condition_of};
 ghost use Rattle.setl_code.specs.Generated as code;
-ghost use Rattle.setl_emitter.specs.Emitted.{held, after};
+ghost use Rattle.setl_gen_emitter.specs.Emitted.{held, after};
 ghost use Rattle.setl_gen.specs.StmtKinds.{plain_kind, looped, IsGuarded, IsBranch, AreBranches};
 
 use crate::Memory;
@@ -13,7 +13,7 @@ use crate::exprs::{expr, iterators, tested};
 use crate::places::read_all;
 use crate::steps::{assign, assign_parts, give_back, perform, print, take_from, update};
 use setl_code::Instr;
-use setl_emitter::{Emitter, Hole, number, quit};
+use setl_gen_emitter::{Emitter, Hole, number, quit};
 use setl_program::{Branch, Expr, Iterator, Stmt, StmtKind};
 use setl_tree::Items;
 

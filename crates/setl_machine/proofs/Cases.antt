@@ -2,9 +2,9 @@
 use Rattle.std.proofs.Common.{ℕ, true, false, List, [], ◌∷◌, Option, None, Some, ◌-◌}
 use Rattle.setl_value.specs.Datum.{Datum, bool, int, text, atom, tuple, set}
 use Rattle.setl_map.specs.Outcome.{Outcome, Gives, Fails, Overspends}
-use Rattle.setl_run.specs.Events.{End}
-use Rattle.setl_run.specs.Run.{Move, Halts}
-use Rattle.setl_run.specs.Turns.{left_after}
+use Rattle.setl_model_runs.specs.Events.{End}
+use Rattle.setl_model_runs.specs.Run.{Move, Halts}
+use Rattle.setl_model_runs.specs.Turns.{left_after}
 use Rattle.setl_model.specs.World.{branch, go_with}
 use Rattle.setl_code.specs.CodeCore.{Held, There, Gone, Operand, value_of, Popped, Pops, Lacks, CodeCore, holding}
 use Rattle.setl_code.specs.Machine.{on_value, on_top, on_popped, on_held, on_rest, turn, with_outcome}

@@ -6,11 +6,11 @@ use Rattle.setl_code.specs.Code.{PartsOf}
 use Rattle.setl_code.specs.CodeCore.{Operand, Result}
 use Rattle.setl_code.specs.Machine.{next, first_parts, take_apart}
 use Rattle.setl_store.specs.Standing.{Standing, over, at_place, top_of}
-use Rattle.setl_storing.specs.Control.{in_world}
-use Rattle.setl_storing.specs.Working.{Works}
+use Rattle.setl_machine_control.specs.Control.{in_world}
+use Rattle.setl_machine_control.specs.Working.{Works}
 use Rattle.setl_machine.specs.Working.{component_of}
-use Rattle.setl_storing.specs.declared.end.End.TheVariants.{Paused}
-use Rattle.setl_storing.specs.Laws.{top_taken}
+use Rattle.setl_machine_control.specs.declared.end.End.TheVariants.{Paused}
+use Rattle.setl_machine_control.specs.Laws.{top_taken}
 use Rattle.setl_machine.proofs.Working.{goes}
 
 pub component_there : (ps : List (Option Datum)) (at : ℕ) (p : Option Datum) → slice_get ps at ≡ Some p → p ≡ component_of ps at

@@ -3,13 +3,13 @@ use Rattle.std.proofs.Common.{◌≡◌, ◌≢◌, ◌∙◌, ℕ, zero, suc, t
 use Rattle.std.specs.Prelude.{slice_get, cond, IfSome}
 use Rattle.setl_value.specs.Datum.{Datum}
 use Rattle.setl_program.specs.Program.{Parameter}
-use Rattle.setl_run.specs.Run.{Store}
-use Rattle.setl_run.specs.Variable.{Global, Own, Bound}
+use Rattle.setl_model_runs.specs.Run.{Store}
+use Rattle.setl_model_runs.specs.Variable.{Global, Own, Bound}
 use Rattle.setl_model.specs.Calls.{bindings}
 use Rattle.setl_model.specs.Step.{declared_mode}
 use Rattle.setl_code.specs.Code.{Body, Code}
-use Rattle.setl_storing.specs.Declaring.{Modes, tested, AreOfMain, IsBare}
-use Rattle.setl_storing.specs.Laws.{takes_any, apart}
+use Rattle.setl_machine_control.specs.Declaring.{Modes, tested, AreOfMain, IsBare}
+use Rattle.setl_machine_control.specs.Laws.{takes_any, apart}
 
 -- no own variable of another body is declared
 pub not_declared : (modes : Modes) → AreOfMain modes → (n : ℕ) (name : List ℕ) → declared_mode modes (Own (suc n) name) ≡ None

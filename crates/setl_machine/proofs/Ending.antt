@@ -1,12 +1,12 @@
 -- A step that ends a run writes nothing.
 use Rattle.std.proofs.Common.{◌≡◌, ◌⊎◌, inl, inr, ◌∙◌, ℕ, List, [], ◌∷◌, length, refl, sym, ap, arith}
-use Rattle.setl_run.specs.Events.{End}
-use Rattle.setl_run.specs.Run.{State, Ends, settle, step}
+use Rattle.setl_model_runs.specs.Events.{End}
+use Rattle.setl_model_runs.specs.Run.{State, Ends, settle, step}
 use Rattle.setl_code.specs.Code.{Code}
 use Rattle.setl_code.specs.CodeCore.{Popped, Pops, Lacks, popped, CodeCore}
 use Rattle.setl_code.specs.Machine.{on_popped, print_values, do_step, machine}
-use Rattle.setl_storing.specs.Declaring.{Modes, tested}
-use Rattle.setl_storing.specs.Answers.{start, said}
+use Rattle.setl_machine_control.specs.Declaring.{Modes, tested}
+use Rattle.setl_machine_control.specs.Answers.{start, said}
 use Rattle.setl_machine.specs.Outcome.{AtPrint, EndsWriteNothing}
 use Rattle.setl_machine.proofs.Silence.{says_nothing}
 

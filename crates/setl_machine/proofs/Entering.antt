@@ -8,10 +8,10 @@ use Rattle.setl_value.specs.Datum.{Datum}
 use Rattle.setl_value.specs.code.DatumOf.{part}
 use Rattle.setl_value.specs.declared.Value.{Value}
 use Rattle.setl_program.specs.ProgramOf.{parameter_of}
-use Rattle.setl_run.specs.Events.{Called, Unfit, Stopped}
-use Rattle.setl_run.specs.Turns.{left_after}
-use Rattle.setl_run.specs.Run.{Store, State, Move, Moves, if_fits, store_all, stored, settle}
-use Rattle.setl_run.specs.Variable.{Variable}
+use Rattle.setl_model_runs.specs.Events.{Called, Unfit, Stopped}
+use Rattle.setl_model_runs.specs.Turns.{left_after}
+use Rattle.setl_model_runs.specs.Run.{Store, State, Move, Moves, if_fits, store_all, stored, settle}
+use Rattle.setl_model_runs.specs.Variable.{Variable}
 use Rattle.setl_model.specs.Calls.{bindings}
 use Rattle.setl_model.specs.World.{World, go_with}
 use Rattle.setl_code.specs.declared.code.Body as declared
@@ -22,17 +22,17 @@ use Rattle.setl_code.specs.Machine.{machine, turn, call_body, on_popped}
 use Rattle.setl_store.specs.Bodies.{with_stores, entered}
 use Rattle.setl_store.specs.Operands.{TakesOff}
 use Rattle.setl_store.specs.Standing.{Standing, over}
-use Rattle.setl_storing.specs.Control.{ControlState, world_of, in_world, stood_for}
-use Rattle.setl_storing.specs.Declaring.{Modes, tested, AreOfMain, IsBare}
-use Rattle.setl_storing.specs.Answers.{start, next_of, Quiet}
-use Rattle.setl_storing.specs.Working.{DoesBy, Halted}
+use Rattle.setl_machine_control.specs.Control.{ControlState, world_of, in_world, stood_for}
+use Rattle.setl_machine_control.specs.Declaring.{Modes, tested, AreOfMain, IsBare}
+use Rattle.setl_machine_control.specs.Answers.{start, next_of, Quiet}
+use Rattle.setl_machine_control.specs.Working.{DoesBy, Halted}
 use Rattle.setl_machine.specs.Working.{HasParameters, TakesArguments, Begins}
-use Rattle.setl_storing.specs.declared.end.End.{End}
-use Rattle.setl_storing.specs.declared.end.End.TheVariants as end
+use Rattle.setl_machine_control.specs.declared.end.End.{End}
+use Rattle.setl_machine_control.specs.declared.end.End.TheVariants as end
 use Rattle.setl_machine.proofs.Declared.{AllTaken, TakesAll, parameters_taken}
-use Rattle.setl_storing.specs.Laws.{write_in_world}
+use Rattle.setl_machine_control.specs.Laws.{write_in_world}
 use Rattle.setl_machine.proofs.Working.{stops_with}
-use Rattle.setl_storing.specs.Laws.{bodies_at}
+use Rattle.setl_machine_control.specs.Laws.{bodies_at}
 
 -- ---- bodies
 

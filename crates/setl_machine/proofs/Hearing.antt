@@ -1,8 +1,8 @@
 -- Calls in a row, with what watchers heard of them.
 use Rattle.std.proofs.Common.{◌≡◌, ◌∙◌, inl, ◌+◌, ℕ, List, [], ◌∷◌, ◌++◌, length, map, Option, None, Some, refl, sym, ap, subst, arith}
-use Rattle.setl_run.specs.Events as run
-use Rattle.setl_run.specs.Run.{Store, State, Next, Goes, Ends, settle, step}
-use Rattle.setl_run.specs.Run as runs
+use Rattle.setl_model_runs.specs.Events as run
+use Rattle.setl_model_runs.specs.Run.{Store, State, Next, Goes, Ends, settle, step}
+use Rattle.setl_model_runs.specs.Run as runs
 use Rattle.setl_model.specs.Calls.{bindings}
 use Rattle.setl_watch.specs.Notices.{noticed}
 use Rattle.setl_watch.specs.code.NoticeOf.{notice_of}
@@ -11,15 +11,15 @@ use Rattle.setl_watch.specs.declared.event.Event.{Event}
 use Rattle.setl_code.specs.Code.{Code, Instr, Step, CallBody}
 use Rattle.setl_code.specs.CodeCore.{CodeCore}
 use Rattle.setl_code.specs.Machine.{do_instr, do_step, fetch, machine}
-use Rattle.setl_telling.specs.Told.{events_of, EventsAre, AllFit, BindingsFit, EndsTellNothing}
+use Rattle.setl_code_events.specs.Told.{events_of, EventsAre, AllFit, BindingsFit, EndsTellNothing}
 use Rattle.setl_text.specs.code.Reads.{ahead}
-use Rattle.setl_storing.specs.Control.{stood_for, IsRest}
-use Rattle.setl_storing.specs.Declaring.{Modes, tested, AreOfMain, IsBare}
+use Rattle.setl_machine_control.specs.Control.{stood_for, IsRest}
+use Rattle.setl_machine_control.specs.Declaring.{Modes, tested, AreOfMain, IsBare}
 use Rattle.setl_machine.specs.Hearing.{events_told, Hears, Tells}
-use Rattle.setl_storing.specs.Answers.{start, Answers}
+use Rattle.setl_machine_control.specs.Answers.{start, Answers}
 use Rattle.setl_machine.specs.Outcome.{Seen, Ran, ReadsOnly}
-use Rattle.setl_storing.specs.declared.end.End.{End}
-use Rattle.setl_storing.specs.declared.end.End.TheVariants.{Done, Stopped, Spent, Paused, ReadFault, WriteFault, NoMemory, Stuck}
+use Rattle.setl_machine_control.specs.declared.end.End.{End}
+use Rattle.setl_machine_control.specs.declared.end.End.TheVariants.{Done, Stopped, Spent, Paused, ReadFault, WriteFault, NoMemory, Stuck}
 use Rattle.setl_machine.proofs.Declared.{AllTaken, TakesAll, parameters_taken}
 use Rattle.setl_machine.proofs.RanLaws.{Came, came, ran_join, reads_join}
 use Rattle.setl_machine.proofs.Rounds.{Moment, Runs, runs_give_up}

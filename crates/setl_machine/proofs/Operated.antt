@@ -8,22 +8,22 @@ use Rattle.setl_map.specs.code.Answers.{Tells}
 use Rattle.setl_map.specs.declared.Operator.{Operator}
 use Rattle.setl_map.specs.Operators.{op_of, operand_count, IsCount, TakesOperands}
 use Rattle.setl_map.specs.Outcome.{Gives}
-use Rattle.setl_run.specs.Run.{settle}
+use Rattle.setl_model_runs.specs.Run.{settle}
 use Rattle.setl_code.specs.Code.{Operate}
 use Rattle.setl_code.specs.Plain.{plain_code}
 use Rattle.setl_code.specs.CodeCore.{Operand, Result as Holds, Iterator, PairIterator, Collecting, Pops, popped, CodeCore}
 use Rattle.setl_code.specs.Machine.{machine, do_instr, next, at_step, on_popped, with_outcome}
 use Rattle.setl_store.specs.Operands.{IsPlainTop}
 use Rattle.setl_store.specs.Standing.{Standing, over, at_place, top_of}
-use Rattle.setl_storing.specs.Control.{ControlState, stood_for}
-use Rattle.setl_storing.specs.Declaring.{tested}
-use Rattle.setl_variables.specs.Freely.{OnTop}
+use Rattle.setl_machine_control.specs.Control.{ControlState, stood_for}
+use Rattle.setl_machine_control.specs.Declaring.{tested}
+use Rattle.setl_machine_variables.specs.Freely.{OnTop}
 use Rattle.setl_machine.specs.Operating.{AreTwo, PutsForTwo, PutsForOne}
-use Rattle.setl_storing.specs.Answers.{start, Quiet}
-use Rattle.setl_storing.specs.Working.{Does, EndsBy, Halted}
-use Rattle.setl_storing.specs.declared.end.End.{End}
-use Rattle.setl_storing.specs.declared.end.End.TheVariants as end
-use Rattle.setl_storing.specs.Laws.{halts_by}
+use Rattle.setl_machine_control.specs.Answers.{start, Quiet}
+use Rattle.setl_machine_control.specs.Working.{Does, EndsBy, Halted}
+use Rattle.setl_machine_control.specs.declared.end.End.{End}
+use Rattle.setl_machine_control.specs.declared.end.End.TheVariants as end
+use Rattle.setl_machine_control.specs.Laws.{halts_by}
 use Rattle.setl_machine.proofs.Working.{stops_with}
 
 -- ---- two operands

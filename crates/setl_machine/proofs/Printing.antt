@@ -4,22 +4,22 @@ use Rattle.std.specs.Global.{Vec}
 use Rattle.setl_value.specs.Datum.{Datum}
 use Rattle.std.specs.Prelude.{Option}
 use Rattle.setl_text.specs.Texts.{print_line}
-use Rattle.setl_run.specs.Run.{settle}
+use Rattle.setl_model_runs.specs.Run.{settle}
 use Rattle.setl_model.specs.World.{World}
 use Rattle.setl_code.specs.Code.{Code, PrintTop}
 use Rattle.setl_code.specs.CodeCore.{Operand, CodeCore}
 use Rattle.setl_code.specs.Machine.{machine, on_popped, print_values}
 use Rattle.setl_code.specs.Plain.{plain_code}
 use Rattle.setl_store.specs.Standing.{Standing, over, at_place}
-use Rattle.setl_storing.specs.Control.{in_world}
-use Rattle.setl_storing.specs.Declaring.{Modes, tested}
-use Rattle.setl_storing.specs.Answers.{start, next_of, IsLikely}
+use Rattle.setl_machine_control.specs.Control.{in_world}
+use Rattle.setl_machine_control.specs.Declaring.{Modes, tested}
+use Rattle.setl_machine_control.specs.Answers.{start, next_of, IsLikely}
 use Rattle.setl_machine.specs.Outcome.{Seen, Steps}
 use Rattle.setl_machine.specs.Working.{TakesLine, WritesLine}
-use Rattle.setl_storing.specs.declared.end.End.{End}
-use Rattle.setl_storing.specs.declared.end.End.TheVariants.{Done, Stopped, Spent, Paused, ReadFault, WriteFault, NoMemory, Stuck}
+use Rattle.setl_machine_control.specs.declared.end.End.{End}
+use Rattle.setl_machine_control.specs.declared.end.End.TheVariants.{Done, Stopped, Spent, Paused, ReadFault, WriteFault, NoMemory, Stuck}
 use Rattle.setl_machine.proofs.Stays.{appends_same}
-use Rattle.setl_storing.specs.Laws.{likely_over}
+use Rattle.setl_machine_control.specs.Laws.{likely_over}
 
 module _ (modes : Modes) (old : Standing) (line n : ℕ) (w : World) where
   -- a line was written

@@ -3,15 +3,15 @@ use Rattle.std.proofs.Common.{◌≡◌, ◌∙◌, ◌⊎◌, inl, inr, ◌+◌
 use Rattle.std.proofs.lemmas.List.{append-nil}
 use Rattle.std.specs.Io.KnownBytes.{Appends, append_known}
 use Rattle.setl_io.specs.Faults.{Rose}
-use Rattle.setl_run.specs.Run.{State, Next, Goes, Ends, settle, step, run}
+use Rattle.setl_model_runs.specs.Run.{State, Next, Goes, Ends, settle, step, run}
 use Rattle.setl_code.specs.Code.{Code}
 use Rattle.setl_code.specs.CodeCore.{Popped, Pops, Lacks, popped, CodeCore}
 use Rattle.setl_code.specs.Machine.{machine, do_step, on_popped, print_values}
-use Rattle.setl_storing.specs.Declaring.{Modes, tested}
-use Rattle.setl_storing.specs.Answers.{start, said, Answers}
+use Rattle.setl_machine_control.specs.Declaring.{Modes, tested}
+use Rattle.setl_machine_control.specs.Answers.{start, said, Answers}
 use Rattle.setl_machine.specs.Outcome.{last, Seen, NoFault, Steps, AtPrint, AtRead, Before, Ran, ReadsOnly}
-use Rattle.setl_storing.specs.declared.end.End.{End}
-use Rattle.setl_storing.specs.declared.end.End.TheVariants.{Done, Stopped, Spent, Paused, ReadFault, WriteFault, NoMemory, Stuck}
+use Rattle.setl_machine_control.specs.declared.end.End.{End}
+use Rattle.setl_machine_control.specs.declared.end.End.TheVariants.{Done, Stopped, Spent, Paused, ReadFault, WriteFault, NoMemory, Stuck}
 use Rattle.setl_machine.proofs.RunLaws.{behind, all_behind, run_joined, run_ended, run_one}
 use Rattle.setl_machine.proofs.Silence.{says_nothing}
 

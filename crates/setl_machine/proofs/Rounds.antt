@@ -1,16 +1,16 @@
 -- Calls in a row, with what they take of an input.
 use Rattle.std.proofs.Common.{◌≡◌, ◌∙◌, ◌⊎◌, ◌+◌, ◌≤◌, ℕ, Bool, List, [], ◌++◌, Option, None, Some, sym, ap, subst, append_assoc, arith}
-use Rattle.setl_run.specs.Run.{step}
+use Rattle.setl_model_runs.specs.Run.{step}
 use Rattle.setl_code.specs.Code.{Code}
 use Rattle.setl_code.specs.CodeCore.{CodeCore}
 use Rattle.setl_code.specs.Machine.{machine}
 use Rattle.setl_text.specs.code.Reads.{ahead, StaysHonest, TakesOff}
-use Rattle.setl_storing.specs.Control.{ControlState, stood_for, IsRest}
-use Rattle.setl_storing.specs.Declaring.{Modes, tested}
-use Rattle.setl_storing.specs.Answers.{start}
+use Rattle.setl_machine_control.specs.Control.{ControlState, stood_for, IsRest}
+use Rattle.setl_machine_control.specs.Declaring.{Modes, tested}
+use Rattle.setl_machine_control.specs.Answers.{start}
 use Rattle.setl_machine.specs.Outcome.{Seen, seen, Steps, AtPrint, AtRead, Ran, ReadsOnly}
-use Rattle.setl_storing.specs.declared.end.End.{End}
-use Rattle.setl_storing.specs.declared.end.End.TheVariants.{Paused, ReadFault, WriteFault, NoMemory}
+use Rattle.setl_machine_control.specs.declared.end.End.{End}
+use Rattle.setl_machine_control.specs.declared.end.End.TheVariants.{Paused, ReadFault, WriteFault, NoMemory}
 use Rattle.setl_machine.proofs.RanLaws.{ran_join, ran_one, ran_longer, ran_gives_up, reads_one, reads_join, reads_longer}
 
 -- a core with a control, the outside, and what is left of the input

@@ -1,8 +1,8 @@
 -- Runs one after the other are a run, and a run doesn't rest on what was written before it.
 use Rattle.std.proofs.Common.{◌≡◌, ◌∙◌, ◌+◌, ℕ, zero, suc, Bool, true, false, List, [], ◌∷◌, ◌++◌, refl, sym, ap, append_assoc, arith}
 use Rattle.std.proofs.lemmas.List.{append-nil}
-use Rattle.setl_run.specs.Events.{Event, Stored, End}
-use Rattle.setl_run.specs.Run.{Store, Move, Moves, Halts, State, Next, Goes, Ends, Machine, Test, stored, if_fits, store_all, settle, step, and_then, run}
+use Rattle.setl_model_runs.specs.Events.{Event, Stored, End}
+use Rattle.setl_model_runs.specs.Run.{Store, Move, Moves, Halts, State, Next, Goes, Ends, Machine, Test, stored, if_fits, store_all, settle, step, and_then, run}
 
 -- a state behind what another one wrote and told
 abbrev pub behind : {C : Type 0} → State C → State C → State C

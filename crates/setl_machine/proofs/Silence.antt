@@ -8,17 +8,17 @@ use Rattle.setl_program.specs.declared.kinds.Connective.{Connective}
 use Rattle.setl_program.specs.declared.kinds.Connective.TheVariants.{And, Or, Implies}
 use Rattle.setl_program.specs.Program.{Begin}
 use Rattle.setl_text.specs.Reading.{Reading, Denotes, AtEnd, NotForm, TooWide, TooDeep, read_denotation}
-use Rattle.setl_run.specs.Events.{End}
-use Rattle.setl_run.specs.Run.{Store, State, Next, Move, Moves, Halts, if_fits, store_all, stored, settle, step}
-use Rattle.setl_run.specs.Variable.{Variable, Global, Own, Bound}
+use Rattle.setl_model_runs.specs.Events.{End}
+use Rattle.setl_model_runs.specs.Run.{Store, State, Next, Move, Moves, Halts, if_fits, store_all, stored, settle, step}
+use Rattle.setl_model_runs.specs.Variable.{Variable, Global, Own, Bound}
 use Rattle.setl_model.specs.Core.{One, Two, Selected}
 use Rattle.setl_model.specs.Iterations.{Started, Starts, Refuses, items_of}
 use Rattle.setl_model.specs.Places.{Taken, TakesOut, IsEmpty, CannotTake, part_at_all, take_out}
 use Rattle.setl_code.specs.Code.{Alteration, Putting, Combining, TakingOut, Body, Code, Step, Instr, Push, PushAtom, PushEof, Load, Take, StoreIn, Operate, Alter, Decides, TestBool, Unless, Jump, DropTop, DupTop, PartsOf, BeginOver, NextOr, BeginOf, AddBelow, LeaveAll, PayRound, CallBody, ReturnTop, KeepAll, GoBack, PrintTop, ReadOne, StopRun}
 use Rattle.setl_code.specs.CodeCore.{Operand, Result, Iterator, PairIterator, Collecting, popped, without_iterators, Activation, Copy, CodeCore, held}
 use Rattle.setl_code.specs.Machine.{store_in, store_whole, take_from, selected_by, alter, begin_over, next_or, Added, Adds, Refused, Nowhere, added, go_added, take_apart, call_body, handed_back, return_to, go_back, push_read, decides, do_instr, do_step, fetch, machine}
-use Rattle.setl_storing.specs.Declaring.{Modes, tested}
-use Rattle.setl_storing.specs.Answers.{start, said}
+use Rattle.setl_machine_control.specs.Declaring.{Modes, tested}
+use Rattle.setl_machine_control.specs.Answers.{start, said}
 use Rattle.setl_machine.specs.Outcome.{AtPrint}
 use Rattle.setl_machine.proofs.Cases.{by_top, by_popped, by_held, by_rest, by_turn, by_outcome, by_branch}
 

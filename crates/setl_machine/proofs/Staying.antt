@@ -3,17 +3,17 @@ use Rattle.std.proofs.Common.{◌≡◌, ◌∙◌, ℕ, true, false, List, [], 
 use Rattle.std.specs.Prelude.{Bool}
 use Rattle.setl_value.specs.Datum.{Datum}
 use Rattle.setl_map.specs.Outcome.{Outcome}
-use Rattle.setl_run.specs.Events.{End}
-use Rattle.setl_run.specs.Run.{Store, State, Next, Goes, Ends, Move, Moves, Halts, if_fits, store_all, stored, settle}
-use Rattle.setl_run.specs.Variable.{Variable, Global, Own, Bound}
+use Rattle.setl_model_runs.specs.Events.{End}
+use Rattle.setl_model_runs.specs.Run.{Store, State, Next, Goes, Ends, Move, Moves, Halts, if_fits, store_all, stored, settle}
+use Rattle.setl_model_runs.specs.Variable.{Variable, Global, Own, Bound}
 use Rattle.setl_model.specs.Core.{Selected}
 use Rattle.setl_model.specs.Places.{Taken, TakesOut, IsEmpty, CannotTake, part_at_all, take_out}
 use Rattle.setl_code.specs.Code.{Bracket, Alteration, Putting, Combining, TakingOut, Code, StoreIn, Alter}
 use Rattle.setl_code.specs.CodeCore.{Held, There, Operand, Result, popped, CodeCore, held, write}
 use Rattle.setl_code.specs.Machine.{store_in, store_whole, take_from, selected_by, alter, do_instr, machine}
-use Rattle.setl_storing.specs.Declaring.{Modes, tested}
-use Rattle.setl_storing.specs.Answers.{start, next_of, Quiet}
-use Rattle.setl_storing.specs.declared.end.End.TheVariants.{Paused}
+use Rattle.setl_machine_control.specs.Declaring.{Modes, tested}
+use Rattle.setl_machine_control.specs.Answers.{start, next_of, Quiet}
+use Rattle.setl_machine_control.specs.declared.end.End.TheVariants.{Paused}
 use Rattle.setl_machine.proofs.Cases.{by_top, by_popped, by_held, by_outcome}
 
 -- the body of this number is at work then

@@ -2,15 +2,15 @@
 use Rattle.std.proofs.Common.{◌<◌, ℕ, Bool, List, [], ◌++◌, Option, None, Some, refl, sym, ◌∙◌, arith}
 use Rattle.std.proofs.lemmas.List.{append-nil}
 use Rattle.std.specs.Io.KnownBytes.{Appends, append_known}
-use Rattle.setl_run.specs.Run.{step}
+use Rattle.setl_model_runs.specs.Run.{step}
 use Rattle.setl_code.specs.Code.{Code}
 use Rattle.setl_code.specs.CodeCore.{CodeCore}
 use Rattle.setl_code.specs.Machine.{machine}
 use Rattle.setl_text.specs.code.Reads.{StaysHonest, TakesOff}
-use Rattle.setl_storing.specs.Declaring.{Modes, tested}
-use Rattle.setl_storing.specs.Answers.{start, said}
+use Rattle.setl_machine_control.specs.Declaring.{Modes, tested}
+use Rattle.setl_machine_control.specs.Answers.{start, said}
 use Rattle.setl_machine.specs.Outcome.{Seen, Ran}
-use Rattle.setl_storing.specs.declared.end.End.TheVariants.{Paused, NoMemory}
+use Rattle.setl_machine_control.specs.declared.end.End.TheVariants.{Paused, NoMemory}
 use Rattle.setl_machine.proofs.Silence.{says_nothing}
 
 pub appends_same : (b : Option (List ℕ)) → Appends b b []

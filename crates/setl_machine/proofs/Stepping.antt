@@ -1,7 +1,7 @@
 -- A step does what its instruction does.
 use Rattle.std.proofs.Common.{◌≡◌, ◌∙◌, ℕ, List, [], Option, None, Some, refl, sym, ap, subst, arith}
 use Rattle.std.specs.Io.KnownBytes.{Appends}
-use Rattle.setl_run.specs.Run.{Next, Goes, Ends, settle, step}
+use Rattle.setl_model_runs.specs.Run.{Next, Goes, Ends, settle, step}
 use Rattle.setl_code.specs.declared.code.Instr as declared_instr
 use Rattle.setl_code.specs.declared.code.Step as declared
 use Rattle.setl_code.specs.Code.{Code, Instr}
@@ -9,11 +9,11 @@ use Rattle.setl_code.specs.Plain.{Variables, plain_instr, plain_step}
 use Rattle.setl_code.specs.CodeCore.{CodeCore}
 use Rattle.setl_code.specs.Machine.{do_step, fetch, machine}
 use Rattle.setl_text.specs.code.Reads.{ReaderState, StaysHonest}
-use Rattle.setl_storing.specs.Declaring.{Modes, tested}
-use Rattle.setl_storing.specs.Answers.{start, next_of, Quiet}
+use Rattle.setl_machine_control.specs.Declaring.{Modes, tested}
+use Rattle.setl_machine_control.specs.Answers.{start, next_of, Quiet}
 use Rattle.setl_machine.specs.Outcome.{Seen, Steps}
-use Rattle.setl_storing.specs.declared.end.End.{End}
-use Rattle.setl_storing.specs.declared.end.End.TheVariants.{Done, Stopped, Spent, Paused, ReadFault, WriteFault, NoMemory, Stuck}
+use Rattle.setl_machine_control.specs.declared.end.End.{End}
+use Rattle.setl_machine_control.specs.declared.end.End.TheVariants.{Done, Stopped, Spent, Paused, ReadFault, WriteFault, NoMemory, Stuck}
 use Rattle.setl_machine.proofs.Stays.{appends_same, honest_same}
 
 pub in_hand : (c : Code) (k : CodeCore) (xs : Variables) (s : declared.Step) (what : declared_instr.Instr) → fetch c k.now.body k.now.at ≡ Some (plain_step xs s) → s.what ≡ what → fetch c k.now.body k.now.at ≡ Some (s.line, plain_instr xs what)

@@ -5,7 +5,7 @@ use Rattle.std.specs.Global.{Vec}
 use Rattle.std.proofs.lemmas.List.{length-map}
 use Rattle.setl_value.specs.Datum.{Datum}
 use Rattle.setl_text.specs.Texts.{print_line}
-use Rattle.setl_run.specs.Variable.{Variable, Global, Own, Bound}
+use Rattle.setl_model_runs.specs.Variable.{Variable, Global, Own, Bound}
 use Rattle.setl_model.specs.Core.{Selected}
 use Rattle.setl_model.specs.Places.{part_at_all}
 use Rattle.setl_model.specs.World.{World}
@@ -19,18 +19,18 @@ use Rattle.setl_code.specs.CodeCore.{Operand, Pops, popped, CodeCore, held}
 use Rattle.setl_code.specs.Machine.{selected_by, fetch}
 use Rattle.setl_code.specs.MayRun.{HasSlot}
 use Rattle.setl_code.specs.Plain.{Variables, plain_code, plain_slot}
-use Rattle.setl_telling.specs.Told.{value_held, store_told, popped_values, none_taken, alter_told, call_told}
-use Rattle.setl_telling.specs.Notes.{told_name, own_slots, variable_of, store_notices, call_notices}
+use Rattle.setl_code_events.specs.Told.{value_held, store_told, popped_values, none_taken, alter_told, call_told}
+use Rattle.setl_code_events.specs.Notes.{told_name, own_slots, variable_of, store_notices, call_notices}
 use Rattle.setl_store.specs.Standing.{Standing, no_world, variables, variables_by, variables_in}
-use Rattle.setl_variables.specs.Altered.{stores_new}
-use Rattle.setl_storing.specs.Control.{ControlState, in_world, stood_for}
-use Rattle.setl_storing.specs.Declaring.{Modes}
+use Rattle.setl_machine_variables.specs.Altered.{stores_new}
+use Rattle.setl_machine_control.specs.Control.{ControlState, in_world, stood_for}
+use Rattle.setl_machine_control.specs.Declaring.{Modes}
 use Rattle.setl_machine.specs.Hearing.{Tells, TellsOf, DoesTelling, TellsInHand}
-use Rattle.setl_storing.specs.Answers.{next_of, Quiet}
-use Rattle.setl_storing.specs.Working.{WorksBy, DoesBy}
+use Rattle.setl_machine_control.specs.Answers.{next_of, Quiet}
+use Rattle.setl_machine_control.specs.Working.{WorksBy, DoesBy}
 use Rattle.setl_machine.specs.Working.{HasParameters, TakesArguments, TakesLine}
-use Rattle.setl_storing.specs.declared.end.End.{End}
-use Rattle.setl_storing.specs.declared.end.End.TheVariants.{Paused}
+use Rattle.setl_machine_control.specs.declared.end.End.{End}
+use Rattle.setl_machine_control.specs.declared.end.End.TheVariants.{Paused}
 use Rattle.setl_machine.proofs.Staying.{after_store, after_alter}
 
 -- ---- stores

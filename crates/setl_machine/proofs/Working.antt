@@ -5,21 +5,21 @@ use Rattle.std.specs.declared.alloc.AllocError.{AllocError}
 use Rattle.setl_value.specs.Datum.{bool}
 use Rattle.setl_program.specs.declared.kinds.Connective.{Connective}
 use Rattle.setl_program.specs.declared.kinds.Connective.TheVariants.{And, Or, Implies}
-use Rattle.setl_run.specs.Run.{settle}
+use Rattle.setl_model_runs.specs.Run.{settle}
 use Rattle.setl_model.specs.World.{World}
 use Rattle.setl_code.specs.Code.{Instr}
 use Rattle.setl_code.specs.Plain.{plain_code}
 use Rattle.setl_code.specs.CodeCore.{Operand, Result as Holds, CodeCore}
 use Rattle.setl_code.specs.Machine.{machine, do_instr, next, go_to, on_top, decides}
 use Rattle.setl_store.specs.Standing.{Standing, over, at_place}
-use Rattle.setl_storing.specs.Control.{ControlState, world_of, in_world, stood_for}
-use Rattle.setl_storing.specs.Declaring.{Modes, tested}
-use Rattle.setl_storing.specs.Answers.{start, IsLikely, Quiet}
-use Rattle.setl_storing.specs.Working.{Works, Does, DoesBy, Halted}
+use Rattle.setl_machine_control.specs.Control.{ControlState, world_of, in_world, stood_for}
+use Rattle.setl_machine_control.specs.Declaring.{Modes, tested}
+use Rattle.setl_machine_control.specs.Answers.{start, IsLikely, Quiet}
+use Rattle.setl_machine_control.specs.Working.{Works, Does, DoesBy, Halted}
 use Rattle.setl_machine.specs.Working.{Judges}
-use Rattle.setl_storing.specs.declared.end.End.{End}
-use Rattle.setl_storing.specs.declared.end.End.TheVariants.{Paused}
-use Rattle.setl_storing.specs.Laws.{halted_quiet, likely_over}
+use Rattle.setl_machine_control.specs.declared.end.End.{End}
+use Rattle.setl_machine_control.specs.declared.end.End.TheVariants.{Paused}
+use Rattle.setl_machine_control.specs.Laws.{halted_quiet, likely_over}
 
 -- it goes on at a step with these operands
 pub goes : (old new : Standing) (line : ℕ) (what : Instr) (at : ℕ) (xs : List Operand) → new ≡ record old { core = at_place at (over xs old.core) } → ((w : World) → do_instr (plain_code old.code) line what (in_world w old.core) ≡ go_to at xs (in_world w old.core)) → Works old line what new Paused

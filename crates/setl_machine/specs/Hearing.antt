@@ -1,9 +1,9 @@
 -- What watchers were told of a run.
 use Rattle.std.specs.Prelude.{◌≡◌, ℕ, List, map, Result, Ok, Err, Some}
 use Rattle.std.specs.Global.{Vec}
-use Rattle.setl_run.specs.Events as run
-use Rattle.setl_run.specs.Run.{Next, Goes, Ends}
-use Rattle.setl_run.specs.Run as runs
+use Rattle.setl_model_runs.specs.Events as run
+use Rattle.setl_model_runs.specs.Run.{Next, Goes, Ends}
+use Rattle.setl_model_runs.specs.Run as runs
 use Rattle.setl_watch.specs.Notices.{noticed}
 use Rattle.setl_watch.specs.code.NoticeOf.{notice_of}
 use Rattle.setl_watch.specs.Watches.{Watched, told_all}
@@ -12,13 +12,13 @@ use Rattle.setl_code.specs.Code.{Code, Instr}
 use Rattle.setl_code.specs.CodeCore.{CodeCore}
 use Rattle.setl_code.specs.Machine.{machine, fetch}
 use Rattle.setl_code.specs.Plain.{plain_code}
-use Rattle.setl_telling.specs.Told.{events_of}
+use Rattle.setl_code_events.specs.Told.{events_of}
 use Rattle.setl_store.specs.Standing.{Standing}
-use Rattle.setl_storing.specs.Control.{ControlState, stood_for}
-use Rattle.setl_storing.specs.Declaring.{Modes, tested}
-use Rattle.setl_storing.specs.Answers.{start, next_of, Quiet}
-use Rattle.setl_storing.specs.declared.end.End.{End}
-use Rattle.setl_storing.specs.declared.end.End.TheVariants as end
+use Rattle.setl_machine_control.specs.Control.{ControlState, stood_for}
+use Rattle.setl_machine_control.specs.Declaring.{Modes, tested}
+use Rattle.setl_machine_control.specs.Answers.{start, next_of, Quiet}
+use Rattle.setl_machine_control.specs.declared.end.End.{End}
+use Rattle.setl_machine_control.specs.declared.end.End.TheVariants as end
 
 -- what was told: the events of the last state
 abbrev pub events_told : Next CodeCore → List run.Event

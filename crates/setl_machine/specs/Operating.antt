@@ -3,8 +3,8 @@ use Rattle.std.specs.Prelude.{◌≡◌, suc, List, ◌∷◌, drop, Option}
 use Rattle.setl_value.specs.Datum.{Datum}
 use Rattle.setl_code.specs.CodeCore.{Operand, Result as Holds}
 use Rattle.setl_store.specs.Standing.{Standing, over, at_place}
-use Rattle.setl_storing.specs.declared.end.End.{End}
-use Rattle.setl_storing.specs.declared.end.End.TheVariants as end
+use Rattle.setl_machine_control.specs.declared.end.End.{End}
+use Rattle.setl_machine_control.specs.declared.end.End.TheVariants as end
 
 -- two results that are no collections are on top
 abbrev pub AreTwo : List Operand → Type 0

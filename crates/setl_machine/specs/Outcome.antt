@@ -3,16 +3,16 @@ use Rattle.std.specs.Prelude.{◌≡◌, ◌⊎◌, ℕ, ◌<◌, ◌≤◌, ◌
 use Rattle.std.specs.Io.KnownBytes.{Appends, append_known}
 use Rattle.setl_io.specs.Faults.{Rose}
 use Rattle.setl_io.specs.Sink.{AppendsPart}
-use Rattle.setl_run.specs.Events as run
-use Rattle.setl_run.specs.Run.{State, Next, Goes, Ends, step}
-use Rattle.setl_run.specs.Run as runs
+use Rattle.setl_model_runs.specs.Events as run
+use Rattle.setl_model_runs.specs.Run.{State, Next, Goes, Ends, step}
+use Rattle.setl_model_runs.specs.Run as runs
 use Rattle.setl_code.specs.Code.{Code, PrintTop, ReadOne}
 use Rattle.setl_code.specs.CodeCore.{CodeCore}
 use Rattle.setl_code.specs.Machine.{machine, fetch}
-use Rattle.setl_storing.specs.Declaring.{Modes, tested}
-use Rattle.setl_storing.specs.declared.end.End.{End}
-use Rattle.setl_storing.specs.declared.end.End.TheVariants as end
-use Rattle.setl_storing.specs.Answers.{start, said, Answers}
+use Rattle.setl_machine_control.specs.Declaring.{Modes, tested}
+use Rattle.setl_machine_control.specs.declared.end.End.{End}
+use Rattle.setl_machine_control.specs.declared.end.End.TheVariants as end
+use Rattle.setl_machine_control.specs.Answers.{start, said, Answers}
 
 -- the last state's core
 abbrev pub last : Next CodeCore → CodeCore

@@ -10,7 +10,7 @@ use Rattle.setl_text.specs.declared.ReadFault.{ReadFault}
 use Rattle.setl_text.specs.declared.ReadFault.TheVariants as read
 use Rattle.setl_program.specs.declared.kinds.Connective.{Connective}
 use Rattle.setl_program.specs.declared.kinds.Connective.TheVariants.{And, Or, Implies}
-use Rattle.setl_run.specs.Run.{Move}
+use Rattle.setl_model_runs.specs.Run.{Move}
 use Rattle.setl_model.specs.World.{branch}
 use Rattle.setl_code.specs.declared.code.Instr as code
 use Rattle.setl_code.specs.declared.code.Instr.TheVariants as i
@@ -20,12 +20,12 @@ use Rattle.setl_code.specs.CodeCore.{Operand, Result as Holds, Pops, Lacks, popp
 use Rattle.setl_code.specs.Machine.{on_top}
 use Rattle.setl_store.specs.Bodies.{entered}
 use Rattle.setl_store.specs.Standing.{Standing, over, at_place}
-use Rattle.setl_storing.specs.Control.{ControlState, TakesTurn}
-use Rattle.setl_storing.specs.Working.{Halted}
+use Rattle.setl_machine_control.specs.Control.{ControlState, TakesTurn}
+use Rattle.setl_machine_control.specs.Working.{Halted}
 use Rattle.setl_machine.specs.Outcome.{Seen, NoFault, AppendsFront}
-use Rattle.setl_storing.specs.declared.end.End.{End}
-use Rattle.setl_storing.specs.declared.end.End.TheVariants as end
-use Rattle.setl_storing.specs.declared.end.StopKind.TheVariants as kind
+use Rattle.setl_machine_control.specs.declared.end.End.{End}
+use Rattle.setl_machine_control.specs.declared.end.End.TheVariants as end
+use Rattle.setl_machine_control.specs.declared.end.StopKind.TheVariants as kind
 
 -- ---- operands
 

@@ -4,15 +4,15 @@ ghost use Rattle.std.specs.Prelude.{◌≡◌, ℕ, ◌<◌, ◌+◌, ◌^◌, l
 ghost use Rattle.std.specs.Option.{option_map};
 ghost use Rattle.setl_code.specs.Code.{CallBody, ReturnTop};
 ghost use Rattle.setl_code.specs.Plain.{plain_code};
-ghost use Rattle.setl_storing.specs.Declaring.{Modes, AreOfMain, IsBare};
+ghost use Rattle.setl_machine_control.specs.Declaring.{Modes, AreOfMain, IsBare};
 ghost use Rattle.setl_value.specs.code.DatumOf.{part};
-ghost use Rattle.setl_storing.specs.Working.{Works, DoesBy};
+ghost use Rattle.setl_machine_control.specs.Working.{Works, DoesBy};
 ghost use Rattle.setl_machine.specs.Working.{HasParameters, TakesArguments, Begins};
 
 use setl_code::{Body, Code};
-use setl_environment::Memory;
+use setl_machine_control::{Control, End, pop_top};
 use setl_store::Store;
-use setl_storing::{Control, End, pop_top};
+use setl_store_environment::Memory;
 use setl_value::Value;
 
 /// Takes one turn and has the body of this number at work, with its arguments taken off the operands. No parameter is

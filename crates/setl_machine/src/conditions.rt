@@ -2,13 +2,13 @@
 
 ghost use Rattle.std.specs.Prelude.{◌≡◌, ℕ, ◌<◌, ◌+◌, ◌^◌, IfOk, IsOk};
 ghost use Rattle.setl_code.specs.Code.{Decides, TestBool, Unless, Jump, DropTop, DupTop};
-ghost use Rattle.setl_storing.specs.Working.{Works};
+ghost use Rattle.setl_machine_control.specs.Working.{Works};
 ghost use Rattle.setl_machine.specs.Working.{Judges, decided};
 
-use setl_environment::Memory;
+use setl_machine_control::{End, StopKind, copied, go_on, pop_top};
 use setl_program::Connective;
 use setl_store::{Store, Top};
-use setl_storing::{End, StopKind, copied, go_on, pop_top};
+use setl_store_environment::Memory;
 use setl_value::Value;
 
 /// Goes to the target where the truth value on top decides, and leaves the answer there; else pops it.

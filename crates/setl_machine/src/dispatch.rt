@@ -4,11 +4,11 @@ ghost use Rattle.std.specs.Prelude.{◌≡◌, ◌<◌, ◌+◌, ◌^◌, ℕ, L
 ghost use Rattle.setl_code.specs.MayRun.{InstrFits};
 ghost use Rattle.setl_code.specs.Plain.{plain_code, plain_instr};
 ghost use Rattle.setl_store.specs.Standing.{variables};
-ghost use Rattle.setl_storing.specs.Control.{stood_for};
-ghost use Rattle.setl_storing.specs.Answers.{next_of, Quiet};
-ghost use Rattle.setl_storing.specs.Declaring.{modes_of, Serves};
-ghost use Rattle.setl_storing.specs.declared.end.End.{End};
-ghost use Rattle.setl_storing.specs.Working.{Works, Does, DoesBy};
+ghost use Rattle.setl_machine_control.specs.Control.{stood_for};
+ghost use Rattle.setl_machine_control.specs.Answers.{next_of, Quiet};
+ghost use Rattle.setl_machine_control.specs.Declaring.{modes_of, Serves};
+ghost use Rattle.setl_machine_control.specs.declared.end.End.{End};
+ghost use Rattle.setl_machine_control.specs.Working.{Works, Does, DoesBy};
 ghost use Rattle.setl_machine.specs.Working.{IsQuiet, IsUntested, IsAlone};
 
 use crate::calling::{call, leave_body};
@@ -16,11 +16,13 @@ use crate::conditions::{decide, discard, duplicate, jump, test, unless};
 use crate::iterating::{add, begin_over, collect, leave, next, take_apart};
 use crate::operating::{operate, push_atom, push_eof, round};
 use setl_code::Instr;
-use setl_environment::Memory;
+use setl_machine_control::{Control, End, back, keep};
+use setl_machine_variables::{
+    Declarations, load, push, push_integer, push_text, store_in, take, update,
+};
 use setl_store::Store;
-use setl_storing::{Control, End, back, keep};
+use setl_store_environment::Memory;
 use setl_value::Value;
-use setl_variables::{Declarations, load, push, push_integer, push_text, store_in, take, update};
 use std::alloc::Global;
 
 /// Does an instruction that neither reads nor writes, and says how the run stands then.

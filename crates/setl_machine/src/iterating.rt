@@ -6,15 +6,15 @@ ghost use Rattle.setl_code.specs.Machine.{first_parts};
 ghost use Rattle.setl_code.specs.Plain.{plain_begin};
 ghost use Rattle.setl_store.specs.Standing.{over};
 ghost use Rattle.setl_value.specs.code.DatumOf.{part};
-ghost use Rattle.setl_storing.specs.Working.{Works, Does};
+ghost use Rattle.setl_machine_control.specs.Working.{Works, Does};
 ghost use Rattle.setl_machine.specs.Working.{component_of};
 
 use setl_code::Begin;
-use setl_environment::Memory;
-use setl_iterator::begin;
+use setl_machine_control::{Control, End, StopKind, end_by, go_on, pop_top};
 use setl_program::Collection;
 use setl_store::{Ahead, Store};
-use setl_storing::{Control, End, StopKind, end_by, go_on, pop_top};
+use setl_store_environment::Memory;
+use setl_store_iterator::begin;
 use setl_value::{TupleBody, Value};
 use std::alloc::Global;
 

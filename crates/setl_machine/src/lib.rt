@@ -14,6 +14,6 @@ mod watching;
 
 pub use laws::ends_write_nothing;
 pub use machine::{run, run_whole};
-pub use setl_storing::{Control, End, StopKind};
-pub use setl_variables::Declarations;
+pub use setl_machine_control::{Control, End, StopKind};
+pub use setl_machine_variables::Declarations;
 pub use watching::run_watched;

@@ -1,23 +1,23 @@
 //! Runs of a code by steps.
 
 ghost use Rattle.std.specs.Prelude.{◌≡◌, ◌⊎◌, List, ℕ, None};
-ghost use Rattle.setl_run.specs.Run.{step};
+ghost use Rattle.setl_model_runs.specs.Run.{step};
 ghost use Rattle.setl_code.specs.Machine.{machine};
 ghost use Rattle.setl_code.specs.Plain.{plain_code};
 ghost use Rattle.setl_text.specs.code.Reads.{ahead, StaysHonest, TakesOff};
-ghost use Rattle.setl_storing.specs.Control.{stood_for, IsRest};
-ghost use Rattle.setl_storing.specs.Declaring.{modes_of, tested, Serves};
-ghost use Rattle.setl_storing.specs.Answers.{start};
+ghost use Rattle.setl_machine_control.specs.Control.{stood_for, IsRest};
+ghost use Rattle.setl_machine_control.specs.Declaring.{modes_of, tested, Serves};
+ghost use Rattle.setl_machine_control.specs.Answers.{start};
 ghost use Rattle.setl_machine.specs.Outcome.{seen, Steps, AtPrint, AtRead, Ran, ReadsOnly};
-ghost use Rattle.setl_storing.specs.declared.end.End.{End};
+ghost use Rattle.setl_machine_control.specs.declared.end.End.{End};
 
 use crate::dispatch::quiet_step;
 use crate::outside::{print, read};
 use setl_code::Instr;
 use setl_io::{Sink, Source};
+use setl_machine_control::{Control, End};
+use setl_machine_variables::Declarations;
 use setl_store::Store;
-use setl_storing::{Control, End};
-use setl_variables::Declarations;
 
 /// Does the next instructions, at most `steps` of them.
 ///

@@ -6,14 +6,14 @@ ghost use Rattle.setl_map.specs.Operators.{operand_count, TakesOperands};
 ghost use Rattle.setl_value.specs.code.DatumOf.{part};
 ghost use Rattle.setl_store.specs.Operands.{IsPlainTop};
 ghost use Rattle.setl_machine.specs.Operating.{AreTwo, PutsForTwo, PutsForOne};
-ghost use Rattle.setl_storing.specs.Working.{Does};
+ghost use Rattle.setl_machine_control.specs.Working.{Does};
 
-use setl_environment::Memory;
+use setl_machine_control::{Control, End, end_by, go_on};
+use setl_machine_variables::freely_of_top;
 use setl_operators::{Operator, op, op_one, op_two};
 use setl_store::Store;
-use setl_storing::{Control, End, end_by, go_on};
+use setl_store_environment::Memory;
 use setl_value::Value;
-use setl_variables::freely_of_top;
 
 /// Pops so many operands, and pushes what the operator makes of them for its charge.
 pub(crate) fn operate(

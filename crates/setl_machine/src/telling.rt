@@ -1,7 +1,7 @@
 //! Steps that give the events that they tell.
 
 ghost use Rattle.std.specs.Prelude.{◌≡◌, ◌⊎◌, ◌<◌, ◌+◌, ◌^◌, ◌∷◌, [], ℕ, List, None, map, length, IfOk, IfErr, OnOk};
-ghost use Rattle.setl_run.specs.Run.{step};
+ghost use Rattle.setl_model_runs.specs.Run.{step};
 ghost use Rattle.setl_code.specs.Code.{StoreIn, Alter, CallBody, PrintTop};
 ghost use Rattle.setl_code.specs.CodeCore.{CodeCore, held};
 ghost use Rattle.setl_code.specs.Machine.{machine};
@@ -11,28 +11,28 @@ ghost use Rattle.setl_text.specs.code.Reads.{ahead, StaysHonest, TakesOff};
 ghost use Rattle.setl_value.specs.code.DatumOf.{part};
 ghost use Rattle.setl_watch.specs.Notices.{Printed as PrintNotice, noticed, without_last};
 ghost use Rattle.setl_watch.specs.code.NoticeOf.{notice_of};
-ghost use Rattle.setl_telling.specs.Told.{value_held, store_told};
+ghost use Rattle.setl_code_events.specs.Told.{value_held, store_told};
 ghost use Rattle.setl_model.specs.World.{World};
 ghost use Rattle.setl_store.specs.Standing.{variables, variables_in};
-ghost use Rattle.setl_storing.specs.Control.{ControlState, in_world, stood_for, IsRest};
-ghost use Rattle.setl_storing.specs.Declaring.{Modes, modes_of, tested, Serves};
+ghost use Rattle.setl_machine_control.specs.Control.{ControlState, in_world, stood_for, IsRest};
+ghost use Rattle.setl_machine_control.specs.Declaring.{Modes, modes_of, tested, Serves};
 ghost use Rattle.setl_machine.specs.Hearing.{ended, Tells, TellsOf, DoesTelling, TellsInHand};
-ghost use Rattle.setl_storing.specs.Answers.{next_of, start};
+ghost use Rattle.setl_machine_control.specs.Answers.{next_of, start};
 ghost use Rattle.setl_machine.specs.Outcome.{seen, Steps, AtPrint, AtRead};
 ghost use Rattle.setl_machine.specs.Working.{IsQuiet, IsToldAlone};
-ghost use Rattle.setl_storing.specs.declared.end.End.{End};
+ghost use Rattle.setl_machine_control.specs.declared.end.End.{End};
 
 use crate::calling::{arguments, begin};
 use crate::dispatch::quiet_step;
 use crate::outside::{read, take_line, write_line};
 use setl_code::{Alteration, Bracket, Code, Instr, Slot};
-use setl_environment::Memory;
+use setl_code_events::{call_events, return_events, store_events};
 use setl_io::{Sink, Source};
+use setl_machine_control::{Control, End, copied};
+use setl_machine_variables::{Declarations, alter, store_in};
 use setl_store::{Content, Store};
-use setl_storing::{Control, End, copied};
-use setl_telling::{call_events, return_events, store_events};
+use setl_store_environment::Memory;
 use setl_value::Value;
-use setl_variables::{Declarations, alter, store_in};
 use setl_watch::Event;
 use std::alloc::Global;
 

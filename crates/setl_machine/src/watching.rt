@@ -4,19 +4,19 @@ ghost use Rattle.std.specs.Prelude.{◌≡◌, ℕ, List, None, map};
 ghost use Rattle.setl_code.specs.Plain.{plain_code};
 ghost use Rattle.setl_text.specs.code.Reads.{ahead, StaysHonest, TakesOff};
 ghost use Rattle.setl_watch.specs.Watches.{watched};
-ghost use Rattle.setl_storing.specs.Control.{stood_for, IsRest};
-ghost use Rattle.setl_storing.specs.Declaring.{modes_of, Serves};
+ghost use Rattle.setl_machine_control.specs.Control.{stood_for, IsRest};
+ghost use Rattle.setl_machine_control.specs.Declaring.{modes_of, Serves};
 ghost use Rattle.setl_machine.specs.Hearing.{Hears};
 ghost use Rattle.setl_machine.specs.Outcome.{seen, Ran, ReadsOnly};
-ghost use Rattle.setl_storing.specs.declared.end.End.{End};
+ghost use Rattle.setl_machine_control.specs.declared.end.End.{End};
 
 use crate::machine::run_whole;
 use crate::telling::step_telling;
+use setl_code_events::{ends_tell_nothing, events_are};
 use setl_io::{Sink, Source};
+use setl_machine_control::{Control, End};
+use setl_machine_variables::Declarations;
 use setl_store::Store;
-use setl_storing::{Control, End};
-use setl_telling::{ends_tell_nothing, events_are};
-use setl_variables::Declarations;
 use setl_watch::{Watcher, tell_each, told_in_parts};
 
 /// Does instructions up to the end of the run, as `run_whole` does, and tells the watchers each event.

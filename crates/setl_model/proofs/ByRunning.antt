@@ -1,7 +1,7 @@
 -- A table of worked programs holds where the runs of its programs, up to a bound, end as it says.
 use Rattle.std.proofs.Common.{◌≡◌, ℕ, true, List, [], ◌∷◌, Option, Some, None, map, refl, ap}
-use Rattle.setl_run.specs.Events.{Event, End}
-use Rattle.setl_run.specs.Run.{State, Next, Goes, Ends, run}
+use Rattle.setl_model_runs.specs.Events.{Event, End}
+use Rattle.setl_model_runs.specs.Run.{State, Next, Goes, Ends, run}
 use Rattle.setl_model.specs.Core.{Core}
 use Rattle.setl_model.specs.Step.{language, test_of}
 use Rattle.setl_model.specs.Means.{first}

@@ -2,7 +2,7 @@
 use Rattle.std.proofs.Common.{true, false, [], refl}
 use Rattle.std.specs.Prelude.{codes}
 use Rattle.std.specs.Fmt.{digits}
-use Rattle.setl_run.specs.Events.{Done, Spent, Stopped, Wide, Form, Unfit, Nothing}
+use Rattle.setl_model_runs.specs.Events.{Done, Spent, Stopped, Wide, Form, Unfit, Nothing}
 use Rattle.setl_program.specs.Source.{f, s}
 use Rattle.setl_model.specs.Means.{Means}
 use Rattle.setl_model.specs.LanguageSamples.{images_of_a_map, too_wide, fail_alone, counting, reading, emptied_set, passed_in_and_out, taken_back, enumeration_or_former, arithmetic, folds, subsets, long_range, declared_set, declared_map, queens, taken_apart, nested_places, undeclared_own}

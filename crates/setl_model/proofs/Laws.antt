@@ -1,10 +1,10 @@
 -- The laws over the language.
 use Rattle.std.proofs.Common.{◌≡◌, Bool, true, false, refl, [], ◌∷◌, ◌++◌, sym, ap, ◌∙◌, subst}
-use Rattle.setl_run.specs.Variable.{is_variable, value_in, with_value}
-use Rattle.setl_run.specs.VariableLaws.{same_variable, value_elsewhere}
-use Rattle.setl_run.specs.Events.{Printed}
-use Rattle.setl_run.specs.Run.{State, Goes, settle, step, and_then}
-use Rattle.setl_run.specs.RunLaws.{runs_join}
+use Rattle.setl_model_runs.specs.Variable.{is_variable, value_in, with_value}
+use Rattle.setl_model_runs.specs.VariableLaws.{same_variable, value_elsewhere}
+use Rattle.setl_model_runs.specs.Events.{Printed}
+use Rattle.setl_model_runs.specs.Run.{State, Goes, settle, step, and_then}
+use Rattle.setl_model_runs.specs.RunLaws.{runs_join}
 use Rattle.setl_model.specs.Core.{Core}
 use Rattle.setl_model.specs.Step.{language, test_of}
 use Rattle.setl_model.specs.Means.{first}

@@ -2,8 +2,8 @@
 use Rattle.std.proofs.Common.{◌≡◌, true, [], refl}
 use Rattle.std.specs.Prelude.{codes}
 use Rattle.std.specs.Fmt.{digits}
-use Rattle.setl_run.specs.Events.{Done, Stopped, Wide, Unfit, Nothing}
-use Rattle.setl_run.specs.Variable.{Global}
+use Rattle.setl_model_runs.specs.Events.{Done, Stopped, Wide, Unfit, Nothing}
+use Rattle.setl_model_runs.specs.Variable.{Global}
 use Rattle.setl_text.specs.Texts.{print_line}
 use Rattle.setl_model.specs.Answers.{error_line}
 use Rattle.setl_model.specs.Means.{Means}

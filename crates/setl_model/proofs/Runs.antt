@@ -1,8 +1,8 @@
 -- Laws over the runs of any machine.
 use Rattle.std.proofs.Common.{◌≡◌, ℕ, zero, suc, Bool, true, false, List, [], ◌∷◌, ◌++◌, refl, sym, ap, ◌∙◌, subst, append_assoc, append-nil}
-use Rattle.setl_run.specs.Variable.{Variable}
-use Rattle.setl_run.specs.Events.{Unfit, End, Stopped}
-use Rattle.setl_run.specs.Run.{Store, Move, Moves, Halts, State, Next, Goes, Ends, Machine, Test, stored, if_fits, store_all, settle, step, and_then, run}
+use Rattle.setl_model_runs.specs.Variable.{Variable}
+use Rattle.setl_model_runs.specs.Events.{Unfit, End, Stopped}
+use Rattle.setl_model_runs.specs.Run.{Store, Move, Moves, Halts, State, Next, Goes, Ends, Machine, Test, stored, if_fits, store_all, settle, step, and_then, run}
 use Rattle.setl_model.specs.Laws.{Grows, IsFront, IsUnfit}
 
 module _ (C : Type 0) (m : Machine C) where

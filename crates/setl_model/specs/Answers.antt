@@ -1,7 +1,7 @@
 -- What a caller is told of the end of a run.
 use Rattle.std.specs.Prelude.{ℕ, List, [], ◌∷◌, ◌++◌, codes, decimal, Option, Some, None}
-use Rattle.setl_run.specs.Variable.{name_of}
-use Rattle.setl_run.specs.Events.{StopKind, Om, Kind, Zero, Range, Wide, Deep, Form, Unfit, Nothing, End, Done, Stopped, Spent, Stuck}
+use Rattle.setl_model_runs.specs.Variable.{name_of}
+use Rattle.setl_model_runs.specs.Events.{StopKind, Om, Kind, Zero, Range, Wide, Deep, Form, Unfit, Nothing, End, Done, Stopped, Spent, Stuck}
 
 -- How a run ended, in short.
 pub data RunStatus : Type 0 where

@@ -1,10 +1,10 @@
 -- Steps of calls and returns.
 use Rattle.std.specs.Prelude.{ℕ, suc, List, [], ◌∷◌, reverse, slice_get, Option, Some, None}
 use Rattle.setl_value.specs.Datum.{Datum}
-use Rattle.setl_run.specs.Variable.{Variable, Own, Environment, value_in}
+use Rattle.setl_model_runs.specs.Variable.{Variable, Own, Environment, value_in}
 use Rattle.setl_program.specs.Program.{Arguments, no_argument, rd_argument, wr_argument, rw_argument, Parameter, Procedure, Program}
-use Rattle.setl_run.specs.Events.{Called, Returned, Stuck}
-use Rattle.setl_run.specs.Run.{Store, Move, Moves, Halts}
+use Rattle.setl_model_runs.specs.Events.{Called, Returned, Stuck}
+use Rattle.setl_model_runs.specs.Run.{Store, Move, Moves, Halts}
 use Rattle.setl_model.specs.Core.{Execute, Evaluate, Result, HandBacks, CallFrame, Argument, Activation, Frame, InCall, Storing, Core, read_variable, line_of}
 use Rattle.setl_model.specs.Moves.{go, turn}
 

@@ -1,14 +1,14 @@
 -- The part of a state on which the next step rests.
 use Rattle.std.specs.Prelude.{ℕ, List, [], ◌∷◌, Option}
 use Rattle.setl_value.specs.Datum.{Datum}
-use Rattle.setl_run.specs.Variable.{Variable, Global, Own, Bound, Environment, value_in, with_value}
+use Rattle.setl_model_runs.specs.Variable.{Variable, Global, Own, Bound, Environment, value_in, with_value}
 use Rattle.setl_map.specs.declared.Operator.{Operator}
 use Rattle.setl_program.specs.declared.kinds.Collection.{Collection}
 use Rattle.setl_program.specs.declared.kinds.Connective.{Connective}
 use Rattle.setl_program.specs.declared.kinds.Quantifier.{Quantifier}
 use Rattle.setl_program.specs.declared.kinds.Taking.{Taking}
 use Rattle.setl_program.specs.Program.{Slots, Binding, Expr, Exprs, Iterators, Condition, Arguments, Selectors, Place, Block}
-use Rattle.setl_run.specs.Run.{Store}
+use Rattle.setl_model_runs.specs.Run.{Store}
 use Rattle.setl_model.specs.World.{World}
 
 -- The values of the variables of the whole program and of the body in hand, and the world.

@@ -8,9 +8,9 @@ use Rattle.setl_set.specs.Sets.{has_datum}
 use Rattle.setl_text.specs.Texts.{spaced, inner_text}
 use Rattle.setl_modes.specs.declared.mode.Form.{Form}
 use Rattle.setl_modes.specs.declared.mode.Form.TheVariants.{Plain, Local, Remote, Sparse}
-use Rattle.setl_run.specs.Variable.{Variable, Global, Environment, name_of, value_in}
+use Rattle.setl_model_runs.specs.Variable.{Variable, Global, Environment, name_of, value_in}
 use Rattle.setl_modes.specs.Modes.{Mode, Elements, Sets, Tuples, SingleMaps, MultiMaps}
-use Rattle.setl_run.specs.Run.{State}
+use Rattle.setl_model_runs.specs.Run.{State}
 use Rattle.setl_model.specs.Core.{InCall, Activation, Frame, Core}
 use Rattle.setl_model.specs.Entered.{entered}
 

@@ -1,6 +1,6 @@
 -- That every run ends. These are statements alone; they are proved above, by the runs of code.
 use Rattle.std.specs.Prelude.{ℕ, Bool, List}
-use Rattle.setl_run.specs.Events.{End, Stuck}
+use Rattle.setl_model_runs.specs.Events.{End, Stuck}
 use Rattle.setl_program.specs.Program.{Program}
 use Rattle.setl_program.specs.Formed.{Formed}
 use Rattle.setl_model.specs.Means.{Means}

@@ -5,9 +5,9 @@ use Rattle.setl_value.specs.Datum.{Datum, int, tuple, set, element_list, part_li
 use Rattle.setl_value.specs.Pairs.{pair, pair_parts, images}
 use Rattle.setl_set.specs.Sets.{has_datum, set_from}
 use Rattle.setl_modes.specs.declared.mode.Form.TheVariants.{Sparse, Remote}
-use Rattle.setl_run.specs.Variable.{Variable}
+use Rattle.setl_model_runs.specs.Variable.{Variable}
 use Rattle.setl_modes.specs.Modes.{Mode, Integers, Elements, Sets, Tuples, SingleMaps, MultiMaps}
-use Rattle.setl_run.specs.Events.{Event, Stored, Kept, Back}
+use Rattle.setl_model_runs.specs.Events.{Event, Stored, Kept, Back}
 use Rattle.setl_model.specs.Step.{declared_mode}
 
 -- ---- the places of a value

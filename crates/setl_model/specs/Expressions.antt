@@ -6,8 +6,8 @@ use Rattle.setl_map.specs.Operators.{op_of}
 use Rattle.setl_program.specs.declared.kinds.Connective.{Connective}
 use Rattle.setl_program.specs.declared.kinds.Connective.TheVariants.{And, Or, Implies}
 use Rattle.setl_program.specs.Program.{Expr, Literal, Undefined, Name, Apply, Connect, Choose, Former, Selection, Quantified, Call, Newat, Eof, Ok, Exprs, no_expr, more_exprs, only_if, Program, more_iterators, no_iterator}
-use Rattle.setl_run.specs.Events.{Kept}
-use Rattle.setl_run.specs.Run.{Move, Moves}
+use Rattle.setl_model_runs.specs.Events.{Kept}
+use Rattle.setl_model_runs.specs.Run.{Move, Moves}
 use Rattle.setl_model.specs.Core.{Evaluate, Result, ExprFrame, Operands, ConnectLeft, ConnectRight, ChooseTest, Collect, Select, Decide, Frame, InExpr, Core, read_variable, line_of}
 use Rattle.setl_model.specs.World.{branch}
 use Rattle.setl_model.specs.Moves.{go, turn, deliver}

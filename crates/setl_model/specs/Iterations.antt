@@ -11,12 +11,12 @@ use Rattle.setl_program.specs.declared.kinds.Quantifier.{Quantifier}
 use Rattle.setl_program.specs.declared.kinds.Quantifier.TheVariants.{Exists, Forall, NotExists}
 use Rattle.setl_program.specs.declared.kinds.Source.TheVariants.{Values, Between, SetSteps, TupleSteps}
 use Rattle.setl_program.specs.Program.{Slots, Binding, Member, Components, Point, Begin, Members, Points, begin_of, Exprs, no_expr, more_exprs, Iterators, no_iterator, more_iterators, Condition, no_condition, only_if, no_stmt}
-use Rattle.setl_run.specs.Events.{Stuck}
-use Rattle.setl_run.specs.Run.{Move, Halts}
+use Rattle.setl_model_runs.specs.Events.{Stuck}
+use Rattle.setl_model_runs.specs.Run.{Move, Halts}
 use Rattle.setl_model.specs.Core.{Execute, Evaluate, Result, Iterate, Goal, Collect, Select, Decide, Repeat, Item, One, Two, Level, Iteration, IterationFrame, Sources, ToBind, IsBound, Testing, Body, Paused, Frame, InIteration, Storing, Core, line_of}
 use Rattle.setl_model.specs.World.{stop, branch}
 use Rattle.setl_model.specs.Moves.{go, turn}
-use Rattle.setl_run.specs.Variable.{Variable}
+use Rattle.setl_model_runs.specs.Variable.{Variable}
 use Rattle.setl_model.specs.Slots.{Parting, Parted, NotParted, parting, variables_in, om_stores}
 
 -- ---- the items of an iterator

@@ -1,10 +1,10 @@
 -- Laws over what a program means.
 use Rattle.std.specs.Prelude.{◌≡◌, ℕ, Bool, true, false, List, ◌++◌, Option}
 use Rattle.setl_value.specs.Datum.{Datum}
-use Rattle.setl_run.specs.Variable.{Variable, Environment, value_in, with_value}
+use Rattle.setl_model_runs.specs.Variable.{Variable, Environment, value_in, with_value}
 use Rattle.setl_program.specs.Program.{Program}
-use Rattle.setl_run.specs.Events.{Event, StopKind, Unfit, End, Stopped}
-use Rattle.setl_run.specs.Run.{State}
+use Rattle.setl_model_runs.specs.Events.{Event, StopKind, Unfit, End, Stopped}
+use Rattle.setl_model_runs.specs.Run.{State}
 use Rattle.setl_model.specs.Core.{Core}
 use Rattle.setl_model.specs.Step.{Step}
 use Rattle.setl_model.specs.Means.{Reaches, Means, HasPrint}

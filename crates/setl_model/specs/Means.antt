@@ -1,9 +1,9 @@
 -- What a program means.
 use Rattle.std.specs.Prelude.{◌≡◌, ℕ, Bool, false, List, [], ◌∷◌}
-use Rattle.setl_run.specs.Variable.{Variable}
+use Rattle.setl_model_runs.specs.Variable.{Variable}
 use Rattle.setl_program.specs.Program.{Read, Block, more_stmts, Program}
-use Rattle.setl_run.specs.Events.{Printed, End}
-use Rattle.setl_run.specs.Run.{Moves, State, Goes, Ends, run}
+use Rattle.setl_model_runs.specs.Events.{Printed, End}
+use Rattle.setl_model_runs.specs.Run.{Moves, State, Goes, Ends, run}
 use Rattle.setl_model.specs.Core.{Execute, Core}
 use Rattle.setl_model.specs.Step.{language, test_of}
 

@@ -1,9 +1,9 @@
 -- The moves of which every step is one.
 use Rattle.std.specs.Prelude.{ℕ, List, [], ◌∷◌, Option}
 use Rattle.setl_value.specs.Datum.{Datum}
-use Rattle.setl_run.specs.Variable.{Variable, Bound}
+use Rattle.setl_model_runs.specs.Variable.{Variable, Bound}
 use Rattle.setl_map.specs.Outcome.{Outcome}
-use Rattle.setl_run.specs.Run.{Move, Moves}
+use Rattle.setl_model_runs.specs.Run.{Move, Moves}
 use Rattle.setl_model.specs.Core.{Hand, Result, Frame, Core, line_of, write_variable}
 use Rattle.setl_model.specs.World.{Holding}
 use Rattle.setl_model.specs.World as world

@@ -1,7 +1,7 @@
 -- Steps of updates.
 use Rattle.std.specs.Prelude.{ℕ, List, [], ◌∷◌, reverse, Option, Some, None}
 use Rattle.setl_value.specs.Datum.{Datum, tuple, set, element_list, part_list, set_of, tuple_of}
-use Rattle.setl_run.specs.Variable.{Variable}
+use Rattle.setl_model_runs.specs.Variable.{Variable}
 use Rattle.setl_map.specs.declared.Operator.TheVariants.{Get, Images, Put, PutImages}
 use Rattle.setl_map.specs.Outcome.{Fault, OmFault, KindFault, Outcome, Gives, then_with}
 use Rattle.setl_map.specs.Operators.{op_of}
@@ -9,7 +9,7 @@ use Rattle.setl_value.specs.WellFormed.{trim}
 use Rattle.setl_program.specs.declared.kinds.Taking.{Taking}
 use Rattle.setl_program.specs.declared.kinds.Taking.TheVariants.{TakeLeast, TakeFirst, TakeLast}
 use Rattle.setl_program.specs.Program.{Selectors, no_selector, round_selector, brace_selector, Place, no_stmt}
-use Rattle.setl_run.specs.Run.{Move}
+use Rattle.setl_model_runs.specs.Run.{Move}
 use Rattle.setl_model.specs.Core.{Execute, Evaluate, Result, Selected, Round, Brace, Change, Puts, Combines, Takes, RoundSelector, BraceSelector, Dropping, Frame, InStmt, Storing, Core, read_variable}
 use Rattle.setl_model.specs.World.{stop}
 use Rattle.setl_model.specs.Moves.{go, store_or_bind, with_outcome}

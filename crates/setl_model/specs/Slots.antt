@@ -3,8 +3,8 @@ use Rattle.std.specs.Prelude.{List, [], ◌∷◌, Option, Some, None}
 use Rattle.setl_value.specs.Datum.{Datum, tuple, part_list}
 use Rattle.setl_map.specs.Outcome.{Fault, OmFault, KindFault}
 use Rattle.setl_program.specs.Program.{Slots}
-use Rattle.setl_run.specs.Variable.{Variable}
-use Rattle.setl_run.specs.Run.{Store}
+use Rattle.setl_model_runs.specs.Variable.{Variable}
+use Rattle.setl_model_runs.specs.Run.{Store}
 
 -- The stores by which variables take their parts, or why there are none.
 pub data Parting : Type 0 where

@@ -1,11 +1,11 @@
 -- Steps of statements.
 use Rattle.std.specs.Prelude.{ℕ, true, false, List, [], ◌∷◌, reverse, Option, Some, None}
 use Rattle.setl_value.specs.Datum.{Datum, bool}
-use Rattle.setl_run.specs.Variable.{Variable}
+use Rattle.setl_model_runs.specs.Variable.{Variable}
 use Rattle.setl_text.specs.Reading.{Reading, Denotes, AtEnd, NotForm, TooWide, TooDeep, read_denotation}
 use Rattle.setl_program.specs.Program.{Exprs, no_expr, more_exprs, Stmt, Assign, Update, AssignParts, TakeFrom, Perform, If, For, While, Quit, Continue, Fail, Stop, Pass, Return, Print, Read, Block, no_stmt, more_stmts}
-use Rattle.setl_run.specs.Events.{Printed, Back, Done, Stuck, Stopped, Form, Wide, Deep, Nothing}
-use Rattle.setl_run.specs.Run.{Move, Moves, Halts}
+use Rattle.setl_model_runs.specs.Events.{Printed, Back, Done, Stuck, Stopped, Form, Wide, Deep, Nothing}
+use Rattle.setl_model_runs.specs.Run.{Move, Moves, Halts}
 use Rattle.setl_model.specs.Core.{Execute, Evaluate, Result, Iterate, Goal, Repeat, Iteration, Body, Paused, Activation, Puts, Combines, Takes, StmtFrame, AssignRight, UpdateRight, PartsRight, RoundSelector, BraceSelector, IfTest, WhileTest, WhileBody, PrintParts, Returning, Dropping, Round, Brace, Frame, InIteration, InCall, InStmt, Storing, Then, Snapshot, Core}
 use Rattle.setl_model.specs.World.{World, stop, branch}
 use Rattle.setl_model.specs.Moves.{holding, go, turn}

@@ -4,9 +4,9 @@ use Rattle.setl_value.specs.Datum.{Datum}
 use Rattle.setl_program.specs.Program.{Program}
 use Rattle.setl_modes.specs.Modes.{Mode}
 use Rattle.setl_modes.specs.Fits.{is_taken}
-use Rattle.setl_run.specs.Variable.{Variable, is_variable}
-use Rattle.setl_run.specs.Events.{Stuck}
-use Rattle.setl_run.specs.Run.{Store, Move, Halts, State, Goes, Machine, Test, step}
+use Rattle.setl_model_runs.specs.Variable.{Variable, is_variable}
+use Rattle.setl_model_runs.specs.Events.{Stuck}
+use Rattle.setl_model_runs.specs.Run.{Store, Move, Halts, State, Goes, Machine, Test, step}
 use Rattle.setl_model.specs.Core.{Hand, Execute, Evaluate, Result, Iterate, Frame, InExpr, InIteration, InCall, InStmt, Storing, Core, write_variable, line_of}
 use Rattle.setl_model.specs.Moves.{go, store_or_bind}
 use Rattle.setl_model.specs.Expressions.{evaluate, result_in_expr}

@@ -4,14 +4,14 @@ use Rattle.std.proofs.Common.{sym, ap, ◌∙◌, subst, append_assoc, append-ni
 use Rattle.std.proofs.Math.Nat.{sub-zero}
 use Rattle.std.proofs.lemmas.Grind.{reverse_onto}
 use Rattle.setl_value.specs.Datum.{Datum}
-use Rattle.setl_run.specs.Variable.{Variable, Global, Own, Bound}
+use Rattle.setl_model_runs.specs.Variable.{Variable, Global, Own, Bound}
 use Rattle.setl_map.specs.declared.Operator.{Operator}
 use Rattle.setl_map.specs.Outcome.{Outcome, Gives}
 use Rattle.setl_map.specs.Operators.{op_of}
 use Rattle.setl_program.specs.Program.{Expr, Literal, Undefined, Name, Apply, Exprs, no_expr, more_exprs, no_selector, Stmt, Assign, Update, Print, Block, no_stmt, more_stmts, Program}
-use Rattle.setl_run.specs.Events.{Event, Unfit, Stopped, Done}
-use Rattle.setl_run.specs.Run.{Moves, State, Goes, Ends, if_fits, stored, settle, and_then, run}
-use Rattle.setl_run.specs.RunLaws.{runs_join}
+use Rattle.setl_model_runs.specs.Events.{Event, Unfit, Stopped, Done}
+use Rattle.setl_model_runs.specs.Run.{Moves, State, Goes, Ends, if_fits, stored, settle, and_then, run}
+use Rattle.setl_model_runs.specs.RunLaws.{runs_join}
 use Rattle.setl_model.specs.Core.{Shared, Hand, Execute, Evaluate, Result, Operands, AssignRight, UpdateRight, PrintParts, Frame, InExpr, InStmt, Then, Snapshot, Core, read_variable, write_variable}
 use Rattle.setl_model.specs.Moves.{store_or_bind, with_outcome, deliver}
 use Rattle.setl_model.specs.Expressions.{operands}

@@ -1,8 +1,8 @@
 -- Tables of worked programs.
 use Rattle.std.specs.Prelude.{◌≡◌, ℕ, Bool, true, false, List, [], ◌∷◌, ◌++◌, map}
 use Rattle.setl_program.specs.Program.{Expr, Program}
-use Rattle.setl_run.specs.Events.{Event, StopKind, End, Done, Stopped, Spent}
-use Rattle.setl_run.specs.Run.{State, Ends, run}
+use Rattle.setl_model_runs.specs.Events.{Event, StopKind, End, Done, Stopped, Spent}
+use Rattle.setl_model_runs.specs.Run.{State, Ends, run}
 use Rattle.setl_model.specs.Core.{Core}
 use Rattle.setl_model.specs.Step.{language, test_of}
 use Rattle.setl_model.specs.Means.{Means, first}

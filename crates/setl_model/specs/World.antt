@@ -3,9 +3,9 @@
 use Rattle.std.specs.Prelude.{ℕ, ◌-◌, Bool, true, false, List, Option, Some, None}
 use Rattle.setl_value.specs.Datum.{Datum, bool}
 use Rattle.setl_map.specs.Outcome.{Fault, OmFault, KindFault, ZeroFault, RangeFault, WideFault, DeepFault, Outcome, Gives, Fails, Overspends}
-use Rattle.setl_run.specs.Events.{StopKind, Om, Kind, Zero, Range, Wide, Deep, Stopped, Spent}
-use Rattle.setl_run.specs.Turns.{left_after}
-use Rattle.setl_run.specs.Run.{Move, Halts}
+use Rattle.setl_model_runs.specs.Events.{StopKind, Om, Kind, Zero, Range, Wide, Deep, Stopped, Spent}
+use Rattle.setl_model_runs.specs.Turns.{left_after}
+use Rattle.setl_model_runs.specs.Run.{Move, Halts}
 
 -- What `fail` doesn't take back: the bytes of the input that are left, whether a read met its end, the next atom and the
 -- turns left.

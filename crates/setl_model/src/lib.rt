@@ -4,8 +4,8 @@
 pub mod worked;
 
 ghost use Rattle.std.specs.Prelude.{◌≡◌, true, false, [], codes};
-ghost use Rattle.setl_run.specs.Events.{Done, Spent, Stopped, Wide, Form, Unfit, Nothing};
-ghost use Rattle.setl_run.specs.Variable.{Global};
+ghost use Rattle.setl_model_runs.specs.Events.{Done, Spent, Stopped, Wide, Form, Unfit, Nothing};
+ghost use Rattle.setl_model_runs.specs.Variable.{Global};
 ghost use Rattle.setl_text.specs.Texts.{print_line};
 ghost use Rattle.setl_model.specs.Answers.{error_line};
 ghost use Rattle.setl_model.specs.Means.{Means};

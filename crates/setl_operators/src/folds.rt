@@ -9,8 +9,8 @@ ghost use Rattle.setl_map.specs.Numbers.{plus};
 ghost use Rattle.setl_map.specs.Outcome.{adding};
 ghost use Rattle.setl_operators.specs.Combinations.{combination};
 
-use setl_arithmetic::{both, either, greater, lesser, plus_in_place, times};
 use setl_map::{Answer, OpFault};
+use setl_operators_arithmetic::{both, either, greater, lesser, plus_in_place, times};
 use setl_value::{Memory, SetBody, TupleBody, Value};
 use std::alloc::Global;
 

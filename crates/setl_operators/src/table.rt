@@ -12,19 +12,19 @@ ghost use Rattle.setl_operators.specs.Readers.{reads, reads_two};
 
 use crate::folds::{Combination, fold};
 use crate::operands::{any_one, any_three, any_two, lend, one, three, two};
-use setl_arithmetic::{
+use setl_map::answers::string;
+use setl_map::{Answer, OpFault, Operator};
+use setl_operators_arithmetic::{
     absolute, at_most, below, divide, equal, even, greater, is_atom, is_boolean, is_in, is_integer,
     is_map, is_set, is_string, is_tuple, lesser, minus, modulo, negate, negation, not_equal,
     not_in, odd, plus, power, subset, times,
 };
-use setl_collections::{
+use setl_operators_collections::{
     arb, domain, get, images, less, lessf, put, put_images, range, size, slice, tail, with,
 };
-use setl_enumerations::{
+use setl_operators_enumerations::{
     enumerate_set, enumerate_tuple, npow, pow, set_range, set_step, tuple_range, tuple_step,
 };
-use setl_map::answers::string;
-use setl_map::{Answer, OpFault, Operator};
 use setl_text::text;
 use setl_value::{Text, Value};
 use std::alloc::Global;

@@ -2,12 +2,12 @@
 use Rattle.std.proofs.Common.{◌≡◌, ◌<◌, [], ◌∷◌, length, Ok, sym, ap, subst, ◌∙◌, arith}
 use Rattle.setl_tree.specs.declared.tree.Tree.{Tree}
 use Rattle.setl_tree.specs.Tokens.{Tokens}
-use Rattle.setl_reading.specs.declared.fault.Fault.{Fault}
-use Rattle.setl_reading.specs.declared.fault.Fault.TheVariants as left
-use Rattle.setl_reading.specs.Claims.{FaultIsUnique, ProgramsHaveNoFault, LeftoverIsExact}
-use Rattle.setl_reading.specs.Fronts.{FaultOf}
-use Rattle.setl_reading.specs.code.ReadPrograms as reading
-use Rattle.setl_cursor.specs.Plain.{plain_tokens}
+use Rattle.setl_parse_reading.specs.declared.fault.Fault.{Fault}
+use Rattle.setl_parse_reading.specs.declared.fault.Fault.TheVariants as left
+use Rattle.setl_parse_reading.specs.Claims.{FaultIsUnique, ProgramsHaveNoFault, LeftoverIsExact}
+use Rattle.setl_parse_reading.specs.Fronts.{FaultOf}
+use Rattle.setl_parse_reading.specs.code.ReadPrograms as reading
+use Rattle.setl_parse_cursor.specs.Plain.{plain_tokens}
 use Rattle.setl_parse.specs.Places.{fault_of}
 use Rattle.setl_parse.specs.Places as places
 

@@ -4,10 +4,10 @@ use Rattle.setl_tree.specs.declared.tree.Tree.{Tree}
 use Rattle.setl_tree.specs.Programs as grammar
 use Rattle.setl_token.specs.declared.Token.{Token as Lexeme}
 use Rattle.setl_token.specs.Text.{Lexed}
-use Rattle.setl_reading.specs.declared.fault.Fault.{Fault}
-use Rattle.setl_reading.specs.declared.fault.Fault.TheVariants as left
-use Rattle.setl_reading.specs.Fronts.{FaultOf}
-use Rattle.setl_cursor.specs.Plain.{plain_tokens}
+use Rattle.setl_parse_reading.specs.declared.fault.Fault.{Fault}
+use Rattle.setl_parse_reading.specs.declared.fault.Fault.TheVariants as left
+use Rattle.setl_parse_reading.specs.Fronts.{FaultOf}
+use Rattle.setl_parse_cursor.specs.Plain.{plain_tokens}
 use Rattle.setl_parse.specs.declared.fault.ParseFault.{ParseFault}
 use Rattle.setl_parse.specs.declared.fault.ParseFault.TheVariants as at
 

@@ -3,7 +3,7 @@
 ghost use Rattle.std.specs.Prelude.{◌≡◌};
 ghost use Rattle.setl_parse.specs.Places.{place_of, fault_of};
 
-use setl_reading::Fault;
+use setl_parse_reading::Fault;
 use setl_token::TokenList;
 use thiserror::Error;
 

@@ -2,7 +2,7 @@
 
 ghost use Rattle.setl_parse.specs.Places.{FaultIsUnique, ProgramsHaveNoFault};
 
-use setl_reading::fault_is_unique;
+use setl_parse_reading::fault_is_unique;
 
 /// The tokens of a source have one fault at most, and none where they derive a tree within 200 nestings. So `parse` tells
 /// a fault exactly where the tokens have it, unless memory runs out.

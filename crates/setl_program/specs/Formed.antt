@@ -1,7 +1,7 @@
 -- Programs whose parts are of the kinds that they need: what the rules of names give, and what code is made for.
 use Rattle.std.specs.Prelude.{◌≡◌, ℕ, zero, suc, Bool, true, false, List, [], ◌∷◌, slice_get, Option, Some, None}
 use Rattle.setl_tree.specs.declared.tree.Passing.TheVariants.{Rd, Wr, Rw}
-use Rattle.setl_run.specs.Variable.{Variable, Global, Own, Bound}
+use Rattle.setl_model_runs.specs.Variable.{Variable, Global, Own, Bound}
 use Rattle.setl_program.specs.declared.kinds.Source.{Source}
 use Rattle.setl_program.specs.declared.kinds.Source.TheVariants.{Values, Between, SetSteps, TupleSteps}
 use Rattle.setl_program.specs.Program.{Slots, Binding, Member, Components, Point, Begin, Members, Points, begin_of, Expr, Literal, Undefined, Name, Apply, Connect, Choose, Former, Selection, Quantified, Call, Newat, Eof, Ok, Exprs, no_expr, more_exprs, Iterators, no_iterator, more_iterators, Condition, no_condition, only_if, Arguments, no_argument, rd_argument, wr_argument, rw_argument, Selectors, no_selector, round_selector, brace_selector, Stmt, Assign, Update, AssignParts, TakeFrom, Perform, If, For, While, Quit, Continue, Fail, Stop, Pass, Return, Print, Read, Block, no_stmt, more_stmts, Parameter, Procedure, Program}

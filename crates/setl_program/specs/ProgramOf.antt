@@ -6,7 +6,7 @@ use Rattle.setl_tree.specs.declared.tree.Tree.{Tree}
 use Rattle.setl_names.specs.Names.{Name, in_order}
 use Rattle.setl_names.specs.Procedures.{param_names}
 use Rattle.setl_names.specs.Variables.{var_names}
-use Rattle.setl_run.specs.Variable.{Variable}
+use Rattle.setl_model_runs.specs.Variable.{Variable}
 use Rattle.setl_modes.specs.Modes.{Mode}
 use Rattle.setl_modes.specs.Declarations.{bases_of, variables_of}
 use Rattle.setl_program.specs.Program.{Parameter, Procedure, Program}

@@ -9,7 +9,7 @@ use Rattle.setl_tree.specs.declared.tree.Proc.{Proc}
 use Rattle.setl_names.specs.Names.{Name, has}
 use Rattle.setl_names.specs.Procedures.{found_procedure}
 use Rattle.setl_names.specs.Variables as meaning
-use Rattle.setl_run.specs.Variable as run
+use Rattle.setl_model_runs.specs.Variable as run
 use Rattle.setl_program.specs.declared.kinds.Source.{Source}
 use Rattle.setl_program.specs.Program.{Binding, Member, Components}
 

@@ -10,7 +10,7 @@ ghost use Rattle.setl_show.specs.Text.{with_tokens};
 use crate::lists::with_commas;
 use crate::operators::prefixes;
 use crate::writer::Writer;
-use setl_notation::{is_operation, is_selection, op_kind, quantifier_kind, relation_kind};
+use setl_show_notation::{is_operation, is_selection, op_kind, quantifier_kind, relation_kind};
 use setl_tree::{BinaryOp, Bound, Boxed, Expr, Inner, Iter, Kind, Selector, Slot, Text};
 use std::alloc::AllocError;
 

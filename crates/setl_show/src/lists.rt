@@ -5,7 +5,7 @@ ghost use Rattle.setl_tree.specs.Canonical as spec;
 ghost use Rattle.setl_show.specs.Text.{with_tokens};
 
 use crate::writer::Writer;
-use setl_notation::passing_kind;
+use setl_show_notation::passing_kind;
 use setl_tree::{Declared, Kind, Param, Slot, Text};
 use std::alloc::AllocError;
 

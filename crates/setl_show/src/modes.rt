@@ -10,7 +10,7 @@ ghost use Rattle.setl_show.specs.Parts.{core_tokens};
 use crate::lists::with_commas;
 use crate::simple::ending;
 use crate::writer::Writer;
-use setl_notation::attribute_kind;
+use setl_show_notation::attribute_kind;
 use setl_tree::{Core, Kind, ReprLine, WrittenMode};
 use std::alloc::AllocError;
 

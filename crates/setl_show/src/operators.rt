@@ -5,7 +5,7 @@ ghost use Rattle.setl_tree.specs.Canonical as spec;
 ghost use Rattle.setl_show.specs.Text.{with_tokens};
 
 use crate::writer::Writer;
-use setl_notation::fold_kind;
+use setl_show_notation::fold_kind;
 use setl_tree::{Kind, Prefix};
 use std::alloc::AllocError;
 

@@ -10,7 +10,7 @@ ghost use Rattle.setl_show.specs.Text.{with_tokens};
 use crate::expressions::{between, expr_behind, exprs, iters_behind, pattern, selectors};
 use crate::lists::with_commas;
 use crate::writer::Writer;
-use setl_notation::{from_kind, op_kind};
+use setl_show_notation::{from_kind, op_kind};
 use setl_tree::{BinaryOp, Expr, FromEnd, Iter, Kind, Place, Slot, Text};
 use std::alloc::AllocError;
 

@@ -3,7 +3,7 @@ use Rattle.std.proofs.Common.{◌≡◌, ℕ, zero, suc, ◌+◌, ◌<◌, List,
 use Rattle.std.specs.Prelude.{slice_get}
 use Rattle.std.specs.Option.{option_map}
 use Rattle.setl_tree.specs.declared.tree.Param.{Param}
-use Rattle.setl_run.specs.Variable.{Variable, Global, Own, Bound}
+use Rattle.setl_model_runs.specs.Variable.{Variable, Global, Own, Bound}
 use Rattle.setl_program.specs.ProgramOf.{parameter_of}
 use Rattle.setl_model.specs.Calls.{parameter}
 use Rattle.setl_code.specs.declared.code.Body.{Body}

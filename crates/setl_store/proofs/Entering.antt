@@ -6,9 +6,9 @@ use Rattle.std.proofs.lemmas.List.{length-map, length-append, length-replicate, 
 use Rattle.setl_value.specs.Datum.{Datum}
 use Rattle.setl_value.specs.code.DatumOf.{part}
 use Rattle.setl_value.specs.declared.Value.{Value}
-use Rattle.setl_run.specs.Run.{Store}
-use Rattle.setl_run.specs.Variable.{Variable, Global, is_variable}
-use Rattle.setl_run.specs.VariableLaws.{variable_itself}
+use Rattle.setl_model_runs.specs.Run.{Store}
+use Rattle.setl_model_runs.specs.Variable.{Variable, Global, is_variable}
+use Rattle.setl_model_runs.specs.VariableLaws.{variable_itself}
 use Rattle.setl_program.specs.Program.{Parameter}
 use Rattle.setl_program.specs.ProgramOf.{parameter_of}
 use Rattle.setl_model.specs.Calls.{parameter, bindings}
@@ -22,7 +22,7 @@ use Rattle.setl_code.specs.MayRun.{Differ, MayRun}
 use Rattle.setl_code.specs.Names.{is_among}
 use Rattle.setl_code.specs.Plain.{plain_body, plain_code, plain_name}
 use Rattle.setl_store.specs.declared.cells.Frame.{Frame}
-use Rattle.setl_cells.specs.declared.cells.Held.{Held as Slot}
+use Rattle.setl_store_slots.specs.declared.cells.Held.{Held as Slot}
 use Rattle.setl_store.specs.Bodies.{with_stores, entered}
 use Rattle.setl_store.specs.Flat.{Here, held_of, operand_of, cells, names_of, helds, results, activation, callers, core_of, copy_of, stands, own_count_of, IsShaped, IsSound, AllSound}
 use Rattle.setl_store.specs.Returning.{parameter_count_of, name_count_of}

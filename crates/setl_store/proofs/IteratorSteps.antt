@@ -8,10 +8,10 @@ use Rattle.std.proofs.lemmas.Option.{slice_get-get_or}
 use Rattle.setl_value.specs.code.DatumOf.{part}
 use Rattle.setl_value.specs.declared.Value.{Value}
 use Rattle.setl_model.specs.Core as model
-use Rattle.setl_iterator.specs.States.{IteratorState}
-use Rattle.setl_iterator.specs.Items.{plain_item, is_pair}
-use Rattle.setl_iterator.specs.declared.iterator.Item.{Item}
-use Rattle.setl_iterator.specs.declared.iterator.Item.TheVariants as item
+use Rattle.setl_store_iterator.specs.States.{IteratorState}
+use Rattle.setl_store_iterator.specs.Items.{plain_item, is_pair}
+use Rattle.setl_store_iterator.specs.declared.iterator.Item.{Item}
+use Rattle.setl_store_iterator.specs.declared.iterator.Item.TheVariants as item
 use Rattle.setl_code.specs.declared.code.Code.{Code}
 use Rattle.setl_code.specs.CodeCore as core
 use Rattle.setl_code.specs.CodeCore.{CodeCore, Result as Holds}

@@ -11,8 +11,8 @@ use Rattle.setl_value.specs.declared.Value.{Value}
 use Rattle.setl_tree.specs.declared.tree.Param.{Param}
 use Rattle.setl_tree.specs.declared.tree.Passing.{Passing}
 use Rattle.setl_tree.specs.declared.tree.Passing.TheVariants.{Rd, Wr, Rw}
-use Rattle.setl_run.specs.Variable.{Variable, is_variable}
-use Rattle.setl_run.specs.VariableLaws.{variable_itself}
+use Rattle.setl_model_runs.specs.Variable.{Variable, is_variable}
+use Rattle.setl_model_runs.specs.VariableLaws.{variable_itself}
 use Rattle.setl_program.specs.Program.{Parameter}
 use Rattle.setl_program.specs.ProgramOf.{parameter_of}
 use Rattle.setl_model.specs.Calls.{parameter}
@@ -26,10 +26,10 @@ use Rattle.setl_code.specs.MayRun.{Differ, MayRun}
 use Rattle.setl_code.specs.Names.{is_among}
 use Rattle.setl_code.specs.Plain.{plain_body, plain_code, plain_name}
 use Rattle.setl_store.specs.declared.cells.Frame.{Frame}
-use Rattle.setl_cells.specs.declared.cells.Held.{Held as Slot}
-use Rattle.setl_cells.specs.declared.cells.Held.TheVariants as slot
-use Rattle.setl_cells.specs.Handed.{and_held, and_handed}
-use Rattle.setl_cells.specs.Handed as cells
+use Rattle.setl_store_slots.specs.declared.cells.Held.{Held as Slot}
+use Rattle.setl_store_slots.specs.declared.cells.Held.TheVariants as slot
+use Rattle.setl_store_slots.specs.Handed.{and_held, and_handed}
+use Rattle.setl_store_slots.specs.Handed as cells
 use Rattle.setl_store.specs.declared.cells.Operand.{Operand}
 use Rattle.setl_store.specs.Bodies.{left, left_for}
 use Rattle.setl_store.specs.Flat.{Here, cells, held_of, helds, operand_of, results, body_in, slots_in, operands_in, activation, callers, core_of, stands, own_count_of, AllGot, HasMembers, members_below, IsShaped, IsSound, AllSound, with_operand}

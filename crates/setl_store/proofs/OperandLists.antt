@@ -11,7 +11,7 @@ use Rattle.setl_code.specs.CodeCore.{Cells, Activation, CodeCore}
 use Rattle.setl_code.specs.MayRun.{MayRun}
 use Rattle.setl_code.specs.Plain.{plain_code}
 use Rattle.setl_store.specs.declared.cells.Frame.{Frame}
-use Rattle.setl_cells.specs.declared.cells.Held.{Held}
+use Rattle.setl_store_slots.specs.declared.cells.Held.{Held}
 use Rattle.setl_store.specs.declared.cells.Member.{Member}
 use Rattle.setl_store.specs.declared.cells.Operand.{Operand}
 use Rattle.setl_store.specs.declared.cells.Operand.TheVariants as operand

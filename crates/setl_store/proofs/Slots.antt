@@ -3,8 +3,8 @@ use Rattle.std.proofs.Common.{◌≡◌, ℕ, zero, suc, ◌+◌, ◌<◌, ◌�
 use Rattle.std.specs.Prelude.{slice_get, cond, ◌||◌}
 use Rattle.std.specs.Option.{option_map}
 use Rattle.std.proofs.lemmas.List.{length-map, length-set, length-drop, drop-set-add, drop-set-lt, take-set-le, map-set}
-use Rattle.setl_run.specs.Variable.{Variable, Global, is_variable}
-use Rattle.setl_run.specs.VariableLaws.{variable_itself}
+use Rattle.setl_model_runs.specs.Variable.{Variable, Global, is_variable}
+use Rattle.setl_model_runs.specs.VariableLaws.{variable_itself}
 use Rattle.setl_code.specs.declared.code.Code.{Code}
 use Rattle.setl_code.specs.declared.code.Slot.{Slot}
 use Rattle.setl_code.specs.declared.code.Slot.TheVariants as slot
@@ -15,7 +15,7 @@ use Rattle.setl_code.specs.Names.{is_among}
 use Rattle.setl_code.specs.Plain.{variable_at, plain_slot, plain_code}
 use Rattle.setl_code.specs.MayRun.{Differ, HasSlot, MayRun}
 use Rattle.setl_store.specs.declared.cells.Frame.{Frame}
-use Rattle.setl_cells.specs.declared.cells.Held.{Held}
+use Rattle.setl_store_slots.specs.declared.cells.Held.{Held}
 use Rattle.setl_store.specs.Standing.{Standing, no_world, variables}
 use Rattle.setl_store.specs.Flat.{Here, operand_of, held_of, cells, names_of, own_in, operands_in, activation, callers, copy_of, core_of, stands, helds, results, place_in, with_slot, IsShaped, IsSound, AllSound}
 use Rattle.setl_store.proofs.Bodies.{own_at, own_held, own_write, with_own, global_held, global_write, with_global, names_own, names_differ}

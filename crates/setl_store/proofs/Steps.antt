@@ -5,7 +5,7 @@ use Rattle.std.specs.Borrow.{Bor}
 use Rattle.std.specs.Option.{option_map}
 use Rattle.std.proofs.lemmas.List.{length-map, length-append}
 use Rattle.std.proofs.lemmas.Option.{slice_get-map, same_Some}
-use Rattle.setl_run.specs.Variable.{Global, Own}
+use Rattle.setl_model_runs.specs.Variable.{Global, Own}
 use Rattle.setl_code.specs.declared.code.Body.{Body}
 use Rattle.setl_code.specs.declared.code.Code.{Code}
 use Rattle.setl_code.specs.declared.code.Step.{Step}

@@ -2,7 +2,7 @@
 use Rattle.std.specs.Prelude.{◌≡◌, ℕ, suc, Bool, true, false, List, [], ◌∷◌, Option, Some, None}
 use Rattle.std.specs.Option.{option_map}
 use Rattle.setl_value.specs.Datum.{Datum}
-use Rattle.setl_run.specs.Run.{Store}
+use Rattle.setl_model_runs.specs.Run.{Store}
 use Rattle.setl_model.specs.Calls.{bindings}
 use Rattle.setl_code.specs.Code.{Body}
 use Rattle.setl_code.specs.CodeCore.{There, Operand, Result as Holds, Activation, CodeCore, cleared, variables_of, write}

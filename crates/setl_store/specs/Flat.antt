@@ -2,11 +2,11 @@
 use Rattle.std.specs.Prelude.{◌≡◌, false, ℕ, ◌+◌, ◌<◌, ◌≤◌, List, [], ◌∷◌, ◌++◌, length, take, drop, map, reverse, Option, Some, None, slice_get, slice_set}
 use Rattle.setl_value.specs.Datum.{Datum, bool}
 use Rattle.setl_value.specs.code.DatumOf.{datum, part}
-use Rattle.setl_run.specs.Variable.{Variable}
+use Rattle.setl_model_runs.specs.Variable.{Variable}
 use Rattle.setl_program.specs.declared.kinds.Collection.{Collection}
 use Rattle.setl_model.specs.Collections.{refusal}
-use Rattle.setl_iterator.specs.States.{IteratorState}
-use Rattle.setl_environment.specs.Environment.{Contents}
+use Rattle.setl_store_iterator.specs.States.{IteratorState}
+use Rattle.setl_store_environment.specs.Environment.{Contents}
 use Rattle.setl_code.specs.declared.code.Body.{Body}
 use Rattle.setl_code.specs.declared.code.Code.{Code}
 use Rattle.setl_code.specs.declared.code.Step.{Step}
@@ -16,8 +16,8 @@ use Rattle.setl_code.specs.Code as plain
 use Rattle.setl_code.specs.Plain.{plain_code}
 use Rattle.setl_code.specs.CodeCore as core
 use Rattle.setl_code.specs.CodeCore.{Cells, Activation, Copy, CodeCore}
-use Rattle.setl_cells.specs.declared.cells.Held.{Held}
-use Rattle.setl_cells.specs.declared.cells.Held.TheVariants as held
+use Rattle.setl_store_slots.specs.declared.cells.Held.{Held}
+use Rattle.setl_store_slots.specs.declared.cells.Held.TheVariants as held
 use Rattle.setl_store.specs.declared.cells.Operand.{Operand}
 use Rattle.setl_store.specs.declared.cells.Operand.TheVariants as operand
 use Rattle.setl_store.specs.declared.cells.Frame.{Frame}

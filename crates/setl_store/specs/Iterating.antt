@@ -3,9 +3,9 @@ use Rattle.std.specs.Prelude.{◌≡◌, ◌<◌, List, [], ◌∷◌, length, d
 use Rattle.setl_map.specs.Outcome.{Fault, OmFault, DeepFault}
 use Rattle.setl_map.specs.declared.OpFault.{OpFault}
 use Rattle.setl_map.specs.declared.OpFault.TheVariants as fault
-use Rattle.setl_iterator.specs.Items.{plain_item, is_pair}
-use Rattle.setl_iterator.specs.declared.iterator.Item.{Item}
-use Rattle.setl_iterator.specs.declared.iterator.Item.TheVariants as item
+use Rattle.setl_store_iterator.specs.Items.{plain_item, is_pair}
+use Rattle.setl_store_iterator.specs.declared.iterator.Item.{Item}
+use Rattle.setl_store_iterator.specs.declared.iterator.Item.TheVariants as item
 use Rattle.setl_store.specs.declared.cells.Operand.{Operand}
 use Rattle.setl_store.specs.declared.cells.Operand.TheVariants as operand
 use Rattle.setl_store.specs.Flat.{Here, with_operand}

@@ -6,7 +6,7 @@ use Rattle.setl_value.specs.code.DatumOf.{datum}
 use Rattle.setl_model.specs.Core.{Item}
 use Rattle.setl_model.specs.World.{World}
 use Rattle.setl_code.specs.declared.code.Code.{Code}
-use Rattle.setl_run.specs.Variable.{Variable}
+use Rattle.setl_model_runs.specs.Variable.{Variable}
 use Rattle.setl_code.specs.Code as plain
 use Rattle.setl_code.specs.Code.{Body}
 use Rattle.setl_code.specs.Plain.{Variables, plain_code}

@@ -9,8 +9,8 @@ ghost use Rattle.setl_store.specs.Returning.{operand_by};
 use crate::cells::{Contents, Frame, Operand};
 use crate::changes::reserve_one_more;
 use crate::store::{held, operand};
-use setl_cells::Held;
-use setl_environment::Memory;
+use setl_store_environment::Memory;
+use setl_store_slots::Held;
 use setl_value::Value;
 use std::alloc::AllocError;
 

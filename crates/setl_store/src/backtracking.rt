@@ -8,7 +8,7 @@ ghost use Rattle.setl_store.specs.Standing.{kept, Restored};
 use crate::cells::Operand;
 use crate::changes::add_operand;
 use crate::store::Store;
-use setl_environment::Memory;
+use setl_store_environment::Memory;
 use setl_value::Value;
 
 impl<'c> Store<'c> {

@@ -17,7 +17,7 @@ use crate::cells::{Contents, Frame};
 use crate::returning::handed_back;
 use crate::store::Store;
 use setl_code::{Code, Step};
-use setl_environment::{Environment, Memory};
+use setl_store_environment::{Environment, Memory};
 use setl_value::Value;
 use std::alloc::Global;
 

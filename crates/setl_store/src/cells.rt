@@ -1,9 +1,9 @@
 //! What operands hold, and what lies in the environment of a store.
 
-use setl_cells::Held;
-use setl_environment::{Copied, Environment, Memory};
-use setl_iterator::Iterator;
 use setl_program::Collection;
+use setl_store_environment::{Copied, Environment, Memory};
+use setl_store_iterator::Iterator;
+use setl_store_slots::Held;
 use setl_value::Value;
 
 /// An operand.

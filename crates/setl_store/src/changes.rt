@@ -4,8 +4,8 @@ ghost use Rattle.std.specs.Prelude.{◌≡◌, ◌<◌, ◌-◌, ◌+◌, ◌≤
 ghost use Rattle.setl_store.specs.Flat.{with_operand, with_slot, cut_to};
 
 use crate::cells::{Contents, Member, Operand};
-use setl_cells::Held;
-use setl_environment::Memory;
+use setl_store_environment::Memory;
+use setl_store_slots::Held;
 use std::alloc::AllocError;
 
 /// Adds an operand.

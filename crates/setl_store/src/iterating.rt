@@ -13,10 +13,10 @@ ghost use Rattle.setl_store.specs.declared.iterating.Ahead.TheVariants as ahead;
 
 use crate::cells::{Contents, Member, Operand};
 use crate::store::{Store, lowest, operand};
-use setl_environment::Memory;
-use setl_iterator::{Item, Iterator};
 use setl_map::OpFault;
 use setl_program::Collection;
+use setl_store_environment::Memory;
+use setl_store_iterator::{Item, Iterator};
 use setl_value::Value;
 use std::alloc::{AllocError, Global};
 

@@ -10,7 +10,7 @@ ghost use Rattle.setl_store.specs.Standing.{over, top_of};
 use crate::cells::Operand;
 use crate::changes::{drop_operand, put_operand};
 use crate::store::{Store, lowest, operand};
-use setl_environment::Memory;
+use setl_store_environment::Memory;
 use setl_value::Value;
 
 impl<'c> Store<'c> {

@@ -11,7 +11,7 @@ use crate::cells::Operand;
 use crate::changes::{drop_operand, take_collection, take_operand};
 use crate::store::{Store, lowest};
 use crate::values::{collection, is_value, value};
-use setl_environment::Memory;
+use setl_store_environment::Memory;
 use setl_value::Value;
 
 impl<'c> Store<'c> {

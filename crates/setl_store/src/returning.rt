@@ -10,7 +10,7 @@ ghost use Rattle.setl_store.specs.Returning.{handed, handed_in, parameter_count_
 use crate::activations::innermost;
 use crate::cells::Contents;
 use setl_code::Code;
-use setl_environment::Memory;
+use setl_store_environment::Memory;
 use setl_tree::Param;
 use setl_value::Value;
 use std::alloc::Global;
@@ -54,5 +54,5 @@ fn from_slots(
     requires { lowest + length parameters.now ≤ length environment.now.now.slots }
     ensures { IfOk result (λ all. (xs : _) → handed parameters.now (drop lowest (helds environment.now.now)) (Holds (part value) ∷ xs) ≡ option_map (λ values. pushed_on (map part values.items) xs) all) }
 {
-    setl_cells::handed_back(alloc, parameters, environment, lowest, value)
+    setl_store_slots::handed_back(alloc, parameters, environment, lowest, value)
 }

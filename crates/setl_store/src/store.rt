@@ -12,11 +12,11 @@ ghost use Rattle.setl_store.specs.Standing.{over, at_place, iterator_by, variabl
 
 use crate::cells::{Contents, Operand};
 use crate::changes::{add_operand, take_slot, write_slot};
-use setl_cells::Held;
 use setl_code::{Code, Slot};
-use setl_environment::Memory;
-use setl_iterator::Iterator;
 use setl_program::Collection;
+use setl_store_environment::Memory;
+use setl_store_iterator::Iterator;
+use setl_store_slots::Held;
 use setl_value::Value;
 use std::alloc::Global;
 use std::marker::Model;

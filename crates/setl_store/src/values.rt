@@ -10,9 +10,9 @@ ghost use Rattle.setl_program.specs.declared.kinds.Collection.TheVariants as kin
 ghost use Rattle.setl_store.specs.Flat.{operand_of, member_of, present, IsPlain, GotAll};
 
 use crate::cells::{Member, Operand};
-use setl_environment::Memory;
 use setl_map::gathered;
 use setl_program::Collection;
+use setl_store_environment::Memory;
 use setl_value::{SetBody, TupleBody, Value};
 use std::alloc::Global;
 

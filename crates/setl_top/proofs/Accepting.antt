@@ -1,7 +1,7 @@
 -- What accepted sources have by the laws.
 use Rattle.std.proofs.Common.{ℕ, List, subst, sym}
-use Rattle.setl_acceptance.specs.Claims.{IsAccepted, AcceptedIsFormed}
-use Rattle.setl_cursor.specs.Plain.{plain_tokens}
+use Rattle.setl_program_laws.specs.Claims.{IsAccepted, AcceptedIsFormed}
+use Rattle.setl_parse_cursor.specs.Plain.{plain_tokens}
 use Rattle.setl_model.specs.Ending.{EveryRunEnds, NoneIsStuck}
 use Rattle.setl_program.specs.Formed.{Formed}
 use Rattle.setl_program.specs.Program.{Program}
@@ -9,8 +9,8 @@ use Rattle.setl_tree.specs.declared.tree.Tree.{Tree}
 use Rattle.setl_top.specs.Accepted.{lexed, IsProgram, Accepted}
 use Rattle.setl_top.specs.Laws.{AcceptedRunsEnd, NoAcceptedRunIsStuck}
 use Rattle.setl_names.specs.Breaks as names
-use Rattle.setl_declarations.specs.Declares as declarations
-use Rattle.setl_rules.specs.RulesLaws.{none_before}
+use Rattle.setl_modes_declarations.specs.Declares as declarations
+use Rattle.setl_top_rules.specs.RulesLaws.{none_before}
 
 -- the tree of a program is accepted
 pub is_accepted : (source : List ℕ) (tree : Tree) → IsProgram source tree → IsAccepted tree

@@ -1,10 +1,10 @@
 -- The bound on turns that words ask for, and the line that is told of others.
 use Rattle.std.proofs.Common.{◌≡◌, ◌<◌, ◌^◌, ℕ, false, List, [], ◌∷◌, ◌++◌, Some, codes, refl, subst, sym, arith}
 use Rattle.std.specs.List.{fold}
-use Rattle.setl_options.specs.declared.given.RunOption.{RunOption}
-use Rattle.setl_options.specs.declared.given.RunOption.TheVariants.{Unbased, Turns, Watch}
-use Rattle.setl_words.specs.Words.{Options, AreOptions, with_option, default_options, Run, Spells}
-use Rattle.setl_words.specs.Told.{TellsFaulty}
+use Rattle.setl_top_options.specs.declared.given.RunOption.{RunOption}
+use Rattle.setl_top_options.specs.declared.given.RunOption.TheVariants.{Unbased, Turns, Watch}
+use Rattle.setl_top_words.specs.Words.{Options, AreOptions, with_option, default_options, Run, Spells}
+use Rattle.setl_top_words.specs.Told.{TellsFaulty}
 
 bounded : (xs : List RunOption) (o : Options) → AreOptions xs → o.turns < 2 ^ 63 → (fold with_option o xs).turns < 2 ^ 63
 bounded [] o v h = h

@@ -15,9 +15,9 @@ use Rattle.setl_code.specs.Code.{Code}
 use Rattle.setl_code.specs.CodeOf.{code_of}
 use Rattle.setl_code.specs.Plain.{plain_code}
 use Rattle.setl_store.specs.Standing.{Standing, started}
-use Rattle.setl_storing.specs.Declaring.{DeclarationTable, modes_of, IsOfMain, AreOfMain, IsBare, Serves}
+use Rattle.setl_machine_control.specs.Declaring.{DeclarationTable, modes_of, IsOfMain, AreOfMain, IsBare, Serves}
 use Rattle.setl_top.specs.code.Runs.{IsMeant, counted}
-use Rattle.setl_words.specs.Words.{Options}
+use Rattle.setl_top_words.specs.Words.{Options}
 
 -- the variable of a name in the main program's scope is one of the main program
 of_main : (t : Tree) (x : Name) → IsOfMain (variable_of (main_scope t) x)

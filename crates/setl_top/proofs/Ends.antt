@@ -2,32 +2,32 @@
 use Rattle.std.proofs.Common.{◌≡◌, ◌⊎◌, inl, inr, ◌<◌, ◌≤◌, ℕ, List, [], ◌∷◌, ◌++◌, length, take, Option, Some, refl, sym, subst, arith, codes}
 use Rattle.std.specs.Io.KnownBytes.{Appends}
 use Rattle.setl_io.specs.Faults.{Rose}
-use Rattle.setl_run.specs.Events as run
+use Rattle.setl_model_runs.specs.Events as run
 use Rattle.setl_model.specs.Answers.{RunStatus, IsDone, IsStopped, IsSpent, status_of, error_line}
 use Rattle.setl_program.specs.ProgramOf.{program_of}
 use Rattle.setl_tree.specs.declared.tree.Tree.{Tree}
-use Rattle.setl_storing.specs.Declaring.{Modes}
-use Rattle.setl_storing.specs.Answers.{kind_of}
-use Rattle.setl_storing.specs.declared.end.End.{End}
-use Rattle.setl_storing.specs.declared.end.End.TheVariants as end
-use Rattle.setl_status.specs.Lines.{AppendsFront, AppendsFronts}
+use Rattle.setl_machine_control.specs.Declaring.{Modes}
+use Rattle.setl_machine_control.specs.Answers.{kind_of}
+use Rattle.setl_machine_control.specs.declared.end.End.{End}
+use Rattle.setl_machine_control.specs.declared.end.End.TheVariants as end
+use Rattle.setl_top_status.specs.Lines.{AppendsFront, AppendsFronts}
 use Rattle.setl_top.specs.Listings.{listing_of}
-use Rattle.setl_status.specs.code.Writes.{gain, Written, all_written, write_failed, write_starved, no_text}
+use Rattle.setl_top_status.specs.code.Writes.{gain, Written, all_written, write_failed, write_starved, no_text}
 use Rattle.setl_top.specs.code.Lists.{Lists, listed_so, not_listed}
-use Rattle.setl_status.specs.code.Loads.{sides}
+use Rattle.setl_top_status.specs.code.Loads.{sides}
 use Rattle.setl_top.specs.code.Loads.{Loaded, NotLoaded, not_accepted, not_read, no_room, Checks, checked_so, not_checked}
-use Rattle.setl_status.specs.Reasons.{reason_line}
+use Rattle.setl_top_status.specs.Reasons.{reason_line}
 use Rattle.setl_top.specs.code.Runs.{Streams, streams, counted, RunsTo, RunsInto, WritesInto, RunsToRead, RunsUpTo, Runs, TakesInput}
-use Rattle.setl_status.specs.code.Tells.{Tells, whole, failed, no_memory}
+use Rattle.setl_top_status.specs.code.Tells.{Tells, whole, failed, no_memory}
 use Rattle.setl_top.specs.code.Tells.{TellsEnd}
 use Rattle.setl_top.specs.Headline.{Moment, Job, IsInput, IsToRun, IsToList, status_for, Answers, faulty_words, refused, checked, listed, run_ended, UpToWrite, UpToAny, no_program, at_state, in_print, in_write, in_listing, load_failed, read_failed, no_such_watcher, TellsFault, LeavesRest, LeavesInput, Ended, ReadFailed, WriteFailed, MemoryFailed, print_failed, out_failed, err_failed, InputLeft, untouched, read_from, Headline}
 use Rattle.setl_top.specs.Watching.{asked_for, IsThere, all_told, reports_of}
-use Rattle.setl_status.specs.declared.status.Status.{Status}
-use Rattle.setl_status.specs.declared.status.Status.TheVariants.{Done, Refused, Words}
+use Rattle.setl_top_status.specs.declared.status.Status.{Status}
+use Rattle.setl_top_status.specs.declared.status.Status.TheVariants.{Done, Refused, Words}
 use Rattle.setl_watch.specs.Watches.{Watched, watched}
-use Rattle.setl_words.specs.Words.{Options, IsFaulty, Spells, HasFile, watched_by, Command, Run, Check, Code}
-use Rattle.setl_words.specs.Told.{TellsFaulty}
-use Rattle.setl_status.specs.FrontLaws.{appends_none, front_none}
+use Rattle.setl_top_words.specs.Words.{Options, IsFaulty, Spells, HasFile, watched_by, Command, Run, Check, Code}
+use Rattle.setl_top_words.specs.Told.{TellsFaulty}
+use Rattle.setl_top_status.specs.FrontLaws.{appends_none, front_none}
 
 -- a fault's own line, and nothing before it
 pub fault_alone : (words : List (List ℕ)) (before : Moment) (line : List ℕ) (old new : Option (List ℕ)) → AppendsFront old new (line ++ 10 ∷ []) → TellsFault words before line old new

@@ -2,8 +2,8 @@
 use Rattle.std.proofs.Common.{◌≡◌, ◌↔◌, ◌∙◌, ◌==◌, ◌^◌, ◌-◌, inl, inr, ℕ, zero, suc, Bool, true, cond, List, [], ◌∷◌, ◌++◌, Option, None, Some, refl, sym, ap, ap₂, subst, arith}
 use Rattle.setl_io.specs.Files.{IsText}
 use Rattle.setl_model.specs.Answers.{RunStatus, IsDone, IsStopped, IsSpent, status_of, error_line}
-use Rattle.setl_run.specs.Events.{Event, End}
-use Rattle.setl_run.specs.Run.{Machine, Test, State, Next, Goes, Ends, and_then, run, step}
+use Rattle.setl_model_runs.specs.Events.{Event, End}
+use Rattle.setl_model_runs.specs.Run.{Machine, Test, State, Next, Goes, Ends, and_then, run, step}
 use Rattle.setl_model.specs.Laws.{OneMeaning}
 use Rattle.setl_model.specs.Core.{Core}
 use Rattle.setl_model.specs.Means.{Means, first}
@@ -16,10 +16,10 @@ use Rattle.setl_top.specs.Laws.{IsComplete, FaultyWordsReadNothing, WordsExactly
 use Rattle.setl_top.specs.Listings.{listing_of}
 use Rattle.setl_top.specs.Trials.{trial_source, trial_input, trial_line}
 use Rattle.setl_top.specs.Watching.{asked_for, IsThere, IsNoRequest, reports_of}
-use Rattle.setl_status.specs.Reasons.{reason_line}
-use Rattle.setl_status.specs.declared.status.Status.{Status}
-use Rattle.setl_status.specs.declared.status.Status.TheVariants.{Done, Refused, Words, Stopped, Spent, ReadFault, WriteFault, NoMemory}
-use Rattle.setl_words.specs.Words.{Command, Run, Check, Code, Trial, Spells, HasFile, RunsFile, watched_by, OneCommand}
+use Rattle.setl_top_status.specs.Reasons.{reason_line}
+use Rattle.setl_top_status.specs.declared.status.Status.{Status}
+use Rattle.setl_top_status.specs.declared.status.Status.TheVariants.{Done, Refused, Words, Stopped, Spent, ReadFault, WriteFault, NoMemory}
+use Rattle.setl_top_words.specs.Words.{Command, Run, Check, Code, Trial, Spells, HasFile, RunsFile, watched_by, OneCommand}
 use Rattle.setl_top.proofs.OneReason.{FrontLaws, one_reason, one_program_tree, not_refused}
 
 write_rose : (words : List (List ℕ)) (before after : Moment) (out : List ℕ) → WriteCause words before after out → AnyRose before after

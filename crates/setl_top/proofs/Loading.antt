@@ -3,19 +3,19 @@ use Rattle.std.proofs.Common.{◌≡◌, ℕ, List, [], ◌∷◌, ◌++◌, Opt
 use Rattle.setl_io.specs.Files.{Texts, IsText}
 use Rattle.setl_tree.specs.declared.tree.Tree.{Tree}
 use Rattle.setl_top.specs.Accepted.{IsRefusedFor}
-use Rattle.setl_status.specs.Lines.{AppendsFront}
+use Rattle.setl_top_status.specs.Lines.{AppendsFront}
 use Rattle.setl_top.specs.Listings.{listing_of}
-use Rattle.setl_status.specs.code.Writes.{Gain, Written}
+use Rattle.setl_top_status.specs.code.Writes.{Gain, Written}
 use Rattle.setl_top.specs.code.Lists.{Lists, listed_so}
-use Rattle.setl_status.specs.code.Loads.{Sides, sides, IsStill, NoText}
-use Rattle.setl_status.specs.code.Loads as loads
+use Rattle.setl_top_status.specs.code.Loads.{Sides, sides, IsStill, NoText}
+use Rattle.setl_top_status.specs.code.Loads as loads
 use Rattle.setl_top.specs.code.Loads.{Loaded, NotLoaded, not_accepted, not_read, no_room}
-use Rattle.setl_status.specs.Reasons.{reason_line}
-use Rattle.setl_status.specs.code.Tells.{Tells}
-use Rattle.setl_status.specs.declared.reason.Reason.{Reason}
-use Rattle.setl_status.specs.declared.reason.Reason.TheVariants as reason
-use Rattle.setl_status.specs.declared.status.Status.{Status}
-use Rattle.setl_status.specs.declared.status.Status.TheVariants as status
+use Rattle.setl_top_status.specs.Reasons.{reason_line}
+use Rattle.setl_top_status.specs.code.Tells.{Tells}
+use Rattle.setl_top_status.specs.declared.reason.Reason.{Reason}
+use Rattle.setl_top_status.specs.declared.reason.Reason.TheVariants as reason
+use Rattle.setl_top_status.specs.declared.status.Status.{Status}
+use Rattle.setl_top_status.specs.declared.status.Status.TheVariants as status
 
 -- where there is no text, there is no program
 pub not_loaded_by : (texts : Texts) (name : List ℕ) (s : Sides) (ends : Status) → NoText texts name s ends → NotLoaded texts name s ends

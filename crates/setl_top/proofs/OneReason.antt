@@ -6,17 +6,17 @@ use Rattle.setl_token.specs.declared.Cause.TheVariants as cause
 use Rattle.setl_token.specs.declared.Token.{Token}
 use Rattle.setl_tree.specs.Programs as grammar
 use Rattle.setl_tree.specs.declared.tree.Tree.{Tree}
-use Rattle.setl_reading.specs.Claims.{TreeIsUnique}
-use Rattle.setl_cursor.specs.Plain.{plain_tokens}
+use Rattle.setl_parse_reading.specs.Claims.{TreeIsUnique}
+use Rattle.setl_parse_cursor.specs.Plain.{plain_tokens}
 use Rattle.setl_parse.specs.Places.{FaultIsUnique, ProgramsHaveNoFault, IsFaultOf}
 use Rattle.setl_parse.specs.declared.fault.ParseFault.{ParseFault}
 use Rattle.setl_parse.specs.declared.fault.ParseFault.TheVariants as fault
 use Rattle.setl_names.specs.Breaks.{first_break, break_at}
 use Rattle.setl_names.specs.declared.broken.Break.{Break}
 use Rattle.setl_top.specs.Accepted.{lexed, IsParsed, IsProgram, IsUnspelled, IsUnparsed, IsUnsound, IsRefusedFor}
-use Rattle.setl_rules.specs.Rules.{all_breaks}
-use Rattle.setl_status.specs.declared.reason.Reason.{Reason}
-use Rattle.setl_status.specs.declared.reason.Reason.TheVariants as reason
+use Rattle.setl_top_rules.specs.Rules.{all_breaks}
+use Rattle.setl_top_status.specs.declared.reason.Reason.{Reason}
+use Rattle.setl_top_status.specs.declared.reason.Reason.TheVariants as reason
 
 -- the laws of lexing and of the grammar
 pub record FrontLaws : Type 0 where

@@ -3,8 +3,8 @@ use Rattle.std.proofs.Common.{◌≡◌, ◌∙◌, ℕ, zero, suc, Bool, true, 
 use Rattle.std.proofs.lemmas.List.{append-nil}
 use Rattle.setl_value.specs.Datum.{Datum}
 use Rattle.setl_text.specs.Texts.{print_line}
-use Rattle.setl_run.specs.Events.{End, Stopped, Unfit}
-use Rattle.setl_run.specs.Run.{Store, Move, Moves, Halts, State, Next, Goes, Ends, Machine, Test, if_fits, store_all, stored, settle, step, and_then, run}
+use Rattle.setl_model_runs.specs.Events.{End, Stopped, Unfit}
+use Rattle.setl_model_runs.specs.Run.{Store, Move, Moves, Halts, State, Next, Goes, Ends, Machine, Test, if_fits, store_all, stored, settle, step, and_then, run}
 use Rattle.setl_program.specs.Program.{Program}
 use Rattle.setl_program.specs.Formed.{Formed}
 use Rattle.setl_model.specs.Ending.{NoneIsStuck}
@@ -15,15 +15,15 @@ use Rattle.setl_code.specs.CodeCore.{Operand, Pops, popped, CodeCore}
 use Rattle.setl_code.specs.CodeMeans.{code_first}
 use Rattle.setl_code.specs.CodeOf.{code_of}
 use Rattle.setl_code.specs.Machine.{machine, fetch, do_step, on_popped, print_values}
-use Rattle.setl_storing.specs.Declaring.{tested}
-use Rattle.setl_storing.specs.Answers.{said, start}
+use Rattle.setl_machine_control.specs.Declaring.{tested}
+use Rattle.setl_machine_control.specs.Answers.{said, start}
 use Rattle.setl_machine.specs.Outcome.{AtPrint, AtRead, EndsWriteNothing}
-use Rattle.setl_simulation.specs.Claims.{CodeEndsAlike, CodeMeansAlike, CodeEndsInTheSameState, CodeReachesTheSameStates, CodeReadsWhereMeant, CodePrintsWhereMeant}
-use Rattle.setl_simulation.specs.States.{CodeReaches}
+use Rattle.setl_code_simulation.specs.Claims.{CodeEndsAlike, CodeMeansAlike, CodeEndsInTheSameState, CodeReachesTheSameStates, CodeReadsWhereMeant, CodePrintsWhereMeant}
+use Rattle.setl_code_simulation.specs.States.{CodeReaches}
 use Rattle.setl_top.specs.Moments.{AtState}
 use Rattle.setl_top.specs.Moments as moments
 use Rattle.setl_top.specs.code.Runs.{counted}
-use Rattle.setl_words.specs.Words.{Options}
+use Rattle.setl_top_words.specs.Words.{Options}
 
 -- ---- the end of a run
 

@@ -5,8 +5,8 @@ use Rattle.std.specs.Result.{result_unwrap_or}
 use Rattle.std.specs.Io.KnownBytes.{Appends, append_known}
 use Rattle.setl_io.specs.Sink.{AppendsPart}
 use Rattle.setl_text.specs.code.Reads.{TakesOff, StaysHonest, ahead}
-use Rattle.setl_run.specs.Events as run
-use Rattle.setl_run.specs.Run.{State, Next, Goes, Ends}
+use Rattle.setl_model_runs.specs.Events as run
+use Rattle.setl_model_runs.specs.Run.{State, Next, Goes, Ends}
 use Rattle.setl_program.specs.Program.{Program}
 use Rattle.setl_program.specs.Formed.{Formed}
 use Rattle.setl_model.specs.Means.{Means, first}
@@ -18,25 +18,25 @@ use Rattle.setl_code.specs.CodeMeans.{CodeMeans, code_first}
 use Rattle.setl_code.specs.CodeOf.{code_of}
 use Rattle.setl_code.specs.Machine.{machine}
 use Rattle.setl_store.specs.Standing.{Standing, started}
-use Rattle.setl_storing.specs.Control.{ControlState, IsRest, kept_for, stood_for}
-use Rattle.setl_storing.specs.Declaring.{Modes}
+use Rattle.setl_machine_control.specs.Control.{ControlState, IsRest, kept_for, stood_for}
+use Rattle.setl_machine_control.specs.Declaring.{Modes}
 use Rattle.setl_machine.specs.Hearing.{events_told, Hears}
-use Rattle.setl_storing.specs.Answers.{IsLikely, kind_of, said}
+use Rattle.setl_machine_control.specs.Answers.{IsLikely, kind_of, said}
 use Rattle.setl_machine.specs.Outcome.{AtPrint, AtRead, Before, NoFault}
-use Rattle.setl_storing.specs.Answers as answers
+use Rattle.setl_machine_control.specs.Answers as answers
 use Rattle.setl_machine.specs.Outcome as outcome
-use Rattle.setl_storing.specs.declared.end.End.{End}
-use Rattle.setl_storing.specs.declared.end.End.TheVariants as end
-use Rattle.setl_storing.specs.declared.end.StopKind.{StopKind}
+use Rattle.setl_machine_control.specs.declared.end.End.{End}
+use Rattle.setl_machine_control.specs.declared.end.End.TheVariants as end
+use Rattle.setl_machine_control.specs.declared.end.StopKind.{StopKind}
 use Rattle.setl_top.specs.code.CodeRuns.{RunsCode, seen_before, seen_now}
 use Rattle.setl_top.specs.Headline.{IsInput, IsLeft}
 use Rattle.setl_top.specs.Moments as moments
 use Rattle.setl_top.specs.Moments.{AtState}
 use Rattle.setl_top.specs.code.Runs.{Streams, streams, counted, RunsTo, RunsInto, WritesInto, RunsToRead, RunsUpTo, Runs, TakesInput}
-use Rattle.setl_simulation.specs.Claims.{Ended}
+use Rattle.setl_code_simulation.specs.Claims.{Ended}
 use Rattle.setl_watch.specs.Watches.{Watch, Watched, watched, told_all}
-use Rattle.setl_words.specs.Words.{Options}
-use Rattle.setl_status.specs.FrontLaws.{appends_none}
+use Rattle.setl_top_words.specs.Words.{Options}
+use Rattle.setl_top_status.specs.FrontLaws.{appends_none}
 use Rattle.setl_top.proofs.Reaching.{CodeLaws, Taken, coded, as_meant, Came, ends_at, came_at_state, came_at_read, came_at_print}
 
 -- ---- what is left of the input

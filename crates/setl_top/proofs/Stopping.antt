@@ -1,14 +1,14 @@
 -- The name that the line of a stop tells.
 use Rattle.std.proofs.Common.{◌≡◌, ◌∙◌, ℕ, zero, suc, List, [], ◌∷◌, ◌++◌, map, None, Some, refl, ap, subst, sym, codes}
 use Rattle.std.specs.Prelude.{slice_get}
-use Rattle.setl_run.specs.Variable.{Bound, name_of}
+use Rattle.setl_model_runs.specs.Variable.{Bound, name_of}
 use Rattle.setl_model.specs.Answers.{stop_text}
 use Rattle.setl_program.specs.declared.program.Declared.{Declared}
 use Rattle.setl_program.specs.code.Plain.{plain_variable, plain_declared}
-use Rattle.setl_storing.specs.Declaring.{declared_at}
-use Rattle.setl_storing.specs.Answers.{kind_of}
-use Rattle.setl_storing.specs.declared.end.StopKind.{StopKind}
-use Rattle.setl_storing.specs.declared.end.StopKind.TheVariants as kind
+use Rattle.setl_machine_control.specs.Declaring.{declared_at}
+use Rattle.setl_machine_control.specs.Answers.{kind_of}
+use Rattle.setl_machine_control.specs.declared.end.StopKind.{StopKind}
+use Rattle.setl_machine_control.specs.declared.end.StopKind.TheVariants as kind
 
 at_place : (ds : List Declared) (k : ℕ) (d : Declared) → slice_get ds k ≡ Some d → declared_at (map plain_declared ds) k ≡ plain_variable d.variable
 at_place [] k d h = absurd (cc)

@@ -2,27 +2,27 @@
 use Rattle.std.proofs.Common.{◌≡◌, ◌^◌, ◌-◌, ℕ, Bool, true, List, [], ◌∷◌, ◌++◌, Option, Some, refl, sym, subst, arith, codes}
 use Rattle.std.specs.Io.KnownBytes.{Appends}
 use Rattle.setl_io.specs.Faults.{Rose}
-use Rattle.setl_storing.specs.Answers.{kind_of}
-use Rattle.setl_storing.specs.declared.end.End.{End}
-use Rattle.setl_storing.specs.declared.end.End.TheVariants as end
+use Rattle.setl_machine_control.specs.Answers.{kind_of}
+use Rattle.setl_machine_control.specs.declared.end.End.{End}
+use Rattle.setl_machine_control.specs.declared.end.End.TheVariants as end
 use Rattle.setl_model.specs.Answers.{RunStatus, IsDone, IsStopped, IsSpent, status_of, error_line}
 use Rattle.setl_model.specs.Means.{Means}
 use Rattle.setl_program.specs.Program.{Program}
-use Rattle.setl_run.specs.Events as run
+use Rattle.setl_model_runs.specs.Events as run
 use Rattle.setl_top.specs.Accepted.{Accepted}
 use Rattle.setl_top.specs.Headline.{Moment, IsInput, IsTried, trial_output, status_for, Answers, trial_ended, in_trial, no_program, LeavesFilesAndInput, Ended, Headline}
 use Rattle.setl_top.specs.Headline as headline
-use Rattle.setl_status.specs.Reasons.{reason_line}
+use Rattle.setl_top_status.specs.Reasons.{reason_line}
 use Rattle.setl_top.specs.Trials.{trial_source, trial_input, trial_line}
-use Rattle.setl_status.specs.code.Writes.{Gain, gain}
+use Rattle.setl_top_status.specs.code.Writes.{Gain, gain}
 use Rattle.setl_top.specs.code.Runs.{Streams, counted, RunsTo, Runs}
-use Rattle.setl_status.specs.code.Tells.{Tells}
+use Rattle.setl_top_status.specs.code.Tells.{Tells}
 use Rattle.setl_top.specs.code.Tells.{TellsEnd}
 use Rattle.setl_top.specs.code.Tries.{trial_options, RunEnds, WritesNothing, TrialRuns, Tries, trial_refused, trial_done, trial_stopped, trial_spent, trial_starved}
-use Rattle.setl_status.specs.declared.status.Status.{Status}
-use Rattle.setl_status.specs.declared.status.Status.TheVariants.{Refused, Stopped, Spent}
+use Rattle.setl_top_status.specs.declared.status.Status.{Status}
+use Rattle.setl_top_status.specs.declared.status.Status.TheVariants.{Refused, Stopped, Spent}
 use Rattle.setl_watch.specs.Watches.{watched}
-use Rattle.setl_words.specs.Words.{Trial, Spells}
+use Rattle.setl_top_words.specs.Words.{Trial, Spells}
 use Rattle.setl_top.proofs.Ends.{fault_alone, told, appends_same, written_ends}
 
 -- ---- runs in memory

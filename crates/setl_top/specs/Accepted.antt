@@ -7,7 +7,7 @@ use Rattle.setl_token.specs.declared.Cause.TheVariants as cause
 use Rattle.setl_token.specs.declared.Token.{Token}
 use Rattle.setl_tree.specs.Programs as grammar
 use Rattle.setl_tree.specs.declared.tree.Tree.{Tree}
-use Rattle.setl_cursor.specs.Plain.{plain_tokens}
+use Rattle.setl_parse_cursor.specs.Plain.{plain_tokens}
 use Rattle.setl_parse.specs.Places.{IsFaultOf}
 use Rattle.setl_parse.specs.declared.fault.ParseFault.{ParseFault}
 use Rattle.setl_parse.specs.declared.fault.ParseFault.TheVariants as fault
@@ -15,10 +15,10 @@ use Rattle.setl_names.specs.Breaks.{first_break, break_at}
 use Rattle.setl_names.specs.declared.broken.Break.{Break}
 use Rattle.setl_program.specs.Program.{Program}
 use Rattle.setl_program.specs.ProgramOf.{program_of}
-use Rattle.setl_status.specs.Reasons.{reason_line}
-use Rattle.setl_rules.specs.Rules.{all_breaks}
-use Rattle.setl_status.specs.declared.reason.Reason.{Reason}
-use Rattle.setl_status.specs.declared.reason.Reason.TheVariants as reason
+use Rattle.setl_top_status.specs.Reasons.{reason_line}
+use Rattle.setl_top_rules.specs.Rules.{all_breaks}
+use Rattle.setl_top_status.specs.declared.reason.Reason.{Reason}
+use Rattle.setl_top_status.specs.declared.reason.Reason.TheVariants as reason
 
 -- ---- programs
 

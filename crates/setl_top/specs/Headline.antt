@@ -4,23 +4,23 @@ use Rattle.std.specs.Io.KnownBytes.{Appends, Consumes, prepend_known}
 use Rattle.setl_io.specs.Faults.{Rose}
 use Rattle.setl_io.specs.Files.{Texts, IsText}
 use Rattle.setl_model.specs.Answers.{RunStatus, IsDone, IsStopped, IsSpent, status_of, error_line}
-use Rattle.setl_run.specs.Events.{End}
-use Rattle.setl_run.specs.Events as run
+use Rattle.setl_model_runs.specs.Events.{End}
+use Rattle.setl_model_runs.specs.Events as run
 use Rattle.setl_model.specs.Means.{Means}
 use Rattle.setl_program.specs.Program.{Program}
 use Rattle.setl_tree.specs.declared.tree.Tree.{Tree}
 use Rattle.setl_top.specs.Accepted.{IsProgram, Accepted, Refusal}
-use Rattle.setl_status.specs.Fronts.{IsFront}
-use Rattle.setl_status.specs.Lines.{AppendsFront}
+use Rattle.setl_top_status.specs.Fronts.{IsFront}
+use Rattle.setl_top_status.specs.Lines.{AppendsFront}
 use Rattle.setl_top.specs.Listings.{listing_of}
 use Rattle.setl_top.specs.Moments.{AtState, AtPrint, AtRead}
 use Rattle.setl_top.specs.Trials.{trial_source, trial_input, trial_line}
 use Rattle.setl_top.specs.Watching.{asked_for, IsThere, reports_of}
-use Rattle.setl_status.specs.declared.status.Status.{Status}
-use Rattle.setl_status.specs.declared.status.Status.TheVariants.{Done, Refused, Words, Stopped, Spent, ReadFault, WriteFault, NoMemory}
+use Rattle.setl_top_status.specs.declared.status.Status.{Status}
+use Rattle.setl_top_status.specs.declared.status.Status.TheVariants.{Done, Refused, Words, Stopped, Spent, ReadFault, WriteFault, NoMemory}
 use Rattle.setl_watch.specs.Watches.{Watch}
-use Rattle.setl_words.specs.Words.{Command, Check, Code, Trial, Spells, HasFile, RunsFile, watched_by, IsFaulty}
-use Rattle.setl_words.specs.Told.{TellsFaulty}
+use Rattle.setl_top_words.specs.Words.{Command, Check, Code, Trial, Spells, HasFile, RunsFile, watched_by, IsFaulty}
+use Rattle.setl_top_words.specs.Told.{TellsFaulty}
 
 -- What is seen of the outside at one moment: the watchers that the call is handed, the contents, where they are told, and
 -- the counts of faults.

@@ -2,7 +2,7 @@
 use Rattle.std.specs.Prelude.{◌≡◌, ◌↔◌, ◌⊎◌, ℕ, Bool, List, [], ◌∷◌, ◌++◌, Option, Some}
 use Rattle.setl_model.specs.Answers.{RunStatus, status_of, error_line}
 use Rattle.setl_model.specs.Ending.{Ending}
-use Rattle.setl_run.specs.Events.{End, Stuck}
+use Rattle.setl_model_runs.specs.Events.{End, Stuck}
 use Rattle.setl_model.specs.Means.{Means}
 use Rattle.setl_program.specs.Program.{Program}
 use Rattle.setl_tree.specs.declared.tree.Tree.{Tree}
@@ -10,10 +10,10 @@ use Rattle.setl_top.specs.Accepted.{IsProgram, Accepted, Refusal}
 use Rattle.setl_top.specs.Headline.{Moment, Headline, InputLeft, Ended, AnyRose, Answers, Job, IsToRun, IsTried, trial_output, status_for}
 use Rattle.setl_top.specs.Listings.{listing_of}
 use Rattle.setl_top.specs.Watching.{IsThere, IsNoRequest, reports_of}
-use Rattle.setl_status.specs.declared.status.Status.{Status}
-use Rattle.setl_status.specs.declared.status.Status.TheVariants.{NoMemory, ReadFault, Refused}
-use Rattle.setl_status.specs.declared.status.Status.TheVariants as ended
-use Rattle.setl_words.specs.Words.{Command, Check, Code, Trial, Spells, HasFile, watched_by}
+use Rattle.setl_top_status.specs.declared.status.Status.{Status}
+use Rattle.setl_top_status.specs.declared.status.Status.TheVariants.{NoMemory, ReadFault, Refused}
+use Rattle.setl_top_status.specs.declared.status.Status.TheVariants as ended
+use Rattle.setl_top_words.specs.Words.{Command, Check, Code, Trial, Spells, HasFile, watched_by}
 
 -- the call failed in none of the three ways only where it came to its end
 abbrev pub IsComplete : Type 0

@@ -3,7 +3,7 @@ use Rattle.std.specs.Prelude.{◌≡◌, ℕ, Bool, List}
 use Rattle.setl_model.specs.Core.{Core}
 use Rattle.setl_model.specs.Means.{Reaches, HasPrint, HasRead}
 use Rattle.setl_program.specs.Program.{Program}
-use Rattle.setl_run.specs.Run.{State}
+use Rattle.setl_model_runs.specs.Run.{State}
 
 -- the run comes to a state with this output
 pub record AtState (program : Program) (input : List ℕ) (turns : ℕ) (based : Bool) (out : List ℕ) : Type 0 where

@@ -1,10 +1,10 @@
 -- The watchers of a run.
 use Rattle.std.specs.Prelude.{◌≢◌, ℕ, List, [], ◌∷◌, ◌++◌, Option, None, Some, ⊤, cond, nat_eq}
-use Rattle.setl_run.specs.Events.{Event}
+use Rattle.setl_model_runs.specs.Events.{Event}
 use Rattle.setl_watch.specs.Watches.{Watch, Watched, watched, told_all, all_reported}
-use Rattle.setl_options.specs.Watchers.{watcher_name}
-use Rattle.setl_options.specs.declared.watching.Asked.{Asked}
-use Rattle.setl_words.specs.Words.{Command, Spells, watched_by}
+use Rattle.setl_top_options.specs.Watchers.{watcher_name}
+use Rattle.setl_top_options.specs.declared.watching.Asked.{Asked}
+use Rattle.setl_top_words.specs.Words.{Command, Spells, watched_by}
 
 -- those that have this name, in their order
 abbrev pub named : ℕ → List Watch → List Watch

@@ -4,13 +4,13 @@ ghost use Rattle.setl_code.specs.CodeOf.{code_of};
 ghost use Rattle.setl_code.specs.Plain.{plain_code};
 ghost use Rattle.setl_program.specs.code.Plain.{plain_program};
 ghost use Rattle.setl_program.specs.ProgramOf.{program_of};
-ghost use Rattle.setl_rules.specs.Rules.{AreModes};
+ghost use Rattle.setl_top_rules.specs.Rules.{AreModes};
 
 use crate::front::Checked;
 use setl_code::Code;
-use setl_elaborate::elaborate;
 use setl_gen::emit;
 use setl_program::Program;
+use setl_program_elaborate::elaborate;
 use std::alloc::{AllocError, Global};
 
 /// The program of a source. The error is want of memory.

@@ -7,9 +7,9 @@ ghost use Rattle.setl_top.specs.code.Loads.{IsChecked, TellsWhy};
 use setl_modes::NamedMode;
 use setl_names::RuleFault;
 use setl_parse::{ParseFault, parse};
-use setl_rules::sound;
-use setl_status::Reason;
 use setl_token::{LexFault, TokenList, tokens};
+use setl_top_rules::sound;
+use setl_top_status::Reason;
 use setl_tree::{Items, Tree};
 use std::alloc::Global;
 

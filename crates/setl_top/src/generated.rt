@@ -2,7 +2,7 @@
 ghost use Rattle.std.specs.Prelude.{◌≡◌, ◌≤◌, ◌^◌, ◌∷◌, ◌++◌, [], length, IfOk, OnOk};
 ghost use Rattle.setl_top.specs.Trials.{trial_source, next_draw, drawn, edge_line, trial_input, trial_line};
 
-use setl_status::push_number;
+use setl_top_status::push_number;
 use std::alloc::{AllocError, Global};
 
 /// The source of the program of a trial.

@@ -17,16 +17,16 @@ pub fn faulty_words_read_nothing()
 pub fn words_exactly()
     ensures { WordsExactly }
 {
-    setl_words::one_command();
+    setl_top_words::one_command();
 }
 
 /// Where the texts are told and the source is refused, a call that came to its end is refused.
 pub fn refused_exactly()
     ensures { RefusesExactly }
 {
-    setl_words::one_command();
+    setl_top_words::one_command();
     setl_token::lexing_is_determined();
-    setl_reading::tree_is_unique();
+    setl_parse_reading::tree_is_unique();
     setl_parse::one_fault();
 }
 
@@ -35,9 +35,9 @@ pub fn refused_exactly()
 pub fn checks_exactly()
     ensures { ChecksExactly }
 {
-    setl_words::one_command();
+    setl_top_words::one_command();
     setl_token::lexing_is_determined();
-    setl_reading::tree_is_unique();
+    setl_parse_reading::tree_is_unique();
     setl_parse::one_fault();
 }
 
@@ -47,9 +47,9 @@ pub fn checks_exactly()
 pub fn lists_exactly()
     ensures { ListsExactly }
 {
-    setl_words::one_command();
+    setl_top_words::one_command();
     setl_token::lexing_is_determined();
-    setl_reading::tree_is_unique();
+    setl_parse_reading::tree_is_unique();
     setl_parse::one_fault();
 }
 
@@ -57,7 +57,7 @@ pub fn lists_exactly()
 pub fn trials_read_nothing()
     ensures { TrialsReadNothing }
 {
-    setl_words::one_command();
+    setl_top_words::one_command();
 }
 
 /// Where the run of a trial's program with its declarations ends so, a trial that came to its end has that end's status and
@@ -66,9 +66,9 @@ pub fn trials_read_nothing()
 pub fn tries_exactly()
     ensures { TriesExactly }
 {
-    setl_words::one_command();
+    setl_top_words::one_command();
     setl_token::lexing_is_determined();
-    setl_reading::tree_is_unique();
+    setl_parse_reading::tree_is_unique();
     setl_parse::one_fault();
     setl_model::one_meaning();
 }
@@ -78,9 +78,9 @@ pub fn tries_exactly()
 pub fn ends_exactly()
     ensures { EndsExactly }
 {
-    setl_words::one_command();
+    setl_top_words::one_command();
     setl_token::lexing_is_determined();
-    setl_reading::tree_is_unique();
+    setl_parse_reading::tree_is_unique();
     setl_parse::one_fault();
     setl_model::one_meaning();
 }
@@ -91,6 +91,6 @@ pub fn every_accepted_run_ends()
     ensures ends { AcceptedRunsEnd }
     ensures not_stuck { NoAcceptedRunIsStuck }
 {
-    setl_acceptance::accepted_is_formed();
-    setl_simulation::every_run_ends();
+    setl_program_laws::accepted_is_formed();
+    setl_code_simulation::every_run_ends();
 }

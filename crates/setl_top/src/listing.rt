@@ -1,18 +1,18 @@
 //! Listings of programs.
 ghost use Rattle.std.specs.Prelude.{◌≡◌, IfOk};
 ghost use Rattle.setl_top.specs.Listings.{listing_of};
-ghost use Rattle.setl_status.specs.code.Loads.{sides};
-ghost use Rattle.setl_status.specs.code.Writes.{Written, gain};
+ghost use Rattle.setl_top_status.specs.code.Loads.{sides};
+ghost use Rattle.setl_top_status.specs.code.Writes.{Written, gain};
 ghost use Rattle.setl_top.specs.code.Lists.{Lists};
-ghost use Rattle.setl_rules.specs.Rules.{AreModes};
+ghost use Rattle.setl_top_rules.specs.Rules.{AreModes};
 
 use crate::Status;
 use crate::coding::code_of_source;
 use crate::front::Checked;
 use crate::load::load_program;
+use setl_code_listing::listing;
 use setl_io::{Files, Sink};
-use setl_listing::listing;
-use setl_status::{try_line, write_text};
+use setl_top_status::{try_line, write_text};
 use std::alloc::{AllocError, Global};
 
 /// The listing of the code of the program of a source. The error is want of memory.

@@ -1,8 +1,8 @@
 //! Sources that are loaded and read.
 ghost use Rattle.std.specs.Prelude.{IfOk, IfErr, OnOk};
-ghost use Rattle.setl_status.specs.code.Loads.{IsStill, sides};
+ghost use Rattle.setl_top_status.specs.code.Loads.{IsStill, sides};
 ghost use Rattle.setl_top.specs.code.Loads.{Loaded, LoadedAs, NotLoaded, Checks};
-ghost use Rattle.setl_rules.specs.Rules.{AreModes};
+ghost use Rattle.setl_top_rules.specs.Rules.{AreModes};
 ghost use Rattle.setl_program.specs.code.Plain.{plain_program};
 
 use crate::Status;
@@ -10,7 +10,7 @@ use crate::coding::program_of_source;
 use crate::front::{Checked, Unread, read_program};
 use setl_io::{Files, Sink};
 use setl_program::Program;
-use setl_status::{load_source, refuse, try_line};
+use setl_top_status::{load_source, refuse, try_line};
 use std::alloc::Global;
 
 /// Loads the program of a file. At `Err` the last line was told.

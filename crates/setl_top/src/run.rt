@@ -2,12 +2,12 @@
 ghost use Rattle.std.specs.Prelude.{◌≡◌, ◌<◌, ◌^◌, map, IfOk, OnErr};
 ghost use Rattle.setl_code.specs.MayRun.{MayRun};
 ghost use Rattle.setl_code.specs.Plain.{plain_code};
-ghost use Rattle.setl_storing.specs.Declaring.{IsBare, AreOfMain};
+ghost use Rattle.setl_machine_control.specs.Declaring.{IsBare, AreOfMain};
 ghost use Rattle.setl_program.specs.code.Plain.{plain_declared, plain_program};
 ghost use Rattle.setl_top.specs.code.CodeRuns.{RunsCode};
 ghost use Rattle.setl_top.specs.code.Runs.{IsMeant, Runs, TakesInput, counted, streams};
 ghost use Rattle.setl_watch.specs.Watches.{watched};
-ghost use Rattle.setl_words.specs.code.Commands.{options_now};
+ghost use Rattle.setl_top_words.specs.code.Commands.{options_now};
 
 use setl_code::Code;
 use setl_gen::emit;
@@ -15,8 +15,8 @@ use setl_io::{Sink, Source};
 use setl_machine::{Control, Declarations, End, run_watched};
 use setl_program::{Declared, Program};
 use setl_store::Store;
+use setl_top_words::Options;
 use setl_watch::Watcher;
-use setl_words::Options;
 use std::alloc::{AllocError, Global};
 
 /// The declarations of a program that count in a run.
@@ -78,12 +78,12 @@ pub fn run_program<I: Source, O: Sink>(
     ensures input { TakesInput (plain_program program.now) (options_now asked) (streams (I.left input.old) (I.left input.new) (I.faults input.old) (I.faults input.new) (O.held out.old) (O.held out.new) (O.faults out.old) (O.faults out.new) (watched (map (λ w. watch w) watchers.old.items) reports.old.items) (watched (map (λ w. watch w) watchers.new.items) reports.new.items)) }
     ensures out { OnErr result (O.held out.new ≡ O.held out.old) }
 {
-    setl_acceptance::accepted_is_formed();
-    setl_slots::code_may_run();
-    setl_simulation::code_means_what_the_program_means();
-    setl_simulation::code_ends_in_the_same_state();
-    setl_simulation::code_reaches_the_same_states();
-    setl_simulation::every_run_ends();
+    setl_program_laws::accepted_is_formed();
+    setl_code_may_run::code_may_run();
+    setl_code_simulation::code_means_what_the_program_means();
+    setl_code_simulation::code_ends_in_the_same_state();
+    setl_code_simulation::code_reaches_the_same_states();
+    setl_code_simulation::every_run_ends();
     setl_machine::ends_write_nothing();
     let code = emit(alloc, program)?;
     run_code(

@@ -1,14 +1,14 @@
 //! Why a run stops, and the line that tells it.
 ghost use Rattle.std.specs.Prelude.{◌≡◌, ◌++◌, [], map, slice_get, Some, None, IfSome, IfNone, IfOk};
-ghost use Rattle.setl_run.specs.Events.{Stopped};
+ghost use Rattle.setl_model_runs.specs.Events.{Stopped};
 ghost use Rattle.setl_model.specs.Answers.{stop_text, error_line};
-ghost use Rattle.setl_storing.specs.Answers.{kind_of};
+ghost use Rattle.setl_machine_control.specs.Answers.{kind_of};
 ghost use Rattle.setl_program.specs.code.Plain.{plain_declared, plain_variable};
-ghost use Rattle.setl_run.specs.Variable.{name_of};
+ghost use Rattle.setl_model_runs.specs.Variable.{name_of};
 
 use setl_machine::StopKind;
 use setl_program::{Declared, Variable};
-use setl_status::at_line;
+use setl_top_status::at_line;
 use std::alloc::{AllocError, Global};
 
 /// The words for a stop, before the name of the variable if one is told.

@@ -1,14 +1,14 @@
 //! What the error output gains at the end of a call.
 ghost use Rattle.std.specs.Prelude.{◌≡◌, ◌++◌, List, ℕ, map, string_bytes, IfOk};
-ghost use Rattle.setl_storing.specs.Answers.{kind_of};
+ghost use Rattle.setl_machine_control.specs.Answers.{kind_of};
 ghost use Rattle.setl_model.specs.Answers.{error_line};
 ghost use Rattle.setl_program.specs.code.Plain.{plain_declared};
-ghost use Rattle.setl_run.specs.Events.{Stopped};
-ghost use Rattle.setl_status.specs.code.Tells.{Tells};
+ghost use Rattle.setl_model_runs.specs.Events.{Stopped};
+ghost use Rattle.setl_top_status.specs.code.Tells.{Tells};
 ghost use Rattle.setl_top.specs.code.Tells.{TellsEnd};
 ghost use Rattle.setl_top.specs.Watching.{all_told};
 ghost use Rattle.setl_watch.specs.Watches.{watched};
-ghost use Rattle.setl_words.specs.Told.{TellsFaulty};
+ghost use Rattle.setl_top_words.specs.Told.{TellsFaulty};
 
 use crate::Status;
 use crate::stop::stop_line;
@@ -16,9 +16,9 @@ use crate::watching::all_told;
 use setl_io::Sink;
 use setl_machine::{End, StopKind};
 use setl_program::Declared;
-use setl_status::{tell, tell_made, try_line};
+use setl_top_status::{tell, tell_made, try_line};
+use setl_top_words::fault_text;
 use setl_watch::Watcher;
-use setl_words::fault_text;
 use std::alloc::{AllocError, Global};
 
 /// Tells what the watchers of a run of the machine report, behind the reports of those that left, and how the run ended, in

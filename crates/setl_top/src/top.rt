@@ -3,8 +3,8 @@ ghost use Rattle.std.specs.Prelude.{◌≡◌, ℕ, ◌<◌, ◌^◌, List, map,
 ghost use Rattle.setl_top.specs.Headline.{Headline, InputLeft, CheckLeavesRest, ListingLeavesInput, TrialLeavesFilesAndInput, moment};
 ghost use Rattle.setl_top.specs.Watching.{asked_for, IsThere};
 ghost use Rattle.setl_watch.specs.Watches.{Watch};
-ghost use Rattle.setl_words.specs.code.Commands.{options_now};
-ghost use Rattle.setl_words.specs.Words.{Run, Spells};
+ghost use Rattle.setl_top_words.specs.code.Commands.{options_now};
+ghost use Rattle.setl_top_words.specs.Words.{Run, Spells};
 
 use crate::Status;
 use crate::listing::list_file;
@@ -15,9 +15,9 @@ use crate::trial::run_trial;
 use crate::watching::keep_asked;
 use setl_io::{Files, Sink, Source};
 use setl_machine::End;
-use setl_status::tell;
+use setl_top_status::tell;
+use setl_top_words::{Command, Options, read_words};
 use setl_watch::Watcher;
-use setl_words::{Command, Options, read_words};
 use std::alloc::Global;
 
 /// Does what the words of the command line ask for, and tells how that ended.

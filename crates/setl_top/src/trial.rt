@@ -3,7 +3,7 @@ ghost use Rattle.std.specs.Prelude.{◌≡◌, ◌≤◌, ◌↔◌, true, IsTru
 ghost use Rattle.setl_program.specs.code.Plain.{plain_program};
 ghost use Rattle.setl_top.specs.Accepted.{Accepted};
 ghost use Rattle.setl_top.specs.Trials.{trial_source, trial_input, trial_line};
-ghost use Rattle.setl_status.specs.code.Writes.{Written, gain};
+ghost use Rattle.setl_top_status.specs.code.Writes.{Written, gain};
 ghost use Rattle.setl_top.specs.code.Runs.{IsMeant};
 ghost use Rattle.setl_top.specs.code.Tries.{RunEnds, Tries};
 
@@ -16,8 +16,8 @@ use crate::tell::tell_end;
 use setl_io::{Sink, SureSink, SureSource};
 use setl_machine::End;
 use setl_program::Program;
-use setl_status::{refuse, try_line, write_text};
-use setl_words::Options;
+use setl_top_status::{refuse, try_line, write_text};
+use setl_top_words::Options;
 use std::alloc::{AllocError, Global};
 
 /// The bound on the turns of each run.

@@ -3,8 +3,8 @@ ghost use Rattle.std.specs.Prelude.{◌≡◌, ◌↔◌, ◌++◌, map, IsTrue,
 ghost use Rattle.setl_top.specs.Watching.{all_told, asked_for, named, IsThere};
 ghost use Rattle.setl_watch.specs.Watches.{Watch, watched};
 
+use setl_top_words::Asked;
 use setl_watch::{Watcher, report_all};
-use setl_words::Asked;
 use std::alloc::AllocError;
 
 /// The name of a watcher.

@@ -1,6 +1,6 @@
 //! Lines of words, what they ask for, and what is told of those that are faulty.
 
-use setl_words::{
+use setl_top_words::{
     Asked, Command, Options, fault_text, faulty_words, one_command, plain_words, read_words,
 };
 use std::alloc::Global;

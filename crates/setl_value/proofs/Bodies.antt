@@ -4,7 +4,7 @@ use Rattle.std.specs.List.{AllByRecursion, insert, remove}
 use Rattle.std.specs.List.Sorted.{IsStrictlySortedBy}
 use Rattle.std.specs.declared.cmp.Ordering.TheVariants.{Less}
 use Rattle.std.proofs.Common.{arith, ap, sym, subst}
-use Rattle.setl_pages.specs.ListLaws.{all_append, all_at, all_drop, all_insert, all_remove, all_take, replaced, three_parts}
+use Rattle.setl_value_pages.specs.ListLaws.{all_append, all_at, all_drop, all_insert, all_remove, all_take, replaced, three_parts}
 use Rattle.setl_value.specs.Datum.{Datum, set, depth, elements_depth, elements_of, element_list-elements_of, set_of}
 use Rattle.setl_value.specs.Order.{datum_cmp, IsRising}
 use Rattle.setl_value.specs.WellFormed.{IsWellFormed, ElementsAreWellFormed, IsValue, IsSetList}

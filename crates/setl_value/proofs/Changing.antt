@@ -9,9 +9,9 @@ use Rattle.std.proofs.lemmas.Option.{none-some, slice_get-map, slice_get_within}
 use Rattle.setl_value.specs.declared.Value.{Value}
 use Rattle.setl_value.specs.Datum.{Datum, depth, part_depth, parts_depth, parts_of, part_list-parts_of, set_of, tuple_of}
 use Rattle.setl_value.specs.code.DatumOf.{datum, page, part}
-use Rattle.setl_pages.specs.Pages.{IsPage, joined, page_at, rank_in}
+use Rattle.setl_value_pages.specs.Pages.{IsPage, joined, page_at, rank_in}
 use Rattle.setl_value.specs.code.Counted.{IsCounted}
-use Rattle.setl_pages.specs.Exchange.{Exchanges}
+use Rattle.setl_value_pages.specs.Exchange.{Exchanges}
 use Rattle.setl_value.specs.code.Changing.{with_member}
 use Rattle.setl_value.specs.Order.{IsRising}
 use Rattle.setl_value.specs.Pairs.{other_count, pair, pair_parts}
@@ -20,7 +20,7 @@ use Rattle.setl_value.proofs.Depths.{parts_cons}
 use Rattle.setl_value.proofs.Fronts.{deep_of, ends_later}
 use Rattle.setl_value.proofs.Bodies.{IsMember, set_facts, set_made}
 use Rattle.setl_value.proofs.Others.{counted}
-use Rattle.setl_pages.specs.PageLaws.{Shared, exchanged, exchanged_pages, item_of, one_page, page_there, size_there}
+use Rattle.setl_value_pages.specs.PageLaws.{Shared, exchanged, exchanged_pages, item_of, one_page, page_there, size_there}
 use Rattle.setl_value.proofs.PagesOfData.{lent_page}
 
 -- ---- lists

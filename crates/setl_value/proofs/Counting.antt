@@ -3,17 +3,17 @@ use Rattle.std.specs.Prelude.{◌≡◌, ℕ, suc, ◌+◌, ◌-◌, ◌<◌, �
 use Rattle.std.specs.List.{AllByRecursion, insert, remove}
 use Rattle.std.proofs.Common.{arith, ap, sym, ◌∙◌, subst, length-append}
 use Rattle.std.proofs.lemmas.List.{length-take, length-drop}
-use Rattle.setl_pages.specs.Pages.{joined, page_at, rank_in}
+use Rattle.setl_value_pages.specs.Pages.{joined, page_at, rank_in}
 use Rattle.setl_value.specs.code.Counted.{IsCounted}
 use Rattle.setl_value.specs.Datum.{Datum, depth, set_of}
-use Rattle.setl_pages.specs.Exchange.{Exchanges}
+use Rattle.setl_value_pages.specs.Exchange.{Exchanges}
 use Rattle.setl_value.specs.Order.{IsRising}
 use Rattle.setl_value.specs.Pairs.{other_count}
 use Rattle.setl_value.specs.WellFormed.{IsValue, IsSetList, IsWellFormed}
-use Rattle.setl_pages.specs.ListLaws.{replaced}
+use Rattle.setl_value_pages.specs.ListLaws.{replaced}
 use Rattle.setl_value.proofs.Bodies.{set_insert, set_remove, set_replaced, depth_insert, depth_drop, depth_exchanged}
 use Rattle.setl_value.proofs.Others.{counted, counted_at_most_length, count_insert, count_remove, count_replaced}
-use Rattle.setl_pages.specs.PageLaws.{exchanged, exchanged_between, exchanged_pages, rank_within, item_of}
+use Rattle.setl_value_pages.specs.PageLaws.{exchanged, exchanged_between, exchanged_pages, rank_within, item_of}
 
 -- one member more
 pub put_joined : {ps new : List (List Datum)} {k i : ℕ} {d : Datum} → i ≤ length (page_at ps k) → Exchanges ps new k i k i (d ∷ []) → joined new ≡ insert (joined ps) (rank_in ps k i) d

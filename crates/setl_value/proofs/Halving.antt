@@ -13,7 +13,7 @@ use Rattle.setl_value.specs.Datum.{Datum, part_then, no_part, parts_of}
 use Rattle.setl_value.specs.Order.{datum_cmp, parts_cmp, IsRising}
 use Rattle.setl_value.specs.OrderLaws.{datum_cmp_total}
 use Rattle.setl_value.specs.code.Places.{IsPlace, IsBound, IsBetween}
-use Rattle.setl_pages.specs.ListLaws.{all_at}
+use Rattle.setl_value_pages.specs.ListLaws.{all_at}
 
 abbrev AllBelow : Datum → List Datum → Type 0
 AllBelow d ds = AllByRecursion (λ e. datum_cmp e d ≡ Less) ds

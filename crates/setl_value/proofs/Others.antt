@@ -10,7 +10,7 @@ use Rattle.setl_value.specs.code.DatumOf.{datum}
 use Rattle.std.proofs.lemmas.Bool.{ne_eqb}
 use Rattle.std.proofs.lemmas.Option.{none-some}
 use Rattle.setl_value.specs.Datum.{Datum, tuple_of}
-use Rattle.setl_pages.specs.ListLaws.{replaced, three_parts}
+use Rattle.setl_value_pages.specs.ListLaws.{replaced, three_parts}
 use Rattle.setl_value.specs.Pairs.{pair_parts, is_map, is_there, other_count}
 
 -- 1 for a datum that is no pair

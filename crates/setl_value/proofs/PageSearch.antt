@@ -5,9 +5,9 @@ use Rattle.std.specs.List.Sorted.{IsStrictlySortedBy}
 use Rattle.std.specs.Ordering.{is_lt}
 use Rattle.std.specs.declared.cmp.Ordering.TheVariants.{Less}
 use Rattle.std.proofs.Common.{arith, inl, inr, sym, ◌∙◌, subst}
-use Rattle.setl_pages.specs.ListLaws.{all_append}
-use Rattle.setl_pages.specs.PageLaws.{dropped, item_of, pages_before, pages_behind, rank_grows, rank_rises, rank_within, taken}
-use Rattle.setl_pages.specs.Pages.{IsPage, joined, page_at, rank_in}
+use Rattle.setl_value_pages.specs.ListLaws.{all_append}
+use Rattle.setl_value_pages.specs.PageLaws.{dropped, item_of, pages_before, pages_behind, rank_grows, rank_rises, rank_within, taken}
+use Rattle.setl_value_pages.specs.Pages.{IsPage, joined, page_at, rank_in}
 use Rattle.setl_value.specs.Datum.{Datum}
 use Rattle.setl_value.specs.Order.{datum_cmp, IsRising}
 use Rattle.setl_value.specs.code.Places.{IsBound, IsBetween}

@@ -5,10 +5,10 @@ use Rattle.std.specs.Option.{option_map}
 use Rattle.std.proofs.Common.{arith, ap, sym, ◌∙◌, subst, Result, Ok, Err, OnErr}
 use Rattle.std.proofs.lemmas.List.{drop-map, length-map, map-append, take-map}
 use Rattle.std.proofs.lemmas.Option.{slice_get-map}
-use Rattle.setl_pages.specs.Exchange.{Exchanges, page_sizes, put_size}
-use Rattle.setl_pages.specs.PageLaws.{Shared, page_was}
-use Rattle.setl_pages.specs.PageLaws as pages
-use Rattle.setl_pages.specs.Pages.{IsIn, IsPage, items, joined, page_at}
+use Rattle.setl_value_pages.specs.Exchange.{Exchanges, page_sizes, put_size}
+use Rattle.setl_value_pages.specs.PageLaws.{Shared, page_was}
+use Rattle.setl_value_pages.specs.PageLaws as pages
+use Rattle.setl_value_pages.specs.Pages.{IsIn, IsPage, items, joined, page_at}
 use Rattle.setl_value.specs.declared.Value.{Value}
 use Rattle.setl_value.specs.code.Body.{Body}
 use Rattle.setl_value.specs.code.DatumOf.{datum, page}

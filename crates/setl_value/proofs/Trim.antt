@@ -7,7 +7,7 @@ use Rattle.std.proofs.lemmas.Option.{slice_get-map}
 use Rattle.std.specs.Option.{option_map}
 use Rattle.std.specs.List.{remove}
 use Rattle.std.specs.Prelude.{slice_get, ◌-◌}
-use Rattle.setl_pages.specs.ListLaws.{all_remove, map-remove}
+use Rattle.setl_value_pages.specs.ListLaws.{all_remove, map-remove}
 use Rattle.std.specs.List.{AllByRecursion}
 use Rattle.std.specs.Prelude.{slice_set}
 use Rattle.setl_value.specs.Datum.{Datum, tuple, depth, parts_depth, parts_of, part_list-parts_of}

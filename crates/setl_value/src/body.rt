@@ -3,8 +3,8 @@
 
 ghost use Rattle.std.specs.Prelude.{◌≡◌, ◌<◌, ◌≤◌, ◌+◌, ◌^◌, ◌++◌, ◌⊎◌, [], length, slice_get, slice_set, take, drop, map, IfOk, IfNone, IfSome, OnErr, OnOk, Some, None};
 ghost use Rattle.std.specs.List.{insert, remove, AllByRecursion};
-ghost use Rattle.setl_pages.specs.Exchange.{PutsOnPage};
-ghost use Rattle.setl_pages.specs.Pages.{IsIn, IsPage, joined, page_at, rank_in};
+ghost use Rattle.setl_value_pages.specs.Exchange.{PutsOnPage};
+ghost use Rattle.setl_value_pages.specs.Pages.{IsIn, IsPage, joined, page_at, rank_in};
 ghost use Rattle.setl_value.specs.code.Body.{Members};
 ghost use Rattle.setl_value.specs.code.Changing.{AlwaysChanges, ChangesPair, PairGrows};
 ghost use Rattle.setl_value.specs.Datum.{Datum, depth, set_of};
@@ -20,7 +20,7 @@ use crate::places::{Cursor, START, Sought, bound_in, page_in};
 use crate::second::change_second;
 use crate::sets::MemberIter;
 use crate::{Memory, Pages, Value};
-use setl_pages::{
+use setl_value_pages::{
     Page, cut_page, item_at, items_at, items_from, paged, pages_from, put_page, replace_pages,
     size_at,
 };

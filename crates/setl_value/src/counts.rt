@@ -2,7 +2,7 @@
 
 ghost use Rattle.std.specs.Prelude.{◌≡◌, ◌≤◌, ◌+◌, take, map, max, is_some, slice_get, if◌then◌else◌};
 ghost use Rattle.std.specs.List.{AllByRecursion};
-ghost use Rattle.setl_pages.specs.Pages.{joined};
+ghost use Rattle.setl_value_pages.specs.Pages.{joined};
 ghost use Rattle.setl_value.specs.Datum.{Datum, depth, set_of, tuple_of};
 ghost use Rattle.setl_value.specs.code.DatumOf.{datum, page};
 ghost use Rattle.setl_value.specs.Pairs.{other_count, pair_parts, is_there};
@@ -10,7 +10,7 @@ ghost use Rattle.setl_value.specs.WellFormed.{IsWellFormed};
 
 use crate::sets::MemberIter;
 use crate::{TupleBody, Value};
-use setl_pages::Page;
+use setl_value_pages::Page;
 
 // Each member keeps the rules of values.
 pub(crate) fn learn_members(members: &[Value])

@@ -5,8 +5,8 @@ ghost use Rattle.std.specs.Prelude.{suc, ◌≡◌, ◌<◌, ◌≤◌, ◌+◌,
 ghost use Rattle.std.specs.List.{insert, remove, AllByRecursion};
 ghost use Rattle.std.specs.Option.{option_map};
 ghost use Rattle.std.specs.Ordering.{is_lt};
-ghost use Rattle.setl_pages.specs.Exchange.{PutsOnPage};
-ghost use Rattle.setl_pages.specs.Pages.{IsPage, joined, rank_in};
+ghost use Rattle.setl_value_pages.specs.Exchange.{PutsOnPage};
+ghost use Rattle.setl_value_pages.specs.Pages.{IsPage, joined, rank_in};
 ghost use Rattle.setl_value.specs.code.Body.{Members};
 ghost use Rattle.setl_value.specs.Datum.{depth, set_of};
 ghost use Rattle.setl_value.specs.code.DatumOf.{datum, page};
@@ -15,7 +15,7 @@ ghost use Rattle.setl_value.specs.code.Places.{HasPlace, rank, IsPlace, IsBound,
 ghost use Rattle.setl_value.specs.code.Sought.{sought};
 
 use crate::{MemberIter, Memory, SetBody, Value};
-use setl_pages::{Page, first_at};
+use setl_value_pages::{Page, first_at};
 use std::alloc::Global;
 use std::rc::Rc;
 

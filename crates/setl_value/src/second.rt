@@ -1,7 +1,7 @@
 //! Changes of the second part of a pair that is a member of a set, where it stands.
 
 ghost use Rattle.std.specs.Prelude.{◌≡◌, ◌<◌, length, map, slice_get, slice_set, IfOk, IfNone, IfSome, OnErr, Some, None};
-ghost use Rattle.setl_pages.specs.Pages.{page_at};
+ghost use Rattle.setl_value_pages.specs.Pages.{page_at};
 ghost use Rattle.setl_value.specs.code.Changing.{ChangesPair, PairGrows, with_member};
 ghost use Rattle.setl_value.specs.code.DatumOf.{datum, page};
 ghost use Rattle.setl_value.specs.Datum.{Datum, tuple_of};
@@ -9,7 +9,7 @@ ghost use Rattle.setl_value.specs.Pairs.{pair_parts};
 
 use crate::counts::is_pair;
 use crate::{Memory, TupleBody, Value};
-use setl_pages::Page;
+use setl_value_pages::Page;
 use std::rc::Rc;
 
 /// Lets `change` change the second part of the i-th member of the k-th page where it stands, to one that is at least as

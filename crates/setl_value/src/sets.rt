@@ -4,8 +4,8 @@
 ghost use Rattle.std.specs.Prelude.{◌≡◌, ◌<◌, ◌≤◌, ◌+◌, ◌++◌, [], length, slice_get, slice_set, take, drop, map, IfOk, IfNone, IfSome, OnErr, OnOk, Some, None};
 ghost use Rattle.std.specs.List.{insert, remove, AllByRecursion};
 ghost use Rattle.std.specs.Iterator.{YieldsFirstBy, item_count};
-ghost use Rattle.setl_pages.specs.Exchange.{PutsOnPage};
-ghost use Rattle.setl_pages.specs.Pages.{IsPage};
+ghost use Rattle.setl_value_pages.specs.Exchange.{PutsOnPage};
+ghost use Rattle.setl_value_pages.specs.Pages.{IsPage};
 ghost use Rattle.setl_value.specs.code.Body.{Members};
 ghost use Rattle.setl_value.specs.code.Changing.{AlwaysChanges, ChangesPair, PairGrows};
 ghost use Rattle.setl_value.specs.Datum.{Datum, depth, set_of};
@@ -206,7 +206,7 @@ impl<'a> Model for MemberIter<'a> {
     ghost use Rattle.std.specs.Prelude.{List, map, ◌++◌};
     ghost use Rattle.std.specs.Coded.{coded_list};
     ghost use Rattle.std.specs.List.{AllByRecursion};
-    ghost use Rattle.setl_pages.specs.Pages.{IsPage, joined};
+    ghost use Rattle.setl_value_pages.specs.Pages.{IsPage, joined};
     ghost use Rattle.setl_value.specs.Datum.{Datum};
     ghost use Rattle.setl_value.specs.code.DatumCode.{coded_datum};
 

@@ -5,7 +5,7 @@ ghost use Rattle.std.specs.List.{All, AllByRecursion};
 ghost use Rattle.setl_value.specs.WellFormed.{IsTextByte};
 
 use crate::Memory;
-use setl_pages::append_in;
+use setl_value_pages::append_in;
 use std::alloc::Global;
 use std::marker::Model;
 use std::rc::Rc;

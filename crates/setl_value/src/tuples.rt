@@ -10,7 +10,7 @@ ghost use Rattle.setl_value.specs.code.DatumOf.{datum, part};
 ghost use Rattle.setl_value.specs.WellFormed.{IsTupleList, PartIsWellFormed, trim, put};
 
 use crate::{Memory, TupleBody, Value};
-use setl_pages::{append_in, drop_front, take_first};
+use setl_value_pages::{append_in, drop_front, take_first};
 use std::alloc::Global;
 use std::rc::Rc;
 

@@ -1,8 +1,8 @@
 -- What a watcher is told of the events of a run.
 use Rattle.std.specs.Prelude.{◌≡◌, refl, ℕ, List, [], ◌∷◌, Option, Some, codes, pos}
 use Rattle.setl_value.specs.Datum.{Datum, int}
-use Rattle.setl_run.specs.Variable.{Own, name_of}
-use Rattle.setl_run.specs.Events as run
+use Rattle.setl_model_runs.specs.Variable.{Own, name_of}
+use Rattle.setl_model_runs.specs.Events as run
 
 -- An event with a name in place of a variable, and a line without its last byte.
 pub data Notice : Type 0 where

@@ -1,6 +1,6 @@
 -- Watchers that are told events, and what they report.
 use Rattle.std.specs.Prelude.{◌≡◌, refl, ℕ, Bool, List, [], ◌∷◌, ◌++◌, map, cond, length, nat_le}
-use Rattle.setl_run.specs.Events as run
+use Rattle.setl_model_runs.specs.Events as run
 use Rattle.setl_watch.specs.Notices.{Notice, noticed}
 
 -- What a watcher knows: a list of what it was told, and a list of pairs of numbers. It is one type for all watchers.

@@ -1,4 +1,4 @@
-use Rattle.setl_run.specs.VariableLaws.{value_stored}
+use Rattle.setl_model_runs.specs.VariableLaws.{value_stored}
 use Rattle.setl_model.proofs.Laws.{elsewhere}
 use Rattle.setl_model.proofs.stores_change_one_variable.Goals as goal
 

@@ -1,12 +1,12 @@
 -- Worked rows of backtracking.
 use Rattle.std.specs.Prelude.{List, [], ◌∷◌, codes}
-use Rattle.setl_run.specs.Variable.{Global, Bound}
+use Rattle.setl_model_runs.specs.Variable.{Global, Bound}
 use Rattle.setl_map.specs.declared.Operator.TheVariants.{With, Add, Subtract, Equal, NotEqual, Size, Abs}
 use Rattle.setl_program.specs.declared.kinds.Collection.TheVariants.{OfSet}
 use Rattle.setl_program.specs.declared.kinds.Connective.TheVariants.{Or}
 use Rattle.setl_program.specs.declared.kinds.Quantifier.TheVariants.{Exists}
 use Rattle.setl_program.specs.Program.{Name, Connect, Quantified, Call, Newat, Eof, Ok, no_condition, no_argument, rd_argument, rw_argument, Perform, If, For, Quit, Fail, Stop, Return, Read, no_stmt}
-use Rattle.setl_run.specs.Events.{Nothing, Done, Stopped, Spent}
+use Rattle.setl_model_runs.specs.Events.{Nothing, Done, Stopped, Spent}
 use Rattle.setl_program.specs.Source.{its, i, j, k, n, q, s, x, y, number, one, two, tuple_of, enumeration, row_of, at_round, over, between, assign, combine, print, on_line, at, alone, lines_from, just, with_procedures, procedure, select_over, rd_parameter, rw_parameter}
 use Rattle.setl_model.specs.Table.{Row, does, ends, reads}
 

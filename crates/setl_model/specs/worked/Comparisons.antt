@@ -2,7 +2,7 @@
 use Rattle.std.specs.Prelude.{List, [], ◌∷◌, ◌++◌, codes}
 use Rattle.setl_map.specs.declared.Operator.TheVariants.{Equal, NotEqual, Below, AtMost, Above, AtLeast, In, NotIn, Subset, Includes, IsInteger, IsString, IsBoolean, IsAtom, IsTuple, IsSet, IsMap}
 use Rattle.setl_program.specs.Program.{Undefined, Newat}
-use Rattle.setl_run.specs.Events.{Om, Kind}
+use Rattle.setl_model_runs.specs.Events.{Om, Kind}
 use Rattle.setl_program.specs.Source.{yes, no, number, quoted, one, two, minus, set_of, tuple_of, enumeration, row_of}
 use Rattle.setl_model.specs.Table.{Row, writes, all_stop}
 

@@ -1,6 +1,6 @@
 -- Worked rows of declarations.
 use Rattle.std.specs.Prelude.{List, [], ◌∷◌, ◌++◌, codes, Some}
-use Rattle.setl_run.specs.Variable.{Global, Bound}
+use Rattle.setl_model_runs.specs.Variable.{Global, Bound}
 use Rattle.setl_map.specs.declared.Operator.TheVariants.{With, Less}
 use Rattle.setl_modes.specs.Modes.{General, Integers, Strings, Booleans, Atoms, Elements, Sets, Tuples, SingleMaps, MultiMaps}
 use Rattle.setl_modes.specs.declared.mode.Form.TheVariants.{Plain, Local, Remote, Sparse}
@@ -8,7 +8,7 @@ use Rattle.setl_program.specs.declared.kinds.Collection.TheVariants.{OfSet}
 use Rattle.setl_program.specs.declared.kinds.Quantifier.TheVariants.{Exists}
 use Rattle.setl_program.specs.declared.kinds.Taking.TheVariants.{TakeLeast}
 use Rattle.setl_program.specs.Program.{Undefined, Name, Former, Quantified, Call, Newat, no_condition, no_argument, rd_argument, rw_argument, no_selector, AssignParts, TakeFrom, Perform, For, Read, no_stmt}
-use Rattle.setl_run.specs.Events.{Unfit, Done, Stopped}
+use Rattle.setl_model_runs.specs.Events.{Unfit, Done, Stopped}
 use Rattle.setl_program.specs.Source.{its, f, s, t, x, y, yes, no, number, quoted, minus, set_of, tuple_of, enumeration, row_of, over, assign, put, put_brace, combine, print, on_line, at, alone, lines_from, with_modes, procedure, rd_parameter, rw_parameter}
 use Rattle.setl_model.specs.Table.{Row, does, ends, all_end, reads, unbased}
 

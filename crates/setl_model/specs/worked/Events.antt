@@ -1,7 +1,7 @@
 -- Worked rows of events.
 use Rattle.std.specs.Prelude.{false, List, [], ◌∷◌, codes, Some, None, pos}
 use Rattle.setl_value.specs.Datum.{bool, int, set_of as set_data, tuple_of as tuple_data}
-use Rattle.setl_run.specs.Variable.{Global, Bound}
+use Rattle.setl_model_runs.specs.Variable.{Global, Bound}
 use Rattle.setl_map.specs.declared.Operator.TheVariants.{Add, Equal, Below}
 use Rattle.setl_modes.specs.Modes.{Integers}
 use Rattle.setl_program.specs.declared.kinds.Collection.TheVariants.{OfSet}
@@ -9,7 +9,7 @@ use Rattle.setl_program.specs.declared.kinds.Quantifier.TheVariants.{Exists, For
 use Rattle.setl_program.specs.declared.kinds.Source.TheVariants.{Values}
 use Rattle.setl_program.specs.declared.kinds.Taking.TheVariants.{TakeLeast, TakeFirst}
 use Rattle.setl_program.specs.Program.{Member, Point, Undefined, Name, Former, Quantified, Call, Ok, no_iterator, more_iterators, no_condition, no_argument, rd_argument, wr_argument, rw_argument, no_selector, AssignParts, TakeFrom, Perform, If, For, Fail, Return, no_stmt}
-use Rattle.setl_run.specs.Events.{Called, Returned, Stored, Printed, Kept, Back}
+use Rattle.setl_model_runs.specs.Events.{Called, Returned, Stored, Printed, Kept, Back}
 use Rattle.setl_program.specs.Source.{its, f, s, t, x, y, z, number, quoted, exprs, two, set_of, tuple_of, enumeration, row_of, over, assign, put, combine, print, on_line, at, alone, lines_from, just, with_procedures, procedure, wr_parameter, rd_parameter, with_modes, rw_parameter}
 use Rattle.setl_model.specs.Table.{EventRow, tells}
 

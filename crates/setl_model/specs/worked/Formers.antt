@@ -1,12 +1,12 @@
 -- Worked rows of formers.
 use Rattle.std.specs.Prelude.{List, [], ◌∷◌, ◌++◌, codes, Some}
-use Rattle.setl_run.specs.Variable.{Bound}
+use Rattle.setl_model_runs.specs.Variable.{Bound}
 use Rattle.setl_map.specs.declared.Operator.TheVariants.{Add, Subtract, Multiply, Equal, NotEqual, Below, Above, In, Size, Even}
 use Rattle.setl_program.specs.declared.kinds.Collection.TheVariants.{OfSet, OfTuple}
 use Rattle.setl_program.specs.declared.kinds.Connective.TheVariants.{Or}
 use Rattle.setl_program.specs.declared.kinds.Source.TheVariants.{Values, Between, TupleSteps}
 use Rattle.setl_program.specs.Program.{Member, Components, Point, Undefined, Name, Connect, Former, Selection, no_iterator, more_iterators, no_condition, only_if}
-use Rattle.setl_run.specs.Events.{Om, Kind, Zero, Deep, Stopped, Spent}
+use Rattle.setl_model_runs.specs.Events.{Om, Kind, Zero, Deep, Stopped, Spent}
 use Rattle.setl_program.specs.Source.{f, s, x, y, yes, number, quoted, exprs, one, two, minus, set_of, tuple_of, enumeration, row_of, from_to, over, between, assign, print, on_line, alone, just, deepest, nearly, select_over, select_between}
 use Rattle.setl_model.specs.Table.{Row, writes, all_stop, does, ends}
 

@@ -3,7 +3,7 @@ use Rattle.std.specs.Prelude.{List, [], ◌∷◌, ◌++◌, codes}
 use Rattle.setl_map.specs.declared.Operator.TheVariants.{Add, Subtract, Max, Min, Multiply, Divide, Modulo, Power, Negate, Abs, Even, Odd, Not}
 use Rattle.setl_program.specs.declared.kinds.Connective.TheVariants.{And, Or, Implies}
 use Rattle.setl_program.specs.Program.{Undefined, Connect, Choose}
-use Rattle.setl_run.specs.Events.{Om, Kind, Zero, Wide, Range as OutOfRange}
+use Rattle.setl_model_runs.specs.Events.{Om, Kind, Zero, Wide, Range as OutOfRange}
 use Rattle.setl_program.specs.Source.{yes, no, number, quoted, one, two, minus, set_of}
 use Rattle.setl_model.specs.Table.{Row, writes, all_stop}
 

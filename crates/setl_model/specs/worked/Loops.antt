@@ -3,7 +3,7 @@ use Rattle.std.specs.Prelude.{List, [], ◌∷◌, ◌++◌, codes, Some, None}
 use Rattle.setl_map.specs.declared.Operator.TheVariants.{With, Less, Add, Divide, Equal, Below, Even, Odd, TupleRange}
 use Rattle.setl_program.specs.declared.kinds.Source.TheVariants.{Values, Between, SetSteps, TupleSteps}
 use Rattle.setl_program.specs.Program.{Member, Components, Point, Undefined, Name, Newat, no_iterator, more_iterators, no_condition, only_if, If, For, While, Quit, Continue, Pass, no_stmt}
-use Rattle.setl_run.specs.Events.{Om, Kind, Zero, Stopped, Spent}
+use Rattle.setl_model_runs.specs.Events.{Om, Kind, Zero, Stopped, Spent}
 use Rattle.setl_program.specs.Source.{f, g, n, s, t, x, y, yes, no, number, quoted, exprs, one, two, set_of, tuple_of, enumeration, row_of, over, between, assign, combine, print, on_line, at, alone, lines_from, just}
 use Rattle.setl_model.specs.Table.{Row, does, ends, all_end}
 

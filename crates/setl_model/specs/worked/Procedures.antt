@@ -1,10 +1,10 @@
 -- Worked rows of procedures.
 use Rattle.std.specs.Prelude.{List, [], ◌∷◌, codes}
-use Rattle.setl_run.specs.Variable.{Global, Own, Bound}
+use Rattle.setl_model_runs.specs.Variable.{Global, Own, Bound}
 use Rattle.setl_map.specs.declared.Operator.TheVariants.{Add, Subtract, Multiply, Equal, Above}
 use Rattle.setl_program.specs.declared.kinds.Collection.TheVariants.{OfTuple}
 use Rattle.setl_program.specs.Program.{Undefined, Name, Former, Call, no_condition, no_argument, rd_argument, wr_argument, rw_argument, Perform, If, For, While, Quit, Stop, Return, no_stmt}
-use Rattle.setl_run.specs.Events.{Om, Kind, Stopped, Spent}
+use Rattle.setl_model_runs.specs.Events.{Om, Kind, Stopped, Spent}
 use Rattle.setl_program.specs.Source.{its, s, x, y, yes, number, quoted, two, tuple_of, enumeration, row_of, over, assign, combine, print, on_line, alone, lines_from, with_procedures, procedure, rd_parameter, wr_parameter, rw_parameter}
 use Rattle.setl_model.specs.Table.{Row, does, ends}
 

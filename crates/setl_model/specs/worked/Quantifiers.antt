@@ -4,7 +4,7 @@ use Rattle.setl_map.specs.declared.Operator.TheVariants.{Add, Equal, Below, Abov
 use Rattle.setl_program.specs.declared.kinds.Quantifier.TheVariants.{Exists, Forall, NotExists}
 use Rattle.setl_program.specs.declared.kinds.Source.TheVariants.{Values, Between}
 use Rattle.setl_program.specs.Program.{Member, Components, Point, Undefined, Name, Quantified, no_iterator, more_iterators, If, no_stmt}
-use Rattle.setl_run.specs.Events.{Om, Kind, Stopped, Spent}
+use Rattle.setl_model_runs.specs.Events.{Om, Kind, Stopped, Spent}
 use Rattle.setl_program.specs.Source.{f, n, x, y, yes, number, quoted, exprs, two, set_of, tuple_of, enumeration, row_of, over, assign, print, on_line, at, alone, just}
 use Rattle.setl_model.specs.Table.{Row, does, ends, all_end}
 

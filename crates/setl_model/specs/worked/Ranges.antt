@@ -2,7 +2,7 @@
 use Rattle.std.specs.Prelude.{List, [], ◌∷◌, ◌++◌, codes}
 use Rattle.setl_map.specs.declared.Operator.TheVariants.{Subtract, SetRange, TupleRange, SetStep, TupleStep}
 use Rattle.setl_program.specs.Program.{Undefined}
-use Rattle.setl_run.specs.Events.{Om, Kind, Zero}
+use Rattle.setl_model_runs.specs.Events.{Om, Kind, Zero}
 use Rattle.setl_program.specs.Source.{yes, number, quoted, two, three, minus}
 use Rattle.setl_model.specs.Table.{Row, writes, spends, all_stop}
 

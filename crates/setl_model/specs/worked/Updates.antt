@@ -1,10 +1,10 @@
 -- Worked rows of updates of places.
 use Rattle.std.specs.Prelude.{List, [], ◌∷◌, ◌++◌, codes, Some, None}
-use Rattle.setl_run.specs.Variable.{Global}
+use Rattle.setl_model_runs.specs.Variable.{Global}
 use Rattle.setl_map.specs.declared.Operator.TheVariants.{With, Less, Lessf, Npow, Add, Subtract, Max, Min, Multiply, Divide, Modulo, Power}
 use Rattle.setl_program.specs.declared.kinds.Taking.TheVariants.{TakeLeast, TakeFirst, TakeLast}
 use Rattle.setl_program.specs.Program.{Undefined, Name, Call, no_argument, rd_argument, no_selector, round_selector, brace_selector, Assign, Update, AssignParts, TakeFrom, Return, no_stmt}
-use Rattle.setl_run.specs.Events.{Om, Kind, Stopped, Spent, Range as OutOfRange}
+use Rattle.setl_model_runs.specs.Events.{Om, Kind, Stopped, Spent, Range as OutOfRange}
 use Rattle.setl_program.specs.Source.{its, f, n, s, t, x, y, yes, number, quoted, minus, set_of, tuple_of, enumeration, row_of, assign, put, combine, combine_round, combine_brace, print, on_line, at, alone, lines_from, just, with_procedures, procedure, rd_parameter}
 use Rattle.setl_model.specs.Table.{Row, does, ends, all_end}
 

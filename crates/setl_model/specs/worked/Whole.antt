@@ -1,13 +1,13 @@
 -- Worked rows of whole programs.
 use Rattle.std.specs.Prelude.{List, [], ◌∷◌, codes}
-use Rattle.setl_run.specs.Variable.{Bound}
+use Rattle.setl_model_runs.specs.Variable.{Bound}
 use Rattle.setl_map.specs.declared.Operator.TheVariants.{With, Npow, Add, NotEqual, NotIn, Size, Pow, FoldAdd, FoldMax, SetRange, TupleRange}
 use Rattle.setl_modes.specs.Modes.{Integers, Elements, Sets, MultiMaps}
 use Rattle.setl_modes.specs.declared.mode.Form.TheVariants.{Local, Remote, Sparse}
 use Rattle.setl_program.specs.declared.kinds.Collection.TheVariants.{OfTuple}
 use Rattle.setl_program.specs.declared.kinds.Taking.TheVariants.{TakeFirst}
 use Rattle.setl_program.specs.Program.{Undefined, Name, Former, no_condition, no_selector, TakeFrom, If, For, While, Read, no_stmt}
-use Rattle.setl_run.specs.Events.{Wide, Done, Stopped, Spent}
+use Rattle.setl_model_runs.specs.Events.{Wide, Done, Stopped, Spent}
 use Rattle.setl_program.specs.Source.{own, g, s, t, x, y, number, quoted, one, two, set_of, tuple_of, enumeration, row_of, at_round, at_brace, over, assign, combine, combine_brace, print, on_line, at, alone, lines_from, just, with_modes}
 use Rattle.setl_model.specs.Table.{Row, does, ends, reads, unbased}
 

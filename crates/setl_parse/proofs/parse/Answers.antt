@@ -1,8 +1,8 @@
 use Rattle.std.proofs.Common.{rules, arith}
 use Rattle.std.proofs.lemmas.Grind.{common_steps}
 use Rattle.setl_tree.specs.Programs as grammar
-use Rattle.setl_reading.specs.Fronts.{FaultOf}
-use Rattle.setl_cursor.specs.Plain.{plain_tokens}
+use Rattle.setl_parse_reading.specs.Fronts.{FaultOf}
+use Rattle.setl_parse_cursor.specs.Plain.{plain_tokens}
 use Rattle.setl_parse.proofs.Faults.{leftover}
 use Rattle.setl_parse.proofs.parse.Goals as goal
 

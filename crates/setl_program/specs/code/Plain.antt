@@ -2,7 +2,7 @@
 use Rattle.std.specs.Prelude.{ℕ, List, [], ◌∷◌, map, Option}
 use Rattle.std.specs.Option.{option_map}
 use Rattle.setl_value.specs.Datum.{bool, int, text}
-use Rattle.setl_run.specs.Variable as run
+use Rattle.setl_model_runs.specs.Variable as run
 use Rattle.setl_modes.specs.Modes.{Mode, mode_of}
 use Rattle.setl_program.specs.declared.expr.Variable.{Variable}
 use Rattle.setl_program.specs.declared.expr.Variable.TheVariants as v

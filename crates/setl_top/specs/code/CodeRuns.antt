@@ -4,11 +4,11 @@ use Rattle.setl_code.specs.Code.{Code}
 use Rattle.setl_code.specs.CodeCore.{CodeCore}
 use Rattle.setl_code.specs.CodeMeans.{code_first}
 use Rattle.setl_text.specs.code.Reads.{TakesOff}
-use Rattle.setl_storing.specs.Declaring.{Modes}
+use Rattle.setl_machine_control.specs.Declaring.{Modes}
 use Rattle.setl_machine.specs.Hearing.{Hears}
 use Rattle.setl_machine.specs.Outcome.{Ran, ReadsOnly, Seen, seen}
-use Rattle.setl_storing.specs.declared.end.End.{End}
-use Rattle.setl_storing.specs.declared.end.End.TheVariants as end
+use Rattle.setl_machine_control.specs.declared.end.End.{End}
+use Rattle.setl_machine_control.specs.declared.end.End.TheVariants as end
 use Rattle.setl_top.specs.Headline.{IsInput, IsLeft}
 use Rattle.setl_top.specs.code.Runs.{Streams}
 

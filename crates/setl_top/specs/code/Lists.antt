@@ -2,9 +2,9 @@
 use Rattle.std.specs.Prelude.{◌≡◌, ℕ, List}
 use Rattle.setl_io.specs.Files.{Texts}
 use Rattle.setl_tree.specs.declared.tree.Tree.{Tree}
-use Rattle.setl_status.specs.code.Loads.{Sides}
-use Rattle.setl_status.specs.code.Writes.{Gain, Written}
-use Rattle.setl_status.specs.declared.status.Status.{Status}
+use Rattle.setl_top_status.specs.code.Loads.{Sides}
+use Rattle.setl_top_status.specs.code.Writes.{Gain, Written}
+use Rattle.setl_top_status.specs.declared.status.Status.{Status}
 use Rattle.setl_top.specs.Listings.{listing_of}
 use Rattle.setl_top.specs.code.Loads.{Loaded, NotLoaded}
 

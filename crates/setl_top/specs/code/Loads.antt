@@ -6,17 +6,17 @@ use Rattle.setl_program.specs.Program.{Program}
 use Rattle.setl_program.specs.ProgramOf.{program_of}
 use Rattle.setl_tree.specs.declared.tree.Tree.{Tree}
 use Rattle.setl_top.specs.Accepted.{IsProgram, IsRefusedFor}
-use Rattle.setl_status.specs.Lines.{AppendsFront}
-use Rattle.setl_status.specs.code.Loads.{Sides, IsStill}
-use Rattle.setl_status.specs.Reasons.{reason_line}
-use Rattle.setl_status.specs.code.Tells.{Tells}
-use Rattle.setl_rules.specs.Rules.{AreModes}
+use Rattle.setl_top_status.specs.Lines.{AppendsFront}
+use Rattle.setl_top_status.specs.code.Loads.{Sides, IsStill}
+use Rattle.setl_top_status.specs.Reasons.{reason_line}
+use Rattle.setl_top_status.specs.code.Tells.{Tells}
+use Rattle.setl_top_rules.specs.Rules.{AreModes}
 use Rattle.setl_top.specs.declared.front.Checked.{Checked}
 use Rattle.setl_top.specs.declared.front.Unread.{Unread}
 use Rattle.setl_top.specs.declared.front.Unread.TheVariants as unread
-use Rattle.setl_status.specs.declared.reason.Reason.{Reason}
-use Rattle.setl_status.specs.declared.status.Status.{Status}
-use Rattle.setl_status.specs.declared.status.Status.TheVariants as status
+use Rattle.setl_top_status.specs.declared.reason.Reason.{Reason}
+use Rattle.setl_top_status.specs.declared.status.Status.{Status}
+use Rattle.setl_top_status.specs.declared.status.Status.TheVariants as status
 
 -- a source that wasn't read is refused for this reason, or memory was refused
 abbrev pub TellsWhy : List ℕ → Unread → Type 0

@@ -3,20 +3,20 @@
 use Rattle.std.specs.Prelude.{◌≡◌, ◌⊎◌, ◌<◌, ℕ, List, [], ◌++◌, Option, length, take, if◌then◌else◌}
 use Rattle.std.specs.Io.KnownBytes.{Appends, Consumes}
 use Rattle.setl_io.specs.Faults.{Rose}
-use Rattle.setl_run.specs.Events as run
+use Rattle.setl_model_runs.specs.Events as run
 use Rattle.setl_model.specs.Means.{Means}
 use Rattle.setl_program.specs.Program.{Program}
 use Rattle.setl_program.specs.ProgramOf.{program_of}
 use Rattle.setl_tree.specs.declared.tree.Tree.{Tree}
-use Rattle.setl_acceptance.specs.Claims.{IsAccepted}
-use Rattle.setl_storing.specs.Declaring.{Modes}
-use Rattle.setl_storing.specs.Answers.{kind_of}
-use Rattle.setl_storing.specs.declared.end.End.{End}
-use Rattle.setl_storing.specs.declared.end.End.TheVariants as end
+use Rattle.setl_program_laws.specs.Claims.{IsAccepted}
+use Rattle.setl_machine_control.specs.Declaring.{Modes}
+use Rattle.setl_machine_control.specs.Answers.{kind_of}
+use Rattle.setl_machine_control.specs.declared.end.End.{End}
+use Rattle.setl_machine_control.specs.declared.end.End.TheVariants as end
 use Rattle.setl_top.specs.Headline.{IsInput, IsLeft}
 use Rattle.setl_top.specs.Moments.{AtState, AtPrint, AtRead}
 use Rattle.setl_watch.specs.Watches.{Watched, told_all}
-use Rattle.setl_words.specs.Words.{Options}
+use Rattle.setl_top_words.specs.Words.{Options}
 
 -- what is seen of the input, of the output and of the watchers before and after a run
 pub record Streams : Type 0 where

@@ -1,16 +1,16 @@
 -- What is told at an end of the machine.
 use Rattle.std.specs.Prelude.{ℕ, List, ◌++◌, Option, codes}
-use Rattle.setl_run.specs.Events as run
+use Rattle.setl_model_runs.specs.Events as run
 use Rattle.setl_model.specs.Answers.{error_line}
-use Rattle.setl_storing.specs.Declaring.{Modes}
-use Rattle.setl_storing.specs.Answers.{kind_of}
-use Rattle.setl_storing.specs.declared.end.End.{End}
-use Rattle.setl_storing.specs.declared.end.End.TheVariants as end
+use Rattle.setl_machine_control.specs.Declaring.{Modes}
+use Rattle.setl_machine_control.specs.Answers.{kind_of}
+use Rattle.setl_machine_control.specs.declared.end.End.{End}
+use Rattle.setl_machine_control.specs.declared.end.End.TheVariants as end
 use Rattle.setl_watch.specs.Watches.{Watched}
 use Rattle.setl_top.specs.Watching.{all_told}
-use Rattle.setl_status.specs.code.Tells.{Tells, Tries}
-use Rattle.setl_status.specs.declared.status.Status.{Status}
-use Rattle.setl_status.specs.declared.status.Status.TheVariants as status
+use Rattle.setl_top_status.specs.code.Tells.{Tells, Tries}
+use Rattle.setl_top_status.specs.declared.status.Status.{Status}
+use Rattle.setl_top_status.specs.declared.status.Status.TheVariants as status
 
 -- the reports of the watchers and then the line of an end of the machine, where these variables are declared, were told with
 -- its status, or the line was tried at a fault

@@ -2,22 +2,22 @@
 use Rattle.std.specs.Prelude.{◌≡◌, ◌-◌, ◌^◌, ℕ, Bool, true, List, [], ◌∷◌, ◌++◌, Option, None, codes}
 use Rattle.setl_model.specs.Answers.{error_line}
 use Rattle.setl_model.specs.Means.{Means}
-use Rattle.setl_storing.specs.Answers.{kind_of}
-use Rattle.setl_storing.specs.declared.end.End.{End}
-use Rattle.setl_storing.specs.declared.end.End.TheVariants as end
+use Rattle.setl_machine_control.specs.Answers.{kind_of}
+use Rattle.setl_machine_control.specs.declared.end.End.{End}
+use Rattle.setl_machine_control.specs.declared.end.End.TheVariants as end
 use Rattle.setl_program.specs.Program.{Program}
-use Rattle.setl_run.specs.Events as run
+use Rattle.setl_model_runs.specs.Events as run
 use Rattle.setl_top.specs.Accepted.{Accepted, IsRefusedFor}
-use Rattle.setl_status.specs.Lines.{AppendsFront}
-use Rattle.setl_status.specs.Reasons.{reason_line}
+use Rattle.setl_top_status.specs.Lines.{AppendsFront}
+use Rattle.setl_top_status.specs.Reasons.{reason_line}
 use Rattle.setl_top.specs.Trials.{trial_source, trial_input, trial_line}
-use Rattle.setl_status.specs.code.Writes.{Gain, Written}
+use Rattle.setl_top_status.specs.code.Writes.{Gain, Written}
 use Rattle.setl_top.specs.code.Runs.{counted}
-use Rattle.setl_status.specs.code.Tells.{Tells}
-use Rattle.setl_status.specs.declared.reason.Reason.{Reason}
-use Rattle.setl_status.specs.declared.status.Status.{Status}
-use Rattle.setl_status.specs.declared.status.Status.TheVariants as status
-use Rattle.setl_words.specs.Words.{Options}
+use Rattle.setl_top_status.specs.code.Tells.{Tells}
+use Rattle.setl_top_status.specs.declared.reason.Reason.{Reason}
+use Rattle.setl_top_status.specs.declared.status.Status.{Status}
+use Rattle.setl_top_status.specs.declared.status.Status.TheVariants as status
+use Rattle.setl_top_words.specs.Words.{Options}
 
 -- the options of a run of a trial
 abbrev pub trial_options : Bool → Options

@@ -1,7 +1,7 @@
 -- A set's body as contracts see it: its members in pages. Only `Members` and the definitions of places read its field.
 use Rattle.std.specs.Prelude.{List, refl}
 use Rattle.std.specs.Coded.{Coded, code_by, coded_list}
-use Rattle.setl_pages.specs.Pages.{joined}
+use Rattle.setl_value_pages.specs.Pages.{joined}
 use Rattle.setl_value.specs.Datum.{Datum}
 use Rattle.setl_value.specs.code.DatumCode.{coded_datum}
 

@@ -2,7 +2,7 @@
 use Rattle.std.specs.Prelude.{◌≡◌, ℕ, ◌≤◌, ◌<◌, List, slice_set}
 use Rattle.std.specs.Borrow.{MutBor}
 use Rattle.std.specs.Fn.{Once, FnOnceReturnsAtMut}
-use Rattle.setl_pages.specs.Pages.{page_at}
+use Rattle.setl_value_pages.specs.Pages.{page_at}
 use Rattle.setl_value.specs.declared.Value.{Value}
 use Rattle.setl_value.specs.Datum.{Datum, depth}
 use Rattle.setl_value.specs.Pairs.{pair}

@@ -1,7 +1,7 @@
 -- What the body of a set keeps beside its pages.
 use Rattle.std.specs.Prelude.{◌≡◌, ℕ, List, length}
 use Rattle.std.specs.List.{AllByRecursion}
-use Rattle.setl_pages.specs.Pages.{IsPage, joined}
+use Rattle.setl_value_pages.specs.Pages.{IsPage, joined}
 use Rattle.setl_value.specs.Datum.{Datum, depth, set_of}
 use Rattle.setl_value.specs.Pairs.{other_count}
 use Rattle.setl_value.specs.WellFormed.{IsSetList}

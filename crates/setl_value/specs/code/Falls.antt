@@ -8,7 +8,7 @@ use Rattle.std.specs.declared.alloc.Global.{Global}
 use Rattle.setl_value.specs.declared.Value.{Value}
 use Rattle.setl_value.specs.declared.Value.TheVariants.{Bool, Int, Text, Atom, Tuple, Set}
 use Rattle.setl_value.specs.declared.Pages.TheDeep.{deep-Value}
-use Rattle.setl_pages.specs.Pages.{joined}
+use Rattle.setl_value_pages.specs.Pages.{joined}
 use Rattle.setl_value.specs.Datum.{Datum, depth, elements_depth, elements_of, parts_depth, parts_of}
 use Rattle.setl_value.specs.declared.Pages.TheShapes.{weighed-TupleBody-parts-at-1}
 use Rattle.setl_value.specs.code.DatumOf.{datum, page, part}

@@ -4,7 +4,7 @@ use Rattle.std.specs.List.{AllByRecursion}
 use Rattle.std.specs.Ordering.{is_lt}
 use Rattle.std.specs.declared.cmp.Ordering.TheVariants.{Less}
 use Rattle.setl_value.specs.declared.places.Cursor.{Cursor}
-use Rattle.setl_pages.specs.Pages.{IsIn, rank_in}
+use Rattle.setl_value_pages.specs.Pages.{IsIn, rank_in}
 use Rattle.setl_value.specs.code.Body.{Body}
 use Rattle.setl_value.specs.Datum.{Datum, tuple_of}
 use Rattle.setl_value.specs.Order.{datum_cmp}

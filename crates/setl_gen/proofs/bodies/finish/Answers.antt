@@ -2,8 +2,8 @@ use Rattle.std.proofs.Common.{◌∙◌, map, ap, sym}
 use Rattle.std.specs.Global.{Vec}
 use Rattle.setl_code.specs.declared.code.Step.{Step}
 use Rattle.setl_code.specs.Plain.{plain_step}
-use Rattle.setl_emitter.specs.Table.{variables}
-use Rattle.setl_emitter.specs.Emitted.{held}
+use Rattle.setl_gen_emitter.specs.Table.{variables}
+use Rattle.setl_gen_emitter.specs.Emitted.{held}
 use Rattle.setl_gen.proofs.BodyLemmas.{finished_is}
 use Rattle.setl_gen.proofs.bodies.finish.Goals as goal
 

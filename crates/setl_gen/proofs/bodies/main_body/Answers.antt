@@ -1,7 +1,7 @@
 use Rattle.std.proofs.Common.{[], refl}
 use Rattle.setl_program.specs.code.Plain.{plain_block}
 use Rattle.setl_code.specs.Generated.{main_code}
-use Rattle.setl_emitter.specs.Emitted.{held}
+use Rattle.setl_gen_emitter.specs.Emitted.{held}
 use Rattle.setl_gen.specs.Bodies.{table_of}
 use Rattle.setl_gen.proofs.BodyLemmas.{main_laid, body_made, vars_kept}
 use Rattle.setl_gen.proofs.bodies.main_body.Goals as goal

@@ -1,6 +1,6 @@
 use Rattle.setl_program.specs.code.Plain.{plain_block}
 use Rattle.setl_code.specs.Generated.{procedure_code}
-use Rattle.setl_emitter.specs.Emitted.{held}
+use Rattle.setl_gen_emitter.specs.Emitted.{held}
 use Rattle.setl_gen.specs.Bodies.{table_of}
 use Rattle.setl_gen.proofs.BodyLemmas.{procedure_laid, body_made, vars_kept}
 use Rattle.setl_gen.proofs.bodies.procedure_body.Goals as goal

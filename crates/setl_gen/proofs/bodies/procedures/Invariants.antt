@@ -1,5 +1,5 @@
 use Rattle.std.proofs.Common.{◌≡◌, ◌++◌, drop, map}
-use Rattle.setl_run.specs.Variable.{Global}
+use Rattle.setl_model_runs.specs.Variable.{Global}
 use Rattle.setl_program.specs.code.Plain.{plain_procedure}
 use Rattle.setl_code.specs.CodeOf.{procedure_body}
 use Rattle.setl_code.specs.Plain.{plain_bodies}

@@ -11,8 +11,8 @@ use Rattle.setl_program.specs.code.Plain.{plain_expr, plain_exprs, plain_iterato
 use Rattle.setl_code.specs.Code.{Unless}
 use Rattle.setl_code.specs.Piece.{one}
 use Rattle.setl_code.specs.Generated as code
-use Rattle.setl_emitter.specs.Emitted.{held, here, after}
-use Rattle.setl_emitter.specs.EmittedLaws.{done_made, after_nothing, then_made}
+use Rattle.setl_gen_emitter.specs.Emitted.{held, here, after}
+use Rattle.setl_gen_emitter.specs.EmittedLaws.{done_made, after_nothing, then_made}
 use Rattle.setl_gen.proofs.Rounds.{exprs_round, arguments_round, count_is, levels_is, iterator_begun, iterator_headed}
 use Rattle.setl_gen.proofs.ExprKinds.{former_is, selection_is, as_kind}
 use Rattle.setl_gen.proofs.Constructs.{apply_made, choose_made, former_made, selection_made, quantified_made, call_made}

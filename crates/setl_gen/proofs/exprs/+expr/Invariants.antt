@@ -6,7 +6,7 @@ use denote.Param.Weighed.{most}
 use Rattle.setl_program.specs.code.Plain.{plain_link, plain_exprs, plain_iterators, plain_arguments}
 use Rattle.setl_program.specs.Lists.{chained}
 use Rattle.setl_code.specs.Generated as code
-use Rattle.setl_emitter.specs.Emitted.{Emitted, held, after}
+use Rattle.setl_gen_emitter.specs.Emitted.{Emitted, held, after}
 use Rattle.setl_gen.specs.Heads.{CodeGoesOn, opened_from, opened}
 use Rattle.setl_gen.proofs.exprs.+expr.Given as goal
 

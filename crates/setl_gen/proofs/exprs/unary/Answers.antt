@@ -1,4 +1,4 @@
-use Rattle.setl_emitter.specs.Emitted.{held}
+use Rattle.setl_gen_emitter.specs.Emitted.{held}
 use Rattle.setl_gen.proofs.Links.{unary_made}
 use Rattle.setl_gen.proofs.exprs.unary.Goals as goal
 

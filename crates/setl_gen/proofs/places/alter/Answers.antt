@@ -4,8 +4,8 @@ use Rattle.setl_program.specs.code.Plain.{plain_variable, selectors_of}
 use Rattle.setl_code.specs.declared.code.Bracket.{Bracket}
 use Rattle.setl_code.specs.Generated as code
 use Rattle.setl_code.specs.Plain.{plain_alteration, plain_bracket, plain_slot}
-use Rattle.setl_emitter.specs.Table.{variables}
-use Rattle.setl_emitter.specs.Emitted.{held, after}
+use Rattle.setl_gen_emitter.specs.Table.{variables}
+use Rattle.setl_gen_emitter.specs.Emitted.{held, after}
 use Rattle.setl_gen.proofs.StmtRounds.{alter_made}
 use Rattle.setl_gen.proofs.places.alter.Goals as goal
 

@@ -1,5 +1,5 @@
 use Rattle.setl_program.specs.code.Plain.{plain_variable}
-use Rattle.setl_emitter.specs.Emitted.{held}
+use Rattle.setl_gen_emitter.specs.Emitted.{held}
 use Rattle.setl_gen.proofs.StmtRounds.{put_at}
 use Rattle.setl_gen.proofs.places.put.Goals as goal
 

@@ -2,8 +2,8 @@ use Rattle.std.proofs.Common.{◌∙◌, List, map}
 use Rattle.setl_program.specs.declared.expr.Variable.{Variable}
 use Rattle.setl_program.specs.code.Plain.{plain_variable}
 use Rattle.setl_code.specs.Generated.{read_all}
-use Rattle.setl_emitter.specs.Emitted.{held, after}
-use Rattle.setl_emitter.specs.EmittedLaws.{after_nothing, done_made}
+use Rattle.setl_gen_emitter.specs.Emitted.{held, after}
+use Rattle.setl_gen_emitter.specs.EmittedLaws.{after_nothing, done_made}
 use Rattle.setl_gen.proofs.StmtRounds.{reads_round}
 use Rattle.setl_gen.proofs.places.read_all.Goals as goal
 

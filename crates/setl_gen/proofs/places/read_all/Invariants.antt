@@ -1,7 +1,7 @@
 use Rattle.std.proofs.Common.{◌≡◌, drop, map}
 use Rattle.setl_program.specs.code.Plain.{plain_variable}
 use Rattle.setl_code.specs.Generated.{read_all}
-use Rattle.setl_emitter.specs.Emitted.{held, after}
+use Rattle.setl_gen_emitter.specs.Emitted.{held, after}
 use Rattle.setl_gen.proofs.places.read_all.Given as goal
 
 abbrev pub invariant-loop-x : goal.invariant-loop-x

@@ -1,8 +1,8 @@
 use Rattle.setl_program.specs.code.Plain.{plain_variable}
 use Rattle.setl_code.specs.Code.{ReadOne, StoreIn}
 use Rattle.setl_code.specs.Piece.{one}
-use Rattle.setl_emitter.specs.Emitted.{held}
-use Rattle.setl_emitter.specs.EmittedLaws.{then_made}
+use Rattle.setl_gen_emitter.specs.Emitted.{held}
+use Rattle.setl_gen_emitter.specs.EmittedLaws.{then_made}
 use Rattle.setl_gen.proofs.places.read_one.Goals as goal
 
 pub returns : goal.returns

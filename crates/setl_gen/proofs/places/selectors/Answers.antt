@@ -2,8 +2,8 @@ use Rattle.std.proofs.Common.{◌∙◌, List}
 use Rattle.setl_program.specs.declared.stmt.Selector.{Selector}
 use Rattle.setl_program.specs.code.Plain.{selectors_of}
 use Rattle.setl_code.specs.Generated.{selectors}
-use Rattle.setl_emitter.specs.Emitted.{held, after}
-use Rattle.setl_emitter.specs.EmittedLaws.{after_nothing, done_made}
+use Rattle.setl_gen_emitter.specs.Emitted.{held, after}
+use Rattle.setl_gen_emitter.specs.EmittedLaws.{after_nothing, done_made}
 use Rattle.setl_gen.proofs.StmtRounds.{selectors_round}
 use Rattle.setl_gen.proofs.places.selectors.Goals as goal
 

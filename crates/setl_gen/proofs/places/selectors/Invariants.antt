@@ -1,7 +1,7 @@
 use Rattle.std.proofs.Common.{◌≡◌, drop}
 use Rattle.setl_program.specs.code.Plain.{selectors_of}
 use Rattle.setl_code.specs.Generated.{selectors}
-use Rattle.setl_emitter.specs.Emitted.{held, after}
+use Rattle.setl_gen_emitter.specs.Emitted.{held, after}
 use Rattle.setl_gen.proofs.places.selectors.Given as goal
 
 abbrev pub invariant-loop-s : goal.invariant-loop-s

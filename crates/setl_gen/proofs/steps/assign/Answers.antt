@@ -1,7 +1,7 @@
 use Rattle.setl_program.specs.code.Plain.{plain_variable, plain_expr, selectors_of}
 use Rattle.setl_code.specs.Generated as code
-use Rattle.setl_emitter.specs.Emitted.{held}
-use Rattle.setl_emitter.specs.EmittedLaws.{then_made}
+use Rattle.setl_gen_emitter.specs.Emitted.{held}
+use Rattle.setl_gen_emitter.specs.EmittedLaws.{then_made}
 use Rattle.setl_gen.proofs.steps.assign.Goals as goal
 
 pub returns : goal.returns

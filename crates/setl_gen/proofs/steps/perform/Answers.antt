@@ -2,8 +2,8 @@ use Rattle.setl_program.specs.code.Plain.{plain_expr}
 use Rattle.setl_code.specs.Code.{DropTop}
 use Rattle.setl_code.specs.Piece.{one}
 use Rattle.setl_code.specs.Generated as code
-use Rattle.setl_emitter.specs.Emitted.{held}
-use Rattle.setl_emitter.specs.EmittedLaws.{then_made}
+use Rattle.setl_gen_emitter.specs.Emitted.{held}
+use Rattle.setl_gen_emitter.specs.EmittedLaws.{then_made}
 use Rattle.setl_gen.proofs.steps.perform.Goals as goal
 
 pub returns : goal.returns

@@ -3,8 +3,8 @@ use Rattle.setl_program.specs.code.Plain.{plain_exprs}
 use Rattle.setl_code.specs.Code.{PrintTop}
 use Rattle.setl_code.specs.Piece.{one}
 use Rattle.setl_code.specs.Generated as code
-use Rattle.setl_emitter.specs.Emitted.{held, after}
-use Rattle.setl_emitter.specs.EmittedLaws.{then_made}
+use Rattle.setl_gen_emitter.specs.Emitted.{held, after}
+use Rattle.setl_gen_emitter.specs.EmittedLaws.{then_made}
 use Rattle.setl_gen.proofs.Rounds.{count_is}
 use Rattle.setl_gen.proofs.steps.print.Goals as goal
 

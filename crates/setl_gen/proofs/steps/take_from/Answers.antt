@@ -2,8 +2,8 @@ use Rattle.std.proofs.Common.{[], ◌∷◌, Some}
 use Rattle.setl_program.specs.code.Plain.{plain_variable, selectors_of}
 use Rattle.setl_code.specs.Code.{TakingOut}
 use Rattle.setl_code.specs.Generated as code
-use Rattle.setl_emitter.specs.Emitted.{held}
-use Rattle.setl_emitter.specs.EmittedLaws.{then_made}
+use Rattle.setl_gen_emitter.specs.Emitted.{held}
+use Rattle.setl_gen_emitter.specs.EmittedLaws.{then_made}
 use Rattle.setl_gen.proofs.Rounds.{one_store}
 use Rattle.setl_gen.proofs.steps.take_from.Goals as goal
 

@@ -1,8 +1,8 @@
 use Rattle.setl_program.specs.code.Plain.{plain_variable, plain_expr, selectors_of}
 use Rattle.setl_code.specs.Code.{Combining}
 use Rattle.setl_code.specs.Generated as code
-use Rattle.setl_emitter.specs.Emitted.{held}
-use Rattle.setl_emitter.specs.EmittedLaws.{then_made}
+use Rattle.setl_gen_emitter.specs.Emitted.{held}
+use Rattle.setl_gen_emitter.specs.EmittedLaws.{then_made}
 use Rattle.setl_gen.proofs.steps.update.Goals as goal
 
 pub returns : goal.returns

@@ -3,8 +3,8 @@ use Rattle.std.specs.Option.{option_map}
 use Rattle.setl_program.specs.declared.stmt.Stmt.{Stmt}
 use Rattle.setl_program.specs.code.Plain.{plain_expr, plain_iterators, plain_block, plain_branch, otherwise, condition_of}
 use Rattle.setl_code.specs.Generated as code
-use Rattle.setl_emitter.specs.Emitted.{held, after, closed}
-use Rattle.setl_emitter.specs.EmittedLaws.{after_nothing, done_made}
+use Rattle.setl_gen_emitter.specs.Emitted.{held, after, closed}
+use Rattle.setl_gen_emitter.specs.EmittedLaws.{after_nothing, done_made}
 use Rattle.setl_gen.proofs.Rounds.{levels_is}
 use Rattle.setl_gen.proofs.StmtRounds.{block_round, branches_round, branches_done, guarded_made, choice_made, for_is, while_is, update_is, take_is, pass_is, looped_made, for_made, while_made}
 use Rattle.setl_gen.proofs.stmts.+stmt.Goals as goal

@@ -2,7 +2,7 @@ use Rattle.std.proofs.Common.{◌≡◌, drop, map}
 use Rattle.setl_program.specs.Program.{Block}
 use Rattle.setl_program.specs.code.Plain.{plain_block, plain_branch, otherwise}
 use Rattle.setl_code.specs.Generated as code
-use Rattle.setl_emitter.specs.Emitted.{held, after, closed}
+use Rattle.setl_gen_emitter.specs.Emitted.{held, after, closed}
 use Rattle.setl_gen.proofs.stmts.+stmt.Given as goal
 
 abbrev pub invariant-block-loop-s : goal.invariant-block-loop-s

@@ -2,8 +2,8 @@ use Rattle.std.proofs.Common.{◌∙◌, ap, sym}
 use Rattle.std.specs.Option.{option_map}
 use Rattle.setl_program.specs.code.Plain.{plain_expr, condition_of}
 use Rattle.setl_code.specs.Generated as code
-use Rattle.setl_emitter.specs.Emitted.{held, after}
-use Rattle.setl_emitter.specs.EmittedLaws.{after_nothing}
+use Rattle.setl_gen_emitter.specs.Emitted.{held, after}
+use Rattle.setl_gen_emitter.specs.EmittedLaws.{after_nothing}
 use Rattle.setl_gen.proofs.stmts.condition.Goals as goal
 
 pub returns-in-None : goal.returns-in-None

@@ -2,7 +2,7 @@ use Rattle.std.proofs.Common.{map, Some}
 use Rattle.std.proofs.lemmas.Result.{IfOk-weaker}
 use Rattle.setl_code.specs.Code.{CallBody}
 use Rattle.setl_value.specs.code.DatumOf.{part}
-use Rattle.setl_storing.specs.Working.{DoesBy}
+use Rattle.setl_machine_control.specs.Working.{DoesBy}
 use Rattle.setl_machine.specs.Working.{TakesArguments, Begins}
 use Rattle.setl_machine.proofs.Entering.{begun}
 use Rattle.setl_machine.proofs.calling.call.Goals as goal

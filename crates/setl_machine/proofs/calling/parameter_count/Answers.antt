@@ -1,7 +1,7 @@
 use Rattle.std.proofs.Common.{◌≡◌, map, length, Some, sym, subst}
 use Rattle.std.specs.Prelude.{slice_get, IfSome}
 use Rattle.setl_code.specs.Plain.{plain_bodies}
-use Rattle.setl_run.specs.Variable.{Global}
+use Rattle.setl_model_runs.specs.Variable.{Global}
 use Rattle.setl_machine.specs.Working.{HasParameters}
 use Rattle.setl_machine.proofs.Entering.{has_none, has_some}
 use Rattle.setl_machine.proofs.calling.parameter_count.Goals as goal

@@ -1,6 +1,6 @@
 use Rattle.std.proofs.Common.{refl}
 use Rattle.setl_code.specs.Code.{Decides}
-use Rattle.setl_storing.specs.Control.{in_world}
+use Rattle.setl_machine_control.specs.Control.{in_world}
 use Rattle.setl_machine.proofs.Working.{stops, halts_deciding}
 use Rattle.setl_machine.proofs.conditions.decide.Goals as goal
 

@@ -2,7 +2,7 @@ use Rattle.std.proofs.Common.{◌∷◌, refl}
 use Rattle.setl_code.specs.Code.{TestBool}
 use Rattle.setl_code.specs.CodeCore.{Result as Holds}
 use Rattle.setl_code.specs.Machine.{next}
-use Rattle.setl_storing.specs.Control.{in_world}
+use Rattle.setl_machine_control.specs.Control.{in_world}
 use Rattle.setl_machine.proofs.Working.{stops}
 use Rattle.setl_machine.proofs.conditions.test.Goals as goal
 

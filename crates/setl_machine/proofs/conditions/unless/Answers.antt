@@ -1,7 +1,7 @@
 use Rattle.std.proofs.Common.{refl}
 use Rattle.setl_code.specs.Code.{Unless}
 use Rattle.setl_code.specs.Machine.{next, go_to}
-use Rattle.setl_storing.specs.Control.{in_world}
+use Rattle.setl_machine_control.specs.Control.{in_world}
 use Rattle.setl_machine.proofs.Working.{stops}
 use Rattle.setl_machine.proofs.conditions.unless.Goals as goal
 

@@ -2,7 +2,7 @@ use Rattle.std.proofs.Common.{IfOk, sym, subst}
 use Rattle.setl_code.specs.declared.code.Instr.{Instr}
 use Rattle.setl_code.specs.Plain.{plain_instr}
 use Rattle.setl_store.specs.Standing.{variables}
-use Rattle.setl_storing.specs.Working.{Works}
+use Rattle.setl_machine_control.specs.Working.{Works}
 use Rattle.setl_machine.proofs.dispatch.do_alone.Goals as goal
 
 pub returns-in-Integer : goal.returns-in-Integer

@@ -3,9 +3,9 @@ use Rattle.setl_code.specs.declared.code.Instr.{Instr}
 use Rattle.setl_code.specs.declared.code.Instr.TheVariants.{Store}
 use Rattle.setl_code.specs.Plain.{plain_instr}
 use Rattle.setl_store.specs.Standing.{variables}
-use Rattle.setl_storing.specs.Declaring.{modes_of}
-use Rattle.setl_storing.specs.Working.{DoesBy}
-use Rattle.setl_storing.specs.Laws.{works_alone_by}
+use Rattle.setl_machine_control.specs.Declaring.{modes_of}
+use Rattle.setl_machine_control.specs.Working.{DoesBy}
+use Rattle.setl_machine_control.specs.Laws.{works_alone_by}
 use Rattle.setl_machine.proofs.Working.{does_untested}
 use Rattle.setl_machine.proofs.dispatch.do_quiet.Goals as goal
 

@@ -1,6 +1,6 @@
 use Rattle.std.proofs.Common.{◌≡◌, Some, subst, rules}
 use Rattle.setl_value.specs.declared.Value.TheVariants.{Tuple}
-use Rattle.setl_storing.specs.Working.{PopsTop}
+use Rattle.setl_machine_control.specs.Working.{PopsTop}
 use Rattle.setl_machine.proofs.Components.{apart_goes}
 use Rattle.setl_machine.proofs.iterating.take_apart.Goals as goal
 

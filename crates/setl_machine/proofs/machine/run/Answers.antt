@@ -1,7 +1,7 @@
 use Rattle.std.proofs.Common.{◌≡◌, ◌∙◌, ◌+◌, refl, sym, ap, subst, arith}
 use Rattle.setl_code.specs.Plain.{plain_code}
-use Rattle.setl_storing.specs.Declaring.{modes_of, Serves}
-use Rattle.setl_storing.specs.declared.end.End.TheVariants.{Paused}
+use Rattle.setl_machine_control.specs.Declaring.{modes_of, Serves}
+use Rattle.setl_machine_control.specs.declared.end.End.TheVariants.{Paused}
 use Rattle.setl_machine.proofs.Rounds.{moment, Runs, runs_on, runs_longer, takes_then, honest_then}
 use Rattle.setl_machine.proofs.machine.run.Goals as goal
 

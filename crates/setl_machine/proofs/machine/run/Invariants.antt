@@ -1,8 +1,8 @@
 use Rattle.std.proofs.Common.{◌≡◌, ◌-◌, ◌≤◌, None}
 use Rattle.setl_code.specs.Plain.{plain_code}
 use Rattle.setl_text.specs.code.Reads.{StaysHonest, TakesOff}
-use Rattle.setl_storing.specs.Declaring.{modes_of}
-use Rattle.setl_storing.specs.declared.end.End.TheVariants.{Paused}
+use Rattle.setl_machine_control.specs.Declaring.{modes_of}
+use Rattle.setl_machine_control.specs.declared.end.End.TheVariants.{Paused}
 use Rattle.setl_machine.proofs.Rounds.{moment, Runs}
 use Rattle.setl_machine.proofs.machine.run.Given as goal
 

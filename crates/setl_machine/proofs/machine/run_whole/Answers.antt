@@ -1,7 +1,7 @@
 use Rattle.std.proofs.Common.{◌≡◌, ◌∙◌, ◌+◌, ◌*◌, refl, sym, ap, subst, arith}
 use Rattle.setl_code.specs.Plain.{plain_code}
-use Rattle.setl_storing.specs.Declaring.{modes_of, Serves}
-use Rattle.setl_storing.specs.declared.end.End.TheVariants.{Paused, NoMemory}
+use Rattle.setl_machine_control.specs.Declaring.{modes_of, Serves}
+use Rattle.setl_machine_control.specs.declared.end.End.TheVariants.{Paused, NoMemory}
 use Rattle.setl_machine.proofs.Rounds.{moment, runs_then, runs_give_up, some_runs, takes_then, honest_then}
 use Rattle.setl_machine.proofs.machine.run_whole.Goals as goal
 

@@ -5,9 +5,9 @@ use Rattle.setl_code.specs.Machine.{fetch}
 use Rattle.setl_code.specs.Plain.{plain_code, plain_instr}
 use Rattle.setl_store.specs.Standing.{variables}
 use Rattle.setl_text.specs.code.Reads.{ReaderState, ahead}
-use Rattle.setl_storing.specs.Control.{world_of, stood_for, IsRest}
-use Rattle.setl_storing.specs.Declaring.{modes_of}
-use Rattle.setl_storing.specs.Answers.{next_of}
+use Rattle.setl_machine_control.specs.Control.{world_of, stood_for, IsRest}
+use Rattle.setl_machine_control.specs.Declaring.{modes_of}
+use Rattle.setl_machine_control.specs.Answers.{next_of}
 use Rattle.setl_machine.specs.Outcome.{seen}
 use Rattle.setl_machine.proofs.Stays.{takes_none}
 use Rattle.setl_machine.proofs.Stepping.{in_hand, by_step, quiet_steps, quiet_no_write, quiet_no_read, stays_honest}

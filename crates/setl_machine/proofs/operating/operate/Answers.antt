@@ -3,7 +3,7 @@ use Rattle.std.proofs.lemmas.Result.{IfOk-weaker}
 use Rattle.setl_code.specs.Code.{Operate}
 use Rattle.setl_value.specs.code.DatumOf.{datum}
 use Rattle.setl_machine.specs.Operating.{PutsForTwo}
-use Rattle.setl_storing.specs.Working.{Does}
+use Rattle.setl_machine_control.specs.Working.{Does}
 use Rattle.setl_machine.proofs.Operated.{two_on_top, operated_freely}
 use Rattle.setl_machine.proofs.operating.operate.Goals as goal
 

@@ -6,7 +6,7 @@ use Rattle.setl_map.specs.code.Answers.{Tells}
 use Rattle.setl_map.specs.Operators.{op_of}
 use Rattle.setl_map.specs.Outcome.{Gives}
 use Rattle.setl_machine.specs.Operating.{PutsForOne}
-use Rattle.setl_storing.specs.Working.{Does}
+use Rattle.setl_machine_control.specs.Working.{Does}
 use Rattle.setl_machine.proofs.Operated.{operated_one, one_not, plain_on_top}
 use Rattle.setl_machine.proofs.operating.operate_on_one.Goals as goal
 

@@ -6,7 +6,7 @@ use Rattle.setl_map.specs.code.Answers.{Tells}
 use Rattle.setl_map.specs.Operators.{op_of}
 use Rattle.setl_map.specs.Outcome.{Gives}
 use Rattle.setl_machine.specs.Operating.{PutsForTwo}
-use Rattle.setl_storing.specs.Working.{Does}
+use Rattle.setl_machine_control.specs.Working.{Does}
 use Rattle.setl_machine.proofs.Operated.{operated_two, two_not, two_there}
 use Rattle.setl_machine.proofs.operating.operate_on_two.Goals as goal
 

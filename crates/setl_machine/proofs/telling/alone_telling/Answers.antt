@@ -1,8 +1,8 @@
 use Rattle.std.proofs.Common.{◌∙◌, sym, subst, refl, Ok, Err}
 use Rattle.setl_code.specs.Plain.{plain_code, plain_instr}
 use Rattle.setl_store.specs.Standing.{variables}
-use Rattle.setl_storing.specs.Control.{stood_for}
-use Rattle.setl_storing.specs.Declaring.{modes_of}
+use Rattle.setl_machine_control.specs.Control.{stood_for}
+use Rattle.setl_machine_control.specs.Declaring.{modes_of}
 use Rattle.setl_machine.specs.Hearing.{Tells}
 use Rattle.setl_machine.proofs.Told.{telling_on, telling_ends}
 use Rattle.setl_machine.proofs.telling.alone_telling.Goals as goal

@@ -3,11 +3,11 @@ use Rattle.std.specs.Prelude.{cond}
 use Rattle.setl_code.specs.Code.{Alter}
 use Rattle.setl_code.specs.Plain.{plain_slot, plain_bracket, plain_alteration}
 use Rattle.setl_store.specs.Standing.{variables}
-use Rattle.setl_telling.specs.Told.{store_told}
+use Rattle.setl_code_events.specs.Told.{store_told}
 use Rattle.setl_watch.specs.Notices.{noticed}
 use Rattle.setl_watch.specs.code.NoticeOf.{notice_of}
-use Rattle.setl_storing.specs.Control.{stood_for}
-use Rattle.setl_storing.specs.Declaring.{modes_of}
+use Rattle.setl_machine_control.specs.Control.{stood_for}
+use Rattle.setl_machine_control.specs.Declaring.{modes_of}
 use Rattle.setl_machine.proofs.Told.{in_body, slot_stays, stayed_alter, tells_store, tells_alter, telling_on, telling_ends}
 use Rattle.setl_machine.proofs.telling.alter_telling.Goals as goal
 

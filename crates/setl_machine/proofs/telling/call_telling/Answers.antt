@@ -2,9 +2,9 @@ use Rattle.std.proofs.Common.{◌∙◌, map, Some, ap, refl, Ok, Err}
 use Rattle.std.specs.Prelude.{slice_get}
 use Rattle.setl_code.specs.Code.{CallBody}
 use Rattle.setl_code.specs.Plain.{plain_code}
-use Rattle.setl_telling.specs.Notes.{call_notices}
+use Rattle.setl_code_events.specs.Notes.{call_notices}
 use Rattle.setl_value.specs.code.DatumOf.{part}
-use Rattle.setl_storing.specs.Declaring.{modes_of}
+use Rattle.setl_machine_control.specs.Declaring.{modes_of}
 use Rattle.setl_machine.specs.Working.{TakesArguments}
 use Rattle.setl_machine.proofs.Entering.{begun}
 use Rattle.setl_machine.proofs.Told.{tells_call, telling_on, telling_ends}

@@ -2,11 +2,11 @@ use Rattle.std.proofs.Common.{◌∙◌, [], ◌∷◌, ℕ, Ok, ap, subst}
 use Rattle.setl_watch.specs.Notices.{Printed, without_last}
 use Rattle.setl_code.specs.Code.{PrintTop}
 use Rattle.setl_code.specs.Plain.{plain_code}
-use Rattle.setl_storing.specs.Control.{in_world}
-use Rattle.setl_storing.specs.Answers.{next_of}
+use Rattle.setl_machine_control.specs.Control.{in_world}
+use Rattle.setl_machine_control.specs.Answers.{next_of}
 use Rattle.setl_machine.specs.Outcome.{seen, Steps}
 use Rattle.setl_machine.specs.Working.{TakesLine, WritesLine}
-use Rattle.setl_storing.specs.declared.end.End.{End}
+use Rattle.setl_machine_control.specs.declared.end.End.{End}
 use Rattle.setl_machine.proofs.Printing.{writes, reads_none}
 use Rattle.setl_machine.proofs.Told.{tells_print}
 use Rattle.setl_machine.proofs.telling.print_telling.Goals as goal

@@ -3,7 +3,7 @@ use Rattle.setl_code.specs.declared.code.Instr.{Instr}
 use Rattle.setl_code.specs.Code.{Alter}
 use Rattle.setl_code.specs.Plain.{plain_instr, plain_slot, plain_bracket, plain_alteration}
 use Rattle.setl_store.specs.Standing.{variables}
-use Rattle.setl_storing.specs.Declaring.{modes_of}
+use Rattle.setl_machine_control.specs.Declaring.{modes_of}
 use Rattle.setl_machine.specs.Hearing.{DoesTelling}
 use Rattle.setl_machine.proofs.telling.quiet_telling.Goals as goal
 

@@ -2,8 +2,8 @@ use Rattle.std.proofs.Common.{Ok, Err, refl}
 use Rattle.setl_code.specs.Code.{StoreIn}
 use Rattle.setl_code.specs.Plain.{plain_slot}
 use Rattle.setl_store.specs.Standing.{variables}
-use Rattle.setl_storing.specs.Control.{world_of}
-use Rattle.setl_storing.specs.Declaring.{modes_of}
+use Rattle.setl_machine_control.specs.Control.{world_of}
+use Rattle.setl_machine_control.specs.Declaring.{modes_of}
 use Rattle.setl_machine.proofs.Told.{in_body, slot_stays, stayed_store, tells_store, telling_on, telling_ends}
 use Rattle.setl_machine.proofs.telling.store_telling.Goals as goal
 

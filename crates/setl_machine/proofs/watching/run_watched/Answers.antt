@@ -3,8 +3,8 @@ use Rattle.std.proofs.lemmas.Bool.{eqb-true}
 use Rattle.setl_code.specs.Plain.{plain_code}
 use Rattle.setl_watch.specs.code.NoticeOf.{notice_of}
 use Rattle.setl_watch.specs.Watches.{watched, told_each}
-use Rattle.setl_storing.specs.Declaring.{modes_of, Serves}
-use Rattle.setl_storing.specs.declared.end.End.TheVariants.{Paused}
+use Rattle.setl_machine_control.specs.Declaring.{modes_of, Serves}
+use Rattle.setl_machine_control.specs.declared.end.End.TheVariants.{Paused}
 use Rattle.setl_machine.proofs.Hearing.{heard_on, heard_then, heard_paused, heard_ended, heard_gives_up, some_heard, no_items}
 use Rattle.setl_machine.proofs.Rounds.{moment, runs_one, takes_then, honest_then}
 use Rattle.setl_machine.proofs.watching.run_watched.Goals as goal

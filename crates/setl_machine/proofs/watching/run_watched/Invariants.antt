@@ -2,8 +2,8 @@ use Rattle.std.proofs.Common.{◌≡◌, None, map}
 use Rattle.setl_code.specs.Plain.{plain_code}
 use Rattle.setl_text.specs.code.Reads.{StaysHonest, TakesOff}
 use Rattle.setl_watch.specs.Watches.{watched}
-use Rattle.setl_storing.specs.Declaring.{modes_of}
-use Rattle.setl_storing.specs.declared.end.End.TheVariants.{Paused}
+use Rattle.setl_machine_control.specs.Declaring.{modes_of}
+use Rattle.setl_machine_control.specs.declared.end.End.TheVariants.{Paused}
 use Rattle.setl_machine.proofs.Hearing.{Heard}
 use Rattle.setl_machine.proofs.Rounds.{moment}
 use Rattle.setl_machine.proofs.watching.run_watched.Given as goal

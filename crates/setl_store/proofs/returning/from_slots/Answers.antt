@@ -5,7 +5,7 @@ use Rattle.std.specs.Option.{option_map}
 use Rattle.setl_value.specs.code.DatumOf.{part}
 use Rattle.setl_value.specs.declared.Value.{Value}
 use Rattle.setl_code.specs.CodeCore as core
-use Rattle.setl_cells.specs.Handed as cells
+use Rattle.setl_store_slots.specs.Handed as cells
 use Rattle.setl_store.specs.Flat.{helds}
 use Rattle.setl_store.specs.Returning.{handed, pushed_on}
 use Rattle.setl_store.proofs.Leaving.{handed_slots}

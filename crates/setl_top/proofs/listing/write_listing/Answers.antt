@@ -1,4 +1,4 @@
-use Rattle.setl_status.specs.code.Writes.{no_text}
+use Rattle.setl_top_status.specs.code.Writes.{no_text}
 use Rattle.std.proofs.Common.{refl}
 use Rattle.setl_top.proofs.listing.write_listing.Goals as goal
 

@@ -1,7 +1,7 @@
 use Rattle.std.proofs.Common.{ap, subst, map}
 use Rattle.setl_code.specs.Plain.{plain_code}
-use Rattle.setl_storing.specs.Control.{ControlState}
-use Rattle.setl_storing.specs.Declaring.{modes_of}
+use Rattle.setl_machine_control.specs.Control.{ControlState}
+use Rattle.setl_machine_control.specs.Declaring.{modes_of}
 use Rattle.setl_top.specs.code.CodeRuns.{RunsCode}
 use Rattle.setl_top.specs.code.Runs.{streams}
 use Rattle.setl_watch.specs.Watches.{watched}

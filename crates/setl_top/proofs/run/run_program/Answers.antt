@@ -1,10 +1,10 @@
 use Rattle.std.proofs.Common.{subst, sym}
 use Rattle.setl_code.specs.Plain.{plain_code}
-use Rattle.setl_storing.specs.Declaring.{AreOfMain}
+use Rattle.setl_machine_control.specs.Declaring.{AreOfMain}
 use Rattle.setl_program.specs.Formed.{Formed}
 use Rattle.setl_program.specs.Placed.{Placed}
 use Rattle.setl_program.specs.code.Plain.{plain_program}
-use Rattle.setl_words.specs.code.Commands.{options_now}
+use Rattle.setl_top_words.specs.code.Commands.{options_now}
 use Rattle.setl_top.proofs.Declaring.{counted_of_main, code_is_bare}
 use Rattle.setl_top.proofs.Reaching.{CodeLaws}
 use Rattle.setl_top.proofs.Running.{all_runs, all_takes, runs_by}

@@ -1,7 +1,7 @@
 use Rattle.std.proofs.Common.{◌++◌, ◌∷◌, [], codes}
-use Rattle.setl_status.specs.code.Tells.{no_memory}
+use Rattle.setl_top_status.specs.code.Tells.{no_memory}
 use Rattle.setl_top.proofs.Asked.{line_told}
-use Rattle.setl_status.specs.FrontLaws.{front_alone}
+use Rattle.setl_top_status.specs.FrontLaws.{front_alone}
 use Rattle.setl_top.proofs.tell.tell_faulty.Goals as goal
 
 pub returns-in-Err : goal.returns-in-Err

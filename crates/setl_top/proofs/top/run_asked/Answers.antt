@@ -1,9 +1,9 @@
 use Rattle.std.proofs.Common.{◌≡◌, ◌∙◌, true, map, refl, sym, arith, true≢false}
-use Rattle.setl_words.specs.code.Commands.{options_now}
-use Rattle.setl_words.specs.Words.{Run}
+use Rattle.setl_top_words.specs.code.Commands.{options_now}
+use Rattle.setl_top_words.specs.Words.{Run}
 use Rattle.setl_top.specs.Watching.{IsThere}
 use Rattle.setl_top.proofs.Ends.{no_watcher_ends}
-use Rattle.setl_status.specs.FrontLaws.{appends_none}
+use Rattle.setl_top_status.specs.FrontLaws.{appends_none}
 use Rattle.setl_top.proofs.top.run_asked.Goals as goal
 
 pub returns-then-not-keep_asked-clause-headline : goal.returns-then-not-keep_asked-clause-headline

@@ -1,14 +1,14 @@
 use Rattle.std.proofs.Common.{◌≡◌, ◌∙◌, arith, map, refl, ap}
 use Rattle.setl_program.specs.code.Plain.{plain_program, plain_declared}
 use Rattle.setl_watch.specs.Watches.{watched}
-use Rattle.setl_words.specs.code.Commands.{options_now}
-use Rattle.setl_words.specs.Words.{Run}
+use Rattle.setl_top_words.specs.code.Commands.{options_now}
+use Rattle.setl_top_words.specs.Words.{Run}
 use Rattle.setl_top.specs.Headline.{untouched}
 use Rattle.setl_program.specs.ProgramOf.{program_of}
 use Rattle.setl_top.specs.code.Runs.{Runs, TakesInput, counted}
 use Rattle.setl_top.proofs.Accepting.{is_accepted}
 use Rattle.setl_top.proofs.Ends.{not_loaded, run_ends, run_takes, tells_then}
-use Rattle.setl_status.specs.FrontLaws.{appends_none}
+use Rattle.setl_top_status.specs.FrontLaws.{appends_none}
 use Rattle.setl_top.proofs.Running.{runs_or, runs_as, takes_as, not_paused, not_at_stuck, heard_from}
 use Rattle.setl_top.proofs.top.run_file.Goals as goal
 

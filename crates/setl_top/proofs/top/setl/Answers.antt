@@ -3,7 +3,7 @@ use Rattle.setl_top.specs.Headline.{untouched}
 use Rattle.setl_top.proofs.Ends.{faulty_ends, check_ends, list_ends, rest_same}
 use Rattle.setl_top.proofs.Asked.{turns_asked}
 use Rattle.setl_top.proofs.Trying.{trial_ends}
-use Rattle.setl_status.specs.FrontLaws.{appends_none}
+use Rattle.setl_top_status.specs.FrontLaws.{appends_none}
 use Rattle.setl_top.proofs.top.setl.Goals as goal
 
 pub run_asked-requires : goal.run_asked-requires

@@ -1,5 +1,5 @@
 use Rattle.std.proofs.Common.{refl}
-use Rattle.setl_status.specs.code.Writes.{no_text}
+use Rattle.setl_top_status.specs.code.Writes.{no_text}
 use Rattle.setl_top.proofs.trial.write_trial.Goals as goal
 
 pub returns-in_default : goal.returns-in_default

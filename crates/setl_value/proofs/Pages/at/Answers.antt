@@ -1,8 +1,8 @@
 use Rattle.std.proofs.Common.{arith, ◌≡◌, ◌<◌, ◌∙◌, ap, sym, subst, map, length, slice_get, Some}
-use Rattle.setl_pages.specs.ListLaws.{item_there}
+use Rattle.setl_value_pages.specs.ListLaws.{item_there}
 use Rattle.setl_value.proofs.Bodies.{set_at}
-use Rattle.setl_pages.specs.PageLaws.{item_of}
-use Rattle.setl_pages.specs.Pages.{joined, page_at, rank_in}
+use Rattle.setl_value_pages.specs.PageLaws.{item_of}
+use Rattle.setl_value_pages.specs.Pages.{joined, page_at, rank_in}
 use Rattle.setl_value.specs.code.Body.{Members}
 use Rattle.setl_value.specs.code.DatumOf.{datum, page}
 use Rattle.setl_value.specs.WellFormed.{IsSetList}

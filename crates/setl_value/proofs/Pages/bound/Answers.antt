@@ -1,5 +1,5 @@
 use Rattle.std.proofs.Common.{arith, ap, ◌∙◌, sym, length, subst, map}
-use Rattle.setl_pages.specs.Pages.{IsIn, joined, page_at, rank_in}
+use Rattle.setl_value_pages.specs.Pages.{IsIn, joined, page_at, rank_in}
 use Rattle.setl_value.specs.code.Body.{Members}
 use Rattle.setl_value.specs.code.DatumOf.{datum, page}
 use Rattle.setl_value.specs.Order.{IsRising}

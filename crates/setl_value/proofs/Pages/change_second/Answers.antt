@@ -1,6 +1,6 @@
 use Rattle.std.proofs.Common.{◌≡◌, ap, sym, subst, ◌∙◌, arith, map, Some, slice_get, slice_set}
 use Rattle.std.specs.Prelude.{◌<◌, length, IfNone, IfSome, unwrap_or, None}
-use Rattle.setl_pages.specs.Pages.{items, joined, page_at, rank_in}
+use Rattle.setl_value_pages.specs.Pages.{items, joined, page_at, rank_in}
 use Rattle.setl_value.specs.code.Body.{Members}
 use Rattle.setl_value.specs.code.Changing.{ChangesPair, with_member}
 use Rattle.setl_value.specs.code.Counted.{IsCounted}

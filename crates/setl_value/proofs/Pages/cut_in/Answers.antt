@@ -3,8 +3,8 @@ use Rattle.std.specs.List.{remove}
 use Rattle.setl_value.proofs.Counting.{cut_joined, cut_counted}
 use Rattle.setl_value.proofs.Depths.{set_without}
 use Rattle.setl_value.proofs.Others.{count_remove}
-use Rattle.setl_pages.specs.PageLaws.{item_of}
-use Rattle.setl_pages.specs.Pages.{joined, page_at, rank_in}
+use Rattle.setl_value_pages.specs.PageLaws.{item_of}
+use Rattle.setl_value_pages.specs.Pages.{joined, page_at, rank_in}
 use Rattle.setl_value.specs.code.Body.{Members}
 use Rattle.setl_value.specs.code.Counted.{IsCounted}
 use Rattle.setl_value.specs.Datum.{depth, set_of}

@@ -1,6 +1,6 @@
 use Rattle.std.proofs.Common.{ap, ◌∙◌, ◌==◌, map}
 use Rattle.setl_value.proofs.Others.{none_counted}
-use Rattle.setl_pages.specs.Pages.{joined}
+use Rattle.setl_value_pages.specs.Pages.{joined}
 use Rattle.setl_value.specs.code.Body.{Members}
 use Rattle.setl_value.specs.code.DatumOf.{page}
 use Rattle.setl_value.specs.Pairs.{is_map}

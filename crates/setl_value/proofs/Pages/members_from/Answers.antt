@@ -1,5 +1,5 @@
 use Rattle.std.proofs.Common.{ap, ◌∙◌, map, drop}
-use Rattle.setl_pages.specs.Pages.{joined, rank_in}
+use Rattle.setl_value_pages.specs.Pages.{joined, rank_in}
 use Rattle.setl_value.specs.code.Body.{Members}
 use Rattle.setl_value.specs.code.DatumOf.{page}
 use Rattle.setl_value.specs.code.Places.{rank}

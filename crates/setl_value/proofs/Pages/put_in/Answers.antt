@@ -3,9 +3,9 @@ use Rattle.std.specs.Prelude.{is_some}
 use Rattle.std.specs.List.{insert}
 use Rattle.setl_value.proofs.Counting.{put_joined, put_counted}
 use Rattle.setl_value.proofs.Others.{counted_at_most_length, at_most_one}
-use Rattle.setl_pages.specs.Pages.{joined}
+use Rattle.setl_value_pages.specs.Pages.{joined}
 use Rattle.setl_value.specs.code.Body.{Members}
-use Rattle.setl_pages.specs.Exchange.{page_sizes, put_size}
+use Rattle.setl_value_pages.specs.Exchange.{page_sizes, put_size}
 use Rattle.setl_value.specs.code.Counted.{IsCounted}
 use Rattle.setl_value.specs.Datum.{depth, set_of}
 use Rattle.setl_value.specs.code.DatumOf.{datum, page}

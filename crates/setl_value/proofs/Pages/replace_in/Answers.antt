@@ -1,11 +1,11 @@
 use Rattle.std.proofs.Common.{arith, ◌≡◌, ◌≤◌, ◌-◌, ◌+◌, ap, ◌∙◌, sym, subst, map, length, take, drop}
 use Rattle.std.specs.List.{AllByRecursion}
 use Rattle.std.proofs.lemmas.List.{length-map}
-use Rattle.setl_pages.specs.ListLaws.{replaced}
+use Rattle.setl_value_pages.specs.ListLaws.{replaced}
 use Rattle.setl_value.proofs.Bodies.{depth_replaced}
 use Rattle.setl_value.proofs.Counting.{part_counted, gone_few, gone_shallow, others_fit, depth_left}
-use Rattle.setl_pages.specs.PageLaws.{exchanged_between}
-use Rattle.setl_pages.specs.Pages.{IsIn, joined, page_at, rank_in}
+use Rattle.setl_value_pages.specs.PageLaws.{exchanged_between}
+use Rattle.setl_value_pages.specs.Pages.{IsIn, joined, page_at, rank_in}
 use Rattle.setl_value.specs.code.Body.{Members}
 use Rattle.setl_value.specs.code.Counted.{IsCounted}
 use Rattle.setl_value.specs.Datum.{depth, set_of}

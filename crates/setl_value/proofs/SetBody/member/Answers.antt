@@ -2,7 +2,7 @@ use Rattle.std.proofs.Common.{ap, ◌∙◌, sym, drop}
 use Rattle.setl_value.specs.code.Body.{Members}
 use Rattle.setl_value.specs.code.DatumOf.{datum}
 use Rattle.setl_value.specs.code.Places.{rank}
-use Rattle.setl_pages.specs.ListLaws.{front_of, nothing_of}
+use Rattle.setl_value_pages.specs.ListLaws.{front_of, nothing_of}
 use Rattle.setl_value.proofs.SetBody.member.Goals as goal
 
 pub returns-in-Some : goal.returns-in-Some

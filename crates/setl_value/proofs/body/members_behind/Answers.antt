@@ -2,10 +2,10 @@ use Rattle.std.proofs.Common.{◌≡◌, ◌+◌, arith, ap, ◌∙◌, sym, sub
 use Rattle.std.specs.Prelude.{suc}
 use Rattle.std.specs.List.{AllByRecursion}
 use Rattle.std.proofs.lemmas.List.{drop-map}
-use Rattle.setl_pages.specs.Pages.{IsPage, items, joined, page_at}
+use Rattle.setl_value_pages.specs.Pages.{IsPage, items, joined, page_at}
 use Rattle.setl_value.specs.code.DatumOf.{datum, page}
-use Rattle.setl_pages.specs.ListLaws.{all_drop}
-use Rattle.setl_pages.specs.PageLaws.{dropped}
+use Rattle.setl_value_pages.specs.ListLaws.{all_drop}
+use Rattle.setl_value_pages.specs.PageLaws.{dropped}
 use Rattle.setl_value.proofs.PagesOfData.{page_data, size_data}
 use Rattle.setl_value.proofs.body.members_behind.Goals as goal
 

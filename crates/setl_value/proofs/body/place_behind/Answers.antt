@@ -1,8 +1,8 @@
 use Rattle.std.proofs.Common.{◌≡◌, ◌≤◌, ◌<◌, ◌+◌, ◌⊎◌, ℕ, arith, ap, map, length, inl, inr, take}
 use Rattle.std.specs.Prelude.{suc}
-use Rattle.setl_pages.specs.Pages.{joined}
+use Rattle.setl_value_pages.specs.Pages.{joined}
 use Rattle.setl_value.specs.code.DatumOf.{page}
-use Rattle.setl_pages.specs.PageLaws.{page_there, stepped}
+use Rattle.setl_value_pages.specs.PageLaws.{page_there, stepped}
 use Rattle.setl_value.proofs.PagesOfData.{size_data}
 use Rattle.setl_value.proofs.body.place_behind.Goals as goal
 

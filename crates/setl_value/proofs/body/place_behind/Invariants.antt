@@ -1,6 +1,6 @@
 use Rattle.std.proofs.Common.{◌≡◌, ◌<◌, ◌≤◌, ◌+◌, ◌-◌, ◌⊎◌, map, length}
 use Rattle.setl_value.specs.code.DatumOf.{page}
-use Rattle.setl_pages.specs.Pages.{rank_in}
+use Rattle.setl_value_pages.specs.Pages.{rank_in}
 use Rattle.setl_value.proofs.body.place_behind.Given as goal
 
 abbrev pub invariant-loop-index : goal.invariant-loop-index

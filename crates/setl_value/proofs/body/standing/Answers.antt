@@ -2,8 +2,8 @@ use Rattle.std.proofs.Common.{◌+◌, arith, ap, ◌∙◌, map}
 use Rattle.std.specs.Prelude.{suc}
 use Rattle.std.proofs.lemmas.List.{length-map}
 use Rattle.setl_value.specs.code.DatumOf.{page}
-use Rattle.setl_pages.specs.Pages.{rank_in}
-use Rattle.setl_pages.specs.PageLaws.{page_there, stood}
+use Rattle.setl_value_pages.specs.Pages.{rank_in}
+use Rattle.setl_value_pages.specs.PageLaws.{page_there, stood}
 use Rattle.setl_value.proofs.PagesOfData.{size_data}
 use Rattle.setl_value.proofs.body.standing.Goals as goal
 

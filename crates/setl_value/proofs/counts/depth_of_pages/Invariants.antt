@@ -1,5 +1,5 @@
 use Rattle.std.specs.Prelude.{◌≡◌, ◌≤◌, length, map, max}
-use Rattle.setl_pages.specs.Pages.{joined}
+use Rattle.setl_value_pages.specs.Pages.{joined}
 use Rattle.setl_value.specs.Datum.{depth, set_of}
 use Rattle.setl_value.specs.code.DatumOf.{page}
 use Rattle.setl_value.proofs.counts.depth_of_pages.Given as goal

@@ -4,7 +4,7 @@ use Rattle.std.proofs.lemmas.List.{length-map}
 use Rattle.std.proofs.lemmas.Option.{slice_get-map}
 use Rattle.setl_value.specs.code.DatumOf.{datum}
 use Rattle.setl_value.specs.code.Sought.{sought}
-use Rattle.setl_pages.specs.ListLaws.{item_there}
+use Rattle.setl_value_pages.specs.ListLaws.{item_there}
 use Rattle.setl_value.proofs.Halving.{raised, lowered}
 use Rattle.setl_value.proofs.places.bound_in.Goals as goal
 

@@ -2,7 +2,7 @@ use Rattle.std.proofs.Common.{◌≡◌, ◌∙◌, sym, arith, map, ◌+◌, �
 use Rattle.std.proofs.lemmas.List.{length-map}
 use Rattle.setl_value.specs.code.DatumOf.{datum, page}
 use Rattle.setl_value.specs.code.Sought.{sought}
-use Rattle.setl_pages.specs.PageLaws.{page_there}
+use Rattle.setl_value_pages.specs.PageLaws.{page_there}
 use Rattle.setl_value.proofs.PageSearch.{page_raised, page_lowered, one_between}
 use Rattle.setl_value.proofs.PagesOfData.{item_data, were_pages}
 use Rattle.setl_value.proofs.places.page_in.Goals as goal

@@ -1,5 +1,5 @@
 use Rattle.std.proofs.Common.{◌≡◌, ◌<◌, ◌≤◌, ◌-◌, ◌⊎◌, map, length}
-use Rattle.setl_pages.specs.Pages.{joined, rank_in}
+use Rattle.setl_value_pages.specs.Pages.{joined, rank_in}
 use Rattle.setl_value.specs.code.DatumOf.{page}
 use Rattle.setl_value.specs.code.Places.{IsBetween}
 use Rattle.setl_value.specs.code.Sought.{sought}

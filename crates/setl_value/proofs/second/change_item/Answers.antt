@@ -1,7 +1,7 @@
 use Rattle.std.proofs.Common.{refl}
 use Rattle.std.proofs.lemmas.Option.{IfSome_then}
 use Rattle.std.proofs.lemmas.Result.{IfOk-weaker}
-use Rattle.setl_pages.specs.ListLaws.{item_there}
+use Rattle.setl_value_pages.specs.ListLaws.{item_there}
 use Rattle.setl_value.proofs.Changing.{none_then}
 use Rattle.setl_value.proofs.second.change_item.Goals as goal
 

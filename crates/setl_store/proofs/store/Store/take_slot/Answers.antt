@@ -1,7 +1,7 @@
 use Rattle.std.proofs.Common.{◌∙◌, ◌<◌, length, sym, subst, refl}
 use Rattle.setl_value.specs.code.DatumOf.{part}
 use Rattle.setl_code.specs.CodeCore.{There, Gone}
-use Rattle.setl_cells.specs.declared.cells.Held.TheVariants as held
+use Rattle.setl_store_slots.specs.declared.cells.Held.TheVariants as held
 use Rattle.setl_store.specs.Operands.{IsThere}
 use Rattle.setl_store.proofs.Slots.{place_within, slot_at, slot_again, slot_stored}
 use Rattle.setl_store.proofs.store.Store.take_slot.Goals as goal

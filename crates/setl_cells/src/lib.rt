@@ -1,9 +1,0 @@
-//! What a slot holds, and what a return hands back of the slots of its parameters.
-#![tactic(auto)]
-
-mod cells;
-mod handing;
-
-pub use cells::Held;
-pub use handing::handed_back;
-pub use setl_environment::Memory;

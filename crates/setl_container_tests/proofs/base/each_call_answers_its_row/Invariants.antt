@@ -1,8 +1,0 @@
-use Rattle.std.proofs.Common.{◌≡◌, ◌≤◌, length}
-use Rattle.setl_container_tests.proofs.base.each_call_answers_its_row.Given as goal
-
-abbrev pub invariant-loop-row : goal.invariant-loop-row
-invariant-loop-row g l = record {
-  cuts : l.b.cuts ≤ l.row-index;
-  few : length l.row-items ≡ 16;
-}

@@ -1,5 +1,0 @@
-use Rattle.setl_cursor.proofs.Undoubled.{holds_body}
-use Rattle.setl_cursor.proofs.laws.string_holds_its_body.Goals as goal
-
-pub returns : goal.returns
-returns c = holds_body

@@ -1,7 +1,0 @@
-use Rattle.std.proofs.Common.{◌≡◌, drop}
-use Rattle.setl_names.specs.Names.{with_names}
-use Rattle.setl_declarations.specs.code.Taken.{names_of_all, variable_names}
-use Rattle.setl_declarations.proofs.taken.variable_names.Given as goal
-
-abbrev pub invariant-loop-body : goal.invariant-loop-body
-invariant-loop-body l = with_names l.names (names_of_all (drop l.body-index l.bodies)) ≡ variable_names l.vars l.bodies

@@ -1,6 +1,0 @@
-use Rattle.setl_emitter.specs.Emitted.{held}
-use Rattle.setl_emitter.proofs.Stores.{nothing_set}
-use Rattle.setl_emitter.proofs.binds.store_argument.Goals as goal
-
-pub returns-in-Rd : goal.returns-in-Rd
-returns-in-Rd c = nothing_set c.args.line c.args.x.now c.in-Rd.field-0 (held c.args.to.now) c.in-Rd.is

@@ -1,4 +1,0 @@
-use Rattle.setl_expressions.proofs.parse.+nested.Given as goal
-
-abbrev pub decreases-nested : goal.decreases-nested
-decreases-nested l = l.room

@@ -1,5 +1,0 @@
-use Rattle.setl_fit.proofs.Decided.{neighbours_decide}
-use Rattle.setl_fit.proofs.neighbours_decide.Goals as goal
-
-pub returns : goal.returns
-returns c = neighbours_decide

@@ -1,8 +1,0 @@
-use Rattle.std.proofs.Common.{◌≡◌, drop, map}
-use Rattle.setl_value.specs.code.DatumOf.{part}
-use Rattle.setl_map.specs.Outcome.{all_values}
-use Rattle.setl_iterator.specs.Operands.{fault_of}
-use Rattle.setl_iterator.proofs.sources.unfit.Given as goal
-
-abbrev pub invariant-loop-source : goal.invariant-loop-source
-invariant-loop-source l = fault_of (all_values (map part (drop l.source-index l.sources))) ≡ fault_of (all_values (map part l.sources))

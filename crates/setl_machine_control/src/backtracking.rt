@@ -1,0 +1,40 @@
+//! `ok` and `fail`.
+
+ghost use Rattle.std.specs.Prelude.{◌≡◌, ℕ, ◌<◌, ◌+◌, ◌^◌, IfOk, IsOk};
+ghost use Rattle.setl_code.specs.Code.{KeepAll, GoBack};
+ghost use Rattle.setl_machine_control.specs.Working.{Works, Does};
+
+use crate::control::Control;
+use crate::end::{End, StopKind};
+use setl_store::Store;
+use setl_store_environment::Memory;
+
+/// `ok`: keeps all that `fail` brings back. The error is want of memory.
+#[inline(never)]
+pub fn keep(store: &mut Store<'_>) -> Result<End, Memory>
+    requires { store.old.core.now.at + 1 < 2 ^ 64 }
+    ensures { (line : ℕ) → IfOk result (λ end. Works store.old line KeepAll store.new end) }
+{
+    store.keep()?;
+    Ok(End::Paused)
+}
+
+/// `fail`: takes one turn and brings back what was kept last; where nothing is, the run stops at this line. No error comes.
+#[inline(never)]
+pub fn back(line: u32, store: &mut Store<'_>, control: &mut Control) -> Result<End, Memory>
+    ensures did { IfOk result (λ end. Does store.old control.old line GoBack store.new control.new end) }
+    ensures reader { control.new.reader ≡ control.old.reader }
+    ensures sure { IsOk result }
+{
+    if !store.is_kept() {
+        return Ok(End::Stopped(StopKind::Nothing, line));
+    }
+    if !control.turn() {
+        return Ok(End::Spent);
+    }
+    if store.back() {
+        Ok(End::Paused)
+    } else {
+        Ok(End::Stuck)
+    }
+}

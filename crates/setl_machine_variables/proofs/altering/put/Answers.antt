@@ -1,0 +1,45 @@
+use Rattle.std.proofs.Common.{subst, Some}
+use Rattle.std.proofs.lemmas.Result.{IfOk-weaker}
+use Rattle.setl_value.specs.code.DatumOf.{part}
+use Rattle.setl_model.specs.Places.{with_part_at_all}
+use Rattle.setl_code.specs.Code.{Putting}
+use Rattle.setl_code.specs.Plain.{plain_slot}
+use Rattle.setl_store.specs.Standing.{variables}
+use Rattle.setl_machine_updates.specs.Selectors.{selected}
+use Rattle.std.specs.Prelude.{map, option_map}
+use Rattle.setl_machine_updates.specs.Updates.{Updates}
+use Rattle.setl_machine_control.specs.Settling.{EndsUpdate}
+use Rattle.setl_machine_variables.specs.Altered.{Alters, TakesHeld}
+use Rattle.setl_machine_control.specs.Declaring.{Keeps}
+use Rattle.setl_machine_control.specs.Working.{PopsTop}
+use Rattle.setl_machine_variables.proofs.Altered.{changed, held_slot, declared_here}
+use Rattle.setl_machine_variables.proofs.altering.put.Goals as goal
+
+pub end_update-requires-clause-there : goal.end_update-requires-clause-there
+end_update-requires-clause-there c =
+    let old = c.args.store.now in
+    let mid = c.pop_top.new.store in
+    let pops : PopsTop old (Some c.in-Some.value) mid = rw c.in-Some.is at c.in_ok-value.ensures in
+    let takes : TakesHeld (plain_slot (variables mid.core) c.args.target.slot) mid (Some c.in-Some-2.whole) c.take_held.new.store = rw c.in-Some-2.is at c.in_ok-whole.ensures in
+    held_slot old mid c.take_held.new.store c.args.target.slot c.in-Some.value c.in-Some-2.whole pops takes c.requires.there
+
+pub returns-clause-did : goal.returns-clause-did
+returns-clause-did c = λ modes declared.
+    let old = c.args.store.now in
+    let mid = c.pop_top.new.store in
+    let gone = c.take_held.new.store in
+    let new = c.end_update.new.store in
+    let from = c.args.control.now in
+    let to = c.end_update.new.control in
+    let at = map selected c.args.at.now in
+    let pops : PopsTop old (Some c.in-Some.value) mid = rw c.in-Some.is at c.in_ok-value.ensures in
+    let takes : TakesHeld (plain_slot (variables mid.core) c.args.target.slot) mid (Some c.in-Some-2.whole) gone = rw c.in-Some-2.is at c.in_ok-whole.ensures in
+    let whole = c.put_at-left.new.whole in
+    let told : Updates (with_part_at_all at (part c.in-Some-2.whole) (part c.in-Some.value) c.turns.result) c.turns.result (part whole) c.put_at-left.result = c.put_at-left.ensures.updated in
+    let updated : Updates (with_part_at_all at (part c.in-Some-2.whole) (part c.in-Some.value) from.turns) from.turns (part whole) c.put_at-left.result = subst (λ n. Updates (with_part_at_all at (part c.in-Some-2.whole) (part c.in-Some.value) n) n (part whole) c.put_at-left.result) c.turns.ensures told in
+    let keeps : Keeps modes (plain_slot (variables old.core) c.args.target.slot) (part c.in-Some-2.whole) (option_map part c.in_ok-kept.kept) = c.in_ok-kept.ensures modes (plain_slot (variables old.core) c.args.target.slot) declared in
+    IfOk-weaker c.end_update.result
+    (λ e. EndsUpdate modes c.put_at-left.result c.args.line (plain_slot (variables gone.core) c.args.target.slot) (part whole) (option_map part c.in_ok-kept.kept) gone from new to e)
+    (λ e. Alters modes old from c.args.line Putting (plain_slot (variables old.core) c.args.target.slot) at new to e)
+    (λ e f. changed modes old mid gone new from to c.args.line c.args.target.slot (λ w v left. with_part_at_all at w v left) c.in-Some.value c.in-Some-2.whole whole (option_map part c.in_ok-kept.kept) c.put_at-left.result e keeps pops takes updated c.put_at-left.ensures.refused f)
+    (c.end_update.ensures.did modes (declared_here modes old mid gone c.args.target.slot c.in-Some.value c.in-Some-2.whole c.args.target.declared pops takes declared))

@@ -1,0 +1,21 @@
+use Rattle.std.proofs.Common.{Some}
+use Rattle.setl_code.specs.Plain.{plain_slot}
+use Rattle.setl_store.specs.Standing.{variables}
+use Rattle.setl_machine_control.specs.Declaring.{modes_of}
+use Rattle.setl_machine_control.specs.Working.{PopsTop}
+use Rattle.setl_machine_variables.proofs.Storing.{store_goes, store_stops}
+use Rattle.setl_machine_variables.proofs.variables.store_in.Goals as goal
+
+pub returns-in-Some-refusal : goal.returns-in-Some-refusal
+returns-in-Some-refusal c =
+    let old = c.args.store.now in
+    let modes = modes_of c.args.declarations.now in
+    let pops : PopsTop old (Some c.in-Some.value) c.pop_top.new.store = rw c.in-Some.is at c.in_ok-value.ensures in
+    store_stops modes old c.pop_top.new.store c.go_on.new.store c.args.line c.in-Some-refusal.place c.args.slot c.in-Some.value pops (c.in-Some-refusal.ensures modes (plain_slot (variables old.core) c.args.slot) c.of_slot-declared.ensures) c.go_on.ensures
+
+pub returns-in_ok-set_slot-in-None : goal.returns-in_ok-set_slot-in-None
+returns-in_ok-set_slot-in-None c =
+    let old = c.args.store.now in
+    let modes = modes_of c.args.declarations.now in
+    let pops : PopsTop old (Some c.in-Some.value) c.pop_top.new.store = rw c.in-Some.is at c.in_ok-value.ensures in
+    store_goes modes old c.pop_top.new.store c.set_slot.new.self c.go_on-in-None.new.store c.args.line c.args.slot c.in-Some.value pops (c.in-None.ensures modes (plain_slot (variables old.core) c.args.slot) c.of_slot-declared.ensures) c.in_ok-set_slot-in-None.ensures c.go_on-in-None.ensures

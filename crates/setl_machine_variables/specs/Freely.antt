@@ -1,0 +1,27 @@
+-- Operators that charge nothing.
+use Rattle.std.specs.Prelude.{◌≡◌, ℕ, List, [], ◌∷◌, drop, Some, None}
+use Rattle.setl_value.specs.Datum.{Datum}
+use Rattle.setl_map.specs.declared.Operator.{Operator}
+use Rattle.setl_map.specs.Operators.{op_of, operand_count}
+use Rattle.setl_map.specs.Outcome.{Gives}
+use Rattle.setl_model_runs.specs.Variable.{Variable}
+use Rattle.setl_model.specs.Step.{declared_mode}
+use Rattle.setl_code.specs.Code.{Bracket, Alteration, Combining}
+use Rattle.setl_code.specs.CodeCore.{There, Operand, Result as Holds, CodeCore, held}
+use Rattle.setl_machine_control.specs.Declaring.{Modes}
+
+-- the operator has two operands, and of these it gives that for no turn, however many are left
+abbrev pub GivesFreely : Operator → (a b d : Datum) → Type 0
+GivesFreely o a b d = (operand_count o ≡ Some 2) × ((left : ℕ) → op_of o (Some a ∷ Some b ∷ []) left ≡ Gives (Some d) 0)
+
+-- it gives this so of the two values on top
+abbrev pub OnTop : Operator → List Operand → Datum → Type 0
+OnTop o xs d = (a : Datum) × (b : Datum) × (xs ≡ Holds (Some b) ∷ Holds (Some a) ∷ drop 2 xs) × GivesFreely o a b d
+
+-- an operator gives this so of what a variable holds and the value on top
+abbrev pub InPlace : Operator → Variable → CodeCore → Datum → Type 0
+InPlace o x k d = (a : Datum) × (b : Datum) × (held x k ≡ There (Some a)) × (k.now.operands ≡ Holds (Some b) ∷ drop 1 k.now.operands) × GivesFreely o a b d
+
+-- an update without selectors combines so, and the variable isn't declared
+abbrev pub AltersFreely : Modes → Alteration → Variable → List Bracket → CodeCore → Datum → Type 0
+AltersFreely modes what x bs k d = (declared_mode modes x ≡ None) × (bs ≡ []) × ((o : Operator) × (what ≡ Combining o) × InPlace o x k d)

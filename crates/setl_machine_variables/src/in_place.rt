@@ -1,0 +1,92 @@
+//! Updates of integers in place.
+
+ghost use Rattle.std.specs.Prelude.{◌≡◌, ℕ, ◌<◌, ◌+◌, ◌^◌, List, map, length, IfSome, IsSome, IfOk};
+ghost use Rattle.setl_code.specs.Code.{Alter};
+ghost use Rattle.setl_code.specs.MayRun.{HasSlot, CanAlter};
+ghost use Rattle.setl_code.specs.Plain.{plain_slot, plain_bracket, plain_alteration};
+ghost use Rattle.setl_store.specs.Standing.{variables, top_of};
+ghost use Rattle.setl_value.specs.code.DatumOf.{datum};
+ghost use Rattle.setl_machine_control.specs.Declaring.{Modes, modes_of, Serves};
+ghost use Rattle.setl_machine_variables.specs.Freely.{AltersFreely};
+ghost use Rattle.setl_machine_control.specs.Working.{DoesBy, WorksBy};
+ghost use Rattle.setl_code.specs.Code.{Alteration as PlainAlteration, Bracket as PlainBracket};
+
+use crate::altering::alter;
+use crate::declarations::Declarations;
+use crate::integers::freely;
+use setl_code::{Alteration, Bracket, Slot};
+use setl_machine_control::{Control, End, go_on};
+use setl_store::{Content, Store};
+use setl_store_environment::Memory;
+use setl_value::Value;
+
+/// Does an update: an integer of an undeclared variable is combined with an integer at once, and else it is `alter`.
+/// The error is want of memory.
+#[inline]
+pub fn update(
+    what: Alteration,
+    slot: Slot,
+    brackets: &[Bracket],
+    line: u32,
+    declarations: &Declarations<'_>,
+    store: &mut Store<'_>,
+    control: &mut Control,
+) -> Result<End, Memory>
+    requires few { store.old.core.now.at + 1 < 2 ^ 64 }
+    requires there { HasSlot (length store.old.core.globals) (length store.old.core.now.own) slot }
+    requires can { CanAlter what }
+    requires serves { Serves declarations.now store.old.code }
+    ensures did { IfOk result (λ end. DoesBy (modes_of declarations.now) store.old control.old line (Alter (plain_alteration what) (plain_slot (variables store.old.core) slot) (map plain_bracket brackets.now)) store.new control.new end) }
+    ensures reader { control.new.reader ≡ control.old.reader }
+{
+    match new_integer(what, slot, brackets, declarations, store) {
+        Some(value) => put_in_place(value, slot, store),
+        None => Ok(alter(what, slot, brackets, line, declarations, store, control)?.end),
+    }
+}
+
+/// The integer that an update without selectors makes of an undeclared variable's integer and the one on top; None where
+/// it is another update.
+fn new_integer(
+    what: Alteration,
+    slot: Slot,
+    brackets: &[Bracket],
+    declarations: &Declarations<'_>,
+    store: &Store<'_>,
+) -> Option<Value>
+    requires there { HasSlot (length store.now.core.globals) (length store.now.core.now.own) slot }
+    requires serves { Serves declarations.now store.now.code }
+    ensures { IfSome result (λ v. AltersFreely (modes_of declarations.now) (plain_alteration what) (plain_slot (variables store.now.core) slot) (map plain_bracket brackets.now) store.now.core (datum v)) }
+{
+    let Alteration::Combine(by) = what else {
+        return None;
+    };
+    let count = brackets.len();
+    if count > 0 {
+        return None;
+    }
+    let None = declarations.of_slot(slot, store) else {
+        return None;
+    };
+    let whole = match store.slot(slot) {
+        Content::Value(whole) => whole,
+        Content::Om | Content::Taken => return None,
+    };
+    let Some(value) = store.one() else {
+        return None;
+    };
+    freely(by, whole, value)
+}
+
+/// Drops the top, and puts a value in a variable's slot.
+fn put_in_place(value: Value, slot: Slot, store: &mut Store<'_>) -> Result<End, Memory>
+    requires few { store.old.core.now.at + 1 < 2 ^ 64 }
+    requires there { HasSlot (length store.old.core.globals) (length store.old.core.now.own) slot }
+    requires some { IsSome (top_of store.old.core.now.operands) }
+    ensures { (modes : Modes) (line : ℕ) (what : PlainAlteration) (bs : List PlainBracket) → AltersFreely modes what (plain_slot (variables store.old.core) slot) bs store.old.core (datum value) → IfOk result (λ end. WorksBy modes store.old line (Alter what (plain_slot (variables store.old.core) slot) bs) store.new end) }
+{
+    store.drop_top()?;
+    store.set_slot(slot, Some(value))?;
+    go_on(store);
+    Ok(End::Paused)
+}

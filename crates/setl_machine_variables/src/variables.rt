@@ -1,0 +1,120 @@
+//! Instructions that push a value, and those on variables.
+
+ghost use Rattle.std.specs.Prelude.{ℕ, ◌<◌, ◌+◌, ◌^◌, length, Some, IfOk};
+ghost use Rattle.setl_code.specs.Code.{Push, Load, Take, StoreIn};
+ghost use Rattle.setl_code.specs.MayRun.{HasSlot};
+ghost use Rattle.setl_code.specs.Plain.{plain_slot};
+ghost use Rattle.setl_store.specs.Standing.{variables};
+ghost use Rattle.setl_value.specs.Datum.{int, text};
+ghost use Rattle.setl_value.specs.code.DatumOf.{part};
+ghost use Rattle.setl_machine_control.specs.Declaring.{modes_of, Serves};
+ghost use Rattle.setl_machine_control.specs.Working.{Works, WorksBy};
+
+use crate::declarations::Declarations;
+use setl_code::{Literal, Slot};
+use setl_machine_control::{End, StopKind, go_on, pop_top, refusal};
+use setl_store::{Content, Store};
+use setl_store_environment::Memory;
+use setl_tree::Text as Name;
+use setl_value::{Text, Value};
+use std::alloc::Global;
+
+/// Pushes a value, or `om`. The error is want of memory.
+#[inline]
+pub fn push(value: Option<Value>, store: &mut Store<'_>) -> Result<End, Memory>
+    requires { store.old.core.now.at + 1 < 2 ^ 64 }
+    ensures { (line : ℕ) → IfOk result (λ end. Works store.old line (Push (part value)) store.new end) }
+{
+    store.push(value)?;
+    go_on(store);
+    Ok(End::Paused)
+}
+
+/// Pushes an integer. The error is want of memory.
+#[inline]
+pub fn push_integer(value: &Literal, store: &mut Store<'_>) -> Result<End, Memory>
+    requires { store.old.core.now.at + 1 < 2 ^ 64 }
+    ensures { (line : ℕ) → IfOk result (λ end. Works store.old line (Push (Some (int value.now))) store.new end) }
+{
+    store.push(Some(Value::Int(value.get())))?;
+    go_on(store);
+    Ok(End::Paused)
+}
+
+/// Pushes a string. The error is want of memory.
+#[inline(never)]
+pub fn push_text(alloc: Global, bytes: &Name, store: &mut Store<'_>) -> Result<End, Memory>
+    requires { store.old.core.now.at + 1 < 2 ^ 64 }
+    ensures { (line : ℕ) → IfOk result (λ end. Works store.old line (Push (Some (text bytes.now))) store.new end) }
+{
+    let value = Text::of(alloc, bytes.bytes())?;
+    store.push(Some(Value::Text(value)))?;
+    go_on(store);
+    Ok(End::Paused)
+}
+
+/// Pushes what a variable holds. The run is stuck where that was taken. The error is want of memory.
+#[inline]
+pub fn load(slot: Slot, store: &mut Store<'_>) -> Result<End, Memory>
+    requires few { store.old.core.now.at + 1 < 2 ^ 64 }
+    requires there { HasSlot (length store.old.core.globals) (length store.old.core.now.own) slot }
+    ensures { (line : ℕ) → IfOk result (λ end. Works store.old line (Load (plain_slot (variables store.old.core) slot)) store.new end) }
+{
+    let value = match store.slot(slot) {
+        Content::Taken => return Ok(End::Stuck),
+        Content::Om => None,
+        Content::Value(value) => Some(value.copy()?),
+    };
+    store.push(value)?;
+    go_on(store);
+    Ok(End::Paused)
+}
+
+/// Pushes what a variable holds, and leaves nothing there. The run is stuck where that was taken before. The error is want of
+/// memory.
+#[inline(never)]
+pub fn take(slot: Slot, store: &mut Store<'_>) -> Result<End, Memory>
+    requires few { store.old.core.now.at + 1 < 2 ^ 64 }
+    requires there { HasSlot (length store.old.core.globals) (length store.old.core.now.own) slot }
+    ensures { (line : ℕ) → IfOk result (λ end. Works store.old line (Take (plain_slot (variables store.old.core) slot)) store.new end) }
+{
+    match store.slot(slot) {
+        Content::Taken => return Ok(End::Stuck),
+        Content::Om | Content::Value(_) => {}
+    }
+    let value = store.take_slot(slot)?;
+    store.push(value)?;
+    go_on(store);
+    Ok(End::Paused)
+}
+
+/// Pops the top into a variable. A value that its declaration refuses leaves the variable as it was, and stops the run at
+/// this line; without a value on top the run is stuck. The error is want of memory.
+#[inline]
+pub fn store_in(
+    slot: Slot,
+    line: u32,
+    declarations: &Declarations<'_>,
+    store: &mut Store<'_>,
+) -> Result<End, Memory>
+    requires few { store.old.core.now.at + 1 < 2 ^ 64 }
+    requires there { HasSlot (length store.old.core.globals) (length store.old.core.now.own) slot }
+    requires serves { Serves declarations.now store.old.code }
+    ensures { IfOk result (λ end. WorksBy (modes_of declarations.now) store.old line (StoreIn (plain_slot (variables store.old.core) slot)) store.new end) }
+{
+    let declared = declarations.of_slot(slot, store);
+    let Some(value) = pop_top(store)? else {
+        return Ok(End::Stuck);
+    };
+    match refusal(declared, &value) {
+        Some(place) => {
+            go_on(store);
+            Ok(End::Stopped(StopKind::Unfit(place), line))
+        }
+        None => {
+            store.set_slot(slot, value)?;
+            go_on(store);
+            Ok(End::Paused)
+        }
+    }
+}

@@ -1,9 +1,0 @@
--- The watchers that words may ask for.
-use Rattle.std.specs.Prelude.{ℕ}
-use Rattle.setl_options.specs.declared.watching.Asked.{Asked}
-use Rattle.setl_options.specs.declared.watching.Asked.TheVariants.{Trace, Cover}
-
--- the number that a watcher has for a name
-abbrev pub watcher_name : Asked → ℕ
-watcher_name Trace = 1
-watcher_name Cover = 2

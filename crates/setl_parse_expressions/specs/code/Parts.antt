@@ -1,0 +1,24 @@
+-- Parts of expressions that are read together.
+use Rattle.std.specs.Prelude.{ℕ, List, ◌∷◌, Option}
+use Rattle.setl_tree.specs.declared.kind.Kind.TheVariants as k
+use Rattle.setl_tree.specs.declared.expr.Bound.{Bound}
+use Rattle.setl_tree.specs.declared.expr.Expr.{Expr}
+use Rattle.setl_tree.specs.declared.expr.Iter.{Iter}
+use Rattle.setl_parse_reading.specs.code.Reading.{Reader, ◌>>=◌, ◌>>◌, pure, expect, is, optional, more}
+use Rattle.setl_parse_reading.specs.code.ReadExpressions.{Inside, bound, iters, condition}
+
+-- two parts, and more behind them
+abbrev pub two_and_more : {A : Type 0} → A → A → Reader A → Reader (List A)
+two_and_more a b part = do xs ← more part; pure (a ∷ b ∷ xs)
+
+-- the two values of a conditional expression, behind `then`
+abbrev pub branches : {A : Type 0} → Reader A → Reader (A × A)
+branches part = do b ← part; expect k.Else; c ← part; expect k.End; pure (b, c)
+
+-- the iterators of a former, and its condition
+abbrev pub clauses : ℕ → Inside → Reader (List Iter × Option Expr)
+clauses room here = do over ← iters room here.source; c ← optional (is k.Bar) (condition room here); pure (over, c)
+
+-- `bound in source`
+abbrev pub bound_in : ℕ → Reader Expr → Reader (Bound × Expr)
+bound_in room source = do b ← bound room; expect k.In; s ← source; pure (b, s)

@@ -1,0 +1,15 @@
+//! Reading expressions from the tokens of a source.
+//!
+//! Each call reads exactly as its reader in `setl_parse_reading`: what was read, with the cursor behind it, or a fault, as
+//! `setl_parse_cursor` says it.
+#![tactic(auto)]
+
+mod chain;
+mod grammar;
+mod inner;
+mod iterators;
+mod made;
+mod parse;
+mod primary;
+
+pub use parse::{Condition, NestedExpr, braces, expr, iters, nested_expr};

@@ -1,0 +1,449 @@
+//! Selectors, primary expressions and whole expressions.
+
+ghost use Rattle.std.specs.Prelude.{◌≡◌, ◌-◌, suc};
+ghost use Rattle.setl_tree.specs.declared.kind.Kind.TheVariants as k;
+ghost use Rattle.setl_parse_reading.specs.code.Reading.{Reads};
+ghost use Rattle.setl_parse_reading.specs.code.ReadExpressions as spec;
+ghost use Rattle.setl_parse_reading.specs.code.ReadExpressions.{nested};
+ghost use Rattle.setl_parse_cursor.specs.code.Behind as behind;
+ghost use Rattle.setl_parse_expressions.specs.code.Nests.{Nests, reader_of};
+ghost use Rattle.setl_parse_expressions.specs.code.Parts as parts;
+
+use crate::chain::{Chain, chain_from};
+use crate::grammar::{Grammar, Part};
+use crate::inner::{ExprRule, InnerRule};
+use crate::made::{constant, prefixed, selected};
+use setl_parse_cursor::{
+    Cursor, NotRule, PrefixRule, Repeated, Rule, SeparatedRule, begins_selector, boxed_second,
+    enclosed, followed, many, more_onto, one, open_quantifier, quantifier, relation_op, same_kind,
+    with_many,
+};
+use setl_parse_reading::Fault;
+use setl_tree::{Boxed, Expr, Items, Kind, Selector};
+
+/// A selector.
+#[derive(Drop)]
+struct SelectorRule<'g, F> {
+    grammar: &'g Grammar<F>,
+}
+
+impl<'g, F: Fn(&mut Cursor<'_>, usize, Part) -> Result<Expr, Fault>> Rule for SelectorRule<'g, F> {
+    type Out = Selector;
+
+    ghost use Rattle.std.specs.Prelude.{◌-◌};
+    ghost use Rattle.setl_parse_reading.specs.code.ReadExpressions.{nested, selector};
+    ghost use Rattle.setl_parse_expressions.specs.code.Nests.{Nests};
+
+    ghost can_read = { λ s. Nests s.grammar.now.room (F.pre s.grammar.now.inside) (F.post s.grammar.now.inside) };
+
+    ghost reader = { λ s. selector s.grammar.now.room (nested s.grammar.now.room) };
+
+    #[tactic(auto, unfolding(setl_parse_reading::specs::code::ReadExpressions::selector))]
+    fn read(&self, tokens: &mut Cursor<'_>) -> Result<Selector, Fault> {
+        if same_kind(tokens.kind(), Kind::LeftParen) {
+            tokens.open(self.grammar.room, Kind::LeftParen)?;
+            return self.grammar.round(tokens);
+        }
+        self.grammar.braces(tokens)
+    }
+}
+
+impl<'g, F: Fn(&mut Cursor<'_>, usize, Part) -> Result<Expr, Fault>> Repeated
+    for SelectorRule<'g, F> {
+    ghost use Rattle.setl_parse_reading.specs.code.ReadExpressions.{begins_selector};
+
+    ghost begins_with = { λ s. begins_selector };
+
+    fn begins(&self, kind: Kind) -> bool {
+        begins_selector(kind)
+    }
+}
+
+/// An operand with its prefixes.
+#[derive(Drop)]
+struct PrefixedRule<'g, F> {
+    grammar: &'g Grammar<F>,
+}
+
+impl<'g, F: Fn(&mut Cursor<'_>, usize, Part) -> Result<Expr, Fault>> Rule for PrefixedRule<'g, F> {
+    type Out = Expr;
+
+    ghost use Rattle.std.specs.Prelude.{◌-◌};
+    ghost use Rattle.setl_parse_reading.specs.code.ReadExpressions.{nested, e11};
+    ghost use Rattle.setl_parse_expressions.specs.code.Nests.{Nests};
+
+    ghost can_read = { λ s. Nests s.grammar.now.room (F.pre s.grammar.now.inside) (F.post s.grammar.now.inside) };
+
+    ghost reader = { λ s. e11 s.grammar.now.room (nested s.grammar.now.room) };
+
+    #[tactic(auto, unfolding(setl_parse_reading::specs::code::ReadExpressions::e11, setl_parse_reading::specs::code::ReadExpressions::prefixes))]
+    fn read(&self, tokens: &mut Cursor<'_>) -> Result<Expr, Fault> {
+        let prefixes = many(&PrefixRule, tokens)?;
+        let operand = self.grammar.e12(tokens)?;
+        prefixed(tokens.alloc(), prefixes, operand)
+    }
+}
+
+/// A comparison with its prefixes `not`.
+#[derive(Drop)]
+struct ComparedRule<'g, F> {
+    grammar: &'g Grammar<F>,
+}
+
+impl<'g, F: Fn(&mut Cursor<'_>, usize, Part) -> Result<Expr, Fault>> Rule for ComparedRule<'g, F> {
+    type Out = Expr;
+
+    ghost use Rattle.std.specs.Prelude.{◌-◌};
+    ghost use Rattle.setl_parse_reading.specs.code.ReadExpressions.{nested, e5};
+    ghost use Rattle.setl_parse_expressions.specs.code.Nests.{Nests};
+
+    ghost can_read = { λ s. Nests s.grammar.now.room (F.pre s.grammar.now.inside) (F.post s.grammar.now.inside) };
+
+    ghost reader = { λ s. e5 s.grammar.now.room (nested s.grammar.now.room) };
+
+    #[tactic(auto, unfolding(setl_parse_reading::specs::code::ReadExpressions::e5, setl_parse_reading::specs::code::ReadExpressions::nots))]
+    fn read(&self, tokens: &mut Cursor<'_>) -> Result<Expr, Fault> {
+        let nots = many(&NotRule, tokens)?;
+        let operand = self.grammar.e6(tokens)?;
+        prefixed(tokens.alloc(), nots, operand)
+    }
+}
+
+impl<F: Fn(&mut Cursor<'_>, usize, Part) -> Result<Expr, Fault>> Grammar<F> {
+    /// A slice behind `( expr ..`.
+    #[tactic(auto, unfolding(setl_parse_reading::specs::code::ReadExpressions::slice))]
+    fn slice(&self, from: Expr, tokens: &mut Cursor<'_>) -> Result<Selector, Fault>
+        requires { Nests self.now.room (F.pre self.now.inside) (F.post self.now.inside) }
+        ensures { Reads (spec.slice self.now.room (nested self.now.room) from tokens.old) result tokens.new }
+    {
+        let from = Boxed::new(tokens.alloc(), from)?;
+        if same_kind(tokens.kind(), Kind::RightParen) {
+            let from = followed(from, Kind::RightParen, tokens)?;
+            return Ok(Selector::Slice(from, None));
+        }
+        let to = self.boxed_before(Kind::RightParen, tokens)?;
+        Ok(Selector::Slice(from, Some(to)))
+    }
+
+    /// What stands behind `( expr`.
+    #[tactic(auto, unfolding(setl_parse_reading::specs::code::ReadExpressions::arguments))]
+    fn arguments(&self, first: Expr, tokens: &mut Cursor<'_>) -> Result<Selector, Fault>
+        requires { Nests self.now.room (F.pre self.now.inside) (F.post self.now.inside) }
+        ensures { Reads (spec.arguments self.now.room (nested self.now.room) first tokens.old) result tokens.new }
+    {
+        if same_kind(tokens.kind(), Kind::Dots) {
+            let first = followed(first, Kind::Dots, tokens)?;
+            return self.slice(first, tokens);
+        }
+        let first = one(tokens.alloc(), first)?;
+        let all = more_onto(first, &ExprRule { grammar: self }, tokens)?;
+        Ok(Selector::Round(followed(all, Kind::RightParen, tokens)?))
+    }
+
+    /// What stands behind `(`.
+    #[tactic(auto, unfolding(setl_parse_reading::specs::code::ReadExpressions::round))]
+    fn round(&self, tokens: &mut Cursor<'_>) -> Result<Selector, Fault>
+        requires { Nests self.now.room (F.pre self.now.inside) (F.post self.now.inside) }
+        ensures { Reads (spec.round self.now.room (nested self.now.room) tokens.old) result tokens.new }
+    {
+        if same_kind(tokens.kind(), Kind::RightParen) {
+            tokens.expect(Kind::RightParen)?;
+            return Ok(Selector::Round(Items::new(tokens.alloc())));
+        }
+        let first = self.expr(tokens)?;
+        self.arguments(first, tokens)
+    }
+
+    /// `{x, ..}` behind a primary expression.
+    #[tactic(auto, unfolding(setl_parse_reading::specs::code::ReadExpressions::braces))]
+    pub fn braces(&self, tokens: &mut Cursor<'_>) -> Result<Selector, Fault>
+        requires { Nests self.now.room (F.pre self.now.inside) (F.post self.now.inside) }
+        ensures { Reads (spec.braces self.now.room (nested self.now.room) tokens.old) result tokens.new }
+    {
+        let all = SeparatedRule {
+            item: ExprRule { grammar: self },
+        };
+        let all = enclosed(self.room, Kind::LeftBrace, &all, Kind::RightBrace, tokens)?;
+        Ok(Selector::Braces(all))
+    }
+
+    /// An expression in round brackets.
+    #[tactic(auto, unfolding(setl_parse_reading::specs::code::ReadExpressions::parenthesized))]
+    fn parenthesized(&self, tokens: &mut Cursor<'_>) -> Result<Expr, Fault>
+        requires { Nests self.now.room (F.pre self.now.inside) (F.post self.now.inside) }
+        ensures { Reads (spec.parenthesized self.now.room (nested self.now.room) tokens.old) result tokens.new }
+    {
+        let inside = ExprRule { grammar: self };
+        enclosed(
+            self.room,
+            Kind::LeftParen,
+            &inside,
+            Kind::RightParen,
+            tokens,
+        )
+    }
+
+    /// The two values of a conditional expression, behind `then`.
+    fn branches(&self, tokens: &mut Cursor<'_>) -> Result<(Boxed<Expr>, Boxed<Expr>), Fault>
+        requires { Nests self.now.room (F.pre self.now.inside) (F.post self.now.inside) }
+        ensures { Reads (parts.branches (nested self.now.room).expr tokens.old) result tokens.new }
+    {
+        let value = self.boxed_before(Kind::Else, tokens)?;
+        let other = self.boxed_before(Kind::End, tokens)?;
+        Ok((value, other))
+    }
+
+    /// `if condition then value else other end`
+    #[tactic(auto, unfolding(setl_parse_reading::specs::code::ReadExpressions::if_expr))]
+    fn if_expr(&self, tokens: &mut Cursor<'_>) -> Result<Expr, Fault>
+        requires { Nests self.now.room (F.pre self.now.inside) (F.post self.now.inside) }
+        ensures { Reads (spec.if_expr self.now.room (nested self.now.room) tokens.old) result tokens.new }
+    {
+        tokens.open(self.room, Kind::If)?;
+        let condition = self.boxed_before(Kind::Then, tokens)?;
+        let (value, other) = self.branches(tokens)?;
+        Ok(Expr::If(condition, value, other))
+    }
+
+    /// A set in its brackets.
+    #[tactic(auto, unfolding(setl_parse_reading::specs::code::ReadExpressions::set))]
+    fn set(&self, tokens: &mut Cursor<'_>) -> Result<Expr, Fault>
+        requires { Nests self.now.room (F.pre self.now.inside) (F.post self.now.inside) }
+        ensures { Reads (spec.set self.now.room (nested self.now.room) tokens.old) result tokens.new }
+    {
+        let inner = InnerRule { grammar: self };
+        let inner = enclosed(self.room, Kind::LeftBrace, &inner, Kind::RightBrace, tokens)?;
+        Ok(Expr::Set(inner))
+    }
+
+    /// A tuple in its brackets.
+    #[tactic(auto, unfolding(setl_parse_reading::specs::code::ReadExpressions::tuple))]
+    fn tuple(&self, tokens: &mut Cursor<'_>) -> Result<Expr, Fault>
+        requires { Nests self.now.room (F.pre self.now.inside) (F.post self.now.inside) }
+        ensures { Reads (spec.tuple self.now.room (nested self.now.room) tokens.old) result tokens.new }
+    {
+        let inner = InnerRule { grammar: self };
+        let inner = enclosed(
+            self.room,
+            Kind::LeftBracket,
+            &inner,
+            Kind::RightBracket,
+            tokens,
+        )?;
+        Ok(Expr::Tuple(inner))
+    }
+
+    /// A number.
+    fn number(&self, tokens: &mut Cursor<'_>) -> Result<Expr, Fault>
+        requires { Nests self.now.room (F.pre self.now.inside) (F.post self.now.inside) }
+        ensures { Reads (spec.primary_by self.now.room (nested self.now.room) k.Number tokens.old) result tokens.new }
+    {
+        let value = tokens.value();
+        tokens.expect(Kind::Number)?;
+        Ok(Expr::Number(value))
+    }
+
+    /// A string.
+    fn string(&self, tokens: &mut Cursor<'_>) -> Result<Expr, Fault>
+        requires { Nests self.now.room (F.pre self.now.inside) (F.post self.now.inside) }
+        ensures { Reads (spec.primary_by self.now.room (nested self.now.room) k.StringLiteral tokens.old) result tokens.new }
+    {
+        let text = tokens.text()?;
+        tokens.expect(Kind::StringLiteral)?;
+        Ok(Expr::Text(text))
+    }
+
+    /// A name.
+    fn name(&self, tokens: &mut Cursor<'_>) -> Result<Expr, Fault>
+        requires { Nests self.now.room (F.pre self.now.inside) (F.post self.now.inside) }
+        ensures { Reads (spec.primary_by self.now.room (nested self.now.room) k.Name tokens.old) result tokens.new }
+    {
+        Ok(Expr::Name(tokens.name()?))
+    }
+
+    /// A primary expression.
+    #[tactic(auto, unfolding(setl_parse_reading::specs::code::ReadExpressions::primary, setl_parse_reading::specs::code::Reading::one_of))]
+    fn primary(&self, tokens: &mut Cursor<'_>) -> Result<Expr, Fault>
+        requires { Nests self.now.room (F.pre self.now.inside) (F.post self.now.inside) }
+        ensures { Reads (spec.primary self.now.room (nested self.now.room) tokens.old) result tokens.new }
+    {
+        match tokens.kind() {
+            Kind::Number => self.number(tokens),
+            Kind::StringLiteral => self.string(tokens),
+            Kind::Name => self.name(tokens),
+            Kind::LeftParen => self.parenthesized(tokens),
+            Kind::If => self.if_expr(tokens),
+            Kind::LeftBrace => self.set(tokens),
+            Kind::LeftBracket => self.tuple(tokens),
+            kind => {
+                let Some(word) = constant(kind) else {
+                    return Err(tokens.refuse());
+                };
+                tokens.pass();
+                Ok(word)
+            }
+        }
+    }
+
+    /// A primary expression with its selectors.
+    #[tactic(auto, unfolding(setl_parse_reading::specs::code::ReadExpressions::e12, setl_parse_reading::specs::code::ReadExpressions::selectors))]
+    fn e12(&self, tokens: &mut Cursor<'_>) -> Result<Expr, Fault>
+        requires { Nests self.now.room (F.pre self.now.inside) (F.post self.now.inside) }
+        ensures { Reads (spec.e12 self.now.room (nested self.now.room) tokens.old) result tokens.new }
+    {
+        let primary = self.primary(tokens)?;
+        let (primary, selectors) = with_many(primary, &SelectorRule { grammar: self }, tokens)?;
+        selected(tokens.alloc(), primary, selectors)
+    }
+
+    /// What comparisons compare.
+    #[tactic(auto, unfolding(setl_parse_reading::specs::code::ReadExpressions::e7))]
+    pub fn e7(&self, tokens: &mut Cursor<'_>) -> Result<Expr, Fault>
+        requires { Nests self.now.room (F.pre self.now.inside) (F.post self.now.inside) }
+        ensures { Reads (spec.e7 self.now.room (nested self.now.room) tokens.old) result tokens.new }
+    {
+        let power = Chain {
+            level: 10,
+            item: PrefixedRule { grammar: self },
+        };
+        let product = Chain {
+            level: 9,
+            item: power,
+        };
+        let sum = Chain {
+            level: 8,
+            item: product,
+        };
+        Chain {
+            level: 7,
+            item: sum,
+        }
+        .read(tokens)
+    }
+
+    /// The left side of a comparison, and its right side in a box.
+    fn compared_with<T: Drop>(
+        &self,
+        left: T,
+        tokens: &mut Cursor<'_>,
+    ) -> Result<(T, Boxed<Expr>), Fault>
+        requires { Nests self.now.room (F.pre self.now.inside) (F.post self.now.inside) }
+        ensures { Reads (behind.beside left (spec.e7 self.now.room (nested self.now.room)) tokens.old) result tokens.new }
+    {
+        let right = self.e7(tokens)?;
+        boxed_second(tokens.alloc(), left, right)
+    }
+
+    /// What goes on from the left side of a comparison.
+    #[tactic(auto, unfolding(setl_parse_reading::specs::code::ReadExpressions::compared, setl_parse_reading::specs::code::Reading::one_of))]
+    fn compared(&self, a: Expr, tokens: &mut Cursor<'_>) -> Result<Expr, Fault>
+        requires { Nests self.now.room (F.pre self.now.inside) (F.post self.now.inside) }
+        ensures { Reads (spec.compared self.now.room (nested self.now.room) a tokens.old) result tokens.new }
+    {
+        let Some(op) = relation_op(tokens.kind()) else {
+            return Ok(a);
+        };
+        tokens.pass();
+        let (a, b) = self.compared_with(a, tokens)?;
+        Ok(Expr::Compare(Boxed::new(tokens.alloc(), a)?, op, b))
+    }
+
+    /// A comparison, or what comparisons compare.
+    #[tactic(auto, unfolding(setl_parse_reading::specs::code::ReadExpressions::e6))]
+    fn e6(&self, tokens: &mut Cursor<'_>) -> Result<Expr, Fault>
+        requires { Nests self.now.room (F.pre self.now.inside) (F.post self.now.inside) }
+        ensures { Reads (spec.e6 self.now.room (nested self.now.room) tokens.old) result tokens.new }
+    {
+        let a = self.e7(tokens)?;
+        self.compared(a, tokens)
+    }
+
+    /// An expression that is no quantifier.
+    #[tactic(auto, unfolding(setl_parse_reading::specs::code::ReadExpressions::e2))]
+    fn e2(&self, tokens: &mut Cursor<'_>) -> Result<Expr, Fault>
+        requires { Nests self.now.room (F.pre self.now.inside) (F.post self.now.inside) }
+        ensures { Reads (spec.e2 self.now.room (nested self.now.room) tokens.old) result tokens.new }
+    {
+        let both = Chain {
+            level: 4,
+            item: ComparedRule { grammar: self },
+        };
+        let one = Chain {
+            level: 3,
+            item: both,
+        };
+        Chain {
+            level: 2,
+            item: one,
+        }
+        .read(tokens)
+    }
+
+    /// What goes on from an operand of `and`.
+    #[tactic(auto, unfolding(setl_parse_reading::specs::code::ReadExpressions::after))]
+    pub fn after_comparison(&self, a: Expr, tokens: &mut Cursor<'_>) -> Result<Expr, Fault>
+        requires { Nests self.now.room (F.pre self.now.inside) (F.post self.now.inside) }
+        ensures { Reads (spec.after self.now.room (nested self.now.room) a tokens.old) result tokens.new }
+    {
+        let a = chain_from(4, &ComparedRule { grammar: self }, a, tokens)?;
+        let a = chain_from(
+            3,
+            &Chain {
+                level: 4,
+                item: ComparedRule { grammar: self },
+            },
+            a,
+            tokens,
+        )?;
+        let both = Chain {
+            level: 4,
+            item: ComparedRule { grammar: self },
+        };
+        chain_from(
+            2,
+            &Chain {
+                level: 3,
+                item: both,
+            },
+            a,
+            tokens,
+        )
+    }
+
+    /// `exists iterators | condition` and the like.
+    #[tactic(auto, unfolding(setl_parse_reading::specs::code::ReadExpressions::quantified, setl_parse_reading::specs::code::Reading::opening_one_of))]
+    fn quantified(&self, tokens: &mut Cursor<'_>) -> Result<Expr, Fault>
+        requires { Nests self.now.room (F.pre self.now.inside) (F.post self.now.inside) }
+        ensures { Reads (spec.quantified self.now.room (nested self.now.room) tokens.old) result tokens.new }
+    {
+        let quantifier = open_quantifier(self.room, tokens)?;
+        let over = self.iters(tokens)?;
+        let (over, condition) = self.boxed_behind(over, Kind::Bar, tokens)?;
+        Ok(Expr::Quantified(quantifier, over, condition))
+    }
+
+    /// An expression.
+    #[tactic(auto, unfolding(setl_parse_reading::specs::code::ReadExpressions::whole))]
+    pub fn whole(&self, tokens: &mut Cursor<'_>) -> Result<Expr, Fault>
+        requires { Nests self.now.room (F.pre self.now.inside) (F.post self.now.inside) }
+        ensures { Reads (spec.whole self.now.room (nested self.now.room) tokens.old) result tokens.new }
+    {
+        if quantifier(tokens.kind()).is_some() {
+            return self.quantified(tokens);
+        }
+        self.e2(tokens)
+    }
+
+    /// A part of expressions.
+    #[tactic(auto, unfolding(setl_parse_reading::specs::code::ReadExpressions::nested))]
+    pub fn part(&self, part: Part, tokens: &mut Cursor<'_>) -> Result<Expr, Fault>
+        requires { Nests self.now.room (F.pre self.now.inside) (F.post self.now.inside) }
+        ensures { Reads (reader_of (nested (suc self.now.room)) part tokens.old) result tokens.new }
+    {
+        match part {
+            Part::Whole => self.whole(tokens),
+            Part::Source => self.e7(tokens),
+            Part::After(a) => self.after_comparison(a, tokens),
+        }
+    }
+}

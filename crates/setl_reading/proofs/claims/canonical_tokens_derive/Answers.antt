@@ -1,5 +1,0 @@
-use Rattle.setl_reading.proofs.CanonicalPrograms.{canonical_derives}
-use Rattle.setl_reading.proofs.claims.canonical_tokens_derive.Goals as goal
-
-pub returns : goal.returns
-returns c = canonical_derives

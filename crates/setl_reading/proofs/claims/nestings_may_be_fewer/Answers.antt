@@ -1,5 +1,0 @@
-use Rattle.setl_reading.proofs.Rooms.{fewer_nestings}
-use Rattle.setl_reading.proofs.claims.nestings_may_be_fewer.Goals as goal
-
-pub returns : goal.returns
-returns c = fewer_nestings

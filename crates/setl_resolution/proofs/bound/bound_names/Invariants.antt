@@ -1,7 +1,0 @@
-use Rattle.std.proofs.Common.{◌≡◌, drop}
-use Rattle.setl_names.specs.Occurrences as spec
-use Rattle.setl_resolution.specs.Walks.{here, after}
-use Rattle.setl_resolution.proofs.bound.bound_names.Given as goal
-
-abbrev pub invariant-loop-name : goal.invariant-loop-name
-invariant-loop-name l = after (spec.bound_names l.own (drop l.name-index l.names) (here l.line l.walk)) l.walk ≡ after (spec.bound_names l.own l.names (here l.line l.initial.walk)) l.initial.walk

@@ -1,5 +1,0 @@
-use Rattle.setl_slots.proofs.Running.{code_may_run}
-use Rattle.setl_slots.proofs.code_may_run.Goals as goal
-
-pub returns : goal.returns
-returns c = record { may_run = code_may_run }

@@ -1,5 +1,0 @@
-use Rattle.setl_spelling.proofs.MovesPrograms.{derives_moves}
-use Rattle.setl_spelling.proofs.laws.lines_do_not_matter.Goals as goal
-
-pub returns : goal.returns
-returns c = derives_moves

@@ -1,5 +1,0 @@
-use Rattle.setl_spelling.proofs.AlikePrograms.{same_text}
-use Rattle.setl_spelling.proofs.laws.same_trees_are_shown_alike.Goals as goal
-
-pub returns : goal.returns
-returns c = same_text

@@ -1,4 +1,0 @@
-use Rattle.setl_statements.proofs.nested.+nested.Given as goal
-
-abbrev pub decreases-nested : goal.decreases-nested
-decreases-nested l = l.room

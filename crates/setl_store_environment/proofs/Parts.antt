@@ -1,0 +1,257 @@
+-- A change of one part of an environment.
+use Rattle.std.proofs.Common.{◌≡◌, ℕ, zero, suc, ◌+◌, ◌-◌, ◌<◌, ◌≤◌, List, [], ◌∷◌, ◌++◌, length, set, drop, refl, ap, sym, subst, ◌∙◌, arith, take, Option, Some, None, Ok, Err}
+use Rattle.std.proofs.lemmas.List.{length-set, length_push, length-take-le, take-append-le, take-set-le, take-take, take_all}
+use Rattle.std.specs.Prelude.{Result, OnOk, OnErr}
+use Rattle.setl_trail.specs.Trail.{Item, entry, mark, mark_count, latest, without_latest}
+use Rattle.setl_store_environment.specs.declared.environment.Old.{Old}
+use Rattle.setl_store_environment.specs.declared.environment.Old.TheVariants.{Slot, Operand, Activation, Member}
+use Rattle.setl_store_environment.specs.declared.stack.Place.{Place}
+use Rattle.setl_store_environment.specs.Stack.{StackState, LeadsBack, Fits, IsNear, placed, placed_at}
+use Rattle.setl_store_environment.specs.Environment.{Contents, Room, EnvironmentState}
+use Rattle.setl_store_environment.specs.Kept.{base_of, nowhere, noted, IsUndoable, kept_of}
+use Rattle.setl_store_environment.specs.declared.environment.Base.{Base}
+use Rattle.setl_store_environment.specs.Undo.{Parts, contents_of, undone, cut, Reaches, FitsIn, IsTrailOf, kept_contents, HasMore}
+use Rattle.setl_store_environment.proofs.Undoing.{IsBelow, changed, undoable_still, unmarked, unmarked_base, kept_counted, mark_latest}
+
+-- the lowest n with one of them put back
+cut_placed : {T : Type 0} (n at : ℕ) (o : Option T) (xs : List T) → at < n → at < length xs → placed_at (take n xs) at o ≡ take n (placed_at xs at o)
+cut_placed n at None xs low there =
+    take-take at n xs (omega (arith, low)) ∙ sym (take_all n (take at xs) (omega (arith, low, there, length-take-le at xs)))
+cut_placed n at (Some x) [] low there = absurd (omega (arith, there))
+cut_placed zero at (Some x) (y ∷ xs) low there = absurd (omega (arith, low))
+cut_placed (suc n) zero (Some x) (y ∷ xs) low there = refl
+cut_placed (suc n) (suc at) (Some x) (y ∷ xs) low there = ap (λ l. y ∷ l) (cut_placed n at (Some x) xs (omega (arith, low)) (omega (arith, there)))
+
+cut_near : {T : Type 0} (n at : ℕ) (o : Option T) (xs : List T) → at < n → n ≤ length xs → IsNear xs at o → IsNear (take n xs) at o
+cut_near n at None xs low there near = omega (arith, low, there, near, length-take-le n xs there)
+cut_near n at (Some x) xs low there near = omega (arith, low, there, length-take-le n xs there)
+
+module _ {S O A M : Type 0} where
+  still_fits : (q r : Parts S O A M) → HasMore q r → (c : Contents S O A M) (e : Old S O A M) → FitsIn q c e → FitsIn r c e
+  still_fits q r m c (Slot p) h = record { inside = omega (arith, h.inside, m.slots); near = h.near }
+  still_fits q r m c (Operand p) h = record { inside = omega (arith, h.inside, m.operands); near = h.near }
+  still_fits q r m c (Activation p) h = record { inside = omega (arith, h.inside, m.activations); near = h.near }
+  still_fits q r m c (Member p) h = record { inside = omega (arith, h.inside, m.members); near = h.near }
+
+  abbrev contents : List S → List O → List A → List M → Contents S O A M
+  contents xs ys zs ms = record { slots = xs; operands = ys; activations = zs; members = ms }
+
+  abbrev pub with_slots : Contents S O A M → List S → Contents S O A M
+  with_slots c xs = record c { slots = xs }
+
+  abbrev pub with_operands : Contents S O A M → List O → Contents S O A M
+  with_operands c xs = record c { operands = xs }
+
+  abbrev pub with_activations : Contents S O A M → List A → Contents S O A M
+  with_activations c xs = record c { activations = xs }
+
+  abbrev pub with_members : Contents S O A M → List M → Contents S O A M
+  with_members c xs = record c { members = xs }
+
+  -- the trail after more memory was reserved
+  pub roomier : (q r : Parts S O A M) (n : Base) (ns : List Base) (items : List (Item (Old S O A M))) → HasMore q r → contents_of r ≡ contents_of q → IsTrailOf q n ns items → IsTrailOf r n ns items
+  roomier q r n ns items more same h = (
+    subst (Reaches n) (sym same) h.0,
+    subst (λ c. IsUndoable undone cut Reaches (FitsIn r) n (cut n c) items ns) (sym same) (undoable_still undone cut Reaches (FitsIn q) (FitsIn r) n (cut n (contents_of q)) items ns (still_fits q r more) h.1),
+  )
+
+abbrev pub room_of_slots : Room → ℕ → Room
+room_of_slots r n = record r { slots = n }
+
+abbrev pub room_of_operands : Room → ℕ → Room
+room_of_operands r n = record r { operands = n }
+
+abbrev pub room_of_activations : Room → ℕ → Room
+room_of_activations r n = record r { activations = n }
+
+abbrev pub room_of_members : Room → ℕ → Room
+room_of_members r n = record r { members = n }
+
+module _ {T : Type 0} where
+  -- the lowest n values are as before, and there is as much memory
+  pub record Unseen (n : ℕ) (old new : StackState T) : Type 0 where
+    pub room : new.room ≡ old.room
+    pub there : n ≤ length new.items
+    pub same : take n new.items ≡ take n old.items
+
+  -- a change of the lowest n values, which leaves m of them, is led back by a place
+  pub record Led (n m : ℕ) (old new : StackState T) (p : Place T) : Type 0 where
+    pub room : new.room ≡ old.room
+    pub less : m ≤ n
+    pub there : m ≤ length new.items
+    pub fits : Fits T (take m new.items) new.room p
+    pub undone : placed (take m new.items) p ≡ take n old.items
+
+  -- one above the lowest n is another now
+  pub set_unseen : (n at : ℕ) (v : T) (old new : StackState T) → new.items ≡ set old.items at v → new.room ≡ old.room → n ≤ at → n ≤ length old.items → Unseen n old new
+  set_unseen n at v old new is room low there = record {
+    room = room;
+    there = omega (arith, there, ap length is, length-set old.items at v);
+    same = ap (take n) is ∙ take-set-le n old.items at v low;
+  }
+
+  -- one more
+  pub added_unseen : (n : ℕ) (v : T) (old new : StackState T) → new.items ≡ old.items ++ v ∷ [] → new.room ≡ old.room → n ≤ length old.items → Unseen n old new
+  added_unseen n v old new is room there = record {
+    room = room;
+    there = omega (arith, there, ap length is, length_push old.items v);
+    same = ap (take n) is ∙ take-append-le n old.items (v ∷ []) there;
+  }
+
+  -- some above them are taken off
+  pub cut_unseen : (n k : ℕ) (old new : StackState T) → new.items ≡ take k old.items → new.room ≡ old.room → n ≤ k → k ≤ length old.items → Unseen n old new
+  cut_unseen n k old new is room low there = record {
+    room = room;
+    there = omega (arith, low, ap length is, length-take-le k old.items there);
+    same = ap (take n) is ∙ take-take n k old.items low;
+  }
+
+  -- the same where this may be refused
+  pub left_unseen : {E V : Type 0} (n k : ℕ) (old new : StackState T) (r : Result V E) → OnOk r (new.items ≡ take k old.items) → OnErr r (new ≡ old) → new.room ≡ old.room → n ≤ k → k ≤ length old.items → Unseen n old new
+  left_unseen n k old new (Ok v) taken refused room low there = cut_unseen n k old new taken room low there
+  left_unseen n k old new (Err e) taken refused room low there =
+      cut_unseen n (length old.items) old new (ap (λ (s : StackState T). s.items) refused ∙ sym (take_all (length old.items) old.items (omega arith))) room (omega (arith, low, there)) (omega arith)
+
+  -- one of the lowest n is another now
+  pub set_led : (n : ℕ) (old new : StackState T) (p : Place T) → LeadsBack T old new p → p.at < n → length new.items ≡ length old.items → n ≤ length old.items → Led n n old new p
+  set_led n old new p back low long there = record {
+    room = back.room;
+    less = omega arith;
+    there = omega (arith, there, long);
+    fits = record { inside = back.fits.inside; near = cut_near n p.at p.content new.items low (omega (arith, there, long)) back.fits.near };
+    undone = cut_placed n p.at p.content new.items low (omega (arith, low, there, long)) ∙ ap (take n) back.undone;
+  }
+
+  -- the last of the lowest n is taken off, and nothing is above it
+  pub popped_led : (n : ℕ) (old new : StackState T) (p : Place T) → LeadsBack T old new p → p.at < n → p.at ≡ length new.items → length old.items ≡ p.at + 1 → Led n p.at old new p
+  popped_led n old new p back low at_end long =
+      let whole : take p.at new.items ≡ new.items = take_all p.at new.items (omega (arith, at_end)) in
+      let all : take n old.items ≡ old.items = take_all n old.items (omega (arith, low, long)) in
+      record {
+        room = back.room;
+        less = omega (arith, low);
+        there = omega (arith, at_end);
+        fits = subst (λ l. Fits T l new.room p) (sym whole) back.fits;
+        undone = ap (λ l. placed l p) whole ∙ back.undone ∙ sym all;
+      }
+
+module _ {S O A M K : Type 0} where
+  abbrev pub state : Contents S O A M → List (Contents S O A M × K) → ℕ → Room → EnvironmentState S O A M K
+  state c kept ready room = record { now = c; kept = kept; ready = ready; room = room }
+
+  -- the trail, what was kept and the number of marks after a change of q to r, where all up to the base n, and then m, is as
+  -- it was kept or noted
+  pub record IsNoted (q r : Parts S O A M) (n m : Base) (ns : List Base) (items now : List (Item (Old S O A M))) (ks : List K) : Type 0 where
+    pub undoable : IsTrailOf r m ns now
+    pub kept : kept_contents r m ns now ks ≡ kept_contents q n ns items ks
+    pub marks : mark_count now ≡ mark_count items
+
+  part_changed : (q r : Parts S O A M) (n m : Base) (ns : List Base) (e : Old S O A M) (items now : List (Item (Old S O A M))) (ks : List K) → HasMore q r → IsBelow m n → Reaches m (contents_of r) →
+      FitsIn r (cut m (contents_of r)) e → undone (cut m (contents_of r)) e ≡ cut n (contents_of q) → now ≡ noted e items → IsTrailOf q n ns items → IsNoted q r n m ns items now ks
+  part_changed q r n m ns e items now ks more less there fits back is h =
+      let done = changed undone cut Reaches (FitsIn r) n m (cut n (contents_of q)) (cut m (contents_of r)) e items now ns ks less fits back is
+      (undoable_still undone cut Reaches (FitsIn q) (FitsIn r) n (cut n (contents_of q)) items ns (still_fits q r more) h.1) in
+      record { undoable = (there, done.undoable); kept = done.kept; marks = done.marks }
+
+  -- a change above the base
+  part_unseen : (q r : Parts S O A M) (n : Base) (ns : List Base) (items : List (Item (Old S O A M))) (ks : List K) → HasMore q r → Reaches n (contents_of r) → cut n (contents_of r) ≡ cut n (contents_of q) → IsTrailOf q n ns items → IsNoted q r n n ns items items ks
+  part_unseen q r n ns items ks more there same h = record {
+    undoable = (there, subst (λ c. IsUndoable undone cut Reaches (FitsIn r) n c items ns) (sym same) (undoable_still undone cut Reaches (FitsIn q) (FitsIn r) n (cut n (contents_of q)) items ns (still_fits q r more) h.1));
+    kept = ap (λ c. kept_of undone cut c items ns ks) same;
+    marks = refl;
+  }
+
+  pub slots_unseen : (q : Parts S O A M) (n : Base) (ns : List Base) (new : StackState S) (items : List (Item (Old S O A M))) (ks : List K) → Unseen n.slots q.slots new → IsTrailOf q n ns items → IsNoted q (record q { slots = new }) n n ns items items ks
+  slots_unseen q n ns new items ks u h =
+      part_unseen q (record q { slots = new }) n ns items ks (record { slots = omega (arith, u.room); operands = omega arith; activations = omega arith; members = omega arith }) (u.there, h.0.1)
+      (ap (λ l. contents l (take n.operands q.operands.items) q.activations.items q.members.items) u.same) h
+
+  pub operands_unseen : (q : Parts S O A M) (n : Base) (ns : List Base) (new : StackState O) (items : List (Item (Old S O A M))) (ks : List K) → Unseen n.operands q.operands new → IsTrailOf q n ns items → IsNoted q (record q { operands = new }) n n ns items items ks
+  operands_unseen q n ns new items ks u h =
+      part_unseen q (record q { operands = new }) n ns items ks (record { slots = omega arith; operands = omega (arith, u.room); activations = omega arith; members = omega arith }) (h.0.0, u.there)
+      (ap (λ l. contents (take n.slots q.slots.items) l q.activations.items q.members.items) u.same) h
+
+  pub slot_noted : (q : Parts S O A M) (n : Base) (m : ℕ) (ns : List Base) (new : StackState S) (p : Place S) (items now : List (Item (Old S O A M))) (ks : List K) → Led n.slots m q.slots new p → now ≡ noted (Slot p) items → IsTrailOf q n ns items → IsNoted q (record q { slots = new }) n (record n { slots = m }) ns items now ks
+  slot_noted q n m ns new p items now ks l is h =
+      part_changed q (record q { slots = new }) n (record n { slots = m }) ns (Slot p) items now ks (record { slots = omega (arith, l.room); operands = omega arith; activations = omega arith; members = omega arith }) (l.less, omega arith) (l.there, h.0.1) l.fits
+      (ap (λ xs. contents xs (take n.operands q.operands.items) q.activations.items q.members.items) l.undone) is h
+
+  pub operand_noted : (q : Parts S O A M) (n : Base) (m : ℕ) (ns : List Base) (new : StackState O) (p : Place O) (items now : List (Item (Old S O A M))) (ks : List K) → Led n.operands m q.operands new p → now ≡ noted (Operand p) items → IsTrailOf q n ns items → IsNoted q (record q { operands = new }) n (record n { operands = m }) ns items now ks
+  operand_noted q n m ns new p items now ks l is h =
+      part_changed q (record q { operands = new }) n (record n { operands = m }) ns (Operand p) items now ks (record { slots = omega arith; operands = omega (arith, l.room); activations = omega arith; members = omega arith }) (omega arith, l.less) (h.0.0, l.there) l.fits
+      (ap (λ xs. contents (take n.slots q.slots.items) xs q.activations.items q.members.items) l.undone) is h
+
+  -- where nothing is kept nothing needs a note
+  pub unkept_base : (q : Parts S O A M) (n : Base) (ns : List Base) (items : List (Item (Old S O A M))) (ks : List K) → length (kept_contents q n ns items ks) ≡ 0 → mark_count items ≡ length ks → IsTrailOf q n ns items → n ≡ nowhere
+  unkept_base q n ns items ks none counted h =
+      unmarked_base undone cut Reaches (FitsIn q) n (cut n (contents_of q)) items ns h.1 (sym (kept_counted undone cut (cut n (contents_of q)) items ns ks counted) ∙ none)
+
+  pub activation_changed : (q : Parts S O A M) (n : Base) (ns : List Base) (new : StackState A) (p : Place A) (items now : List (Item (Old S O A M))) (ks : List K) → LeadsBack A q.activations new p → now ≡ noted (Activation p) items → IsTrailOf q n ns items → IsNoted q (record q { activations = new }) n n ns items now ks
+  activation_changed q n ns new p items now ks back is h =
+      part_changed q (record q { activations = new }) n n ns (Activation p) items now ks (record { slots = omega arith; operands = omega arith; activations = omega (arith, back.room); members = omega arith }) (omega arith, omega arith) h.0 back.fits
+      (ap (λ l. contents (take n.slots q.slots.items) (take n.operands q.operands.items) l q.members.items) back.undone) is h
+
+  pub member_changed : (q : Parts S O A M) (n : Base) (ns : List Base) (new : StackState M) (p : Place M) (items now : List (Item (Old S O A M))) (ks : List K) → LeadsBack M q.members new p → now ≡ noted (Member p) items → IsTrailOf q n ns items → IsNoted q (record q { members = new }) n n ns items now ks
+  member_changed q n ns new p items now ks back is h =
+      part_changed q (record q { members = new }) n n ns (Member p) items now ks (record { slots = omega arith; operands = omega arith; activations = omega arith; members = omega (arith, back.room) }) (omega arith, omega arith) h.0 back.fits
+      (ap (λ l. contents (take n.slots q.slots.items) (take n.operands q.operands.items) q.activations.items l) back.undone) is h
+
+  -- any change where nothing is kept, where the base is told
+  pub freely_changed : (q r : Parts S O A M) (n : Base) (ns : List Base) (items : List (Item (Old S O A M))) (ks : List K) → length (kept_contents q n ns items ks) ≡ 0 → mark_count items ≡ length ks → IsTrailOf q n ns items → IsNoted q r n n ns items items ks
+  freely_changed q r n ns items ks none counted h =
+      let bare : mark_count items ≡ 0 = sym (kept_counted undone cut (cut n (contents_of q)) items ns ks counted) ∙ none in
+      let base = unmarked_base undone cut Reaches (FitsIn q) n (cut n (contents_of q)) items ns h.1 bare in
+      let empty = unmarked undone cut Reaches (FitsIn q) n (cut n (contents_of q)) items ns h.1 bare in
+      subst (λ l. IsNoted q r n n ns l l ks) (sym empty) (record { undoable = ((omega (arith, ap (λ (b : Base). b.slots) base), omega (arith, ap (λ (b : Base). b.operands) base)), base); kept = refl; marks = refl })
+
+  -- after the latest entry was put back into q, which makes r, the rest of the trail leads on
+  pub record StepBack (q r : Parts S O A M) (n : Base) (ns : List Base) (items rest : List (Item (Old S O A M))) (ks : List K) : Type 0 where
+    pub undoable : IsUndoable undone cut Reaches (FitsIn r) n (contents_of r) rest ns
+    pub kept : kept_of undone cut (contents_of r) rest ns ks ≡ kept_of undone cut (contents_of q) items ns ks
+    pub marks : mark_count rest ≡ mark_count items
+
+  -- what was kept is what the entries lead to
+  pub record StepBegun (q r : Parts S O A M) (n : Base) (ns : List Base) (items : List (Item (Old S O A M))) (ks : List K) : Type 0 where
+    pub undoable : IsUndoable undone cut Reaches (FitsIn r) n (contents_of r) items ns
+    pub kept : kept_of undone cut (contents_of r) items ns ks ≡ kept_contents q n ns items ks
+
+  -- once the slots and operands of which nothing is noted were cut off
+  pub step_begun : (q : Parts S O A M) (n : Base) (ns : List Base) (slots : StackState S) (operands : StackState O) (items : List (Item (Old S O A M))) (ks : List K) → slots.items ≡ take n.slots q.slots.items → slots.room ≡ q.slots.room →
+      operands.items ≡ take n.operands q.operands.items → operands.room ≡ q.operands.room → IsTrailOf q n ns items → StepBegun q (record q { slots = slots; operands = operands }) n ns items ks
+  step_begun q n ns slots operands items ks s s_room o o_room h =
+      let r = record q { slots = slots; operands = operands } in
+      let same : contents_of r ≡ cut n (contents_of q) = ap (λ l. contents l operands.items q.activations.items q.members.items) s ∙ ap (λ l. contents (take n.slots q.slots.items) l q.activations.items q.members.items) o in
+      record {
+        undoable = subst (λ c. IsUndoable undone cut Reaches (FitsIn r) n c items ns) (sym same) (undoable_still undone cut Reaches (FitsIn q) (FitsIn r) n (cut n (contents_of q)) items ns (still_fits q r (record { slots = omega (arith, s_room); operands = omega (arith, o_room); activations = omega arith; members = omega arith })) h.1);
+        kept = ap (λ c. kept_of undone cut c items ns ks) same;
+      }
+
+  pub step_back : (q r : Parts S O A M) (n : Base) (ns : List Base) (e : Old S O A M) (items rest : List (Item (Old S O A M))) (ks : List K) → items ≡ entry e ∷ rest → contents_of r ≡ undone (contents_of q) e → HasMore q r → IsUndoable undone cut Reaches (FitsIn q) n (contents_of q) items ns → StepBack q r n ns items rest ks
+  step_back q r n ns e items rest ks is back more h =
+      let below : IsUndoable undone cut Reaches (FitsIn q) n (contents_of q) (entry e ∷ rest) ns = subst (λ l. IsUndoable undone cut Reaches (FitsIn q) n (contents_of q) l ns) is h in
+      record {
+        undoable = subst (λ c. IsUndoable undone cut Reaches (FitsIn r) n c rest ns) (sym back) (undoable_still undone cut Reaches (FitsIn q) (FitsIn r) n (undone (contents_of q) e) rest ns (still_fits q r more) below.2);
+        kept = ap (λ c. kept_of undone cut c rest ns ks) back ∙ sym (ap (λ l. kept_of undone cut (contents_of q) l ns ks) is);
+        marks = sym (ap mark_count is);
+      }
+
+module _ {S O A M K : Type 0} where
+  -- where no entry is latest, that is what was kept last
+  pub record AtMark (q : Parts S O A M) (m : Base) (ms ns : List Base) (items rest : List (Item (Old S O A M))) (k : K) (ks : List K) : Type 0 where
+    pub undoable : IsTrailOf q m ms rest
+    pub kept : kept_of undone cut (contents_of q) items ns (k ∷ ks) ≡ (contents_of q, k) ∷ kept_contents q m ms rest ks
+    pub marks : mark_count items ≡ suc (mark_count rest)
+
+  pub at_mark : (q : Parts S O A M) (n m : Base) (ms ns : List Base) (items rest : List (Item (Old S O A M))) (k : K) (ks : List K) → latest items ≡ None → 0 < mark_count items → rest ≡ without_latest items → m ≡ base_of ns → ms ≡ drop 1 ns →
+      IsUndoable undone cut Reaches (FitsIn q) n (contents_of q) items ns → AtMark q m ms ns items rest k ks
+  at_mark q n m ms ns items rest k ks none some left base bases h =
+      let is : items ≡ mark ∷ rest = mark_latest items none some ∙ ap (λ l. mark ∷ l) (sym left) in
+      let below : IsUndoable undone cut Reaches (FitsIn q) n (contents_of q) (mark ∷ rest) ns = subst (λ l. IsUndoable undone cut Reaches (FitsIn q) n (contents_of q) l ns) is h in
+      let there : AtMark q (base_of ns) (drop 1 ns) ns (mark ∷ rest) rest k ks = record { undoable = below; kept = refl; marks = refl } in
+      subst (λ l. AtMark q m ms ns l rest k ks) (sym is) (subst (λ b. AtMark q b ms ns (mark ∷ rest) rest k ks) (sym base) (subst (λ b. AtMark q (base_of ns) b ns (mark ∷ rest) rest k ks) (sym bases) there))
+
+-- one value less
+pub one_less : {T : Type 0} (xs : List T) (n m : ℕ) → n ≤ length xs → m ≡ n - 1 → take (length (take n xs) - 1) (take n xs) ≡ take m xs
+one_less xs n m h less =
+    let long : length (take n xs) - 1 ≡ m = omega (arith, length-take-le n xs h, less) in
+    ap (λ k. take k (take n xs)) long ∙ take-take m n xs (omega (arith, less))

@@ -1,0 +1,261 @@
+use setl_store_environment::{Copied, Environment, Memory};
+use std::alloc::Global;
+use std::process::Abort;
+use std::test::Fail;
+
+// A value that isn't copied by itself.
+#[derive(Drop)]
+struct Held(u64);
+
+impl Copied for Held {
+    fn copied(&self) -> Result<Held, Memory> {
+        Ok(Held(self.0))
+    }
+}
+
+type Env = Environment<Held, Held, Held, Held, u64>;
+
+// Steps, a line each: a call with its number, if it has one, then what it gives, and behind a bar each the slots, the
+// operands, the activations and how many members there are after it.
+const FILLED: &str = "add 1: | 1 | 1 | 1 | 1
+add 2: | 1 2 | 1 2 | 1 2 | 2
+push_slots 3: | 1 2 3 | 1 2 | 1 2 | 2";
+
+const UNKEPT: &str = "is_kept: false | 1 2 3 | 1 2 | 1 2 | 2";
+
+const KEPT: &str = "keep 21: | 1 2 3 | 1 2 | 1 2 | 2
+is_kept: true | 1 2 3 | 1 2 | 1 2 | 2";
+
+const NESTED: &str = "set: | 11 2 3 | 12 2 | 1 2 | 2
+drop_last: | 11 2 3 | 12 | 1 | 2
+keep 22: | 11 2 3 | 12 | 1 | 2
+cut: | | | 1 | 0
+add 13: | 13 | 13 | 1 13 | 1
+back: 22 | 11 2 3 | 12 | 1 | 2
+back: 21 | 1 2 3 | 1 2 | 1 2 | 2
+back: | 1 2 3 | 1 2 | 1 2 | 2";
+
+const TAKEN: &str = "replace: 1 1 | 11 2 3 | 12 2 | 1 2 | 2
+pop_operand: 2 | 11 2 3 | 12 | 1 2 | 2
+pop_operands: 12 | 11 2 3 | | 1 2 | 2
+pop_members: 1 2 | 11 2 3 | | 1 2 | 0";
+
+// A slot, an operand, an activation and a member more, with this number.
+fn add(env: &mut Env, n: u64) -> Result<(), Memory> {
+    env.reserve(4)?;
+    env.reserve_slots(1)?;
+    env.reserve_operands(1)?;
+    env.reserve_activations(1)?;
+    env.reserve_members(1)?;
+    env.push_slot(Held(n));
+    env.push_operand(Held(n));
+    env.push_activation(Held(n));
+    env.push_member(Held(n));
+    Ok(())
+}
+
+// A slot more, with this number.
+fn push_slots(alloc: Global, env: &mut Env, n: u64) -> Result<(), Memory> {
+    env.reserve(1)?;
+    env.reserve_slots(1)?;
+    let mut more = Vec::with_capacity(alloc, 1)?;
+    more.push_reserved(Held(n));
+    env.push_slots(more);
+    Ok(())
+}
+
+fn set(env: &mut Env) -> Result<(), Memory> {
+    env.reserve(2)?;
+    if env.slots() > 0 && env.operands() > 0 {
+        env.set_slot(0, Held(11));
+        env.set_operand(0, Held(12));
+    }
+    Ok(())
+}
+
+fn drop_last(env: &mut Env) -> Result<(), Memory> {
+    env.reserve(2)?;
+    if env.operands() > 0 && env.activations() > 0 {
+        env.drop_operand();
+        env.drop_activation();
+    }
+    Ok(())
+}
+
+fn cut(env: &mut Env) -> Result<(), Memory> {
+    env.reserve(env.slots())?;
+    env.cut_slots(0);
+    env.reserve(env.operands())?;
+    env.cut_operands(0);
+    env.reserve(env.members())?;
+    env.cut_members(0);
+    Ok(())
+}
+
+fn back(env: &mut Env, told: &mut String) -> Result<(), Memory> {
+    match env.back() {
+        Some(beside) => write!(told, " {beside}"),
+        None => Ok(()),
+    }
+}
+
+fn replace(env: &mut Env, told: &mut String) -> Result<(), Memory> {
+    env.reserve(2)?;
+    if env.slots() > 0 && env.operands() > 0 {
+        let slot = env.replace_slot(0, Held(11))?.0;
+        let operand = env.replace_operand(0, Held(12))?.0;
+        write!(told, " {slot} {operand}")?;
+    }
+    Ok(())
+}
+
+fn pop_operand(env: &mut Env, told: &mut String) -> Result<(), Memory> {
+    env.reserve(1)?;
+    if env.operands() > 0 {
+        let operand = env.pop_operand()?.0;
+        write!(told, " {operand}")?;
+    }
+    Ok(())
+}
+
+fn pop_operands(env: &mut Env, told: &mut String) -> Result<(), Memory> {
+    env.reserve(env.operands())?;
+    tell(&env.pop_operands(0)?, told)
+}
+
+fn pop_members(env: &mut Env, told: &mut String) -> Result<(), Memory> {
+    env.reserve(env.members())?;
+    tell(&env.pop_members(0)?, told)
+}
+
+// Adds all numbers of these, in their order.
+fn tell(values: &[Held], told: &mut String) -> Result<(), Memory> {
+    for value in values {
+        write!(told, " {}", value.0)?;
+    }
+    Ok(())
+}
+
+// Makes a call, and adds what it gives.
+fn call(alloc: Global, env: &mut Env, name: &str, n: u64, told: &mut String) -> Result<(), Memory> {
+    match name {
+        "add" => add(env, n),
+        "push_slots" => push_slots(alloc, env, n),
+        "keep" => env.keep(n),
+        "is_kept" => write!(told, " {}", env.is_kept()),
+        "set" => set(env),
+        "drop_last" => drop_last(env),
+        "cut" => cut(env),
+        "replace" => replace(env, told),
+        "pop_operand" => pop_operand(env, told),
+        "pop_operands" => pop_operands(env, told),
+        "pop_members" => pop_members(env, told),
+        _ => back(env, told),
+    }
+}
+
+#[derive(Clone, Copy)]
+enum List {
+    Slots,
+    Operands,
+    Activations,
+}
+
+// The number at a place of a list, if there is one.
+fn number(env: &Env, list: List, at: usize) -> Option<u64> {
+    match list {
+        List::Slots if at < env.slots() => Some(env.slot(at).0),
+        List::Operands if at < env.operands() => Some(env.operand(at).0),
+        List::Activations if at < env.activations() => Some(env.activation(at).0),
+        _ => None,
+    }
+}
+
+// Adds a list, up to 9 numbers of it.
+fn show_list(env: &Env, list: List, told: &mut String) -> Result<(), Memory> {
+    told.push_str(" |")?;
+    for at in 0..9 {
+        let Some(n) = number(env, list, at) else {
+            break;
+        };
+        write!(told, " {n}")?;
+    }
+    Ok(())
+}
+
+// Adds what is there.
+fn show(env: &Env, told: &mut String) -> Result<(), Memory> {
+    show_list(env, List::Slots, told)?;
+    show_list(env, List::Operands, told)?;
+    show_list(env, List::Activations, told)?;
+    write!(told, " | {}", env.members())
+}
+
+// Makes the call of a step, and adds the step, what it gives and what is there after it.
+fn take_step(alloc: Global, env: &mut Env, step: &str, told: &mut String) -> Result<(), Memory> {
+    write!(told, "{step}:")?;
+    let (name, n) = step.split_once(' ').unwrap_or((step, "0"));
+    call(alloc, env, name, n.parse().unwrap_or(0), told)?;
+    show(env, told)
+}
+
+// Writes a line anew, and compares.
+fn expect_step(
+    rt: &impl Abort,
+    alloc: Global,
+    env: &mut Env,
+    line: &str,
+    told: &mut String,
+) -> Result<(), Fail> {
+    let (step, _) = line.split_once(':').unwrap_or((line, ""));
+    told.clear();
+    take_step(alloc, env, step, told)?;
+    assert_eq!(rt; told.as_str(), line);
+    Ok(())
+}
+
+fn expect_steps(
+    rt: &impl Abort,
+    alloc: Global,
+    env: &mut Env,
+    steps: &str,
+    told: &mut String,
+) -> Result<(), Fail> {
+    for line in steps.lines() {
+        expect_step(rt, alloc, env, line, told)?;
+    }
+    Ok(())
+}
+
+// Takes the steps of three parts.
+fn expect_all(
+    rt: &impl Abort,
+    alloc: Global,
+    env: &mut Env,
+    parts: [&str; 3],
+    told: &mut String,
+) -> Result<(), Fail> {
+    for steps in parts {
+        expect_steps(rt, alloc, env, steps, told)?;
+    }
+    Ok(())
+}
+
+// The same, on an environment that is empty at first.
+fn run(rt: &impl Abort, alloc: Global, parts: [&str; 3]) -> Result<(), Fail> {
+    let mut env = Environment::new(alloc)?;
+    expect_all(rt, alloc, &mut env, parts, &mut String::new(alloc))
+}
+
+#[test]
+fn nested_marks_bring_back_all_four_lists(rt: HostRuntime) -> Result<(), Fail> {
+    run(&rt, rt.alloc(), [FILLED, KEPT, NESTED])
+}
+
+#[test]
+fn what_is_taken_off_is_the_same_under_a_mark(rt: HostRuntime) -> Result<(), Fail> {
+    for start in [UNKEPT, KEPT] {
+        run(&rt, rt.alloc(), [FILLED, start, TAKEN])?;
+    }
+    Ok(())
+}

@@ -1,0 +1,65 @@
+//! What a return hands back.
+
+ghost use Rattle.std.specs.Prelude.{◌≡◌, ◌≤◌, ◌+◌, Some, length, drop, map, IfOk};
+ghost use Rattle.std.specs.Option.{option_map};
+ghost use Rattle.setl_value.specs.code.DatumOf.{part};
+ghost use Rattle.setl_store_slots.specs.Handed.{and_held, and_handed, handed, Adds};
+
+use crate::cells::Held;
+use setl_store_environment::{Environment, Memory};
+use setl_tree::{Param, Passing};
+use setl_value::Value;
+use std::alloc::Global;
+
+/// The result of a body, and behind it what its `wr` and `rw` parameters hold, the first one last; or None where one of
+/// these was taken. The parameters have the slots from `lowest` on.
+///
+/// The error is want of memory.
+pub fn handed_back<O: Drop, A: Drop, M: Drop, K: Drop>(
+    alloc: Global,
+    parameters: &[Param],
+    environment: &Environment<Held, O, A, M, K>,
+    lowest: usize,
+    value: Option<Value>,
+) -> Result<Option<Vec<Option<Value>>>, Memory>
+    requires { lowest + length parameters.now ≤ length environment.now.now.slots }
+    ensures { IfOk result (λ all. handed parameters.now (drop lowest environment.now.now.slots) (part value) ≡ option_map (λ values. map part values.items) all) }
+{
+    let mut all = Vec::new(alloc);
+    all.push(value)?;
+    let _slots = environment.slots();
+    let count = parameters.len();
+    for i in 0..count {
+        let at = count - 1 - i;
+        if !add_handed(
+            parameters[at].passing,
+            environment.slot(lowest + at),
+            &mut all,
+        )? {
+            return Ok(None);
+        }
+    }
+    Ok(Some(all))
+}
+
+// Adds what a parameter's slot holds, where it is handed back. Its answer is false where that was taken.
+fn add_handed(passing: Passing, slot: &Held, all: &mut Vec<Option<Value>>) -> Result<bool, Memory>
+    ensures { IfOk result (λ done. Adds (and_handed passing slot.now (Some (map part all.old.items))) done (map part all.new.items)) }
+{
+    match passing {
+        Passing::Rd => Ok(true),
+        Passing::Wr | Passing::Rw => add_held(slot, all),
+    }
+}
+
+// Adds what a slot holds. Its answer is false where that was taken.
+fn add_held(slot: &Held, all: &mut Vec<Option<Value>>) -> Result<bool, Memory>
+    ensures { IfOk result (λ done. Adds (and_held slot.now (Some (map part all.old.items))) done (map part all.new.items)) }
+{
+    match slot {
+        Held::Taken => return Ok(false),
+        Held::Om => all.push(None)?,
+        Held::Value(value) => all.push(Some(value.copy()?))?,
+    }
+    Ok(true)
+}

@@ -1,0 +1,133 @@
+-- The words of a command in parts: the first, those between, and the last.
+use Rattle.std.proofs.Common.{subst, ◌≡◌, ◌≢◌, ◌≤◌, ◌∙◌, ℕ, List, [], ◌∷◌, ◌++◌, length, codes, decimal, refl, sym, ap, ap₂, rules, arith}
+use Rattle.std.proofs.lemmas.Fmt.{decimal_injective}
+use Rattle.std.specs.List.{flat_map}
+use Rattle.setl_top_words.specs.Words.{Command, Run, Check, Code, Trial, Options, option_words, options_of, Spells, SpellsRun, SpellsTrial, IsFile, IsFaulty}
+use Rattle.setl_top_words.specs.code.Reading.{Leads, LeadsNowhere}
+use Rattle.setl_top_options.specs.code.Given.{is_nothing}
+use Rattle.setl_top_options.specs.declared.given.Given.{Given}
+use Rattle.setl_top_words.proofs.Order.{head_of, tail_of, one_list, first_gives, options_from, comes_to}
+
+pub no_end : (ys : List (List ℕ)) (y : List ℕ) → [] ≡ ys ++ y ∷ [] → ⊥
+no_end [] y e = absurd (omega (arith, ap length e))
+no_end (z ∷ ys) y e = absurd (omega (arith, ap length e))
+
+pub one_last : (xs ys : List (List ℕ)) (x y : List ℕ) → xs ++ x ∷ [] ≡ ys ++ y ∷ [] → (xs ≡ ys) × (x ≡ y)
+one_last [] [] x y e = (refl, head_of x y [] [] e)
+one_last [] (z ∷ ys) x y e = absurd (no_end ys y (tail_of x z [] _ e))
+one_last (z ∷ xs) [] x y e = absurd (no_end xs x (sym (tail_of z y _ [] e)))
+one_last (z ∷ xs) (w ∷ ys) x y e =
+    let (others, last) = one_last xs ys x y (tail_of z w _ _ e) in
+    (ap₂ (λ a b. a ∷ b) (head_of z w _ _ e) others, last)
+
+run_or_check : codes "run" ≢ codes "check"
+run_or_check e = absurd (search (rules, e))
+
+run_or_code : codes "run" ≢ codes "code"
+run_or_code e = absurd (search (rules, e))
+
+check_or_code : codes "check" ≢ codes "code"
+check_or_code e = absurd (search (rules, e))
+
+pub run_or_trial : codes "run" ≢ codes "trial"
+run_or_trial e = absurd (search (rules, e))
+
+check_or_trial : codes "check" ≢ codes "trial"
+check_or_trial e = absurd (search (rules, e))
+
+code_or_trial : codes "code" ≢ codes "trial"
+code_or_trial e = absurd (search (rules, e))
+
+pub few_are_faulty : (words : List (List ℕ)) → ((word : List ℕ) (between : List (List ℕ)) (name : List ℕ) → words ≢ word ∷ between ++ name ∷ []) → IsFaulty words
+few_are_faulty words few (Run options name) s = few (codes "run") (flat_map option_words s.given) name s.spelled
+few_are_faulty words few (Check name) s = few (codes "check") [] name s.0
+few_are_faulty words few (Code name) s = few (codes "code") [] name s.0
+few_are_faulty words few (Trial seed nodes) s = few (codes "trial") (decimal seed ∷ []) (decimal nodes) s.spelled
+
+-- the last word is a file, but for a trial
+pub dash_is_faulty : (words : List (List ℕ)) (word : List ℕ) (between : List (List ℕ)) (name : List ℕ) → words ≡ word ∷ between ++ name ∷ [] → word ≢ codes "trial" → (IsFile name → ⊥) → IsFaulty words
+dash_is_faulty words word between name e other none (Run options n) s =
+    let parts = one_last between (flat_map option_words s.given) name n (tail_of _ _ _ _ (sym e ∙ s.spelled)) in
+    none (subst IsFile (sym parts.1) s.file)
+dash_is_faulty words word between name e other none (Check n) s =
+    let parts = one_last between [] name n (tail_of _ _ _ _ (sym e ∙ s.0)) in
+    none (subst IsFile (sym parts.1) s.1)
+dash_is_faulty words word between name e other none (Code n) s =
+    let parts = one_last between [] name n (tail_of _ _ _ _ (sym e ∙ s.0)) in
+    none (subst IsFile (sym parts.1) s.1)
+dash_is_faulty words word between name e other none (Trial seed nodes) s = other (head_of _ _ _ _ (sym e ∙ s.spelled))
+
+pub run_is_faulty : (words : List (List ℕ)) (word : List ℕ) (between : List (List ℕ)) (name : List ℕ) (given : Given) → words ≡ word ∷ between ++ name ∷ [] → word ≡ codes "run" → given ≡ is_nothing → LeadsNowhere given between → IsFaulty words
+run_is_faulty words word between name given e w is none (Run options n) s =
+    let parts = one_last between (flat_map option_words s.given) name n (tail_of _ _ _ _ (sym e ∙ s.spelled)) in
+    none s.given (first_gives given is between s.given parts.0 s.valid)
+run_is_faulty words word between name given e w is none (Check n) s = run_or_check (sym w ∙ head_of _ _ _ _ (sym e ∙ s.0))
+run_is_faulty words word between name given e w is none (Code n) s = run_or_code (sym w ∙ head_of _ _ _ _ (sym e ∙ s.0))
+run_is_faulty words word between name given e w is none (Trial seed nodes) s = run_or_trial (sym w ∙ head_of _ _ _ _ (sym e ∙ s.spelled))
+
+-- ---- the words of a trial
+
+-- the words behind the first are its two numbers
+pub two_numbers : (between : List (List ℕ)) (last : List ℕ) (seed nodes : ℕ) → SpellsTrial (codes "trial" ∷ between ++ last ∷ []) seed nodes → (between ≡ decimal seed ∷ []) × (last ≡ decimal nodes)
+two_numbers between last seed nodes s = one_last between (decimal seed ∷ []) last (decimal nodes) (tail_of _ _ _ _ s.spelled)
+
+-- the last is no number of nodes
+pub no_nodes : (between : List (List ℕ)) (last : List ℕ) → ((n : ℕ) → 1 ≤ n → n ≤ 2000 → last ≢ decimal n) → (seed nodes : ℕ) → SpellsTrial (codes "trial" ∷ between ++ last ∷ []) seed nodes → ⊥
+no_nodes between last none seed nodes s = none nodes s.some_nodes s.few_nodes (two_numbers between last seed nodes s).1
+
+-- the first word is that of a trial
+as_trial : (words : List (List ℕ)) (word : List ℕ) (between : List (List ℕ)) (last : List ℕ) → words ≡ word ∷ between ++ last ∷ [] → word ≡ codes "trial" → words ≡ codes "trial" ∷ between ++ last ∷ []
+as_trial words word between last e w = e ∙ ap (λ x. x ∷ between ++ last ∷ []) w
+
+pub trial_is_faulty : (words : List (List ℕ)) (word : List ℕ) (between : List (List ℕ)) (last : List ℕ) → words ≡ word ∷ between ++ last ∷ [] → word ≡ codes "trial" → ((seed nodes : ℕ) → SpellsTrial (codes "trial" ∷ between ++ last ∷ []) seed nodes → ⊥) → IsFaulty words
+trial_is_faulty words word between last e w none (Run options n) s = run_or_trial (head_of _ _ _ _ (sym s.spelled ∙ e) ∙ w)
+trial_is_faulty words word between last e w none (Check n) s = check_or_trial (head_of _ _ _ _ (sym s.0 ∙ e) ∙ w)
+trial_is_faulty words word between last e w none (Code n) s = code_or_trial (head_of _ _ _ _ (sym s.0 ∙ e) ∙ w)
+trial_is_faulty words word between last e w none (Trial seed nodes) s =
+    none seed nodes (subst (λ ws. SpellsTrial ws seed nodes) (as_trial words word between last e w) s)
+
+pub spells_trial : (words : List (List ℕ)) (word : List ℕ) (between : List (List ℕ)) (last : List ℕ) (seed nodes : ℕ) → words ≡ word ∷ between ++ last ∷ [] → word ≡ codes "trial" → SpellsTrial (codes "trial" ∷ between ++ last ∷ []) seed nodes → SpellsTrial words seed nodes
+spells_trial words word between last seed nodes e w s =
+    subst (λ ws. SpellsTrial ws seed nodes) (sym (as_trial words word between last e w)) s
+
+one_trial : (words : List (List ℕ)) (a b c d : ℕ) → SpellsTrial words a b → SpellsTrial words c d → Trial a b ≡ Trial c d
+one_trial words a b c d s t =
+    let numbers = tail_of _ _ _ _ (sym s.spelled ∙ t.spelled) in
+    let seeds = decimal_injective a c (omega (arith, s.seed_in_range)) (omega (arith, t.seed_in_range)) (head_of _ _ _ _ numbers) in
+    let nodes = decimal_injective b d (omega (arith, s.few_nodes)) (omega (arith, t.few_nodes)) (head_of _ _ _ _ (tail_of _ _ _ _ numbers)) in
+    ap₂ (λ x y. Trial x y) seeds nodes
+
+-- ---- the words of a run
+
+pub spells_run : (words : List (List ℕ)) (word : List ℕ) (between : List (List ℕ)) (name : List ℕ) (given all : Given) (options : Options) → words ≡ word ∷ between ++ name ∷ [] → word ≡ codes "run" → IsFile name → given ≡ is_nothing → Leads given between all → options ≡ options_from all → SpellsRun words options name
+spells_run words word between name given all options e w f is l o = record {
+  given = l.options;
+  spelled = e ∙ ap₂ (λ x xs. x ∷ xs ++ name ∷ []) w l.gives.spelled;
+  valid = l.gives.valid;
+  file = f;
+  means = o ∙ ap options_from l.comes_to ∙ comes_to given l.options is;
+}
+
+one_run : (words : List (List ℕ)) (o p : Options) (n m : List ℕ) → SpellsRun words o n → SpellsRun words p m → Run o n ≡ Run p m
+one_run words o p n m s t =
+    let parts = one_last (flat_map option_words s.given) (flat_map option_words t.given) n m (tail_of _ _ _ _ (sym s.spelled ∙ t.spelled)) in
+    let same = one_list s.given t.given s.valid t.valid parts.0 in
+    ap₂ (λ x y. Run x y) (s.means ∙ ap options_of same ∙ sym t.means) parts.1
+
+pub one_command : (words : List (List ℕ)) (a b : Command) → Spells words a → Spells words b → a ≡ b
+one_command words (Run o n) (Run p m) s t = one_run words o p n m s t
+one_command words (Run o n) (Check m) s t = absurd (run_or_check (head_of _ _ _ _ (sym s.spelled ∙ t.0)))
+one_command words (Run o n) (Code m) s t = absurd (run_or_code (head_of _ _ _ _ (sym s.spelled ∙ t.0)))
+one_command words (Run o n) (Trial c d) s t = absurd (run_or_trial (head_of _ _ _ _ (sym s.spelled ∙ t.spelled)))
+one_command words (Check n) (Run p m) s t = absurd (run_or_check (head_of _ _ _ _ (sym t.spelled ∙ s.0)))
+one_command words (Check n) (Check m) s t = ap Check (head_of _ _ _ _ (tail_of _ _ _ _ (sym s.0 ∙ t.0)))
+one_command words (Check n) (Code m) s t = absurd (check_or_code (head_of _ _ _ _ (sym s.0 ∙ t.0)))
+one_command words (Check n) (Trial c d) s t = absurd (check_or_trial (head_of _ _ _ _ (sym s.0 ∙ t.spelled)))
+one_command words (Code n) (Run p m) s t = absurd (run_or_code (head_of _ _ _ _ (sym t.spelled ∙ s.0)))
+one_command words (Code n) (Check m) s t = absurd (check_or_code (head_of _ _ _ _ (sym t.0 ∙ s.0)))
+one_command words (Code n) (Code m) s t = ap Code (head_of _ _ _ _ (tail_of _ _ _ _ (sym s.0 ∙ t.0)))
+one_command words (Code n) (Trial c d) s t = absurd (code_or_trial (head_of _ _ _ _ (sym s.0 ∙ t.spelled)))
+one_command words (Trial a b) (Run p m) s t = absurd (run_or_trial (head_of _ _ _ _ (sym t.spelled ∙ s.spelled)))
+one_command words (Trial a b) (Check m) s t = absurd (check_or_trial (head_of _ _ _ _ (sym t.0 ∙ s.spelled)))
+one_command words (Trial a b) (Code m) s t = absurd (code_or_trial (head_of _ _ _ _ (sym t.0 ∙ s.spelled)))
+one_command words (Trial a b) (Trial c d) s t = one_trial words a b c d s t

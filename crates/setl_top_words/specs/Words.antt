@@ -1,0 +1,129 @@
+-- The plain form of the words: a command, the options of a run and the file whose text the command reads, or the two
+-- numbers of a trial.
+use Rattle.std.specs.Prelude.{◌≡◌, ◌≢◌, ◌<◌, ◌≤◌, ◌-◌, ◌^◌, ℕ, Bool, true, false, List, [], ◌∷◌, ◌++◌, Option, Some, None, ⊤, codes, decimal}
+use Rattle.std.specs.List.{flat_map, fold}
+use Rattle.setl_top_options.specs.declared.given.RunOption.{RunOption}
+use Rattle.setl_top_options.specs.declared.given.RunOption.TheVariants.{Unbased, Turns, Watch}
+use Rattle.setl_top_options.specs.declared.watching.Asked.{Asked}
+use Rattle.setl_top_options.specs.declared.watching.Asked.TheVariants.{Trace, Cover}
+
+-- a file's name isn't empty and doesn't begin with a dash
+abbrev pub IsFile : List ℕ → Type 0
+IsFile [] = ⊥
+IsFile (c ∷ name) = c ≢ 45
+
+-- ---- the watchers of a run
+
+-- the word by which a watcher is asked for
+abbrev pub watcher_word : Asked → List ℕ
+watcher_word Trace = codes "trace"
+watcher_word Cover = codes "cover"
+
+-- ---- the options of a run
+
+-- the words of an option; a number is written by decimal digits, without sign and without a leading zero
+abbrev pub option_words : RunOption → List (List ℕ)
+option_words Unbased = codes "--unbased" ∷ []
+option_words (Turns n) = codes "--turns" ∷ decimal n ∷ []
+option_words (Watch asked) = codes "--watch" ∷ watcher_word asked ∷ []
+
+abbrev pub IsInRange : RunOption → Type 0
+IsInRange Unbased = ⊤
+IsInRange (Turns n) = n < 2 ^ 63
+IsInRange (Watch asked) = ⊤
+
+abbrev pub IsSameKind : RunOption → RunOption → Type 0
+IsSameKind Unbased Unbased = ⊤
+IsSameKind (Turns n) (Turns m) = ⊤
+IsSameKind (Watch a) (Watch b) = ⊤
+IsSameKind option other = ⊥
+
+-- the option is of another kind than each of these
+abbrev pub IsOther : RunOption → List RunOption → Type 0
+IsOther option [] = ⊤
+IsOther option (x ∷ xs) = (IsSameKind option x → ⊥) × IsOther option xs
+
+-- each option is in its range, and none is of a kind that was there before
+abbrev pub AreOptions : List RunOption → Type 0
+AreOptions [] = ⊤
+AreOptions (x ∷ xs) = IsInRange x × IsOther x xs × AreOptions xs
+
+-- what the options of a run come to: the bound on its turns, whether declarations of bases count, and the watcher that is
+-- told its events, if one is asked for
+pub record Options : Type 0 where
+  pub turns : ℕ
+  pub based : Bool
+  pub watch : Option Asked
+
+abbrev pub default_options : Options
+default_options = record { turns = 2 ^ 63 - 1; based = true; watch = None }
+
+abbrev pub with_option : Options → RunOption → Options
+with_option options Unbased = record options { based = false }
+with_option options (Turns n) = record options { turns = n }
+with_option options (Watch asked) = record options { watch = Some asked }
+
+abbrev pub options_of : List RunOption → Options
+options_of given = fold with_option default_options given
+
+-- ---- the commands
+
+-- what the words ask for: to run a source, to check it, to list its code, or to try the program of a trial on an input
+-- that is drawn from a seed, with so many nodes
+pub data Command : Type 0 where
+  Run : (options : Options) → (name : List ℕ) → Command
+  Check : (name : List ℕ) → Command
+  Code : (name : List ℕ) → Command
+  Trial : (seed nodes : ℕ) → Command
+
+-- the words of a run: its options in any order, and last the file
+pub record SpellsRun (words : List (List ℕ)) (options : Options) (name : List ℕ) : Type 0 where
+  pub given : List RunOption
+  pub spelled : words ≡ codes "run" ∷ flat_map option_words given ++ name ∷ []
+  pub valid : AreOptions given
+  pub file : IsFile name
+  pub means : options ≡ options_of given
+
+-- the words of a trial: the seed and the number of nodes in decimal digits, without sign and without a leading zero
+pub record SpellsTrial (words : List (List ℕ)) (seed nodes : ℕ) : Type 0 where
+  pub spelled : words ≡ codes "trial" ∷ decimal seed ∷ decimal nodes ∷ []
+  pub seed_in_range : seed < 2 ^ 63
+  pub some_nodes : 1 ≤ nodes
+  pub few_nodes : nodes ≤ 2000
+
+-- the words are the plain form of a command
+abbrev pub Spells : List (List ℕ) → Command → Type 0
+Spells words (Run options name) = SpellsRun words options name
+Spells words (Check name) = (words ≡ codes "check" ∷ name ∷ []) × IsFile name
+Spells words (Code name) = (words ≡ codes "code" ∷ name ∷ []) × IsFile name
+Spells words (Trial seed nodes) = SpellsTrial words seed nodes
+
+-- the file whose text a command reads, if it reads one
+abbrev pub HasFile : Command → List ℕ → Type 0
+HasFile (Run options name) file = file ≡ name
+HasFile (Check name) file = file ≡ name
+HasFile (Code name) file = file ≡ name
+HasFile (Trial seed nodes) file = ⊥
+
+-- A command runs the program of this file. `turns` bounds the turns of the run, and `based` says whether the
+-- program's declarations count.
+abbrev pub RunsFile : Command → List ℕ → ℕ → Bool → Type 0
+RunsFile (Run options name) file turns based = (file ≡ name) × (turns ≡ options.turns) × (based ≡ options.based)
+RunsFile (Check name) file turns based = ⊥
+RunsFile (Code name) file turns based = ⊥
+RunsFile (Trial seed nodes) file turns based = ⊥
+
+-- the watcher that a command asks for, if it asks for one
+abbrev pub watched_by : Command → Option Asked
+watched_by (Run options name) = options.watch
+watched_by (Check name) = None
+watched_by (Code name) = None
+watched_by (Trial seed nodes) = None
+
+-- the words are of no plain form
+abbrev pub IsFaulty : List (List ℕ) → Type 0
+IsFaulty words = (command : Command) → Spells words command → ⊥
+
+-- words spell at most one command
+abbrev pub OneCommand : Type 0
+OneCommand = (words : List (List ℕ)) (a b : Command) → Spells words a → Spells words b → a ≡ b

@@ -1,5 +1,0 @@
-use Rattle.setl_words.proofs.Commands.{one_command}
-use Rattle.setl_words.proofs.laws.one_command.Goals as goal
-
-pub returns : goal.returns
-returns c = one_command
