@@ -10,7 +10,7 @@ use crate::head::head_break;
 use crate::statements::stmts;
 use crate::walk::Walk;
 use setl_names::{
-    Around, BodyNames, Break, Names, Occurrence, Procs, RuleFault, body_break, names_of_vars,
+    Around, BodyNames, Break, Names, Occurrence, Procs, RuleFault, body_break,
 };
 use setl_tree::{Items, Param, Proc, Stmt, Text, Tree};
 use std::alloc::{AllocError, Global};
@@ -148,7 +148,7 @@ fn resolve_with(alloc: Global, tree: &Tree, table: &Procs<'_>) -> Result<Found, 
     requires { table.now ≡ tree.now.procs }
     ensures { IfOk result (λ found. found ≡ whole_program tree.now) }
 {
-    let vars = names_of_vars(alloc, tree.vars.as_slice())?;
+    let vars = Names::declared(alloc, tree.vars.as_slice())?;
     resolve_within(alloc, tree, table, &vars)
 }
 
