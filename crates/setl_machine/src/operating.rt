@@ -2,7 +2,7 @@
 
 ghost use Rattle.std.specs.Prelude.{◌≡◌, ℕ, ◌<◌, ◌+◌, ◌^◌, true, Some, IfOk, IsOk};
 ghost use Rattle.setl_code.specs.Code.{Operate, PushAtom, PushEof, PayRound};
-ghost use Rattle.setl_map.specs.Operators.{operand_count, TakesOperands};
+ghost use Rattle.setl_operators_table.specs.Operators.{operand_count, TakesOperands};
 ghost use Rattle.setl_value.specs.code.DatumOf.{part};
 ghost use Rattle.setl_store.specs.Operands.{IsPlainTop};
 ghost use Rattle.setl_machine.specs.Operating.{AreTwo, PutsForTwo, PutsForOne};

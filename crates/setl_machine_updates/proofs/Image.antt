@@ -10,8 +10,8 @@ use Rattle.setl_value.specs.Datum.{Datum, depth, set_of, element_list-elements_o
 use Rattle.setl_value.specs.Pairs.{is_map}
 use Rattle.setl_map.specs.code.Changing.{ChangesImage}
 use Rattle.setl_map.specs.Maps.{image, put_image}
-use Rattle.setl_map.specs.Outcome.{Gives, Fails, DeepFault, KindFault, value, within_depth}
-use Rattle.setl_map.specs.Collections.{on_map}
+use Rattle.setl_operators_table.specs.Outcome.{Gives, Fails, DeepFault, KindFault, value, within_depth}
+use Rattle.setl_operators_table.specs.Collections.{on_map}
 use Rattle.setl_model.specs.Core.{Round}
 use Rattle.setl_model.specs.Places.{part_of, with_part_at}
 use Rattle.setl_machine_updates.specs.Changing.{ChangesPart}

@@ -7,8 +7,8 @@ use Rattle.setl_value.specs.Datum.{Datum, bool, int, text, atom, tuple, set, set
 use Rattle.setl_value.specs.Copies.{copies}
 use Rattle.setl_scalar.specs.Texts.{repeat_of as repeat_of_text}
 use Rattle.setl_tuple.specs.Tuples.{repeat_of as repeat_of_tuple}
-use Rattle.setl_map.specs.Outcome.{Gives, Fails, Overspends, KindFault, charging, value, tuple_value}
-use Rattle.setl_map.specs.Numbers.{times, replicated}
+use Rattle.setl_operators_table.specs.Outcome.{Gives, Fails, Overspends, KindFault, charging, value, tuple_value}
+use Rattle.setl_operators_table.specs.Numbers.{times, replicated}
 use Rattle.setl_operators_arithmetic.proofs.Views.{parts_back}
 
 -- ---- copies

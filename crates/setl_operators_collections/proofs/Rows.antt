@@ -7,9 +7,9 @@ use Rattle.std.proofs.lemmas.Int.{ints}
 use Rattle.setl_value.specs.Datum.{Datum, int, depth, elements_of, element_list, element_list-elements_of, parts_of, part_list, part_list-parts_of, set_of, tuple_of}
 use Rattle.setl_value.specs.Pairs.{is_map}
 use Rattle.setl_tuple.specs.Tuples.{index_of}
-use Rattle.setl_map.specs.Outcome.{Outcome, Gives, Fails, Overspends, DeepFault, KindFault, RangeFault, adding, charging, value, within_depth}
-use Rattle.setl_map.specs.Collections.{on_map, least, least_member}
-use Rattle.setl_map.specs.Puts.{put_part, put_value}
+use Rattle.setl_operators_table.specs.Outcome.{Outcome, Gives, Fails, Overspends, DeepFault, KindFault, RangeFault, adding, charging, value, within_depth}
+use Rattle.setl_operators_table.specs.Collections.{on_map, least, least_member}
+use Rattle.setl_operators_table.specs.Puts.{put_part, put_value}
 
 -- a body's list is what the table reads of its datum
 pub members_back : (ds : List Datum) → element_list (elements_of ds) ≡ ds

@@ -14,12 +14,12 @@ use Rattle.setl_value.specs.OrderLaws.{same_datum}
 use Rattle.setl_value.specs.WellFormed.{trim}
 use Rattle.setl_set.specs.Sets.{insert_datum, insert_by, set_from}
 use Rattle.setl_set.specs.Subsets.{pow_of, npow_of, subsets_of_size}
-use Rattle.setl_map.specs.Collections.{all_subsets, some_subsets}
+use Rattle.setl_operators_table.specs.Collections.{all_subsets, some_subsets}
 use Rattle.setl_operators_enumerations.specs.Counts.{choose}
 use Rattle.setl_operators_enumerations.proofs.Binomials.{none_above}
 use Rattle.setl_operators_enumerations.proofs.Sizes.{subset_number, none_larger}
-use Rattle.setl_map.specs.RangeRows.{as_set, as_tuple}
-use Rattle.setl_map.specs.Outcome.{Outcome, Gives, Fails, Overspends, DeepFault, adding, charging, value, within_depth}
+use Rattle.setl_operators_table.specs.RangeRows.{as_set, as_tuple}
+use Rattle.setl_operators_table.specs.Outcome.{Outcome, Gives, Fails, Overspends, DeepFault, adding, charging, value, within_depth}
 
 pub too_deep : (d : Datum) → 500 < depth d → within_depth d ≡ Fails DeepFault
 too_deep d h = let t : nat_le (depth d) 500 ≡ false = grind (arith, nat_tests) in ap (λ b. if b then value d else Fails DeepFault) t

@@ -1,7 +1,7 @@
 //! How many members ranges and sets of subsets have, up to a bound.
 
 ghost use Rattle.std.specs.Prelude.{◌≡◌, ◌^◌, ◌<◌, ◌≤◌, ◌+◌, ◌-ℤ◌};
-ghost use Rattle.setl_map.specs.Ranges.{is_past, range_size, step_size};
+ghost use Rattle.setl_operators_table.specs.Ranges.{is_past, range_size, step_size};
 ghost use Rattle.setl_operators_enumerations.specs.Counts.{IsCount, choose};
 
 /// How many integers there are from a to b, and None where they are more than `turns`.

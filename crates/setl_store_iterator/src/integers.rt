@@ -3,7 +3,7 @@
 ghost use Rattle.std.specs.Prelude.{◌≡◌, ◌∷◌, ◌-ℤ◌, ◌<ℤ◌, Some, [], false};
 ghost use Rattle.setl_value.specs.Datum.{int};
 ghost use Rattle.setl_set.specs.Sets.{set_from};
-ghost use Rattle.setl_map.specs.Ranges.{is_past, range_from, step_from};
+ghost use Rattle.setl_operators_table.specs.Ranges.{is_past, range_from, step_from};
 ghost use Rattle.setl_model.specs.Iterations.{members};
 ghost use Rattle.setl_store_iterator.specs.Items.{plain_item, is_pair};
 ghost use Rattle.setl_store_iterator.specs.Integers.{integers_left};

@@ -5,7 +5,7 @@
 
 ghost use Rattle.std.specs.Bool.{OnTrue};
 ghost use Rattle.std.specs.Prelude.{◌≡◌};
-ghost use Rattle.setl_map.specs.Operators.{operand_count, TakesOperands};
+ghost use Rattle.setl_operators_table.specs.Operators.{operand_count, TakesOperands};
 
 use crate::written::Work;
 use setl_operators::Operator::{
