@@ -12,6 +12,7 @@ mod pairs;
 
 pub use gather::gathered;
 pub use maps::{add_image, change_image, domain, image, images, lessf, put, put_all, range};
+pub use pairs::parts;
 use setl_value::Memory;
 
 /// Why a map call gave no result.
