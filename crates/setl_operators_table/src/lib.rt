@@ -180,3 +180,48 @@ pub enum Operator {
     /// The whole after `f{x} := s`, of the whole, the selector and the part.
     PutImages,
 }
+
+impl Operator {
+    ghost use Rattle.std.specs.Prelude.{◌≡◌};
+    ghost use Rattle.setl_operators_table.specs.Operators.{operand_count};
+
+    /// How many operands an operator has, and None for an enumeration, which has any number.
+    #[inline]
+    pub fn operand_count(self) -> Option<usize>
+        ensures { result ≡ operand_count self }
+    {
+        match self {
+            Operator::SetOf | Operator::TupleOf => None,
+            Operator::Negate
+            | Operator::Abs
+            | Operator::Even
+            | Operator::Odd
+            | Operator::Size
+            | Operator::Not
+            | Operator::Pow
+            | Operator::Domain
+            | Operator::Range
+            | Operator::Arb
+            | Operator::Str
+            | Operator::IsInteger
+            | Operator::IsString
+            | Operator::IsBoolean
+            | Operator::IsAtom
+            | Operator::IsTuple
+            | Operator::IsSet
+            | Operator::IsMap
+            | Operator::FoldAdd
+            | Operator::FoldMultiply
+            | Operator::FoldMax
+            | Operator::FoldMin
+            | Operator::FoldAnd
+            | Operator::FoldOr => Some(1),
+            Operator::Slice
+            | Operator::SetStep
+            | Operator::TupleStep
+            | Operator::Put
+            | Operator::PutImages => Some(3),
+            _ => Some(2),
+        }
+    }
+}
