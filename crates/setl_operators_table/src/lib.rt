@@ -7,6 +7,7 @@
 
 pub mod answers;
 pub mod laws;
+pub mod ranges;
 
 use setl_value::{Memory, Value};
 
