@@ -9,7 +9,7 @@ ghost use Rattle.setl_program.specs.code.Plain.{plain_expr, plain_iterator, plai
 
 use crate::chain::Chain;
 use crate::operators;
-use setl_map::Operator;
+use setl_operators_table::Operator;
 use setl_program::{Argument, Collection, Expr, Iterator, Link};
 use setl_tree::{Boxed, Items, Prefix, Text};
 use std::alloc::{AllocError, Global};

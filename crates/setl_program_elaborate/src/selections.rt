@@ -12,7 +12,7 @@ use crate::chain::Chain;
 use crate::elaborator::Elaborator;
 use crate::expressions::name_of;
 use crate::{makers, ranges};
-use setl_map::Operator;
+use setl_operators_table::Operator;
 use setl_program::{Argument, Expr, Link};
 use setl_program_scope::beside;
 use setl_tree::{Boxed, Expr as TreeExpr, Items, Param, Passing, Selector, Text};

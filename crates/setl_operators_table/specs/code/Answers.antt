@@ -2,12 +2,12 @@
 use Rattle.std.specs.Prelude.{◌≡◌, ℕ, true, false, Result, Ok, Err, Some, None}
 use Rattle.setl_value.specs.Datum.{Datum}
 use Rattle.setl_value.specs.code.DatumOf.{part}
-use Rattle.setl_map.specs.declared.Taken.{Taken}
-use Rattle.setl_map.specs.Takes.{Takeout, TakesOut, IsEmpty, CannotTake}
-use Rattle.setl_map.specs.declared.Answer.{Answer}
-use Rattle.setl_map.specs.declared.OpFault.{OpFault}
-use Rattle.setl_map.specs.declared.OpFault.TheVariants.{Kind, Om, Wide, Zero, Range, Deep, Spent, NoMemory}
-use Rattle.setl_map.specs.Outcome.{Outcome, Gives, Fails, Overspends, OmFault, KindFault, ZeroFault, RangeFault, WideFault, DeepFault}
+use Rattle.setl_operators_table.specs.declared.Taken.{Taken}
+use Rattle.setl_operators_table.specs.Takes.{Takeout, TakesOut, IsEmpty, CannotTake}
+use Rattle.setl_operators_table.specs.declared.Answer.{Answer}
+use Rattle.setl_operators_table.specs.declared.OpFault.{OpFault}
+use Rattle.setl_operators_table.specs.declared.OpFault.TheVariants.{Kind, Om, Wide, Zero, Range, Deep, Spent, NoMemory}
+use Rattle.setl_operators_table.specs.Outcome.{Outcome, Gives, Fails, Overspends, OmFault, KindFault, ZeroFault, RangeFault, WideFault, DeepFault}
 
 -- an answer has the value and the charge, a fault is told where it comes, and want of memory tells nothing
 abbrev pub Tells : Result Answer OpFault → Outcome → Type 0

@@ -7,7 +7,7 @@ use Rattle.setl_set.specs.Sets.{insert_datum, remove_datum, set_from}
 use Rattle.setl_set.specs.Subsets.{pow_of, npow_of, subsets_of_size}
 use Rattle.setl_tuple.specs.Tuples.{with_of}
 use Rattle.setl_map.specs.Maps.{domain_of, range_of, without_point}
-use Rattle.setl_map.specs.Outcome.{Outcome, Gives, Fails, OmFault, KindFault, RangeFault, value, set_value, within_depth, charging}
+use Rattle.setl_operators_table.specs.Outcome.{Outcome, Gives, Fails, OmFault, KindFault, RangeFault, value, set_value, within_depth, charging}
 
 -- the number of members, components or bytes
 abbrev pub size : Datum → Outcome

@@ -8,8 +8,8 @@ use Rattle.setl_scalar.specs.Texts.{slice_of as slice_of_text}
 use Rattle.setl_tuple.specs.declared.TupleFault.{TupleFault}
 use Rattle.setl_tuple.specs.Tuples.{index_of, get_of, slice_of as slice_of_tuple}
 use Rattle.setl_map.specs.Maps.{image}
-use Rattle.setl_map.specs.Outcome.{Outcome, Gives, Fails, KindFault, RangeFault, value, set_value, tuple_value}
-use Rattle.setl_map.specs.Collections.{on_map}
+use Rattle.setl_operators_table.specs.Outcome.{Outcome, Gives, Fails, KindFault, RangeFault, value, set_value, tuple_value}
+use Rattle.setl_operators_table.specs.Collections.{on_map}
 
 -- a component, which is `om` past the end; the only fault is a place below 1
 abbrev pub component : Result (Option Datum) TupleFault → Outcome

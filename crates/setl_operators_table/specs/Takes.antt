@@ -3,7 +3,7 @@ use Rattle.std.specs.Prelude.{◌≡◌, List, [], ◌∷◌, Option, Some, None
 use Rattle.std.specs.Option.{unwrap_or}
 use Rattle.setl_value.specs.Datum.{Datum, int, tuple, set, part_list, element_list, set_of, tuple_of}
 use Rattle.setl_value.specs.WellFormed.{trim}
-use Rattle.setl_map.specs.Outcome.{Fault, KindFault}
+use Rattle.setl_operators_table.specs.Outcome.{Fault, KindFault}
 
 -- what is left of a set or a tuple, and the part that is taken out, which may be `om`; or it has none; or why there is
 -- none

@@ -8,7 +8,7 @@ use Rattle.setl_value.specs.Datum.{Datum, bool, int, text, atom, tuple, set, par
 use Rattle.setl_value.specs.Order.{datum_cmp}
 use Rattle.setl_value.specs.Pairs.{is_datum, is_map}
 use Rattle.setl_set.specs.Sets.{has_datum, is_subset}
-use Rattle.setl_map.specs.Outcome.{Outcome, Gives, Fails, KindFault, truth}
+use Rattle.setl_operators_table.specs.Outcome.{Outcome, Gives, Fails, KindFault, truth}
 
 abbrev pub negation : Datum → Outcome
 negation (bool b) = truth (not b)

@@ -6,7 +6,7 @@ use Rattle.setl_scalar.specs.declared.ScalarFault.{ScalarFault}
 use Rattle.setl_scalar.specs.declared.ScalarFault.TheVariants.{Wide, Zero, Range, NoMemory}
 use Rattle.setl_scalar.specs.Integers.{add_of, sub_of, mul_of, neg_of, abs_of, power_of, div_of, mod_of}
 use Rattle.setl_set.specs.Sets.{union_of, minus_of, meet_of, symm_of}
-use Rattle.setl_map.specs.Outcome.{Outcome, Fails, KindFault, ZeroFault, RangeFault, WideFault, value, truth, set_value, tuple_value, charging}
+use Rattle.setl_operators_table.specs.Outcome.{Outcome, Fails, KindFault, ZeroFault, RangeFault, WideFault, value, truth, set_value, tuple_value, charging}
 
 -- what an operator on integers gives; its definition never answers NoMemory
 abbrev pub whole : Result ℤ ScalarFault → Outcome

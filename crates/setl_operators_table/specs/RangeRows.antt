@@ -2,8 +2,8 @@
 use Rattle.std.specs.Prelude.{ℕ, ◌==◌, ◌-ℤ◌, List, map, unsigned_abs, Some, if◌then◌else◌}
 use Rattle.setl_value.specs.Datum.{Datum, int}
 use Rattle.setl_set.specs.Sets.{set_from}
-use Rattle.setl_map.specs.Ranges.{range_size, range_from, step_size, step_from}
-use Rattle.setl_map.specs.Outcome.{Outcome, Fails, KindFault, ZeroFault, set_value, tuple_value, charging}
+use Rattle.setl_operators_table.specs.Ranges.{range_size, range_from, step_size, step_from}
+use Rattle.setl_operators_table.specs.Outcome.{Outcome, Fails, KindFault, ZeroFault, set_value, tuple_value, charging}
 
 -- the set or the tuple of some integers
 abbrev pub as_set : List Datum → Outcome

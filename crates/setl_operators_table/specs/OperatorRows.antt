@@ -2,9 +2,9 @@
 use Rattle.std.specs.Prelude.{◌≡◌, ℕ, ◌^◌, ◌-◌, Option, pos, negsuc, true, false, List, [], ◌∷◌, Some, None, refl}
 use Rattle.setl_value.specs.Datum.{Datum, bool, int, text, set_of, tuple_of}
 use Rattle.setl_value.specs.Pairs.{pair}
-use Rattle.setl_map.specs.declared.Operator.TheVariants.{Negate, Pow, Domain, Range, IsMap, Str, FoldAdd, FoldMax, FoldAnd, Add, Multiply, Power, Divide, Modulo, Lessf, Npow, Equal, NotIn, Get, Images, Slice, Tail, SetOf, TupleOf, SetRange, TupleRange, SetStep, Put, PutImages}
-use Rattle.setl_map.specs.Outcome.{Gives, Fails, Overspends, OmFault, KindFault, ZeroFault, RangeFault, WideFault, value, truth}
-use Rattle.setl_map.specs.Operators.{op_of}
+use Rattle.setl_operators_table.specs.declared.Operator.TheVariants.{Negate, Pow, Domain, Range, IsMap, Str, FoldAdd, FoldMax, FoldAnd, Add, Multiply, Power, Divide, Modulo, Lessf, Npow, Equal, NotIn, Get, Images, Slice, Tail, SetOf, TupleOf, SetRange, TupleRange, SetStep, Put, PutImages}
+use Rattle.setl_operators_table.specs.Outcome.{Gives, Fails, Overspends, OmFault, KindFault, ZeroFault, RangeFault, WideFault, value, truth}
+use Rattle.setl_operators_table.specs.Operators.{op_of}
 
 abbrev number : ℕ → Datum
 number n = int (pos n)

@@ -1,7 +1,7 @@
 -- The folds `op/ v`: the members or components combined from the left.
 use Rattle.std.specs.Prelude.{ℕ, List, [], ◌∷◌, map, Option, Some, None}
 use Rattle.setl_value.specs.Datum.{Datum, tuple, set, part_list, element_list}
-use Rattle.setl_map.specs.Outcome.{Outcome, Gives, Fails, KindFault, then_with, all_values, unary, binary}
+use Rattle.setl_operators_table.specs.Outcome.{Outcome, Gives, Fails, KindFault, then_with, all_values, unary, binary}
 
 -- what two members give, with the turns that are left
 abbrev pub combined : (ℕ → Datum → Datum → Outcome) → Option Datum → Option Datum → ℕ → Outcome

@@ -5,8 +5,8 @@ use Rattle.setl_value.specs.Pairs.{images}
 use Rattle.setl_set.specs.Sets.{insert_datum}
 use Rattle.setl_tuple.specs.Tuples.{index_of, put_of}
 use Rattle.setl_map.specs.Maps.{put_image, put_images}
-use Rattle.setl_map.specs.Outcome.{Outcome, Fails, OmFault, KindFault, RangeFault, tuple_value, within_depth, charging}
-use Rattle.setl_map.specs.Collections.{on_map}
+use Rattle.setl_operators_table.specs.Outcome.{Outcome, Fails, OmFault, KindFault, RangeFault, tuple_value, within_depth, charging}
+use Rattle.setl_operators_table.specs.Collections.{on_map}
 
 -- the tuple with y at index i, past its end only where y isn't `om`; each `om` put in between charges a turn
 abbrev pub put_part : ℕ → ℕ → Option Datum → List (Option Datum) → Outcome

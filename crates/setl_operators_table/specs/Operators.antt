@@ -2,16 +2,16 @@
 -- that is `om` is a fault except where the operator's row says otherwise.
 use Rattle.std.specs.Prelude.{◌≡◌, ℕ, List, Option, Some, None}
 use Rattle.setl_value.specs.Datum.{Datum, text}
-use Rattle.setl_map.specs.declared.Operator.{Operator}
-use Rattle.setl_map.specs.declared.Operator.TheVariants.{Negate, Abs, Even, Odd, Size, Not, Pow, Domain, Range, Arb, Str, IsInteger, IsString, IsBoolean, IsAtom, IsTuple, IsSet, IsMap, FoldAdd, FoldMultiply, FoldMax, FoldMin, FoldAnd, FoldOr, Add, Subtract, Multiply, Power, Divide, Modulo, Max, Min, With, Less, Lessf, Npow, Equal, NotEqual, Below, AtMost, Above, AtLeast, In, NotIn, Subset, Includes, Get, Images, Slice, Tail, SetOf, TupleOf, SetRange, TupleRange, SetStep, TupleStep, Put, PutImages}
-use Rattle.setl_map.specs.Outcome.{Outcome, value, all_values, unary, binary, ternary}
-use Rattle.setl_map.specs.Numbers.{negate, absolute, is_even, is_odd, raise, divide, greater, lesser, plus, minus, times, modulo}
-use Rattle.setl_map.specs.Truths.{negation, both, either, is_below, is_at_most, is_in, subset, opposite, equality, kind_test, is_integer_datum, is_string_datum, is_boolean_datum, is_atom_datum, is_tuple_datum, is_set_datum, is_map_datum}
-use Rattle.setl_map.specs.Collections.{size, least_member, all_subsets, some_subsets, with_datum, less_datum, enumerate_set, enumerate_tuple, domain, range, lessf_datum}
-use Rattle.setl_map.specs.Selections.{get, images_of, slice, tail}
-use Rattle.setl_map.specs.RangeRows.{as_set, as_tuple, range_of_integers, stepped_integers}
-use Rattle.setl_map.specs.Puts.{put, put_set}
-use Rattle.setl_map.specs.Folds.{folded}
+use Rattle.setl_operators_table.specs.declared.Operator.{Operator}
+use Rattle.setl_operators_table.specs.declared.Operator.TheVariants.{Negate, Abs, Even, Odd, Size, Not, Pow, Domain, Range, Arb, Str, IsInteger, IsString, IsBoolean, IsAtom, IsTuple, IsSet, IsMap, FoldAdd, FoldMultiply, FoldMax, FoldMin, FoldAnd, FoldOr, Add, Subtract, Multiply, Power, Divide, Modulo, Max, Min, With, Less, Lessf, Npow, Equal, NotEqual, Below, AtMost, Above, AtLeast, In, NotIn, Subset, Includes, Get, Images, Slice, Tail, SetOf, TupleOf, SetRange, TupleRange, SetStep, TupleStep, Put, PutImages}
+use Rattle.setl_operators_table.specs.Outcome.{Outcome, value, all_values, unary, binary, ternary}
+use Rattle.setl_operators_table.specs.Numbers.{negate, absolute, is_even, is_odd, raise, divide, greater, lesser, plus, minus, times, modulo}
+use Rattle.setl_operators_table.specs.Truths.{negation, both, either, is_below, is_at_most, is_in, subset, opposite, equality, kind_test, is_integer_datum, is_string_datum, is_boolean_datum, is_atom_datum, is_tuple_datum, is_set_datum, is_map_datum}
+use Rattle.setl_operators_table.specs.Collections.{size, least_member, all_subsets, some_subsets, with_datum, less_datum, enumerate_set, enumerate_tuple, domain, range, lessf_datum}
+use Rattle.setl_operators_table.specs.Selections.{get, images_of, slice, tail}
+use Rattle.setl_operators_table.specs.RangeRows.{as_set, as_tuple, range_of_integers, stepped_integers}
+use Rattle.setl_operators_table.specs.Puts.{put, put_set}
+use Rattle.setl_operators_table.specs.Folds.{folded}
 use Rattle.setl_text.specs.Texts.{whole_text}
 
 abbrev pub op_of : Operator → List (Option Datum) → ℕ → Outcome

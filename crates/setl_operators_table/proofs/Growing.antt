@@ -8,10 +8,10 @@ use Rattle.setl_scalar.specs.declared.ScalarFault.TheVariants.{Wide, Zero, Range
 use Rattle.setl_scalar.specs.Integers.{add_of}
 use Rattle.setl_set.specs.Sets.{insert_datum, union_of}
 use Rattle.setl_tuple.specs.Tuples.{with_of}
-use Rattle.setl_map.specs.Laws.{WithGrows, PlusGrows}
-use Rattle.setl_map.specs.Numbers.{whole}
-use Rattle.setl_map.specs.Outcome.{Outcome, Gives, Fails, Overspends, DeepFault, value}
-use Rattle.setl_map.proofs.Gathering.{depth_insert, depth_set_from}
+use Rattle.setl_map.specs.DepthLaws.{depth_insert, depth_set_from}
+use Rattle.setl_operators_table.specs.Laws.{WithGrows, PlusGrows}
+use Rattle.setl_operators_table.specs.Numbers.{whole}
+use Rattle.setl_operators_table.specs.Outcome.{Outcome, Gives, Fails, Overspends, DeepFault, value}
 
 abbrev given : Outcome → Option Datum
 given (Gives v n) = v

@@ -4,9 +4,9 @@ ghost use Rattle.std.specs.Prelude.{◌≡◌, ℤ, Result, IfOk, Ok, Err};
 ghost use Rattle.setl_value.specs.code.Body.{Members};
 ghost use Rattle.setl_value.specs.Datum.{set_of, text, tuple_of};
 ghost use Rattle.setl_value.specs.code.DatumOf.{datum};
-ghost use Rattle.setl_map.specs.code.Answers.{Tells};
-ghost use Rattle.setl_map.specs.Numbers.{whole};
-ghost use Rattle.setl_map.specs.Outcome.{value, truth, set_value, tuple_value, within_depth};
+ghost use Rattle.setl_operators_table.specs.code.Answers.{Tells};
+ghost use Rattle.setl_operators_table.specs.Numbers.{whole};
+ghost use Rattle.setl_operators_table.specs.Outcome.{value, truth, set_value, tuple_value, within_depth};
 
 use crate::{Answer, OpFault};
 use setl_scalar::ScalarFault;
