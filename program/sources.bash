@@ -65,8 +65,8 @@ fits() {
   [ -x "$root/$1" ] && [ -r "$list" ] && [ "$(sums_with "$1")" = "$(<"$list")" ]
 }
 
-# Whether the kept program can be run here.
-is_for_here() { [ "$OSTYPE $HOSTTYPE" = 'linux-gnu x86_64' ]; }
+# Whether the kept program is for this machine.
+is_for_here() { [[ $HOSTTYPE == x86_64 && $OSTYPE == linux* && $OSTYPE != *musl* ]]; }
 
 # Sets program to the one that was found to fit last, if no file or folder has changed since.
 remember_program() {
