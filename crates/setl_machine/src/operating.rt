@@ -114,7 +114,7 @@ fn is_lent_two(what: Operator) -> bool
     }
 }
 
-/// Whether an operator reads one operand.
+/// Whether an operator has one operand and is lent it. `pow` and the folds have one that they take.
 fn is_lent_one(what: Operator) -> bool
     ensures { result ≡ true → operand_count what ≡ Some 1 }
 {
