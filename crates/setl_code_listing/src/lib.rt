@@ -1,5 +1,5 @@
-//! The text of code: `listing` writes what the definition `listing` of setl_code says of the plain code that the code
-//! stands for.
+//! The text of code: `listing` writes what the definition `listing` of `setl_code` says of the plain code that the
+//! code stands for.
 #![tactic(auto)]
 
 mod instructions;

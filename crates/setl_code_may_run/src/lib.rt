@@ -1,4 +1,5 @@
-//! That the code of a program may run. No code that runs: a law alone.
+//! That the code of an accepted program may run: its slots are there and differ, and its operators have their
+//! operands. No code that runs: a law alone.
 #![tactic(auto)]
 
 ghost use Rattle.setl_code_may_run.specs.Claims.{CodeMayRun};

@@ -1,4 +1,4 @@
-//! Tests of code. Nothing stands on this crate.
+//! Tests of the listing of code. Nothing stands on this crate.
 #![tactic(auto)]
 
 #[cfg(test)]

@@ -1,7 +1,7 @@
-//! The code of programs: `emit` makes it, in one pass over the statements of each body.
+//! The code generator: `emit` makes the code of a program, body by body.
 //!
-//! What stands in a body is looked through first, so that each of its variables has a slot. Then its steps are put down,
-//! with the targets of jumps filled in where they are known.
+//! What stands in a body is looked through first, so that each of its variables has a slot. A second walk puts down its
+//! steps, and fills in the targets of jumps once they are known.
 #![tactic(auto)]
 
 mod bodies;

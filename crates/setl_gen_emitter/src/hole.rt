@@ -1,6 +1,6 @@
 //! Jumps whose targets aren't known yet.
 
-/// A jump out of the innermost loop, at a place of the code, with its line.
+/// A jump whose target isn't known yet, at a place of the code, with its line.
 #[derive(Clone, Copy, Debug, PartialEq, Eq)]
 pub struct Hole {
     pub place: u32,

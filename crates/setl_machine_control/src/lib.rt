@@ -1,4 +1,5 @@
-//! The control, and how a run ends; which values declared variables take, and how an update of one ends; `ok` and `fail`.
+//! The control of a run, which `fail` doesn't bring back (turns, atoms and the reader of the input), how a run ends,
+//! the tests of declared variables, and the instructions `ok` and `fail`.
 #![tactic(auto)]
 
 mod backtracking;

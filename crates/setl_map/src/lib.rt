@@ -1,4 +1,4 @@
-//! Maps.
+//! Maps, as sets of pairs: images, domain and range, puts, and an image that is changed where it stands.
 //!
 //! A map is a set of pairs, and a pair is a tuple of length two whose first component isn't `om`. Contracts read a map
 //! as `Members`, the strictly rising list of its pairs, and state each result by a definition on such lists (`images`,

@@ -1,4 +1,4 @@
-//! The declarations of a `repr` section, and the rules that they keep.
+//! The declarations of a `repr` section: the rules that they keep, and the bases and modes that they give.
 //!
 //! `modes` tests the rules 19 to 28 of a program on its syntax tree, and gives its bases and declared variables with their
 //! modes.

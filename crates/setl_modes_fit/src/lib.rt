@@ -1,4 +1,4 @@
-//! Which values fit the mode of a declared variable.
+//! Whether a value fits the mode of a declared variable.
 //!
 //! A set's members stand in rising order, so the pairs of a map that have one first part stand one after the other. A
 //! set fits a mode where each member fits by itself and each two neighbours fit together: a map is tested in one walk,

@@ -1,4 +1,5 @@
-//! Names of SETL programs, and the rules on what stands in statements.
+//! What a name means and the rules of names, as definitions; tables of names; and the tests of the rules on what
+//! stands in the statements of a body.
 //!
 //! `Names` and `Procs` are tables of names. `body_break` tests the rules 9 to 18 on what stands in the statements of a
 //! body.

@@ -1,4 +1,4 @@
-//! Name resolution of SETL.
+//! Name resolution: a walk over a tree that tests the rules of names and gives the variables of each body.
 //!
 //! `resolve_all` tests the rules 1 to 18 of a program on its syntax tree, and gives the variables of each body. A walk over
 //! the statements of a body finds what stands there.

@@ -1,5 +1,5 @@
-//! The operators' calls: `op` applies any operator to its operands, as the table `op_of` says; `op_one` and `op_two` are
-//! lent them.
+//! Any operator applied to its operands: `op` takes them, `op_one` and `op_two` are lent them, and each answers what
+//! the table of the operators says.
 #![tactic(auto)]
 
 mod folds;

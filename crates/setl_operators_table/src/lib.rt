@@ -1,4 +1,4 @@
-//! The table of the operators: what each operator makes of its operands, as definitions.
+//! The table of the operators: what each makes of its operands, as definitions, and what a call of one answers.
 //!
 //! `op_of` is the outcome of an operator on its operands with the turns that are left. The calls that make these
 //! outcomes stand in crates above; what they answer is an `Answer` or an `OpFault`, and `Tells` says that it is the

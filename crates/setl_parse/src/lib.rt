@@ -1,4 +1,4 @@
-//! The parser of SETL: the tokens of a source, read as a syntax tree.
+//! The parser of SETL: the tokens of a source, read as a syntax tree, or their fault and its place.
 #![tactic(auto)]
 
 mod fault;

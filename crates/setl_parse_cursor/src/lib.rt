@@ -1,4 +1,5 @@
-//! Reading the tokens of a source: a cursor over them, what stands ahead, rules and lists of rules, operators.
+//! What the parser reads with: a cursor over the tokens of a source, what stands ahead, rules and lists of rules, and
+//! the tables of operators.
 //!
 //! Each call that reads gives exactly what its reader in `setl_parse_reading` gives on the tokens that are left: what was read,
 //! with the cursor behind it, or a fault. `Fault::Syntax` comes at the first token that doesn't go on, `Fault::Nesting` at

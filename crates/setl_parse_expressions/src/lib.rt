@@ -1,4 +1,5 @@
-//! Reading expressions from the tokens of a source.
+//! The half of the parser that reads expressions: levels of operators, the rules of expressions, and the recursion
+//! over nestings.
 //!
 //! Each call reads exactly as its reader in `setl_parse_reading`: what was read, with the cursor behind it, or a fault, as
 //! `setl_parse_cursor` says it.

@@ -1,4 +1,4 @@
-//! How the grammar is read from left to right, and the laws between reading and the grammar.
+//! How the grammar is read from left to right, and the laws between reading and the grammar. No code that runs.
 #![tactic(auto)]
 
 mod ahead;

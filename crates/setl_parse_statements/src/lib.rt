@@ -1,4 +1,4 @@
-//! The statement half of the parser: statements, modes, procedures and programs, read as their readers read them.
+//! The half of the parser that reads statements, modes, procedures and programs.
 #![tactic(auto)]
 
 mod modes;

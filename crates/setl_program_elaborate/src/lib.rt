@@ -1,4 +1,4 @@
-//! The program of a syntax tree: each name in it becomes its variable.
+//! A syntax tree becomes its program: each name in it becomes its variable.
 #![tactic(auto)]
 
 mod chain;

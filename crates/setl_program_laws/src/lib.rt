@@ -1,4 +1,4 @@
-//! That a program which breaks no rule of names becomes a formed program. No code that runs: laws alone.
+//! That a tree which breaks no rule of names means a program that is formed and placed. No code that runs: laws alone.
 #![tactic(auto)]
 
 ghost use Rattle.setl_program_laws.specs.Claims.{AcceptedIsFormed, AcceptedIsPlaced, AcceptedIsUpdating};

@@ -1,4 +1,4 @@
-//! The operators on integers of 128 bits and on strings.
+//! What the operators make of integers of 128 bits and of strings.
 #![tactic(auto)]
 
 mod integers;

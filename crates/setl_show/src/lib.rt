@@ -1,4 +1,4 @@
-//! The canonical text of a syntax tree of SETL.
+//! The canonical text of a syntax tree.
 #![tactic(auto)]
 
 mod expressions;

@@ -1,4 +1,4 @@
-//! The laws between sources, their tokens as plain data, trees and their canonical texts.
+//! The laws between sources, their tokens as plain data, trees and canonical texts, and the parse of a canonical text.
 #![tactic(auto)]
 
 mod laws;

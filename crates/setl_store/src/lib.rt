@@ -1,4 +1,4 @@
-//! Variables, operands, calls and backtracking.
+//! The store of a run, which is all that `fail` brings back: variables, operands, calls and backtracking.
 #![tactic(auto)]
 
 mod activations;

@@ -1,4 +1,5 @@
-//! Each call of setl_store_environment once, with nothing kept and under nested marks. There is no code here but tests.
+//! Tests of the environment: each call once, with nothing kept and under nested marks. There is no code here but
+//! tests.
 #![tactic(auto)]
 
 #[cfg(test)]

@@ -1,4 +1,4 @@
-//! The lexer of SETL: the bytes of a source, cut into tokens.
+//! The lexer of SETL: the bytes of a source, cut into tokens by a table of reserved words and signs.
 //!
 //! A source is tokens, blanks and comments put together, each the longest that begins at its place. Blanks are the
 //! bytes 9, 10, 13 and 32. A comment begins with `$` and runs up to the end of its line. Tokens are words, names,

@@ -41,8 +41,9 @@ use std::alloc::Global;
 /// and `out` as they were, however it ends, a listing leaves `input` as it was, and a trial `files` and `input`.
 ///
 /// `ReadFault` comes only where the words name a file and the count of faults of `files` rose in the call, or that of
-/// `input` at a `read`, `WriteFault` only where the count of `out` or `err` rose, and `NoMemory` only where memory was
-/// refused. After these the error line is tried once.
+/// `input` at a `read`, and `WriteFault` only where the count of `out` or `err` rose. `NoMemory` is the answer to want of
+/// memory and to a count that passes the greatest number that it has room for; no clause says when it comes. After these
+/// the error line is tried once.
 pub fn setl<F: Files, I: Source, O: Sink, E: Sink>(
     alloc: Global,
     words: &[String],

@@ -24,7 +24,7 @@ pub enum RunOption {
 pub struct Given {
     /// The bound on the turns of the run, if one was given.
     pub turns: Option<u64>,
-    /// Whether it was given that declarations of bases don't count.
+    /// Whether it was given that declarations don't count.
     pub unbased: bool,
     /// The watcher that is told its events, if one was given.
     pub watch: Option<Asked>,

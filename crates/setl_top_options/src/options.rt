@@ -8,7 +8,7 @@ use crate::watching::Asked;
 pub struct Options {
     /// The bound on the turns of the run, at most 2^63 - 1.
     pub turns: u64,
-    /// Whether the program's declarations of bases count.
+    /// Whether the program's declarations count.
     pub based: bool,
     /// The watcher that is told the events of the run.
     pub watch: Option<Asked>,

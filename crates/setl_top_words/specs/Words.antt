@@ -48,7 +48,7 @@ abbrev pub AreOptions : List RunOption → Type 0
 AreOptions [] = ⊤
 AreOptions (x ∷ xs) = IsInRange x × IsOther x xs × AreOptions xs
 
--- what the options of a run come to: the bound on its turns, whether declarations of bases count, and the watcher that is
+-- what the options of a run come to: the bound on its turns, whether its declarations count, and the watcher that is
 -- told its events, if one is asked for
 pub record Options : Type 0 where
   pub turns : ℕ

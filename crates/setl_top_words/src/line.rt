@@ -15,7 +15,7 @@ fn unbased<'a>(alloc: Global) -> Arg<'a>
     Arg::new(alloc, "unbased")
         .long("unbased")
         .action(ArgAction::SetTrue)
-        .help("Run as if no base were declared")
+        .help("Leave all declarations out of account")
 }
 
 /// The option `--turns`.

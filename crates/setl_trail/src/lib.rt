@@ -1,5 +1,5 @@
-//! A trail: a stack of entries and marks. Who changes data and means to undo it notes what each change replaced, and
-//! later takes the entries off again, the latest first, down to a mark.
+//! A trail, by which changes are undone: a stack of entries and marks. Who changes data and means to undo it notes
+//! what each change replaced, and later takes the entries off again, the latest first, down to a mark.
 //!
 //! Memory for entries is reserved ahead, so that noting one can't fail. Contracts see a trail as the list of its
 //! entries and marks, the latest first, and the number `spare` of entries for which memory is reserved beside those.

@@ -1,4 +1,4 @@
-//! The operators on tuples.
+//! Tuples of values: components, slices, one tuple behind another, and copies of one.
 #![tactic(auto)]
 
 mod components;

@@ -1,4 +1,5 @@
-//! Values of the set language SETL: booleans, integers, strings, atoms, tuples and sets.
+//! The values of SETL (booleans, integers, strings, atoms, tuples and sets), their canonical order, and the shared
+//! bodies of tuples and sets.
 //!
 //! Contracts see a value as a `Datum`, plain data with no owner and no place: `datum v` is what the value `v` stands
 //! for. A tuple is a list of components that doesn't end in `om`, a set a strictly rising list of members in the

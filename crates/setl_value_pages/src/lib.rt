@@ -1,4 +1,5 @@
-//! Lists in shared pages, of any items that can be copied.
+//! Lists in shared pages, of any items that can be copied, and lists that may have several owners: reading them, and
+//! changing a part.
 //!
 //! A list of pages is a list of items that is cut in pages of 1 to 64, each of them shared: so a copy of it shares all
 //! pages, and a change copies the page that it changes, and that only where it has other owners. Contracts see a page as

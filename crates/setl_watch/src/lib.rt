@@ -1,4 +1,4 @@
-//! Watchers: who is told the events of a run, and reports what it was told.
+//! Watchers, which are told the events of a run and report what they were told: a trace and a cover.
 //!
 //! A watcher is told each event once, in order, up to the one where it has enough. Contracts see a watcher as a `Watch`:
 //! a name, plain data that it knows, how an event changes this and whether the watcher has enough then, and the bytes

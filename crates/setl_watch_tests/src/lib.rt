@@ -1,4 +1,4 @@
-//! Tests of watchers.
+//! Tests of watchers: a trace, a cover, and a watcher of their own.
 #![tactic(auto)]
 
 ghost use Rattle.setl_watch_tests.specs.Counting.{counting};
