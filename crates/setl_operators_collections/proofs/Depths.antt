@@ -1,7 +1,7 @@
 -- The depths of sets and tuples with one part more.
 use Rattle.std.specs.Prelude.{◌≡◌, ℕ, ◌≤◌, ◌<◌, ◌+◌, ◌-◌, List, [], ◌∷◌, ◌++◌, Option, Some, None, length, take, drop, replicate, refl}
-use Rattle.std.proofs.Common.{ap, arith}
-use Rattle.setl_value.specs.Datum.{Datum, depth, elements_depth, elements_of, parts_depth, parts_of, set_of, tuple_of}
+use Rattle.std.proofs.Common.{arith}
+use Rattle.setl_value.specs.Datum.{Datum, depth, parts_depth, parts_of, set_of, tuple_of}
 use Rattle.setl_value.specs.WellFormed.{trim, trim_onto}
 use Rattle.setl_set.specs.Sets.{insert_datum}
 use Rattle.setl_map.specs.DepthLaws.{depth_insert}
