@@ -1,8 +1,8 @@
 -- What each instruction does.
 use Rattle.std.specs.Prelude.{ℕ, zero, suc, ◌+◌, true, false, List, [], ◌∷◌, length, slice_get, Option, Some, None}
 use Rattle.setl_value.specs.Datum.{Datum, bool, atom, tuple, part_list}
-use Rattle.setl_map.specs.Outcome.{Fault, OmFault, KindFault, Outcome}
-use Rattle.setl_map.specs.Operators.{op_of}
+use Rattle.setl_operators_table.specs.Outcome.{Fault, OmFault, KindFault, Outcome}
+use Rattle.setl_operators_table.specs.Operators.{op_of}
 use Rattle.setl_text.specs.Texts.{print_line}
 use Rattle.setl_text.specs.Reading.{Reading, Denotes, AtEnd, NotForm, TooWide, TooDeep, read_denotation}
 use Rattle.setl_model_runs.specs.Variable.{Variable, Bound}

@@ -2,7 +2,7 @@
 -- operator has as many operands as it needs.
 use Rattle.std.specs.Prelude.{◌≡◌, ℕ, suc, ◌+◌, ◌<◌, false, List, [], ◌∷◌, length, Some}
 use Rattle.setl_model_runs.specs.Variable.{Variable}
-use Rattle.setl_map.specs.Operators.{operand_count, TakesOperands}
+use Rattle.setl_operators_table.specs.Operators.{operand_count, TakesOperands}
 use Rattle.setl_code.specs.declared.code.Slot.{Slot}
 use Rattle.setl_code.specs.declared.code.Slot.TheVariants as slot
 use Rattle.setl_code.specs.declared.code.Alteration.{Alteration}

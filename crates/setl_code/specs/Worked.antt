@@ -2,7 +2,7 @@
 use Rattle.std.specs.Prelude.{◌≡◌, ℕ, true, List, [], ◌∷◌, codes, pos, Some, None}
 use Rattle.setl_value.specs.Datum.{bool, int, text}
 use Rattle.setl_model_runs.specs.Variable.{Global, Own, Bound}
-use Rattle.setl_map.specs.declared.Operator.TheVariants.{Abs, Size, Pow, FoldAdd, FoldMax, Add, Subtract, With, Less, Npow, Equal, NotEqual, Below, Above, In, Get, Images, Slice, Tail, SetOf, TupleOf, TupleRange}
+use Rattle.setl_operators_table.specs.declared.Operator.TheVariants.{Abs, Size, Pow, FoldAdd, FoldMax, Add, Subtract, With, Less, Npow, Equal, NotEqual, Below, Above, In, Get, Images, Slice, Tail, SetOf, TupleOf, TupleRange}
 use Rattle.setl_program.specs.declared.kinds.Collection.TheVariants.{OfSet, OfTuple}
 use Rattle.setl_program.specs.declared.kinds.Connective.TheVariants.{And, Or, Implies}
 use Rattle.setl_program.specs.declared.kinds.Quantifier.TheVariants.{Exists, Forall, NotExists}

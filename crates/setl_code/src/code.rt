@@ -1,7 +1,7 @@
 //! Code: what a program becomes before it runs.
 
 use crate::literal::Literal;
-use setl_map::Operator;
+use setl_operators_table::Operator;
 use setl_program::{Collection, Connective, Source, Taking};
 use setl_tree::{Boxed, Items, Param, Text};
 

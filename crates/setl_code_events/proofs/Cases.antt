@@ -1,7 +1,7 @@
 -- What holds of a halt and of each move that goes on holds of a move by cases.
 use Rattle.std.proofs.Common.{◌≡◌, ℕ, ◌-◌, true, false, List, [], ◌∷◌, Option, None, Some, refl}
 use Rattle.setl_value.specs.Datum.{Datum, bool, int, text, atom, tuple, set}
-use Rattle.setl_map.specs.Outcome.{Outcome, Gives, Fails, Overspends}
+use Rattle.setl_operators_table.specs.Outcome.{Outcome, Gives, Fails, Overspends}
 use Rattle.setl_model_runs.specs.Turns.{left_after}
 use Rattle.setl_model_runs.specs.Events.{End}
 use Rattle.setl_model_runs.specs.Run.{Move, Halts}

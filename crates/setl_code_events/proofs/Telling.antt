@@ -3,8 +3,8 @@ use Rattle.std.proofs.Common.{◌≡◌, ◌∙◌, ℕ, ◌-◌, Bool, true, fa
 use Rattle.std.proofs.lemmas.List.{append-nil}
 use Rattle.std.specs.Prelude.{slice_get, cond}
 use Rattle.setl_value.specs.Datum.{Datum, bool, int, text, atom, tuple, set}
-use Rattle.setl_map.specs.Outcome.{Outcome}
-use Rattle.setl_map.specs.Operators.{op_of}
+use Rattle.setl_operators_table.specs.Outcome.{Outcome}
+use Rattle.setl_operators_table.specs.Operators.{op_of}
 use Rattle.setl_program.specs.declared.kinds.Connective.{Connective}
 use Rattle.setl_program.specs.declared.kinds.Connective.TheVariants.{And, Or, Implies}
 use Rattle.setl_program.specs.Program.{Begin}

@@ -1,7 +1,7 @@
 -- What a step tells: its events, by its instruction and the cores before and after it.
 use Rattle.std.specs.Prelude.{◌≡◌, ℕ, Bool, true, false, List, [], ◌∷◌, ◌++◌, map, cond, length, slice_get, Option, Some, None}
 use Rattle.setl_value.specs.Datum.{Datum}
-use Rattle.setl_map.specs.Outcome.{Outcome, Gives, Fails, Overspends}
+use Rattle.setl_operators_table.specs.Outcome.{Outcome, Gives, Fails, Overspends}
 use Rattle.setl_text.specs.Texts.{print_line}
 use Rattle.setl_model_runs.specs.Variable.{Variable, Global, Own, Bound}
 use Rattle.setl_model_runs.specs.Events.{Event, End, Called, Returned, Stored, Printed, Kept, Back}

@@ -9,7 +9,7 @@ use crate::names::{push_body_name, push_variable};
 use crate::texts::{push_integer, push_numbered, push_string, push_word};
 use crate::words::{alteration_word, begin_words, connective_word, operator_word};
 use setl_code::{Alteration, Body, Bracket, Code, Instr, Slot};
-use setl_map::Operator;
+use setl_operators_table::Operator;
 use setl_program::Collection;
 use setl_value::Memory;
 

@@ -5,7 +5,7 @@ ghost use Rattle.setl_code.specs.Listing as spec;
 ghost use Rattle.setl_code.specs.Plain.{plain_alteration, plain_begin};
 
 use setl_code::{Alteration, Begin};
-use setl_map::Operator;
+use setl_operators_table::Operator;
 use setl_program::{Connective, Source, Taking};
 
 /// The sign or word of an operator.

@@ -1,6 +1,6 @@
 -- Pieces of code whose instructions are placed: each variable that one names has a place, and each operator its operands.
 use Rattle.std.proofs.Common.{◌≡◌, ℕ, List, [], ◌∷◌, ◌++◌, Some}
-use Rattle.setl_map.specs.Operators.{operand_count, TakesOperands}
+use Rattle.setl_operators_table.specs.Operators.{operand_count, TakesOperands}
 use Rattle.setl_program.specs.Placed.{PlacedVariable}
 use Rattle.setl_code.specs.Code.{Alteration, Putting, Combining, TakingOut, Instr, Load, Take, StoreIn, Operate, Alter, Step}
 use Rattle.setl_code.specs.Piece.{Piece, empty, step, jump_out, jump_on, join, ending_at, going_on_at, Labels, steps_of}

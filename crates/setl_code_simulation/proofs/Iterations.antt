@@ -4,9 +4,9 @@ use Rattle.std.specs.Prelude.{slice_get, if◌then◌else◌, unsigned_abs, ◌-
 use Rattle.setl_value.specs.Datum.{Datum, int, text, tuple, set, element_list, part_list}
 use Rattle.setl_value.specs.Pairs.{is_map}
 use Rattle.setl_set.specs.Sets.{set_from}
-use Rattle.setl_map.specs.Ranges.{range_from, step_from}
+use Rattle.setl_operators_table.specs.Ranges.{range_from, step_from}
 use Rattle.setl_map.specs.Maps.{domain_of}
-use Rattle.setl_map.specs.Outcome.{all_values, Fault, KindFault, ZeroFault}
+use Rattle.setl_operators_table.specs.Outcome.{all_values, Fault, KindFault, ZeroFault}
 use Rattle.setl_program.specs.declared.kinds.Collection.{Collection}
 use Rattle.setl_program.specs.declared.kinds.Source.{Source}
 use Rattle.setl_program.specs.declared.kinds.Source.TheVariants.{Values, Between, SetSteps, TupleSteps}

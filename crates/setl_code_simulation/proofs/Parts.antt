@@ -2,7 +2,7 @@
 use Rattle.std.proofs.Common.{◌≡◌, ℕ, suc, ◌-◌, true, false, List, [], ◌∷◌, reverse, Option, Some, None, refl, ap, ◌∙◌, subst}
 use mathlib.Core.List.{reverse_aux}
 use Rattle.setl_value.specs.Datum.{Datum, bool}
-use Rattle.setl_map.specs.Outcome.{Outcome, Gives, Fails, Overspends}
+use Rattle.setl_operators_table.specs.Outcome.{Outcome, Gives, Fails, Overspends}
 use Rattle.setl_model_runs.specs.Variable.{Variable, Global, Own, Bound}
 use Rattle.setl_model_runs.specs.Turns.{left_after}
 use Rattle.setl_model_runs.specs.Run.{Move}

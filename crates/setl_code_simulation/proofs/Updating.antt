@@ -5,8 +5,8 @@ use mathlib.Core.List.{reverse_aux}
 use Rattle.std.proofs.lemmas.List.{length-reverse}
 use Rattle.std.proofs.lemmas.Grind.{reverse_onto}
 use Rattle.setl_value.specs.Datum.{Datum}
-use Rattle.setl_map.specs.Outcome.{Outcome}
-use Rattle.setl_map.specs.Operators.{op_of}
+use Rattle.setl_operators_table.specs.Outcome.{Outcome}
+use Rattle.setl_operators_table.specs.Operators.{op_of}
 use Rattle.setl_model_runs.specs.Variable.{Variable, Global, Own, Bound}
 use Rattle.setl_program.specs.Program.{Selectors, no_selector, round_selector, brace_selector, no_stmt, Program}
 use Rattle.setl_program.specs.Formed.{FormedSelectors, Formed}

@@ -3,7 +3,7 @@ use Rattle.std.specs.Prelude.{◌≡◌, ℕ, zero, suc, ◌+◌, true, List, []
 use Rattle.setl_value.specs.Datum.{Datum, bool}
 use Rattle.setl_model_runs.specs.Variable.{Variable, Environment}
 use Rattle.setl_model_runs.specs.Run.{Store}
-use Rattle.setl_map.specs.declared.Operator.{Operator}
+use Rattle.setl_operators_table.specs.declared.Operator.{Operator}
 use Rattle.setl_program.specs.declared.kinds.Collection.{Collection}
 use Rattle.setl_program.specs.declared.kinds.Connective.{Connective}
 use Rattle.setl_program.specs.declared.kinds.Quantifier.{Quantifier}

@@ -2,9 +2,9 @@
 use Rattle.std.proofs.Common.{◌≡◌, ◌<◌, ◌≤◌, ℕ, suc, ◌+◌, ◌-◌, Bool, true, false, List, [], ◌∷◌, inl, inr, length, Option, Some, None, refl, subst, arith}
 use Rattle.std.specs.List.{Contains}
 use Rattle.setl_value.specs.Datum.{Datum, bool, atom, tuple, part_list}
-use Rattle.setl_map.specs.Outcome.{Outcome}
-use Rattle.setl_map.specs.declared.Operator.{Operator}
-use Rattle.setl_map.specs.Operators.{op_of}
+use Rattle.setl_operators_table.specs.Outcome.{Outcome}
+use Rattle.setl_operators_table.specs.declared.Operator.{Operator}
+use Rattle.setl_operators_table.specs.Operators.{op_of}
 use Rattle.setl_text.specs.Texts.{print_line}
 use Rattle.setl_text.specs.Reading.{Reading, Denotes, AtEnd, NotForm, TooWide, TooDeep, read_denotation}
 use Rattle.setl_model_runs.specs.Variable.{Variable}

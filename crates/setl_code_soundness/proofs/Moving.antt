@@ -4,7 +4,7 @@ use Rattle.std.specs.Prelude.{nat_le, cond}
 use Rattle.std.specs.List.{Contains}
 use Rattle.std.proofs.lemmas.Bool.{leb-true}
 use Rattle.setl_value.specs.Datum.{Datum, bool}
-use Rattle.setl_map.specs.Outcome.{Outcome, Gives, Fails, Overspends}
+use Rattle.setl_operators_table.specs.Outcome.{Outcome, Gives, Fails, Overspends}
 use Rattle.setl_model_runs.specs.Variable.{Variable, Global, Own, Bound, is_variable}
 use Rattle.setl_model_runs.specs.Events.{Event}
 use Rattle.setl_model_runs.specs.Run.{Store, Move, Moves, Halts}

@@ -2,7 +2,7 @@
 
 use setl_code::{Alteration, Begin, Body, Bracket, Code, Instr, Literal, OwnName, Slot, Step};
 use setl_code_listing::listing;
-use setl_map::Operator;
+use setl_operators_table::Operator;
 use setl_program::{Collection, Connective, Source, Taking};
 use setl_tree::{Boxed, Items, Param, Passing, Text};
 use setl_value::Memory;

@@ -1,7 +1,7 @@
 -- One lemma for each construct of expressions, with what its function knows as premises.
 use Rattle.std.proofs.Common.{◌≡◌, ℕ, suc, List, [], refl, ap, sym, ◌∙◌, Some}
 use Rattle.setl_value.specs.Datum.{bool}
-use Rattle.setl_map.specs.declared.Operator.{Operator}
+use Rattle.setl_operators_table.specs.declared.Operator.{Operator}
 use Rattle.setl_program.specs.declared.kinds.Connective.{Connective}
 use Rattle.setl_program.specs.declared.kinds.Collection.{Collection}
 use Rattle.setl_program.specs.declared.kinds.Quantifier.{Quantifier}

@@ -11,7 +11,7 @@ use Rattle.setl_program.specs.declared.expr.Expr.{Expr}
 use Rattle.setl_program.specs.declared.expr.Iterator.{Iterator}
 use Rattle.std.specs.Prelude.{OnOk, Result, Ok, Err}
 use Rattle.std.specs.Option.{option_map}
-use Rattle.setl_map.specs.declared.Operator.{Operator}
+use Rattle.setl_operators_table.specs.declared.Operator.{Operator}
 use Rattle.setl_program.specs.declared.kinds.Taking.{Taking}
 use Rattle.setl_program.specs.declared.stmt.Place.{Place}
 use Rattle.setl_program.specs.declared.stmt.Stmt.{Stmt}

@@ -13,45 +13,9 @@ use crate::{Memory, stmts};
 use setl_code::{Body, Code, Instr};
 use setl_gen_emitter::{Emitter, Names, number};
 use setl_program::{Procedure, Program, Stmt};
-use setl_tree::{Items, Param, Text};
+use setl_tree::{Items, Param, Text, copied_items};
 use std::alloc::Global;
 use std::mem;
-
-/// The same texts again.
-fn copied_texts(alloc: Global, texts: &[Text]) -> Result<Items<Text>, Memory>
-    ensures { IfOk result (λ all. all ≡ texts.now) }
-{
-    let mut all = Items::new(alloc);
-    for text in texts {
-        let copy = text.copy()?;
-        all.push(copy)?;
-    }
-    Ok(all)
-}
-
-/// The same parameters again.
-fn copied_params(alloc: Global, params: &[Param]) -> Result<Items<Param>, Memory>
-    ensures { IfOk result (λ all. all ≡ params.now) }
-{
-    let mut all = Items::new(alloc);
-    for param in params {
-        let copy = copied_param(param)?;
-        all.push(copy)?;
-    }
-    Ok(all)
-}
-
-/// The same parameter again.
-fn copied_param(param: &Param) -> Result<Param, Memory>
-    ensures { IfOk result (λ copy. copy ≡ param.now) }
-{
-    let name = param.name.copy()?;
-    Ok(Param {
-        passing: param.passing,
-        name,
-        line: param.line,
-    })
-}
 
 /// Begins the body of a number: it has these parameters, and the names in these statements.
 fn begin<'p>(
@@ -77,7 +41,7 @@ fn finish(to: &mut Emitter<'_>, name: &Text) -> Result<Body, Memory>
     ensures body { IfOk result (λ b. plain_body (map run.Global to.old.names.vars) to.old.names.body b ≡ finished name.now to.old.names (held to.old)) }
     ensures vars { to.new.names ≡ to.old.names }
 {
-    let parameters = copied_params(to.alloc, to.names.parameters())?;
+    let parameters = copied_items(to.alloc, to.names.parameters())?;
     let name = name.copy()?;
     let names = to.names.names()?;
     let steps = mem::replace(&mut to.steps, Vec::new(to.alloc));
@@ -149,6 +113,6 @@ pub fn emit(alloc: Global, program: &Program) -> Result<Code, Memory>
     let body = main_body(&mut to, program)?;
     bodies.push(body)?;
     procedures(&mut to, program.procedures.as_slice(), &mut bodies)?;
-    let vars = copied_texts(alloc, program.vars.as_slice())?;
+    let vars = copied_items(alloc, program.vars.as_slice())?;
     Ok(Code { vars, bodies })
 }

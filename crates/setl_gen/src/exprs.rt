@@ -16,7 +16,7 @@ use setl_gen_emitter::{
     Emitter, add_and_go_on, begin, begin_selection, bind, end_undecided, keep_or_drop,
     leave_decided, number, store_set,
 };
-use setl_map::Operator;
+use setl_operators_table::Operator;
 use setl_program::{Argument, Binding, Collection, Connective, Expr, Iterator, Link, Quantifier};
 use setl_tree::Boxed;
 use std::alloc::AllocError;

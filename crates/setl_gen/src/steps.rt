@@ -11,7 +11,7 @@ use crate::exprs::{expr, exprs};
 use crate::places::{alter, put};
 use setl_code::{Alteration, Instr};
 use setl_gen_emitter::{Emitter, number, parts};
-use setl_map::Operator;
+use setl_operators_table::Operator;
 use setl_program::{Expr, Place, Taking, Variable};
 
 /// A value is put into a place.

@@ -16,7 +16,7 @@ use crate::binds::{bind, clear_all};
 use crate::emitter::{Emitter, number};
 use crate::hole::Hole;
 use setl_code::{Begin, Instr};
-use setl_map::Operator;
+use setl_operators_table::Operator;
 use setl_program::{Binding, Iterator, Quantifier};
 use setl_tree::Items;
 

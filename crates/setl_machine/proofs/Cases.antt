@@ -1,7 +1,7 @@
 -- A fact of a move follows by what the move is by cases of, where it holds of each halt.
 use Rattle.std.proofs.Common.{ℕ, true, false, List, [], ◌∷◌, Option, None, Some, ◌-◌}
 use Rattle.setl_value.specs.Datum.{Datum, bool, int, text, atom, tuple, set}
-use Rattle.setl_map.specs.Outcome.{Outcome, Gives, Fails, Overspends}
+use Rattle.setl_operators_table.specs.Outcome.{Outcome, Gives, Fails, Overspends}
 use Rattle.setl_model_runs.specs.Events.{End}
 use Rattle.setl_model_runs.specs.Run.{Move, Halts}
 use Rattle.setl_model_runs.specs.Turns.{left_after}

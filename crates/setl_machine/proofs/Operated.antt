@@ -3,11 +3,11 @@ use Rattle.std.proofs.Common.{◌≡◌, ◌∙◌, ℕ, suc, ◌-◌, List, [],
 use Rattle.std.specs.Prelude.{Result, IsSome, IfOk}
 use Rattle.std.specs.declared.alloc.AllocError.{AllocError}
 use Rattle.setl_value.specs.Datum.{Datum}
-use Rattle.setl_map.specs.declared.OpFault.{OpFault}
-use Rattle.setl_map.specs.code.Answers.{Tells}
-use Rattle.setl_map.specs.declared.Operator.{Operator}
-use Rattle.setl_map.specs.Operators.{op_of, operand_count, IsCount, TakesOperands}
-use Rattle.setl_map.specs.Outcome.{Gives}
+use Rattle.setl_operators_table.specs.declared.OpFault.{OpFault}
+use Rattle.setl_operators_table.specs.code.Answers.{Tells}
+use Rattle.setl_operators_table.specs.declared.Operator.{Operator}
+use Rattle.setl_operators_table.specs.Operators.{op_of, operand_count, IsCount, TakesOperands}
+use Rattle.setl_operators_table.specs.Outcome.{Gives}
 use Rattle.setl_model_runs.specs.Run.{settle}
 use Rattle.setl_code.specs.Code.{Operate}
 use Rattle.setl_code.specs.Plain.{plain_code}

@@ -2,7 +2,7 @@
 use Rattle.std.proofs.Common.{◌≡◌, ◌∙◌, ℕ, true, false, List, [], ◌∷◌, length, Option, refl, sym, ap}
 use Rattle.std.specs.Prelude.{Bool}
 use Rattle.setl_value.specs.Datum.{Datum}
-use Rattle.setl_map.specs.Outcome.{Outcome}
+use Rattle.setl_operators_table.specs.Outcome.{Outcome}
 use Rattle.setl_model_runs.specs.Events.{End}
 use Rattle.setl_model_runs.specs.Run.{Store, State, Next, Goes, Ends, Move, Moves, Halts, if_fits, store_all, stored, settle}
 use Rattle.setl_model_runs.specs.Variable.{Variable, Global, Own, Bound}

@@ -1,8 +1,8 @@
 //! Instructions that ask the control: operators, atoms, the end of the input, and rounds.
 
-ghost use Rattle.std.specs.Prelude.{◌≡◌, ℕ, ◌<◌, ◌+◌, ◌^◌, true, Some, IfOk, IsOk};
+ghost use Rattle.std.specs.Prelude.{◌≡◌, ℕ, ◌<◌, ◌+◌, ◌^◌, Some, IfOk, IsOk};
 ghost use Rattle.setl_code.specs.Code.{Operate, PushAtom, PushEof, PayRound};
-ghost use Rattle.setl_map.specs.Operators.{operand_count, TakesOperands};
+ghost use Rattle.setl_operators_table.specs.Operators.{operand_count, TakesOperands};
 ghost use Rattle.setl_value.specs.code.DatumOf.{part};
 ghost use Rattle.setl_store.specs.Operands.{IsPlainTop};
 ghost use Rattle.setl_machine.specs.Operating.{AreTwo, PutsForTwo, PutsForOne};
@@ -72,72 +72,16 @@ fn operate_any(
     ensures did { IfOk result (λ end. Does store.old control.old line (Operate what count) store.new control.new end) }
     ensures reader { control.new.reader ≡ control.old.reader }
 {
-    if is_lent_two(what) {
-        operate_on_two(what, count, line, store, control)
-    } else if is_lent_one(what) {
-        operate_on_one(what, count, line, store, control)
-    } else {
-        operate_listed(what, count, line, store, control)
+    match what.operand_count() {
+        Some(1) => operate_on_one(what, count, line, store, control),
+        Some(2) if !changes_first(what) => operate_on_two(what, count, line, store, control),
+        _ => operate_listed(what, count, line, store, control),
     }
 }
 
-/// Whether an operator reads two operands, and changes none in place.
-fn is_lent_two(what: Operator) -> bool
-    ensures { result ≡ true → operand_count what ≡ Some 2 }
-{
-    match what {
-        Operator::Add
-        | Operator::Subtract
-        | Operator::Multiply
-        | Operator::Power
-        | Operator::Divide
-        | Operator::Modulo
-        | Operator::Max
-        | Operator::Min
-        | Operator::Npow
-        | Operator::Equal
-        | Operator::NotEqual
-        | Operator::Below
-        | Operator::AtMost
-        | Operator::Above
-        | Operator::AtLeast
-        | Operator::In
-        | Operator::NotIn
-        | Operator::Subset
-        | Operator::Includes
-        | Operator::Get
-        | Operator::Images
-        | Operator::Tail
-        | Operator::SetRange
-        | Operator::TupleRange => true,
-        _ => false,
-    }
-}
-
-/// Whether an operator reads one operand.
-fn is_lent_one(what: Operator) -> bool
-    ensures { result ≡ true → operand_count what ≡ Some 1 }
-{
-    match what {
-        Operator::Negate
-        | Operator::Abs
-        | Operator::Even
-        | Operator::Odd
-        | Operator::Size
-        | Operator::Not
-        | Operator::Domain
-        | Operator::Range
-        | Operator::Arb
-        | Operator::Str
-        | Operator::IsInteger
-        | Operator::IsString
-        | Operator::IsBoolean
-        | Operator::IsAtom
-        | Operator::IsTuple
-        | Operator::IsSet
-        | Operator::IsMap => true,
-        _ => false,
-    }
+/// Whether an operator changes its first operand in place where it is handed over.
+fn changes_first(what: Operator) -> bool {
+    matches!(what, Operator::With | Operator::Less | Operator::Lessf)
 }
 
 /// The same of an operator with one operand, which it is lent where that is a value.

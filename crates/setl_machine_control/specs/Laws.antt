@@ -22,10 +22,10 @@ use Rattle.std.proofs.lemmas.Bool.{eqb-true}
 use Rattle.setl_modes.specs.Fits.{is_taken}
 use Rattle.setl_model.specs.Step.{declared_mode}
 use Rattle.setl_code.specs.declared.code.Body as declared
-use Rattle.setl_map.specs.declared.OpFault.{OpFault}
-use Rattle.setl_map.specs.declared.OpFault.TheVariants as fault
-use Rattle.setl_map.specs.code.Answers.{Tells}
-use Rattle.setl_map.specs.Outcome.{Outcome}
+use Rattle.setl_operators_table.specs.declared.OpFault.{OpFault}
+use Rattle.setl_operators_table.specs.declared.OpFault.TheVariants as fault
+use Rattle.setl_operators_table.specs.code.Answers.{Tells}
+use Rattle.setl_operators_table.specs.Outcome.{Outcome}
 
 pub halted_quiet : (modes : Modes) (c : Code) (k to : CodeCore) (m : Move CodeCore) (e : End) → IsLikely k to → Halted m e → Quiet modes (settle (machine c) (tested modes) (start k) m) to e
 halted_quiet modes c k to (Halts d) Done l h = ((h, l), refl)

@@ -1,7 +1,7 @@
 -- How an update of a variable ends.
 use Rattle.std.specs.Prelude.{◌≡◌, ◌⊎◌, ℕ, suc, ◌-◌, true, Option, Some, None, Result, Ok, Err}
 use Rattle.setl_value.specs.Datum.{Datum}
-use Rattle.setl_map.specs.declared.OpFault.{OpFault}
+use Rattle.setl_operators_table.specs.declared.OpFault.{OpFault}
 use Rattle.setl_model_runs.specs.Variable.{Variable}
 use Rattle.setl_code.specs.CodeCore.{There, write}
 use Rattle.setl_store.specs.Standing.{Standing, at_place}

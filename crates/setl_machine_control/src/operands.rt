@@ -5,7 +5,7 @@ ghost use Rattle.setl_store.specs.Standing.{at_place};
 ghost use Rattle.setl_machine_control.specs.Working.{PopsTop, EndsBy};
 
 use crate::end::{End, StopKind};
-use setl_map::OpFault;
+use setl_operators_table::OpFault;
 use setl_store::{Store, Top};
 use setl_store_environment::Memory;
 use setl_value::Value;

@@ -14,7 +14,7 @@ use crate::declaration::{Declaration, refusal};
 use crate::end::{End, StopKind};
 use crate::operands::{end_by, go_on};
 use setl_code::Slot;
-use setl_map::OpFault;
+use setl_operators_table::OpFault;
 use setl_store::Store;
 use setl_store_environment::Memory;
 use setl_value::Value;

@@ -14,13 +14,13 @@ use Rattle.setl_value.specs.WellFormed.{IsTrimmed, IsTupleList, trim}
 use Rattle.setl_value.specs.code.Changing.{Leaves}
 use Rattle.setl_tuple.specs.declared.TupleFault.TheVariants.{Range}
 use Rattle.setl_tuple.specs.Tuples.{index_of, put_of}
-use Rattle.setl_map.specs.Outcome.{Gives, Fails, Overspends, RangeFault, value, within_depth, adding, charging}
-use Rattle.setl_map.specs.Puts.{put_part}
-use Rattle.setl_map.specs.Selections.{component}
+use Rattle.setl_operators_table.specs.Outcome.{Gives, Fails, Overspends, RangeFault, value, within_depth, adding, charging}
+use Rattle.setl_operators_table.specs.OutcomeLaws.{shallow}
+use Rattle.setl_operators_table.specs.Puts.{put_part}
+use Rattle.setl_operators_table.specs.Selections.{component}
 use Rattle.setl_model.specs.Core.{Round}
 use Rattle.setl_model.specs.Places.{part_of, with_part_at}
 use Rattle.setl_machine_updates.specs.Changing.{ChangesPart, IsShallowAt}
-use Rattle.setl_machine_updates.proofs.Image.{shallow}
 use Rattle.setl_machine_updates.proofs.Takings.{trim_ends}
 
 component_is : (t : List (Option Datum)) (place : ℤ) (i left : ℕ) (d : Datum) → int_le (pos 1) place ≡ true → index_of place ≡ i → slice_get t i ≡ Some (Some d)

@@ -1,17 +1,16 @@
 -- The one image of a point that a closure changed in place.
-use Rattle.std.proofs.Common.{◌≡◌, ◌∙◌, ap, sym, subst, ℕ, ◌≤◌, true, List, Some, arith}
-use Rattle.std.specs.Prelude.{nat_le}
+use Rattle.std.proofs.Common.{◌≡◌, ◌∙◌, ap, sym, subst, ℕ, ◌≤◌, true, List, Some}
 use Rattle.std.specs.Borrow.{MutBor}
 use Rattle.std.specs.Fn.{Once}
 use Rattle.std.specs.Bool.{if◌then◌else◌}
-use Rattle.std.proofs.lemmas.Bool.Decides.{nat_tests}
 use Rattle.setl_value.specs.declared.Value.{Value}
 use Rattle.setl_value.specs.Datum.{Datum, depth, set_of, element_list-elements_of}
 use Rattle.setl_value.specs.Pairs.{is_map}
 use Rattle.setl_map.specs.code.Changing.{ChangesImage}
 use Rattle.setl_map.specs.Maps.{image, put_image}
-use Rattle.setl_map.specs.Outcome.{Gives, Fails, DeepFault, KindFault, value, within_depth}
-use Rattle.setl_map.specs.Collections.{on_map}
+use Rattle.setl_operators_table.specs.Outcome.{Gives, Fails, KindFault, value, within_depth}
+use Rattle.setl_operators_table.specs.OutcomeLaws.{shallow}
+use Rattle.setl_operators_table.specs.Collections.{on_map}
 use Rattle.setl_model.specs.Core.{Round}
 use Rattle.setl_model.specs.Places.{part_of, with_part_at}
 use Rattle.setl_machine_updates.specs.Changing.{ChangesPart}
@@ -19,11 +18,6 @@ use Rattle.setl_machine_updates.specs.Changing.{ChangesPart}
 image_is : (f : List Datum) (x d : Datum) (left : ℕ) → is_map f ≡ true → image x f ≡ Some d → part_of (Round (Some x)) (Some (set_of f)) left ≡ Gives (Some d) 0
 image_is f x d left h i =
     ap (on_map (λ m. Gives (image x m) 0)) (element_list-elements_of f) ∙ ap (λ b. if b then Gives (image x f) 0 else Fails KindFault) h ∙ ap (λ o. Gives o 0) i
-
-pub shallow : (d : Datum) → depth d ≤ 500 → within_depth d ≡ value d
-shallow d h =
-    let small : nat_le (depth d) 500 ≡ true = grind (arith, nat_tests) in
-    ap (λ b. if b then value d else Fails DeepFault) small
 
 map_with : (f : List Datum) (x e : Datum) (left : ℕ) → is_map f ≡ true → depth (set_of (put_image x (Some e) f)) ≤ 500
     → with_part_at (Round (Some x)) (Some (set_of f)) (Some e) left ≡ value (set_of (put_image x (Some e) f))

@@ -6,13 +6,13 @@ use Rattle.std.proofs.lemmas.Bool.Decides.{nat_tests}
 use Rattle.setl_value.specs.Datum.{Datum, set, Elements, depth, set_of, element_list, element_list-elements_of}
 use Rattle.setl_value.specs.Pairs.{is_map, images}
 use Rattle.setl_set.specs.Sets.{insert_datum}
-use Rattle.setl_map.specs.declared.Operator.TheVariants.{With, PutImages}
+use Rattle.setl_operators_table.specs.declared.Operator.TheVariants.{With, PutImages}
 use Rattle.setl_map.specs.Laws.{ImagesAreShallower}
 use Rattle.setl_map.specs.Maps.{put_images}
-use Rattle.setl_map.specs.Outcome.{Outcome, Gives, Fails, Overspends, DeepFault, KindFault, adding, then_with, value, set_value, within_depth}
-use Rattle.setl_map.specs.Collections.{on_map, with_datum}
-use Rattle.setl_map.specs.Operators.{op_of}
-use Rattle.setl_map.specs.Puts.{add_image}
+use Rattle.setl_operators_table.specs.Outcome.{Outcome, Gives, Fails, Overspends, DeepFault, KindFault, adding, then_with, value, set_value, within_depth}
+use Rattle.setl_operators_table.specs.Collections.{on_map, with_datum}
+use Rattle.setl_operators_table.specs.Operators.{op_of}
+use Rattle.setl_operators_table.specs.Puts.{add_image}
 use Rattle.setl_model.specs.Core.{Brace}
 use Rattle.setl_model.specs.Places.{combined}
 

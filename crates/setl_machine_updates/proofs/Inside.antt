@@ -3,9 +3,9 @@ use Rattle.std.proofs.Common.{◌≡◌, ◌∙◌, ap, sym, subst, ℕ, ◌-◌
 use Rattle.std.proofs.lemmas.List.{take_all}
 use Rattle.std.specs.Prelude.{Result, Err}
 use Rattle.setl_value.specs.Datum.{Datum}
-use Rattle.setl_map.specs.declared.OpFault.{OpFault}
-use Rattle.setl_map.specs.Outcome.{Outcome, then_with}
-use Rattle.setl_map.specs.code.Answers.{Tells}
+use Rattle.setl_operators_table.specs.declared.OpFault.{OpFault}
+use Rattle.setl_operators_table.specs.Outcome.{Outcome, then_with}
+use Rattle.setl_operators_table.specs.code.Answers.{Tells}
 use Rattle.setl_model.specs.Core.{Selected}
 use Rattle.setl_model.specs.Places.{part_of, part_at_all, with_part_at, with_part_at_all, combined}
 use Rattle.setl_machine_updates.specs.declared.selectors.Selector.{Selector}

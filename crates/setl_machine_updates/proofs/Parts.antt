@@ -7,8 +7,8 @@ use Rattle.std.specs.Borrow.{MutBor}
 use Rattle.std.specs.Fn.{Once}
 use Rattle.setl_value.specs.declared.Value.{Value}
 use Rattle.setl_value.specs.Datum.{Datum}
-use Rattle.setl_map.specs.declared.OpFault.{OpFault}
-use Rattle.setl_map.specs.Outcome.{Outcome, Gives, value}
+use Rattle.setl_operators_table.specs.declared.OpFault.{OpFault}
+use Rattle.setl_operators_table.specs.Outcome.{Outcome, Gives, value}
 use Rattle.setl_model.specs.Core.{Round}
 use Rattle.setl_model.specs.Places.{combined, part_of, with_part_at}
 use Rattle.setl_machine_updates.specs.Changing.{ChangesPart}

@@ -2,10 +2,10 @@
 use Rattle.std.proofs.Common.{sym, subst, ℕ, ◌-◌, Option, arith}
 use Rattle.std.specs.Prelude.{Result, Ok, Err}
 use Rattle.setl_value.specs.Datum.{Datum}
-use Rattle.setl_map.specs.declared.OpFault.{OpFault}
-use Rattle.setl_map.specs.declared.OpFault.TheVariants.{Kind, Om, Wide, Zero, Range, Deep, Spent, NoMemory}
-use Rattle.setl_map.specs.Outcome.{Outcome, Gives, Fails, Overspends, adding, then_with}
-use Rattle.setl_map.specs.code.Answers.{Tells}
+use Rattle.setl_operators_table.specs.declared.OpFault.{OpFault}
+use Rattle.setl_operators_table.specs.declared.OpFault.TheVariants.{Kind, Om, Wide, Zero, Range, Deep, Spent, NoMemory}
+use Rattle.setl_operators_table.specs.Outcome.{Outcome, Gives, Fails, Overspends, adding, then_with}
+use Rattle.setl_operators_table.specs.code.Answers.{Tells}
 use Rattle.setl_machine_updates.specs.Updates.{Leaves, Updates}
 use Rattle.setl_machine_updates.specs.declared.selectors.Part.{Part}
 use Rattle.setl_machine_updates.specs.Parts.{Reads}

@@ -7,12 +7,12 @@ use Rattle.std.proofs.lemmas.List.{take_all, reverse-append, reverse-reverse}
 use Rattle.std.proofs.lemmas.Option.{unwrap_or-slice_get}
 use Rattle.setl_value.specs.Datum.{Datum, tuple, tuple_of, part_list}
 use Rattle.setl_value.specs.WellFormed.{EndsIn, IsTrimmed, IsValue, trim, trim_onto}
-use Rattle.setl_map.specs.declared.OpFault.{OpFault}
-use Rattle.setl_map.specs.declared.OpFault.TheVariants.{Kind, Om, Wide, Zero, Range, Deep, Spent, NoMemory}
-use Rattle.setl_map.specs.declared.Taken.{Taken}
-use Rattle.setl_map.specs.Outcome.{KindFault}
-use Rattle.setl_map.specs.code.Answers.{Takes}
-use Rattle.setl_map.specs.Takes as call
+use Rattle.setl_operators_table.specs.declared.OpFault.{OpFault}
+use Rattle.setl_operators_table.specs.declared.OpFault.TheVariants.{Kind, Om, Wide, Zero, Range, Deep, Spent, NoMemory}
+use Rattle.setl_operators_table.specs.declared.Taken.{Taken}
+use Rattle.setl_operators_table.specs.Outcome.{KindFault}
+use Rattle.setl_operators_table.specs.code.Answers.{Takes}
+use Rattle.setl_operators_table.specs.Takes as call
 use Rattle.setl_program.specs.declared.kinds.Taking.TheVariants.{TakeFirst, TakeLast}
 use Rattle.setl_model.specs.Places.{TakesOut, IsEmpty, CannotTake, take_first, take_last, take_out}
 use Rattle.setl_machine_updates.specs.Parts.{TakesOne}

@@ -6,7 +6,7 @@ use Rattle.setl_value.specs.declared.Value.{Value}
 use Rattle.setl_value.specs.Datum.{Datum, depth}
 use Rattle.setl_value.specs.code.Changing.{Leaves}
 use Rattle.setl_tuple.specs.Tuples.{index_of}
-use Rattle.setl_map.specs.Outcome.{Gives, value}
+use Rattle.setl_operators_table.specs.Outcome.{Gives, value}
 use Rattle.setl_model.specs.Core.{Round}
 use Rattle.setl_model.specs.Places.{part_of, with_part_at}
 

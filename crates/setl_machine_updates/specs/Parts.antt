@@ -2,11 +2,11 @@
 use Rattle.std.specs.Prelude.{◌≡◌, ℕ, true, false, Result, Ok, Err, Option, Some, None}
 use Rattle.setl_value.specs.Datum.{Datum}
 use Rattle.setl_value.specs.code.DatumOf.{part}
-use Rattle.setl_map.specs.declared.OpFault.{OpFault}
-use Rattle.setl_map.specs.declared.OpFault.TheVariants.{NoMemory}
-use Rattle.setl_map.specs.declared.Taken.{Taken}
-use Rattle.setl_map.specs.code.Answers.{Tells}
-use Rattle.setl_map.specs.Outcome.{Outcome, Fails}
+use Rattle.setl_operators_table.specs.declared.OpFault.{OpFault}
+use Rattle.setl_operators_table.specs.declared.OpFault.TheVariants.{NoMemory}
+use Rattle.setl_operators_table.specs.declared.Taken.{Taken}
+use Rattle.setl_operators_table.specs.code.Answers.{Tells}
+use Rattle.setl_operators_table.specs.Outcome.{Outcome, Fails}
 use Rattle.setl_model.specs.Places.{TakesOut, IsEmpty, CannotTake}
 use Rattle.setl_model.specs.Places as places
 use Rattle.setl_machine_updates.specs.declared.selectors.Part.{Part}

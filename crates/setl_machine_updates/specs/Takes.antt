@@ -2,10 +2,10 @@
 use Rattle.std.specs.Prelude.{◌≡◌, ℕ, ◌-◌, true, false, List, Result, Ok, Err, Option, Some, None}
 use Rattle.setl_value.specs.Datum.{Datum}
 use Rattle.setl_value.specs.code.DatumOf.{part}
-use Rattle.setl_map.specs.declared.OpFault.{OpFault}
-use Rattle.setl_map.specs.declared.OpFault.TheVariants.{NoMemory}
-use Rattle.setl_map.specs.code.Answers.{Tells}
-use Rattle.setl_map.specs.Outcome.{Outcome, Gives, Fails, Overspends}
+use Rattle.setl_operators_table.specs.declared.OpFault.{OpFault}
+use Rattle.setl_operators_table.specs.declared.OpFault.TheVariants.{NoMemory}
+use Rattle.setl_operators_table.specs.code.Answers.{Tells}
+use Rattle.setl_operators_table.specs.Outcome.{Outcome, Gives, Fails, Overspends}
 use Rattle.setl_program.specs.declared.kinds.Taking.{Taking}
 use Rattle.setl_model.specs.Core.{Selected}
 use Rattle.setl_model.specs.Places.{Taken, TakesOut, IsEmpty, CannotTake, part_at_all, with_part_at_all, take_out}

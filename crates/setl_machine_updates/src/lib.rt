@@ -11,7 +11,7 @@ mod taking;
 mod updates;
 
 pub use selectors::Selector;
-pub use setl_map::{OpFault, Operator};
+pub use setl_operators_table::{OpFault, Operator};
 pub use setl_program::Taking;
 pub use taking::{TakenOut, take_at};
 pub use updates::{combine_at, put_at};

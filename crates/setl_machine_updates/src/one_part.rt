@@ -5,16 +5,17 @@ ghost use Rattle.setl_value.specs.Datum.{Datum, int, depth, set_of, tuple_of};
 ghost use Rattle.setl_value.specs.code.Body.{Members};
 ghost use Rattle.setl_value.specs.code.Changing.{Grows};
 ghost use Rattle.setl_value.specs.code.DatumOf.{datum, part};
-ghost use Rattle.setl_map.specs.declared.Operator.TheVariants.{Add, With};
-ghost use Rattle.setl_map.specs.Operators.{op_of};
+ghost use Rattle.setl_operators_table.specs.declared.Operator.TheVariants.{Add, With};
+ghost use Rattle.setl_operators_table.specs.Operators.{op_of};
 ghost use Rattle.setl_model.specs.Core.{Round};
 ghost use Rattle.setl_model.specs.Places.{combined};
 ghost use Rattle.setl_machine_updates.specs.Changing.{ChangesPart, IsShallowAt};
 ghost use Rattle.setl_machine_updates.specs.Updates.{Updates};
 
 use crate::updates::{add_value, append_value};
-use setl_map::laws::operands_grow;
-use setl_map::{OpFault, Operator, change_image};
+use setl_map::change_image;
+use setl_operators_table::laws::operands_grow;
+use setl_operators_table::{OpFault, Operator};
 use setl_value::{Memory, SetBody, TupleBody, Value};
 use std::alloc::Global;
 

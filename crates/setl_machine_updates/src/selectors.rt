@@ -2,16 +2,16 @@
 
 ghost use Rattle.std.specs.Prelude.{◌≡◌, ◌∷◌, [], Some, IfOk, OnErr, map};
 ghost use Rattle.setl_value.specs.code.DatumOf.{datum, lent, part};
-ghost use Rattle.setl_map.specs.declared.Operator.TheVariants.{Put, PutImages};
-ghost use Rattle.setl_map.specs.Operators.{op_of, operand_count};
+ghost use Rattle.setl_operators_table.specs.declared.Operator.TheVariants.{Put, PutImages};
+ghost use Rattle.setl_operators_table.specs.Operators.{op_of, operand_count};
 ghost use Rattle.setl_model.specs.Places.{part_of, part_at_all, with_part_at};
 ghost use Rattle.setl_machine_updates.specs.Parts.{Reads};
 ghost use Rattle.setl_machine_updates.specs.Selectors.{selected};
 ghost use Rattle.setl_machine_updates.specs.Updates.{Updates};
 
-use setl_map::{OpFault, Operator};
 use setl_operators::op_two;
 use setl_operators_collections::{put_images_in_place, put_in_place};
+use setl_operators_table::{OpFault, Operator};
 use setl_value::{Memory, Value};
 use std::alloc::Global;
 

@@ -10,8 +10,8 @@ ghost use Rattle.setl_machine_updates.specs.Takes.{Takes};
 
 use crate::selectors::{Selector, part_at_all};
 use crate::updates::put_at;
-use setl_map::{OpFault, Taken};
 use setl_operators_collections::{take_first, take_last, take_least};
+use setl_operators_table::{OpFault, Taken};
 use setl_program::Taking;
 use setl_value::Value;
 use std::alloc::Global;

@@ -2,9 +2,9 @@
 
 ghost use Rattle.std.specs.Prelude.{◌≡◌, ◌∷◌, [], Some, OnErr, map};
 ghost use Rattle.setl_value.specs.code.DatumOf.{datum, part};
-ghost use Rattle.setl_map.specs.declared.Operator.TheVariants.{Add, Subtract, With, Less, Lessf};
-ghost use Rattle.setl_map.specs.Operators.{op_of, operand_count};
-ghost use Rattle.setl_map.specs.Puts.{add_image};
+ghost use Rattle.setl_operators_table.specs.declared.Operator.TheVariants.{Add, Subtract, With, Less, Lessf};
+ghost use Rattle.setl_operators_table.specs.Operators.{op_of, operand_count};
+ghost use Rattle.setl_operators_table.specs.Puts.{add_image};
 ghost use Rattle.setl_model.specs.Core.{Brace};
 ghost use Rattle.setl_model.specs.Places.{with_part_at_all, combined};
 ghost use Rattle.setl_machine_updates.specs.Selectors.{selected};
@@ -13,11 +13,11 @@ ghost use Rattle.setl_machine_updates.specs.Updates.{Updates};
 use crate::one_part::combine_there;
 use crate::selectors::{Selector, apply, part_at, put_part};
 use setl_map::laws::images_are_shallower;
-use setl_map::{OpFault, Operator};
 use setl_operators_arithmetic::{minus_in_place, plus_in_place};
 use setl_operators_collections::{
     add_image_in_place, less_in_place, lessf_in_place, with_in_place,
 };
+use setl_operators_table::{OpFault, Operator};
 use setl_value::Value;
 use std::alloc::Global;
 

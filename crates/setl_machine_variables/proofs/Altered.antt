@@ -6,8 +6,8 @@ use Rattle.std.specs.Option.{option_map, unwrap_or}
 use Rattle.setl_value.specs.Datum.{Datum}
 use Rattle.setl_value.specs.code.DatumOf.{part}
 use Rattle.setl_value.specs.declared.Value.{Value}
-use Rattle.setl_map.specs.declared.OpFault.{OpFault}
-use Rattle.setl_map.specs.Outcome.{Outcome, Gives, Fails, Overspends}
+use Rattle.setl_operators_table.specs.declared.OpFault.{OpFault}
+use Rattle.setl_operators_table.specs.Outcome.{Outcome, Gives, Fails, Overspends}
 use Rattle.setl_model_runs.specs.Run.{Move, settle}
 use Rattle.setl_model_runs.specs.Variable.{Variable, Global, Own, Bound, is_variable}
 use Rattle.setl_model_runs.specs.VariableLaws.{variable_itself}

@@ -2,9 +2,9 @@
 use Rattle.std.proofs.Common.{◌≡◌, ℕ, ◌-◌, true, false, List, Option, Ok}
 use Rattle.std.specs.Prelude.{cond}
 use Rattle.setl_value.specs.Datum.{Datum}
-use Rattle.setl_map.specs.declared.OpFault.{OpFault}
-use Rattle.setl_map.specs.declared.OpFault.TheVariants as fault
-use Rattle.setl_map.specs.Outcome.{Outcome, Gives, Fails, Overspends}
+use Rattle.setl_operators_table.specs.declared.OpFault.{OpFault}
+use Rattle.setl_operators_table.specs.declared.OpFault.TheVariants as fault
+use Rattle.setl_operators_table.specs.Outcome.{Outcome, Gives, Fails, Overspends}
 use Rattle.setl_model.specs.Core.{Selected}
 use Rattle.setl_model.specs.Places.{Taken, TakesOut, IsEmpty, CannotTake, part_at_all, take_out}
 use Rattle.setl_program.specs.declared.kinds.Taking.{Taking}

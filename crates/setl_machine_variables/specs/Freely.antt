@@ -1,9 +1,9 @@
 -- Operators that charge nothing.
 use Rattle.std.specs.Prelude.{◌≡◌, ℕ, List, [], ◌∷◌, drop, Some, None}
 use Rattle.setl_value.specs.Datum.{Datum}
-use Rattle.setl_map.specs.declared.Operator.{Operator}
-use Rattle.setl_map.specs.Operators.{op_of, operand_count}
-use Rattle.setl_map.specs.Outcome.{Gives}
+use Rattle.setl_operators_table.specs.declared.Operator.{Operator}
+use Rattle.setl_operators_table.specs.Operators.{op_of, operand_count}
+use Rattle.setl_operators_table.specs.Outcome.{Gives}
 use Rattle.setl_model_runs.specs.Variable.{Variable}
 use Rattle.setl_model.specs.Step.{declared_mode}
 use Rattle.setl_code.specs.Code.{Bracket, Alteration, Combining}

@@ -6,7 +6,7 @@ ghost use Rattle.setl_code.specs.CodeCore.{held, popped};
 ghost use Rattle.setl_code.specs.Machine.{selected_by};
 ghost use Rattle.setl_code.specs.MayRun.{HasSlot, CanAlter};
 ghost use Rattle.setl_code.specs.Plain.{plain_slot, plain_bracket, plain_alteration};
-ghost use Rattle.setl_map.specs.Operators.{operand_count};
+ghost use Rattle.setl_operators_table.specs.Operators.{operand_count};
 ghost use Rattle.setl_store.specs.Standing.{variables};
 ghost use Rattle.setl_machine_updates.specs.Selectors.{selected};
 ghost use Rattle.setl_value.specs.code.DatumOf.{part};

@@ -1,8 +1,8 @@
 //! Operators on two integers, which are answered without a list of operands.
 
 ghost use Rattle.std.specs.Prelude.{IfSome, ◌≡◌};
-ghost use Rattle.setl_map.specs.Numbers.{whole};
-ghost use Rattle.setl_map.specs.Outcome.{value};
+ghost use Rattle.setl_operators_table.specs.Numbers.{whole};
+ghost use Rattle.setl_operators_table.specs.Outcome.{value};
 ghost use Rattle.setl_value.specs.Datum.{int};
 ghost use Rattle.setl_value.specs.code.DatumOf.{datum};
 ghost use Rattle.setl_machine_variables.specs.Freely.{GivesFreely, OnTop};

@@ -16,7 +16,8 @@ use Rattle.setl_set.specs.Laws.{RisingListsAgree, TestsMembership, Gathers, Inse
 use Rattle.setl_map.specs.Laws.{ImagesAreShallower}
 use Rattle.setl_map.specs.Maps.{without_point, put_images}
 use Rattle.setl_map.specs.code.Points.{is_at}
-use Rattle.setl_map.proofs.Gathering.{depth_insert, is_set_from}
+use Rattle.setl_map.specs.DepthLaws.{depth_insert}
+use Rattle.setl_map.proofs.Gathering.{is_set_from}
 use Rattle.setl_map.proofs.MapResults.{OfPoint, of_point, point_pairs, seconds, depth_put_all}
 use Rattle.setl_map.proofs.PairFacts.{IsPair}
 

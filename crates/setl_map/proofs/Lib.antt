@@ -5,8 +5,6 @@ pub mod Spans
 pub mod Gathering
 pub mod MapResults
 pub mod MapLaws
-pub mod Depths
 pub mod Only
 pub mod Adding
 pub mod Changing
-pub mod Growing

@@ -20,7 +20,8 @@ use Rattle.setl_map.specs.Maps.{without_point, put_image, put_images}
 use Rattle.setl_map.specs.code.Points.{is_at, is_before, comes_before, IsBound, part_at, pair_depth}
 use Rattle.setl_map.proofs.PairFacts.{pair_of, IsPair}
 use Rattle.setl_map.proofs.Spans.{IsSplit}
-use Rattle.setl_map.proofs.Gathering.{depth_insert, depth_set_from, is_set_from}
+use Rattle.setl_map.specs.DepthLaws.{depth_insert, depth_set_from}
+use Rattle.setl_map.proofs.Gathering.{is_set_from}
 
 -- ---- depth
 

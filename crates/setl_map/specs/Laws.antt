@@ -1,12 +1,9 @@
 -- The laws of maps in terms of their pairs.
-use Rattle.std.specs.Prelude.{◌≡◌, ◌↔◌, ◌≤◌, ◌+◌, ℕ, List, Some, max}
+use Rattle.std.specs.Prelude.{◌↔◌, ◌≤◌, List}
 use Rattle.std.specs.List.{Contains}
 use Rattle.setl_value.specs.Datum.{Datum, depth, set_of}
 use Rattle.setl_value.specs.Pairs.{pair, images}
-use Rattle.setl_map.specs.Collections.{with_datum}
 use Rattle.setl_map.specs.Maps.{put_images}
-use Rattle.setl_map.specs.Numbers.{plus}
-use Rattle.setl_map.specs.Outcome.{Gives}
 
 -- y is an image of x exactly where the pair of x and y is a member, in any set
 abbrev pub ImagesByPairs : Type 0
@@ -15,10 +12,3 @@ ImagesByPairs = (x y : Datum) (f : List Datum) → Contains (images x f) y ↔ C
 -- the set of images that is put is no deeper than the map then is
 abbrev pub ImagesAreShallower : Type 0
 ImagesAreShallower = (x : Datum) (ys f : List Datum) → depth (set_of ys) ≤ depth (set_of (put_images x ys f))
-
--- what `d with y` and `d + y` give is at least as deep as d, and no deeper than d and a set of y
-abbrev pub WithGrows : Type 0
-WithGrows = (d y e : Datum) (n : ℕ) → with_datum d y ≡ Gives (Some e) n → (depth d ≤ depth e) × (depth e ≤ max (depth d) (depth y + 1))
-
-abbrev pub PlusGrows : Type 0
-PlusGrows = (d y e : Datum) (n : ℕ) → plus d y ≡ Gives (Some e) n → (depth d ≤ depth e) × (depth e ≤ max (depth d) (depth y + 1))

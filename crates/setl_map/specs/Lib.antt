@@ -1,15 +1,4 @@
-pub mod Outcome
-pub mod Takes
 pub mod Maps
 pub mod Laws
-pub mod Ranges
-pub mod Numbers
-pub mod Truths
-pub mod Collections
-pub mod Selections
-pub mod RangeRows
-pub mod Puts
-pub mod Folds
-pub mod Operators
-pub mod OperatorRows
+pub mod DepthLaws
 pub mod code

@@ -1,7 +1,7 @@
 //! Laws of the definitions that contracts of this crate cite. The functions have no effect: each hands a proof the law
 //! that it is named for.
 
-ghost use Rattle.setl_map.specs.Laws.{ImagesAreShallower, ImagesByPairs, PlusGrows, WithGrows};
+ghost use Rattle.setl_map.specs.Laws.{ImagesAreShallower, ImagesByPairs};
 
 /// y is an image of x exactly where the pair of x and y is a member.
 pub fn images_are_by_pairs()
@@ -13,10 +13,4 @@ pub fn images_are_by_pairs()
 /// A map is at least as deep as the set of images that was put at one of its points.
 pub fn images_are_shallower()
     ensures { ImagesAreShallower }
-{}
-
-/// What `with` and `+` make of a value is at least as deep as it, and no deeper than it and a set of the other operand.
-pub fn operands_grow()
-    ensures one_more { WithGrows }
-    ensures sum { PlusGrows }
 {}

@@ -1,15 +1,10 @@
-//! Maps, and the operators on values.
+//! Maps.
 //!
 //! A map is a set of pairs, and a pair is a tuple of length two whose first component isn't `om`. Contracts read a map
 //! as `Members`, the strictly rising list of its pairs, and state each result by a definition on such lists (`images`,
 //! `domain_of`, `put_image` and the like).
-//!
-//! The table of the operators is the definition `op_of`: what an operator makes of its operands, with the turns that
-//! are left. The calls that make these outcomes stand in crates above; what they answer is an `Answer` or an `OpFault`,
-//! and `Tells` says that it is the outcome of the table.
 #![tactic(auto)]
 
-pub mod answers;
 mod gather;
 pub mod laws;
 mod maps;
@@ -17,7 +12,8 @@ mod pairs;
 
 pub use gather::gathered;
 pub use maps::{add_image, change_image, domain, image, images, lessf, put, put_all, range};
-use setl_value::{Memory, Value};
+pub use pairs::parts;
+use setl_value::Memory;
 
 /// Why a map call gave no result.
 #[derive(Clone, Copy, Debug, PartialEq, Eq)]
@@ -39,175 +35,4 @@ impl From<Memory> for MapFault {
     fn from(_e: Memory) -> MapFault {
         MapFault::NoMemory
     }
-}
-
-/// Why an operator gave no value. Where several causes hold, the first in the order Om, Kind, Zero, Range, Spent, Wide,
-/// Deep counts; NoMemory may come at any point.
-#[derive(Clone, Copy, Debug, PartialEq, Eq)]
-pub enum OpFault {
-    /// An operand is of another kind than the operator's.
-    Kind,
-    /// An operand is `om`.
-    Om,
-    /// The integer result doesn't fit 128 bits.
-    Wide,
-    /// A divisor or a step is 0.
-    Zero,
-    /// A place, a count or an exponent is out of range.
-    Range,
-    /// The result would be more than 500 deep.
-    Deep,
-    /// The charge is above the turns left.
-    Spent,
-    /// Memory was refused.
-    NoMemory,
-}
-
-impl From<Memory> for OpFault {
-    ghost use Rattle.std.specs.Prelude.{◌≡◌};
-    ghost use Rattle.setl_map.specs.declared.OpFault.TheVariants.{NoMemory};
-
-    ghost from_gives = { λ _ e. e ≡ NoMemory };
-
-    fn from(_e: Memory) -> OpFault {
-        OpFault::NoMemory
-    }
-}
-
-/// What an operator gave: a value, or None for `om`, and the turns that it charges.
-#[derive(Drop)]
-pub struct Answer {
-    pub value: Option<Value>,
-    pub charged: u64,
-}
-
-/// What was taken out of a set or a tuple in place.
-#[derive(Drop)]
-pub struct Taken {
-    /// The part, where None is `om`.
-    pub value: Option<Value>,
-    /// Whether there was one: of an empty set or tuple nothing is taken, and nothing changes.
-    pub stored: bool,
-}
-
-/// The operators on values, with the folds, the enumerations, the ranges and the puts. The operands stand in the order
-/// of the source.
-#[derive(Clone, Copy, Debug, PartialEq, Eq)]
-pub enum Operator {
-    /// `- i`
-    Negate,
-    /// `abs i`
-    Abs,
-    /// `even i`
-    Even,
-    /// `odd i`
-    Odd,
-    /// `# v`
-    Size,
-    /// `not b`
-    Not,
-    /// `pow s`
-    Pow,
-    /// `domain f`
-    Domain,
-    /// `range f`
-    Range,
-    /// `arb s`
-    Arb,
-    /// `str v`
-    Str,
-    /// `is_integer v`
-    IsInteger,
-    /// `is_string v`
-    IsString,
-    /// `is_boolean v`
-    IsBoolean,
-    /// `is_atom v`
-    IsAtom,
-    /// `is_tuple v`
-    IsTuple,
-    /// `is_set v`
-    IsSet,
-    /// `is_map v`
-    IsMap,
-    /// `+/ v`
-    FoldAdd,
-    /// `*/ v`
-    FoldMultiply,
-    /// `max/ v`
-    FoldMax,
-    /// `min/ v`
-    FoldMin,
-    /// `and/ v`
-    FoldAnd,
-    /// `or/ v`
-    FoldOr,
-    /// `a + b`
-    Add,
-    /// `a - b`
-    Subtract,
-    /// `a * b`
-    Multiply,
-    /// `a ** b`
-    Power,
-    /// `a div b`
-    Divide,
-    /// `a mod b`
-    Modulo,
-    /// `a max b`
-    Max,
-    /// `a min b`
-    Min,
-    /// `s with v`, `t with v`
-    With,
-    /// `s less v`
-    Less,
-    /// `f lessf x`
-    Lessf,
-    /// `n npow s`
-    Npow,
-    /// `a = b`
-    Equal,
-    /// `a /= b`
-    NotEqual,
-    /// `a < b`
-    Below,
-    /// `a <= b`
-    AtMost,
-    /// `a > b`
-    Above,
-    /// `a >= b`
-    AtLeast,
-    /// `v in s`, `v in t`
-    In,
-    /// `v notin s`, `v notin t`
-    NotIn,
-    /// `a subset b`
-    Subset,
-    /// `a incs b`
-    Includes,
-    /// `f(x)`, `t(i)`
-    Get,
-    /// `f{x}`
-    Images,
-    /// `t(i..j)`
-    Slice,
-    /// `t(i..)`
-    Tail,
-    /// `{a, b, ..}`, with any number of operands
-    SetOf,
-    /// `[a, b, ..]`, with any number of operands
-    TupleOf,
-    /// `{a..b}`
-    SetRange,
-    /// `[a..b]`
-    TupleRange,
-    /// `{a, b..c}`
-    SetStep,
-    /// `[a, b..c]`
-    TupleStep,
-    /// The whole after `f(x) := y` or `t(i) := y`, of the whole, the selector and the part.
-    Put,
-    /// The whole after `f{x} := s`, of the whole, the selector and the part.
-    PutImages,
 }

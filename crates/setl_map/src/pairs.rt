@@ -14,8 +14,8 @@ ghost use Rattle.setl_map.specs.code.Points.{begins, is_at, IsBound, part_at, pa
 use setl_value::{Cursor, MemberIter, Memory, SetBody, TupleBody, Value};
 use std::alloc::Global;
 
-// The two parts of a pair, and None for what is no pair.
-fn parts(v: &Value) -> Option<(&Value, &Value)>
+/// The two parts of a pair, and None for what is no pair.
+pub fn parts(v: &Value) -> Option<(&Value, &Value)>
     ensures { option_map pair_data result ≡ pair_parts (datum v.now) }
 {
     let Value::Tuple(t) = v else {

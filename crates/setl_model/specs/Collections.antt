@@ -2,7 +2,7 @@
 use Rattle.std.specs.Prelude.{List, [], reverse, nat_le, if◌then◌else◌, Option, Some, None}
 use Rattle.setl_value.specs.Datum.{Datum, set_of, tuple_of, depth}
 use Rattle.setl_set.specs.Sets.{set_from}
-use Rattle.setl_map.specs.Outcome.{Fault, OmFault, DeepFault, all_values}
+use Rattle.setl_operators_table.specs.Outcome.{Fault, OmFault, DeepFault, all_values}
 use Rattle.setl_value.specs.WellFormed.{trim}
 use Rattle.setl_program.specs.declared.kinds.Collection.{Collection}
 use Rattle.setl_program.specs.declared.kinds.Collection.TheVariants.{OfSet, OfTuple}

@@ -1,8 +1,8 @@
 -- Steps of expressions.
 use Rattle.std.specs.Prelude.{◌+◌, true, false, List, [], ◌∷◌, reverse, Option, Some, None}
 use Rattle.setl_value.specs.Datum.{Datum, bool, atom}
-use Rattle.setl_map.specs.declared.Operator.{Operator}
-use Rattle.setl_map.specs.Operators.{op_of}
+use Rattle.setl_operators_table.specs.declared.Operator.{Operator}
+use Rattle.setl_operators_table.specs.Operators.{op_of}
 use Rattle.setl_program.specs.declared.kinds.Connective.{Connective}
 use Rattle.setl_program.specs.declared.kinds.Connective.TheVariants.{And, Or, Implies}
 use Rattle.setl_program.specs.Program.{Expr, Literal, Undefined, Name, Apply, Connect, Choose, Former, Selection, Quantified, Call, Newat, Eof, Ok, Exprs, no_expr, more_exprs, only_if, Program, more_iterators, no_iterator}

@@ -3,9 +3,9 @@ use Rattle.std.specs.Prelude.{ℕ, ◌==◌, suc, pos, ◌-ℤ◌, Bool, true, f
 use Rattle.setl_value.specs.Datum.{Datum, bool, int, text, tuple, set, element_list, part_list}
 use Rattle.setl_set.specs.Sets.{set_from}
 use Rattle.setl_value.specs.Pairs.{is_map}
-use Rattle.setl_map.specs.Ranges.{range_from, step_from}
+use Rattle.setl_operators_table.specs.Ranges.{range_from, step_from}
 use Rattle.setl_map.specs.Maps.{image, domain_of}
-use Rattle.setl_map.specs.Outcome.{Fault, OmFault, KindFault, ZeroFault, all_values}
+use Rattle.setl_operators_table.specs.Outcome.{Fault, OmFault, KindFault, ZeroFault, all_values}
 use Rattle.setl_model.specs.Collections.{refusal, collection}
 use Rattle.setl_program.specs.declared.kinds.Quantifier.{Quantifier}
 use Rattle.setl_program.specs.declared.kinds.Quantifier.TheVariants.{Exists, Forall, NotExists}

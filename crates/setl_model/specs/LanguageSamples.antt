@@ -2,7 +2,7 @@
 use Rattle.std.specs.Prelude.{[], ◌∷◌, codes, Some, None}
 use Rattle.setl_value.specs.Datum.{text}
 use Rattle.setl_model_runs.specs.Variable.{Own, Bound}
-use Rattle.setl_map.specs.declared.Operator.TheVariants.{Negate, Add, Subtract, Divide, Modulo, Power, Abs, Size, Equal, NotEqual, With, Less, In, SetRange, TupleRange, Pow, Npow, Get, Images, FoldAdd, FoldMax}
+use Rattle.setl_operators_table.specs.declared.Operator.TheVariants.{Negate, Add, Subtract, Divide, Modulo, Power, Abs, Size, Equal, NotEqual, With, Less, In, SetRange, TupleRange, Pow, Npow, Get, Images, FoldAdd, FoldMax}
 use Rattle.setl_modes.specs.declared.mode.Form.TheVariants.{Sparse}
 use Rattle.setl_modes.specs.Modes.{Integers, Elements, Sets, SingleMaps}
 use Rattle.setl_program.specs.declared.kinds.Collection.TheVariants.{OfSet}

@@ -2,7 +2,7 @@
 use Rattle.std.specs.Prelude.{ℕ, List, [], ◌∷◌, Option}
 use Rattle.setl_value.specs.Datum.{Datum}
 use Rattle.setl_model_runs.specs.Variable.{Variable, Bound}
-use Rattle.setl_map.specs.Outcome.{Outcome}
+use Rattle.setl_operators_table.specs.Outcome.{Outcome}
 use Rattle.setl_model_runs.specs.Run.{Move, Moves}
 use Rattle.setl_model.specs.Core.{Hand, Result, Frame, Core, line_of, write_variable}
 use Rattle.setl_model.specs.World.{Holding}

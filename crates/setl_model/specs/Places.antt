@@ -2,9 +2,9 @@
 use Rattle.std.specs.Prelude.{ℕ, List, [], ◌∷◌, reverse, Option, Some, None}
 use Rattle.setl_value.specs.Datum.{Datum, tuple, set, element_list, part_list, set_of, tuple_of}
 use Rattle.setl_model_runs.specs.Variable.{Variable}
-use Rattle.setl_map.specs.declared.Operator.TheVariants.{Get, Images, Put, PutImages}
-use Rattle.setl_map.specs.Outcome.{Fault, OmFault, KindFault, Outcome, Gives, then_with}
-use Rattle.setl_map.specs.Operators.{op_of}
+use Rattle.setl_operators_table.specs.declared.Operator.TheVariants.{Get, Images, Put, PutImages}
+use Rattle.setl_operators_table.specs.Outcome.{Fault, OmFault, KindFault, Outcome, Gives, then_with}
+use Rattle.setl_operators_table.specs.Operators.{op_of}
 use Rattle.setl_value.specs.WellFormed.{trim}
 use Rattle.setl_program.specs.declared.kinds.Taking.{Taking}
 use Rattle.setl_program.specs.declared.kinds.Taking.TheVariants.{TakeLeast, TakeFirst, TakeLast}

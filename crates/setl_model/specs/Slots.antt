@@ -1,7 +1,7 @@
 -- How a tuple is taken apart.
 use Rattle.std.specs.Prelude.{List, [], ◌∷◌, Option, Some, None}
 use Rattle.setl_value.specs.Datum.{Datum, tuple, part_list}
-use Rattle.setl_map.specs.Outcome.{Fault, OmFault, KindFault}
+use Rattle.setl_operators_table.specs.Outcome.{Fault, OmFault, KindFault}
 use Rattle.setl_program.specs.Program.{Slots}
 use Rattle.setl_model_runs.specs.Variable.{Variable}
 use Rattle.setl_model_runs.specs.Run.{Store}

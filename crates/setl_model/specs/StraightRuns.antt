@@ -5,9 +5,9 @@ use Rattle.std.proofs.Math.Nat.{sub-zero}
 use Rattle.std.proofs.lemmas.Grind.{reverse_onto}
 use Rattle.setl_value.specs.Datum.{Datum}
 use Rattle.setl_model_runs.specs.Variable.{Variable, Global, Own, Bound}
-use Rattle.setl_map.specs.declared.Operator.{Operator}
-use Rattle.setl_map.specs.Outcome.{Outcome, Gives}
-use Rattle.setl_map.specs.Operators.{op_of}
+use Rattle.setl_operators_table.specs.declared.Operator.{Operator}
+use Rattle.setl_operators_table.specs.Outcome.{Outcome, Gives}
+use Rattle.setl_operators_table.specs.Operators.{op_of}
 use Rattle.setl_program.specs.Program.{Expr, Literal, Undefined, Name, Apply, Exprs, no_expr, more_exprs, no_selector, Stmt, Assign, Update, Print, Block, no_stmt, more_stmts, Program}
 use Rattle.setl_model_runs.specs.Events.{Event, Unfit, Stopped, Done}
 use Rattle.setl_model_runs.specs.Run.{Moves, State, Goes, Ends, if_fits, stored, settle, and_then, run}

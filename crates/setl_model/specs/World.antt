@@ -2,7 +2,7 @@
 -- spends turns, stops and decides.
 use Rattle.std.specs.Prelude.{ℕ, ◌-◌, Bool, true, false, List, Option, Some, None}
 use Rattle.setl_value.specs.Datum.{Datum, bool}
-use Rattle.setl_map.specs.Outcome.{Fault, OmFault, KindFault, ZeroFault, RangeFault, WideFault, DeepFault, Outcome, Gives, Fails, Overspends}
+use Rattle.setl_operators_table.specs.Outcome.{Fault, OmFault, KindFault, ZeroFault, RangeFault, WideFault, DeepFault, Outcome, Gives, Fails, Overspends}
 use Rattle.setl_model_runs.specs.Events.{StopKind, Om, Kind, Zero, Range, Wide, Deep, Stopped, Spent}
 use Rattle.setl_model_runs.specs.Turns.{left_after}
 use Rattle.setl_model_runs.specs.Run.{Move, Halts}

@@ -3,6 +3,7 @@
 ghost use Rattle.std.specs.Prelude.{◌≡◌, ◌++◌, OnOk, IfOk};
 ghost use Rattle.setl_modes_declarations.specs.Rules as spec;
 
+use setl_names::{Declares, Entry, Name};
 use setl_tree::{Declared, Items, ReprLine, Text};
 use std::alloc::{AllocError, Global};
 use std::marker::Model;
@@ -41,6 +42,16 @@ impl<'t> Listed<'t> {
         ensures { result.now ≡ self.now.name }
     {
         &self.declared.name
+    }
+}
+
+impl<'t> Declares for Listed<'t> {
+    ghost use Rattle.setl_names.specs.Heads.{declared_entry};
+
+    ghost entry_of = { declared_entry };
+
+    fn entry(&self) -> Entry<'_> {
+        self.declared.entry()
     }
 }
 

@@ -1,8 +1,7 @@
 //! Rules 19, 20, 23 and 24: the names that a section declares.
 
-ghost use Rattle.std.specs.Prelude.{◌≡◌, [], map, fold, IfOk};
+ghost use Rattle.std.specs.Prelude.{◌≡◌, fold, IfOk};
 ghost use Rattle.setl_names.specs.Breaks.{earlier, tagged, first_break};
-ghost use Rattle.setl_names.specs.Heads.{declared_entry, lines_again};
 ghost use Rattle.setl_names.specs.Resolves.{all_names};
 ghost use Rattle.setl_modes_declarations.specs.Declares.{name_breaks};
 ghost use Rattle.setl_modes_declarations.specs.Rules as rules;
@@ -11,28 +10,9 @@ ghost use Rattle.setl_modes_declarations.specs.code.Taken.{is_among, is_none_of}
 
 use crate::listed::{Listed, declared_bases, declared_variables};
 use crate::taken::variable_names;
-use setl_names::{BodyNames, Break, Names, Procs, noted};
+use setl_names::{BodyNames, Break, Names, Procs, noted, noted_again};
 use setl_tree::{Items, Tree};
 use std::alloc::{AllocError, Global};
-
-/// The first break so far and of a rule that a name that stands earlier breaks. An error is want of memory.
-fn again(
-    alloc: Global,
-    first: Option<Break>,
-    rule: u8,
-    names: &[Listed<'_>],
-) -> Result<Option<Break>, AllocError>
-    ensures { IfOk result (λ f. f ≡ fold earlier first (tagged rule (lines_again [] (map declared_entry names.now)))) }
-{
-    let mut first = first;
-    let mut seen = Names::new(alloc);
-    for name in names {
-        if !seen.put(name.name().bytes())? {
-            first = noted(first, name.line(), rule);
-        }
-    }
-    Ok(first)
-}
 
 /// The first break so far and of the rule that no base has a name that the program has.
 fn taken(
@@ -86,7 +66,7 @@ fn base_breaks(
     ensures { IfOk result (λ f. f ≡ fold earlier (fold earlier first (tagged 19 (rules.rule_19 tree.now))) (tagged 20 (rules.rule_20 tree.now))) }
 {
     let bases = declared_bases(alloc, tree.modes.as_slice())?;
-    let first = again(alloc, first, 19, bases.as_slice())?;
+    let first = noted_again(alloc, first, 19, bases.as_slice())?;
     let others = variable_names(alloc, tree.vars.as_slice(), bodies)?;
     Ok(taken(first, procs, &others, bases.as_slice()))
 }
@@ -105,7 +85,7 @@ fn variable_breaks(
     ensures { IfOk result (λ f. f ≡ fold earlier (fold earlier first (tagged 23 (rules.rule_23 tree.now))) (tagged 24 (rules.rule_24 tree.now))) }
 {
     let variables = declared_variables(alloc, tree.modes.as_slice())?;
-    let first = again(alloc, first, 23, variables.as_slice())?;
+    let first = noted_again(alloc, first, 23, variables.as_slice())?;
     let main = variable_names(alloc, tree.vars.as_slice(), &bodies[..1])?;
     Ok(undeclarable(first, procs, &main, variables.as_slice()))
 }

@@ -16,7 +16,7 @@ ghost use Rattle.setl_modes_written.specs.code.Tests.{core_written};
 
 use setl_modes_written::{Test, any_inside, any_part};
 use setl_names::{Break, Names, noted, noted_if};
-use setl_tree::{Boxed, Core, Declared, Items, ReprLine, Text, WrittenMode};
+use setl_tree::{Boxed, Core, Items, ReprLine, Text, WrittenMode};
 use std::alloc::{AllocError, Global};
 
 /// The first break so far and of the rule that an `elmt` names a known base, in a mode.
@@ -59,22 +59,12 @@ fn unknown_in_line(first: Option<Break>, known: &Names, line: &ReprLine) -> Opti
     }
 }
 
-/// Puts declared names among names. An error is want of memory.
-fn put_declared(known: &mut Names, names: &[Declared]) -> Result<(), AllocError>
-    ensures { OnOk result (known.new ≡ with_names known.old (var_names names.now)) }
-{
-    for name in names {
-        known.put(name.name.bytes())?;
-    }
-    Ok(())
-}
-
 /// Puts the bases of a `repr` line among names. An error is want of memory.
 fn put_bases(known: &mut Names, line: &ReprLine) -> Result<(), AllocError>
     ensures { OnOk result (known.new ≡ with_names known.old (var_names (line_bases line.now))) }
 {
     match line {
-        ReprLine::Base(_, names, _) => put_declared(known, names.as_slice()),
+        ReprLine::Base(_, names, _) => known.put_declared(names.as_slice()),
         ReprLine::Variables(_, _, _) => Ok(()),
     }
 }

@@ -2,22 +2,11 @@
 
 ghost use Rattle.std.specs.Prelude.{◌≡◌, ◌∷◌, [], OnOk, IfOk};
 ghost use Rattle.setl_names.specs.Names.{with_names};
-ghost use Rattle.setl_names.specs.Procedures.{param_names};
 ghost use Rattle.setl_modes_declarations.specs.code.Taken as spec;
 
-use setl_names::{BodyNames, Names, names_of_vars};
-use setl_tree::{Declared, Param, Text};
+use setl_names::{BodyNames, Names};
+use setl_tree::{Declared, Text};
 use std::alloc::{AllocError, Global};
-
-/// Puts the names of parameters among names. An error is want of memory.
-fn put_params(names: &mut Names, params: &[Param]) -> Result<(), AllocError>
-    ensures { OnOk result (names.new ≡ with_names names.old (param_names params.now)) }
-{
-    for param in params {
-        names.put(param.name.bytes())?;
-    }
-    Ok(())
-}
 
 /// Puts slots among names. An error is want of memory.
 fn put_slots(names: &mut Names, slots: &[Text]) -> Result<(), AllocError>
@@ -34,7 +23,7 @@ fn put_slots(names: &mut Names, slots: &[Text]) -> Result<(), AllocError>
 fn put_body(names: &mut Names, body: &BodyNames) -> Result<(), AllocError>
     ensures { OnOk result (names.new ≡ with_names names.old (spec.names_of_body body.now)) }
 {
-    put_params(names, body.params.as_slice())?;
+    names.put_declared(body.params.as_slice())?;
     put_slots(names, body.slots.as_slice())
 }
 
@@ -46,7 +35,7 @@ pub fn variable_names(
 ) -> Result<Names, AllocError>
     ensures { IfOk result (λ names. names ≡ spec.variable_names vars.now bodies.now) }
 {
-    let mut names = names_of_vars(alloc, vars)?;
+    let mut names = Names::declared(alloc, vars)?;
     for body in bodies {
         put_body(&mut names, body)?;
     }

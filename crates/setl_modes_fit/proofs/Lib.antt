@@ -1,4 +1,3 @@
-mod PairFacts
 mod Components
 mod Images
 mod Decided

@@ -1,20 +1,13 @@
 -- A set is in rising order, so the pairs of a map that have one first part stand one after the other. So a set fits a
 -- mode where each member fits by itself, and each two neighbours fit together (`Laws` has the law).
 use Rattle.std.specs.Prelude.{◌≡◌, refl, Bool, true, false, ◌&&◌, cond, List, [], ◌∷◌, Option, Some, None, pos}
-use Rattle.std.specs.Borrow.{Bor}
 use Rattle.std.specs.Ordering.{is_eq}
-use Rattle.setl_value.specs.declared.Value.{Value}
 use Rattle.setl_value.specs.Datum.{Datum, int}
-use Rattle.setl_value.specs.code.DatumOf.{datum}
 use Rattle.setl_value.specs.Order.{datum_cmp}
 use Rattle.setl_value.specs.Pairs.{pair, pair_parts}
 use Rattle.setl_modes.specs.Modes.{Mode, General, Integers, Elements, Sets, SingleMaps, MultiMaps}
 use Rattle.setl_modes.specs.Fits.{datum_fits}
 use Rattle.setl_modes.specs.declared.mode.Form.TheVariants.{Plain}
-
--- the data of two values
-abbrev pub pair_data : Bor Value × Bor Value → Datum × Datum
-pair_data p = (datum p.0.now, datum p.1.now)
 
 -- whether these are the parts of a pair, and each fits
 abbrev pub pair_fits : (Datum → Bool) → (Datum → Bool) → Option (Datum × Datum) → Bool

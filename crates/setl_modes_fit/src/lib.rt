@@ -12,7 +12,6 @@ ghost use Rattle.setl_modes.specs.Modes.{mode_of};
 ghost use Rattle.setl_modes_fit.specs.Laws.{NeighboursDecide};
 
 mod neighbours;
-mod pairs;
 mod values;
 
 use setl_modes::Mode;

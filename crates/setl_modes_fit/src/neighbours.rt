@@ -4,10 +4,11 @@ ghost use Rattle.std.specs.Prelude.{◌≡◌};
 ghost use Rattle.std.specs.Option.{option_map};
 ghost use Rattle.setl_value.specs.code.DatumOf.{datum, lent};
 ghost use Rattle.setl_value.specs.Pairs.{pair_parts};
+ghost use Rattle.setl_map.specs.code.Points.{pair_data};
 ghost use Rattle.setl_modes.specs.Modes.{mode_of};
-ghost use Rattle.setl_modes_fit.specs.Neighbours.{follows, go_together, images_at_one_point, pair_data};
+ghost use Rattle.setl_modes_fit.specs.Neighbours.{follows, go_together, images_at_one_point};
 
-use crate::pairs::parts;
+use setl_map::parts;
 use setl_modes::Mode;
 use setl_value::Value;
 

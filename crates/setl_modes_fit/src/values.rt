@@ -11,7 +11,7 @@ ghost use Rattle.setl_modes.specs.Modes.{mode_of};
 ghost use Rattle.setl_modes_fit.specs.Neighbours.{all_follow, member_fits, go_together};
 
 use crate::neighbours::follows;
-use crate::pairs::parts;
+use setl_map::parts;
 use setl_modes::Mode;
 use setl_value::{SetBody, TupleBody, Value};
 

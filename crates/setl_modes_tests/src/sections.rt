@@ -3,6 +3,7 @@
 use setl_modes::{Form, Mode, ModeTable, NamedMode};
 use setl_modes_declarations::modes;
 use setl_names::RuleFault;
+use setl_names_walk::resolve_all;
 use setl_parse::parse;
 use setl_token::tokens;
 use setl_tree::Tree;
@@ -303,7 +304,8 @@ fn put_table(text: &mut String, table: &ModeTable) -> Result<(), AllocError> {
 
 /// Adds what the section of a program declares, or the rule that it breaks first, to a text.
 fn put_declared(alloc: Global, text: &mut String, tree: &Tree) -> Result<(), AllocError> {
-    match modes(alloc, tree) {
+    let found = resolve_all(alloc, tree)?;
+    match modes(alloc, tree, found.names.as_slice()) {
         Ok(table) => put_table(text, &table),
         Err(fault) => put_fault(text, fault),
     }

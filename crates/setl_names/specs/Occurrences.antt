@@ -33,10 +33,6 @@ abbrev pub all_of : List Standing → Standing
 all_of [] p = []
 all_of (x ∷ xs) p = x p ++ all_of xs p
 
-abbrev pub optional : Option Standing → Standing
-optional None p = []
-optional (Some x) p = x p
-
 -- a name that doesn't stand before a list in round brackets
 abbrev pub named : Name → Standing
 named x p = at p (what.Name x (has p.own x)) ∷ []

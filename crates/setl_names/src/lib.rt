@@ -16,9 +16,9 @@ mod procs;
 mod rules;
 
 pub use around::Around;
-pub use bodies::{BodyNames, names_of_params, names_of_vars};
+pub use bodies::BodyNames;
 pub use broken::{Break, RuleFault, noted, noted_if};
-pub use head::Entry;
+pub use head::{Declares, Entry, noted_again};
 pub use laws::worked_rows;
 pub use name::Name;
 pub use names::Names;

@@ -1,8 +1,9 @@
 //! Lists of names in which a name is found without a walk.
 
-ghost use Rattle.std.specs.Prelude.{◌≡◌, [], not, take, length, OnOk, OnErr, IfOk};
-ghost use Rattle.setl_names.specs.Names.{BeginsWith, has, with_name, with_names, repeats_after, has_repeat};
+ghost use Rattle.std.specs.Prelude.{◌≡◌, [], not, map, take, length, OnOk, OnErr, IfOk};
+ghost use Rattle.setl_names.specs.Names.{BeginsWith, has, with_name, with_names, in_order, repeats_after, has_repeat};
 
+use crate::head::Declares;
 use crate::name::Name;
 use indexmap::IndexSet;
 use std::alloc::{AllocError, Global};
@@ -33,6 +34,15 @@ impl Names {
             alloc,
             names: IndexSet::new(alloc),
         }
+    }
+
+    /// The declared names, each once.
+    pub fn declared<T: Declares>(alloc: Global, items: &[T]) -> Result<Names, AllocError>
+        ensures { IfOk result (λ names. names ≡ in_order (map (λ item. (T.entry_of item).name) items.now)) }
+    {
+        let mut names = Names::new(alloc);
+        names.put_declared(items)?;
+        Ok(names)
     }
 
     /// How many names there are.
@@ -83,6 +93,18 @@ impl Names {
     {
         for name in names {
             self.put(name.text().bytes())?;
+        }
+        Ok(())
+    }
+
+    /// Puts the declared names at the end in their order, but for those that are there. An error is want of memory, and some
+    /// of them are put then.
+    pub fn put_declared<T: Declares>(&mut self, items: &[T]) -> Result<(), AllocError>
+        ensures ok { OnOk result (self.new ≡ with_names self.old (map (λ item. (T.entry_of item).name) items.now)) }
+        ensures err { OnErr result (BeginsWith self.new self.old) }
+    {
+        for item in items {
+            self.put(item.entry().name.text().bytes())?;
         }
         Ok(())
     }

@@ -6,25 +6,9 @@ ghost use Rattle.setl_names.specs.Procedures.{param_names};
 ghost use Rattle.setl_names.specs.Variables as spec;
 ghost use Rattle.setl_names_walk.specs.Own as found;
 
-use setl_names::{BodyNames, Name, Names, Occurrence, Procs, What, names_of_params};
-use setl_tree::{Items, Param, Text};
+use setl_names::{BodyNames, Name, Names, Occurrence, Procs, What};
+use setl_tree::{Items, Param, Text, copied_items};
 use std::alloc::{AllocError, Global};
-
-/// The same parameters again. An error is want of memory.
-fn copied_params(alloc: Global, params: &[Param]) -> Result<Items<Param>, AllocError>
-    ensures { IfOk result (λ all. all ≡ params.now) }
-{
-    let mut all = Items::new(alloc);
-    for param in params {
-        let name = param.name.copy()?;
-        all.push(Param {
-            passing: param.passing,
-            name,
-            line: param.line,
-        })?;
-    }
-    Ok(all)
-}
 
 /// The name that stands in a statement and is no former's own name.
 fn free_name<'t>(what: &What<'t>) -> Option<Name<'t>>
@@ -119,7 +103,7 @@ fn add_body_slots(
     requires { all.now ≡ [] }
     ensures { OnOk result (all.new ≡ spec.slots_among procs.now (in_order (param_names params.now)) vars.now occurrences.now) }
 {
-    let names = names_of_params(alloc, params)?;
+    let names = Names::declared(alloc, params)?;
     let mut seen = Names::new(alloc);
     add_slots(alloc, procs, vars, &names, occurrences, &mut seen, all)
 }
@@ -128,7 +112,7 @@ fn add_body_slots(
 fn without_slots(alloc: Global, name: &Text, params: &[Param]) -> Result<BodyNames, AllocError>
     ensures { IfOk result (λ b. b ≡ spec.names_with name.now params.now []) }
 {
-    let params = copied_params(alloc, params)?;
+    let params = copied_items(alloc, params)?;
     Ok(BodyNames {
         name: name.copy()?,
         params,

@@ -1,63 +1,13 @@
 //! Rules 1 to 8: what stands outside statements.
 
-ghost use Rattle.std.specs.Prelude.{◌≡◌, [], map, fold, IfOk};
+ghost use Rattle.std.specs.Prelude.{◌≡◌, map, fold, IfOk};
 ghost use Rattle.setl_names.specs.Breaks as spec;
 ghost use Rattle.setl_names.specs.Breaks.{earlier, tagged};
 ghost use Rattle.setl_names.specs.Heads as heads;
 
-use setl_names::{Break, Entry, Name, Names, Procs, noted, noted_if};
+use setl_names::{Break, Declares, Procs, noted, noted_again, noted_if};
 use setl_tree::{Declared, Param, Proc, Text, Tree};
 use std::alloc::{AllocError, Global};
-
-/// What declares a name.
-trait Declares {
-    ghost use Rattle.setl_names.specs.declared.head.Entry.{Entry};
-
-    ghost entry_of: { Self → Entry };
-
-    /// The name with the line at which a break is told.
-    fn entry(&self) -> Entry<'_>
-        ensures { result ≡ entry_of self.now };
-}
-
-impl Declares for Proc {
-    ghost use Rattle.setl_names.specs.Heads.{proc_entry};
-
-    ghost entry_of = { proc_entry };
-
-    fn entry(&self) -> Entry<'_> {
-        Entry {
-            line: self.line,
-            name: Name::new(&self.name),
-        }
-    }
-}
-
-impl Declares for Param {
-    ghost use Rattle.setl_names.specs.Heads.{param_entry};
-
-    ghost entry_of = { param_entry };
-
-    fn entry(&self) -> Entry<'_> {
-        Entry {
-            line: self.line,
-            name: Name::new(&self.name),
-        }
-    }
-}
-
-impl Declares for Declared {
-    ghost use Rattle.setl_names.specs.Heads.{declared_entry};
-
-    ghost entry_of = { declared_entry };
-
-    fn entry(&self) -> Entry<'_> {
-        Entry {
-            line: self.line,
-            name: Name::new(&self.name),
-        }
-    }
-}
 
 /// The first break so far and of a rule that what declares a procedure's name breaks.
 fn of_procedures<T: Declares>(
@@ -76,26 +26,6 @@ fn of_procedures<T: Declares>(
         }
     }
     first
-}
-
-/// The first break so far and of a rule that what declares a name that was declared before breaks.
-fn again<T: Declares>(
-    alloc: Global,
-    first: Option<Break>,
-    rule: u8,
-    items: &[T],
-) -> Result<Option<Break>, AllocError>
-    ensures { IfOk result (λ f. f ≡ fold earlier first (tagged rule (heads.lines_again [] (map T.entry_of items.now)))) }
-{
-    let mut first = first;
-    let mut seen = Names::new(alloc);
-    for item in items {
-        let entry = item.entry();
-        if !seen.put(entry.name.text().bytes())? {
-            first = noted(first, entry.line, rule);
-        }
-    }
-    Ok(first)
 }
 
 /// Whether a name behind an `end` is another one.
@@ -143,7 +73,7 @@ fn param_break(
 ) -> Result<Option<Break>, AllocError>
     ensures { IfOk result (λ f. f ≡ fold earlier first (spec.list_breaks procs.now params.now)) }
 {
-    let first = again(alloc, first, 7, params)?;
+    let first = noted_again(alloc, first, 7, params)?;
     Ok(of_procedures(first, 8, procs, params))
 }
 
@@ -173,7 +103,7 @@ fn proc_breaks(
     ensures { IfOk result (λ f. f ≡ fold earlier first (spec.proc_breaks name.now procs.now)) }
 {
     let first = ends(first, procs);
-    let first = again(alloc, first, 3, procs)?;
+    let first = noted_again(alloc, first, 3, procs)?;
     Ok(program_names(first, name, procs))
 }
 
@@ -186,7 +116,7 @@ fn var_breaks(
 ) -> Result<Option<Break>, AllocError>
     ensures { IfOk result (λ f. f ≡ fold earlier first (spec.var_breaks table.now names.now)) }
 {
-    let first = again(alloc, first, 5, names)?;
+    let first = noted_again(alloc, first, 5, names)?;
     Ok(of_procedures(first, 6, table, names))
 }
 

@@ -1,7 +1,7 @@
 //! Name resolution of SETL.
 //!
-//! `resolve` tests the rules 1 to 18 of a program on its syntax tree, and gives the variables of each body. A walk over the
-//! statements of a body finds what stands there.
+//! `resolve_all` tests the rules 1 to 18 of a program on its syntax tree, and gives the variables of each body. A walk over
+//! the statements of a body finds what stands there.
 #![tactic(auto)]
 
 mod bodies;
@@ -14,4 +14,4 @@ mod simple;
 mod statements;
 mod walk;
 
-pub use program::{names_of_bodies, resolve};
+pub use program::{Resolution, resolve, resolve_all};

@@ -1,6 +1,7 @@
 //! Name resolution of a program.
 
 ghost use Rattle.std.specs.Prelude.{◌≡◌, ◌∷◌, map, IfOk, OnOk, OnErr};
+ghost use Rattle.setl_names.specs.Breaks.{breaks, first_break};
 ghost use Rattle.setl_names.specs.Bodies.{main_body, proc_body, bodies, occurrences};
 ghost use Rattle.setl_names.specs.Resolves.{Resolves, all_names};
 ghost use Rattle.setl_names_walk.specs.Found.{body_of, with_occurrences, with_body, with_bodies, heads_found, whole_program};
@@ -9,15 +10,14 @@ use crate::bodies::body_names;
 use crate::head::head_break;
 use crate::statements::stmts;
 use crate::walk::Walk;
-use setl_names::{
-    Around, BodyNames, Break, Names, Occurrence, Procs, RuleFault, body_break, names_of_vars,
-};
+use setl_names::{Around, BodyNames, Break, Names, Occurrence, Procs, RuleFault, body_break};
 use setl_tree::{Items, Param, Proc, Stmt, Text, Tree};
 use std::alloc::{AllocError, Global};
 
-/// What resolving has found so far: the first break, and the names of bodies.
+/// What resolving the names of a program finds, or has found so far: the first break of a rule, if one is broken, and the
+/// names of bodies.
 #[derive(Drop)]
-pub struct Found {
+pub struct Resolution {
     pub first: Option<Break>,
     pub names: Items<BodyNames>,
 }
@@ -55,7 +55,7 @@ fn note_body(
     vars: &Names,
     body: BodyParts<'_>,
     occurrences: &[Occurrence<'_>],
-    found: &mut Found,
+    found: &mut Resolution,
 ) -> Result<(), AllocError>
     ensures ok { OnOk result (found.new ≡ with_occurrences procs.now vars.now body.entry.name.now body.entry.params.now occurrences.now found.old) }
     ensures err { OnErr result (found.new ≡ found.old) }
@@ -73,7 +73,7 @@ fn resolve_body(
     procs: &Procs<'_>,
     vars: &Names,
     body: BodyParts<'_>,
-    found: &mut Found,
+    found: &mut Resolution,
 ) -> Result<(), AllocError>
     ensures ok { OnOk result (found.new ≡ with_body procs.now vars.now (body_of body.entry.name.now body.entry.params.now body.entry.statements.now body.entry.in_procedure) found.old) }
     ensures err { OnErr result (found.new ≡ found.old) }
@@ -88,7 +88,7 @@ fn resolve_procs(
     table: &Procs<'_>,
     vars: &Names,
     procs: &[Proc],
-    found: &mut Found,
+    found: &mut Resolution,
 ) -> Result<(), AllocError>
     ensures { OnOk result (found.new ≡ with_bodies table.now vars.now (map proc_body procs.now) found.old) }
 {
@@ -110,7 +110,7 @@ fn resolve_bodies(
     tree: &Tree,
     table: &Procs<'_>,
     vars: &Names,
-    found: &mut Found,
+    found: &mut Resolution,
 ) -> Result<(), AllocError>
     ensures { OnOk result (found.new ≡ with_bodies table.now vars.now (main_body tree.now ∷ map proc_body tree.now.procs) found.old) }
 {
@@ -130,12 +130,12 @@ fn resolve_within(
     tree: &Tree,
     table: &Procs<'_>,
     vars: &Names,
-) -> Result<Found, AllocError>
+) -> Result<Resolution, AllocError>
     requires { table.now ≡ tree.now.procs }
     ensures { IfOk result (λ found. found ≡ with_bodies table.now vars.now (bodies tree.now) (heads_found tree.now)) }
 {
     let first = head_break(alloc, tree, table)?;
-    let mut found = Found {
+    let mut found = Resolution {
         first,
         names: Items::new(alloc),
     };
@@ -144,43 +144,36 @@ fn resolve_within(
 }
 
 /// What resolving finds in a program with these procedures.
-fn resolve_with(alloc: Global, tree: &Tree, table: &Procs<'_>) -> Result<Found, AllocError>
+fn resolve_with(alloc: Global, tree: &Tree, table: &Procs<'_>) -> Result<Resolution, AllocError>
     requires { table.now ≡ tree.now.procs }
     ensures { IfOk result (λ found. found ≡ whole_program tree.now) }
 {
-    let vars = names_of_vars(alloc, tree.vars.as_slice())?;
+    let vars = Names::declared(alloc, tree.vars.as_slice())?;
     resolve_within(alloc, tree, table, &vars)
 }
 
-/// What resolving finds in a program.
-fn resolve_all(alloc: Global, tree: &Tree) -> Result<Found, AllocError>
-    ensures { IfOk result (λ found. found ≡ whole_program tree.now) }
+/// Resolves the names of a program.
+///
+/// It gives the first break of the rules 1 to 18 by line, and of one line that of the lowest number, and, whether a rule is
+/// broken or not, the names of each body, the main program first, then the procedures in their order. The error is want
+/// of memory.
+pub fn resolve_all(alloc: Global, tree: &Tree) -> Result<Resolution, AllocError>
+    ensures first { IfOk result (λ found. found.first ≡ first_break (breaks tree.now)) }
+    ensures names { IfOk result (λ found. found.names ≡ all_names tree.now) }
 {
     let table = Procs::new(alloc, tree.procs.as_slice())?;
     resolve_with(alloc, tree, &table)
 }
 
-/// The names of each body, the main program first, then the procedures in their order, whether a rule is broken or not.
+/// The names of each body of a program, the main program first, then the procedures in their order.
 ///
-/// The error is want of memory.
-pub fn names_of_bodies(alloc: Global, tree: &Tree) -> Result<Items<BodyNames>, AllocError>
-    ensures { IfOk result (λ names. names ≡ all_names tree.now) }
-{
-    let found = resolve_all(alloc, tree)?;
-    let Found { names, .. } = found;
-    Ok(names)
-}
-
-/// Resolves the names of a program.
-///
-/// It gives the names of each body, the main program first, then the procedures in their order. Where a rule of 1 to 18
-/// is broken, the error is `Broken` with the first break by line, and of one line that of the lowest number.
-/// `NoMemory` is want of memory.
+/// Where a rule of 1 to 18 is broken, the error is `Broken` with the first break by line, and of one line that of the
+/// lowest number. `NoMemory` is want of memory.
 pub fn resolve(alloc: Global, tree: &Tree) -> Result<Items<BodyNames>, RuleFault>
     ensures { Resolves tree.now result }
 {
     let found = resolve_all(alloc, tree)?;
-    let Found { first, names } = found;
+    let Resolution { first, names } = found;
     match first {
         None => Ok(names),
         Some(first) => Err(RuleFault::Broken {

@@ -6,9 +6,9 @@ use Rattle.setl_scalar.specs.declared.ScalarFault.{ScalarFault}
 use Rattle.setl_scalar.specs.declared.ScalarFault.TheVariants.{Wide, Zero, Range, NoMemory}
 use Rattle.setl_scalar.specs.Integers.{add_of, mul_of}
 use Rattle.setl_value.specs.Datum.{Datum, bool, int, text, tuple, set}
-use Rattle.setl_map.specs.Outcome.{Outcome, Gives, Fails, Overspends, adding, charging, value}
-use Rattle.setl_map.specs.Numbers.{whole, plus, times, replicated, greater, lesser}
-use Rattle.setl_map.specs.Truths.{both, either}
+use Rattle.setl_operators_table.specs.Outcome.{Outcome, Gives, Fails, Overspends, adding, charging, value}
+use Rattle.setl_operators_table.specs.Numbers.{whole, plus, times, replicated, greater, lesser}
+use Rattle.setl_operators_table.specs.Truths.{both, either}
 use Rattle.setl_operators.specs.declared.folds.Combination.{Combination}
 use Rattle.setl_operators.specs.declared.folds.Combination.TheVariants.{Sum, Product, Greatest, Least, All, Any}
 use Rattle.setl_operators.specs.Combinations.{combination}

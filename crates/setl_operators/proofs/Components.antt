@@ -4,8 +4,8 @@ use Rattle.std.proofs.lemmas.Option.{slice_get-get_or, none-some}
 use Rattle.setl_value.specs.declared.Value.{Value}
 use Rattle.setl_value.specs.code.DatumOf.{datum, lent}
 use Rattle.setl_value.specs.Datum.{Datum, set_of, tuple_of, element_list-elements_of, part_list-parts_of}
-use Rattle.setl_map.specs.Folds.{fold_on, fold_list, fold_datum}
-use Rattle.setl_map.specs.Outcome.{Outcome, adding}
+use Rattle.setl_operators_table.specs.Folds.{fold_on, fold_list, fold_datum}
+use Rattle.setl_operators_table.specs.Outcome.{Outcome, adding}
 use Rattle.setl_operators.proofs.Steps.{adding_none}
 
 -- what is read at an index of a tuple

@@ -2,9 +2,9 @@
 use Rattle.std.proofs.Common.{◌≡◌, ℕ, Option, Some, None, ap, arith}
 use Rattle.std.specs.Bool.{IsTrue}
 use Rattle.std.proofs.lemmas.Bool.Decides.{nat_tests}
-use Rattle.setl_map.specs.declared.Operator.{Operator}
-use Rattle.setl_map.specs.declared.Operator.TheVariants.{With, Less, Lessf}
-use Rattle.setl_map.specs.Operators.{operand_count, IsCount, TakesOperands}
+use Rattle.setl_operators_table.specs.declared.Operator.{Operator}
+use Rattle.setl_operators_table.specs.declared.Operator.TheVariants.{With, Less, Lessf}
+use Rattle.setl_operators_table.specs.Operators.{operand_count, IsCount, TakesOperands}
 use Rattle.setl_operators.specs.Readers.{reads, is_few}
 
 few : (what : Operator) → IsTrue (reads what) → IsTrue (is_few (operand_count what))

@@ -1,9 +1,9 @@
 -- What a fold combines, and how.
 use Rattle.std.specs.Prelude.{ℕ}
 use Rattle.setl_value.specs.Datum.{Datum}
-use Rattle.setl_map.specs.Outcome.{Outcome}
-use Rattle.setl_map.specs.Numbers.{plus, times, greater, lesser}
-use Rattle.setl_map.specs.Truths.{both, either}
+use Rattle.setl_operators_table.specs.Outcome.{Outcome}
+use Rattle.setl_operators_table.specs.Numbers.{plus, times, greater, lesser}
+use Rattle.setl_operators_table.specs.Truths.{both, either}
 use Rattle.setl_operators.specs.declared.folds.Combination.{Combination}
 use Rattle.setl_operators.specs.declared.folds.Combination.TheVariants.{Sum, Product, Greatest, Least, All, Any}
 

@@ -1,8 +1,8 @@
 -- Which operators only read their operands.
 use Rattle.std.specs.Prelude.{ℕ, ◌==◌, ◌||◌, Bool, false, Option, Some, None}
-use Rattle.setl_map.specs.declared.Operator.{Operator}
-use Rattle.setl_map.specs.declared.Operator.TheVariants.{With, Less, Lessf, Equal, NotEqual}
-use Rattle.setl_map.specs.Operators.{operand_count}
+use Rattle.setl_operators_table.specs.declared.Operator.{Operator}
+use Rattle.setl_operators_table.specs.declared.Operator.TheVariants.{With, Less, Lessf, Equal, NotEqual}
+use Rattle.setl_operators_table.specs.Operators.{operand_count}
 
 abbrev pub is_few : Option ℕ → Bool
 is_few None = false

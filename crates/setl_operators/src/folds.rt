@@ -3,14 +3,14 @@
 ghost use Rattle.std.specs.Prelude.{◌≡◌, ◌≤◌, ◌-◌, map, IfOk, None, Some};
 ghost use Rattle.setl_value.specs.code.Body.{Members};
 ghost use Rattle.setl_value.specs.code.DatumOf.{datum, lent, part};
-ghost use Rattle.setl_map.specs.code.Answers.{Tells};
-ghost use Rattle.setl_map.specs.Folds.{combined, fold_list, fold_datum};
-ghost use Rattle.setl_map.specs.Numbers.{plus};
-ghost use Rattle.setl_map.specs.Outcome.{adding};
+ghost use Rattle.setl_operators_table.specs.code.Answers.{Tells};
+ghost use Rattle.setl_operators_table.specs.Folds.{combined, fold_list, fold_datum};
+ghost use Rattle.setl_operators_table.specs.Numbers.{plus};
+ghost use Rattle.setl_operators_table.specs.Outcome.{adding};
 ghost use Rattle.setl_operators.specs.Combinations.{combination};
 
-use setl_map::{Answer, OpFault};
 use setl_operators_arithmetic::{both, either, greater, lesser, plus_in_place, times};
+use setl_operators_table::{Answer, OpFault};
 use setl_value::{Memory, SetBody, TupleBody, Value};
 use std::alloc::Global;
 

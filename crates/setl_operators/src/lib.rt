@@ -6,5 +6,5 @@ mod folds;
 mod operands;
 mod table;
 
-pub use setl_map::{Answer, OpFault, Operator};
+pub use setl_operators_table::{Answer, OpFault, Operator};
 pub use table::{op, op_one, op_two};

@@ -2,9 +2,9 @@
 
 ghost use Rattle.std.specs.Prelude.{◌≡◌, ◌∷◌, [], ◌++◌, ◌<◌, Some, None, MatchResult, length, map};
 ghost use Rattle.setl_value.specs.code.DatumOf.{datum, lent, part};
-ghost use Rattle.setl_map.specs.Outcome.{all_values};
+ghost use Rattle.setl_operators_table.specs.Outcome.{all_values};
 
-use setl_map::OpFault;
+use setl_operators_table::OpFault;
 use setl_value::Value;
 
 /// The only operand, which may be `om`.

@@ -3,17 +3,15 @@
 ghost use Rattle.std.specs.Prelude.{◌≡◌, ◌∷◌, [], Some, IsTrue, length, map};
 ghost use Rattle.setl_value.specs.Datum.{text};
 ghost use Rattle.setl_value.specs.code.DatumOf.{datum, lent, part};
-ghost use Rattle.setl_map.specs.code.Answers.{Tells};
-ghost use Rattle.setl_map.specs.Operators.{op_of, operand_count, TakesOperands};
-ghost use Rattle.setl_map.specs.Outcome.{value};
-ghost use Rattle.setl_map.specs.Puts.{put};
+ghost use Rattle.setl_operators_table.specs.code.Answers.{Tells};
+ghost use Rattle.setl_operators_table.specs.Operators.{op_of, operand_count, TakesOperands};
+ghost use Rattle.setl_operators_table.specs.Outcome.{value};
+ghost use Rattle.setl_operators_table.specs.Puts.{put};
 ghost use Rattle.setl_text.specs.Texts.{whole_text};
 ghost use Rattle.setl_operators.specs.Readers.{reads, reads_two};
 
 use crate::folds::{Combination, fold};
 use crate::operands::{any_one, any_three, any_two, lend, one, three, two};
-use setl_map::answers::string;
-use setl_map::{Answer, OpFault, Operator};
 use setl_operators_arithmetic::{
     absolute, at_most, below, divide, equal, even, greater, is_atom, is_boolean, is_in, is_integer,
     is_map, is_set, is_string, is_tuple, lesser, minus, modulo, negate, negation, not_equal,
@@ -25,6 +23,8 @@ use setl_operators_collections::{
 use setl_operators_enumerations::{
     enumerate_set, enumerate_tuple, npow, pow, set_range, set_step, tuple_range, tuple_step,
 };
+use setl_operators_table::answers::string;
+use setl_operators_table::{Answer, OpFault, Operator};
 use setl_text::text;
 use setl_value::{Text, Value};
 use std::alloc::Global;

@@ -1,21 +1,19 @@
 -- Rows of the operators' table over the lists of bodies.
-use Rattle.std.specs.Prelude.{◌≡◌, ℕ, ◌+◌, ◌≤◌, Bool, true, List, Option, Some, nat_le, ℤ, pos, negsuc, Result, Ok, refl}
-use Rattle.std.specs.Bool.{if◌then◌else◌}
+use Rattle.std.specs.Prelude.{◌≡◌, ℕ, ◌+◌, ◌≤◌, Bool, List, Option, Some, ℤ, pos, negsuc, Result, Ok, refl}
 use Rattle.std.proofs.Common.{ap, sym, ◌∙◌, arith}
-use Rattle.std.proofs.lemmas.Bool.Decides.{nat_tests}
 use Rattle.setl_value.specs.Datum.{Datum, bool, int, text, atom, tuple, set, set_of, tuple_of}
 use Rattle.setl_value.specs.Copies.{copies}
 use Rattle.setl_scalar.specs.Texts.{repeat_of as repeat_of_text}
 use Rattle.setl_tuple.specs.Tuples.{repeat_of as repeat_of_tuple}
-use Rattle.setl_map.specs.Outcome.{Gives, Fails, Overspends, KindFault, charging, value, tuple_value}
-use Rattle.setl_map.specs.Numbers.{times, replicated}
+use Rattle.setl_operators_table.specs.Outcome.{Gives, Fails, KindFault, charging, value, tuple_value}
+use Rattle.setl_operators_table.specs.OutcomeLaws.{paid}
+use Rattle.setl_operators_table.specs.Numbers.{times, replicated}
 use Rattle.setl_operators_arithmetic.proofs.Views.{parts_back}
 
 -- ---- copies
 
-paid : (left k : ℕ) (d : Datum) → k ≤ left → charging k left (value d) ≡ Gives (Some d) k
-paid left k d h =
-    (let t : nat_le k left ≡ true = grind (arith, nat_tests) in ap (λ b. if b then Gives (Some d) (k + 0) else Overspends) t) ∙ ap (Gives (Some d)) (omega arith)
+paid_value : (left k : ℕ) (d : Datum) → k ≤ left → charging k left (value d) ≡ Gives (Some d) k
+paid_value left k d h = paid k left (value d) h ∙ ap (Gives (Some d)) {x = k + 0} {y = k} (omega arith)
 
 same_if_ok : {A E : Type 0} (x y : A) (r : Result A E) → r ≡ Ok x → r ≡ Ok y → x ≡ y
 same_if_ok x y r p q = cc
@@ -24,13 +22,13 @@ pub tuple_copied : (left : ℕ) (n : ℤ) (ps qs : List (Option Datum)) (k : ℕ
 tuple_copied left n ps qs k r e h =
     ap (λ z. replicated left z (tuple_of ps)) e
     ∙ ap (λ l. charging k left (tuple_value (copies k l))) (parts_back ps)
-    ∙ paid left k (tuple_of (copies k ps)) h
+    ∙ paid_value left k (tuple_of (copies k ps)) h
     ∙ ap (λ l. Gives (Some (tuple_of l)) k) (same_if_ok (copies k ps) qs (repeat_of_tuple ps (pos k)) refl (ap (repeat_of_tuple ps) (sym e) ∙ r))
 
 pub text_copied : (left : ℕ) (n : ℤ) (t u : List ℕ) (k : ℕ) → repeat_of_text t n ≡ Ok u → n ≡ pos k → k ≤ left → replicated left n (text t) ≡ Gives (Some (text u)) k
 text_copied left n t u k r e h =
     ap (λ z. replicated left z (text t)) e
-    ∙ paid left k (text (copies k t)) h
+    ∙ paid_value left k (text (copies k t)) h
     ∙ ap (λ l. Gives (Some (text l)) k) (same_if_ok (copies k t) u (repeat_of_text t (pos k)) refl (ap (repeat_of_text t) (sym e) ∙ r))
 
 -- ---- what has no copies

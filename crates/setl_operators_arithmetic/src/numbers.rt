@@ -4,12 +4,12 @@ ghost use Rattle.std.specs.Prelude.{◌≡◌, ◌<◌, ◌≤◌, ◌<ℤ◌, �
 ghost use Rattle.setl_value.specs.code.Body.{Members};
 ghost use Rattle.setl_value.specs.Datum.{int, set_of, text, tuple_of};
 ghost use Rattle.setl_value.specs.code.DatumOf.{datum};
-ghost use Rattle.setl_map.specs.Outcome.{value};
-ghost use Rattle.setl_map.specs.Numbers.{negate, absolute, is_even, is_odd, raise, divide, greater, lesser, plus, minus, modulo, times, replicated, whole};
-ghost use Rattle.setl_map.specs.code.Answers.{Changes, Tells};
+ghost use Rattle.setl_operators_table.specs.Outcome.{value};
+ghost use Rattle.setl_operators_table.specs.Numbers.{negate, absolute, is_even, is_odd, raise, divide, greater, lesser, plus, minus, modulo, times, replicated, whole};
+ghost use Rattle.setl_operators_table.specs.code.Answers.{Changes, Tells};
 
-use setl_map::answers::{free, set, string, truth, tuple, whole};
-use setl_map::{Answer, OpFault};
+use setl_operators_table::answers::{free, set, string, truth, tuple, whole};
+use setl_operators_table::{Answer, OpFault};
 use setl_scalar::ScalarFault;
 use setl_value::{SetBody, Text, TupleBody, Value};
 use std::alloc::Global;

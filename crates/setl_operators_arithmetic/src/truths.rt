@@ -7,12 +7,12 @@ ghost use Rattle.std.specs.Ordering.{is_eq};
 ghost use Rattle.setl_value.specs.code.DatumOf.{datum, lent};
 ghost use Rattle.setl_value.specs.Order.{datum_cmp};
 ghost use Rattle.setl_value.specs.Pairs.{is_datum};
-ghost use Rattle.setl_map.specs.Outcome.{Fails, KindFault, truth};
-ghost use Rattle.setl_map.specs.Truths.{negation, both, either, is_below, is_at_most, is_in, subset, opposite, equality, kind_test, is_integer_datum, is_string_datum, is_boolean_datum, is_atom_datum, is_tuple_datum, is_set_datum, is_map_datum};
-ghost use Rattle.setl_map.specs.code.Answers.{Tells};
+ghost use Rattle.setl_operators_table.specs.Outcome.{Fails, KindFault, truth};
+ghost use Rattle.setl_operators_table.specs.Truths.{negation, both, either, is_below, is_at_most, is_in, subset, opposite, equality, kind_test, is_integer_datum, is_string_datum, is_boolean_datum, is_atom_datum, is_tuple_datum, is_set_datum, is_map_datum};
+ghost use Rattle.setl_operators_table.specs.code.Answers.{Tells};
 
-use setl_map::answers::truth;
-use setl_map::{Answer, OpFault};
+use setl_operators_table::answers::truth;
+use setl_operators_table::{Answer, OpFault};
 use setl_value::{TupleBody, Value};
 
 /// `not v` of a boolean. Kind for any other value.

@@ -8,8 +8,8 @@ use Rattle.std.proofs.lemmas.Option.{slice_get_past}
 use Rattle.setl_value.specs.Datum.{int, text}
 use Rattle.setl_scalar.specs.declared.ScalarFault.TheVariants.{Range}
 use Rattle.setl_value.specs.Copies.{are_places}
-use Rattle.setl_map.specs.Outcome.{Gives, Fails, RangeFault, value}
-use Rattle.setl_map.specs.Selections.{get, slice, letter, part_of_text}
+use Rattle.setl_operators_table.specs.Outcome.{Gives, Fails, RangeFault, value}
+use Rattle.setl_operators_table.specs.Selections.{get, slice, letter, part_of_text}
 
 -- the slice of one byte
 one_byte : (t : List ℕ) (k : ℕ) → k < length t → (b : ℕ) × (slice_get t k ≡ Some b) × (take (suc k - k) (drop k t) ≡ b ∷ [])

@@ -2,14 +2,14 @@
 use Rattle.std.specs.Prelude.{◌≡◌, ℕ, ℤ, pos, ◌≤◌, ◌<◌, ◌≤ℤ◌, Bool, true, false, List, [], ◌∷◌, Option, Some, None, length, slice_get, int_le, refl}
 use Rattle.std.specs.Bool.{if◌then◌else◌}
 use Rattle.std.proofs.Common.{ap, sym, ◌∙◌, arith}
-use Rattle.std.proofs.lemmas.Bool.{le-leb, lt-leb}
 use Rattle.std.proofs.lemmas.Int.{ints}
 use Rattle.setl_value.specs.Datum.{Datum, int, depth, elements_of, element_list, element_list-elements_of, parts_of, part_list, part_list-parts_of, set_of, tuple_of}
 use Rattle.setl_value.specs.Pairs.{is_map}
 use Rattle.setl_tuple.specs.Tuples.{index_of}
-use Rattle.setl_map.specs.Outcome.{Outcome, Gives, Fails, Overspends, DeepFault, KindFault, RangeFault, adding, charging, value, within_depth}
-use Rattle.setl_map.specs.Collections.{on_map, least, least_member}
-use Rattle.setl_map.specs.Puts.{put_part, put_value}
+use Rattle.setl_operators_table.specs.Outcome.{Outcome, Gives, Fails, DeepFault, KindFault, RangeFault, adding, charging, value, within_depth}
+use Rattle.setl_operators_table.specs.OutcomeLaws.{paid, too_deep}
+use Rattle.setl_operators_table.specs.Collections.{on_map, least, least_member}
+use Rattle.setl_operators_table.specs.Puts.{put_part, put_value}
 
 -- a body's list is what the table reads of its datum
 pub members_back : (ds : List Datum) → element_list (elements_of ds) ≡ ds
@@ -54,15 +54,6 @@ place_row left i p ps h =
     ap (put_part left (index_of i) p) (sym (parts_back ps)) ∙ ap (λ b. if b then put_part left (index_of i) p (part_list (parts_of ps)) else Fails RangeFault) (sym there)
 
 -- ---- depth and charge
-
-pub too_deep : (d : Datum) → 500 < depth d → within_depth d ≡ Fails DeepFault
-too_deep d h = ap (λ b. if b then value d else Fails DeepFault) (lt-leb (depth d) 500 h)
-
-pub shallow : (d : Datum) → depth d ≤ 500 → within_depth d ≡ value d
-shallow d h = ap (λ b. if b then value d else Fails DeepFault) (le-leb (depth d) 500 h)
-
-pub paid : (n left : ℕ) (o : Outcome) → n ≤ left → charging n left o ≡ adding n o
-paid n left o h = ap (λ b. if b then adding n o else Overspends) (le-leb n left h)
 
 pub paid_deep : (n left : ℕ) (d : Datum) → n ≤ left → 500 < depth d → charging n left (within_depth d) ≡ Fails DeepFault
 paid_deep n left d h k = paid n left (within_depth d) h ∙ ap (adding n) (too_deep d k)

@@ -8,9 +8,9 @@ use Rattle.std.proofs.lemmas.Option.{none-some}
 use Rattle.setl_value.specs.Datum.{Datum, elements_of, element_list, set_of, tuple_of}
 use Rattle.setl_value.specs.code.DatumOf.{part}
 use Rattle.setl_value.specs.WellFormed.{trim}
-use Rattle.setl_map.specs.declared.Taken.{Taken}
-use Rattle.setl_map.specs.code.Answers.{Takes}
-use Rattle.setl_map.specs.Takes.{Takeout, TakesOut, IsEmpty, first_of, last_of, take_least, take_first, take_last}
+use Rattle.setl_operators_table.specs.declared.Taken.{Taken}
+use Rattle.setl_operators_table.specs.code.Answers.{Takes}
+use Rattle.setl_operators_table.specs.Takes.{Takeout, TakesOut, IsEmpty, first_of, last_of, take_least, take_first, take_last}
 use Rattle.setl_operators_collections.proofs.Rows.{members_back, parts_back}
 
 -- a part that was taken, and none

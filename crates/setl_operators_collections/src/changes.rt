@@ -4,10 +4,11 @@ ghost use Rattle.std.specs.Prelude.{◌≡◌, OnErr};
 ghost use Rattle.setl_value.specs.code.Body.{Members};
 ghost use Rattle.setl_value.specs.Datum.{set_of, tuple_of};
 ghost use Rattle.setl_value.specs.code.DatumOf.{datum};
-ghost use Rattle.setl_map.specs.Collections.{less_datum, with_datum, lessf_datum};
-ghost use Rattle.setl_map.specs.code.Answers.{Changes, Tells};
+ghost use Rattle.setl_operators_table.specs.Collections.{less_datum, with_datum, lessf_datum};
+ghost use Rattle.setl_operators_table.specs.code.Answers.{Changes, Tells};
 
-use setl_map::{Answer, MapFault, OpFault};
+use setl_map::MapFault;
+use setl_operators_table::{Answer, OpFault};
 use setl_set::SetFault;
 use setl_tuple::TupleFault;
 use setl_value::{SetBody, TupleBody, Value};

@@ -6,11 +6,12 @@ ghost use Rattle.setl_value.specs.code.Body.{Members};
 ghost use Rattle.setl_value.specs.Datum.{int, set_of, tuple_of};
 ghost use Rattle.setl_value.specs.code.DatumOf.{datum, part};
 ghost use Rattle.setl_tuple.specs.Tuples.{index_of};
-ghost use Rattle.setl_map.specs.Puts.{add_image, put_part, put_value, put_set};
-ghost use Rattle.setl_map.specs.code.Answers.{Changes, Tells};
+ghost use Rattle.setl_operators_table.specs.Puts.{add_image, put_part, put_value, put_set};
+ghost use Rattle.setl_operators_table.specs.code.Answers.{Changes, Tells};
 
 use crate::changes::changed;
-use setl_map::{Answer, MapFault, OpFault};
+use setl_map::MapFault;
+use setl_operators_table::{Answer, OpFault};
 use setl_tuple::TupleFault;
 use setl_value::{SetBody, TupleBody, Value};
 use std::alloc::Global;

@@ -5,11 +5,12 @@ ghost use Rattle.std.specs.Option.{option_map};
 ghost use Rattle.setl_value.specs.code.Body.{Members};
 ghost use Rattle.setl_value.specs.Datum.{int, set_of, text, tuple_of};
 ghost use Rattle.setl_value.specs.code.DatumOf.{datum, part};
-ghost use Rattle.setl_map.specs.Selections.{get, images_of, slice, tail};
-ghost use Rattle.setl_map.specs.code.Answers.{Tells};
+ghost use Rattle.setl_operators_table.specs.Selections.{get, images_of, slice, tail};
+ghost use Rattle.setl_operators_table.specs.code.Answers.{Tells};
 
-use setl_map::answers::{set, string, tuple};
-use setl_map::{Answer, MapFault, OpFault};
+use setl_map::MapFault;
+use setl_operators_table::answers::{set, string, tuple};
+use setl_operators_table::{Answer, OpFault};
 use setl_scalar::ScalarFault;
 use setl_tuple::TupleFault;
 use setl_value::{Memory, SetBody, Text, TupleBody, Value};

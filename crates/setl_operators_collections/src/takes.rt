@@ -4,10 +4,10 @@ ghost use Rattle.std.specs.Prelude.{◌≡◌, OnErr, IfOk, false};
 ghost use Rattle.setl_value.specs.code.Body.{Members};
 ghost use Rattle.setl_value.specs.Datum.{set_of, tuple_of};
 ghost use Rattle.setl_value.specs.code.DatumOf.{datum};
-ghost use Rattle.setl_map.specs.code.Answers.{Takes};
-ghost use Rattle.setl_map.specs.Takes.{take_least, take_first, take_last};
+ghost use Rattle.setl_operators_table.specs.code.Answers.{Takes};
+ghost use Rattle.setl_operators_table.specs.Takes.{take_least, take_first, take_last};
 
-use setl_map::{OpFault, Taken};
+use setl_operators_table::{OpFault, Taken};
 use setl_value::{SetBody, TupleBody, Value};
 
 /// Takes the least member out of a set in place, as `x from s` does; it charges no turn. An empty set has none to take,

@@ -3,11 +3,12 @@
 ghost use Rattle.setl_value.specs.code.Body.{Members};
 ghost use Rattle.setl_value.specs.Datum.{set_of};
 ghost use Rattle.setl_value.specs.code.DatumOf.{datum};
-ghost use Rattle.setl_map.specs.Collections.{size, least_member, domain, range};
-ghost use Rattle.setl_map.specs.code.Answers.{Tells};
+ghost use Rattle.setl_operators_table.specs.Collections.{size, least_member, domain, range};
+ghost use Rattle.setl_operators_table.specs.code.Answers.{Tells};
 
-use setl_map::answers::{free, set};
-use setl_map::{Answer, MapFault, OpFault};
+use setl_map::MapFault;
+use setl_operators_table::answers::{free, set};
+use setl_operators_table::{Answer, OpFault};
 use setl_value::{SetBody, Value};
 use std::alloc::Global;
 

@@ -6,7 +6,7 @@ use Rattle.setl_value.specs.declared.Value.{Value}
 use Rattle.setl_value.specs.Datum.{Datum, depth, elements_depth, elements_of, part_depth, parts_depth, parts_of}
 use Rattle.setl_value.specs.WellFormed.{trim, trim_onto}
 use Rattle.setl_value.specs.code.DatumOf.{datum, part}
-use Rattle.setl_map.specs.Outcome.{all_values, one_more}
+use Rattle.setl_operators_table.specs.Outcome.{all_values, one_more}
 
 more_snoc : (e : Datum) (d : Datum) (r : Option (List Datum)) (s : Option (List Datum)) (ds : List Datum) → ((es : List Datum) → r ≡ Some es → s ≡ Some (es ++ d ∷ [])) → one_more e r ≡ Some ds → one_more e s ≡ Some (ds ++ d ∷ [])
 more_snoc e d None s ds h g = cc

@@ -1,55 +1,20 @@
 -- Outcomes with a charge and outcomes of sets and tuples.
-use Rattle.std.specs.Prelude.{◌≡◌, ℕ, ◌+◌, ◌^◌, ◌<◌, ◌≤◌, true, false, nat_le, List, [], ◌∷◌, Option, Some, map, max, ℤ, pos, negsuc, ◌<ℤ◌, length, refl}
-use Rattle.std.specs.Bool.{if◌then◌else◌}
-use Rattle.std.specs.declared.cmp.Ordering.{Ordering}
-use Rattle.std.specs.declared.cmp.Ordering.TheVariants.{Less, Equal, Greater}
+use Rattle.std.specs.Prelude.{◌≡◌, ℕ, ◌+◌, ◌^◌, ◌<◌, ◌≤◌, List, [], ◌∷◌, Option, Some, map, ℤ, pos, negsuc, ◌<ℤ◌, length, refl}
 use Rattle.std.proofs.Common.{ap, sym, ◌∙◌, arith}
-use Rattle.std.proofs.lemmas.Bool.Decides.{nat_tests}
 use Rattle.std.proofs.lemmas.Int.{ints}
 use Rattle.setl_value.specs.declared.Value.{Value}
 use Rattle.setl_value.specs.code.DatumOf.{datum, part}
 use Rattle.setl_value.specs.Datum.{Datum, int, depth, elements_depth, elements_of, parts_depth, parts_of, set_of, tuple_of, element_list-elements_of}
-use Rattle.setl_value.specs.Order.{datum_cmp}
-use Rattle.setl_value.specs.OrderLaws.{same_datum}
 use Rattle.setl_value.specs.WellFormed.{trim}
-use Rattle.setl_set.specs.Sets.{insert_datum, insert_by, set_from}
+use Rattle.setl_set.specs.Sets.{set_from}
 use Rattle.setl_set.specs.Subsets.{pow_of, npow_of, subsets_of_size}
-use Rattle.setl_map.specs.Collections.{all_subsets, some_subsets}
+use Rattle.setl_operators_table.specs.Collections.{all_subsets, some_subsets}
 use Rattle.setl_operators_enumerations.specs.Counts.{choose}
 use Rattle.setl_operators_enumerations.proofs.Binomials.{none_above}
 use Rattle.setl_operators_enumerations.proofs.Sizes.{subset_number, none_larger}
-use Rattle.setl_map.specs.RangeRows.{as_set, as_tuple}
-use Rattle.setl_map.specs.Outcome.{Outcome, Gives, Fails, Overspends, DeepFault, adding, charging, value, within_depth}
-
-pub too_deep : (d : Datum) → 500 < depth d → within_depth d ≡ Fails DeepFault
-too_deep d h = let t : nat_le (depth d) 500 ≡ false = grind (arith, nat_tests) in ap (λ b. if b then value d else Fails DeepFault) t
-
-pub shallow : (d : Datum) → depth d ≤ 500 → within_depth d ≡ value d
-shallow d h = let t : nat_le (depth d) 500 ≡ true = grind (arith, nat_tests) in ap (λ b. if b then value d else Fails DeepFault) t
-
--- ---- charges
-
-pub paid : (n left : ℕ) (o : Outcome) → n ≤ left → charging n left o ≡ adding n o
-paid n left o h = let t : nat_le n left ≡ true = grind (arith, nat_tests) in ap (λ b. if b then adding n o else Overspends) t
-
-pub spent : (n left : ℕ) (o : Outcome) → left < n → charging n left o ≡ Overspends
-spent n left o h = let t : nat_le n left ≡ false = grind (arith, nat_tests) in ap (λ b. if b then adding n o else Overspends) t
-
--- ---- depths
-
-depth_insert_by : (o : Ordering) (d e : Datum) (es more : List Datum) → datum_cmp d e ≡ o → elements_depth (elements_of more) ≡ max (depth d) (elements_depth (elements_of es))
-    → elements_depth (elements_of (insert_by o d e es more)) ≡ max (depth d) (elements_depth (elements_of (e ∷ es)))
-depth_insert_by Less d e es more p h = refl
-depth_insert_by Equal d e es more p h = omega (arith, ap depth (same_datum d e p))
-depth_insert_by Greater d e es more p h = omega (arith, h)
-
-depth_insert : (d : Datum) (ds : List Datum) → elements_depth (elements_of (insert_datum d ds)) ≡ max (depth d) (elements_depth (elements_of ds))
-depth_insert d [] = refl
-depth_insert d (e ∷ es) = depth_insert_by (datum_cmp d e) d e es (insert_datum d es) refl (depth_insert d es)
-
-pub depth_set_from : (ds : List Datum) → elements_depth (elements_of (set_from ds)) ≡ elements_depth (elements_of ds)
-depth_set_from [] = refl
-depth_set_from (d ∷ ds) = omega (arith, depth_insert d (set_from ds), depth_set_from ds)
+use Rattle.setl_operators_table.specs.RangeRows.{as_set, as_tuple}
+use Rattle.setl_operators_table.specs.Outcome.{Gives, Fails, Overspends, DeepFault, adding, charging, within_depth}
+use Rattle.setl_operators_table.specs.OutcomeLaws.{paid, spent, too_deep}
 
 -- the components of a tuple without `om`
 pub depth_all : (ds : List Datum) → parts_depth (parts_of (map Some ds)) ≡ elements_depth (elements_of ds)

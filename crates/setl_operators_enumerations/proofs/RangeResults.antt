@@ -8,15 +8,15 @@ use Rattle.std.proofs.Math.Nat.{mul-div-le}
 use Rattle.std.proofs.lemmas.Bool.Decides.{nat_tests}
 use Rattle.std.proofs.lemmas.Int.{ints, by_lt_z, int_wrap_fits}
 use Rattle.setl_value.specs.Datum.{Datum, int}
-use Rattle.setl_map.specs.Outcome.{Outcome, Fails, Overspends, ZeroFault, adding, charging}
-use Rattle.setl_map.specs.Ranges.{spread, range_size, range_from, is_past, step_size, step_from}
-use Rattle.setl_map.specs.RangeRows.{range_of_integers, stepped_integers}
-use Rattle.setl_map.specs.declared.Answer.{Answer}
-use Rattle.setl_map.specs.declared.OpFault.{OpFault}
-use Rattle.setl_map.specs.code.Answers.{Tells}
+use Rattle.setl_operators_table.specs.Outcome.{Outcome, Fails, Overspends, ZeroFault, adding, charging}
+use Rattle.setl_operators_table.specs.OutcomeLaws.{paid, spent}
+use Rattle.setl_operators_table.specs.Ranges.{spread, range_size, range_from, is_past, step_size, step_from}
+use Rattle.setl_operators_table.specs.RangeRows.{range_of_integers, stepped_integers}
+use Rattle.setl_operators_table.specs.declared.Answer.{Answer}
+use Rattle.setl_operators_table.specs.declared.OpFault.{OpFault}
+use Rattle.setl_operators_table.specs.code.Answers.{Tells}
 use Rattle.setl_operators_enumerations.specs.Integers.{AreWide}
 use Rattle.setl_operators_enumerations.proofs.Spreads.{rising, falling}
-use Rattle.setl_operators_enumerations.proofs.Outcomes.{paid, spent}
 
 wide_if : (t : Bool) (a by : ℤ) (n : ℕ) → (t ≡ true → AreWide a by (suc n)) → AreWide a by (if t then n + 1 else 0)
 wide_if true a by n h = subst (AreWide a by) {x = suc n} {y = n + 1} (omega arith) (h refl)

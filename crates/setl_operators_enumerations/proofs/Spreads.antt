@@ -6,7 +6,7 @@ use Rattle.std.proofs.Common.{ap, sym, ◌∙◌, arith, subst}
 use Rattle.std.proofs.Math.Nat.{mul-suc}
 use Rattle.std.proofs.lemmas.Int.{ints, int_wrap_fits, int_wrap-add_right}
 use Rattle.setl_value.specs.Datum.{Datum, int, elements_depth, elements_of}
-use Rattle.setl_map.specs.Ranges.{spread}
+use Rattle.setl_operators_table.specs.Ranges.{spread}
 use Rattle.setl_operators_enumerations.specs.Integers.{AreWide}
 
 -- the next integer, if one is to come

@@ -1,8 +1,10 @@
 //! How many members ranges and sets of subsets have, up to a bound.
 
-ghost use Rattle.std.specs.Prelude.{◌≡◌, ◌^◌, ◌<◌, ◌≤◌, ◌+◌, ◌-ℤ◌};
-ghost use Rattle.setl_map.specs.Ranges.{is_past, range_size, step_size};
+ghost use Rattle.std.specs.Prelude.{◌≡◌, ◌^◌, ◌<◌, ◌≤◌, ◌+◌};
+ghost use Rattle.setl_operators_table.specs.Ranges.{range_size, step_size};
 ghost use Rattle.setl_operators_enumerations.specs.Counts.{IsCount, choose};
+
+use setl_operators_table::ranges::is_past;
 
 /// How many integers there are from a to b, and None where they are more than `turns`.
 pub(crate) fn range_count(a: i128, b: i128, turns: u64) -> Option<u64>
@@ -23,14 +25,6 @@ pub(crate) fn step_count(a: i128, b: i128, c: i128, turns: u64) -> Option<u64>
         return Some(0);
     }
     one_more(c.abs_diff(a) / b.abs_diff(a), turns)
-}
-
-// Whether c lies on the other side of a than b does.
-fn is_past(a: i128, b: i128, c: i128) -> bool
-    requires { a ≡ b → ⊥ }
-    ensures { result ≡ is_past a (b -ℤ a) c }
-{
-    if a < b { c < a } else { a < c }
 }
 
 // One more than n, and None where that is more than `turns`.

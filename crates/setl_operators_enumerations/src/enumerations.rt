@@ -4,13 +4,14 @@ ghost use Rattle.std.specs.Prelude.{◌≡◌, ◌++◌, ◌∷◌, ◌≤◌, [
 ghost use Rattle.std.specs.Option.{option_map};
 ghost use Rattle.setl_value.specs.Datum.{depth, part_depth, set_of, tuple_of};
 ghost use Rattle.setl_value.specs.code.DatumOf.{datum, part};
-ghost use Rattle.setl_map.specs.Collections.{enumerate_set, enumerate_tuple};
-ghost use Rattle.setl_map.specs.Outcome.{all_values};
-ghost use Rattle.setl_map.specs.code.Answers.{Tells};
+ghost use Rattle.setl_operators_table.specs.Collections.{enumerate_set, enumerate_tuple};
+ghost use Rattle.setl_operators_table.specs.Outcome.{all_values};
+ghost use Rattle.setl_operators_table.specs.code.Answers.{Tells};
 ghost use Rattle.setl_operators_enumerations.specs.ValueData.{value_data};
 
-use setl_map::answers::{shallow_set, shallow_tuple};
-use setl_map::{Answer, OpFault, gathered};
+use setl_map::gathered;
+use setl_operators_table::answers::{shallow_set, shallow_tuple};
+use setl_operators_table::{Answer, OpFault};
 use setl_value::{Memory, TupleBody, Value};
 use std::alloc::Global;
 

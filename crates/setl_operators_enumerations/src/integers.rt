@@ -4,7 +4,7 @@ ghost use Rattle.std.specs.Prelude.{◌≡◌, ℤ, map, IfOk};
 ghost use Rattle.std.specs.Int.{int_wrap, w128};
 ghost use Rattle.setl_value.specs.Datum.{elements_depth, elements_of};
 ghost use Rattle.setl_value.specs.code.DatumOf.{datum};
-ghost use Rattle.setl_map.specs.Ranges.{spread};
+ghost use Rattle.setl_operators_table.specs.Ranges.{spread};
 ghost use Rattle.setl_operators_enumerations.specs.Integers.{AreWide};
 
 use setl_value::{Memory, Value};

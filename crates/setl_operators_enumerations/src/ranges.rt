@@ -4,15 +4,16 @@ ghost use Rattle.std.specs.Prelude.{◌≡◌, ℤ, map, IfOk, Some};
 ghost use Rattle.std.specs.Int.{int_wrap, w128};
 ghost use Rattle.setl_value.specs.Datum.{int};
 ghost use Rattle.setl_value.specs.code.DatumOf.{datum};
-ghost use Rattle.setl_map.specs.Outcome.{adding};
-ghost use Rattle.setl_map.specs.Ranges.{spread};
-ghost use Rattle.setl_map.specs.RangeRows.{as_set, as_tuple, range_of_integers, stepped_integers};
-ghost use Rattle.setl_map.specs.code.Answers.{Tells};
+ghost use Rattle.setl_operators_table.specs.Outcome.{adding};
+ghost use Rattle.setl_operators_table.specs.Ranges.{spread};
+ghost use Rattle.setl_operators_table.specs.RangeRows.{as_set, as_tuple, range_of_integers, stepped_integers};
+ghost use Rattle.setl_operators_table.specs.code.Answers.{Tells};
 ghost use Rattle.setl_operators_enumerations.specs.Integers.{AreWide};
 
 use crate::counts::{range_count, step_count};
 use crate::integers::integers;
-use setl_map::{Answer, OpFault, gathered};
+use setl_map::gathered;
+use setl_operators_table::{Answer, OpFault};
 use setl_value::{Memory, TupleBody, Value};
 use std::alloc::Global;
 

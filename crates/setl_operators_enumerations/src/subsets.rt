@@ -4,13 +4,13 @@ ghost use Rattle.std.specs.Prelude.{◌≡◌, ◌≤◌, length, pos};
 ghost use Rattle.setl_value.specs.code.Body.{Members};
 ghost use Rattle.setl_value.specs.Datum.{int, set_of};
 ghost use Rattle.setl_value.specs.code.DatumOf.{datum};
-ghost use Rattle.setl_map.specs.Collections.{all_subsets, some_subsets};
-ghost use Rattle.setl_map.specs.Outcome.{adding, within_depth};
-ghost use Rattle.setl_map.specs.code.Answers.{Tells};
+ghost use Rattle.setl_operators_table.specs.Collections.{all_subsets, some_subsets};
+ghost use Rattle.setl_operators_table.specs.Outcome.{adding, within_depth};
+ghost use Rattle.setl_operators_table.specs.code.Answers.{Tells};
 
 use crate::counts::{power_count, subset_count};
-use setl_map::answers::shallow_set;
-use setl_map::{Answer, OpFault};
+use setl_operators_table::answers::shallow_set;
+use setl_operators_table::{Answer, OpFault};
 use setl_set::SetFault;
 use setl_value::{SetBody, Value};
 use std::alloc::Global;

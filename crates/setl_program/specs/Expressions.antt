@@ -14,8 +14,8 @@ use Rattle.setl_tree.specs.declared.expr.Selector.{Selector as SelectorTree, fol
 use Rattle.setl_tree.specs.declared.tree.Param.{Param}
 use Rattle.setl_tree.specs.declared.tree.Passing.{Passing}
 use Rattle.setl_tree.specs.declared.tree.Passing.TheVariants as pa
-use Rattle.setl_map.specs.declared.Operator.{Operator}
-use Rattle.setl_map.specs.declared.Operator.TheVariants.{Get, Images, Slice, Tail, SetOf, TupleOf, SetRange, TupleRange, SetStep, TupleStep}
+use Rattle.setl_operators_table.specs.declared.Operator.{Operator}
+use Rattle.setl_operators_table.specs.declared.Operator.TheVariants.{Get, Images, Slice, Tail, SetOf, TupleOf, SetRange, TupleRange, SetStep, TupleStep}
 use Rattle.setl_model_runs.specs.Variable.{Variable}
 use Rattle.setl_program.specs.declared.kinds.Collection.{Collection}
 use Rattle.setl_program.specs.declared.kinds.Collection.TheVariants.{OfSet, OfTuple}

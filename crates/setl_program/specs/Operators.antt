@@ -12,8 +12,8 @@ use Rattle.setl_tree.specs.declared.expr.Quantifier.{Quantifier as QuantifierWor
 use Rattle.setl_tree.specs.declared.expr.Quantifier.TheVariants as qu
 use Rattle.setl_tree.specs.declared.stmt.FromEnd.{FromEnd}
 use Rattle.setl_tree.specs.declared.stmt.FromEnd.TheVariants as fr
-use Rattle.setl_map.specs.declared.Operator.{Operator}
-use Rattle.setl_map.specs.declared.Operator.TheVariants as o
+use Rattle.setl_operators_table.specs.declared.Operator.{Operator}
+use Rattle.setl_operators_table.specs.declared.Operator.TheVariants as o
 use Rattle.setl_program.specs.declared.kinds.Connective.{Connective}
 use Rattle.setl_program.specs.declared.kinds.Connective.TheVariants.{And, Or, Implies}
 use Rattle.setl_program.specs.declared.kinds.Quantifier.{Quantifier}

@@ -2,7 +2,7 @@
 use Rattle.std.specs.Prelude.{◌≡◌, ◌≤◌, true, false, List, [], ◌∷◌, map, Some, None}
 use Rattle.setl_names.specs.Names.{Name as Word, has}
 use Rattle.setl_model_runs.specs.Variable.{Variable, Global, Own, Bound}
-use Rattle.setl_map.specs.Operators.{operand_count, TakesOperands}
+use Rattle.setl_operators_table.specs.Operators.{operand_count, TakesOperands}
 use Rattle.setl_program.specs.Program.{Slots, Binding, Member, Components, Point, Expr, Literal, Undefined, Name, Apply, Connect, Choose, Former, Selection, Quantified, Call, Newat, Eof, Ok, Exprs, no_expr, more_exprs, Iterators, no_iterator, more_iterators, Condition, no_condition, only_if, Arguments, no_argument, rd_argument, wr_argument, rw_argument, Selectors, no_selector, round_selector, brace_selector, Place, Stmt, Assign, Update, AssignParts, TakeFrom, Perform, If, For, While, Quit, Continue, Fail, Stop, Pass, Return, Print, Read, Block, no_stmt, more_stmts, Procedure, Program}
 use Rattle.setl_program.specs.Formed.{number_of}
 

@@ -2,7 +2,7 @@
 use Rattle.std.specs.Prelude.{ℕ, List, Option}
 use Rattle.setl_value.specs.Datum.{Datum}
 use Rattle.setl_model_runs.specs.Variable.{Variable}
-use Rattle.setl_map.specs.declared.Operator.{Operator}
+use Rattle.setl_operators_table.specs.declared.Operator.{Operator}
 use Rattle.setl_program.specs.declared.kinds.Connective.{Connective}
 use Rattle.setl_program.specs.declared.kinds.Quantifier.{Quantifier}
 use Rattle.setl_program.specs.declared.kinds.Collection.{Collection}

@@ -8,7 +8,7 @@ use Rattle.setl_names.specs.Procedures.{param_names}
 use Rattle.setl_names.specs.Variables.{var_names}
 use Rattle.setl_model_runs.specs.Variable.{Variable}
 use Rattle.setl_modes.specs.Modes.{Mode}
-use Rattle.setl_modes.specs.Declarations.{bases_of, variables_of}
+use Rattle.setl_modes.specs.Declarations.{variables_of}
 use Rattle.setl_program.specs.Program.{Parameter, Procedure, Program}
 use Rattle.setl_program.specs.Scope.{Scope, variable_of}
 use Rattle.setl_program.specs.Statements.{body_of}
@@ -50,7 +50,3 @@ program_of t = record {
   procedures = procedures_from (main_scope t) 1 t.procs;
   modes = map (declaration_of (main_scope t)) (variables_of t.modes);
 }
-
--- the names of the bases, in the order of their declarations
-abbrev pub base_names : Tree → List Name
-base_names t = map (λ b. b.0) (bases_of t.modes)

@@ -10,7 +10,7 @@ use Rattle.setl_tree.specs.declared.expr.Bound.TheVariants as bd
 use Rattle.setl_tree.specs.declared.expr.Expr.TheOpen.{Expr-F, Inner-F, Iter-F, Selector-F}
 use Rattle.setl_tree.specs.declared.tree.Passing.TheVariants as pa
 use Rattle.setl_model_runs.specs.Variable.{Bound}
-use Rattle.setl_map.specs.declared.Operator.TheVariants.{With, Less, Add, Subtract, Max, Multiply, Power, Equal, NotEqual, Above, In, Negate, Size, Abs, Not, FoldAdd, TupleRange, SetStep}
+use Rattle.setl_operators_table.specs.declared.Operator.TheVariants.{With, Less, Add, Subtract, Max, Multiply, Power, Equal, NotEqual, Above, In, Negate, Size, Abs, Not, FoldAdd, TupleRange, SetStep}
 use Rattle.setl_program.specs.declared.kinds.Collection.TheVariants.{OfSet, OfTuple}
 use Rattle.setl_program.specs.declared.kinds.Connective.TheVariants.{And, Or, Implies}
 use Rattle.setl_program.specs.declared.kinds.Quantifier.TheVariants.{Exists, Forall, NotExists}

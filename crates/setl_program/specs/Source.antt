@@ -2,8 +2,8 @@
 use Rattle.std.specs.Prelude.{ℕ, zero, suc, ◌+◌, true, false, List, [], ◌∷◌, codes, pos}
 use Rattle.setl_value.specs.Datum.{Datum, bool, int, text, set, no_element, element_then}
 use Rattle.setl_model_runs.specs.Variable.{Variable, Own}
-use Rattle.setl_map.specs.declared.Operator.{Operator}
-use Rattle.setl_map.specs.declared.Operator.TheVariants.{Negate, With, Get, Images, Slice, Tail, SetOf, TupleOf}
+use Rattle.setl_operators_table.specs.declared.Operator.{Operator}
+use Rattle.setl_operators_table.specs.declared.Operator.TheVariants.{Negate, With, Get, Images, Slice, Tail, SetOf, TupleOf}
 use Rattle.setl_modes.specs.Modes.{Mode}
 use Rattle.setl_program.specs.declared.kinds.Collection.{Collection}
 use Rattle.setl_program.specs.declared.kinds.Source.TheVariants.{Values, Between}

@@ -1,7 +1,7 @@
 //! Expressions of a program, in which each name stands for its variable.
 
 use crate::kinds::{Collection, Connective, Quantifier, Source};
-use setl_map::Operator;
+use setl_operators_table::Operator;
 use setl_tree::{Boxed, Items, Text};
 
 /// A variable.

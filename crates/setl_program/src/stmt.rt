@@ -2,7 +2,7 @@
 
 use crate::expr::{Expr, Iterator, Variable};
 use crate::kinds::Taking;
-use setl_map::Operator;
+use setl_operators_table::Operator;
 use setl_tree::Items;
 
 /// A selector of a place: `(x)` or `{x}`. Several expressions in one are their tuple.

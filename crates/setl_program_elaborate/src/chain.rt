@@ -7,7 +7,7 @@ ghost use Rattle.setl_program.specs.code.Plain.{plain_expr, plain_link};
 ghost use Rattle.setl_program_elaborate.specs.Chains.{plain_chain};
 
 use crate::operators;
-use setl_map::Operator;
+use setl_operators_table::Operator;
 use setl_program::{Expr, Link};
 use setl_tree::{BinaryOp, Boxed, Items};
 use std::alloc::{AllocError, Global};

@@ -8,10 +8,10 @@ ghost use Rattle.setl_program_elaborate.specs.Elaborators.{does, plain_range, pl
 
 use crate::chain::Chain;
 use crate::elaborator::Elaborator;
-use crate::makers::beside;
 use crate::ranges::Bounds;
 use crate::{makers, operators, ranges};
 use setl_program::{Collection, Expr, Source};
+use setl_program_scope::beside;
 use setl_tree::{
     BinaryOp, Bound, Boxed, Expr as TreeExpr, Inner, Items, Iter, Quantifier, Relation, Selector,
     Text,

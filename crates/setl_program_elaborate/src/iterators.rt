@@ -11,10 +11,10 @@ ghost use Rattle.setl_program_elaborate.specs.Elaborators.{made, does, puts};
 
 use crate::elaborator::Elaborator;
 use crate::makers;
-use crate::makers::{beside, put};
+use crate::makers::put;
 use setl_names::Names;
 use setl_program::{Expr, Iterator};
-use setl_program_scope::{names_of_bound, names_of_turns, put_turn};
+use setl_program_scope::{beside, names_of_bound, names_of_turns, put_turn};
 use setl_tree::{Bound, Boxed, Expr as TreeExpr, Items, Iter, Text};
 use std::alloc::AllocError;
 

@@ -9,19 +9,10 @@ ghost use Rattle.setl_program.specs.code.Plain.{plain_expr, plain_iterator, plai
 
 use crate::chain::Chain;
 use crate::operators;
-use setl_map::Operator;
+use setl_operators_table::Operator;
 use setl_program::{Argument, Collection, Expr, Iterator, Link};
 use setl_tree::{Boxed, Items, Prefix, Text};
 use std::alloc::{AllocError, Global};
-
-/// What was made before, and what is made now. An error is that of the second.
-pub fn beside<T: Drop, U: Drop>(held: T, other: Result<U, AllocError>) -> Result<(T, U), AllocError>
-    ensures held { IfOk result (λ both. both.0 ≡ held) }
-    ensures other { IfOk result (λ both. other ≡ Ok both.1) }
-{
-    let other = other?;
-    Ok((held, other))
-}
 
 /// What was made, where the other is let go.
 pub fn without<T: Drop, U: Drop>(_other: T, made: U) -> U

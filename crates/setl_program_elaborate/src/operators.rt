@@ -4,7 +4,7 @@ ghost use Rattle.std.specs.Prelude.{◌≡◌};
 ghost use Rattle.setl_program.specs.Operators as spec;
 ghost use Rattle.setl_program.specs.Expressions as terms;
 
-use setl_map::Operator;
+use setl_operators_table::Operator;
 use setl_program::{Collection, Connective, Quantifier, Taking};
 use setl_tree::{BinaryOp, Fold, FromEnd, Prefix, Relation};
 

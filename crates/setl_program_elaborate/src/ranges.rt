@@ -6,7 +6,7 @@ ghost use Rattle.setl_program.specs.code.Plain.{plain_expr};
 ghost use Rattle.setl_program_elaborate.specs.Elaborators.{plain_range};
 
 use crate::makers;
-use setl_map::Operator;
+use setl_operators_table::Operator;
 use setl_program::{Collection, Expr, Source};
 use setl_tree::{Boxed, Items};
 use std::alloc::{AllocError, Global};

@@ -11,10 +11,10 @@ ghost use Rattle.setl_program_elaborate.specs.Elaborators.{does, puts};
 use crate::chain::Chain;
 use crate::elaborator::Elaborator;
 use crate::expressions::name_of;
-use crate::makers::beside;
 use crate::{makers, ranges};
-use setl_map::Operator;
+use setl_operators_table::Operator;
 use setl_program::{Argument, Expr, Link};
+use setl_program_scope::beside;
 use setl_tree::{Boxed, Expr as TreeExpr, Items, Param, Passing, Selector, Text};
 use std::alloc::AllocError;
 

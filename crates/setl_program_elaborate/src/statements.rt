@@ -9,9 +9,10 @@ ghost use Rattle.setl_program.specs.Statements.{kind_of, branch_of, lined};
 ghost use Rattle.setl_program_elaborate.specs.Elaborators.{does, assigned};
 
 use crate::elaborator::Elaborator;
-use crate::makers::{beside, put};
+use crate::makers::put;
 use crate::operators;
 use setl_program::{Branch, Expr, Place, Selector, Stmt, StmtKind};
+use setl_program_scope::beside;
 use setl_tree::{
     BinaryOp, Branch as TreeBranch, Expr as TreeExpr, FromEnd, Items, Iter, Place as TreePlace,
     Selector as TreeSelector, Slot, Stmt as TreeStmt, StmtKind as TreeKind, Text,

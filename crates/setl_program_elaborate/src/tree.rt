@@ -9,11 +9,13 @@ ghost use Rattle.setl_program.specs.ProgramOf.{main_scope, in_body, procedure_of
 ghost use Rattle.setl_program.specs.Statements.{body_of};
 
 use crate::elaborator::Elaborator;
-use crate::makers::{beside, put, without};
+use crate::makers::{put, without};
 use setl_modes::NamedMode;
 use setl_program::{Declared, Procedure, Program, Stmt};
-use setl_program_scope::Opened;
-use setl_tree::{Declared as TreeDeclared, Items, Param, Proc, Stmt as TreeStmt, Text, Tree};
+use setl_program_scope::{Opened, beside};
+use setl_tree::{
+    Declared as TreeDeclared, Items, Param, Proc, Stmt as TreeStmt, Text, Tree, copied_items,
+};
 use std::alloc::{AllocError, Global};
 
 /// The names in `var`. An error is want of memory.
@@ -27,29 +29,13 @@ fn vars(alloc: Global, declared: &[TreeDeclared]) -> Result<Items<Text>, AllocEr
     Ok(all)
 }
 
-/// The same parameters again. An error is want of memory.
-fn parameters(alloc: Global, params: &[Param]) -> Result<Items<Param>, AllocError>
-    ensures { IfOk result (λ all. all ≡ params.now) }
-{
-    let mut all = Items::new(alloc);
-    for param in params {
-        let name = param.name.copy()?;
-        all.push(Param {
-            passing: param.passing,
-            name,
-            line: param.line,
-        })?;
-    }
-    Ok(all)
-}
-
 /// The name of a procedure and its parameters. An error is want of memory.
 fn head(alloc: Global, proc: &Proc) -> Result<(Text, Items<Param>), AllocError>
     ensures name { IfOk result (λ r. r.0 ≡ proc.now.name) }
     ensures parameters { IfOk result (λ r. r.1 ≡ proc.now.params) }
 {
     let name = proc.name.copy()?;
-    beside(name, parameters(alloc, proc.params.as_slice()))
+    beside(name, copied_items(alloc, proc.params.as_slice()))
 }
 
 /// The name of a program and the names in its `var`. An error is want of memory.

@@ -18,8 +18,8 @@ use Rattle.setl_tree.specs.declared.tree.Proc.{Proc}
 use Rattle.setl_names.specs.Names.{Name as Word, has}
 use Rattle.setl_names.specs.Procedures.{found_procedure}
 use Rattle.setl_names.specs.Variables as meaning
-use Rattle.setl_map.specs.declared.Operator.{Operator}
-use Rattle.setl_map.specs.Operators.{operand_count, TakesOperands}
+use Rattle.setl_operators_table.specs.declared.Operator.{Operator}
+use Rattle.setl_operators_table.specs.Operators.{operand_count, TakesOperands}
 use Rattle.setl_model_runs.specs.Variable.{Variable, Own}
 use Rattle.setl_program.specs.declared.kinds.Connective.{Connective}
 use Rattle.setl_program.specs.declared.kinds.Collection.{Collection}

@@ -9,7 +9,7 @@ use Rattle.setl_names.specs.Names.{Name as Word, in_order, with_names}
 use Rattle.setl_names.specs.Places.{Place, inside_former, with_own}
 use Rattle.setl_names.specs.Occurrences as n
 use Rattle.setl_names.specs.Occurrences.{Standing, names_of_bound}
-use Rattle.setl_map.specs.Operators.{TakesOperands}
+use Rattle.setl_operators_table.specs.Operators.{TakesOperands}
 use Rattle.setl_program.specs.declared.kinds.Collection.{Collection}
 use Rattle.setl_program.specs.declared.kinds.Collection.TheVariants.{OfSet, OfTuple}
 use Rattle.setl_program.specs.Program.{Expr}

@@ -9,9 +9,9 @@ use Rattle.setl_names.specs.Places.{Place}
 use Rattle.setl_names.specs.Procedures.{params_of, found_from, found_procedure}
 use Rattle.setl_names.specs.Occurrences as n
 use Rattle.setl_names.specs.Occurrences.{Standing}
-use Rattle.setl_map.specs.declared.Operator.TheVariants.{Get, Images}
-use Rattle.setl_map.specs.declared.Operator.{Operator}
-use Rattle.setl_map.specs.Operators.{TakesOperands}
+use Rattle.setl_operators_table.specs.declared.Operator.TheVariants.{Get, Images}
+use Rattle.setl_operators_table.specs.declared.Operator.{Operator}
+use Rattle.setl_operators_table.specs.Operators.{TakesOperands}
 use Rattle.setl_program.specs.Program.{Expr, Arguments, rd_argument, wr_argument, rw_argument, round_selector, brace_selector}
 use Rattle.setl_program.specs.Formed.{PassedAs}
 use Rattle.setl_program.specs.Lists.{arguments_of}

@@ -1,7 +1,7 @@
 -- Programs in which the operator of each update is one that may stand there.
 use Rattle.std.specs.Prelude.{◌≡◌, Bool, true, false, List, [], ◌∷◌}
-use Rattle.setl_map.specs.declared.Operator.{Operator}
-use Rattle.setl_map.specs.declared.Operator.TheVariants.{Add, Subtract, Multiply, Power, Divide, Modulo, Max, Min, With, Less, Lessf, Npow}
+use Rattle.setl_operators_table.specs.declared.Operator.{Operator}
+use Rattle.setl_operators_table.specs.declared.Operator.TheVariants.{Add, Subtract, Multiply, Power, Divide, Modulo, Max, Min, With, Less, Lessf, Npow}
 use Rattle.setl_program.specs.Program.{Stmt, Update, If, For, While, Block, no_stmt, more_stmts, Procedure, Program}
 
 -- the operators that an update may have

@@ -1,6 +1,6 @@
 //! Which variable a name stands for where it stands.
 
-ghost use Rattle.std.specs.Prelude.{◌≡◌, ℕ, List, suc, None, Ok, map, option_map, IfOk, OnOk};
+ghost use Rattle.std.specs.Prelude.{◌≡◌, ℕ, List, suc, None, map, option_map, IfOk, OnOk};
 ghost use Rattle.setl_names.specs.Names.{Name};
 ghost use Rattle.setl_program.specs.code.Plain.{plain_variable, plain_slots, plain_binding};
 ghost use Rattle.setl_program.specs.ProgramOf.{main_scope, in_body};
@@ -8,7 +8,8 @@ ghost use Rattle.setl_program.specs.Scope as spec;
 ghost use Rattle.setl_program.specs.Program.{Point};
 ghost use Rattle.setl_program_scope.specs.Places.{variable_in};
 
-use setl_names::{Names, Procs, names_of_params, names_of_vars};
+use crate::held::beside;
+use setl_names::{Names, Procs};
 use setl_program::{Binding, Source, Variable};
 use setl_tree::{Bound, Items, Param, Slot, Text, Tree};
 use std::alloc::{AllocError, Global};
@@ -27,15 +28,6 @@ impl Model for Former {
     ghost Value = { spec.Former };
 
     ghost view = { λ f. record { number = f.number; names = f.names } };
-}
-
-/// What was made before, and what is made now. An error is that of the second.
-fn beside<T: Drop, U: Drop>(held: T, other: Result<U, AllocError>) -> Result<(T, U), AllocError>
-    ensures held { IfOk result (λ both. both.0 ≡ held) }
-    ensures other { IfOk result (λ both. other ≡ Ok both.1) }
-{
-    let other = other?;
-    Ok((held, other))
 }
 
 /// Where an expression stands: the number of its body, its parameters and the names in `var`, the formers around it, the
@@ -66,7 +58,7 @@ impl<'t> Scope<'t> {
     pub fn main(alloc: Global, tree: &'t Tree) -> Result<Scope<'t>, AllocError>
         ensures { IfOk result (λ s. s ≡ main_scope tree.now) }
     {
-        let vars = names_of_vars(alloc, tree.vars.as_slice())?;
+        let vars = Names::declared(alloc, tree.vars.as_slice())?;
         let (vars, procedures) = beside(vars, Procs::new(alloc, tree.procs.as_slice()))?;
         Ok(Scope {
             body: 0,
@@ -83,7 +75,7 @@ impl<'t> Scope<'t> {
         ensures { OnOk result (self.new ≡ in_body (suc self.old.body) parameters.now self.old) }
     {
         let number = self.body.checked_add(1).ok_or(AllocError)?;
-        self.parameters = names_of_params(alloc, parameters)?;
+        self.parameters = Names::declared(alloc, parameters)?;
         self.body = number;
         Ok(())
     }

@@ -8,9 +8,9 @@ use Rattle.setl_value.specs.Datum.{Datum}
 use Rattle.setl_program.specs.declared.kinds.Collection.{Collection}
 use Rattle.setl_model.specs.Collections.{refusal}
 use Rattle.setl_model.specs.Core as model
-use Rattle.setl_map.specs.Outcome.{Fault, OmFault, DeepFault}
-use Rattle.setl_map.specs.declared.OpFault.{OpFault}
-use Rattle.setl_map.specs.declared.OpFault.TheVariants as fault
+use Rattle.setl_operators_table.specs.Outcome.{Fault, OmFault, DeepFault}
+use Rattle.setl_operators_table.specs.declared.OpFault.{OpFault}
+use Rattle.setl_operators_table.specs.declared.OpFault.TheVariants as fault
 use Rattle.setl_code.specs.declared.code.Code.{Code}
 use Rattle.setl_code.specs.CodeCore as core
 use Rattle.setl_code.specs.Machine.{Added, Adds, Refused, Nowhere, add_by, below, added}

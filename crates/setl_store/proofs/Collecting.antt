@@ -8,7 +8,7 @@ use Rattle.setl_value.specs.Datum.{Datum, depth, parts_depth, parts_of, elements
 use Rattle.setl_value.specs.code.DatumOf.{datum, part}
 use Rattle.setl_value.specs.WellFormed.{trim}
 use Rattle.setl_set.specs.Sets.{set_from}
-use Rattle.setl_map.specs.Outcome.{OmFault, DeepFault, all_values, one_more}
+use Rattle.setl_operators_table.specs.Outcome.{OmFault, DeepFault, all_values, one_more}
 use Rattle.setl_program.specs.declared.kinds.Collection.{Collection}
 use Rattle.setl_program.specs.declared.kinds.Collection.TheVariants.{OfSet, OfTuple}
 use Rattle.setl_model.specs.Collections.{collected, collection}

@@ -1,8 +1,8 @@
 -- Iterators at work, and what lies below them, in the flat lists. No public clause cites this module.
 use Rattle.std.specs.Prelude.{◌≡◌, ◌<◌, List, [], ◌∷◌, length, drop, Option, Some, None}
-use Rattle.setl_map.specs.Outcome.{Fault, OmFault, DeepFault}
-use Rattle.setl_map.specs.declared.OpFault.{OpFault}
-use Rattle.setl_map.specs.declared.OpFault.TheVariants as fault
+use Rattle.setl_operators_table.specs.Outcome.{Fault, OmFault, DeepFault}
+use Rattle.setl_operators_table.specs.declared.OpFault.{OpFault}
+use Rattle.setl_operators_table.specs.declared.OpFault.TheVariants as fault
 use Rattle.setl_store_iterator.specs.Items.{plain_item, is_pair}
 use Rattle.setl_store_iterator.specs.declared.iterator.Item.{Item}
 use Rattle.setl_store_iterator.specs.declared.iterator.Item.TheVariants as item

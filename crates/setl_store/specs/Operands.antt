@@ -1,9 +1,9 @@
 -- What the calls on operands tell.
 use Rattle.std.specs.Prelude.{◌≡◌, ℕ, Bool, true, false, List, [], ◌∷◌, Option, Some, None, Result, Ok, Err}
 use Rattle.setl_value.specs.Datum.{Datum}
-use Rattle.setl_map.specs.Outcome.{OmFault, DeepFault}
-use Rattle.setl_map.specs.declared.OpFault.{OpFault}
-use Rattle.setl_map.specs.declared.OpFault.TheVariants as fault
+use Rattle.setl_operators_table.specs.Outcome.{OmFault, DeepFault}
+use Rattle.setl_operators_table.specs.declared.OpFault.{OpFault}
+use Rattle.setl_operators_table.specs.declared.OpFault.TheVariants as fault
 use Rattle.setl_model.specs.Core.{One, Two}
 use Rattle.setl_code.specs.CodeCore.{Held, There, Gone, Operand, Result as Holds, Iterator, PairIterator, Collecting, Pops, Lacks, popped, without_iterators}
 use Rattle.setl_code.specs.Machine.{Added, Adds, Refused, Nowhere}

@@ -13,7 +13,7 @@ ghost use Rattle.setl_store.specs.declared.iterating.Ahead.TheVariants as ahead;
 
 use crate::cells::{Contents, Member, Operand};
 use crate::store::{Store, lowest, operand};
-use setl_map::OpFault;
+use setl_operators_table::OpFault;
 use setl_program::Collection;
 use setl_store_environment::Memory;
 use setl_store_iterator::{Item, Iterator};

@@ -14,6 +14,6 @@ mod store;
 mod values;
 
 pub use iterating::Ahead;
-pub use setl_map::OpFault;
+pub use setl_operators_table::OpFault;
 pub use setl_store_environment::Memory;
 pub use store::{Content, Store, Top};

@@ -12,8 +12,8 @@ use Rattle.std.proofs.lemmas.Nat.{div-add-mod'}
 use Rattle.std.proofs.lemmas.Int.{ints, by_lt_z, int_wrap_fits, int_wrap-add_right}
 use Rattle.setl_value.specs.Datum.{Datum, int}
 use Rattle.setl_set.specs.Sets.{insert_datum, insert_by, set_from}
-use Rattle.setl_map.specs.Ranges.{spread, range_from, is_past, step_size, step_from}
-use Rattle.setl_map.specs.Outcome.{all_values, ZeroFault}
+use Rattle.setl_operators_table.specs.Ranges.{spread, range_from, is_past, step_size, step_from}
+use Rattle.setl_operators_table.specs.Outcome.{all_values, ZeroFault}
 use Rattle.setl_model.specs.Iterations.{Starts, Refuses, members, of_values, integers_stepped}
 use Rattle.setl_store_iterator.specs.Operands.{AreBounds}
 use Rattle.setl_store_iterator.specs.Integers.{counted}

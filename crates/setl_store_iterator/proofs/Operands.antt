@@ -5,8 +5,8 @@ use Rattle.std.proofs.lemmas.List.{length-map}
 use Rattle.setl_value.specs.Datum.{Datum, int}
 use Rattle.setl_value.specs.code.DatumOf.{part}
 use Rattle.setl_value.specs.declared.Value.{Value}
-use Rattle.setl_map.specs.declared.OpFault.{OpFault}
-use Rattle.setl_map.specs.Outcome.{all_values, one_more, KindFault}
+use Rattle.setl_operators_table.specs.declared.OpFault.{OpFault}
+use Rattle.setl_operators_table.specs.Outcome.{all_values, one_more, KindFault}
 use Rattle.setl_model.specs.Iterations.{Started, Refuses, of_values, one_source, integers_between, integers_stepped}
 use Rattle.setl_store_iterator.specs.Operands.{fault_of, Refused}
 

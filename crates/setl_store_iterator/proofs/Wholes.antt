@@ -5,7 +5,7 @@ use Rattle.std.proofs.Common.{ap, ◌∙◌}
 use Rattle.setl_value.specs.Datum.{Datum, set_of, tuple_of, element_list-elements_of, part_list-parts_of}
 use Rattle.setl_value.specs.Pairs.{is_map}
 use Rattle.setl_map.specs.Maps.{domain_of}
-use Rattle.setl_map.specs.Outcome.{KindFault}
+use Rattle.setl_operators_table.specs.Outcome.{KindFault}
 use Rattle.setl_model.specs.Iterations.{Starts, Refuses, members, singles, map_points, place_points, values_of, points_of}
 use Rattle.setl_store_iterator.specs.Points.{points}
 

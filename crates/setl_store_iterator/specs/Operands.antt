@@ -1,9 +1,9 @@
 -- Why operands have no items.
 use Rattle.std.specs.Prelude.{◌≡◌, ℤ, List, [], ◌∷◌, Option, Some, None}
 use Rattle.setl_value.specs.Datum.{Datum, int}
-use Rattle.setl_map.specs.Outcome.{OmFault, KindFault, ZeroFault}
-use Rattle.setl_map.specs.declared.OpFault.{OpFault}
-use Rattle.setl_map.specs.declared.OpFault.TheVariants.{Kind, Om, Zero, NoMemory}
+use Rattle.setl_operators_table.specs.Outcome.{OmFault, KindFault, ZeroFault}
+use Rattle.setl_operators_table.specs.declared.OpFault.{OpFault}
+use Rattle.setl_operators_table.specs.declared.OpFault.TheVariants.{Kind, Om, Zero, NoMemory}
 use Rattle.setl_model.specs.Iterations.{Started, Refuses}
 
 -- this fault is why there are none; want of memory tells nothing

@@ -1,6 +1,6 @@
 -- What a call that starts an iterator tells.
 use Rattle.std.specs.Prelude.{◌≡◌, Bool, true, false, Result, Ok, Err}
-use Rattle.setl_map.specs.declared.OpFault.{OpFault}
+use Rattle.setl_operators_table.specs.declared.OpFault.{OpFault}
 use Rattle.setl_program.specs.Program.{Begin, Members, Points}
 use Rattle.setl_model.specs.Iterations.{Started, Starts}
 use Rattle.setl_store_iterator.specs.States.{IteratorState}

@@ -1,14 +1,15 @@
 //! The integers that are left of a range.
 
-ghost use Rattle.std.specs.Prelude.{◌≡◌, ◌∷◌, ◌-ℤ◌, ◌<ℤ◌, Some, [], false};
+ghost use Rattle.std.specs.Prelude.{◌≡◌, ◌∷◌, ◌<ℤ◌, Some, [], false};
 ghost use Rattle.setl_value.specs.Datum.{int};
 ghost use Rattle.setl_set.specs.Sets.{set_from};
-ghost use Rattle.setl_map.specs.Ranges.{is_past, range_from, step_from};
+ghost use Rattle.setl_operators_table.specs.Ranges.{range_from, step_from};
 ghost use Rattle.setl_model.specs.Iterations.{members};
 ghost use Rattle.setl_store_iterator.specs.Items.{plain_item, is_pair};
 ghost use Rattle.setl_store_iterator.specs.Integers.{integers_left};
 
 use crate::iterator::Item;
+use setl_operators_table::ranges::is_past;
 use setl_value::Value;
 
 /// The next integer, how many more there are, and by what each follows the one before: modulo 2^128, since a step may
@@ -77,14 +78,6 @@ fn stepped_back(a: i128, b: i128, c: i128) -> Option<Steps>
         step: a.wrapping_sub(b),
         more: between / step,
     })
-}
-
-// Whether c lies on the other side of a than b does.
-fn is_past(a: i128, b: i128, c: i128) -> bool
-    requires { a ≡ b → ⊥ }
-    ensures { result ≡ is_past a (b -ℤ a) c }
-{
-    if a < b { c < a } else { a < c }
 }
 
 /// Takes the first of the integers that are left.

@@ -12,6 +12,6 @@ mod sources;
 mod starts;
 
 pub use iterator::{Item, Iterator};
-pub use setl_map::OpFault;
+pub use setl_operators_table::OpFault;
 pub use setl_value::Memory;
 pub use starts::begin;

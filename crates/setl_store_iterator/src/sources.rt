@@ -3,11 +3,11 @@
 ghost use Rattle.std.specs.Prelude.{◌≡◌, ◌∷◌, [], List, Some, None, map, MatchResult};
 ghost use Rattle.setl_value.specs.Datum.{Datum};
 ghost use Rattle.setl_value.specs.code.DatumOf.{datum, part};
-ghost use Rattle.setl_map.specs.Outcome.{all_values};
+ghost use Rattle.setl_operators_table.specs.Outcome.{all_values};
 ghost use Rattle.setl_model.specs.Iterations.{Started, of_values, one_source, integers_between, integers_stepped};
 ghost use Rattle.setl_store_iterator.specs.Operands.{fault_of, Refused};
 
-use setl_map::OpFault;
+use setl_operators_table::OpFault;
 use setl_value::Value;
 
 /// The only operand. Om where one is `om`, Kind where there is another number of them.

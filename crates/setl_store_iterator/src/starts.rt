@@ -4,7 +4,7 @@ ghost use Rattle.std.specs.Prelude.{◌≡◌, ◌∷◌, [], true, false, List,
 ghost use Rattle.setl_value.specs.Datum.{Datum, int};
 ghost use Rattle.setl_value.specs.code.DatumOf.{datum, part};
 ghost use Rattle.setl_program.specs.Program as program;
-ghost use Rattle.setl_map.specs.Outcome.{all_values};
+ghost use Rattle.setl_operators_table.specs.Outcome.{all_values};
 ghost use Rattle.setl_model.specs.Iterations.{items_of, values_of, points_of, of_values, integers_stepped};
 ghost use Rattle.setl_code.specs.Plain.{plain_begin};
 ghost use Rattle.setl_store_iterator.specs.Operands.{AreBounds, Refused};
@@ -15,7 +15,7 @@ use crate::iterator::Iterator;
 use crate::rests::{MemberAt, Rest};
 use crate::sources::{one, three, two};
 use setl_code::Begin;
-use setl_map::OpFault;
+use setl_operators_table::OpFault;
 use setl_program::Source;
 use setl_value::Value;
 use std::alloc::Global;

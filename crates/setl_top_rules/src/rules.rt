@@ -1,38 +1,29 @@
 //! The rules of a program.
 ghost use Rattle.std.specs.Prelude.{◌≡◌, None, IfOk};
 ghost use Rattle.setl_names.specs.Breaks.{first_break};
-ghost use Rattle.setl_names.specs.Breaks as names;
+ghost use Rattle.setl_names.specs.Resolves.{all_names};
 ghost use Rattle.setl_modes_declarations.specs.Declares as declarations;
 ghost use Rattle.setl_top_rules.specs.Rules.{AreModes, KeepsRules, earlier_of};
 
 use setl_modes::NamedMode;
 use setl_modes_declarations::modes;
-use setl_names::{Break, Memory, RuleFault, noted};
-use setl_names_walk::resolve;
+use setl_names::{BodyNames, Break, Memory, RuleFault, noted};
+use setl_names_walk::resolve_all;
 use setl_tree::{Items, Tree};
 use std::alloc::Global;
 
-/// The first break of the rules of names, if there is one. The error is want of memory.
-fn first_of_names(alloc: Global, tree: &Tree) -> Result<Option<Break>, Memory>
-    ensures { IfOk result (λ first. first ≡ first_break (names.breaks tree.now)) }
-{
-    match resolve(alloc, tree) {
-        Ok(_) => Ok(None),
-        Err(RuleFault::Broken { rule, line }) => Ok(Some(Break { line, rule })),
-        Err(RuleFault::NoMemory) => Err(Memory),
-    }
-}
-
 /// The first break of the rules of declarations, if there is one, and otherwise the declared variables of a program with
-/// their modes. The error is want of memory.
+/// their modes. The bodies' names are those of the tree. The error is want of memory.
 fn first_of_declarations(
     alloc: Global,
     tree: &Tree,
+    bodies: &[BodyNames],
 ) -> Result<(Option<Break>, Items<NamedMode>), Memory>
+    requires { bodies.now ≡ all_names tree.now }
     ensures first { IfOk result (λ found. found.0 ≡ first_break (declarations.breaks tree.now)) }
     ensures modes { IfOk result (λ found. found.0 ≡ None → AreModes tree.now found.1) }
 {
-    match modes(alloc, tree) {
+    match modes(alloc, tree, bodies) {
         Ok(table) => Ok((None, table.vars)),
         Err(RuleFault::Broken { rule, line }) => {
             Ok((Some(Break { line, rule }), Items::new(alloc)))
@@ -56,9 +47,9 @@ fn earlier_of(first: Option<Break>, second: Option<Break>) -> Option<Break>
 pub fn sound(alloc: Global, tree: &Tree) -> Result<Items<NamedMode>, RuleFault>
     ensures { KeepsRules tree.now result }
 {
-    let first = first_of_names(alloc, tree)?;
-    let (second, modes) = first_of_declarations(alloc, tree)?;
-    match earlier_of(first, second) {
+    let resolved = resolve_all(alloc, tree)?;
+    let (second, modes) = first_of_declarations(alloc, tree, resolved.names.as_slice())?;
+    match earlier_of(resolved.first, second) {
         None => Ok(modes),
         Some(found) => Err(RuleFault::Broken {
             rule: found.rule,

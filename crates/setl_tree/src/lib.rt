@@ -4,6 +4,7 @@
 #![tactic(auto)]
 
 mod boxed;
+mod copied;
 mod expr;
 mod items;
 mod kind;
@@ -13,6 +14,7 @@ mod text;
 mod tree;
 
 pub use boxed::Boxed;
+pub use copied::{Copied, copied_items};
 pub use expr::{
     BinaryOp, Bound, Expr, Fold, Inner, Iter, Prefix, Quantifier, Relation, Selector, Slot,
 };

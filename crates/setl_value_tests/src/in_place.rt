@@ -2,13 +2,13 @@
 
 use crate::operators::put_charge;
 use crate::written::Work;
-use setl_map::Taken;
 use setl_operators::OpFault;
 use setl_operators_arithmetic::{minus_in_place, plus_in_place};
 use setl_operators_collections::{
     add_image_in_place, less_in_place, lessf_in_place, put_images_in_place, put_in_place,
     take_first, take_last, take_least, with_in_place,
 };
+use setl_operators_table::Taken;
 use setl_value::Value;
 use std::alloc::Global;
 

@@ -4,8 +4,7 @@
 //! sets, tuples and maps, too.
 
 ghost use Rattle.std.specs.Bool.{OnTrue};
-ghost use Rattle.std.specs.Prelude.{◌≡◌};
-ghost use Rattle.setl_map.specs.Operators.{operand_count, TakesOperands};
+ghost use Rattle.setl_operators_table.specs.Operators.{TakesOperands};
 
 use crate::written::Work;
 use setl_operators::Operator::{
@@ -402,72 +401,11 @@ FoldOr | {true false} | 0 | true
 Str | {1 'a'} | 0 | '{1 ''a''}'
 Str | 'a' | 0 | 'a'";
 
-// How many operands an operator has, where that number is fixed.
-fn count(what: Operator) -> Option<usize>
-    ensures { result ≡ operand_count what }
-{
-    match what {
-        SetOf | TupleOf => None,
-        Negate
-        | Abs
-        | Even
-        | Odd
-        | Size
-        | Not
-        | Pow
-        | Domain
-        | Range
-        | Arb
-        | Str
-        | IsInteger
-        | IsString
-        | IsBoolean
-        | IsAtom
-        | IsTuple
-        | IsSet
-        | IsMap
-        | FoldAdd
-        | FoldMultiply
-        | FoldMax
-        | FoldMin
-        | FoldAnd
-        | FoldOr => Some(1),
-        Slice | SetStep | TupleStep | Put | PutImages => Some(3),
-        Add
-        | Subtract
-        | Multiply
-        | Power
-        | Divide
-        | Modulo
-        | Max
-        | Min
-        | With
-        | Less
-        | Lessf
-        | Npow
-        | Equal
-        | NotEqual
-        | Below
-        | AtMost
-        | Above
-        | AtLeast
-        | In
-        | NotIn
-        | Subset
-        | Includes
-        | Get
-        | Images
-        | Tail
-        | SetRange
-        | TupleRange => Some(2),
-    }
-}
-
 // Whether an operator has so many operands.
 fn takes(what: Operator, n: usize) -> bool
     ensures { OnTrue result (TakesOperands what n) }
 {
-    match count(what) {
+    match what.operand_count() {
         Some(m) => n == m,
         None => true,
     }
@@ -508,7 +446,7 @@ fn lent(
     args: &[Option<Value>],
     turns: u64,
 ) -> Option<Result<Answer, OpFault>> {
-    match (count(what), args) {
+    match (what.operand_count(), args) {
         (Some(1), [a]) => Some(op_one(alloc, what, a.as_ref(), turns)),
         (Some(2), [a, b]) => Some(op_two(alloc, what, a.as_ref(), b.as_ref(), turns)),
         _ => None,

@@ -1,7 +1,7 @@
 -- Worked rows of backtracking.
 use Rattle.std.specs.Prelude.{List, [], ◌∷◌, codes}
 use Rattle.setl_model_runs.specs.Variable.{Global, Bound}
-use Rattle.setl_map.specs.declared.Operator.TheVariants.{With, Add, Subtract, Equal, NotEqual, Size, Abs}
+use Rattle.setl_operators_table.specs.declared.Operator.TheVariants.{With, Add, Subtract, Equal, NotEqual, Size, Abs}
 use Rattle.setl_program.specs.declared.kinds.Collection.TheVariants.{OfSet}
 use Rattle.setl_program.specs.declared.kinds.Connective.TheVariants.{Or}
 use Rattle.setl_program.specs.declared.kinds.Quantifier.TheVariants.{Exists}

@@ -1,6 +1,6 @@
 -- Worked rows of comparisons, kinds and the canonical order.
 use Rattle.std.specs.Prelude.{List, [], ◌∷◌, ◌++◌, codes}
-use Rattle.setl_map.specs.declared.Operator.TheVariants.{Equal, NotEqual, Below, AtMost, Above, AtLeast, In, NotIn, Subset, Includes, IsInteger, IsString, IsBoolean, IsAtom, IsTuple, IsSet, IsMap}
+use Rattle.setl_operators_table.specs.declared.Operator.TheVariants.{Equal, NotEqual, Below, AtMost, Above, AtLeast, In, NotIn, Subset, Includes, IsInteger, IsString, IsBoolean, IsAtom, IsTuple, IsSet, IsMap}
 use Rattle.setl_program.specs.Program.{Undefined, Newat}
 use Rattle.setl_model_runs.specs.Events.{Om, Kind}
 use Rattle.setl_program.specs.Source.{yes, no, number, quoted, one, two, minus, set_of, tuple_of, enumeration, row_of}

@@ -1,7 +1,7 @@
 -- Worked rows of declarations.
 use Rattle.std.specs.Prelude.{List, [], ◌∷◌, ◌++◌, codes, Some}
 use Rattle.setl_model_runs.specs.Variable.{Global, Bound}
-use Rattle.setl_map.specs.declared.Operator.TheVariants.{With, Less}
+use Rattle.setl_operators_table.specs.declared.Operator.TheVariants.{With, Less}
 use Rattle.setl_modes.specs.Modes.{General, Integers, Strings, Booleans, Atoms, Elements, Sets, Tuples, SingleMaps, MultiMaps}
 use Rattle.setl_modes.specs.declared.mode.Form.TheVariants.{Plain, Local, Remote, Sparse}
 use Rattle.setl_program.specs.declared.kinds.Collection.TheVariants.{OfSet}

@@ -1,7 +1,7 @@
 -- Worked rows of dumps.
 use Rattle.std.specs.Prelude.{List, [], ◌∷◌, codes}
 use Rattle.setl_model_runs.specs.Variable.{Global, Bound}
-use Rattle.setl_map.specs.declared.Operator.TheVariants.{With, Less, Divide, NotEqual, NotIn}
+use Rattle.setl_operators_table.specs.declared.Operator.TheVariants.{With, Less, Divide, NotEqual, NotIn}
 use Rattle.setl_modes.specs.Modes.{General, Integers, Strings, Elements, Sets, Tuples, SingleMaps, MultiMaps}
 use Rattle.setl_modes.specs.declared.mode.Form.TheVariants.{Plain, Local, Remote, Sparse}
 use Rattle.setl_program.specs.declared.kinds.Collection.TheVariants.{OfTuple}

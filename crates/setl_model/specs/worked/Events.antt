@@ -2,7 +2,7 @@
 use Rattle.std.specs.Prelude.{false, List, [], ◌∷◌, codes, Some, None, pos}
 use Rattle.setl_value.specs.Datum.{bool, int, set_of as set_data, tuple_of as tuple_data}
 use Rattle.setl_model_runs.specs.Variable.{Global, Bound}
-use Rattle.setl_map.specs.declared.Operator.TheVariants.{Add, Equal, Below}
+use Rattle.setl_operators_table.specs.declared.Operator.TheVariants.{Add, Equal, Below}
 use Rattle.setl_modes.specs.Modes.{Integers}
 use Rattle.setl_program.specs.declared.kinds.Collection.TheVariants.{OfSet}
 use Rattle.setl_program.specs.declared.kinds.Quantifier.TheVariants.{Exists, Forall}

@@ -1,6 +1,6 @@
 -- Worked rows of folds and texts.
 use Rattle.std.specs.Prelude.{List, [], ◌∷◌, ◌++◌, codes}
-use Rattle.setl_map.specs.declared.Operator.TheVariants.{Size, Str, FoldAdd, FoldMultiply, FoldMax, FoldMin, FoldAnd, FoldOr}
+use Rattle.setl_operators_table.specs.declared.Operator.TheVariants.{Size, Str, FoldAdd, FoldMultiply, FoldMax, FoldMin, FoldAnd, FoldOr}
 use Rattle.setl_program.specs.Program.{Undefined, Newat}
 use Rattle.setl_model_runs.specs.Events.{Om, Kind, Wide, Range as OutOfRange}
 use Rattle.setl_program.specs.Source.{yes, no, number, quoted, one, minus, set_of, tuple_of, enumeration, row_of, print, on_line, just}

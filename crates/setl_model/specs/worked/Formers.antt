@@ -1,7 +1,7 @@
 -- Worked rows of formers.
 use Rattle.std.specs.Prelude.{List, [], ◌∷◌, ◌++◌, codes, Some}
 use Rattle.setl_model_runs.specs.Variable.{Bound}
-use Rattle.setl_map.specs.declared.Operator.TheVariants.{Add, Subtract, Multiply, Equal, NotEqual, Below, Above, In, Size, Even}
+use Rattle.setl_operators_table.specs.declared.Operator.TheVariants.{Add, Subtract, Multiply, Equal, NotEqual, Below, Above, In, Size, Even}
 use Rattle.setl_program.specs.declared.kinds.Collection.TheVariants.{OfSet, OfTuple}
 use Rattle.setl_program.specs.declared.kinds.Connective.TheVariants.{Or}
 use Rattle.setl_program.specs.declared.kinds.Source.TheVariants.{Values, Between, TupleSteps}

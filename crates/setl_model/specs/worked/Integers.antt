@@ -1,6 +1,6 @@
 -- Worked rows of integers and booleans.
 use Rattle.std.specs.Prelude.{List, [], ◌∷◌, ◌++◌, codes}
-use Rattle.setl_map.specs.declared.Operator.TheVariants.{Add, Subtract, Max, Min, Multiply, Divide, Modulo, Power, Negate, Abs, Even, Odd, Not}
+use Rattle.setl_operators_table.specs.declared.Operator.TheVariants.{Add, Subtract, Max, Min, Multiply, Divide, Modulo, Power, Negate, Abs, Even, Odd, Not}
 use Rattle.setl_program.specs.declared.kinds.Connective.TheVariants.{And, Or, Implies}
 use Rattle.setl_program.specs.Program.{Undefined, Connect, Choose}
 use Rattle.setl_model_runs.specs.Events.{Om, Kind, Zero, Wide, Range as OutOfRange}

@@ -1,6 +1,6 @@
 -- Worked rows of loops and iterators.
 use Rattle.std.specs.Prelude.{List, [], ◌∷◌, ◌++◌, codes, Some, None}
-use Rattle.setl_map.specs.declared.Operator.TheVariants.{With, Less, Add, Divide, Equal, Below, Even, Odd, TupleRange}
+use Rattle.setl_operators_table.specs.declared.Operator.TheVariants.{With, Less, Add, Divide, Equal, Below, Even, Odd, TupleRange}
 use Rattle.setl_program.specs.declared.kinds.Source.TheVariants.{Values, Between, SetSteps, TupleSteps}
 use Rattle.setl_program.specs.Program.{Member, Components, Point, Undefined, Name, Newat, no_iterator, more_iterators, no_condition, only_if, If, For, While, Quit, Continue, Pass, no_stmt}
 use Rattle.setl_model_runs.specs.Events.{Om, Kind, Zero, Stopped, Spent}

@@ -1,6 +1,6 @@
 -- Worked rows of maps.
 use Rattle.std.specs.Prelude.{List, [], ◌∷◌, ◌++◌, codes}
-use Rattle.setl_map.specs.declared.Operator.TheVariants.{Lessf, Domain, Range}
+use Rattle.setl_operators_table.specs.declared.Operator.TheVariants.{Lessf, Domain, Range}
 use Rattle.setl_program.specs.Program.{Undefined, Name, no_stmt}
 use Rattle.setl_model_runs.specs.Events.{Om, Kind, Deep, Stopped, Spent, Range as OutOfRange}
 use Rattle.setl_program.specs.Source.{f, t, number, quoted, one, two, minus, set_of, tuple_of, enumeration, row_of, at_round, at_brace, assign, put, put_brace, print, on_line, at, lines_from, just, deepest, nearly}

@@ -1,7 +1,7 @@
 -- Worked rows of procedures.
 use Rattle.std.specs.Prelude.{List, [], ◌∷◌, codes}
 use Rattle.setl_model_runs.specs.Variable.{Global, Own, Bound}
-use Rattle.setl_map.specs.declared.Operator.TheVariants.{Add, Subtract, Multiply, Equal, Above}
+use Rattle.setl_operators_table.specs.declared.Operator.TheVariants.{Add, Subtract, Multiply, Equal, Above}
 use Rattle.setl_program.specs.declared.kinds.Collection.TheVariants.{OfTuple}
 use Rattle.setl_program.specs.Program.{Undefined, Name, Former, Call, no_condition, no_argument, rd_argument, wr_argument, rw_argument, Perform, If, For, While, Quit, Stop, Return, no_stmt}
 use Rattle.setl_model_runs.specs.Events.{Om, Kind, Stopped, Spent}

@@ -1,6 +1,6 @@
 -- Worked rows of quantifiers.
 use Rattle.std.specs.Prelude.{List, [], ◌∷◌, ◌++◌, codes, Some, None}
-use Rattle.setl_map.specs.declared.Operator.TheVariants.{Add, Equal, Below, Above}
+use Rattle.setl_operators_table.specs.declared.Operator.TheVariants.{Add, Equal, Below, Above}
 use Rattle.setl_program.specs.declared.kinds.Quantifier.TheVariants.{Exists, Forall, NotExists}
 use Rattle.setl_program.specs.declared.kinds.Source.TheVariants.{Values, Between}
 use Rattle.setl_program.specs.Program.{Member, Components, Point, Undefined, Name, Quantified, no_iterator, more_iterators, If, no_stmt}

@@ -1,6 +1,6 @@
 -- Worked rows of ranges.
 use Rattle.std.specs.Prelude.{List, [], ◌∷◌, ◌++◌, codes}
-use Rattle.setl_map.specs.declared.Operator.TheVariants.{Subtract, SetRange, TupleRange, SetStep, TupleStep}
+use Rattle.setl_operators_table.specs.declared.Operator.TheVariants.{Subtract, SetRange, TupleRange, SetStep, TupleStep}
 use Rattle.setl_program.specs.Program.{Undefined}
 use Rattle.setl_model_runs.specs.Events.{Om, Kind, Zero}
 use Rattle.setl_program.specs.Source.{yes, number, quoted, two, three, minus}

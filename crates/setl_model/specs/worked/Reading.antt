@@ -1,6 +1,6 @@
 -- Worked rows of reading.
 use Rattle.std.specs.Prelude.{List, [], ◌∷◌, ◌++◌, replicate, codes}
-use Rattle.setl_map.specs.declared.Operator.TheVariants.{Size, IsTuple}
+use Rattle.setl_operators_table.specs.declared.Operator.TheVariants.{Size, IsTuple}
 use Rattle.setl_program.specs.Program.{Name, Eof, Read, no_stmt}
 use Rattle.setl_model_runs.specs.Events.{Form, Wide, Deep, Done, Stopped}
 use Rattle.setl_program.specs.Source.{x, y, z, number, one, assign, print, on_line, at, lines_from, just}

@@ -1,6 +1,6 @@
 -- Worked rows of tuples and strings.
 use Rattle.std.specs.Prelude.{List, [], ◌∷◌, ◌++◌, codes}
-use Rattle.setl_map.specs.declared.Operator.TheVariants.{With, Add, Multiply, Modulo, Size}
+use Rattle.setl_operators_table.specs.declared.Operator.TheVariants.{With, Add, Multiply, Modulo, Size}
 use Rattle.setl_program.specs.Program.{Undefined}
 use Rattle.setl_model_runs.specs.Events.{Om, Kind, Range as OutOfRange}
 use Rattle.setl_program.specs.Source.{yes, number, quoted, one, two, minus, set_of, tuple_of, enumeration, row_of, at_round, from_to, from_on}

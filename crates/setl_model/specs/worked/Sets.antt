@@ -1,6 +1,6 @@
 -- Worked rows of sets.
 use Rattle.std.specs.Prelude.{List, [], ◌∷◌, ◌++◌, codes}
-use Rattle.setl_map.specs.declared.Operator.TheVariants.{With, Less, Npow, Add, Subtract, Multiply, Modulo, Equal, In, Size, Pow, Arb}
+use Rattle.setl_operators_table.specs.declared.Operator.TheVariants.{With, Less, Npow, Add, Subtract, Multiply, Modulo, Equal, In, Size, Pow, Arb}
 use Rattle.setl_program.specs.Program.{Undefined, Call, no_argument, Return}
 use Rattle.setl_model_runs.specs.Events.{Om, Kind, Deep, Stopped, Range as OutOfRange}
 use Rattle.setl_program.specs.Source.{yes, number, quoted, one, two, minus, set_of, tuple_of, enumeration, row_of, at_round, at_brace, print, on_line, alone, with_procedures, deepest, nearly, procedure}

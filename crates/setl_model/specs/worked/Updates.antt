@@ -1,7 +1,7 @@
 -- Worked rows of updates of places.
 use Rattle.std.specs.Prelude.{List, [], ◌∷◌, ◌++◌, codes, Some, None}
 use Rattle.setl_model_runs.specs.Variable.{Global}
-use Rattle.setl_map.specs.declared.Operator.TheVariants.{With, Less, Lessf, Npow, Add, Subtract, Max, Min, Multiply, Divide, Modulo, Power}
+use Rattle.setl_operators_table.specs.declared.Operator.TheVariants.{With, Less, Lessf, Npow, Add, Subtract, Max, Min, Multiply, Divide, Modulo, Power}
 use Rattle.setl_program.specs.declared.kinds.Taking.TheVariants.{TakeLeast, TakeFirst, TakeLast}
 use Rattle.setl_program.specs.Program.{Undefined, Name, Call, no_argument, rd_argument, no_selector, round_selector, brace_selector, Assign, Update, AssignParts, TakeFrom, Return, no_stmt}
 use Rattle.setl_model_runs.specs.Events.{Om, Kind, Stopped, Spent, Range as OutOfRange}

@@ -1,7 +1,7 @@
 -- Worked rows of whole programs.
 use Rattle.std.specs.Prelude.{List, [], ◌∷◌, codes}
 use Rattle.setl_model_runs.specs.Variable.{Bound}
-use Rattle.setl_map.specs.declared.Operator.TheVariants.{With, Npow, Add, NotEqual, NotIn, Size, Pow, FoldAdd, FoldMax, SetRange, TupleRange}
+use Rattle.setl_operators_table.specs.declared.Operator.TheVariants.{With, Npow, Add, NotEqual, NotIn, Size, Pow, FoldAdd, FoldMax, SetRange, TupleRange}
 use Rattle.setl_modes.specs.Modes.{Integers, Elements, Sets, MultiMaps}
 use Rattle.setl_modes.specs.declared.mode.Form.TheVariants.{Local, Remote, Sparse}
 use Rattle.setl_program.specs.declared.kinds.Collection.TheVariants.{OfTuple}

@@ -1,7 +1,7 @@
 use Rattle.std.proofs.Common.{◌≡◌, [], map, length, subst, arith}
 use Rattle.std.proofs.lemmas.List.{length-map}
 use Rattle.setl_value.specs.code.DatumOf.{part}
-use Rattle.setl_map.specs.Operators.{TakesOperands}
+use Rattle.setl_operators_table.specs.Operators.{TakesOperands}
 use Rattle.setl_code.specs.CodeCore.{popped, Pops}
 use Rattle.setl_machine.proofs.Entering.{popped_count}
 use Rattle.setl_machine.proofs.operating.operate_listed.Goals as goal

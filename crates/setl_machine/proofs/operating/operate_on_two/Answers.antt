@@ -2,9 +2,9 @@ use Rattle.std.proofs.Common.{◌≡◌, ℕ, [], ◌∷◌, Some, Err, drop, su
 use Rattle.std.proofs.lemmas.Result.{IfOk-weaker}
 use Rattle.setl_code.specs.Code.{Operate}
 use Rattle.setl_value.specs.code.DatumOf.{datum, part}
-use Rattle.setl_map.specs.code.Answers.{Tells}
-use Rattle.setl_map.specs.Operators.{op_of}
-use Rattle.setl_map.specs.Outcome.{Gives}
+use Rattle.setl_operators_table.specs.code.Answers.{Tells}
+use Rattle.setl_operators_table.specs.Operators.{op_of}
+use Rattle.setl_operators_table.specs.Outcome.{Gives}
 use Rattle.setl_machine.specs.Operating.{PutsForTwo}
 use Rattle.setl_machine_control.specs.Working.{Does}
 use Rattle.setl_machine.proofs.Operated.{operated_two, two_not, two_there}

@@ -2,8 +2,8 @@ use Rattle.std.proofs.Common.{◌∷◌, [], rules, Some}
 use Rattle.std.proofs.lemmas.Option.{IfSome_then}
 use Rattle.std.proofs.lemmas.Result.{IfOk-weaker}
 use Rattle.setl_value.specs.code.DatumOf.{datum}
-use Rattle.setl_map.specs.declared.Operator.TheVariants.{With}
-use Rattle.setl_map.specs.Operators.{op_of}
+use Rattle.setl_operators_table.specs.declared.Operator.TheVariants.{With}
+use Rattle.setl_operators_table.specs.Operators.{op_of}
 use Rattle.setl_machine_updates.specs.Updates.{Updates}
 use Rattle.setl_machine_updates.proofs.Parts.{part_changed}
 use Rattle.setl_machine_updates.proofs.one_part.add_to_part.Goals as goal

@@ -1,7 +1,7 @@
 use Rattle.std.proofs.Common.{ℕ, map, subst, Option, arith}
 use Rattle.setl_value.specs.Datum.{Datum}
 use Rattle.setl_value.specs.code.DatumOf.{part}
-use Rattle.setl_map.specs.Outcome.{Outcome}
+use Rattle.setl_operators_table.specs.Outcome.{Outcome}
 use Rattle.setl_model.specs.Places.{part_of, part_at_all}
 use Rattle.setl_machine_updates.specs.Selectors.{selected}
 use Rattle.setl_machine_updates.specs.Parts.{Reads}

@@ -3,7 +3,7 @@ use Rattle.std.specs.Prelude.{Err}
 use Rattle.std.proofs.lemmas.Result.{err_from_is_err_and}
 use Rattle.setl_value.specs.Datum.{Datum}
 use Rattle.setl_value.specs.code.DatumOf.{part}
-use Rattle.setl_map.specs.Outcome.{Outcome}
+use Rattle.setl_operators_table.specs.Outcome.{Outcome}
 use Rattle.setl_model.specs.Places.{with_part_at_all}
 use Rattle.setl_machine_updates.specs.Selectors.{selected}
 use Rattle.setl_machine_updates.proofs.Inside.{behind, put_inside, puts_back, fails_inside, fails_reading}

@@ -1,9 +1,9 @@
 use Rattle.std.proofs.Common.{◌∷◌, [], ◌∙◌, ap, sym, subst, ℕ, Option, Some}
 use Rattle.setl_value.specs.Datum.{Datum}
 use Rattle.setl_value.specs.code.DatumOf.{datum, part}
-use Rattle.setl_map.specs.declared.Operator.TheVariants.{With}
-use Rattle.setl_map.specs.Operators.{op_of}
-use Rattle.setl_map.specs.Outcome.{Outcome}
+use Rattle.setl_operators_table.specs.declared.Operator.TheVariants.{With}
+use Rattle.setl_operators_table.specs.Operators.{op_of}
+use Rattle.setl_operators_table.specs.Outcome.{Outcome}
 use Rattle.setl_model.specs.Core.{Brace}
 use Rattle.setl_model.specs.Places.{combined}
 use Rattle.setl_machine_updates.specs.Updates.{Updates}

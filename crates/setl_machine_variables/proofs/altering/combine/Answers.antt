@@ -1,7 +1,7 @@
 use Rattle.std.proofs.Common.{◌∷◌, [], subst, Some}
 use Rattle.std.proofs.lemmas.Result.{IfOk-weaker}
 use Rattle.setl_value.specs.code.DatumOf.{part}
-use Rattle.setl_map.specs.Operators.{op_of}
+use Rattle.setl_operators_table.specs.Operators.{op_of}
 use Rattle.setl_model.specs.Places.{combined}
 use Rattle.setl_code.specs.Code.{Combining}
 use Rattle.setl_code.specs.Plain.{plain_slot}

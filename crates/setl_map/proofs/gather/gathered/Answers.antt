@@ -4,7 +4,8 @@ use Rattle.setl_value.specs.Datum.{depth, set_of}
 use Rattle.setl_value.specs.code.DatumOf.{datum}
 use Rattle.setl_value.specs.Order.{IsRising}
 use Rattle.setl_set.specs.Sets.{set_from}
-use Rattle.setl_map.proofs.Gathering.{same_values, rising_dedup, deduped, depth_set_from}
+use Rattle.setl_map.specs.DepthLaws.{depth_set_from}
+use Rattle.setl_map.proofs.Gathering.{same_values, rising_dedup, deduped}
 use Rattle.setl_map.proofs.gather.gathered.Goals as goal
 
 pub from_rising-requires-clause-rising : goal.from_rising-requires-clause-rising

@@ -1,8 +1,8 @@
-use Rattle.setl_names_walk.proofs.Whole.{resolved_ok, resolved_err}
+use Rattle.std.proofs.Common.{◌∙◌, sym}
 use Rattle.setl_names_walk.proofs.program.resolve.Goals as goal
 
 pub returns-in-None : goal.returns-in-None
-returns-in-None c = resolved_ok c.args.tree.now c.in_ok-found.found c.in_ok-found.ensures c.in-None.is
+returns-in-None c = (sym c.in_ok-found.ensures.first ∙ c.in-None.is, c.in_ok-found.ensures.names)
 
 pub returns-in-Some : goal.returns-in-Some
-returns-in-Some c = resolved_err c.args.tree.now c.in_ok-found.found c.in-Some.first.line c.in-Some.first.rule c.in_ok-found.ensures c.in-Some.is
+returns-in-Some c = sym c.in_ok-found.ensures.first ∙ c.in-Some.is

@@ -1,8 +1,8 @@
 use Rattle.std.proofs.Common.{◌∙◌, ap, sym, subst}
 use Rattle.setl_value.specs.code.Body.{Members}
 use Rattle.setl_value.specs.code.DatumOf.{datum}
-use Rattle.setl_map.specs.code.Answers.{Tells}
-use Rattle.setl_map.specs.Folds.{fold_datum}
+use Rattle.setl_operators_table.specs.code.Answers.{Tells}
+use Rattle.setl_operators_table.specs.Folds.{fold_datum}
 use Rattle.setl_operators.specs.Combinations.{combination}
 use Rattle.setl_operators.proofs.Components.{over_members, over_components}
 use Rattle.setl_operators.proofs.folds.fold.Goals as goal

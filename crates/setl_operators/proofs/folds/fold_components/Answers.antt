@@ -2,8 +2,8 @@ use Rattle.std.proofs.Common.{Some, ◌∙◌, ap, sym, subst, arith}
 use Rattle.std.specs.Prelude.{Err}
 use Rattle.std.proofs.lemmas.Result.{err_from_is_err_and}
 use Rattle.setl_value.specs.code.DatumOf.{lent, part}
-use Rattle.setl_map.specs.Folds.{fold_list}
-use Rattle.setl_map.specs.code.Answers.{Tells}
+use Rattle.setl_operators_table.specs.Folds.{fold_list}
+use Rattle.setl_operators_table.specs.code.Answers.{Tells}
 use Rattle.setl_operators.specs.Combinations.{combination}
 use Rattle.setl_operators.proofs.Components.{component_of, started}
 use Rattle.setl_operators.proofs.Steps.{steps, stops}

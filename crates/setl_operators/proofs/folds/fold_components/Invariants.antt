@@ -1,7 +1,7 @@
 use Rattle.std.proofs.Common.{◌≡◌, ◌-◌, ◌≤◌, drop}
 use Rattle.setl_value.specs.code.DatumOf.{part}
-use Rattle.setl_map.specs.Folds.{fold_on, fold_list}
-use Rattle.setl_map.specs.Outcome.{adding}
+use Rattle.setl_operators_table.specs.Folds.{fold_on, fold_list}
+use Rattle.setl_operators_table.specs.Outcome.{adding}
 use Rattle.setl_operators.specs.Combinations.{combination}
 use Rattle.setl_operators.proofs.folds.fold_components.Given as goal
 

@@ -3,9 +3,9 @@ use Rattle.std.specs.Prelude.{Err}
 use Rattle.std.proofs.lemmas.Result.{err_from_is_err_and}
 use Rattle.setl_value.specs.code.Body.{Members}
 use Rattle.setl_value.specs.code.DatumOf.{datum, part}
-use Rattle.setl_map.specs.Folds.{fold_on, fold_list}
-use Rattle.setl_map.specs.Outcome.{adding}
-use Rattle.setl_map.specs.code.Answers.{Tells}
+use Rattle.setl_operators_table.specs.Folds.{fold_on, fold_list}
+use Rattle.setl_operators_table.specs.Outcome.{adding}
+use Rattle.setl_operators_table.specs.code.Answers.{Tells}
 use Rattle.setl_operators.specs.Combinations.{combination}
 use Rattle.setl_operators.proofs.Components.{first_member}
 use Rattle.setl_operators.proofs.Steps.{goes_on, ends}

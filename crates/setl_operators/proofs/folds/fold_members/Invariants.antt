@@ -1,8 +1,8 @@
 use Rattle.std.proofs.Common.{◌≡◌, ◌-◌, ◌≤◌, map, Some}
 use Rattle.setl_value.specs.code.Body.{Members}
 use Rattle.setl_value.specs.code.DatumOf.{part}
-use Rattle.setl_map.specs.Folds.{fold_on, fold_list}
-use Rattle.setl_map.specs.Outcome.{adding}
+use Rattle.setl_operators_table.specs.Folds.{fold_on, fold_list}
+use Rattle.setl_operators_table.specs.Outcome.{adding}
 use Rattle.setl_operators.specs.Combinations.{combination}
 use Rattle.setl_operators.proofs.folds.fold_members.Given as goal
 

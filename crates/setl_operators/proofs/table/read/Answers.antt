@@ -1,7 +1,7 @@
 use Rattle.std.proofs.Common.{◌≡◌, ◌∷◌, [], ◌∙◌, ap, sym, subst, arith, length, map}
 use Rattle.setl_value.specs.code.DatumOf.{lent, part}
-use Rattle.setl_map.specs.code.Answers.{Tells}
-use Rattle.setl_map.specs.Operators.{op_of}
+use Rattle.setl_operators_table.specs.code.Answers.{Tells}
+use Rattle.setl_operators_table.specs.Operators.{op_of}
 use Rattle.setl_operators.proofs.Counts.{one_operand, two_operands}
 use Rattle.setl_operators.proofs.table.read.Goals as goal
 

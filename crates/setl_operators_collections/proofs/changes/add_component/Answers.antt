@@ -2,9 +2,10 @@ use Rattle.std.proofs.Common.{ap, sym, ◌∙◌}
 use Rattle.setl_value.specs.Datum.{tuple_of}
 use Rattle.setl_value.specs.code.DatumOf.{datum}
 use Rattle.setl_tuple.specs.Tuples.{with_of}
-use Rattle.setl_map.specs.Outcome.{within_depth}
+use Rattle.setl_operators_table.specs.Outcome.{within_depth}
+use Rattle.setl_operators_table.specs.OutcomeLaws.{shallow, too_deep}
 use Rattle.setl_operators_collections.proofs.Depths.{deep_last}
-use Rattle.setl_operators_collections.proofs.Rows.{parts_back, too_deep, shallow}
+use Rattle.setl_operators_collections.proofs.Rows.{parts_back}
 use Rattle.setl_operators_collections.proofs.changes.add_component.Goals as goal
 
 pub returns-in-Ok-clause-changes : goal.returns-in-Ok-clause-changes

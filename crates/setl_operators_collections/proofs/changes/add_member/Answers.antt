@@ -3,9 +3,10 @@ use Rattle.setl_value.specs.code.Body.{Members}
 use Rattle.setl_value.specs.Datum.{set_of}
 use Rattle.setl_value.specs.code.DatumOf.{datum}
 use Rattle.setl_set.specs.Sets.{insert_datum}
-use Rattle.setl_map.specs.Outcome.{within_depth}
+use Rattle.setl_operators_table.specs.Outcome.{within_depth}
+use Rattle.setl_operators_table.specs.OutcomeLaws.{shallow, too_deep}
 use Rattle.setl_operators_collections.proofs.Depths.{deep_member}
-use Rattle.setl_operators_collections.proofs.Rows.{members_back, too_deep, shallow}
+use Rattle.setl_operators_collections.proofs.Rows.{members_back}
 use Rattle.setl_operators_collections.proofs.changes.add_member.Goals as goal
 
 pub returns-in-Ok-clause-changes : goal.returns-in-Ok-clause-changes

@@ -2,7 +2,7 @@ use Rattle.std.proofs.Common.{ap, sym, ◌∙◌}
 use Rattle.setl_value.specs.code.Body.{Members}
 use Rattle.setl_value.specs.code.DatumOf.{datum}
 use Rattle.setl_set.specs.Sets.{remove_datum}
-use Rattle.setl_map.specs.Outcome.{set_value}
+use Rattle.setl_operators_table.specs.Outcome.{set_value}
 use Rattle.setl_operators_collections.proofs.Rows.{members_back}
 use Rattle.setl_operators_collections.proofs.changes.remove_member.Goals as goal
 

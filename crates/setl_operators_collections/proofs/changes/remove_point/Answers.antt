@@ -2,7 +2,7 @@ use Rattle.std.proofs.Common.{ap, sym, ◌∙◌}
 use Rattle.setl_value.specs.code.Body.{Members}
 use Rattle.setl_value.specs.code.DatumOf.{datum}
 use Rattle.setl_map.specs.Maps.{without_point}
-use Rattle.setl_map.specs.Outcome.{set_value}
+use Rattle.setl_operators_table.specs.Outcome.{set_value}
 use Rattle.setl_operators_collections.proofs.Rows.{map_row, no_map_row}
 use Rattle.setl_operators_collections.proofs.changes.remove_point.Goals as goal
 

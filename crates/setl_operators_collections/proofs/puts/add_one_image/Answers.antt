@@ -5,8 +5,9 @@ use Rattle.setl_value.specs.code.DatumOf.{datum}
 use Rattle.setl_value.specs.Pairs.{images}
 use Rattle.setl_set.specs.Sets.{insert_datum}
 use Rattle.setl_map.specs.Maps.{put_images}
-use Rattle.setl_map.specs.Outcome.{within_depth}
-use Rattle.setl_operators_collections.proofs.Rows.{map_row, no_map_row, too_deep, shallow}
+use Rattle.setl_operators_table.specs.Outcome.{within_depth}
+use Rattle.setl_operators_table.specs.OutcomeLaws.{shallow, too_deep}
+use Rattle.setl_operators_collections.proofs.Rows.{map_row, no_map_row}
 use Rattle.setl_operators_collections.proofs.puts.add_one_image.Goals as goal
 
 pub returns-in-Ok-clause-changes : goal.returns-in-Ok-clause-changes

@@ -5,8 +5,8 @@ use mir.Val.{SFits}
 use Rattle.setl_value.specs.Datum.{tuple_of}
 use Rattle.setl_value.specs.code.DatumOf.{part}
 use Rattle.setl_tuple.specs.Tuples.{index_of}
-use Rattle.setl_map.specs.Puts.{put_part}
-use Rattle.setl_map.specs.code.Answers.{Changes}
+use Rattle.setl_operators_table.specs.Puts.{put_part}
+use Rattle.setl_operators_table.specs.code.Answers.{Changes}
 use Rattle.setl_operators_collections.proofs.Rows.{place_row}
 use Rattle.setl_operators_collections.proofs.puts.put_component.Goals as goal
 

@@ -2,8 +2,8 @@ use Rattle.std.proofs.Common.{ap, ◌∙◌, subst}
 use Rattle.setl_value.specs.code.Body.{Members}
 use Rattle.setl_value.specs.code.DatumOf.{datum}
 use Rattle.setl_value.specs.Pairs.{images}
-use Rattle.setl_map.specs.Outcome.{set_value}
-use Rattle.setl_map.specs.code.Answers.{Tells}
+use Rattle.setl_operators_table.specs.Outcome.{set_value}
+use Rattle.setl_operators_table.specs.code.Answers.{Tells}
 use Rattle.setl_operators_collections.proofs.Rows.{map_row, no_map_row}
 use Rattle.setl_operators_collections.proofs.selections.all_images.Goals as goal
 

@@ -3,8 +3,8 @@ use Rattle.std.proofs.lemmas.Int.{to_z-of_z}
 use mir.Syntax.{w128}
 use mir.Val.{SFits}
 use Rattle.setl_tuple.specs.Tuples.{get_of}
-use Rattle.setl_map.specs.Outcome.{Gives}
-use Rattle.setl_map.specs.Selections.{component}
+use Rattle.setl_operators_table.specs.Outcome.{Gives}
+use Rattle.setl_operators_table.specs.Selections.{component}
 use Rattle.setl_operators_collections.proofs.Rows.{parts_back}
 use Rattle.setl_operators_collections.proofs.selections.component.Goals as goal
 

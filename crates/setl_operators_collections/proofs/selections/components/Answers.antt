@@ -3,8 +3,8 @@ use Rattle.std.proofs.lemmas.Int.{to_z-of_z}
 use mir.Syntax.{w128}
 use mir.Val.{SFits}
 use Rattle.setl_tuple.specs.Tuples.{slice_of}
-use Rattle.setl_map.specs.Selections.{part_of_tuple}
-use Rattle.setl_map.specs.code.Answers.{Tells}
+use Rattle.setl_operators_table.specs.Selections.{part_of_tuple}
+use Rattle.setl_operators_table.specs.code.Answers.{Tells}
 use Rattle.setl_operators_collections.proofs.Rows.{parts_back}
 use Rattle.setl_operators_collections.proofs.selections.components.Goals as goal
 

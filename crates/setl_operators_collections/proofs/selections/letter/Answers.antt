@@ -2,7 +2,7 @@ use Rattle.std.proofs.Common.{ap, subst, arith, length}
 use Rattle.std.proofs.lemmas.Int.{ints, to_z-of_z}
 use mir.Syntax.{w128}
 use mir.Val.{SFits}
-use Rattle.setl_map.specs.code.Answers.{Tells}
+use Rattle.setl_operators_table.specs.code.Answers.{Tells}
 use Rattle.setl_operators_collections.proofs.Letters.{letter_row, past_row}
 use Rattle.setl_operators_collections.proofs.selections.letter.Goals as goal
 

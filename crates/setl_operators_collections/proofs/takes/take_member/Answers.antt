@@ -1,7 +1,7 @@
 use Rattle.std.proofs.Common.{◌∙◌, sym, refl, true, Some}
 use Rattle.setl_value.specs.code.Body.{Members}
 use Rattle.setl_value.specs.code.DatumOf.{datum}
-use Rattle.setl_map.specs.declared.Taken.{Taken}
+use Rattle.setl_operators_table.specs.declared.Taken.{Taken}
 use Rattle.setl_operators_collections.proofs.Takings.{told, none_told, least_empty, least_taken}
 use Rattle.setl_operators_collections.proofs.takes.take_member.Goals as goal
 

@@ -1,8 +1,8 @@
 use Rattle.std.proofs.Common.{ap, sym, ◌∙◌, subst}
 use Rattle.setl_value.specs.code.Body.{Members}
 use Rattle.setl_value.specs.code.DatumOf.{datum}
-use Rattle.setl_map.specs.Outcome.{value}
-use Rattle.setl_map.specs.code.Answers.{Tells}
+use Rattle.setl_operators_table.specs.Outcome.{value}
+use Rattle.setl_operators_table.specs.code.Answers.{Tells}
 use Rattle.setl_operators_collections.proofs.Rows.{least_of_some, least_of_none}
 use Rattle.setl_operators_collections.proofs.wholes.least.Goals as goal
 

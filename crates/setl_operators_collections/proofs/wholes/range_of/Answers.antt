@@ -1,8 +1,8 @@
 use Rattle.std.proofs.Common.{ap, ◌∙◌, subst}
 use Rattle.setl_value.specs.code.Body.{Members}
 use Rattle.setl_map.specs.Maps.{range_of}
-use Rattle.setl_map.specs.Outcome.{set_value}
-use Rattle.setl_map.specs.code.Answers.{Tells}
+use Rattle.setl_operators_table.specs.Outcome.{set_value}
+use Rattle.setl_operators_table.specs.code.Answers.{Tells}
 use Rattle.setl_operators_collections.proofs.Rows.{map_row, no_map_row}
 use Rattle.setl_operators_collections.proofs.wholes.range_of.Goals as goal
 

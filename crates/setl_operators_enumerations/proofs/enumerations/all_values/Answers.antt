@@ -1,6 +1,6 @@
 use Rattle.std.proofs.Common.{arith, ap, sym, ◌∙◌, map, Some}
 use Rattle.setl_value.specs.code.DatumOf.{datum, part}
-use Rattle.setl_map.specs.Outcome.{all_values}
+use Rattle.setl_operators_table.specs.Outcome.{all_values}
 use Rattle.setl_operators_enumerations.proofs.Lists.{take_whole}
 use Rattle.setl_operators_enumerations.proofs.Operands.{some_none, one_value_more}
 use Rattle.setl_operators_enumerations.proofs.enumerations.all_values.Goals as goal

@@ -1,6 +1,6 @@
 use Rattle.std.proofs.Common.{◌≡◌, Some, map, take}
 use Rattle.setl_value.specs.code.DatumOf.{datum, part}
-use Rattle.setl_map.specs.Outcome.{all_values}
+use Rattle.setl_operators_table.specs.Outcome.{all_values}
 use Rattle.setl_operators_enumerations.proofs.enumerations.all_values.Given as goal
 
 abbrev pub invariant-loop-operand : goal.invariant-loop-operand

@@ -4,9 +4,10 @@ use Rattle.std.proofs.lemmas.Bool.{ltb-true}
 use Rattle.setl_value.specs.Datum.{depth, set_of}
 use Rattle.setl_value.specs.code.DatumOf.{datum}
 use Rattle.setl_set.specs.Sets.{set_from}
-use Rattle.setl_map.specs.Collections.{enumerate_set}
+use Rattle.setl_map.specs.DepthLaws.{depth_set_from}
+use Rattle.setl_operators_table.specs.Collections.{enumerate_set}
+use Rattle.setl_operators_table.specs.OutcomeLaws.{too_deep}
 use Rattle.setl_operators_enumerations.specs.ValueData.{value_data}
-use Rattle.setl_operators_enumerations.proofs.Outcomes.{too_deep, depth_set_from}
 use Rattle.setl_operators_enumerations.proofs.enumerations.enumerate_set.Goals as goal
 
 pub returns-then-are_deep : goal.returns-then-are_deep

@@ -3,8 +3,8 @@ use Rattle.std.proofs.lemmas.Bool.{ltb-true}
 use Rattle.setl_value.specs.Datum.{depth, tuple_of}
 use Rattle.setl_value.specs.code.DatumOf.{part}
 use Rattle.setl_value.specs.WellFormed.{trim}
+use Rattle.setl_operators_table.specs.OutcomeLaws.{too_deep}
 use Rattle.setl_operators_enumerations.proofs.Operands.{trim_depth}
-use Rattle.setl_operators_enumerations.proofs.Outcomes.{too_deep}
 use Rattle.setl_operators_enumerations.proofs.enumerations.enumerate_tuple.Goals as goal
 
 pub returns-then-has_deep : goal.returns-then-has_deep

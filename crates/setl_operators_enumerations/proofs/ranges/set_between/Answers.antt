@@ -1,6 +1,6 @@
 use Rattle.std.specs.Int.{w128}
 use Rattle.std.proofs.lemmas.Int.{to_z-of_z}
-use Rattle.setl_map.specs.RangeRows.{as_set}
+use Rattle.setl_operators_table.specs.RangeRows.{as_set}
 use Rattle.setl_operators_enumerations.proofs.RangeResults.{told_range}
 use Rattle.setl_operators_enumerations.proofs.ranges.set_between.Goals as goal
 

@@ -3,8 +3,8 @@ use Rattle.std.specs.Int.{w128}
 use Rattle.std.proofs.lemmas.Int.{wrapping_sub_is, to_z-of_z}
 use Rattle.setl_value.specs.Datum.{int}
 use Rattle.setl_value.specs.code.DatumOf.{datum}
-use Rattle.setl_map.specs.code.Answers.{Tells}
-use Rattle.setl_map.specs.RangeRows.{as_set, stepped_integers}
+use Rattle.setl_operators_table.specs.code.Answers.{Tells}
+use Rattle.setl_operators_table.specs.RangeRows.{as_set, stepped_integers}
 use Rattle.setl_operators_enumerations.proofs.RangeResults.{told_steps}
 use Rattle.setl_operators_enumerations.proofs.ranges.set_step_to.Goals as goal
 

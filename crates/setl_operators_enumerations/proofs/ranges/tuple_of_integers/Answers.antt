@@ -3,7 +3,7 @@ use Rattle.std.specs.Int.{w128}
 use Rattle.std.proofs.lemmas.Int.{to_z-of_z}
 use Rattle.setl_value.specs.Datum.{parts_depth, parts_of}
 use Rattle.setl_value.specs.code.DatumOf.{datum, part}
-use Rattle.setl_map.specs.Ranges.{spread}
+use Rattle.setl_operators_table.specs.Ranges.{spread}
 use Rattle.setl_operators_enumerations.specs.Integers.{AreWide}
 use Rattle.setl_operators_enumerations.proofs.Outcomes.{depth_all, some_data, tuple_charged}
 use Rattle.setl_operators_enumerations.proofs.ranges.tuple_of_integers.Goals as goal

@@ -1,6 +1,6 @@
 use Rattle.std.proofs.Common.{◌<◌, ◌≤◌, ◌^◌, Err, subst, ap, ◌∙◌}
 use Rattle.setl_value.specs.code.Body.{Members}
-use Rattle.setl_map.specs.code.Answers.{Tells}
+use Rattle.setl_operators_table.specs.code.Answers.{Tells}
 use Rattle.setl_operators_enumerations.proofs.Outcomes.{all_spent, all_paid, all_deep}
 use Rattle.setl_operators_enumerations.proofs.subsets.all_subsets.Goals as goal
 

@@ -2,8 +2,8 @@ use Rattle.std.proofs.Common.{subst, ap, ◌∙◌, arith}
 use Rattle.std.proofs.lemmas.Int.{ints}
 use Rattle.setl_value.specs.code.Body.{Members}
 use Rattle.setl_value.specs.Datum.{set_of}
-use Rattle.setl_map.specs.code.Answers.{Tells}
-use Rattle.setl_map.specs.Outcome.{within_depth}
+use Rattle.setl_operators_table.specs.code.Answers.{Tells}
+use Rattle.setl_operators_table.specs.Outcome.{within_depth}
 use Rattle.setl_operators_enumerations.proofs.Outcomes.{some_none_of}
 use Rattle.setl_operators_enumerations.proofs.subsets.some_subsets.Goals as goal
 

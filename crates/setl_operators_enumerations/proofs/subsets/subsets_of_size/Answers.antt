@@ -1,6 +1,6 @@
 use Rattle.std.proofs.Common.{◌<◌, ◌≤◌, Err, subst, ap, ◌∙◌}
 use Rattle.setl_value.specs.code.Body.{Members}
-use Rattle.setl_map.specs.code.Answers.{Tells}
+use Rattle.setl_operators_table.specs.code.Answers.{Tells}
 use Rattle.setl_operators_enumerations.specs.Counts.{choose}
 use Rattle.setl_operators_enumerations.proofs.Outcomes.{some_spent, some_paid, some_deep}
 use Rattle.setl_operators_enumerations.proofs.subsets.subsets_of_size.Goals as goal

@@ -1,7 +1,7 @@
 use Rattle.std.proofs.Common.{sym, ◌∙◌, arith, ◌<ℤ◌}
 use Rattle.std.specs.Int.{w128}
 use Rattle.std.proofs.lemmas.Int.{ints, to_z-of_z}
-use Rattle.setl_map.specs.Ranges.{step_from}
+use Rattle.setl_operators_table.specs.Ranges.{step_from}
 use Rattle.setl_store_iterator.proofs.IntegerSteps.{rising_steps}
 use Rattle.setl_store_iterator.proofs.integers.stepped_rising.Goals as goal
 

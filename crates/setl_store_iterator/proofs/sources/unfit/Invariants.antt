@@ -1,6 +1,6 @@
 use Rattle.std.proofs.Common.{◌≡◌, drop, map}
 use Rattle.setl_value.specs.code.DatumOf.{part}
-use Rattle.setl_map.specs.Outcome.{all_values}
+use Rattle.setl_operators_table.specs.Outcome.{all_values}
 use Rattle.setl_store_iterator.specs.Operands.{fault_of}
 use Rattle.setl_store_iterator.proofs.sources.unfit.Given as goal
 

@@ -2,7 +2,7 @@ use Rattle.std.proofs.Common.{ap, sym, ◌∙◌, rules, map, FitsSigned}
 use Rattle.std.specs.Int.{w128}
 use Rattle.std.proofs.lemmas.Int.{to_z-of_z}
 use Rattle.setl_value.specs.code.DatumOf.{part}
-use Rattle.setl_map.specs.Ranges.{step_from}
+use Rattle.setl_operators_table.specs.Ranges.{step_from}
 use Rattle.setl_model.specs.Iterations.{Starts}
 use Rattle.setl_store_iterator.specs.Integers.{integers_left}
 use Rattle.setl_store_iterator.proofs.IntegerSteps.{started_steps}

@@ -1,9 +1,0 @@
-use Rattle.std.proofs.Common.{subst}
-use Rattle.setl_value.specs.code.Body.{Members}
-use Rattle.setl_value.specs.Datum.{set_of}
-use Rattle.setl_map.specs.code.Answers.{Tells}
-use Rattle.setl_map.proofs.Depths.{shallow}
-use Rattle.setl_map.proofs.answers.shallow_set.Goals as goal
-
-pub returns : goal.returns
-returns c = subst (Tells c.set.result) (shallow (set_of (Members c.args.s)) c.learn.ensures.1) c.set.ensures

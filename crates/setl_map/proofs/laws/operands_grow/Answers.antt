@@ -1,8 +1,0 @@
-use Rattle.setl_map.proofs.Growing.{with_grows, plus_grows}
-use Rattle.setl_map.proofs.laws.operands_grow.Goals as goal
-
-pub returns-clause-one_more : goal.returns-clause-one_more
-returns-clause-one_more c = with_grows
-
-pub returns-clause-sum : goal.returns-clause-sum
-returns-clause-sum c = plus_grows

@@ -1,0 +1,15 @@
+pub mod Outcome
+pub mod OutcomeLaws
+pub mod Takes
+pub mod Ranges
+pub mod Numbers
+pub mod Truths
+pub mod Collections
+pub mod Laws
+pub mod Selections
+pub mod RangeRows
+pub mod Puts
+pub mod Folds
+pub mod Operators
+pub mod OperatorRows
+pub mod code
