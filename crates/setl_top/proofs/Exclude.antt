@@ -1,8 +1,8 @@
 -- Which answers exclude which.
 use Rattle.std.proofs.Common.{◌≡◌, ◌↔◌, ◌∙◌, ◌==◌, ◌^◌, ◌-◌, inl, inr, ℕ, zero, suc, Bool, true, cond, List, [], ◌∷◌, ◌++◌, Option, None, Some, refl, sym, ap, ap₂, subst, arith}
 use Rattle.setl_io.specs.Files.{IsText}
-use Rattle.setl_model.specs.Answers.{RunStatus, IsDone, IsStopped, IsSpent, status_of, error_line}
 use Rattle.setl_model_runs.specs.Events.{Event, End}
+use Rattle.setl_model_runs.specs.Events as events
 use Rattle.setl_model_runs.specs.Run.{Machine, Test, State, Next, Goes, Ends, and_then, run, step}
 use Rattle.setl_model.specs.Laws.{OneMeaning}
 use Rattle.setl_model.specs.Core.{Core}
@@ -11,25 +11,27 @@ use Rattle.setl_model.specs.Step.{language, test_of}
 use Rattle.setl_program.specs.Program.{Program}
 use Rattle.setl_program.specs.ProgramOf.{program_of}
 use Rattle.setl_top.specs.Accepted.{IsProgram, Accepted, Refusal, IsRefusedFor}
-use Rattle.setl_top.specs.Headline.{Moment, AnyRose, ReadCause, load_failed, read_failed, InputLeft, untouched, read_from, WriteCause, print_failed, out_failed, err_failed, faulty_words, no_such_watcher, refused, checked, listed, run_ended, trial_refused, trial_ended, Job, IsInput, IsToRun, IsTried, trial_output, status_for}
+use Rattle.setl_top.specs.Headline.{AnyRose, ReadCause, load_failed, read_failed, InputLeft, untouched, read_from, WriteCause, print_failed, out_failed, err_failed, faulty_words, no_such_watcher, refused, checked, listed, run_ended, trial_refused, trial_ended, Job, IsInput, IsToRun, IsRun, IsTried, trial_output}
 use Rattle.setl_top.specs.Laws.{IsComplete, FaultyWordsReadNothing, WordsExactly, RefusesExactly, ChecksExactly, ListsExactly, TrialsReadNothing, TriesExactly, EndsExactly, TellsTexts}
 use Rattle.setl_top.specs.Listings.{listing_of}
+use Rattle.setl_top.specs.Outside.{Outside}
 use Rattle.setl_top.specs.Trials.{trial_source, trial_input, trial_line}
 use Rattle.setl_top.specs.Watching.{asked_for, IsThere, IsNoRequest, reports_of}
+use Rattle.setl_top_status.specs.Ends.{status_of, error_line}
 use Rattle.setl_top_status.specs.Reasons.{reason_line}
 use Rattle.setl_top_status.specs.declared.status.Status.{Status}
 use Rattle.setl_top_status.specs.declared.status.Status.TheVariants.{Done, Refused, Words, Stopped, Spent, ReadFault, WriteFault, NoMemory}
 use Rattle.setl_top_words.specs.Words.{Command, Run, Check, Code, Trial, Spells, HasFile, RunsFile, watched_by, OneCommand}
 use Rattle.setl_top.proofs.OneReason.{FrontLaws, one_reason, one_program_tree, not_refused}
 
-write_rose : (words : List (List ℕ)) (before after : Moment) (out : List ℕ) → WriteCause words before after out → AnyRose before after
-write_rose words before after _ (print_failed job out line n r a h part left) = inr (inl r)
+write_rose : (words : List (List ℕ)) (before after : Outside) (out : List ℕ) → WriteCause words before after out → AnyRose before after
+write_rose words before after _ (print_failed out line n h) = inr (inl h.rose)
 write_rose words before after _ (out_failed r u) = inr (inl r)
 write_rose words before after _ (err_failed s e r a) = inr (inr r)
 
-read_rose : (words : List (List ℕ)) (before after : Moment) (out : List ℕ) → ReadCause words before after out → AnyRose before after
-read_rose words before after _ (load_failed c n s f t r e) = inl (inl r)
-read_rose words before after _ (read_failed job out r a h) = inl (inr r)
+read_rose : (words : List (List ℕ)) (before after : Outside) (out : List ℕ) → ReadCause words before after out → AnyRose before after
+read_rose words before after _ (load_failed h) = inl (inl h.rose)
+read_rose words before after _ (read_failed out r h) = inl (inr r)
 
 pub complete : IsComplete
 complete words before after Done h = inr h
@@ -43,13 +45,13 @@ complete words before after NoMemory h = inl (inr refl)
 
 -- ---- the words
 
-no_read : (words : List (List ℕ)) (before after : Moment) (out : List ℕ) → IsNoRequest words before.watchers → ReadCause words before after out → ⊥
-no_read words before after _ faulty (load_failed c n s f t r e) = faulty c s t
-no_read words before after _ faulty (read_failed job out r a h) = faulty a.command a.spelled a.there
+no_read : (words : List (List ℕ)) (before after : Outside) (out : List ℕ) → IsNoRequest words before.watchers → ReadCause words before after out → ⊥
+no_read words before after _ faulty (load_failed h) = faulty h.asked.command h.asked.spelled h.asked.there
+no_read words before after _ faulty (read_failed out r h) = faulty h.asked.command h.asked.spelled h.asked.there
 
-no_input : (words : List (List ℕ)) (before after : Moment) → IsNoRequest words before.watchers → InputLeft words before after → after.input ≡ before.input
+no_input : (words : List (List ℕ)) (before after : Outside) → IsNoRequest words before.watchers → InputLeft words before after → after.input.held ≡ before.input.held
 no_input words before after faulty (untouched e) = e
-no_input words before after faulty (read_from job out more taken a h gained k) = absurd (faulty a.command a.spelled a.there)
+no_input words before after faulty (read_from out more taken h gained k) = absurd (faulty h.asked.command h.asked.spelled h.asked.there)
 
 pub faulty_reads_nothing : FaultyWordsReadNothing
 faulty_reads_nothing words before after faulty = ((λ h. no_read words before after h.out faulty h.cause), no_input words before after faulty)
@@ -103,12 +105,12 @@ module _ (one_command : OneCommand) where
   run_file (Trial a b) n turns based h = absurd h
 
   -- what is to be run is what the command runs
-  runs_so : (words : List (List ℕ)) (before : Moment) (job : Job) (c : Command) (a : IsToRun words before job) → Spells words c → RunsFile c a.name job.turns job.based
+  runs_so : (words : List (List ℕ)) (before : Outside) (job : Job) (c : Command) (a : IsToRun words before job) → Spells words c → RunsFile c a.name job.turns job.based
   runs_so words before job c a s =
       subst (λ d. RunsFile d a.name job.turns job.based) (one_command words a.command c a.spelled s) a.runs
 
   -- a command whose watcher is there isn't one whose watcher isn't
-  not_there : (words : List (List ℕ)) (before : Moment) (c d : Command) → Spells words c → Spells words d → (IsThere (watched_by c) before.watchers → ⊥) → IsThere (watched_by d) before.watchers → ⊥
+  not_there : (words : List (List ℕ)) (before : Outside) (c d : Command) → Spells words c → Spells words d → (IsThere (watched_by c) before.watchers → ⊥) → IsThere (watched_by d) before.watchers → ⊥
   not_there words before c d s t none there = none (subst (λ x. IsThere (watched_by x) before.watchers) (one_command words d c t s) there)
 
   -- a trial reads no file
@@ -116,18 +118,18 @@ module _ (one_command : OneCommand) where
   no_file words c name a b t s f = subst (λ d. HasFile d name) (one_command words c (Trial a b) s t) f
 
   -- two texts of one name are one
-  one_text : (before : Moment) (texts : List ℕ → Option (List ℕ)) → TellsTexts before texts → (n m a b : List ℕ) → n ≡ m → IsText before.texts n a → IsText before.texts m b → a ≡ b
+  one_text : (before : Outside) (texts : List ℕ → Option (List ℕ)) → TellsTexts before texts → (n m a b : List ℕ) → n ≡ m → IsText before.files.held n a → IsText before.files.held m b → a ≡ b
   one_text before texts t n m a b e h k =
       let p : texts n ≡ Some a = subst (λ x. IsText x n a) t h in
       let q : texts m ≡ Some b = subst (λ x. IsText x m b) t k in
       let r = ap texts e in
       cc
 
-  told_text : (before : Moment) (texts : List ℕ → Option (List ℕ)) → TellsTexts before texts → (n a : List ℕ) → texts n ≡ Some a → IsText before.texts n a
+  told_text : (before : Outside) (texts : List ℕ → Option (List ℕ)) → TellsTexts before texts → (n a : List ℕ) → texts n ≡ Some a → IsText before.files.held n a
   told_text before texts t n a h = subst (λ x. IsText x n a) (sym t) h
 
   -- two commands of the same words have one source
-  one_source : (words : List (List ℕ)) (before : Moment) (texts : List ℕ → Option (List ℕ)) → TellsTexts before texts → (c d : Command) (n m a b : List ℕ) → Spells words c → HasFile c n → IsText before.texts n a → Spells words d → HasFile d m → IsText before.texts m b → a ≡ b
+  one_source : (words : List (List ℕ)) (before : Outside) (texts : List ℕ → Option (List ℕ)) → TellsTexts before texts → (c d : Command) (n m a b : List ℕ) → Spells words c → HasFile c n → IsText before.files.held n a → Spells words d → HasFile d m → IsText before.files.held m b → a ≡ b
   one_source words before texts t c d n m a b s f h s' f' h' =
       one_text before texts t n m a b (one_file c n m f (subst (λ x. HasFile x m) (one_command words d c s' s) f')) h h'
 
@@ -136,25 +138,27 @@ module _ (one_command : OneCommand) where
   is_words : {P : Type 0} (status : Status) → (status ≡ Words → ⊥) → (P → ⊥) → (status ≡ Words) ↔ P
   is_words status other none = ((λ e. absurd (other e)), λ p. absurd (none p))
 
-  not_words : (ending : RunStatus) → status_for ending ≡ Words → ⊥
-  not_words IsDone e = absurd (cc)
-  not_words IsStopped e = absurd (cc)
-  not_words IsSpent e = absurd (cc)
+  -- no run ends with the status of faulty words
+  not_words : (end : End) (status : Status) → status_of end ≡ Some status → status ≡ Words → ⊥
+  not_words events.Done status h e = absurd (cc)
+  not_words (events.Stopped kind line) status h e = absurd (cc)
+  not_words events.Spent status h e = absurd (cc)
+  not_words events.Stuck status h e = absurd (cc)
 
   pub words_only : WordsExactly
   words_only words before _ _ _ _ (faulty_words told n tells) = ((λ _ c s t. n c s), λ _. refl)
   words_only words before _ _ _ _ (no_such_watcher c s none) = ((λ _ d s' there. not_there words before c d s s' none there), λ _. refl)
-  words_only words before _ _ _ _ (refused c n x l s f there t r) = is_words Refused (λ e. absurd (cc)) (λ no. no c s there)
+  words_only words before _ _ _ _ (refused n x l q t r) = is_words Refused (λ e. absurd (cc)) (λ no. no q.command q.spelled q.there)
   words_only words before _ _ _ _ (checked n x tree s t p) = is_words Done (λ e. absurd (cc)) (λ no. no (Check n) s tt)
   words_only words before _ _ _ _ (listed text a) = is_words Done (λ e. absurd (cc)) (λ no. no (Code a.name) a.spelled tt)
-  words_only words before _ _ _ _ (run_ended job out end ending left a m e k) = is_words (status_for ending) (not_words ending) (λ no. no a.command a.spelled a.there)
+  words_only words before _ _ _ _ (run_ended out err end status left r how) = is_words status (not_words end status how) (λ no. no r.asked.command r.asked.spelled r.asked.there)
   words_only words before _ _ _ _ (trial_refused a b line s r) = is_words Refused (λ e. absurd (cc)) (λ no. no (Trial a b) s tt)
-  words_only words before _ _ _ _ (trial_ended line end ending a h) = is_words (status_for ending) (not_words ending) (λ no. no (Trial a.seed a.nodes) a.spelled tt)
+  words_only words before _ _ _ _ (trial_ended line end status a how) = is_words status (not_words end status how) (λ no. no (Trial a.seed a.nodes) a.spelled tt)
 
   -- ---- refusals
 
   -- a source that is refused isn't run
-  refused_not_run : FrontLaws → (words : List (List ℕ)) (before : Moment) (texts : List ℕ → Option (List ℕ)) → TellsTexts before texts → (job : Job) → IsToRun words before job → (c : Command) (name source line : List ℕ) → Spells words c → HasFile c name → IsText before.texts name source → Refusal source line → ⊥
+  refused_not_run : FrontLaws → (words : List (List ℕ)) (before : Outside) (texts : List ℕ → Option (List ℕ)) → TellsTexts before texts → (job : Job) → IsToRun words before job → (c : Command) (name source line : List ℕ) → Spells words c → HasFile c name → IsText before.files.held name source → Refusal source line → ⊥
   refused_not_run laws words before texts t job a c name source line s f h r =
       let sources = one_source words before texts t a.command c a.name name a.source source a.spelled (run_file a.command a.name job.turns job.based a.runs) a.text s f h in
       not_refused laws source r.reason r.refused a.accepted.tree (subst (λ x. IsProgram x a.accepted.tree) sources a.accepted.is_program)
@@ -168,8 +172,8 @@ module _ (one_command : OneCommand) where
   pub refused_only : FrontLaws → RefusesExactly
   refused_only laws words before texts c name source line _ _ _ _ t s f w h r (faulty_words told n tells) = absurd (n c s)
   refused_only laws words before texts c name source line _ _ _ _ t s f w h r (no_such_watcher d s' none) = absurd (not_there words before d c s' s none w)
-  refused_only laws words before texts c name source line _ _ _ _ t s f w h r (refused d n x l s' f' w' t' r') =
-      let sources = one_source words before texts t d c n name x source s' f' t' s f (told_text before texts t name source h) in
+  refused_only laws words before texts c name source line _ _ _ _ t s f w h r (refused n x l q t' r') =
+      let sources = one_source words before texts t q.command c n name x source q.spelled q.file t' s f (told_text before texts t name source h) in
       (refl, refl, ap (λ y. y ++ 10 ∷ []) (one_line laws x source l line sources r' r), refl)
   refused_only laws words before texts c name source line _ _ _ _ t s f w h r (checked n x tree s' t' p) =
       let sources = one_source words before texts t (Check n) c n name x source s' refl t' s f (told_text before texts t name source h) in
@@ -177,35 +181,35 @@ module _ (one_command : OneCommand) where
   refused_only laws words before texts c name source line _ _ _ _ t s f w h r (listed text a) =
       let sources = one_source words before texts t (Code a.name) c a.name name a.source source a.spelled refl a.text s f (told_text before texts t name source h) in
       absurd (not_refused laws source r.reason r.refused a.tree (subst (λ y. IsProgram y a.tree) sources a.is_program))
-  refused_only laws words before texts c name source line _ _ _ _ t s f w h r (run_ended job out end ending left a m e k) =
-      absurd (refused_not_run laws words before texts t job a c name source line s f (told_text before texts t name source h) r)
+  refused_only laws words before texts c name source line _ _ _ _ t s f w h r (run_ended out err end status left q how) =
+      absurd (refused_not_run laws words before texts t q.job q.asked c name source line s f (told_text before texts t name source h) r)
   refused_only laws words before texts c name source line _ _ _ _ t s f w h r (trial_refused a b l q x) = absurd (no_file words c name a b q s f)
-  refused_only laws words before texts c name source line _ _ _ _ t s f w h r (trial_ended l end ending a x) = absurd (no_file words c name a.seed a.nodes a.spelled s f)
+  refused_only laws words before texts c name source line _ _ _ _ t s f w h r (trial_ended l end status a x) = absurd (no_file words c name a.seed a.nodes a.spelled s f)
 
   -- ---- checks
 
   pub checks_only : FrontLaws → ChecksExactly
   checks_only laws words before texts name source _ _ _ _ t s h (faulty_words told n tells) = absurd (n (Check name) s)
   checks_only laws words before texts name source _ _ _ _ t s h (no_such_watcher d s' none) = absurd (not_there words before d (Check name) s' s none tt)
-  checks_only laws words before texts name source _ _ _ _ t s h (refused d n x l s' f' w' t' r) =
-      let sources = one_source words before texts t d (Check name) n name x source s' f' t' s refl (told_text before texts t name source h) in
+  checks_only laws words before texts name source _ _ _ _ t s h (refused n x l q t' r) =
+      let sources = one_source words before texts t q.command (Check name) n name x source q.spelled q.file t' s refl (told_text before texts t name source h) in
       let moved = subst (λ y. IsRefusedFor y r.reason) sources r.refused in
       (((λ (e : Refused ≡ Done). absurd (cc)), λ p. absurd (not_refused laws source r.reason moved p.0 p.1)), refl, (λ (e : Refused ≡ Done). absurd (cc)), refl)
   checks_only laws words before texts name source _ _ _ _ t s h (checked n x tree s' t' p) =
       let sources = one_source words before texts t (Check n) (Check name) n name x source s' refl t' s refl (told_text before texts t name source h) in
       (((λ _. (tree, subst (λ y. IsProgram y tree) sources p)), (λ _. refl)), refl, (λ _. refl), refl)
   checks_only laws words before texts name source _ _ _ _ t s h (listed text a) = let same = one_command words (Code a.name) (Check name) a.spelled s in absurd (cc)
-  checks_only laws words before texts name source _ _ _ _ t s h (run_ended job out end ending left a m e k) = absurd (runs_so words before job (Check name) a s)
+  checks_only laws words before texts name source _ _ _ _ t s h (run_ended out err end status left q how) = absurd (runs_so words before q.job (Check name) q.asked s)
   checks_only laws words before texts name source _ _ _ _ t s h (trial_refused a b l q r) = absurd (no_file words (Check name) name a b q s refl)
-  checks_only laws words before texts name source _ _ _ _ t s h (trial_ended l end ending a e) = absurd (no_file words (Check name) name a.seed a.nodes a.spelled s refl)
+  checks_only laws words before texts name source _ _ _ _ t s h (trial_ended l end status a e) = absurd (no_file words (Check name) name a.seed a.nodes a.spelled s refl)
 
   -- ---- listings
 
   pub lists_only : FrontLaws → ListsExactly
   lists_only laws words before texts name source _ _ _ _ t s h (faulty_words told n tells) = absurd (n (Code name) s)
   lists_only laws words before texts name source _ _ _ _ t s h (no_such_watcher d s' none) = absurd (not_there words before d (Code name) s' s none tt)
-  lists_only laws words before texts name source _ _ _ _ t s h (refused d n x l s' f' w' t' r) =
-      let sources = one_source words before texts t d (Code name) n name x source s' f' t' s refl (told_text before texts t name source h) in
+  lists_only laws words before texts name source _ _ _ _ t s h (refused n x l q t' r) =
+      let sources = one_source words before texts t q.command (Code name) n name x source q.spelled q.file t' s refl (told_text before texts t name source h) in
       let moved = subst (λ y. IsRefusedFor y r.reason) sources r.refused in
       (((λ (e : Refused ≡ Done). absurd (cc)), λ p. absurd (not_refused laws source r.reason moved p.0 p.1)), (λ tree p. absurd (not_refused laws source r.reason moved tree p)), inr (refl, refl), refl)
   lists_only laws words before texts name source _ _ _ _ t s h (checked n x tree s' t' p) = let same = one_command words (Check n) (Code name) s' s in absurd (cc)
@@ -213,9 +217,9 @@ module _ (one_command : OneCommand) where
       let sources = one_source words before texts t (Code a.name) (Code name) a.name name a.source source a.spelled refl a.text s refl (told_text before texts t name source h) in
       let program = subst (λ y. IsProgram y a.tree) sources a.is_program in
       (((λ _. (a.tree, program)), (λ _. refl)), (λ tree p. (a.is_listing ∙ ap listing_of (one_program_tree laws source a.tree tree program p), refl)), inl refl, refl)
-  lists_only laws words before texts name source _ _ _ _ t s h (run_ended job out end ending left a m e k) = absurd (runs_so words before job (Code name) a s)
+  lists_only laws words before texts name source _ _ _ _ t s h (run_ended out err end status left q how) = absurd (runs_so words before q.job (Code name) q.asked s)
   lists_only laws words before texts name source _ _ _ _ t s h (trial_refused a b l q r) = absurd (no_file words (Code name) name a b q s refl)
-  lists_only laws words before texts name source _ _ _ _ t s h (trial_ended l end ending a e) = absurd (no_file words (Code name) name a.seed a.nodes a.spelled s refl)
+  lists_only laws words before texts name source _ _ _ _ t s h (trial_ended l end status a e) = absurd (no_file words (Code name) name a.seed a.nodes a.spelled s refl)
 
   -- ---- runs
 
@@ -224,7 +228,7 @@ module _ (one_command : OneCommand) where
   one_program laws source p q a b =
       a.meaning ∙ ap program_of (one_program_tree laws source a.tree b.tree a.is_program b.is_program) ∙ sym b.meaning
 
-  one_input : (before : Moment) (input : List ℕ) → before.input ≡ Some input → (a b : List ℕ) → IsInput before.input a → IsInput before.input b → a ≡ b
+  one_input : (before : Outside) (input : List ℕ) → before.input.held ≡ Some input → (a b : List ℕ) → IsInput before.input.held a → IsInput before.input.held b → a ≡ b
   one_input before input t a b h k =
       let p : input ≡ a = subst (λ x. IsInput x a) t h in
       let q : input ≡ b = subst (λ x. IsInput x b) t k in
@@ -237,7 +241,7 @@ module _ (one_command : OneCommand) where
   one_turns (Trial x y) n m s t a b h k = absurd h
 
   -- the words ask for one run
-  one_job : FrontLaws → (words : List (List ℕ)) (before : Moment) (texts : List ℕ → Option (List ℕ)) (input : List ℕ) → TellsTexts before texts → before.input ≡ Some input → (j k : Job) → IsToRun words before j → IsToRun words before k → j ≡ k
+  one_job : FrontLaws → (words : List (List ℕ)) (before : Outside) (texts : List ℕ → Option (List ℕ)) (input : List ℕ) → TellsTexts before texts → before.input.held ≡ Some input → (j k : Job) → IsToRun words before j → IsToRun words before k → j ≡ k
   one_job laws words before texts input t i j k a b =
       let f = run_file a.command a.name j.turns j.based a.runs in
       let g = run_file b.command b.name k.turns k.based b.runs in
@@ -254,32 +258,29 @@ module _ (one_command : OneCommand) where
     pub means : Means job.program job.input job.turns job.based out end
     pub told : means.last.events ≡ events
 
-  one_ending : (e d : End) (a b : RunStatus) → e ≡ d → status_of e ≡ Some a → status_of d ≡ Some b → a ≡ b
-  one_ending e d a b h p q = let r = ap status_of h in cc
-
   pub ends_only : FrontLaws → OneMeaning → EndsExactly
-  ends_only laws meaning words before texts input job said end ending _ _ _ _ t i a m s (faulty_words told n tells) = absurd (n a.command a.spelled)
-  ends_only laws meaning words before texts input job said end ending _ _ _ _ t i a m s (no_such_watcher d s' none) = absurd (not_there words before d a.command s' a.spelled none a.there)
-  ends_only laws meaning words before texts input job said end ending _ _ _ _ t i a m s (refused c name source line s' f w h r) = absurd (refused_not_run laws words before texts t job a c name source line s' f h r)
-  ends_only laws meaning words before texts input job said end ending _ _ _ _ t i a m s (checked n x tree s' t' p) = absurd (runs_so words before job (Check n) a s')
-  ends_only laws meaning words before texts input job said end ending _ _ _ _ t i a m s (listed text l) = absurd (runs_so words before job (Code l.name) a l.spelled)
-  ends_only laws meaning words before texts input job said end ending _ _ _ _ t i a m s (trial_refused n k l q r) = absurd (runs_so words before job (Trial n k) a q)
-  ends_only laws meaning words before texts input job said end ending _ _ _ _ t i a m s (trial_ended l last how b e) = absurd (runs_so words before job (Trial b.seed b.nodes) a b.spelled)
-  ends_only laws meaning words before texts input job said end ending _ _ _ _ t i a m s (run_ended other out last how left b n u k) =
-      let same = one_job laws words before texts input t i other job b a in
-      let moved = subst (λ (j : Job). Ended j out last n.last.events) same (record { means = n; told = refl }) in
+  ends_only laws meaning words before texts input job said end _ _ _ _ t i a m (faulty_words told n tells) = absurd (n a.command a.spelled)
+  ends_only laws meaning words before texts input job said end _ _ _ _ t i a m (no_such_watcher d s' none) = absurd (not_there words before d a.command s' a.spelled none a.there)
+  ends_only laws meaning words before texts input job said end _ _ _ _ t i a m (refused name source line q h r) = absurd (refused_not_run laws words before texts t job a q.command name source line q.spelled q.file h r)
+  ends_only laws meaning words before texts input job said end _ _ _ _ t i a m (checked n x tree s' t' p) = absurd (runs_so words before job (Check n) a s')
+  ends_only laws meaning words before texts input job said end _ _ _ _ t i a m (listed text l) = absurd (runs_so words before job (Code l.name) a l.spelled)
+  ends_only laws meaning words before texts input job said end _ _ _ _ t i a m (trial_refused n k l q r) = absurd (runs_so words before job (Trial n k) a q)
+  ends_only laws meaning words before texts input job said end _ _ _ _ t i a m (trial_ended l last how b e) = absurd (runs_so words before job (Trial b.seed b.nodes) a b.spelled)
+  ends_only laws meaning words before texts input job said end _ _ _ _ t i a m (run_ended out err last status left r how) =
+      let same = one_job laws words before texts input t i r.job job r.asked a in
+      let moved = subst (λ (j : Job). Ended j out last r.means.last.events) same (record { means = r.means; told = refl }) in
       let both = meaning job.program job.input job.turns job.based out said last end moved.means m in
       let told = one_last job.program job.input job.turns job.based out said last end moved.means m in (
-        ap status_for (one_ending last end how ending both.1 u s),
+        sym (ap status_of both.1) ∙ how,
         both.0,
-        λ x. reports_of ((ap (λ (j : Job). j.watchers) same) x) ((sym moved.told ∙ told) x) ++ error_line (both.1 x),
+        r.tells ∙ (λ x. reports_of ((ap (λ (j : Job). j.watchers) same) x) ((sym moved.told ∙ told) x) ++ error_line (both.1 x)),
       )
 
   -- ---- trials
 
-  no_trial_read : (words : List (List ℕ)) (before after : Moment) (out : List ℕ) (a b : ℕ) → Spells words (Trial a b) → ReadCause words before after out → ⊥
-  no_trial_read words before after _ a b s (load_failed c n q f t r e) = no_file words c n a b s q f
-  no_trial_read words before after _ a b s (read_failed job out r q h) = runs_so words before job (Trial a b) q s
+  no_trial_read : (words : List (List ℕ)) (before after : Outside) (out : List ℕ) (a b : ℕ) → Spells words (Trial a b) → ReadCause words before after out → ⊥
+  no_trial_read words before after _ a b s (load_failed h) = no_file words h.asked.command h.name a b s h.asked.spelled h.asked.file
+  no_trial_read words before after _ a b s (read_failed out r h) = runs_so words before h.job (Trial a b) h.asked s
 
   pub trial_reads_nothing : TrialsReadNothing
   trial_reads_nothing words before after a b s h = no_trial_read words before after h.out a b s h.cause
@@ -295,14 +296,13 @@ module _ (one_command : OneCommand) where
       (a.is_line ∙ ap₂ line_for same both.0 ∙ sym b.is_line, both.1)
 
   pub tries_only : FrontLaws → OneMeaning → TriesExactly
-  tries_only laws meaning words before line end ending _ _ _ _ a h (faulty_words told n tells) = absurd (n (Trial a.seed a.nodes) a.spelled)
-  tries_only laws meaning words before line end ending _ _ _ _ a h (no_such_watcher d s none) = absurd (not_there words before d (Trial a.seed a.nodes) s a.spelled none tt)
-  tries_only laws meaning words before line end ending _ _ _ _ a h (refused c name source l s f w t r) = absurd (no_file words c name a.seed a.nodes a.spelled s f)
-  tries_only laws meaning words before line end ending _ _ _ _ a h (checked name source tree s t p) = absurd (no_file words (Check name) name a.seed a.nodes a.spelled s refl)
-  tries_only laws meaning words before line end ending _ _ _ _ a h (listed text l) = absurd (no_file words (Code l.name) l.name a.seed a.nodes a.spelled l.spelled refl)
-  tries_only laws meaning words before line end ending _ _ _ _ a h (run_ended job out last how left b m u k) = absurd (runs_so words before job (Trial a.seed a.nodes) b a.spelled)
-  tries_only laws meaning words before line end ending _ _ _ _ a h (trial_refused n k l s r) = absurd (not_refused laws trial_source r.reason r.refused a.accepted.tree a.accepted.is_program)
-  tries_only laws meaning words before line end ending _ _ _ _ a h (trial_ended l last how b e) =
+  tries_only laws meaning words before line end _ _ _ _ a (faulty_words told n tells) = absurd (n (Trial a.seed a.nodes) a.spelled)
+  tries_only laws meaning words before line end _ _ _ _ a (no_such_watcher d s none) = absurd (not_there words before d (Trial a.seed a.nodes) s a.spelled none tt)
+  tries_only laws meaning words before line end _ _ _ _ a (refused name source l q t r) = absurd (no_file words q.command name a.seed a.nodes a.spelled q.spelled q.file)
+  tries_only laws meaning words before line end _ _ _ _ a (checked name source tree s t p) = absurd (no_file words (Check name) name a.seed a.nodes a.spelled s refl)
+  tries_only laws meaning words before line end _ _ _ _ a (listed text l) = absurd (no_file words (Code l.name) l.name a.seed a.nodes a.spelled l.spelled refl)
+  tries_only laws meaning words before line end _ _ _ _ a (run_ended out err last status left q how) = absurd (runs_so words before q.job (Trial a.seed a.nodes) q.asked a.spelled)
+  tries_only laws meaning words before line end _ _ _ _ a (trial_refused n k l s r) = absurd (not_refused laws trial_source r.reason r.refused a.accepted.tree a.accepted.is_program)
+  tries_only laws meaning words before line end _ _ _ _ a (trial_ended l last status b how) =
       let same = one_trial laws meaning words l line last end b a in
-      let kind = one_ending last end how ending same.1 e h in
-      (ap status_for kind, ap₂ trial_output kind same.0, ap error_line same.1, refl)
+      (sym (ap status_of same.1) ∙ how, ap₂ trial_output same.1 same.0, ap error_line same.1, refl)

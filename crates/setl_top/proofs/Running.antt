@@ -28,7 +28,7 @@ use Rattle.setl_machine.specs.Outcome as outcome
 use Rattle.setl_machine_control.specs.declared.end.End.{End}
 use Rattle.setl_machine_control.specs.declared.end.End.TheVariants as end
 use Rattle.setl_machine_control.specs.declared.end.StopKind.{StopKind}
-use Rattle.setl_top.specs.code.CodeRuns.{RunsCode, seen_before, seen_now}
+use Rattle.setl_top.specs.code.CodeRuns.{RunsCode, seen_of}
 use Rattle.setl_top.specs.Headline.{IsInput, IsLeft}
 use Rattle.setl_top.specs.Moments as moments
 use Rattle.setl_top.specs.Moments.{AtState}
@@ -37,6 +37,7 @@ use Rattle.setl_code_simulation.specs.Claims.{Ended}
 use Rattle.setl_watch.specs.Watches.{Watch, Watched, watched, told_all}
 use Rattle.setl_top_words.specs.Words.{Options}
 use Rattle.setl_top_status.specs.FrontLaws.{appends_none}
+use Rattle.setl_top_status.specs.Seen.{Seen}
 use Rattle.setl_top.proofs.Reaching.{CodeLaws, Taken, coded, as_meant, Came, ends_at, came_at_state, came_at_read, came_at_print}
 
 -- ---- what is left of the input
@@ -116,7 +117,7 @@ behind None new out more h = tt
 behind (Some xs) None out more h = absurd h
 behind (Some xs) (Some ys) out more h = h ∙ append_assoc xs out more
 
-module _ (laws : CodeLaws) (p : Program) (formed : Formed p) (asked : Options) (s : Streams) (input : List ℕ) (known : IsInput s.input input) where
+module _ (laws : CodeLaws) (p : Program) (formed : Formed p) (asked : Options) (s u : Streams) (input : List ℕ) (known : IsInput s.input.held input) where
   abbrev from : CodeCore
   from = (code_first (code_of p) input asked.turns).core
 
@@ -128,7 +129,7 @@ module _ (laws : CodeLaws) (p : Program) (formed : Formed p) (asked : Options) (
   came n t line b = (b.after, b.reached)
 
   -- the run ended in the meaning's sense
-  coming_to : (n : ℕ) (last : CodeCore) (e : run.End) → EndsAs (coded p asked input n) last e → IsLeft s.input s.left last.world.input → Appends s.old s.new (said (coded p asked input n)) → NoFault (seen_before s) (seen_now s) → s.heard ≡ told_all (events_told (coded p asked input n)) s.watchers → RunsTo p asked s e
+  coming_to : (n : ℕ) (last : CodeCore) (e : run.End) → EndsAs (coded p asked input n) last e → IsLeft s.input.held u.input.held last.world.input → Appends s.output.held u.output.held (said (coded p asked input n)) → NoFault (seen_of s) (seen_of u) → u.watchers ≡ told_all (events_told (coded p asked input n)) s.watchers → RunsTo p asked s u e
   coming_to n last e x left gained count heard =
       let out : List ℕ = x.state.out in
       let ends = as_meant p asked input n (Ends e x.state) x.is in
@@ -143,8 +144,8 @@ module _ (laws : CodeLaws) (p : Program) (formed : Formed p) (asked : Options) (
         out = out;
         means = means;
         at_end = subst (AtState p input asked.turns asked.based) reach.3 (came_at_state p asked input laws formed reach.1 (reach.0, reach.2));
-        left = subst (λ w. IsLeft s.input s.left w.input) same.core.world (left_of x.state.core last s.input s.left x.likely left);
-        gained = subst (Appends s.old s.new) (ap said x.is) gained;
+        left = subst (λ w. IsLeft s.input.held u.input.held w.input) same.core.world (left_of x.state.core last s.input.held u.input.held x.likely left);
+        gained = subst (Appends s.output.held u.output.held) (ap said x.is) gained;
         input_count = count.1;
         out_count = count.0;
         told = heard ∙ ap (λ y. told_all (events_told y) s.watchers) x.is ∙ ap (λ es. told_all es s.watchers) (sym meant.told);
@@ -158,7 +159,7 @@ module _ (laws : CodeLaws) (p : Program) (formed : Formed p) (asked : Options) (
       laws.not_stuck p formed input asked.turns asked.based out ((laws.means p formed input asked.turns asked.based out run.Stuck).1 code)
 
   -- some of the line in hand was written
-  abbrev broken : (t : State CodeCore) (line : List ℕ) → moments.AtPrint p input asked.turns asked.based t.out line → AppendsPart (append_known s.old t.out) s.new line → RunsInto p asked s
+  abbrev broken : (t : State CodeCore) (line : List ℕ) → moments.AtPrint p input asked.turns asked.based t.out line → AppendsPart (append_known s.output.held t.out) u.output.held line → RunsInto p asked s u
   broken t line at part = record {
     input = input;
     known = known;
@@ -167,105 +168,105 @@ module _ (laws : CodeLaws) (p : Program) (formed : Formed p) (asked : Options) (
     n = part.0;
     at = at;
     part = part.1;
-    gained = behind s.old s.new t.out (take part.0 line) part.2;
+    gained = behind s.output.held u.output.held t.out (take part.0 line) part.2;
   }
 
-  breaking : (n : ℕ) (t : State CodeCore) (line : List ℕ) → Early n t line → AtPrint (code_of p) t.core → AppendsPart (append_known s.old t.out) s.new line → RunsInto p asked s
+  breaking : (n : ℕ) (t : State CodeCore) (line : List ℕ) → Early n t line → AtPrint (code_of p) t.core → AppendsPart (append_known s.output.held t.out) u.output.held line → RunsInto p asked s u
   breaking n t line b next part = broken t line (came_at_print p asked input laws formed t (came n t line b) line b.says next).0 part
 
   -- and the input is as it was there
-  writing : (n : ℕ) (t : State CodeCore) (line : List ℕ) (last : CodeCore) → Early n t line → AtPrint (code_of p) t.core → AppendsPart (append_known s.old t.out) s.new line → last.world.input ≡ t.core.world.input → IsLeft s.input s.left last.world.input → WritesInto p asked s
+  writing : (n : ℕ) (t : State CodeCore) (line : List ℕ) (last : CodeCore) → Early n t line → AtPrint (code_of p) t.core → AppendsPart (append_known s.output.held t.out) u.output.held line → last.world.input ≡ t.core.world.input → IsLeft s.input.held u.input.held last.world.input → WritesInto p asked s u
   writing n t line last b next part same left =
       let here = came_at_print p asked input laws formed t (came n t line b) line b.says next in
-      record { into = broken t line here.0 part; left = subst (λ w. IsLeft s.input s.left w.input) here.1 (subst (IsLeft s.input s.left) same left) }
+      record { into = broken t line here.0 part; left = subst (λ w. IsLeft s.input.held u.input.held w.input) here.1 (subst (IsLeft s.input.held u.input.held) same left) }
 
   -- a `read` was in hand
-  reading : (n : ℕ) (t : State CodeCore) (line : List ℕ) → Early n t line → AtRead (code_of p) t.core → Appends s.old s.new t.out → RunsToRead p asked s
+  reading : (n : ℕ) (t : State CodeCore) (line : List ℕ) → Early n t line → AtRead (code_of p) t.core → Appends s.output.held u.output.held t.out → RunsToRead p asked s u
   reading n t line b next gained = record { input = input; known = known; out = t.out; at = came_at_read p asked input laws formed t (came n t line b) next; gained = gained }
 
   -- nothing was written of what is in hand
-  halting : (n : ℕ) (t : State CodeCore) (line : List ℕ) → Early n t line → Appends s.old s.new t.out → RunsUpTo p asked s
+  halting : (n : ℕ) (t : State CodeCore) (line : List ℕ) → Early n t line → Appends s.output.held u.output.held t.out → RunsUpTo p asked s u
   halting n t line b gained = record { input = input; known = known; out = t.out; at = came_at_state p asked input laws formed t (came n t line b); gained = gained }
 
   -- at want of memory
-  starving : (n : ℕ) (t : State CodeCore) (line : List ℕ) → Early n t line → (length line ≡ 0) ⊎ AtPrint (code_of p) t.core → outcome.AppendsFront (append_known s.old t.out) s.new line → RunsInto p asked s ⊎ RunsUpTo p asked s
+  starving : (n : ℕ) (t : State CodeCore) (line : List ℕ) → Early n t line → (length line ≡ 0) ⊎ AtPrint (code_of p) t.core → outcome.AppendsFront (append_known s.output.held t.out) u.output.held line → RunsInto p asked s u ⊎ RunsUpTo p asked s u
   starving n t [] b h front =
       let none : take front.0 [] ≡ [] = take_none front.0 in
-      inr (halting n t [] b (subst (Appends s.old s.new) (ap (λ xs. t.out ++ xs) none ∙ append-nil t.out) (behind s.old s.new t.out (take front.0 []) front.2)))
+      inr (halting n t [] b (subst (Appends s.output.held u.output.held) (ap (λ xs. t.out ++ xs) none ∙ append-nil t.out) (behind s.output.held u.output.held t.out (take front.0 []) front.2)))
   starving n t (c ∷ line) b (inl none) front = absurd (omega (arith, none))
   starving n t (c ∷ line) b (inr next) front = inl (breaking n t (c ∷ line) b next (front.0, omega (arith, front.1), front.2))
 
 -- the machine's run is one of the program
-runs : (laws : CodeLaws) (p : Program) (formed : Formed p) (asked : Options) (s : Streams) (e : End) → RunsCode (code_of p) (counted asked p) asked.turns s e → Runs p asked s e
-runs laws p formed asked s end.Done r =
-    coming_to laws p formed asked s r.input r.known r.steps r.last run.Done (done (counted asked p) (coded p asked r.input r.steps) r.last r.ran.0) r.left r.ran.1 r.ran.2 r.heard
-runs laws p formed asked s (end.Stopped why line) r =
-    coming_to laws p formed asked s r.input r.known r.steps r.last (run.Stopped (kind_of (counted asked p) why) line) (stopped (counted asked p) (coded p asked r.input r.steps) r.last why line r.ran.0) r.left r.ran.1 r.ran.2 r.heard
-runs laws p formed asked s end.Spent r =
-    coming_to laws p formed asked s r.input r.known r.steps r.last run.Spent (spent (counted asked p) (coded p asked r.input r.steps) r.last r.ran.0) r.left r.ran.1 r.ran.2 r.heard
-runs laws p formed asked s end.ReadFault r = (reading laws p formed asked s r.input r.known r.steps r.ran.0 r.ran.1 r.ran.2 r.ran.3 r.ran.4, r.ran.5)
-runs laws p formed asked s end.WriteFault r = (writing laws p formed asked s r.input r.known r.steps r.ran.0 r.ran.1 r.last r.ran.2 r.ran.3 r.ran.4 r.ran.7 r.left, r.ran.5)
-runs laws p formed asked s end.NoMemory r = starving laws p formed asked s r.input r.known r.steps r.ran.0 r.ran.1 r.ran.2 r.ran.3 r.ran.4
-runs laws p formed asked s end.Paused r = r.whole refl
-runs laws p formed asked s end.Stuck r = not_stuck laws p formed asked s r.input r.known r.steps r.last (stuck (counted asked p) (coded p asked r.input r.steps) r.last r.ran.0)
+runs : (laws : CodeLaws) (p : Program) (formed : Formed p) (asked : Options) (s u : Streams) (e : End) → RunsCode (code_of p) (counted asked p) asked.turns s u e → Runs p asked s u e
+runs laws p formed asked s u end.Done r =
+    coming_to laws p formed asked s u r.input r.known r.steps r.last run.Done (done (counted asked p) (coded p asked r.input r.steps) r.last r.ran.0) r.left r.ran.1 r.ran.2 r.heard
+runs laws p formed asked s u (end.Stopped why line) r =
+    coming_to laws p formed asked s u r.input r.known r.steps r.last (run.Stopped (kind_of (counted asked p) why) line) (stopped (counted asked p) (coded p asked r.input r.steps) r.last why line r.ran.0) r.left r.ran.1 r.ran.2 r.heard
+runs laws p formed asked s u end.Spent r =
+    coming_to laws p formed asked s u r.input r.known r.steps r.last run.Spent (spent (counted asked p) (coded p asked r.input r.steps) r.last r.ran.0) r.left r.ran.1 r.ran.2 r.heard
+runs laws p formed asked s u end.ReadFault r = (reading laws p formed asked s u r.input r.known r.steps r.ran.0 r.ran.1 r.ran.2 r.ran.3 r.ran.4, r.ran.5)
+runs laws p formed asked s u end.WriteFault r = (writing laws p formed asked s u r.input r.known r.steps r.ran.0 r.ran.1 r.last r.ran.2 r.ran.3 r.ran.4 r.ran.7 r.left, r.ran.5)
+runs laws p formed asked s u end.NoMemory r = starving laws p formed asked s u r.input r.known r.steps r.ran.0 r.ran.1 r.ran.2 r.ran.3 r.ran.4
+runs laws p formed asked s u end.Paused r = r.whole refl
+runs laws p formed asked s u end.Stuck r = not_stuck laws p formed asked s u r.input r.known r.steps r.last (stuck (counted asked p) (coded p asked r.input r.steps) r.last r.ran.0)
 
 -- it takes nothing of its input, or takes it at a `read`
-takes : (laws : CodeLaws) (p : Program) (formed : Formed p) (asked : Options) (s : Streams) (e : End) → RunsCode (code_of p) (counted asked p) asked.turns s e → TakesInput p asked s
-takes laws p formed asked s e r =
+takes : (laws : CodeLaws) (p : Program) (formed : Formed p) (asked : Options) (s u : Streams) (e : End) → RunsCode (code_of p) (counted asked p) asked.turns s u e → TakesInput p asked s u
+takes laws p formed asked s u e r =
     elim r.reads [
       | inl same ↦ inl same
       | inr b ↦ inr (record { input = r.input; known = r.known; out = b.0.out; more = b.4; taken = r.took.0; at = came_at_read p asked r.input laws formed b.0 (b.2.after, b.2.reached) b.3; gained = b.5; consumed = r.took.1 })
     ]
 
 -- nothing was done
-pub not_begun : (p : Program) (asked : Options) (s : Streams) → s.new ≡ s.old → RunsInto p asked s ⊎ RunsUpTo p asked s
-not_begun p asked s same = inr (record {
-  input = input_of s.input;
-  known = is_input s.input;
+pub not_begun : (p : Program) (asked : Options) (s u : Streams) → u.output.held ≡ s.output.held → RunsInto p asked s u ⊎ RunsUpTo p asked s u
+not_begun p asked s u same = inr (record {
+  input = input_of s.input.held;
+  known = is_input s.input.held;
   out = [];
-  at = record { state = first p (input_of s.input) asked.turns; reached = (0, refl); printed = refl };
-  gained = subst (λ o. Appends s.old o []) (sym same) (appends_none s.old);
+  at = record { state = first p (input_of s.input.held) asked.turns; reached = (0, refl); printed = refl };
+  gained = subst (λ o. Appends s.output.held o []) (sym same) (appends_none s.output.held);
 })
 
 -- the same declarations
-pub runs_by : {F : Type 0} (c : Code) (modes others : Modes) (turns : ℕ) (s : Streams) (r : Result End F) → modes ≡ others → IfOk r (RunsCode c modes turns s) → IfOk r (RunsCode c others turns s)
-runs_by c modes others turns s r is h = subst (λ ms. IfOk r (RunsCode c ms turns s)) is h
+pub runs_by : {F : Type 0} (c : Code) (modes others : Modes) (turns : ℕ) (s u : Streams) (r : Result End F) → modes ≡ others → IfOk r (RunsCode c modes turns s u) → IfOk r (RunsCode c others turns s u)
+runs_by c modes others turns s u r is h = subst (λ ms. IfOk r (RunsCode c ms turns s u)) is h
 
 -- ---- where memory may have been refused first
 
-module _ (laws : CodeLaws) (p : Program) (formed : Formed p) (asked : Options) (s : Streams) {F : Type 0} where
-  pub all_runs : (c : Code) → c ≡ code_of p → (r : Result End F) → IfOk r (RunsCode c (counted asked p) asked.turns s) → IfOk r (Runs p asked s)
-  all_runs c is (Ok e) h = runs laws p formed asked s e (subst (λ k. RunsCode k (counted asked p) asked.turns s e) is h)
+module _ (laws : CodeLaws) (p : Program) (formed : Formed p) (asked : Options) (s u : Streams) {F : Type 0} where
+  pub all_runs : (c : Code) → c ≡ code_of p → (r : Result End F) → IfOk r (RunsCode c (counted asked p) asked.turns s u) → IfOk r (Runs p asked s u)
+  all_runs c is (Ok e) h = runs laws p formed asked s u e (subst (λ k. RunsCode k (counted asked p) asked.turns s u e) is h)
   all_runs c is (Err e) h = h
 
-  pub all_takes : (c : Code) → c ≡ code_of p → (r : Result End F) → IfOk r (RunsCode c (counted asked p) asked.turns s) → OnErr r (s.left ≡ s.input) → TakesInput p asked s
-  all_takes c is (Ok e) h same = takes laws p formed asked s e (subst (λ k. RunsCode k (counted asked p) asked.turns s e) is h)
+  pub all_takes : (c : Code) → c ≡ code_of p → (r : Result End F) → IfOk r (RunsCode c (counted asked p) asked.turns s u) → OnErr r (u.input.held ≡ s.input.held) → TakesInput p asked s u
+  all_takes c is (Ok e) h same = takes laws p formed asked s u e (subst (λ k. RunsCode k (counted asked p) asked.turns s u e) is h)
   all_takes c is (Err e) h same = inl same
 
 -- a run that wasn't begun is one that was broken off at its first state
-pub runs_or : {F : Type 0} (p : Program) (asked : Options) (s : Streams) (r : Result End F) (e : End) → e ≡ result_unwrap_or r end.NoMemory → IfOk r (Runs p asked s) → OnErr r (s.new ≡ s.old) → Runs p asked s e
-runs_or p asked s (Ok d) e is h same = subst (Runs p asked s) (sym is) h
-runs_or p asked s (Err d) e is h same = subst (Runs p asked s) (sym is) (not_begun p asked s same)
+pub runs_or : {F : Type 0} (p : Program) (asked : Options) (s u : Streams) (r : Result End F) (e : End) → e ≡ result_unwrap_or r end.NoMemory → IfOk r (Runs p asked s u) → OnErr r (u.output.held ≡ s.output.held) → Runs p asked s u e
+runs_or p asked s u (Ok d) e is h same = subst (Runs p asked s u) (sym is) h
+runs_or p asked s u (Err d) e is h same = subst (Runs p asked s u) (sym is) (not_begun p asked s u same)
 
 -- so it is neither paused nor stuck
-pub not_paused : (p : Program) (asked : Options) (s : Streams) (e : End) → Runs p asked s e → e ≡ end.Paused → ⊥
-not_paused p asked s e h is = subst (Runs p asked s) is h
+pub not_paused : (p : Program) (asked : Options) (s u : Streams) (e : End) → Runs p asked s u e → e ≡ end.Paused → ⊥
+not_paused p asked s u e h is = subst (Runs p asked s u) is h
 
-pub not_at_stuck : (p : Program) (asked : Options) (s : Streams) (e : End) → Runs p asked s e → e ≡ end.Stuck → ⊥
-not_at_stuck p asked s e h is = subst (Runs p asked s) is h
+pub not_at_stuck : (p : Program) (asked : Options) (s u : Streams) (e : End) → Runs p asked s u e → e ≡ end.Stuck → ⊥
+not_at_stuck p asked s u e h is = subst (Runs p asked s u) is h
 
 -- the same program
-pub runs_as : (p q : Program) (asked : Options) (s : Streams) (e : End) → p ≡ q → Runs p asked s e → Runs q asked s e
-runs_as p q asked s e is h = subst (λ (r : Program). Runs r asked s e) is h
+pub runs_as : (p q : Program) (asked : Options) (s u : Streams) (e : End) → p ≡ q → Runs p asked s u e → Runs q asked s u e
+runs_as p q asked s u e is h = subst (λ (r : Program). Runs r asked s u e) is h
 
-pub takes_as : (p q : Program) (asked : Options) (s : Streams) → p ≡ q → TakesInput p asked s → TakesInput q asked s
-takes_as p q asked s is h = subst (λ (r : Program). TakesInput r asked s) is h
+pub takes_as : (p q : Program) (asked : Options) (s u : Streams) → p ≡ q → TakesInput p asked s u → TakesInput q asked s u
+takes_as p q asked s u is h = subst (λ (r : Program). TakesInput r asked s u) is h
 
 -- the same watchers, which have reported nothing
-pub heard_from : (P : Streams → Type 0) (input left : Option (List ℕ)) (i j : ℕ) (old new : Option (List ℕ)) (m n : ℕ) (heard : Watched) (ws xs : List Watch) (reports : List ℕ) → ws ≡ xs → reports ≡ [] → P (streams input left i j old new m n (watched ws reports) heard) → P (streams input left i j old new m n (watched xs []) heard)
-heard_from P input left i j old new m n heard ws xs reports same none h =
-    subst (λ r. P (streams input left i j old new m n (watched xs r) heard)) none
-    (subst (λ ys. P (streams input left i j old new m n (watched ys reports) heard)) same h)
+pub heard_from : (P : Streams → Type 0) (input output : Seen (List ℕ)) (ws xs : List Watch) (reports : List ℕ) → ws ≡ xs → reports ≡ [] → P (streams input output (watched ws reports)) → P (streams input output (watched xs []))
+heard_from P input output ws xs reports same none h =
+    subst (λ r. P (streams input output (watched xs r))) none
+    (subst (λ ys. P (streams input output (watched ys reports))) same h)
 
 -- ---- from what the machine tells
 
@@ -275,32 +276,32 @@ module _ (modes : Modes) (turns : ℕ) where
   fresh = record { turns = turns; atom = 1; eof = false; reader = record { kept = []; ended = false; fault = None } }
 
   -- what the machine tells of a run, whatever is still to come of the input behind it
-  abbrev pub Told : Standing → ControlState → Streams → CodeCore → ControlState → End → Type 0
-  Told store first s core control e = (rest' : List ℕ) → IsRest (ahead control.reader.ended s.left) rest' →
-      (rest : List ℕ) × IsRest (ahead first.reader.ended s.input) rest
-      × (n : ℕ) × outcome.Ran modes (plain_code store.code) n (stood_for store.core first rest) (seen_before s) (seen_now s) (stood_for core control rest') e
-      × outcome.ReadsOnly modes (plain_code store.code) n (stood_for store.core first rest) s.old s.new s.input s.left
-      × Hears modes (plain_code store.code) n (stood_for store.core first rest) s.watchers s.heard e
+  abbrev pub Told : Standing → ControlState → (s u : Streams) → CodeCore → ControlState → End → Type 0
+  Told store first s u core control e = (rest' : List ℕ) → IsRest (ahead control.reader.ended u.input.held) rest' →
+      (rest : List ℕ) × IsRest (ahead first.reader.ended s.input.held) rest
+      × (n : ℕ) × outcome.Ran modes (plain_code store.code) n (stood_for store.core first rest) (seen_of s) (seen_of u) (stood_for core control rest') e
+      × outcome.ReadsOnly modes (plain_code store.code) n (stood_for store.core first rest) s.output.held u.output.held s.input.held u.input.held
+      × Hears modes (plain_code store.code) n (stood_for store.core first rest) s.watchers u.watchers e
 
-  told_fresh : (code : RustCode) (s : Streams) (core : CodeCore) (control : ControlState) (e : End) → Told (started code) fresh s core control e → (e ≡ end.Paused → ⊥) → TakesOff s.input s.left → StaysHonest false s.input control.reader.ended s.left → RunsCode (plain_code code) modes turns s e
-  told_fresh code s core control e told whole took honest =
-      let rest : List ℕ = input_of (ahead control.reader.ended s.left) in
-      let r = told rest (is_rest (ahead control.reader.ended s.left)) in
+  told_fresh : (code : RustCode) (s u : Streams) (core : CodeCore) (control : ControlState) (e : End) → Told (started code) fresh s u core control e → (e ≡ end.Paused → ⊥) → TakesOff s.input.held u.input.held → StaysHonest false s.input.held control.reader.ended u.input.held → RunsCode (plain_code code) modes turns s u e
+  told_fresh code s u core control e told whole took honest =
+      let rest : List ℕ = input_of (ahead control.reader.ended u.input.held) in
+      let r = told rest (is_rest (ahead control.reader.ended u.input.held)) in
       record {
         input = r.0;
-        known = input_of_rest s.input r.0 r.1;
+        known = input_of_rest s.input.held r.0 r.1;
         steps = r.2;
         last = stood_for core control rest;
         ran = r.3;
         reads = r.4;
-        left = kept_left (kept_for control.reader.fault control.reader.kept) control.reader.ended s.input s.left took honest;
+        left = kept_left (kept_for control.reader.fault control.reader.kept) control.reader.ended s.input.held u.input.held took honest;
         took = took;
         whole = whole;
         heard = r.5;
       }
 
   -- a whole run of the machine from a store that was started and a new control
-  pub code_ran : (code : RustCode) (store : Standing) (first : ControlState) (s : Streams) (core : CodeCore) (control : ControlState) (e : End) → store ≡ started code → first ≡ fresh → Told store first s core control e → (e ≡ end.Paused → ⊥) → TakesOff s.input s.left → StaysHonest first.reader.ended s.input control.reader.ended s.left → RunsCode (plain_code code) modes turns s e
-  code_ran code store first s core control e begun new told whole took honest =
-      told_fresh code s core control e (subst (λ c. Told (started code) c s core control e) new (subst (λ t. Told t first s core control e) begun told)) whole took
-      (subst (λ c. StaysHonest c.reader.ended s.input control.reader.ended s.left) new honest)
+  pub code_ran : (code : RustCode) (store : Standing) (first : ControlState) (s u : Streams) (core : CodeCore) (control : ControlState) (e : End) → store ≡ started code → first ≡ fresh → Told store first s u core control e → (e ≡ end.Paused → ⊥) → TakesOff s.input.held u.input.held → StaysHonest first.reader.ended s.input.held control.reader.ended u.input.held → RunsCode (plain_code code) modes turns s u e
+  code_ran code store first s u core control e begun new told whole took honest =
+      told_fresh code s u core control e (subst (λ c. Told (started code) c s u core control e) new (subst (λ t. Told t first s u core control e) begun told)) whole took
+      (subst (λ c. StaysHonest c.reader.ended s.input.held control.reader.ended u.input.held) new honest)

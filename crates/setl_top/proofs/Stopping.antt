@@ -2,7 +2,7 @@
 use Rattle.std.proofs.Common.{◌≡◌, ◌∙◌, ℕ, zero, suc, List, [], ◌∷◌, ◌++◌, map, None, Some, refl, ap, subst, sym, codes}
 use Rattle.std.specs.Prelude.{slice_get}
 use Rattle.setl_model_runs.specs.Variable.{Bound, name_of}
-use Rattle.setl_model.specs.Answers.{stop_text}
+use Rattle.setl_top_status.specs.Ends.{stop_text}
 use Rattle.setl_program.specs.declared.program.Declared.{Declared}
 use Rattle.setl_program.specs.code.Plain.{plain_variable, plain_declared}
 use Rattle.setl_machine_control.specs.Declaring.{declared_at}

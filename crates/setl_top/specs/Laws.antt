@@ -1,15 +1,16 @@
 -- Laws over the headline and the definitions under it.
 use Rattle.std.specs.Prelude.{◌≡◌, ◌↔◌, ◌⊎◌, ℕ, Bool, List, [], ◌∷◌, ◌++◌, Option, Some}
-use Rattle.setl_model.specs.Answers.{RunStatus, status_of, error_line}
 use Rattle.setl_model.specs.Ending.{Ending}
 use Rattle.setl_model_runs.specs.Events.{End, Stuck}
 use Rattle.setl_model.specs.Means.{Means}
 use Rattle.setl_program.specs.Program.{Program}
 use Rattle.setl_tree.specs.declared.tree.Tree.{Tree}
 use Rattle.setl_top.specs.Accepted.{IsProgram, Accepted, Refusal}
-use Rattle.setl_top.specs.Headline.{Moment, Headline, InputLeft, Ended, AnyRose, Answers, Job, IsToRun, IsTried, trial_output, status_for}
+use Rattle.setl_top.specs.Headline.{Headline, InputLeft, Ended, AnyRose, Answers, Job, IsToLoad, IsToRun, IsTried, trial_output}
 use Rattle.setl_top.specs.Listings.{listing_of}
+use Rattle.setl_top.specs.Outside.{Outside}
 use Rattle.setl_top.specs.Watching.{IsThere, IsNoRequest, reports_of}
+use Rattle.setl_top_status.specs.Ends.{status_of, error_line}
 use Rattle.setl_top_status.specs.declared.status.Status.{Status}
 use Rattle.setl_top_status.specs.declared.status.Status.TheVariants.{NoMemory, ReadFault, Refused}
 use Rattle.setl_top_status.specs.declared.status.Status.TheVariants as ended
@@ -17,57 +18,57 @@ use Rattle.setl_top_words.specs.Words.{Command, Check, Code, Trial, Spells, HasF
 
 -- the call failed in none of the three ways only where it came to its end
 abbrev pub IsComplete : Type 0
-IsComplete = (words : List (List ℕ)) (before after : Moment) (status : Status) →
+IsComplete = (words : List (List ℕ)) (before after : Outside) (status : Status) →
     Headline words before after status → (AnyRose before after ⊎ (status ≡ NoMemory)) ⊎ Ended words before after status
 
 -- words that are faulty or ask for a watcher that isn't there are never answered by a read fault, and the input is left as
 -- it was
 abbrev pub FaultyWordsReadNothing : Type 0
-FaultyWordsReadNothing = (words : List (List ℕ)) (before after : Moment) → IsNoRequest words before.watchers →
-    (Headline words before after ReadFault → ⊥) × (InputLeft words before after → after.input ≡ before.input)
+FaultyWordsReadNothing = (words : List (List ℕ)) (before after : Outside) → IsNoRequest words before.watchers →
+    (Headline words before after ReadFault → ⊥) × (InputLeft words before after → after.input.held ≡ before.input.held)
 
 -- exactly they end so
 abbrev pub WordsExactly : Type 0
-WordsExactly = (words : List (List ℕ)) (before : Moment) (status : Status) (out err : List ℕ) (left : Option (List ℕ)) →
+WordsExactly = (words : List (List ℕ)) (before : Outside) (status : Status) (out err : List ℕ) (left : Option (List ℕ)) →
     Answers words before status out err left → (status ≡ ended.Words) ↔ IsNoRequest words before.watchers
 
 -- the texts are told
-abbrev pub TellsTexts : Moment → (List ℕ → Option (List ℕ)) → Type 0
-TellsTexts before texts = before.texts ≡ Some texts
+abbrev pub TellsTexts : Outside → (List ℕ → Option (List ℕ)) → Type 0
+TellsTexts before texts = before.files.held ≡ Some texts
 
 abbrev pub RefusesExactly : Type 0
-RefusesExactly = (words : List (List ℕ)) (before : Moment) (texts : List ℕ → Option (List ℕ)) (command : Command) (name source line : List ℕ) (status : Status) (out err : List ℕ) (left : Option (List ℕ)) →
+RefusesExactly = (words : List (List ℕ)) (before : Outside) (texts : List ℕ → Option (List ℕ)) (command : Command) (name source line : List ℕ) (status : Status) (out err : List ℕ) (left : Option (List ℕ)) →
     TellsTexts before texts → Spells words command → HasFile command name → IsThere (watched_by command) before.watchers → texts name ≡ Some source → Refusal source line → Answers words before status out err left →
-    (status ≡ Refused) × (out ≡ []) × (err ≡ line ++ 10 ∷ []) × (left ≡ before.input)
+    (status ≡ Refused) × (out ≡ []) × (err ≡ line ++ 10 ∷ []) × (left ≡ before.input.held)
 
 -- a check is done exactly where the source is a program, and then nothing is told
 abbrev pub ChecksExactly : Type 0
-ChecksExactly = (words : List (List ℕ)) (before : Moment) (texts : List ℕ → Option (List ℕ)) (name source : List ℕ) (status : Status) (out err : List ℕ) (left : Option (List ℕ)) →
+ChecksExactly = (words : List (List ℕ)) (before : Outside) (texts : List ℕ → Option (List ℕ)) (name source : List ℕ) (status : Status) (out err : List ℕ) (left : Option (List ℕ)) →
     TellsTexts before texts → Spells words (Check name) → texts name ≡ Some source → Answers words before status out err left →
-    ((status ≡ ended.Done) ↔ ((tree : Tree) × IsProgram source tree)) × (out ≡ []) × (status ≡ ended.Done → err ≡ []) × (left ≡ before.input)
+    ((status ≡ ended.Done) ↔ ((tree : Tree) × IsProgram source tree)) × (out ≡ []) × (status ≡ ended.Done → err ≡ []) × (left ≡ before.input.held)
 
 -- A listing is done exactly where the source is a program, and what is written is the listing
 -- of that program; otherwise it is refused and writes nothing.
 abbrev pub ListsExactly : Type 0
-ListsExactly = (words : List (List ℕ)) (before : Moment) (texts : List ℕ → Option (List ℕ)) (name source : List ℕ) (status : Status) (out err : List ℕ) (left : Option (List ℕ)) →
+ListsExactly = (words : List (List ℕ)) (before : Outside) (texts : List ℕ → Option (List ℕ)) (name source : List ℕ) (status : Status) (out err : List ℕ) (left : Option (List ℕ)) →
     TellsTexts before texts → Spells words (Code name) → texts name ≡ Some source → Answers words before status out err left →
-    ((status ≡ ended.Done) ↔ ((tree : Tree) × IsProgram source tree)) × ((tree : Tree) → IsProgram source tree → (out ≡ listing_of tree) × (err ≡ [])) × ((status ≡ ended.Done) ⊎ ((status ≡ ended.Refused) × (out ≡ []))) × (left ≡ before.input)
+    ((status ≡ ended.Done) ↔ ((tree : Tree) × IsProgram source tree)) × ((tree : Tree) → IsProgram source tree → (out ≡ listing_of tree) × (err ≡ [])) × ((status ≡ ended.Done) ⊎ ((status ≡ ended.Refused) × (out ≡ []))) × (left ≡ before.input.held)
 
 -- a trial never answers a read fault
 abbrev pub TrialsReadNothing : Type 0
-TrialsReadNothing = (words : List (List ℕ)) (before after : Moment) (seed nodes : ℕ) → Spells words (Trial seed nodes) →
+TrialsReadNothing = (words : List (List ℕ)) (before after : Outside) (seed nodes : ℕ) → Spells words (Trial seed nodes) →
     Headline words before after ReadFault → ⊥
 
 -- A trial ends as the run of its program with its declarations, and writes its line where that is done.
 abbrev pub TriesExactly : Type 0
-TriesExactly = (words : List (List ℕ)) (before : Moment) (line : List ℕ) (end : End) (ending : RunStatus) (status : Status) (out err : List ℕ) (left : Option (List ℕ)) →
-    IsTried words line end → status_of end ≡ Some ending → Answers words before status out err left →
-    (status ≡ status_for ending) × (out ≡ trial_output ending line) × (err ≡ error_line end) × (left ≡ before.input)
+TriesExactly = (words : List (List ℕ)) (before : Outside) (line : List ℕ) (end : End) (status : Status) (out err : List ℕ) (left : Option (List ℕ)) →
+    IsTried words line end → Answers words before status out err left →
+    (status_of end ≡ Some status) × (out ≡ trial_output end line) × (err ≡ error_line end) × (left ≡ before.input.held)
 
 abbrev pub EndsExactly : Type 0
-EndsExactly = (words : List (List ℕ)) (before : Moment) (texts : List ℕ → Option (List ℕ)) (input : List ℕ) (job : Job) (said : List ℕ) (end : End) (ending : RunStatus) (status : Status) (out err : List ℕ) (left : Option (List ℕ)) →
-    TellsTexts before texts → before.input ≡ Some input → IsToRun words before job → (means : Means job.program job.input job.turns job.based said end) → status_of end ≡ Some ending → Answers words before status out err left →
-    (status ≡ status_for ending) × (out ≡ said) × (err ≡ reports_of job.watchers means.last.events ++ error_line end)
+EndsExactly = (words : List (List ℕ)) (before : Outside) (texts : List ℕ → Option (List ℕ)) (input : List ℕ) (job : Job) (said : List ℕ) (end : End) (status : Status) (out err : List ℕ) (left : Option (List ℕ)) →
+    TellsTexts before texts → before.input.held ≡ Some input → IsToRun words before job → (means : Means job.program job.input job.turns job.based said end) → Answers words before status out err left →
+    (status_of end ≡ Some status) × (out ≡ said) × (err ≡ reports_of job.watchers means.last.events ++ error_line end)
 
 -- every run of an accepted program ends, for every input and bound on turns, whether declarations count or not
 abbrev pub AcceptedRunsEnd : Type 0

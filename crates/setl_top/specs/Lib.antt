@@ -3,6 +3,7 @@ pub mod Moments
 pub mod Listings
 pub mod Trials
 pub mod Watching
+pub mod Outside
 pub mod Headline
 pub mod Laws
 pub mod code

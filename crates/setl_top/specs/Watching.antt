@@ -1,5 +1,5 @@
 -- The watchers of a run.
-use Rattle.std.specs.Prelude.{◌≢◌, ℕ, List, [], ◌∷◌, ◌++◌, Option, None, Some, ⊤, cond, nat_eq}
+use Rattle.std.specs.Prelude.{◌≢◌, ℕ, List, [], ◌∷◌, ◌++◌, Option, None, Some, ⊤, codes, cond, nat_eq}
 use Rattle.setl_model_runs.specs.Events.{Event}
 use Rattle.setl_watch.specs.Watches.{Watch, Watched, watched, told_all, all_reported}
 use Rattle.setl_top_options.specs.Watchers.{watcher_name}
@@ -20,6 +20,10 @@ asked_for (Some asked) ws = named (watcher_name asked) ws
 abbrev pub IsThere : Option Asked → List Watch → Type 0
 IsThere None ws = ⊤
 IsThere (Some asked) ws = named (watcher_name asked) ws ≢ []
+
+-- the line that tells that none has
+abbrev pub no_watcher_line : List ℕ
+no_watcher_line = codes "no such watcher" ++ 10 ∷ []
 
 -- the words are of no plain form, or ask for a watcher that isn't there
 abbrev pub IsNoRequest : List (List ℕ) → List Watch → Type 0

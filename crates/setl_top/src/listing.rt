@@ -1,8 +1,8 @@
 //! Listings of programs.
 ghost use Rattle.std.specs.Prelude.{◌≡◌, IfOk};
 ghost use Rattle.setl_top.specs.Listings.{listing_of};
-ghost use Rattle.setl_top_status.specs.code.Loads.{sides};
-ghost use Rattle.setl_top_status.specs.code.Writes.{Written, gain};
+ghost use Rattle.setl_top_status.specs.Seen.{seen};
+ghost use Rattle.setl_top_status.specs.code.Writes.{Written};
 ghost use Rattle.setl_top.specs.code.Lists.{Lists};
 ghost use Rattle.setl_top_rules.specs.Rules.{AreModes};
 
@@ -12,7 +12,7 @@ use crate::front::Checked;
 use crate::load::load_program;
 use setl_code_listing::listing;
 use setl_io::{Files, Sink};
-use setl_top_status::{try_line, write_text};
+use setl_top_status::{Fault, break_off, write_text};
 use std::alloc::{AllocError, Global};
 
 /// The listing of the code of the program of a source. The error is want of memory.
@@ -32,11 +32,10 @@ fn write_listing<O: Sink, E: Sink>(
     err: &mut E,
 ) -> Status
     requires { AreModes source.tree source.modes }
-    ensures { Written (listing_of source.tree) (gain (O.held out.old) (O.held out.new) (O.faults out.old) (O.faults out.new)) (E.held err.old) (E.held err.new) (E.faults err.old) (E.faults err.new) result }
+    ensures { Written (listing_of source.tree) (seen O.held O.faults out.old) (seen O.held O.faults out.new) (seen E.held E.faults err.old) (seen E.held E.faults err.new) result }
 {
     let Ok(text) = listed(alloc, source) else {
-        try_line(err, b"no memory\n");
-        return Status::NoMemory;
+        return break_off(err, Fault::NoMemory);
     };
     write_text(&text, out, err)
 }
@@ -49,7 +48,7 @@ pub fn list_file<F: Files, O: Sink, E: Sink>(
     out: &mut O,
     err: &mut E,
 ) -> Status
-    ensures { Lists (F.texts files.old) name.now (sides (F.faults files.old) (F.faults files.new) (E.held err.old) (E.held err.new) (E.faults err.old) (E.faults err.new)) (gain (O.held out.old) (O.held out.new) (O.faults out.old) (O.faults out.new)) result }
+    ensures { Lists name.now (seen F.texts F.faults files.old) (seen F.texts F.faults files.new) (seen O.held O.faults out.old) (seen O.held O.faults out.new) (seen E.held E.faults err.old) (seen E.held E.faults err.new) result }
 {
     let source = match load_program(alloc, name, files, err) {
         Ok(source) => source,

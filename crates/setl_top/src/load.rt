@@ -1,6 +1,7 @@
 //! Sources that are loaded and read.
 ghost use Rattle.std.specs.Prelude.{IfOk, IfErr, OnOk};
-ghost use Rattle.setl_top_status.specs.code.Loads.{IsStill, sides};
+ghost use Rattle.setl_top_status.specs.Seen.{seen};
+ghost use Rattle.setl_top_status.specs.code.Loads.{IsStill};
 ghost use Rattle.setl_top.specs.code.Loads.{Loaded, LoadedAs, NotLoaded, Checks};
 ghost use Rattle.setl_top_rules.specs.Rules.{AreModes};
 ghost use Rattle.setl_program.specs.code.Plain.{plain_program};
@@ -10,7 +11,7 @@ use crate::coding::program_of_source;
 use crate::front::{Checked, Unread, read_program};
 use setl_io::{Files, Sink};
 use setl_program::Program;
-use setl_top_status::{load_source, refuse, try_line};
+use setl_top_status::{Fault, break_off, load_source, refuse};
 use std::alloc::Global;
 
 /// Loads the program of a file. At `Err` the last line was told.
@@ -22,8 +23,8 @@ pub fn load_program<F: Files, E: Sink>(
 ) -> Result<Checked, Status>
     ensures loaded { IfOk result (λ checked. Loaded (F.texts files.old) name.now checked.tree) }
     ensures modes { IfOk result (λ checked. AreModes checked.tree checked.modes) }
-    ensures still { OnOk result (IsStill (sides (F.faults files.old) (F.faults files.new) (E.held err.old) (E.held err.new) (E.faults err.old) (E.faults err.new))) }
-    ensures not_loaded { IfErr result (NotLoaded (F.texts files.old) name.now (sides (F.faults files.old) (F.faults files.new) (E.held err.old) (E.held err.new) (E.faults err.old) (E.faults err.new))) }
+    ensures still { OnOk result (IsStill (seen F.texts F.faults files.old) (seen F.texts F.faults files.new) (seen E.held E.faults err.old) (seen E.held E.faults err.new)) }
+    ensures not_loaded { IfErr result (NotLoaded name.now (seen F.texts F.faults files.old) (seen F.texts F.faults files.new) (seen E.held E.faults err.old) (seen E.held E.faults err.new)) }
 {
     let source = match load_source(alloc, name, files, err) {
         Ok(source) => source,
@@ -32,10 +33,7 @@ pub fn load_program<F: Files, E: Sink>(
     let checked = match read_program(alloc, &source) {
         Ok(checked) => checked,
         Err(Unread::Refused(reason)) => return Err(refuse(alloc, err, reason)),
-        Err(Unread::NoMemory) => {
-            try_line(err, b"no memory\n");
-            return Err(Status::NoMemory);
-        }
+        Err(Unread::NoMemory) => return Err(break_off(err, Fault::NoMemory)),
     };
     Ok(checked)
 }
@@ -48,8 +46,8 @@ pub fn load_resolved<F: Files, E: Sink>(
     err: &mut E,
 ) -> Result<Program, Status>
     ensures loaded { IfOk result (λ program. LoadedAs (F.texts files.old) name.now (plain_program program)) }
-    ensures still { OnOk result (IsStill (sides (F.faults files.old) (F.faults files.new) (E.held err.old) (E.held err.new) (E.faults err.old) (E.faults err.new))) }
-    ensures not_loaded { IfErr result (NotLoaded (F.texts files.old) name.now (sides (F.faults files.old) (F.faults files.new) (E.held err.old) (E.held err.new) (E.faults err.old) (E.faults err.new))) }
+    ensures still { OnOk result (IsStill (seen F.texts F.faults files.old) (seen F.texts F.faults files.new) (seen E.held E.faults err.old) (seen E.held E.faults err.new)) }
+    ensures not_loaded { IfErr result (NotLoaded name.now (seen F.texts F.faults files.old) (seen F.texts F.faults files.new) (seen E.held E.faults err.old) (seen E.held E.faults err.new)) }
 {
     let source = match load_program(alloc, name, files, err) {
         Ok(source) => source,
@@ -57,10 +55,7 @@ pub fn load_resolved<F: Files, E: Sink>(
     };
     match program_of_source(alloc, source) {
         Ok(program) => Ok(program),
-        Err(_) => {
-            try_line(err, b"no memory\n");
-            Err(Status::NoMemory)
-        }
+        Err(_) => Err(break_off(err, Fault::NoMemory)),
     }
 }
 
@@ -71,7 +66,7 @@ pub fn check_file<F: Files, E: Sink>(
     files: &mut F,
     err: &mut E,
 ) -> Status
-    ensures { Checks (F.texts files.old) name.now (sides (F.faults files.old) (F.faults files.new) (E.held err.old) (E.held err.new) (E.faults err.old) (E.faults err.new)) result }
+    ensures { Checks name.now (seen F.texts F.faults files.old) (seen F.texts F.faults files.new) (seen E.held E.faults err.old) (seen E.held E.faults err.new) result }
 {
     let _source = match load_program(alloc, name, files, err) {
         Ok(source) => source,

@@ -6,6 +6,7 @@ ghost use Rattle.setl_machine_control.specs.Declaring.{IsBare, AreOfMain};
 ghost use Rattle.setl_program.specs.code.Plain.{plain_declared, plain_program};
 ghost use Rattle.setl_top.specs.code.CodeRuns.{RunsCode};
 ghost use Rattle.setl_top.specs.code.Runs.{IsMeant, Runs, TakesInput, counted, streams};
+ghost use Rattle.setl_top_status.specs.Seen.{seen};
 ghost use Rattle.setl_watch.specs.Watches.{watched};
 ghost use Rattle.setl_top_words.specs.code.Commands.{options_now};
 
@@ -43,7 +44,7 @@ fn run_code<I: Source, O: Sink>(
     requires bare { IsBare (plain_code code.now) }
     requires main { AreOfMain (map plain_declared declared.now) }
     requires turns { turns < 2 ^ 63 }
-    ensures ran { IfOk result (RunsCode (plain_code code.now) (map plain_declared declared.now) turns (streams (I.left input.old) (I.left input.new) (I.faults input.old) (I.faults input.new) (O.held out.old) (O.held out.new) (O.faults out.old) (O.faults out.new) (watched (map (λ w. watch w) watchers.old.items) reports.old.items) (watched (map (λ w. watch w) watchers.new.items) reports.new.items))) }
+    ensures ran { IfOk result (RunsCode (plain_code code.now) (map plain_declared declared.now) turns (streams (seen I.left I.faults input.old) (seen O.held O.faults out.old) (watched (map (λ w. watch w) watchers.old.items) reports.old.items)) (streams (seen I.left I.faults input.new) (seen O.held O.faults out.new) (watched (map (λ w. watch w) watchers.new.items) reports.new.items))) }
     ensures input { OnErr result (I.left input.new ≡ I.left input.old) }
     ensures out { OnErr result (O.held out.new ≡ O.held out.old) }
 {
@@ -74,8 +75,8 @@ pub fn run_program<I: Source, O: Sink>(
 ) -> Result<End, AllocError>
     requires meant { IsMeant (plain_program program.now) }
     requires turns { asked.turns < 2 ^ 63 }
-    ensures ran { IfOk result (Runs (plain_program program.now) (options_now asked) (streams (I.left input.old) (I.left input.new) (I.faults input.old) (I.faults input.new) (O.held out.old) (O.held out.new) (O.faults out.old) (O.faults out.new) (watched (map (λ w. watch w) watchers.old.items) reports.old.items) (watched (map (λ w. watch w) watchers.new.items) reports.new.items))) }
-    ensures input { TakesInput (plain_program program.now) (options_now asked) (streams (I.left input.old) (I.left input.new) (I.faults input.old) (I.faults input.new) (O.held out.old) (O.held out.new) (O.faults out.old) (O.faults out.new) (watched (map (λ w. watch w) watchers.old.items) reports.old.items) (watched (map (λ w. watch w) watchers.new.items) reports.new.items)) }
+    ensures ran { IfOk result (Runs (plain_program program.now) (options_now asked) (streams (seen I.left I.faults input.old) (seen O.held O.faults out.old) (watched (map (λ w. watch w) watchers.old.items) reports.old.items)) (streams (seen I.left I.faults input.new) (seen O.held O.faults out.new) (watched (map (λ w. watch w) watchers.new.items) reports.new.items))) }
+    ensures input { TakesInput (plain_program program.now) (options_now asked) (streams (seen I.left I.faults input.old) (seen O.held O.faults out.old) (watched (map (λ w. watch w) watchers.old.items) reports.old.items)) (streams (seen I.left I.faults input.new) (seen O.held O.faults out.new) (watched (map (λ w. watch w) watchers.new.items) reports.new.items)) }
     ensures out { OnErr result (O.held out.new ≡ O.held out.old) }
 {
     setl_program_laws::accepted_is_formed();

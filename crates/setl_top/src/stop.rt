@@ -1,7 +1,7 @@
 //! Why a run stops, and the line that tells it.
 ghost use Rattle.std.specs.Prelude.{◌≡◌, ◌++◌, [], map, slice_get, Some, None, IfSome, IfNone, IfOk};
 ghost use Rattle.setl_model_runs.specs.Events.{Stopped};
-ghost use Rattle.setl_model.specs.Answers.{stop_text, error_line};
+ghost use Rattle.setl_top_status.specs.Ends.{stop_text, error_line};
 ghost use Rattle.setl_machine_control.specs.Answers.{kind_of};
 ghost use Rattle.setl_program.specs.code.Plain.{plain_declared, plain_variable};
 ghost use Rattle.setl_model_runs.specs.Variable.{name_of};

@@ -1,9 +1,10 @@
 //! What the error output gains at the end of a call.
 ghost use Rattle.std.specs.Prelude.{◌≡◌, ◌++◌, List, ℕ, map, string_bytes, IfOk};
 ghost use Rattle.setl_machine_control.specs.Answers.{kind_of};
-ghost use Rattle.setl_model.specs.Answers.{error_line};
 ghost use Rattle.setl_program.specs.code.Plain.{plain_declared};
 ghost use Rattle.setl_model_runs.specs.Events.{Stopped};
+ghost use Rattle.setl_top_status.specs.Ends.{error_line};
+ghost use Rattle.setl_top_status.specs.Seen.{seen};
 ghost use Rattle.setl_top_status.specs.code.Tells.{Tells};
 ghost use Rattle.setl_top.specs.code.Tells.{TellsEnd};
 ghost use Rattle.setl_top.specs.Watching.{all_told};
@@ -16,7 +17,7 @@ use crate::watching::all_told;
 use setl_io::Sink;
 use setl_machine::{End, StopKind};
 use setl_program::Declared;
-use setl_top_status::{tell, tell_made, try_line};
+use setl_top_status::{Fault, break_off, tell, tell_made};
 use setl_top_words::fault_text;
 use setl_watch::Watcher;
 use std::alloc::{AllocError, Global};
@@ -34,7 +35,7 @@ pub fn tell_end<E: Sink>(
 ) -> Status
     requires paused { ¬ (end ≡ End.Paused) }
     requires stuck { ¬ (end ≡ End.Stuck) }
-    ensures told { TellsEnd (map plain_declared declared.now) (watched (map (λ w. watch w) watchers.now) reports.items) end (E.held err.old) (E.held err.new) (E.faults err.old) (E.faults err.new) result }
+    ensures told { TellsEnd (map plain_declared declared.now) (watched (map (λ w. watch w) watchers.now) reports.items) end (seen E.held E.faults err.old) (seen E.held E.faults err.new) result }
 {
     match end {
         End::Done => tell_made(err, all_told(watchers, reports, b""), Status::Done),
@@ -48,18 +49,9 @@ pub fn tell_end<E: Sink>(
             all_told(watchers, reports, b"out of turns\n"),
             Status::Spent,
         ),
-        End::ReadFault => {
-            try_line(err, b"read fault\n");
-            Status::ReadFault
-        }
-        End::WriteFault => {
-            try_line(err, b"write fault\n");
-            Status::WriteFault
-        }
-        End::NoMemory => {
-            try_line(err, b"no memory\n");
-            Status::NoMemory
-        }
+        End::ReadFault => break_off(err, Fault::Read),
+        End::WriteFault => break_off(err, Fault::Write),
+        End::NoMemory => break_off(err, Fault::NoMemory),
         End::Paused | End::Stuck => unreachable!(),
     }
 }
@@ -82,13 +74,10 @@ fn told_stop(
 
 /// Tells what is to be told of words that are of no plain form.
 pub fn tell_faulty<E: Sink>(alloc: Global, words: &[String], err: &mut E) -> Status
-    ensures told { (text : List ℕ) × TellsFaulty (map string_bytes words.now) text × Tells Status.Words text (E.held err.old) (E.held err.new) (E.faults err.old) (E.faults err.new) result }
+    ensures told { (text : List ℕ) × TellsFaulty (map string_bytes words.now) text × Tells Status.Words text (seen E.held E.faults err.old) (seen E.held E.faults err.new) result }
 {
     match fault_text(alloc, words) {
         Ok(text) => tell(err, text.as_bytes(), Status::Words),
-        Err(_) => {
-            try_line(err, b"no memory\n");
-            Status::NoMemory
-        }
+        Err(_) => break_off(err, Fault::NoMemory),
     }
 }

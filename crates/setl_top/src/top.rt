@@ -1,7 +1,9 @@
 //! The program as one call.
 ghost use Rattle.std.specs.Prelude.{◌≡◌, ℕ, ◌<◌, ◌^◌, List, map, string_bytes};
-ghost use Rattle.setl_top.specs.Headline.{Headline, InputLeft, CheckLeavesRest, ListingLeavesInput, TrialLeavesFilesAndInput, moment};
+ghost use Rattle.setl_top.specs.Headline.{Headline, InputLeft, CheckLeavesRest, ListingLeavesInput, TrialLeavesFilesAndInput};
+ghost use Rattle.setl_top.specs.Outside.{outside};
 ghost use Rattle.setl_top.specs.Watching.{asked_for, IsThere};
+ghost use Rattle.setl_top_status.specs.Seen.{seen};
 ghost use Rattle.setl_watch.specs.Watches.{Watch};
 ghost use Rattle.setl_top_words.specs.code.Commands.{options_now};
 ghost use Rattle.setl_top_words.specs.Words.{Run, Spells};
@@ -53,16 +55,21 @@ pub fn setl<F: Files, I: Source, O: Sink, E: Sink>(
     out: &mut O,
     err: &mut E,
 ) -> Status
-    ensures headline { let seen = moment (map (λ w. watch w) watchers.items) F.texts F.faults I.left I.faults O.held O.faults E.held E.faults in
-        Headline (map string_bytes words.now) (seen files.old input.old out.old err.old) (seen files.new input.new out.new err.new) result }
-    ensures input { let seen = moment (map (λ w. watch w) watchers.items) F.texts F.faults I.left I.faults O.held O.faults E.held E.faults in
-        InputLeft (map string_bytes words.now) (seen files.old input.old out.old err.old) (seen files.new input.new out.new err.new) }
-    ensures rest { let seen = moment (map (λ w. watch w) watchers.items) F.texts F.faults I.left I.faults O.held O.faults E.held E.faults in
-        CheckLeavesRest (map string_bytes words.now) (seen files.old input.old out.old err.old) (seen files.new input.new out.new err.new) }
-    ensures listing { let seen = moment (map (λ w. watch w) watchers.items) F.texts F.faults I.left I.faults O.held O.faults E.held E.faults in
-        ListingLeavesInput (map string_bytes words.now) (seen files.old input.old out.old err.old) (seen files.new input.new out.new err.new) }
-    ensures trial { let seen = moment (map (λ w. watch w) watchers.items) F.texts F.faults I.left I.faults O.held O.faults E.held E.faults in
-        TrialLeavesFilesAndInput (map string_bytes words.now) (seen files.old input.old out.old err.old) (seen files.new input.new out.new err.new) }
+    ensures headline { let before = outside (map (λ w. watch w) watchers.items) (seen F.texts F.faults files.old) (seen I.left I.faults input.old) (seen O.held O.faults out.old) (seen E.held E.faults err.old) in
+        let after = outside (map (λ w. watch w) watchers.items) (seen F.texts F.faults files.new) (seen I.left I.faults input.new) (seen O.held O.faults out.new) (seen E.held E.faults err.new) in
+        Headline (map string_bytes words.now) before after result }
+    ensures input { let before = outside (map (λ w. watch w) watchers.items) (seen F.texts F.faults files.old) (seen I.left I.faults input.old) (seen O.held O.faults out.old) (seen E.held E.faults err.old) in
+        let after = outside (map (λ w. watch w) watchers.items) (seen F.texts F.faults files.new) (seen I.left I.faults input.new) (seen O.held O.faults out.new) (seen E.held E.faults err.new) in
+        InputLeft (map string_bytes words.now) before after }
+    ensures rest { let before = outside (map (λ w. watch w) watchers.items) (seen F.texts F.faults files.old) (seen I.left I.faults input.old) (seen O.held O.faults out.old) (seen E.held E.faults err.old) in
+        let after = outside (map (λ w. watch w) watchers.items) (seen F.texts F.faults files.new) (seen I.left I.faults input.new) (seen O.held O.faults out.new) (seen E.held E.faults err.new) in
+        CheckLeavesRest (map string_bytes words.now) before after }
+    ensures listing { let before = outside (map (λ w. watch w) watchers.items) (seen F.texts F.faults files.old) (seen I.left I.faults input.old) (seen O.held O.faults out.old) (seen E.held E.faults err.old) in
+        let after = outside (map (λ w. watch w) watchers.items) (seen F.texts F.faults files.new) (seen I.left I.faults input.new) (seen O.held O.faults out.new) (seen E.held E.faults err.new) in
+        ListingLeavesInput (map string_bytes words.now) before after }
+    ensures trial { let before = outside (map (λ w. watch w) watchers.items) (seen F.texts F.faults files.old) (seen I.left I.faults input.old) (seen O.held O.faults out.old) (seen E.held E.faults err.old) in
+        let after = outside (map (λ w. watch w) watchers.items) (seen F.texts F.faults files.new) (seen I.left I.faults input.new) (seen O.held O.faults out.new) (seen E.held E.faults err.new) in
+        TrialLeavesFilesAndInput (map string_bytes words.now) before after }
 {
     match read_words(words) {
         Some(Command::Run(asked, name)) => {
@@ -87,10 +94,12 @@ fn run_asked<F: Files, I: Source, O: Sink, E: Sink>(
     err: &mut E,
 ) -> Status
     requires { asked.turns < 2 ^ 63 }
-    ensures headline { let seen = moment (map (λ w. watch w) watchers.items) F.texts F.faults I.left I.faults O.held O.faults E.held E.faults in
-        (words : List (List ℕ)) → Spells words (Run (options_now asked) name.now) → Headline words (seen files.old input.old out.old err.old) (seen files.new input.new out.new err.new) result }
-    ensures input { let seen = moment (map (λ w. watch w) watchers.items) F.texts F.faults I.left I.faults O.held O.faults E.held E.faults in
-        (words : List (List ℕ)) → Spells words (Run (options_now asked) name.now) → InputLeft words (seen files.old input.old out.old err.old) (seen files.new input.new out.new err.new) }
+    ensures headline { let before = outside (map (λ w. watch w) watchers.items) (seen F.texts F.faults files.old) (seen I.left I.faults input.old) (seen O.held O.faults out.old) (seen E.held E.faults err.old) in
+        let after = outside (map (λ w. watch w) watchers.items) (seen F.texts F.faults files.new) (seen I.left I.faults input.new) (seen O.held O.faults out.new) (seen E.held E.faults err.new) in
+        (words : List (List ℕ)) → Spells words (Run (options_now asked) name.now) → Headline words before after result }
+    ensures input { let before = outside (map (λ w. watch w) watchers.items) (seen F.texts F.faults files.old) (seen I.left I.faults input.old) (seen O.held O.faults out.old) (seen E.held E.faults err.old) in
+        let after = outside (map (λ w. watch w) watchers.items) (seen F.texts F.faults files.new) (seen I.left I.faults input.new) (seen O.held O.faults out.new) (seen E.held E.faults err.new) in
+        (words : List (List ℕ)) → Spells words (Run (options_now asked) name.now) → InputLeft words before after }
 {
     let mut watchers = watchers;
     if !keep_asked(&mut watchers, asked.watch) {
@@ -111,10 +120,12 @@ fn run_file<F: Files, I: Source, O: Sink, E: Sink>(
     err: &mut E,
 ) -> Status
     requires { asked.turns < 2 ^ 63 }
-    ensures headline { (words : List (List ℕ)) (handed : List Watch) → let seen = moment handed F.texts F.faults I.left I.faults O.held O.faults E.held E.faults in
-        Spells words (Run (options_now asked) name.now) → IsThere asked.watch handed → map (λ w. watch w) watchers.old.items ≡ asked_for asked.watch handed → Headline words (seen files.old input.old out.old err.old) (seen files.new input.new out.new err.new) result }
-    ensures input { (words : List (List ℕ)) (handed : List Watch) → let seen = moment handed F.texts F.faults I.left I.faults O.held O.faults E.held E.faults in
-        Spells words (Run (options_now asked) name.now) → IsThere asked.watch handed → map (λ w. watch w) watchers.old.items ≡ asked_for asked.watch handed → InputLeft words (seen files.old input.old out.old err.old) (seen files.new input.new out.new err.new) }
+    ensures headline { (words : List (List ℕ)) (handed : List Watch) → let before = outside handed (seen F.texts F.faults files.old) (seen I.left I.faults input.old) (seen O.held O.faults out.old) (seen E.held E.faults err.old) in
+        let after = outside handed (seen F.texts F.faults files.new) (seen I.left I.faults input.new) (seen O.held O.faults out.new) (seen E.held E.faults err.new) in
+        Spells words (Run (options_now asked) name.now) → IsThere asked.watch handed → map (λ w. watch w) watchers.old.items ≡ asked_for asked.watch handed → Headline words before after result }
+    ensures input { (words : List (List ℕ)) (handed : List Watch) → let before = outside handed (seen F.texts F.faults files.old) (seen I.left I.faults input.old) (seen O.held O.faults out.old) (seen E.held E.faults err.old) in
+        let after = outside handed (seen F.texts F.faults files.new) (seen I.left I.faults input.new) (seen O.held O.faults out.new) (seen E.held E.faults err.new) in
+        Spells words (Run (options_now asked) name.now) → IsThere asked.watch handed → map (λ w. watch w) watchers.old.items ≡ asked_for asked.watch handed → InputLeft words before after }
 {
     let program = match load_resolved(alloc, name, files, err) {
         Ok(program) => program,

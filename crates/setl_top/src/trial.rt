@@ -3,7 +3,8 @@ ghost use Rattle.std.specs.Prelude.{◌≡◌, ◌≤◌, ◌↔◌, true, IsTru
 ghost use Rattle.setl_program.specs.code.Plain.{plain_program};
 ghost use Rattle.setl_top.specs.Accepted.{Accepted};
 ghost use Rattle.setl_top.specs.Trials.{trial_source, trial_input, trial_line};
-ghost use Rattle.setl_top_status.specs.code.Writes.{Written, gain};
+ghost use Rattle.setl_top_status.specs.Seen.{seen};
+ghost use Rattle.setl_top_status.specs.code.Writes.{Written};
 ghost use Rattle.setl_top.specs.code.Runs.{IsMeant};
 ghost use Rattle.setl_top.specs.code.Tries.{RunEnds, Tries};
 
@@ -16,7 +17,7 @@ use crate::tell::tell_end;
 use setl_io::{Sink, SureSink, SureSource};
 use setl_machine::End;
 use setl_program::Program;
-use setl_top_status::{refuse, try_line, write_text};
+use setl_top_status::{Fault, break_off, refuse, write_text};
 use setl_top_words::Options;
 use std::alloc::{AllocError, Global};
 
@@ -108,11 +109,10 @@ fn write_trial<O: Sink, E: Sink>(
     out: &mut O,
     err: &mut E,
 ) -> Status
-    ensures { Written (trial_line seed nodes printed.now) (gain (O.held out.old) (O.held out.new) (O.faults out.old) (O.faults out.new)) (E.held err.old) (E.held err.new) (E.faults err.old) (E.faults err.new) result }
+    ensures { Written (trial_line seed nodes printed.now) (seen O.held O.faults out.old) (seen O.held O.faults out.new) (seen E.held E.faults err.old) (seen E.held E.faults err.new) result }
 {
     let Ok(line) = trial_line(alloc, seed, nodes, printed) else {
-        try_line(err, b"no memory\n");
-        return Status::NoMemory;
+        return break_off(err, Fault::NoMemory);
     };
     write_text(&line, out, err)
 }
@@ -129,7 +129,7 @@ fn tell_trial<O: Sink, E: Sink>(
 ) -> Status
     requires accepted { Accepted trial_source (plain_program program.now) }
     requires ran { RunEnds (plain_program program.now) (trial_input seed nodes) true run.printed run.end }
-    ensures { Tries seed nodes (gain (O.held out.old) (O.held out.new) (O.faults out.old) (O.faults out.new)) (E.held err.old) (E.held err.new) (E.faults err.old) (E.faults err.new) result }
+    ensures { Tries seed nodes (seen O.held O.faults out.old) (seen O.held O.faults out.new) (seen E.held E.faults err.old) (seen E.held E.faults err.new) result }
 {
     if is_done(run.end) {
         return write_trial(alloc, seed, nodes, run.printed.held(), out, err);
@@ -150,14 +150,11 @@ fn try_program<O: Sink, E: Sink>(
     requires accepted { Accepted trial_source (plain_program program.now) }
     requires some { 1 ≤ nodes }
     requires few { nodes ≤ 2000 }
-    ensures { Tries seed nodes (gain (O.held out.old) (O.held out.new) (O.faults out.old) (O.faults out.new)) (E.held err.old) (E.held err.new) (E.faults err.old) (E.faults err.new) result }
+    ensures { Tries seed nodes (seen O.held O.faults out.old) (seen O.held O.faults out.new) (seen E.held E.faults err.old) (seen E.held E.faults err.new) result }
 {
     match run_twice(alloc, program, seed, nodes) {
         Ok(run) => tell_trial(alloc, program, seed, nodes, run, out, err),
-        Err(_) => {
-            try_line(err, b"no memory\n");
-            Status::NoMemory
-        }
+        Err(_) => break_off(err, Fault::NoMemory),
     }
 }
 
@@ -172,21 +169,15 @@ pub fn run_trial<O: Sink, E: Sink>(
 ) -> Status
     requires some { 1 ≤ nodes }
     requires few { nodes ≤ 2000 }
-    ensures { Tries seed nodes (gain (O.held out.old) (O.held out.new) (O.faults out.old) (O.faults out.new)) (E.held err.old) (E.held err.new) (E.faults err.old) (E.faults err.new) result }
+    ensures { Tries seed nodes (seen O.held O.faults out.old) (seen O.held O.faults out.new) (seen E.held E.faults err.old) (seen E.held E.faults err.new) result }
 {
     let source = match read_program(alloc, trial_source()) {
         Ok(source) => source,
         Err(Unread::Refused(reason)) => return refuse(alloc, err, reason),
-        Err(Unread::NoMemory) => {
-            try_line(err, b"no memory\n");
-            return Status::NoMemory;
-        }
+        Err(Unread::NoMemory) => return break_off(err, Fault::NoMemory),
     };
     match program_of_source(alloc, source) {
         Ok(program) => try_program(alloc, &program, seed, nodes, out, err),
-        Err(_) => {
-            try_line(err, b"no memory\n");
-            Status::NoMemory
-        }
+        Err(_) => break_off(err, Fault::NoMemory),
     }
 }

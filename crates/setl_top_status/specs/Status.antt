@@ -1,5 +1,7 @@
--- The numbers of statuses.
+-- Statuses.
 use Rattle.std.specs.Prelude.{ℕ}
+use Rattle.setl_top_status.specs.declared.fault.Fault.{Fault}
+use Rattle.setl_top_status.specs.declared.fault.Fault.TheVariants as fault
 use Rattle.setl_top_status.specs.declared.status.Status.{Status}
 use Rattle.setl_top_status.specs.declared.status.Status.TheVariants.{Done, Refused, Words, Stopped, Spent, ReadFault, WriteFault, NoMemory}
 
@@ -13,3 +15,9 @@ status_number Spent = 4
 status_number ReadFault = 5
 status_number WriteFault = 6
 status_number NoMemory = 7
+
+-- the status of a call that is broken off
+abbrev pub fault_status : Fault → Status
+fault_status fault.Read = ReadFault
+fault_status fault.Write = WriteFault
+fault_status fault.NoMemory = NoMemory

@@ -1,16 +1,21 @@
 //! How a call of the program ends: its status, and what it loads and writes on the way there.
 //!
 //! `load_source` loads the text of a file, `write_text` writes to the output, and `tell` and `refuse` write the last line.
-//! Each gives the status with which the call ends where it fails, and has then tried the line of that fault.
+//! Each gives the status with which the call ends where it fails, and has then tried the line of that fault, as
+//! `break_off` does.
 #![tactic(auto)]
 
+mod fault;
+mod laws;
 mod lines;
 mod reason;
 mod status;
 mod telling;
 mod texts;
 
-pub use lines::try_line;
+pub use fault::Fault;
+pub use laws::worked_lines;
+pub use lines::break_off;
 pub use reason::{Reason, at_line, push_number};
 pub use status::Status;
 pub use telling::{refuse, tell, tell_made};

@@ -1,12 +1,13 @@
 //! The text of a source that is loaded, and a text that is written.
 ghost use Rattle.std.specs.Prelude.{IfOk, IfErr, OnOk};
-ghost use Rattle.setl_top_status.specs.code.Loads.{HasText, IsStill, NoText, sides};
-ghost use Rattle.setl_top_status.specs.code.Writes.{Written, gain};
+ghost use Rattle.setl_top_status.specs.Seen.{seen};
+ghost use Rattle.setl_top_status.specs.code.Loads.{HasText, IsStill, NoText};
+ghost use Rattle.setl_top_status.specs.code.Writes.{Written};
 
-use crate::Status;
-use crate::lines::try_line;
+use crate::lines::break_off;
 use crate::reason::Reason;
 use crate::telling::refuse;
+use crate::{Fault, Status};
 use setl_io::{Files, Load, Sink, WriteFault, write_all};
 use std::alloc::Global;
 
@@ -21,37 +22,25 @@ pub fn load_source<F: Files, E: Sink>(
     err: &mut E,
 ) -> Result<Vec<u8>, Status>
     ensures loaded { IfOk result (λ source. HasText (F.texts files.old) name.now source.items) }
-    ensures still { OnOk result (IsStill (sides (F.faults files.old) (F.faults files.new) (E.held err.old) (E.held err.new) (E.faults err.old) (E.faults err.new))) }
-    ensures not_loaded { IfErr result (NoText (F.texts files.old) name.now (sides (F.faults files.old) (F.faults files.new) (E.held err.old) (E.held err.new) (E.faults err.old) (E.faults err.new))) }
+    ensures still { OnOk result (IsStill (seen F.texts F.faults files.old) (seen F.texts F.faults files.new) (seen E.held E.faults err.old) (seen E.held E.faults err.new)) }
+    ensures not_loaded { IfErr result (NoText name.now (seen F.texts F.faults files.old) (seen F.texts F.faults files.new) (seen E.held E.faults err.old) (seen E.held E.faults err.new)) }
 {
     let mut source = Vec::new(alloc);
     match files.load(name, MAX_SOURCE, &mut source) {
         Load::Loaded => Ok(source),
         Load::TooLong => Err(refuse(alloc, err, Reason::TooLong)),
-        Load::Failed => {
-            try_line(err, b"read fault\n");
-            Err(Status::ReadFault)
-        }
-        Load::NoMemory => {
-            try_line(err, b"no memory\n");
-            Err(Status::NoMemory)
-        }
+        Load::Failed => Err(break_off(err, Fault::Read)),
+        Load::NoMemory => Err(break_off(err, Fault::NoMemory)),
     }
 }
 
 /// Writes a text to the output. Where that fails, the fault's line was tried.
 pub fn write_text<O: Sink, E: Sink>(text: &[u8], out: &mut O, err: &mut E) -> Status
-    ensures { Written text.now (gain (O.held out.old) (O.held out.new) (O.faults out.old) (O.faults out.new)) (E.held err.old) (E.held err.new) (E.faults err.old) (E.faults err.new) result }
+    ensures { Written text.now (seen O.held O.faults out.old) (seen O.held O.faults out.new) (seen E.held E.faults err.old) (seen E.held E.faults err.new) result }
 {
     match write_all(out, text) {
         Ok(()) => Status::Done,
-        Err(WriteFault::Failed) => {
-            try_line(err, b"write fault\n");
-            Status::WriteFault
-        }
-        Err(WriteFault::NoMemory) => {
-            try_line(err, b"no memory\n");
-            Status::NoMemory
-        }
+        Err(WriteFault::Failed) => break_off(err, Fault::Write),
+        Err(WriteFault::NoMemory) => break_off(err, Fault::NoMemory),
     }
 }

@@ -13,22 +13,19 @@ use Rattle.setl_top.specs.Headline.{IsInput, IsLeft}
 use Rattle.setl_top.specs.code.Runs.{Streams}
 
 -- what the machine's contract sees of the output and the input
-abbrev pub seen_before : Streams → Seen
-seen_before s = seen s.old s.out_before s.input_before
-
-abbrev pub seen_now : Streams → Seen
-seen_now s = seen s.new s.out_now s.input_now
+abbrev pub seen_of : Streams → Seen
+seen_of s = seen s.output.held s.output.faults s.input.faults
 
 -- From its first state the machine did some steps of the code on this input, and ended so. What it left of the input and
 -- what it keeps of it is what the last state has.
-pub record RunsCode (c : Code) (modes : Modes) (turns : ℕ) (s : Streams) (e : End) : Type 0 where
+pub record RunsCode (c : Code) (modes : Modes) (turns : ℕ) (before after : Streams) (e : End) : Type 0 where
   pub input : List ℕ
-  pub known : IsInput s.input input
+  pub known : IsInput before.input.held input
   pub steps : ℕ
   pub last : CodeCore
-  pub ran : Ran modes c steps (code_first c input turns).core (seen_before s) (seen_now s) last e
-  pub reads : ReadsOnly modes c steps (code_first c input turns).core s.old s.new s.input s.left
-  pub left : IsLeft s.input s.left last.world.input
-  pub took : TakesOff s.input s.left
+  pub ran : Ran modes c steps (code_first c input turns).core (seen_of before) (seen_of after) last e
+  pub reads : ReadsOnly modes c steps (code_first c input turns).core before.output.held after.output.held before.input.held after.input.held
+  pub left : IsLeft before.input.held after.input.held last.world.input
+  pub took : TakesOff before.input.held after.input.held
   pub whole : ¬ (e ≡ end.Paused)
-  pub heard : Hears modes c steps (code_first c input turns).core s.watchers s.heard e
+  pub heard : Hears modes c steps (code_first c input turns).core before.watchers after.watchers e

@@ -1,19 +1,21 @@
 -- What becomes of a source.
-use Rattle.std.specs.Prelude.{◌≡◌, ℕ, List, [], ◌∷◌, ◌++◌, codes}
+use Rattle.std.specs.Prelude.{◌≡◌, ℕ, List, [], ◌∷◌, ◌++◌}
 use Rattle.setl_io.specs.Faults.{Rose}
 use Rattle.setl_io.specs.Files.{Texts, IsText}
 use Rattle.setl_program.specs.Program.{Program}
 use Rattle.setl_program.specs.ProgramOf.{program_of}
 use Rattle.setl_tree.specs.declared.tree.Tree.{Tree}
 use Rattle.setl_top.specs.Accepted.{IsProgram, IsRefusedFor}
-use Rattle.setl_top_status.specs.Lines.{AppendsFront}
-use Rattle.setl_top_status.specs.code.Loads.{Sides, IsStill}
+use Rattle.setl_top_status.specs.Lines.{AppendsFront, fault_line}
+use Rattle.setl_top_status.specs.Seen.{Seen}
+use Rattle.setl_top_status.specs.code.Loads.{SeenFiles, IsStill}
 use Rattle.setl_top_status.specs.Reasons.{reason_line}
 use Rattle.setl_top_status.specs.code.Tells.{Tells}
 use Rattle.setl_top_rules.specs.Rules.{AreModes}
 use Rattle.setl_top.specs.declared.front.Checked.{Checked}
 use Rattle.setl_top.specs.declared.front.Unread.{Unread}
 use Rattle.setl_top.specs.declared.front.Unread.TheVariants as unread
+use Rattle.setl_top_status.specs.declared.fault.Fault.TheVariants as fault
 use Rattle.setl_top_status.specs.declared.reason.Reason.{Reason}
 use Rattle.setl_top_status.specs.declared.status.Status.{Status}
 use Rattle.setl_top_status.specs.declared.status.Status.TheVariants as status
@@ -40,13 +42,14 @@ pub record LoadedAs (texts : Texts) (name : List ℕ) (program : Program) : Type
   pub loaded : Loaded texts name tree
   pub meaning : program ≡ program_of tree
 
--- why there is no program to work on, and what was told of it
-pub data NotLoaded (texts : Texts) (name : List ℕ) (s : Sides) : Status → Type 0 where
-  not_accepted : (source : List ℕ) (reason : Reason) (ends : Status) → IsText texts name source → IsRefusedFor source reason → s.files_now ≡ s.files_before → Tells status.Refused (reason_line reason ++ 10 ∷ []) s.old s.new s.err_before s.err_now ends → NotLoaded texts name s ends
-  not_read : Rose s.files_before s.files_now → AppendsFront s.old s.new (codes "read fault" ++ 10 ∷ []) → NotLoaded texts name s status.ReadFault
-  no_room : AppendsFront s.old s.new (codes "no memory" ++ 10 ∷ []) → NotLoaded texts name s status.NoMemory
+-- why there is no program to work on, and what was told of it, by what is seen of the files and of the error output before
+-- and after
+pub data NotLoaded (name : List ℕ) (files files' : SeenFiles) (err err' : Seen (List ℕ)) : Status → Type 0 where
+  not_accepted : (source : List ℕ) (reason : Reason) (ends : Status) → IsText files.held name source → IsRefusedFor source reason → files'.faults ≡ files.faults → Tells status.Refused (reason_line reason ++ 10 ∷ []) err err' ends → NotLoaded name files files' err err' ends
+  not_read : Rose files.faults files'.faults → AppendsFront err.held err'.held (fault_line fault.Read) → NotLoaded name files files' err err' status.ReadFault
+  no_room : AppendsFront err.held err'.held (fault_line fault.NoMemory) → NotLoaded name files files' err err' status.NoMemory
 
 -- what a check of a file does
-pub data Checks (texts : Texts) (name : List ℕ) (s : Sides) : Status → Type 0 where
-  checked_so : (tree : Tree) → Loaded texts name tree → IsStill s → Checks texts name s status.Done
-  not_checked : (ends : Status) → NotLoaded texts name s ends → Checks texts name s ends
+pub data Checks (name : List ℕ) (files files' : SeenFiles) (err err' : Seen (List ℕ)) : Status → Type 0 where
+  checked_so : (tree : Tree) → Loaded files.held name tree → IsStill files files' err err' → Checks name files files' err err' status.Done
+  not_checked : (ends : Status) → NotLoaded name files files' err err' ends → Checks name files files' err err' ends

@@ -1,6 +1,5 @@
 -- What becomes of a trial.
-use Rattle.std.specs.Prelude.{◌≡◌, ◌-◌, ◌^◌, ℕ, Bool, true, List, [], ◌∷◌, ◌++◌, Option, None, codes}
-use Rattle.setl_model.specs.Answers.{error_line}
+use Rattle.std.specs.Prelude.{◌≡◌, ◌-◌, ◌^◌, ℕ, Bool, true, List, [], ◌∷◌, ◌++◌, None}
 use Rattle.setl_model.specs.Means.{Means}
 use Rattle.setl_machine_control.specs.Answers.{kind_of}
 use Rattle.setl_machine_control.specs.declared.end.End.{End}
@@ -8,12 +7,15 @@ use Rattle.setl_machine_control.specs.declared.end.End.TheVariants as end
 use Rattle.setl_program.specs.Program.{Program}
 use Rattle.setl_model_runs.specs.Events as run
 use Rattle.setl_top.specs.Accepted.{Accepted, IsRefusedFor}
-use Rattle.setl_top_status.specs.Lines.{AppendsFront}
+use Rattle.setl_top_status.specs.Ends.{error_line}
+use Rattle.setl_top_status.specs.Lines.{AppendsFront, fault_line}
 use Rattle.setl_top_status.specs.Reasons.{reason_line}
 use Rattle.setl_top.specs.Trials.{trial_source, trial_input, trial_line}
-use Rattle.setl_top_status.specs.code.Writes.{Gain, Written}
+use Rattle.setl_top_status.specs.Seen.{Seen}
+use Rattle.setl_top_status.specs.code.Writes.{Written}
 use Rattle.setl_top.specs.code.Runs.{counted}
 use Rattle.setl_top_status.specs.code.Tells.{Tells}
+use Rattle.setl_top_status.specs.declared.fault.Fault.TheVariants as fault
 use Rattle.setl_top_status.specs.declared.reason.Reason.{Reason}
 use Rattle.setl_top_status.specs.declared.status.Status.{Status}
 use Rattle.setl_top_status.specs.declared.status.Status.TheVariants as status
@@ -34,11 +36,6 @@ RunEnds program input based printed end.NoMemory = ⊥
 RunEnds program input based printed end.Paused = ⊥
 RunEnds program input based printed end.Stuck = ⊥
 
--- nothing was written
-pub record WritesNothing (o : Gain) : Type 0 where
-  pub held : o.now ≡ o.before
-  pub count : o.faults_now ≡ o.faults_before
-
 -- a run of the program of a trial with its declarations printed this and ended so
 pub record TrialRuns (seed nodes : ℕ) (printed : List ℕ) (end : run.End) : Type 0 where
   pub program : Program
@@ -46,9 +43,9 @@ pub record TrialRuns (seed nodes : ℕ) (printed : List ℕ) (end : run.End) : T
   pub means : Means program (trial_input seed nodes) (2 ^ 63 - 1) true printed end
 
 -- what a trial does to the output and to the error output
-pub data Tries (seed nodes : ℕ) (o : Gain) (old new : Option (List ℕ)) (err_before err_now : ℕ) : Status → Type 0 where
-  trial_refused : (reason : Reason) (ends : Status) → IsRefusedFor trial_source reason → WritesNothing o → Tells status.Refused (reason_line reason ++ 10 ∷ []) old new err_before err_now ends → Tries seed nodes o old new err_before err_now ends
-  trial_done : (printed : List ℕ) (ends : Status) → TrialRuns seed nodes printed run.Done → Written (trial_line seed nodes printed) o old new err_before err_now ends → Tries seed nodes o old new err_before err_now ends
-  trial_stopped : (printed : List ℕ) (kind : run.StopKind) (line : ℕ) (ends : Status) → TrialRuns seed nodes printed (run.Stopped kind line) → WritesNothing o → Tells status.Stopped (error_line (run.Stopped kind line)) old new err_before err_now ends → Tries seed nodes o old new err_before err_now ends
-  trial_spent : (printed : List ℕ) (ends : Status) → TrialRuns seed nodes printed run.Spent → WritesNothing o → Tells status.Spent (error_line run.Spent) old new err_before err_now ends → Tries seed nodes o old new err_before err_now ends
-  trial_starved : WritesNothing o → AppendsFront old new (codes "no memory" ++ 10 ∷ []) → Tries seed nodes o old new err_before err_now status.NoMemory
+pub data Tries (seed nodes : ℕ) (out out' err err' : Seen (List ℕ)) : Status → Type 0 where
+  trial_refused : (reason : Reason) (ends : Status) → IsRefusedFor trial_source reason → out' ≡ out → Tells status.Refused (reason_line reason ++ 10 ∷ []) err err' ends → Tries seed nodes out out' err err' ends
+  trial_done : (printed : List ℕ) (ends : Status) → TrialRuns seed nodes printed run.Done → Written (trial_line seed nodes printed) out out' err err' ends → Tries seed nodes out out' err err' ends
+  trial_stopped : (printed : List ℕ) (kind : run.StopKind) (line : ℕ) (ends : Status) → TrialRuns seed nodes printed (run.Stopped kind line) → out' ≡ out → Tells status.Stopped (error_line (run.Stopped kind line)) err err' ends → Tries seed nodes out out' err err' ends
+  trial_spent : (printed : List ℕ) (ends : Status) → TrialRuns seed nodes printed run.Spent → out' ≡ out → Tells status.Spent (error_line run.Spent) err err' ends → Tries seed nodes out out' err err' ends
+  trial_starved : out' ≡ out → AppendsFront err.held err'.held (fault_line fault.NoMemory) → Tries seed nodes out out' err err' status.NoMemory

@@ -1,18 +1,21 @@
 -- What becomes of the last line of a call.
-use Rattle.std.specs.Prelude.{◌≡◌, ℕ, List, [], ◌∷◌, ◌++◌, Option}
+use Rattle.std.specs.Prelude.{◌≡◌, ℕ, List}
 use Rattle.std.specs.Io.KnownBytes.{Appends}
 use Rattle.setl_io.specs.Faults.{Rose}
-use Rattle.setl_io.specs.declared.whole.WriteFault.TheVariants.{Failed, NoMemory}
 use Rattle.setl_top_status.specs.Lines.{AppendsFront, AppendsFronts, fault_line}
+use Rattle.setl_top_status.specs.Seen.{Seen}
+use Rattle.setl_top_status.specs.Status.{fault_status}
+use Rattle.setl_top_status.specs.declared.fault.Fault.{Fault}
+use Rattle.setl_top_status.specs.declared.fault.Fault.TheVariants as fault
 use Rattle.setl_top_status.specs.declared.status.Status.{Status}
 use Rattle.setl_top_status.specs.declared.status.Status.TheVariants as status
 
 -- the status stands where the line was written, and else it is the fault's
-pub data Tells (ends : Status) (line : List ℕ) (old new : Option (List ℕ)) (before now : ℕ) : Status → Type 0 where
-  whole : Appends old new line → now ≡ before → Tells ends line old new before now ends
-  failed : Rose before now → AppendsFronts old new line (fault_line Failed) → Tells ends line old new before now status.WriteFault
-  no_memory : AppendsFronts old new line (fault_line NoMemory) → Tells ends line old new before now status.NoMemory
+pub data Tells (ends : Status) (line : List ℕ) (before after : Seen (List ℕ)) : Status → Type 0 where
+  whole : Appends before.held after.held line → after.faults ≡ before.faults → Tells ends line before after ends
+  failed : Rose before.faults after.faults → AppendsFronts before.held after.held line (fault_line fault.Write) → Tells ends line before after status.WriteFault
+  no_memory : AppendsFronts before.held after.held line (fault_line fault.NoMemory) → Tells ends line before after status.NoMemory
 
--- the status stands, and the line was tried
-abbrev pub Tries : Status → List ℕ → Option (List ℕ) → Option (List ℕ) → Status → Type 0
-Tries ends line old new status = (status ≡ ends) × AppendsFront old new (line ++ 10 ∷ [])
+-- the status is the fault's, and its line was tried
+abbrev pub BreaksOff : Fault → (before after : Seen (List ℕ)) → Status → Type 0
+BreaksOff why before after ends = (ends ≡ fault_status why) × AppendsFront before.held after.held (fault_line why)

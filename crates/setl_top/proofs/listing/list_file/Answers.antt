@@ -4,7 +4,7 @@ use Rattle.setl_top.proofs.Loading.{listed_then}
 use Rattle.setl_top.proofs.listing.list_file.Goals as goal
 
 pub returns-in-Err : goal.returns-in-Err
-returns-in-Err g c = not_listed c.in-Err.status c.in-Err.ensures.not_loaded refl refl
+returns-in-Err g c = not_listed c.in-Err.status c.in-Err.ensures.not_loaded refl
 
 pub returns : goal.returns
-returns g c = listed_then _ c.args.name.now c.in-Ok.source.tree _ _ c.in-Ok.ensures.loaded c.in-Ok.ensures.still _ _ c.write_listing.result c.write_listing.ensures
+returns g c = listed_then c.args.name.now _ _ _ _ c.in-Ok.ensures.still _ c.in-Ok.source.tree _ _ c.in-Ok.ensures.loaded c.write_listing.result c.write_listing.ensures

@@ -27,7 +27,7 @@ returns-clause-ran g c =
     let p = plain_program c.args.program.now in
     let m = c.requires.meant in
     let formed = subst Formed (sym m.meaning) (c.accepted_is_formed.ensures.formed m.tree m.accepted) in
-    all_runs laws p formed (options_now c.args.asked) _ (plain_code c.in_ok-code.code) c.in_ok-code.ensures c.run_code.result (runs_by _ _ _ _ _ c.run_code.result c.counted.ensures c.run_code.ensures.ran)
+    all_runs laws p formed (options_now c.args.asked) _ _ (plain_code c.in_ok-code.code) c.in_ok-code.ensures c.run_code.result (runs_by _ _ _ _ _ _ c.run_code.result c.counted.ensures c.run_code.ensures.ran)
 
 pub returns-clause-input : goal.returns-clause-input
 returns-clause-input g c =
@@ -35,4 +35,4 @@ returns-clause-input g c =
     let p = plain_program c.args.program.now in
     let m = c.requires.meant in
     let formed = subst Formed (sym m.meaning) (c.accepted_is_formed.ensures.formed m.tree m.accepted) in
-    all_takes laws p formed (options_now c.args.asked) _ (plain_code c.in_ok-code.code) c.in_ok-code.ensures c.run_code.result (runs_by _ _ _ _ _ c.run_code.result c.counted.ensures c.run_code.ensures.ran) c.run_code.ensures.input
+    all_takes laws p formed (options_now c.args.asked) _ _ (plain_code c.in_ok-code.code) c.in_ok-code.ensures c.run_code.result (runs_by _ _ _ _ _ _ c.run_code.result c.counted.ensures c.run_code.ensures.ran) c.run_code.ensures.input

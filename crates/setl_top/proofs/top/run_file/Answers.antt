@@ -1,5 +1,6 @@
 use Rattle.std.proofs.Common.{◌≡◌, ◌∙◌, arith, map, refl, ap}
 use Rattle.setl_program.specs.code.Plain.{plain_program, plain_declared}
+use Rattle.setl_top_status.specs.Seen.{seen}
 use Rattle.setl_watch.specs.Watches.{watched}
 use Rattle.setl_top_words.specs.code.Commands.{options_now}
 use Rattle.setl_top_words.specs.Words.{Run}
@@ -24,8 +25,8 @@ pub tell_end-requires : goal.tell_end-requires
 tell_end-requires g c =
     let program = plain_program c.in-Ok.program in
     let asked = options_now c.args.asked in
-    let ran = runs_or program asked _ c.run_program.result c.unwrap_or-end.result c.unwrap_or-end.ensures c.run_program.ensures.ran c.run_program.ensures.out in
-    record { paused = not_paused program asked _ c.unwrap_or-end.result ran; stuck = not_at_stuck program asked _ c.unwrap_or-end.result ran }
+    let ran = runs_or program asked _ _ c.run_program.result c.unwrap_or-end.result c.unwrap_or-end.ensures c.run_program.ensures.ran c.run_program.ensures.out in
+    record { paused = not_paused program asked _ _ c.unwrap_or-end.result ran; stuck = not_at_stuck program asked _ _ c.unwrap_or-end.result ran }
 
 pub returns : goal.returns
 returns g c =
@@ -34,12 +35,12 @@ returns g c =
     let program = plain_program c.in-Ok.program in
     let asked = options_now c.args.asked in
     let end = c.unwrap_or-end.result in
-    let ran = runs_or program asked _ c.run_program.result end c.unwrap_or-end.ensures c.run_program.ensures.ran c.run_program.ensures.out in
+    let ran = runs_or program asked _ _ c.run_program.result end c.unwrap_or-end.ensures c.run_program.ensures.ran c.run_program.ensures.out in
     let modes = map plain_declared c.counted.result.now in
     let heard = watched (map (λ w. (goal.Watcher-dyn g (w.vtable, w.value)).watch w.value) c.run_program.new.watchers.items) c.run_program.new.reports.items in
     let same : watched (map (λ w. (goal.Watcher-dyn g (w.vtable, w.value)).watch w.value) c.deref.result.now) c.run_program.new.reports.items ≡ heard = ap (λ ws. watched (map (λ w. (goal.Watcher-dyn g (w.vtable, w.value)).watch w.value) ws) c.run_program.new.reports.items) c.deref.ensures.value in
-    let told = tells_then modes (counted asked (program_of l.tree)) _ heard end (g.E.Sink.held c.args.err.now) (g.E.Sink.held c.load_resolved.new.err) (g.E.Sink.held c.tell_end.new.err) (g.E.Sink.faults c.args.err.now) (g.E.Sink.faults c.load_resolved.new.err) (g.E.Sink.faults c.tell_end.new.err) c.tell_end.result (c.counted.ensures ∙ ap (counted asked) l.meaning) same known.still.held known.still.err c.tell_end.ensures.told in
+    let told = tells_then modes (counted asked (program_of l.tree)) _ heard end (seen g.E.Sink.held g.E.Sink.faults c.args.err.now) (seen g.E.Sink.held g.E.Sink.faults c.load_resolved.new.err) (seen g.E.Sink.held g.E.Sink.faults c.tell_end.new.err) c.tell_end.result (c.counted.ensures ∙ ap (counted asked) l.meaning) same known.still.same c.tell_end.ensures.told in
     record {
-      headline = λ words handed s there kept. run_ends words _ _ heard asked c.args.name.now l.tree s there l.loaded end (heard_from (λ x. Runs (program_of l.tree) asked x end) _ _ _ _ _ _ _ _ heard _ _ _ kept c.new-reports.ensures.items (runs_as _ _ asked _ end l.meaning ran)) (omega (arith, known.still.files)) _ told;
-      input = λ words handed s there kept. run_takes words _ _ heard asked c.args.name.now l.tree s there l.loaded (heard_from (λ x. TakesInput (program_of l.tree) asked x) _ _ _ _ _ _ _ _ heard _ _ _ kept c.new-reports.ensures.items (takes_as _ _ asked _ l.meaning c.run_program.ensures.input));
+      headline = λ words handed s there kept. run_ends words _ _ heard asked c.args.name.now l.tree s there l.loaded end (heard_from (λ x. Runs (program_of l.tree) asked x _ end) _ _ _ _ _ kept c.new-reports.ensures.items (runs_as _ _ asked _ _ end l.meaning ran)) (omega (arith, known.still.count)) _ told;
+      input = λ words handed s there kept. run_takes words _ _ heard asked c.args.name.now l.tree s there l.loaded (heard_from (λ x. TakesInput (program_of l.tree) asked x _) _ _ _ _ _ kept c.new-reports.ensures.items (takes_as _ _ asked _ _ l.meaning c.run_program.ensures.input));
     }

@@ -1,6 +1,6 @@
 use Rattle.std.proofs.Common.{arith, refl}
 use Rattle.setl_top.specs.Headline.{untouched}
-use Rattle.setl_top.proofs.Ends.{faulty_ends, check_ends, list_ends, rest_same}
+use Rattle.setl_top.proofs.Ends.{faulty_ends, check_ends, list_ends}
 use Rattle.setl_top.proofs.Asked.{turns_asked}
 use Rattle.setl_top.proofs.Trying.{trial_ends}
 use Rattle.setl_top_status.specs.FrontLaws.{appends_none}
@@ -24,15 +24,15 @@ returns-in-Some-Run-clause-headline g c = c.run_asked.ensures.headline _ (rw c.i
 
 pub returns-in-Some-Check-clause-headline : goal.returns-in-Some-Check-clause-headline
 returns-in-Some-Check-clause-headline g c =
-    check_ends _ _ _ _ (rw c.in-Some-Check.field-0-is at c.in-Some-Check.ensures.plain) (rest_same _ _ refl refl refl refl) _ c.check_file.ensures
+    check_ends _ _ _ _ (rw c.in-Some-Check.field-0-is at c.in-Some-Check.ensures.plain) (record { input = refl; output = refl }) _ c.check_file.ensures
 
 pub returns-in-Some-Code-clause-headline : goal.returns-in-Some-Code-clause-headline
 returns-in-Some-Code-clause-headline g c =
-    list_ends _ _ _ _ (rw c.in-Some-Code.field-0-is at c.in-Some-Code.ensures.plain) (record { input = refl; input_faults = refl }) _ c.list_file.ensures
+    list_ends _ _ _ _ (rw c.in-Some-Code.field-0-is at c.in-Some-Code.ensures.plain) refl _ c.list_file.ensures
 
 pub returns-in-Some-Trial-clause-headline : goal.returns-in-Some-Trial-clause-headline
 returns-in-Some-Trial-clause-headline g c =
-    trial_ends _ _ _ _ _ (rw c.in-Some-Trial.field-0-is at c.in-Some-Trial.ensures.plain) (record { texts = refl; files_faults = refl; rest = record { input = refl; input_faults = refl } }) _ c.run_trial.ensures
+    trial_ends _ _ _ _ _ (rw c.in-Some-Trial.field-0-is at c.in-Some-Trial.ensures.plain) (record { files = refl; input = refl }) _ c.run_trial.ensures
 
 pub returns-in-None-clause-input : goal.returns-in-None-clause-input
 returns-in-None-clause-input g c = untouched refl

@@ -24,5 +24,5 @@ pub returns : goal.returns
 returns g c =
     let program = plain_program c.args.program.now in
     let run = c.args.run in
-    ended_then c.args.seed c.args.nodes program run.printed _ _ _ _ _ run.end _ c.requires.accepted c.requires.ran (λ is. true≢false (sym (c.is_done.ensures.1 is) ∙ c.if-is_done.false)) (record { held = refl; count = refl })
-    (tells_then (map plain_declared c.as_slice-declared.result.now) program.modes _ (watched [] []) run.end _ _ _ _ _ _ _ (ap (λ ds. map plain_declared ds) c.as_slice-declared.ensures) (ap (λ bytes. watched [] bytes) c.new.ensures.items) refl refl c.tell_end.ensures.told)
+    ended_then c.args.seed c.args.nodes program run.printed _ _ _ _ run.end _ c.requires.accepted c.requires.ran (λ is. true≢false (sym (c.is_done.ensures.1 is) ∙ c.if-is_done.false)) refl
+    (tells_then (map plain_declared c.as_slice-declared.result.now) program.modes _ (watched [] []) run.end _ _ _ _ (ap (λ ds. map plain_declared ds) c.as_slice-declared.ensures) (ap (λ bytes. watched [] bytes) c.new.ensures.items) refl c.tell_end.ensures.told)

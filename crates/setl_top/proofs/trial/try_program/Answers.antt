@@ -10,4 +10,4 @@ run_twice-requires g c =
     record { meant = record { tree = a.tree; accepted = is_accepted trial_source a.tree a.is_program; meaning = a.meaning }; some = c.requires.some; few = c.requires.few }
 
 pub returns-in-Err : goal.returns-in-Err
-returns-in-Err g c = trial_starved (record { held = refl; count = refl }) c.try_line.ensures.front
+returns-in-Err g c = rw c.break_off.ensures.tried.0 (trial_starved refl c.break_off.ensures.tried.1)

@@ -3,4 +3,4 @@ use Rattle.setl_top_status.specs.code.Writes.{no_text}
 use Rattle.setl_top.proofs.trial.write_trial.Goals as goal
 
 pub returns-in_default : goal.returns-in_default
-returns-in_default g c = no_text refl c.try_line.ensures.front
+returns-in_default g c = rw c.break_off.ensures.tried.0 (no_text refl c.break_off.ensures.tried.1)

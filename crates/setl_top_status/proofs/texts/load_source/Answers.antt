@@ -7,7 +7,7 @@ returns-in-TooLong-clause-not_loaded g c =
     too_long text.0 _ text.1 text.2 c.in-TooLong.ensures.count c.refuse.ensures.told
 
 pub returns-in-Failed-clause-not_loaded : goal.returns-in-Failed-clause-not_loaded
-returns-in-Failed-clause-not_loaded g c = not_read c.in-Failed.ensures.count c.try_line.ensures.front
+returns-in-Failed-clause-not_loaded g c = rw c.break_off.ensures.tried.0 (not_read c.in-Failed.ensures.count c.break_off.ensures.tried.1)
 
 pub returns-in-NoMemory-clause-not_loaded : goal.returns-in-NoMemory-clause-not_loaded
-returns-in-NoMemory-clause-not_loaded g c = no_room c.try_line-in-NoMemory.ensures.front
+returns-in-NoMemory-clause-not_loaded g c = rw c.break_off-in-NoMemory.ensures.tried.0 (no_room c.break_off-in-NoMemory.ensures.tried.1)

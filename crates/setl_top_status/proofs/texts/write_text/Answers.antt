@@ -3,12 +3,12 @@ use Rattle.setl_top_status.specs.code.Writes.{all_written, write_failed, write_s
 use Rattle.setl_top_status.proofs.texts.write_text.Goals as goal
 
 pub returns-in-Ok : goal.returns-in-Ok
-returns-in-Ok g c = all_written c.in-Ok.ensures.whole c.in-Ok.ensures.ok refl refl
+returns-in-Ok g c = all_written c.in-Ok.ensures.whole c.in-Ok.ensures.ok refl
 
 pub returns-in-Err-Failed : goal.returns-in-Err-Failed
 returns-in-Err-Failed g c =
     let known = rw c.in-Err-Failed.field-0-is at c.in-Err-Failed.ensures in
-    write_failed known.part (known.failed refl) c.try_line.ensures.front
+    rw c.break_off.ensures.tried.0 (write_failed known.part (known.failed refl) c.break_off.ensures.tried.1)
 
 pub returns-in-Err-NoMemory : goal.returns-in-Err-NoMemory
-returns-in-Err-NoMemory g c = write_starved c.in-Err-NoMemory.ensures.part c.try_line-in-Err-NoMemory.ensures.front
+returns-in-Err-NoMemory g c = rw c.break_off-in-Err-NoMemory.ensures.tried.0 (write_starved c.in-Err-NoMemory.ensures.part c.break_off-in-Err-NoMemory.ensures.tried.1)

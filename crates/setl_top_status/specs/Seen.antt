@@ -1,0 +1,11 @@
+-- What is seen of an object of the outside at one moment.
+use Rattle.std.specs.Prelude.{ℕ, Option}
+
+-- what it holds, where it tells that, and its count of faults
+pub record Seen (A : Type 0) : Type 0 where
+  pub held : Option A
+  pub faults : ℕ
+
+-- what is seen of it by these words of its trait
+abbrev pub seen : {T A : Type 0} → (T → Option A) → (T → ℕ) → T → Seen A
+seen held faults object = record { held = held object; faults = faults object }
