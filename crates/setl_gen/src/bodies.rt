@@ -96,8 +96,10 @@ fn procedures<'p>(
 
 /// The code of a program: the plain code that it stands for is that of the plain program.
 ///
-/// The error is want of memory. It is also the answer where a number in the code would be 2^32 or more, and where
-/// the program has a variable without a slot or an iteration without an iterator, which formed and placed programs don't.
+/// The error is want of memory. It is also the answer where none was refused, but a number in the code would be 2^32 or
+/// more: of the steps or variables of a body, of the bodies, or of the parts of an expression. In a source of at most 2^24
+/// bytes only the steps could be so many, 256 for each byte. And it is the answer where the program has a variable without
+/// a slot or an iteration without an iterator, which formed and placed programs don't.
 pub fn emit(alloc: Global, program: &Program) -> Result<Code, Memory>
     ensures { IfOk result (λ c. plain_code c ≡ code.code_of (plain_program program.now)) }
 {

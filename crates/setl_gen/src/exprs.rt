@@ -235,7 +235,8 @@ fn head<'p>(to: &mut Emitter<'p>, line: u32, i: &'p Iterator, back: u32) -> Resu
 }
 
 /// Iterators up to the binding of the last one, where the end of the first one has no target yet. It gives the place of
-/// the first one's next step, and where the innermost goes on.
+/// the first one's next step, and where the innermost goes on. The error is want of memory, a limit of the code
+/// (`number`), or that there is no iterator, which formed programs rule out (`HasIterator`).
 #[cycle(expr)]
 pub fn iterators<'p>(
     to: &mut Emitter<'p>,

@@ -28,7 +28,9 @@ pub struct Emitter<'p> {
     pub again: u32,
 }
 
-/// A number as code has it. An error is that it is 2^32 or more.
+/// A number as code has it. The error is that it is 2^32 or more, where no memory was refused: a limit of the code, which
+/// counts its steps, slots and bodies in 32 bits. A source has at most 2^24 bytes, so a program of one comes to it only
+/// where a body has 256 steps for each byte.
 pub fn number(n: usize) -> Result<u32, Memory>
     ensures { IfOk result (λ k. k ≡ n) }
 {
@@ -39,14 +41,14 @@ pub fn number(n: usize) -> Result<u32, Memory>
 }
 
 impl<'p> Emitter<'p> {
-    /// The place of the next step.
+    /// The place of the next step. The error is that there are 2^32 steps (`number`).
     pub fn here(&self) -> Result<u32, Memory>
         ensures { IfOk result (λ at. at ≡ here (held self.now)) }
     {
         number(self.steps.len())
     }
 
-    /// A step, with its place.
+    /// A step, with its place. The error is want of memory, or that there are 2^32 steps (`number`).
     pub fn step(&mut self, line: u32, what: Instr) -> Result<u32, Memory>
         ensures place { IfOk result (λ at. at ≡ here (held self.old)) }
         ensures code { OnOk result (held self.new ≡ after (one line (plain_instr (variables self.old.names) what)) (held self.old)) }

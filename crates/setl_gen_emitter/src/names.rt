@@ -108,7 +108,7 @@ fn add<'p>(
     Ok(())
 }
 
-/// A name as code has it. An error is want of memory.
+/// A name as code has it. The error is want of memory, or that `former` is above 2^32, which the caller's is not.
 fn own_name(former: u64, text: &Text) -> Result<OwnName, Memory>
     ensures { IfOk result (λ name. (body : ℕ) → plain_name body name ≡ own_variable body former text.now) }
 {
@@ -188,7 +188,8 @@ impl<'p> Names<'p> {
         copied_names(self.alloc, self.names.as_slice())
     }
 
-    /// A variable of the body's own, unless it has a slot.
+    /// A variable of the body's own, unless it has a slot. The error is want of memory, or that the body has 2^32 variables
+    /// (`number`).
     fn note_own(&mut self, former: u64, name: &'p Text) -> Result<(), Memory>
         requires { former < 2 ^ 32 + 1 }
         ensures { OnOk result (self.new ≡ record self.old { names = with_own self.old.parameters self.old.names (own_variable self.old.body former name.now) }) }
@@ -211,7 +212,8 @@ impl<'p> Names<'p> {
         )
     }
 
-    /// A variable that stands in the body.
+    /// A variable that stands in the body. The error is want of memory, that the body has 2^32 variables, or that it is an
+    /// own variable of another body, which no formed program has there (`FormedVariable`).
     fn note(&mut self, x: &'p Variable) -> Result<(), Memory>
         ensures { OnOk result (self.new ≡ noted (plain_variable x.now) self.old) }
     {
@@ -238,7 +240,8 @@ impl<'p> Names<'p> {
         Ok(())
     }
 
-    /// The slot of a variable. Where it has none, it is answered as want of memory.
+    /// The slot of a variable. The error is that it has none, where no memory was refused. In a formed and placed program
+    /// each variable has one, since its body's were noted before.
     pub fn slot(&self, x: &'p Variable) -> Result<Slot, Memory>
         ensures { IfOk result (λ slot. plain_slot (variables self.now) slot ≡ plain_variable x.now) }
     {
@@ -255,7 +258,7 @@ impl<'p> Names<'p> {
         }
     }
 
-    /// The slot of a name in `var`.
+    /// The slot of a name in `var`. The error is that it has none.
     fn slot_of_global(&self, name: &Text) -> Result<Slot, Memory>
         ensures { IfOk result (λ slot. plain_slot (variables self.now) slot ≡ run.Global name.now) }
     {
@@ -265,7 +268,7 @@ impl<'p> Names<'p> {
         }
     }
 
-    /// The slot of a variable of the body's own.
+    /// The slot of a variable of the body's own. The error is that it has none.
     fn slot_of_own(&self, former: u64, name: &Text) -> Result<Slot, Memory>
         ensures { IfOk result (λ slot. plain_slot (variables self.now) slot ≡ own_variable self.now.body former name.now) }
     {

@@ -60,7 +60,8 @@ pub fn run<I: Source, O: Sink>(
 
 /// Does instructions up to the end of the run, in rounds of 1,000.
 ///
-/// It is as `run`, but never answers `Paused`. A run that isn't at its end after 2^64 - 1 rounds is answered as `NoMemory`.
+/// It is as `run`, but never answers `Paused`. A run that isn't at its end after 2^64 - 1 rounds is answered as
+/// `NoMemory`, where none was refused. No clause rules that out; it takes more than 2^73 instructions.
 pub fn run_whole<I: Source, O: Sink>(
     declarations: &Declarations<'_>,
     store: &mut Store<'_>,

@@ -23,7 +23,8 @@ use setl_watch::{Watcher, tell_each, told_in_parts};
 ///
 /// Each watcher is told the events in order, each once, up to the one where it has enough; then its report is added to the
 /// reports, and it is taken out of the list and dropped. A run that isn't at its end after 2^64 - 1 steps is answered as
-/// `NoMemory`, and so is want of memory of a watcher. After a fault and want of memory nothing is known of the watchers.
+/// `NoMemory`, where none was refused, and so is want of memory of a watcher. After a fault and want of memory nothing is
+/// known of the watchers.
 pub fn run_watched<I: Source, O: Sink>(
     declarations: &Declarations<'_>,
     store: &mut Store<'_>,

@@ -32,7 +32,7 @@ pub enum End {
     ReadFault,
     /// The output failed and counted it.
     WriteFault,
-    /// Memory was refused.
+    /// Memory was refused; or the run has gone on for 2^64 - 1 rounds, or a watcher's count came to its greatest number.
     NoMemory,
     /// The code lacks an operand or reads a taken variable. No code of an accepted program does.
     Stuck,

@@ -192,7 +192,8 @@ fn put_name(
     Ok(())
 }
 
-/// A place as a stop names it. The error is that it doesn't fit 32 bits.
+/// A place as a stop names it. The error is that it is 2^32 or more, where no memory was refused. A declaration takes some
+/// bytes of a source, which has at most 2^24.
 fn narrow(at: usize) -> Result<u32, Memory>
     ensures { IfOk result (λ place. place ≡ at) }
 {

@@ -280,7 +280,7 @@ fn learn_added(f: &SetBody, x: &Value, y: &Value)
     f.learn();
 }
 
-// Makes the pair of `x` and `y` a member.
+// Makes the pair of `x` and `y` a member. The error is want of memory: the condition leaves no other fault of the set.
 fn add_pair(alloc: Global, f: &mut SetBody, x: Value, y: Value) -> Result<(), Memory>
     requires { depth (pair (datum x) (datum y)) < 500 }
     ensures added { OnOk result (Members f.new ≡ insert_datum (pair (datum x) (datum y)) (Members f.old)) }

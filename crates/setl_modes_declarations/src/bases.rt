@@ -64,7 +64,8 @@ impl Bases {
         }
     }
 
-    /// Puts one more base with this mode at the end. An error is want of memory; 2^32 bases are want of memory too.
+    /// Puts one more base with this mode at the end. The error is want of memory, or that there are 2^32 bases, which no
+    /// source has: it has at most 2^24 bytes.
     fn put(&mut self, alloc: Global, name: &Text, mode: &Mode) -> Result<(), AllocError>
         requires { Finds self.old.numbers (named_modes self.old.modes) }
         ensures modes { OnOk result (named_modes self.new.modes ≡ named_modes self.old.modes ++ (name.now, mode_of mode.now) ∷ []) }
@@ -79,7 +80,7 @@ impl Bases {
         }
     }
 
-    /// Puts bases with one mode at the end. An error is want of memory; 2^32 bases are want of memory too.
+    /// Puts bases with one mode at the end. The error is want of memory, or that there are 2^32 bases.
     pub fn put_all(
         &mut self,
         alloc: Global,

@@ -30,7 +30,7 @@ fn section_break(
 /// bodies' names are those of the tree, as name resolution finds them.
 ///
 /// Where a rule of 19 to 28 is broken, the error is `Broken` with the first break by line, and of one line that of the
-/// lowest number. `NoMemory` is want of memory; 2^32 bases are want of memory too.
+/// lowest number. `NoMemory` is want of memory, or 2^32 bases, which no source of 2^24 bytes has.
 pub fn modes(alloc: Global, tree: &Tree, bodies: &[BodyNames]) -> Result<ModeTable, RuleFault>
     requires { bodies.now ≡ all_names tree.now }
     ensures { Declares tree.now result }

@@ -91,7 +91,8 @@ pub fn selection(
     )
 }
 
-/// A call of the procedure at a place. Want of memory is also that the place doesn't fit 32 bits.
+/// A call of the procedure at a place. The error is want of memory, or that the place is 2^32 or more, where no memory was
+/// refused. A source of 2^24 bytes has no 2^32 procedures.
 pub fn call(
     alloc: Global,
     place: usize,

@@ -129,7 +129,7 @@ impl Elaborator<'_> {
 }
 
 /// The program that a tree means, whose declared variables have these modes, in the order of their declarations. An error is
-/// want of memory; 2^32 procedures, or as many formers in one body, are want of memory too.
+/// want of memory; 2^32 procedures, or as many formers in one body, are answered so too. No source of 2^24 bytes has them.
 pub fn elaborate(alloc: Global, tree: &Tree, modes: Items<NamedMode>) -> Result<Program, AllocError>
     requires { map (λ d. (d.name, mode_of d.mode)) modes ≡ variables_of tree.now.modes }
     ensures { IfOk result (λ p. plain_program p ≡ program_of tree.now) }

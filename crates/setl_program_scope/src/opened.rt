@@ -32,7 +32,8 @@ impl Opened {
         Opened { count: 0 }
     }
 
-    /// The number of the former that is opened, counted from 1. An error is want of memory: there are 2^32 - 1 formers already.
+    /// The number of the former that is opened, counted from 1. The error is that there are 2^32 - 1 formers already, where
+    /// no memory was refused. Each takes some bytes of a source, which has at most 2^24.
     pub fn open(&mut self) -> Result<u32, AllocError>
         ensures number { IfOk result (λ m. m ≡ suc self.old) }
         ensures counted { OnOk result (self.new ≡ suc self.old) }
@@ -47,7 +48,7 @@ impl Opened {
     }
 
     /// The number of the former with these iterators, which is opened before what stands in them, and the names that they
-    /// bind. An error is want of memory: there may be 2^32 - 1 formers already.
+    /// bind. The error is want of memory, or that there are 2^32 - 1 formers already.
     pub fn open_over(&mut self, alloc: Global, turns: &[Iter]) -> Result<(u32, Names), AllocError>
         ensures number { IfOk result (λ r. r.0 ≡ suc self.old) }
         ensures names { IfOk result (λ r. r.1 ≡ in_order (names_of_turns (map turn_of turns.now))) }

@@ -69,8 +69,8 @@ impl<'t> Scope<'t> {
         })
     }
 
-    /// Goes over to the next body, which has these parameters. An error is want of memory: there may be 2^32 - 1 procedures
-    /// already.
+    /// Goes over to the next body, which has these parameters. The error is want of memory, or that there are 2^32 - 1
+    /// procedures already. Each takes some bytes of a source, which has at most 2^24.
     pub fn next_body(&mut self, alloc: Global, parameters: &[Param]) -> Result<(), AllocError>
         ensures { OnOk result (self.new ≡ in_body (suc self.old.body) parameters.now self.old) }
     {

@@ -77,7 +77,8 @@ impl Bits {
         })
     }
 
-    /// Puts the number in where `on` is true, and takes it out where it is false. An error is want of memory.
+    /// Puts the number in where `on` is true, and takes it out where it is false. The error is want of memory, or that one of
+    /// the last 64 numbers is put in.
     pub fn put(&mut self, block: u64, on: bool) -> Result<(), Memory>
         ensures ok { OnOk result (self.new ≡ (if on then set.insert self.old block else set.remove self.old block)) }
         ensures err { OnErr result (self.new ≡ self.old) }

@@ -101,7 +101,7 @@ impl<T: Drop> Slots<T> {
     }
 
     /// Gives the number the content `c`, or none, and gives back its old content; `None` where it had none. A content makes
-    /// the length the greater of itself and the number. An error is want of memory.
+    /// the length the greater of itself and the number. The error is want of memory, or that the number is 2^64 - 1.
     pub fn put(&mut self, block: u64, c: Option<T>) -> Result<Option<T>, Memory>
         ensures old { IfOk result (λ old. old ≡ slot_at self.old block) }
         ensures ok { OnOk result (PutsSlot block c self.old self.new) }

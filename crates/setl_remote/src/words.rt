@@ -38,7 +38,8 @@ pub(crate) fn count(words: &[u64]) -> u64
     count
 }
 
-/// Puts words that are 0 at the end, so that the i-th is there.
+/// Puts words that are 0 at the end, so that the i-th is there. The error is want of memory, or that there would be more
+/// than 2^58 - 1 words.
 fn lengthen(words: &mut Vec<u64>, i: usize) -> Result<(), Memory>
     requires { length words.old.items < 2 ^ 58 }
     ensures short { length words.new.items < 2 ^ 58 }

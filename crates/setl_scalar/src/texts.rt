@@ -29,7 +29,8 @@ fn joined(alloc: Global, left: &[u8], right: &[u8]) -> Result<Vec<u8>, Memory>
 }
 
 /// `n` copies of `a`, one after another. Range exactly where `n` is below 0; the only other fault is
-/// NoMemory. Copies of the empty string cost nothing.
+/// NoMemory, which also comes where the copies have 2^64 bytes or more, which no memory holds. Copies of the empty string
+/// cost nothing.
 pub fn repeat(alloc: Global, a: &Text, n: i128) -> Result<Text, ScalarFault>
     ensures copied { IfOk result (λ t. repeat_of a.now n ≡ Ok t) }
     ensures range { (result ≡ Err ScalarFault.Range) ↔ (repeat_of a.now n ≡ Err ScalarFault.Range) }

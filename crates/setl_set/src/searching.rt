@@ -42,7 +42,8 @@ fn add_all(alloc: Global, s: &mut SetBody, small: &SetBody) -> Result<(), Memory
     Ok(())
 }
 
-/// Makes `v` a member. No member of a set makes another set too deep. After a fault the set is as before.
+/// Makes `v` a member. No member of a set makes another set too deep, so the error is want of memory. The set is then as
+/// before.
 pub(crate) fn add(alloc: Global, s: &mut SetBody, v: &Value) -> Result<(), Memory>
     ensures added { OnOk result (Members s.new ≡ insert_datum (datum v.now) (Members s.old)) }
     ensures refused { OnErr result (s.new ≡ s.old) }

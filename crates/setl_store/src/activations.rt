@@ -53,7 +53,8 @@ pub(crate) fn add_activation(
     Ok(())
 }
 
-// Makes sure of memory for an activation with so many slots.
+// Makes sure of memory for an activation with so many slots. The error is want of memory, or that these are 2^64 or more,
+// which no memory holds.
 fn reserve_activation(environment: &mut Contents, values: usize, names: usize) -> Result<(), Memory>
     ensures now { environment.new.now ≡ environment.old.now }
     ensures kept { environment.new.kept ≡ environment.old.kept }
@@ -69,7 +70,8 @@ fn reserve_activation(environment: &mut Contents, values: usize, names: usize) -
     environment.reserve_activations(1)
 }
 
-// Makes so many changes and one more ready.
+// Makes so many changes and one more ready. The error is want of memory, or that these are 2^64 or more, which no memory
+// holds.
 fn reserve_sum(
     environment: &mut Contents,
     slots: usize,

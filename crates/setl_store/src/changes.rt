@@ -81,7 +81,7 @@ pub(crate) fn put_operand(environment: &mut Contents, operand: Operand) -> Resul
     Ok(())
 }
 
-/// Makes so many changes and one more ready.
+/// Makes so many changes and one more ready. The error is want of memory, or that these are 2^64, which no memory holds.
 #[inline(always)]
 pub(crate) fn reserve_one_more(environment: &mut Contents, count: usize) -> Result<(), Memory>
     ensures now { environment.new.now ≡ environment.old.now }

@@ -67,8 +67,8 @@ impl<'c> Store<'c> {
 
     /// Adds a value to the collection below so many iterators. Its answer is whether there is one.
     ///
-    /// `Om` comes for `om` and a set, `Deep` for a value of depth 500, `NoMemory` for want of memory; then nothing was
-    /// added.
+    /// `Om` comes for `om` and a set, `Deep` for a value of depth 500, `NoMemory` for want of memory, or where the
+    /// collection has 2^64 - 1 values already, which no memory holds; then nothing was added.
     pub fn add_below(&mut self, count: usize, value: Option<Value>) -> Result<bool, OpFault>
         ensures told { TellsAdded (added count (part value) self.old.core.now.operands) result self.new.core.now.operands }
         ensures rest { self.new ≡ record self.old { core = over self.new.core.now.operands self.old.core } }

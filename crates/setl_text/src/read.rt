@@ -66,7 +66,8 @@ impl Reader {
     /// `Value` and `Om` come where a value or `*` is denoted, `End` where only blanks are left. The bytes kept and left
     /// after that are those behind the denotation. `Form` comes where the bytes begin no denotation or end inside one,
     /// `Wide` at an integer outside of 128 bits, `Deep` where the 501st depth is opened, each where it stands first.
-    /// `Source` comes where the input failed and counted it, `NoMemory` for want of memory. After a fault every call
+    /// `Source` comes where the input failed and counted it, `NoMemory` for want of memory, or where 2^64 - 1 pieces of
+    /// the input don't decide, whose bytes no memory holds. After a fault every call
     /// answers the same fault and leaves the input alone. Where the bytes kept decide the answer, whatever follows them,
     /// the input isn't asked.
     pub fn next<I: Source>(&mut self, input: &mut I) -> Result<Got, ReadFault>

@@ -31,7 +31,8 @@ pub fn get(t: &TupleBody, i: i128) -> Result<Option<&Value>, TupleFault>
 
 /// Makes `v` the component at place `i`, counted from 1. Past the end the components between become
 /// `om`, and `om` changes nothing. Range exactly where `i` is below 1, Deep exactly where `i` is at
-/// least 1 and `v` is 500 deep; the tuple is then as before, and so it is after NoMemory.
+/// least 1 and `v` is 500 deep; the tuple is then as before, and so it is after NoMemory, which also comes where the tuple
+/// would have more than 2^64 components: no memory holds them.
 pub fn put(alloc: Global, t: &mut TupleBody, i: i128, v: Option<Value>) -> Result<(), TupleFault>
     ensures put { OnOk result (t.new ≡ put_of t.old (index_of i) (part v)) }
     ensures refused { OnErr result (t.new ≡ t.old) }

@@ -21,7 +21,8 @@ pub fn cat(alloc: Global, a: &TupleBody, b: &TupleBody) -> Result<TupleBody, Mem
 }
 
 /// `n` copies of `a`, one after another. Range exactly where `n` is below 0; the only other fault is
-/// NoMemory. Copies of the empty tuple cost nothing.
+/// NoMemory, which also comes where the copies have 2^64 components or more, which no memory holds. Copies of the empty
+/// tuple cost nothing.
 pub fn repeat(alloc: Global, a: &TupleBody, n: i128) -> Result<TupleBody, TupleFault>
     ensures copied { IfOk result (λ t. repeat_of a.now n ≡ Ok t) }
     ensures range { (result ≡ Err TupleFault.Range) ↔ (repeat_of a.now n ≡ Err TupleFault.Range) }

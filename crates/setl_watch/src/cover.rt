@@ -35,8 +35,8 @@ impl Cover {
         })
     }
 
-    /// Counts a store at a line. The error is want of memory, also where the line has 2^64 - 1 stores, and then the cover
-    /// is as before.
+    /// Counts a store at a line. The error is want of memory, or that the line has 2^64 - 1 stores, where no memory was
+    /// refused, and then the cover is as before. No clause rules that out; it takes 2^64 - 1 events.
     fn count(&mut self, line: u32) -> Result<(), Memory>
         ensures ok { OnOk result (self.new ≡ counted line self.old) }
         ensures err { OnErr result (self.new ≡ self.old) }

@@ -15,7 +15,7 @@ pub enum Wants {
     More,
     /// It is to be told no other event.
     Enough,
-    /// Memory was refused, and it wasn't told.
+    /// Memory was refused, or a count is at its greatest number, and it wasn't told.
     NoMemory,
 }
 
