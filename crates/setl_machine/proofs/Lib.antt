@@ -15,3 +15,4 @@ pub mod Printing
 pub mod Staying
 pub mod Told
 pub mod Hearing
+pub mod ByFamily

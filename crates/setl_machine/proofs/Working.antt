@@ -67,3 +67,7 @@ works_alone old new from line what (Err e) h = tt
 pub does_untested : (modes : Modes) (old new : Standing) (from to : ControlState) (line : ℕ) (what : Instr) (r : Result End AllocError) → IfOk r (λ e. Does old from line what new to e) → IfOk r (λ e. DoesBy modes old from line what new to e)
 does_untested modes old new from to line what (Ok e) h = (h.0, h.1 modes)
 does_untested modes old new from to line what (Err e) h = tt
+
+-- the same of what asks no control and tests no value
+pub works_any : (modes : Modes) (old new : Standing) (from : ControlState) (line : ℕ) (what : Instr) (r : Result End AllocError) → IfOk r (λ e. Works old line what new e) → IfOk r (λ e. DoesBy modes old from line what new from e)
+works_any modes old new from line what r h = does_untested modes old new from from line what r (works_alone old new from line what r h)

@@ -1,3 +1,4 @@
+pub mod Families
 pub mod Outcome
 pub mod Working
 pub mod Operating

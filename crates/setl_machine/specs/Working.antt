@@ -12,8 +12,6 @@ use Rattle.setl_program.specs.declared.kinds.Connective.{Connective}
 use Rattle.setl_program.specs.declared.kinds.Connective.TheVariants.{And, Or, Implies}
 use Rattle.setl_model_runs.specs.Run.{Move}
 use Rattle.setl_model.specs.World.{branch}
-use Rattle.setl_code.specs.declared.code.Instr as code
-use Rattle.setl_code.specs.declared.code.Instr.TheVariants as i
 use Rattle.setl_code.specs.Code.{Body}
 use Rattle.setl_code.specs.Plain.{plain_code}
 use Rattle.setl_code.specs.CodeCore.{Operand, Result as Holds, Pops, Lacks, popped, CodeCore}
@@ -96,41 +94,3 @@ EndsReading read.Wide line e = e ≡ end.Stopped kind.Wide line
 EndsReading read.Deep line e = e ≡ end.Stopped kind.Deep line
 EndsReading read.Source line e = e ≡ end.ReadFault
 EndsReading read.NoMemory line e = e ≡ end.NoMemory
-
--- ---- kinds of instructions
-
--- it neither reads nor writes
-abbrev pub IsQuiet : code.Instr → Type 0
-IsQuiet (i.Print n) = ⊥
-IsQuiet i.Read = ⊥
-IsQuiet what = Unit {0}
-
--- it tests no value by a declaration
-abbrev pub IsUntested : code.Instr → Type 0
-IsUntested (i.Store x) = ⊥
-IsUntested (i.Alter a x bs) = ⊥
-IsUntested (i.Call n) = ⊥
-IsUntested what = Unit {0}
-
--- it changes the store alone, and rests on nothing else
-abbrev pub IsAlone : code.Instr → Type 0
-IsAlone (i.Store x) = ⊥
-IsAlone i.NewAtom = ⊥
-IsAlone i.Eof = ⊥
-IsAlone (i.Operate o n) = ⊥
-IsAlone (i.Alter a x bs) = ⊥
-IsAlone (i.Next to) = ⊥
-IsAlone i.Round = ⊥
-IsAlone (i.Call n) = ⊥
-IsAlone i.Back = ⊥
-IsAlone (i.Print n) = ⊥
-IsAlone i.Read = ⊥
-IsAlone what = Unit {0}
-
--- its events rest neither on operands nor on slots
-abbrev pub IsToldAlone : code.Instr → Type 0
-IsToldAlone (i.Store x) = ⊥
-IsToldAlone (i.Alter a x bs) = ⊥
-IsToldAlone (i.Call n) = ⊥
-IsToldAlone (i.Print n) = ⊥
-IsToldAlone what = Unit {0}

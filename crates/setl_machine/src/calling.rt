@@ -3,28 +3,75 @@
 ghost use Rattle.std.specs.Prelude.{◌≡◌, ℕ, ◌<◌, ◌+◌, ◌^◌, length, map, slice_get, Some, None, IfSome, IfNone, IfOk};
 ghost use Rattle.std.specs.Option.{option_map};
 ghost use Rattle.setl_code.specs.Code.{CallBody, ReturnTop};
-ghost use Rattle.setl_code.specs.Plain.{plain_code};
-ghost use Rattle.setl_machine_control.specs.Declaring.{Modes, AreOfMain, IsBare};
+ghost use Rattle.setl_code.specs.MayRun.{InstrFits};
+ghost use Rattle.setl_code.specs.Plain.{plain_code, plain_instr};
+ghost use Rattle.setl_store.specs.Standing.{variables};
+ghost use Rattle.setl_machine_control.specs.Declaring.{Modes, modes_of, Serves, AreOfMain, IsBare};
 ghost use Rattle.setl_value.specs.code.DatumOf.{part};
 ghost use Rattle.setl_machine_control.specs.Working.{Works, DoesBy};
 ghost use Rattle.setl_machine.specs.Working.{HasParameters, TakesArguments, Begins};
+ghost use Rattle.setl_machine.specs.Hearing.{DoesTelling};
+ghost use Rattle.setl_machine.specs.Families.{family_of};
+ghost use Rattle.setl_machine.specs.declared.families.Family.{Family};
 
-use setl_code::{Body, Code};
-use setl_machine_control::{Control, End, pop_top};
+use crate::telling::alone_telling;
+use setl_code::{Body, Code, Instr};
+use setl_code_events::call_events;
+use setl_machine_control::{Control, End, copied, pop_top};
+use setl_machine_variables::Declarations;
 use setl_store::Store;
 use setl_store_environment::Memory;
 use setl_value::Value;
+use setl_watch::Event;
+use std::alloc::Global;
+
+/// Does a call or a return. The error is want of memory.
+pub(crate) fn do_call(
+    what: &Instr,
+    line: u32,
+    declarations: &Declarations<'_>,
+    store: &mut Store<'_>,
+    control: &mut Control,
+) -> Result<End, Memory>
+    requires is { family_of what.now ≡ Family.Calls }
+    requires few { store.old.core.now.at + 1 < 2 ^ 64 }
+    requires serves { Serves declarations.now store.old.code }
+    ensures did { IfOk result (λ end. DoesBy (modes_of declarations.now) store.old control.old line (plain_instr (variables store.old.core) what.now) store.new control.new end) }
+    ensures reader { control.new.reader ≡ control.old.reader }
+{
+    match what {
+        Instr::Call(body) => call(*body, line, store, control),
+        Instr::Return => leave_body(store),
+        _ => unreachable!(),
+    }
+}
+
+/// Does a call or a return, and gives its events.
+pub(crate) fn calls_telling(
+    what: &Instr,
+    line: u32,
+    declarations: &Declarations<'_>,
+    store: &mut Store<'_>,
+    control: &mut Control,
+) -> Result<Vec<Event>, End>
+    requires is { family_of what.now ≡ Family.Calls }
+    requires few { store.old.core.now.at + 1 < 2 ^ 64 }
+    requires fits { InstrFits (length store.old.core.globals) (length store.old.core.now.own) what.now }
+    requires serves { Serves declarations.now store.old.code }
+    ensures did { DoesTelling (modes_of declarations.now) store.old control.old line (plain_instr (variables store.old.core) what.now) store.new control.new result }
+    ensures reader { control.new.reader ≡ control.old.reader }
+{
+    match what {
+        Instr::Call(body) => call_telling(*body, line, declarations, store, control),
+        _ => alone_telling(what, line, declarations, store, control),
+    }
+}
 
 /// Takes one turn and has the body of this number at work, with its arguments taken off the operands. No parameter is
 /// declared, so each takes every value.
 #[tactic(auto, using(crate::proofs::Entering::call_lacks))]
 #[inline(never)]
-pub(crate) fn call(
-    body: u32,
-    line: u32,
-    store: &mut Store<'_>,
-    control: &mut Control,
-) -> Result<End, Memory>
+fn call(body: u32, line: u32, store: &mut Store<'_>, control: &mut Control) -> Result<End, Memory>
     requires { store.old.core.now.at + 1 < 2 ^ 64 }
     ensures did { (modes : Modes) → AreOfMain modes → IsBare (plain_code store.old.code) → IfOk result (λ end. DoesBy modes store.old control.old line (CallBody body) store.new control.new end) }
     ensures reader { control.new.reader ≡ control.old.reader }
@@ -37,10 +84,7 @@ pub(crate) fn call(
 
 /// Takes the arguments of the body of this number off the operands; None where there is no such body or there are too few.
 #[inline]
-pub(crate) fn arguments(
-    body: u32,
-    store: &mut Store<'_>,
-) -> Result<Option<Vec<Option<Value>>>, Memory>
+fn arguments(body: u32, store: &mut Store<'_>) -> Result<Option<Vec<Option<Value>>>, Memory>
     ensures taken { IfOk result (λ values. TakesArguments body store.old (option_map (λ all. map part all.items) values) store.new) }
     ensures there { IfOk result (λ values. IfSome values (λ all. body < length store.new.code.bodies)) }
     ensures each { IfOk result (λ values. IfSome values (λ all. IfSome (slice_get store.new.code.bodies body) (λ b. length all.items ≡ length b.parameters))) }
@@ -53,7 +97,7 @@ pub(crate) fn arguments(
 
 /// Takes one turn and has the body of this number at work, with these values in its parameters.
 #[inline]
-pub(crate) fn begin(
+fn begin(
     body: u32,
     values: Vec<Option<Value>>,
     store: &mut Store<'_>,
@@ -94,7 +138,7 @@ fn body_of(code: &Code, body: u32) -> Option<&Body>
 
 /// Ends the activation, and pushes the result and what the `wr` and `rw` parameters hold.
 #[inline(never)]
-pub(crate) fn leave_body(store: &mut Store<'_>) -> Result<End, Memory>
+fn leave_body(store: &mut Store<'_>) -> Result<End, Memory>
     ensures { (line : ℕ) → IfOk result (λ end. Works store.old line ReturnTop store.new end) }
 {
     let Some(value) = pop_top(store)? else {
@@ -105,4 +149,38 @@ pub(crate) fn leave_body(store: &mut Store<'_>) -> Result<End, Memory>
     } else {
         Ok(End::Stuck)
     }
+}
+
+/// Calls the body of this number, and gives its events.
+fn call_telling(
+    body: u32,
+    line: u32,
+    declarations: &Declarations<'_>,
+    store: &mut Store<'_>,
+    control: &mut Control,
+) -> Result<Vec<Event>, End>
+    requires few { store.old.core.now.at + 1 < 2 ^ 64 }
+    requires serves { Serves declarations.now store.old.code }
+    ensures did { DoesTelling (modes_of declarations.now) store.old control.old line (CallBody body) store.new control.new result }
+    ensures reader { control.new.reader ≡ control.old.reader }
+{
+    let Some(values) = arguments(body, store)? else {
+        return Err(End::Stuck);
+    };
+    let told = copies(control.alloc(), &values)?;
+    match begin(body, values, store, control)? {
+        End::Paused => Ok(call_events(control.alloc(), store.code(), body, line, told)?),
+        end => Err(end),
+    }
+}
+
+/// Equals of some values.
+fn copies(alloc: Global, values: &[Option<Value>]) -> Result<Vec<Option<Value>>, Memory>
+    ensures { IfOk result (λ all. all.items ≡ values.now) }
+{
+    let mut all = Vec::with_capacity(alloc, values.len())?;
+    for value in values {
+        all.push(copied(value)?)?;
+    }
+    Ok(all)
 }

@@ -1,23 +1,41 @@
-//! Conditions, jumps, and what is done to the top operand.
+//! Conditions, jumps, what is done to the top operand, and the end of the run.
 
 ghost use Rattle.std.specs.Prelude.{◌≡◌, ℕ, ◌<◌, ◌+◌, ◌^◌, IfOk, IsOk};
+ghost use Rattle.setl_code.specs.Plain.{plain_instr};
+ghost use Rattle.setl_store.specs.Standing.{variables};
 ghost use Rattle.setl_code.specs.Code.{Decides, TestBool, Unless, Jump, DropTop, DupTop};
 ghost use Rattle.setl_machine_control.specs.Working.{Works};
 ghost use Rattle.setl_machine.specs.Working.{Judges, decided};
+ghost use Rattle.setl_machine.specs.Families.{family_of};
+ghost use Rattle.setl_machine.specs.declared.families.Family.{Family};
 
+use setl_code::Instr;
 use setl_machine_control::{End, StopKind, copied, go_on, pop_top};
 use setl_program::Connective;
 use setl_store::{Store, Top};
 use setl_store_environment::Memory;
 use setl_value::Value;
 
+/// Does an instruction of conditions, jumps, the top operand, or the end of the run. The error is want of memory.
+pub(crate) fn do_condition(what: &Instr, line: u32, store: &mut Store<'_>) -> Result<End, Memory>
+    requires is { family_of what.now ≡ Family.Conditions }
+    requires few { store.old.core.now.at + 1 < 2 ^ 64 }
+    ensures { IfOk result (λ end. Works store.old line (plain_instr (variables store.old.core) what.now) store.new end) }
+{
+    match what {
+        Instr::Decide(connective, to) => decide(*connective, *to, line, store),
+        Instr::TestTruth => test(line, store),
+        Instr::Unless(to) => unless(*to, line, store),
+        Instr::Jump(to) => jump(*to, store),
+        Instr::Discard => discard(store),
+        Instr::Duplicate => duplicate(store),
+        Instr::Stop => Ok(End::Done),
+        _ => unreachable!(),
+    }
+}
+
 /// Goes to the target where the truth value on top decides, and leaves the answer there; else pops it.
-pub(crate) fn decide(
-    what: Connective,
-    to: u32,
-    line: u32,
-    store: &mut Store<'_>,
-) -> Result<End, Memory>
+fn decide(what: Connective, to: u32, line: u32, store: &mut Store<'_>) -> Result<End, Memory>
     requires { store.old.core.now.at + 1 < 2 ^ 64 }
     ensures { IfOk result (λ end. Works store.old line (Decides what to) store.new end) }
 {
@@ -47,7 +65,7 @@ fn answer(what: Connective, left: bool) -> Option<bool>
 }
 
 /// Stops the run unless a truth value is on top.
-pub(crate) fn test(line: u32, store: &mut Store<'_>) -> Result<End, Memory>
+fn test(line: u32, store: &mut Store<'_>) -> Result<End, Memory>
     requires { store.old.core.now.at + 1 < 2 ^ 64 }
     ensures did { IfOk result (λ end. Works store.old line TestBool store.new end) }
     ensures sure { IsOk result }
@@ -62,7 +80,7 @@ pub(crate) fn test(line: u32, store: &mut Store<'_>) -> Result<End, Memory>
 }
 
 /// Pops a truth value, and goes to the target if it is false.
-pub(crate) fn unless(to: u32, line: u32, store: &mut Store<'_>) -> Result<End, Memory>
+fn unless(to: u32, line: u32, store: &mut Store<'_>) -> Result<End, Memory>
     requires { store.old.core.now.at + 1 < 2 ^ 64 }
     ensures { IfOk result (λ end. Works store.old line (Unless to) store.new end) }
 {
@@ -80,7 +98,7 @@ pub(crate) fn unless(to: u32, line: u32, store: &mut Store<'_>) -> Result<End, M
 }
 
 /// Goes to the target.
-pub(crate) fn jump(to: u32, store: &mut Store<'_>) -> Result<End, Memory>
+fn jump(to: u32, store: &mut Store<'_>) -> Result<End, Memory>
     ensures did { (line : ℕ) → IfOk result (λ end. Works store.old line (Jump to) store.new end) }
     ensures sure { IsOk result }
 {
@@ -89,7 +107,7 @@ pub(crate) fn jump(to: u32, store: &mut Store<'_>) -> Result<End, Memory>
 }
 
 /// Pops the top.
-pub(crate) fn discard(store: &mut Store<'_>) -> Result<End, Memory>
+fn discard(store: &mut Store<'_>) -> Result<End, Memory>
     requires { store.old.core.now.at + 1 < 2 ^ 64 }
     ensures { (line : ℕ) → IfOk result (λ end. Works store.old line DropTop store.new end) }
 {
@@ -102,7 +120,7 @@ pub(crate) fn discard(store: &mut Store<'_>) -> Result<End, Memory>
 
 /// Pushes the top again.
 #[inline(never)]
-pub(crate) fn duplicate(store: &mut Store<'_>) -> Result<End, Memory>
+fn duplicate(store: &mut Store<'_>) -> Result<End, Memory>
     requires { store.old.core.now.at + 1 < 2 ^ 64 }
     ensures { (line : ℕ) → IfOk result (λ end. Works store.old line DupTop store.new end) }
 {

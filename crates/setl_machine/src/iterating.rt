@@ -1,15 +1,17 @@
-//! Iterators, collections that are being built, and tuples that are taken apart.
+//! Iterators, collections that are being built, tuples that are taken apart, and rounds.
 
-ghost use Rattle.std.specs.Prelude.{◌≡◌, ℕ, ◌<◌, ◌+◌, ◌^◌, IfOk, OnOk};
-ghost use Rattle.setl_code.specs.Code.{PartsOf, BeginOver, NextOr, BeginOf, AddBelow, LeaveAll};
+ghost use Rattle.std.specs.Prelude.{◌≡◌, ℕ, ◌<◌, ◌+◌, ◌^◌, IfOk, IsOk, OnOk};
+ghost use Rattle.setl_code.specs.Code.{PartsOf, BeginOver, NextOr, BeginOf, AddBelow, LeaveAll, PayRound};
 ghost use Rattle.setl_code.specs.Machine.{first_parts};
-ghost use Rattle.setl_code.specs.Plain.{plain_begin};
-ghost use Rattle.setl_store.specs.Standing.{over};
+ghost use Rattle.setl_code.specs.Plain.{plain_begin, plain_instr};
+ghost use Rattle.setl_store.specs.Standing.{over, variables};
 ghost use Rattle.setl_value.specs.code.DatumOf.{part};
 ghost use Rattle.setl_machine_control.specs.Working.{Works, Does};
 ghost use Rattle.setl_machine.specs.Working.{component_of};
+ghost use Rattle.setl_machine.specs.Families.{family_of};
+ghost use Rattle.setl_machine.specs.declared.families.Family.{Family};
 
-use setl_code::Begin;
+use setl_code::{Begin, Instr};
 use setl_machine_control::{Control, End, StopKind, end_by, go_on, pop_top};
 use setl_program::Collection;
 use setl_store::{Ahead, Store};
@@ -18,9 +20,33 @@ use setl_store_iterator::begin;
 use setl_value::{TupleBody, Value};
 use std::alloc::Global;
 
+/// Does an instruction of iterators, collections, components or rounds. The error is want of memory.
+pub(crate) fn do_iteration(
+    what: &Instr,
+    line: u32,
+    store: &mut Store<'_>,
+    control: &mut Control,
+) -> Result<End, Memory>
+    requires is { family_of what.now ≡ Family.Iteration }
+    requires few { store.old.core.now.at + 1 < 2 ^ 64 }
+    ensures did { IfOk result (λ end. Does store.old control.old line (plain_instr (variables store.old.core) what.now) store.new control.new end) }
+    ensures reader { control.new.reader ≡ control.old.reader }
+{
+    match what {
+        Instr::Parts(count) => take_apart(*count, line, store),
+        Instr::Begin(how, count) => begin_over(control.alloc(), *how, *count, line, store),
+        Instr::Next(to) => next(*to, store, control),
+        Instr::Collect(what) => collect(*what, store),
+        Instr::Add(count) => add(*count, line, store),
+        Instr::Leave(count) => leave(*count, store),
+        Instr::Round => round(store, control),
+        _ => unreachable!(),
+    }
+}
+
 /// Pops a tuple and pushes its first components, so many, the first one on top.
 #[inline(never)]
-pub(crate) fn take_apart(count: u32, line: u32, store: &mut Store<'_>) -> Result<End, Memory>
+fn take_apart(count: u32, line: u32, store: &mut Store<'_>) -> Result<End, Memory>
     requires { store.old.core.now.at + 1 < 2 ^ 64 }
     ensures { IfOk result (λ end. Works store.old line (PartsOf count) store.new end) }
 {
@@ -58,7 +84,7 @@ fn component(tuple: &TupleBody, at: usize) -> Result<Option<Value>, Memory>
 
 /// Pops the parts of a source, so many, and pushes the iterator over its items.
 #[inline(never)]
-pub(crate) fn begin_over(
+fn begin_over(
     alloc: Global,
     how: Begin,
     count: u32,
@@ -83,7 +109,7 @@ pub(crate) fn begin_over(
 
 /// At the end of the iterator on top drops it and goes to the target; else takes one turn and pushes the next item.
 #[inline(never)]
-pub(crate) fn next(to: u32, store: &mut Store<'_>, control: &mut Control) -> Result<End, Memory>
+fn next(to: u32, store: &mut Store<'_>, control: &mut Control) -> Result<End, Memory>
     requires { store.old.core.now.at + 1 < 2 ^ 64 }
     ensures did { (line : ℕ) → IfOk result (λ end. Does store.old control.old line (NextOr to) store.new control.new end) }
     ensures reader { control.new.reader ≡ control.old.reader }
@@ -111,7 +137,7 @@ pub(crate) fn next(to: u32, store: &mut Store<'_>, control: &mut Control) -> Res
 
 /// Pushes an empty collection.
 #[inline(never)]
-pub(crate) fn collect(what: Collection, store: &mut Store<'_>) -> Result<End, Memory>
+fn collect(what: Collection, store: &mut Store<'_>) -> Result<End, Memory>
     requires { store.old.core.now.at + 1 < 2 ^ 64 }
     ensures { (line : ℕ) → IfOk result (λ end. Works store.old line (BeginOf what) store.new end) }
 {
@@ -122,7 +148,7 @@ pub(crate) fn collect(what: Collection, store: &mut Store<'_>) -> Result<End, Me
 
 /// Pops a value, and adds it to the collection below so many iterators.
 #[inline(never)]
-pub(crate) fn add(count: u32, line: u32, store: &mut Store<'_>) -> Result<End, Memory>
+fn add(count: u32, line: u32, store: &mut Store<'_>) -> Result<End, Memory>
     requires { store.old.core.now.at + 1 < 2 ^ 64 }
     ensures { IfOk result (λ end. Works store.old line (AddBelow count) store.new end) }
 {
@@ -141,12 +167,26 @@ pub(crate) fn add(count: u32, line: u32, store: &mut Store<'_>) -> Result<End, M
 
 /// Drops so many iterators.
 #[inline(never)]
-pub(crate) fn leave(count: u32, store: &mut Store<'_>) -> Result<End, Memory>
+fn leave(count: u32, store: &mut Store<'_>) -> Result<End, Memory>
     requires { store.old.core.now.at + 1 < 2 ^ 64 }
     ensures { (line : ℕ) → IfOk result (λ end. Works store.old line (LeaveAll count) store.new end) }
 {
     if !store.drop_iterators(count as usize)? {
         return Ok(End::Stuck);
+    }
+    go_on(store);
+    Ok(End::Paused)
+}
+
+/// Takes one turn.
+fn round(store: &mut Store<'_>, control: &mut Control) -> Result<End, Memory>
+    requires { store.old.core.now.at + 1 < 2 ^ 64 }
+    ensures did { (line : ℕ) → IfOk result (λ end. Does store.old control.old line PayRound store.new control.new end) }
+    ensures reader { control.new.reader ≡ control.old.reader }
+    ensures sure { IsOk result }
+{
+    if !control.turn() {
+        return Ok(End::Spent);
     }
     go_on(store);
     Ok(End::Paused)

@@ -1,15 +1,19 @@
 //! The machine that runs the code of a program: by steps, over a store, a control, an input and an output.
 #![tactic(auto)]
 
+mod backtracking;
 mod calling;
 mod conditions;
 mod dispatch;
+mod families;
 mod iterating;
 mod laws;
 mod machine;
 mod operating;
 mod outside;
 mod telling;
+mod values;
+mod variables;
 mod watching;
 
 pub use laws::ends_write_nothing;

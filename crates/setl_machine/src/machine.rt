@@ -12,6 +12,7 @@ ghost use Rattle.setl_machine.specs.Outcome.{seen, Steps, AtPrint, AtRead, Ran, 
 ghost use Rattle.setl_machine_control.specs.declared.end.End.{End};
 
 use crate::dispatch::quiet_step;
+use crate::families::{Family, family_of};
 use crate::outside::{print, read};
 use setl_code::Instr;
 use setl_io::{Sink, Source};
@@ -112,9 +113,12 @@ fn step<I: Source, O: Sink>(
     let Some(step) = store.step() else {
         return End::Stuck;
     };
-    match &step.what {
-        Instr::Print(count) => print(*count, store, control, out),
-        Instr::Read => read(step.line, store, control, input),
-        what => quiet_step(what, step.line, declarations, store, control),
+    match family_of(&step.what) {
+        Family::Outside => match &step.what {
+            Instr::Print(count) => print(*count, store, control, out),
+            Instr::Read => read(step.line, store, control, input),
+            _ => unreachable!(),
+        },
+        _ => quiet_step(&step.what, step.line, declarations, store, control),
     }
 }

@@ -1,13 +1,19 @@
-//! Instructions that ask the control: operators, atoms, the end of the input, and rounds.
+//! Operators on operands, and those without any: a new atom, and whether a read met the end of the input.
 
-ghost use Rattle.std.specs.Prelude.{◌≡◌, ℕ, ◌<◌, ◌+◌, ◌^◌, Some, IfOk, IsOk};
-ghost use Rattle.setl_code.specs.Code.{Operate, PushAtom, PushEof, PayRound};
+ghost use Rattle.std.specs.Prelude.{◌≡◌, ℕ, ◌<◌, ◌+◌, ◌^◌, length, Some, IfOk};
+ghost use Rattle.setl_code.specs.Code.{Operate, PushAtom, PushEof};
+ghost use Rattle.setl_code.specs.MayRun.{InstrFits};
+ghost use Rattle.setl_code.specs.Plain.{plain_instr};
 ghost use Rattle.setl_operators_table.specs.Operators.{operand_count, TakesOperands};
 ghost use Rattle.setl_value.specs.code.DatumOf.{part};
 ghost use Rattle.setl_store.specs.Operands.{IsPlainTop};
+ghost use Rattle.setl_store.specs.Standing.{variables};
 ghost use Rattle.setl_machine.specs.Operating.{AreTwo, PutsForTwo, PutsForOne};
 ghost use Rattle.setl_machine_control.specs.Working.{Does};
+ghost use Rattle.setl_machine.specs.Families.{family_of};
+ghost use Rattle.setl_machine.specs.declared.families.Family.{Family};
 
+use setl_code::Instr;
 use setl_machine_control::{Control, End, end_by, go_on};
 use setl_machine_variables::freely_of_top;
 use setl_operators::{Operator, op, op_one, op_two};
@@ -15,8 +21,29 @@ use setl_store::Store;
 use setl_store_environment::Memory;
 use setl_value::Value;
 
+/// Does an operator. The error is want of memory.
+pub(crate) fn do_operator(
+    what: &Instr,
+    line: u32,
+    store: &mut Store<'_>,
+    control: &mut Control,
+) -> Result<End, Memory>
+    requires is { family_of what.now ≡ Family.Operators }
+    requires few { store.old.core.now.at + 1 < 2 ^ 64 }
+    requires fits { InstrFits (length store.old.core.globals) (length store.old.core.now.own) what.now }
+    ensures did { IfOk result (λ end. Does store.old control.old line (plain_instr (variables store.old.core) what.now) store.new control.new end) }
+    ensures reader { control.new.reader ≡ control.old.reader }
+{
+    match what {
+        Instr::Operate(operator, count) => operate(*operator, *count, line, store, control),
+        Instr::NewAtom => push_atom(store, control),
+        Instr::Eof => push_eof(store, control),
+        _ => unreachable!(),
+    }
+}
+
 /// Pops so many operands, and pushes what the operator makes of them for its charge.
-pub(crate) fn operate(
+fn operate(
     what: Operator,
     count: u32,
     line: u32,
@@ -165,7 +192,7 @@ fn operate_listed(
 
 /// Pushes the next atom, for one turn.
 #[inline(never)]
-pub(crate) fn push_atom(store: &mut Store<'_>, control: &mut Control) -> Result<End, Memory>
+fn push_atom(store: &mut Store<'_>, control: &mut Control) -> Result<End, Memory>
     requires { store.old.core.now.at + 1 < 2 ^ 64 }
     ensures did { (line : ℕ) → IfOk result (λ end. Does store.old control.old line PushAtom store.new control.new end) }
     ensures reader { control.new.reader ≡ control.old.reader }
@@ -180,25 +207,11 @@ pub(crate) fn push_atom(store: &mut Store<'_>, control: &mut Control) -> Result<
 
 /// Pushes whether a read met the end of the input.
 #[inline(never)]
-pub(crate) fn push_eof(store: &mut Store<'_>, control: &Control) -> Result<End, Memory>
+fn push_eof(store: &mut Store<'_>, control: &Control) -> Result<End, Memory>
     requires { store.old.core.now.at + 1 < 2 ^ 64 }
     ensures { (line : ℕ) → IfOk result (λ end. Does store.old control.now line PushEof store.new control.now end) }
 {
     store.push(Some(Value::Bool(control.eof())))?;
-    go_on(store);
-    Ok(End::Paused)
-}
-
-/// Takes one turn.
-pub(crate) fn round(store: &mut Store<'_>, control: &mut Control) -> Result<End, Memory>
-    requires { store.old.core.now.at + 1 < 2 ^ 64 }
-    ensures did { (line : ℕ) → IfOk result (λ end. Does store.old control.old line PayRound store.new control.new end) }
-    ensures reader { control.new.reader ≡ control.old.reader }
-    ensures sure { IsOk result }
-{
-    if !control.turn() {
-        return Ok(End::Spent);
-    }
     go_on(store);
     Ok(End::Paused)
 }

@@ -1,6 +1,6 @@
 //! `print` and `read`.
 
-ghost use Rattle.std.specs.Prelude.{◌≡◌, ◌<◌, ◌+◌, ◌^◌, ◌∷◌, List, ℕ, suc, None, IfOk, OnOk};
+ghost use Rattle.std.specs.Prelude.{◌≡◌, ◌<◌, ◌+◌, ◌^◌, ◌∷◌, [], List, ℕ, suc, None, map, IfOk, OnOk};
 ghost use Rattle.setl_value.specs.code.DatumOf.{part};
 ghost use Rattle.setl_code.specs.CodeCore.{Result as Holds};
 ghost use Rattle.setl_store.specs.Standing.{at_place, over};
@@ -11,17 +11,22 @@ ghost use Rattle.setl_text.specs.code.Reads.{ahead, SourceCounts, StaysHonest, T
 ghost use Rattle.setl_machine_control.specs.Control.{world_of, in_world, stood_for, IsRest};
 ghost use Rattle.setl_machine_control.specs.Declaring.{Modes};
 ghost use Rattle.setl_machine_control.specs.Answers.{next_of};
+ghost use Rattle.setl_watch.specs.Notices.{Printed as PrintNotice, without_last};
+ghost use Rattle.setl_watch.specs.code.NoticeOf.{notice_of};
+ghost use Rattle.setl_machine.specs.Hearing.{ended, TellsOf};
 ghost use Rattle.setl_machine.specs.Outcome.{seen, Steps};
 ghost use Rattle.setl_machine_control.specs.Reading.{TakesIn};
 ghost use Rattle.setl_machine.specs.Working.{TakesLine, WritesLine, EndsReading};
 ghost use Rattle.setl_machine_control.specs.declared.end.End.{End};
 
+use crate::telling::one;
 use setl_io::{Sink, Source, WriteFault, write_all};
 use setl_machine_control::{Control, End, StopKind, go_on};
 use setl_store::Store;
 use setl_store_environment::Memory;
 use setl_text::{ReadFault, line};
 use setl_value::Value;
+use setl_watch::Event;
 use std::alloc::Global;
 
 /// Writes the line of so many operands as one piece, and takes them off.
@@ -44,7 +49,7 @@ pub(crate) fn print<O: Sink>(
 
 /// Takes so many operands off, and gives their line; or how the run ends where there are too few.
 #[inline]
-pub(crate) fn take_line(count: u32, store: &mut Store<'_>, alloc: Global) -> Result<Vec<u8>, End>
+fn take_line(count: u32, store: &mut Store<'_>, alloc: Global) -> Result<Vec<u8>, End>
     ensures { TakesLine count store.old result store.new }
 {
     let Some(values) = store.pop_values(count as usize)? else {
@@ -55,7 +60,7 @@ pub(crate) fn take_line(count: u32, store: &mut Store<'_>, alloc: Global) -> Res
 
 /// Writes a line as one piece, and goes on.
 #[inline]
-pub(crate) fn write_line<O: Sink>(line: &[u8], store: &mut Store<'_>, out: &mut O) -> End
+fn write_line<O: Sink>(line: &[u8], store: &mut Store<'_>, out: &mut O) -> End
     requires { store.old.core.now.at + 1 < 2 ^ 64 }
     ensures { (n : ℕ) → WritesLine line.now store.old (seen (O.held out.old) (O.faults out.old) n) store.new (seen (O.held out.new) (O.faults out.new) n) result }
 {
@@ -116,5 +121,44 @@ fn end_reading(fault: ReadFault, line: u32) -> End
         ReadFault::Deep => End::Stopped(StopKind::Deep, line),
         ReadFault::Source => End::ReadFault,
         ReadFault::NoMemory => End::NoMemory,
+    }
+}
+
+/// Writes the line of so many operands as `print` does. Its event is made before, since the line can't be taken back.
+pub(crate) fn print_telling<O: Sink>(
+    count: u32,
+    store: &mut Store<'_>,
+    control: &Control,
+    out: &mut O,
+) -> Result<Vec<Event>, End>
+    requires { store.old.core.now.at + 1 < 2 ^ 64 }
+    ensures did { (modes : Modes) (line : ℕ) (w : World) (n : ℕ) → Steps modes (next_of modes (plain_code store.old.code) line (PrintTop count) (in_world w store.old.core)) (seen (O.held out.old) (O.faults out.old) n) (seen (O.held out.new) (O.faults out.new) n) (in_world w store.new.core) (ended result) }
+    ensures tells { (line : ℕ) → TellsOf store.old control.now line (PrintTop count) store.new control.now result }
+    ensures no_read { ended result ≡ End.ReadFault → ⊥ }
+{
+    let line = take_line(count, store, control.alloc())?;
+    let events = print_events(control.alloc(), &line)?;
+    match write_line(&line, store, out) {
+        End::Paused => Ok(events),
+        end => Err(end),
+    }
+}
+
+/// The event of a line, which has it without byte 10.
+fn print_events(alloc: Global, line: &[u8]) -> Result<Vec<Event>, Memory>
+    ensures { IfOk result (λ es. map notice_of es.items ≡ PrintNotice (without_last line.now) ∷ []) }
+{
+    let bytes = without_last(alloc, line)?;
+    one(alloc, Event::Printed { bytes })
+}
+
+/// All bytes but the last one.
+#[tactic(auto, using(crate::proofs::Told::without))]
+fn without_last(alloc: Global, bytes: &[u8]) -> Result<Vec<u8>, Memory>
+    ensures { IfOk result (λ front. front.items ≡ without_last bytes.now) }
+{
+    match bytes.split_last() {
+        Some((_, front)) => front.to_vec(alloc),
+        None => Ok(Vec::new(alloc)),
     }
 }

@@ -1,39 +1,46 @@
-use Rattle.std.proofs.Common.{IfOk, refl, sym, subst}
-use Rattle.setl_code.specs.declared.code.Instr.{Instr}
-use Rattle.setl_code.specs.declared.code.Instr.TheVariants.{Store}
+use Rattle.std.proofs.Common.{refl}
 use Rattle.setl_code.specs.Plain.{plain_instr}
 use Rattle.setl_store.specs.Standing.{variables}
 use Rattle.setl_machine_control.specs.Declaring.{modes_of}
-use Rattle.setl_machine_control.specs.Working.{DoesBy}
-use Rattle.setl_machine_control.specs.Laws.{works_alone_by}
-use Rattle.setl_machine.proofs.Working.{does_untested}
+use Rattle.setl_machine.proofs.Working.{works_any, does_untested}
 use Rattle.setl_machine.proofs.dispatch.do_quiet.Goals as goal
 
-pub returns-in-Store : goal.returns-in-Store
-returns-in-Store c =
+pub returns-in-Values : goal.returns-in-Values
+returns-in-Values c =
     let s = c.args.store.now in
-    let modes = modes_of c.args.declarations.now in
-    let from = c.args.control.now in
     record {
-      did = subst (λ (what : Instr). IfOk c.store_in.result (λ end. DoesBy modes s from c.args.line (plain_instr (variables s.core) what) c.store_in.new.store from end)) (sym c.in-Store.is)
-          (works_alone_by modes s c.store_in.new.store from c.args.line (plain_instr (variables s.core) (Store c.in-Store.slot)) c.store_in.result c.store_in.ensures);
+      did = works_any (modes_of c.args.declarations.now) s c.do_value.new.store c.args.control.now c.args.line (plain_instr (variables s.core) c.args.what.now) c.do_value.result (c.do_value.ensures c.args.line);
       reader = refl;
     }
 
-pub returns-in-Call : goal.returns-in-Call
-returns-in-Call c =
+pub returns-in-Conditions : goal.returns-in-Conditions
+returns-in-Conditions c =
     let s = c.args.store.now in
-    let modes = modes_of c.args.declarations.now in
     record {
-      did = subst (λ (what : Instr). IfOk c.call.result (λ end. DoesBy modes s c.args.control.now c.args.line (plain_instr (variables s.core) what) c.call.new.store c.call.new.control end)) (sym c.in-Call.is)
-          (c.call.ensures.did modes c.requires.serves.main c.requires.serves.bare);
-      reader = c.call.ensures.reader;
+      did = works_any (modes_of c.args.declarations.now) s c.do_condition.new.store c.args.control.now c.args.line (plain_instr (variables s.core) c.args.what.now) c.do_condition.result c.do_condition.ensures;
+      reader = refl;
     }
 
-pub returns-in_default : goal.returns-in_default
-returns-in_default c =
+pub returns-in-Operators : goal.returns-in-Operators
+returns-in-Operators c =
     let s = c.args.store.now in
     record {
-      did = does_untested (modes_of c.args.declarations.now) s c.do_untested.new.store c.args.control.now c.do_untested.new.control c.args.line (plain_instr (variables s.core) c.args.what.now) c.do_untested.result c.do_untested.ensures.did;
-      reader = c.do_untested.ensures.reader;
+      did = does_untested (modes_of c.args.declarations.now) s c.do_operator.new.store c.args.control.now c.do_operator.new.control c.args.line (plain_instr (variables s.core) c.args.what.now) c.do_operator.result c.do_operator.ensures.did;
+      reader = c.do_operator.ensures.reader;
+    }
+
+pub returns-in-Iteration : goal.returns-in-Iteration
+returns-in-Iteration c =
+    let s = c.args.store.now in
+    record {
+      did = does_untested (modes_of c.args.declarations.now) s c.do_iteration.new.store c.args.control.now c.do_iteration.new.control c.args.line (plain_instr (variables s.core) c.args.what.now) c.do_iteration.result c.do_iteration.ensures.did;
+      reader = c.do_iteration.ensures.reader;
+    }
+
+pub returns-in-Backtracking : goal.returns-in-Backtracking
+returns-in-Backtracking c =
+    let s = c.args.store.now in
+    record {
+      did = does_untested (modes_of c.args.declarations.now) s c.do_backtracking.new.store c.args.control.now c.do_backtracking.new.control c.args.line (plain_instr (variables s.core) c.args.what.now) c.do_backtracking.result c.do_backtracking.ensures.did;
+      reader = c.do_backtracking.ensures.reader;
     }

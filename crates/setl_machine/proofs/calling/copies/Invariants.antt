@@ -1,5 +1,5 @@
 use Rattle.std.proofs.Common.{◌≡◌, ◌++◌, drop}
-use Rattle.setl_machine.proofs.telling.copies.Given as goal
+use Rattle.setl_machine.proofs.calling.copies.Given as goal
 
 abbrev pub invariant-loop-value : goal.invariant-loop-value
 invariant-loop-value l = l.all.items ++ drop l.value-index l.values ≡ l.values

@@ -9,7 +9,7 @@ use Rattle.setl_machine.specs.Working.{TakesLine, WritesLine}
 use Rattle.setl_machine_control.specs.declared.end.End.{End}
 use Rattle.setl_machine.proofs.Printing.{writes, reads_none}
 use Rattle.setl_machine.proofs.Told.{tells_print}
-use Rattle.setl_machine.proofs.telling.print_telling.Goals as goal
+use Rattle.setl_machine.proofs.outside.print_telling.Goals as goal
 
 pub returns-in-Paused-clause-did : goal.returns-in-Paused-clause-did
 returns-in-Paused-clause-did g c = λ modes line w n.

@@ -5,7 +5,7 @@ use Rattle.setl_store.specs.Standing.{variables}
 use Rattle.setl_machine_control.specs.Control.{world_of}
 use Rattle.setl_machine_control.specs.Declaring.{modes_of}
 use Rattle.setl_machine.proofs.Told.{in_body, slot_stays, stayed_store, tells_store, telling_on, telling_ends}
-use Rattle.setl_machine.proofs.telling.store_telling.Goals as goal
+use Rattle.setl_machine.proofs.variables.store_telling.Goals as goal
 
 pub stored_events-requires : goal.stored_events-requires
 stored_events-requires c =

@@ -9,7 +9,7 @@ use Rattle.setl_watch.specs.code.NoticeOf.{notice_of}
 use Rattle.setl_machine_control.specs.Control.{stood_for}
 use Rattle.setl_machine_control.specs.Declaring.{modes_of}
 use Rattle.setl_machine.proofs.Told.{in_body, slot_stays, stayed_alter, tells_store, tells_alter, telling_on, telling_ends}
-use Rattle.setl_machine.proofs.telling.alter_telling.Goals as goal
+use Rattle.setl_machine.proofs.variables.alter_telling.Goals as goal
 
 pub stored_events-requires : goal.stored_events-requires
 stored_events-requires c =

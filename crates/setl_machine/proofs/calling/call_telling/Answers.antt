@@ -8,7 +8,7 @@ use Rattle.setl_machine_control.specs.Declaring.{modes_of}
 use Rattle.setl_machine.specs.Working.{TakesArguments}
 use Rattle.setl_machine.proofs.Entering.{begun}
 use Rattle.setl_machine.proofs.Told.{tells_call, telling_on, telling_ends}
-use Rattle.setl_machine.proofs.telling.call_telling.Goals as goal
+use Rattle.setl_machine.proofs.calling.call_telling.Goals as goal
 
 pub returns-in_ok-call_events-in-Paused-clause-did : goal.returns-in_ok-call_events-in-Paused-clause-did
 returns-in_ok-call_events-in-Paused-clause-did c =

@@ -1,0 +1,18 @@
+use Rattle.std.proofs.Common.{IfOk, refl, sym, subst}
+use Rattle.setl_code.specs.declared.code.Instr.{Instr}
+use Rattle.setl_code.specs.declared.code.Instr.TheVariants.{Keep}
+use Rattle.setl_code.specs.Plain.{plain_instr}
+use Rattle.setl_store.specs.Standing.{variables}
+use Rattle.setl_machine_control.specs.Working.{Does}
+use Rattle.setl_machine.proofs.Working.{works_alone}
+use Rattle.setl_machine.proofs.backtracking.do_backtracking.Goals as goal
+
+pub returns-in-Keep : goal.returns-in-Keep
+returns-in-Keep c =
+    let s = c.args.store.now in
+    let from = c.args.control.now in
+    record {
+      did = subst (λ (what : Instr). IfOk c.keep.result (λ end. Does s from c.args.line (plain_instr (variables s.core) what) c.keep.new.store from end)) (sym c.in-Keep.is)
+          (works_alone s c.keep.new.store from c.args.line (plain_instr (variables s.core) Keep) c.keep.result (c.keep.ensures c.args.line));
+      reader = refl;
+    }

@@ -1,0 +1,50 @@
+//! `ok` and `fail`.
+
+ghost use Rattle.std.specs.Prelude.{◌≡◌, ℕ, ◌<◌, ◌+◌, ◌^◌, IfOk};
+ghost use Rattle.setl_code.specs.CodeCore.{CodeCore};
+ghost use Rattle.setl_code.specs.Plain.{Variables, plain_instr};
+ghost use Rattle.setl_code.specs.Code.{Code};
+ghost use Rattle.setl_store.specs.Standing.{variables};
+ghost use Rattle.setl_machine_control.specs.Working.{Does};
+ghost use Rattle.setl_machine.specs.Families.{family_of};
+ghost use Rattle.setl_machine.specs.Hearing.{Tells};
+ghost use Rattle.setl_machine.specs.declared.families.Family.{Family};
+
+use crate::telling::one;
+use setl_code::Instr;
+use setl_machine_control::{Control, End, back, keep};
+use setl_store::Store;
+use setl_store_environment::Memory;
+use setl_watch::Event;
+use std::alloc::Global;
+
+/// Does `ok` or `fail`. The error is want of memory.
+pub(crate) fn do_backtracking(
+    what: &Instr,
+    line: u32,
+    store: &mut Store<'_>,
+    control: &mut Control,
+) -> Result<End, Memory>
+    requires is { family_of what.now ≡ Family.Backtracking }
+    requires few { store.old.core.now.at + 1 < 2 ^ 64 }
+    ensures did { IfOk result (λ end. Does store.old control.old line (plain_instr (variables store.old.core) what.now) store.new control.new end) }
+    ensures reader { control.new.reader ≡ control.old.reader }
+{
+    match what {
+        Instr::Keep => keep(store),
+        Instr::Back => back(line, store, control),
+        _ => unreachable!(),
+    }
+}
+
+/// The event of `ok` or `fail`.
+pub(crate) fn backtracking_events(what: &Instr, alloc: Global) -> Result<Vec<Event>, Memory>
+    requires is { family_of what.now ≡ Family.Backtracking }
+    ensures { (code : Code) (line : ℕ) (xs : Variables) (k d : CodeCore) → IfOk result (λ es. Tells code line (plain_instr xs what.now) k d es.items) }
+{
+    match what {
+        Instr::Keep => one(alloc, Event::Kept),
+        Instr::Back => one(alloc, Event::Back),
+        _ => unreachable!(),
+    }
+}
