@@ -40,8 +40,8 @@ returns-in-Read-clause-did g c =
     let did = c.read.ensures.did (modes_of c.args.declarations.now) held faults rest h in
     (did.0, did.1, by_step (modes_of c.args.declarations.now) m (stood_for s.core c.args.control.now did.0) (stood_for c.read.new.store.core c.read.new.control rest) line ReadOne old new c.read.result here did.2)
 
-pub returns-in_default-what : goal.returns-in_default-what
-returns-in_default-what g c =
+pub returns-in_default-family_of : goal.returns-in_default-family_of
+returns-in_default-family_of g c =
     let s = c.args.store.now in
     let m = plain_code s.code in
     let line = c.in-Some.step.now.line in

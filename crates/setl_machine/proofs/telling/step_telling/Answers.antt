@@ -88,8 +88,8 @@ returns-in_default-read g c =
       honest = c.read.ensures.honest;
     }
 
-pub returns-in_default-what : goal.returns-in_default-what
-returns-in_default-what g c =
+pub returns-in_default-family_of : goal.returns-in_default-family_of
+returns-in_default-family_of g c =
     let s = c.args.store.now in
     let m = plain_code s.code in
     let modes = modes_of c.args.declarations.now in
