@@ -219,11 +219,11 @@ appends_same a b e = subst (λ (c : Seen (List ℕ)). Appends a.held c.held []) 
 
 -- and no count rose
 pub count_same : {A : Type 0} (a b : Seen A) → b ≡ a → b.faults ≤ a.faults
-count_same a b e = let same : b.faults ≡ a.faults = ap (λ (c : Seen A). c.faults) e in omega (arith, same)
+count_same {A = A} a b e = let same : b.faults ≡ a.faults = ap (λ (c : Seen A). c.faults) e in omega (arith, same)
 
 -- what was held is held
 pub held_same : {A : Type 0} (a b : Seen A) → b ≡ a → b.held ≡ a.held
-held_same a b e = ap (λ (c : Seen A). c.held) e
+held_same {A = A} a b e = ap (λ (c : Seen A). c.held) e
 
 -- a check of a file, which leaves the input and the output alone
 pub check_ends : (words : List (List ℕ)) (before after : Outside) (name : List ℕ) → Spells words (Check name) → LeavesRest before after → (r : Status) → Checks name before.files after.files before.error_output after.error_output r → Headline words before after r

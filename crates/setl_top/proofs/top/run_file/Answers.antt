@@ -6,7 +6,7 @@ use Rattle.setl_top_words.specs.code.Commands.{options_now}
 use Rattle.setl_top_words.specs.Words.{Run}
 use Rattle.setl_top.specs.Headline.{untouched}
 use Rattle.setl_program.specs.ProgramOf.{program_of}
-use Rattle.setl_top.specs.code.Runs.{Runs, TakesInput, counted}
+use Rattle.setl_top.specs.code.Runs.{Runs, TakesInput, counted, streams}
 use Rattle.setl_top.proofs.Accepting.{is_accepted}
 use Rattle.setl_top.proofs.Ends.{not_loaded, run_ends, run_takes, tells_then}
 use Rattle.setl_top_status.specs.FrontLaws.{appends_none}
@@ -38,9 +38,12 @@ returns g c =
     let ran = runs_or program asked _ _ c.run_program.result end c.unwrap_or-end.ensures c.run_program.ensures.ran c.run_program.ensures.out in
     let modes = map plain_declared c.counted.result.now in
     let heard = watched (map (λ w. (goal.Watcher-dyn g (w.vtable, w.value)).watch w.value) c.run_program.new.watchers.items) c.run_program.new.reports.items in
+    let input = seen g.I.Source.left g.I.Source.faults c.args.input.now in
+    let output = seen g.O.Sink.held g.O.Sink.faults c.args.out.now in
+    let to = streams (seen g.I.Source.left g.I.Source.faults c.run_program.new.input) (seen g.O.Sink.held g.O.Sink.faults c.run_program.new.out) heard in
     let same : watched (map (λ w. (goal.Watcher-dyn g (w.vtable, w.value)).watch w.value) c.deref.result.now) c.run_program.new.reports.items ≡ heard = ap (λ ws. watched (map (λ w. (goal.Watcher-dyn g (w.vtable, w.value)).watch w.value) ws) c.run_program.new.reports.items) c.deref.ensures.value in
     let told = tells_then modes (counted asked (program_of l.tree)) _ heard end (seen g.E.Sink.held g.E.Sink.faults c.args.err.now) (seen g.E.Sink.held g.E.Sink.faults c.load_resolved.new.err) (seen g.E.Sink.held g.E.Sink.faults c.tell_end.new.err) c.tell_end.result (c.counted.ensures ∙ ap (counted asked) l.meaning) same known.still.same c.tell_end.ensures.told in
     record {
-      headline = λ words handed s there kept. run_ends words _ _ heard asked c.args.name.now l.tree s there l.loaded end (heard_from (λ x. Runs (program_of l.tree) asked x _ end) _ _ _ _ _ kept c.new-reports.ensures.items (runs_as _ _ asked _ _ end l.meaning ran)) (omega (arith, known.still.count)) _ told;
-      input = λ words handed s there kept. run_takes words _ _ heard asked c.args.name.now l.tree s there l.loaded (heard_from (λ x. TakesInput (program_of l.tree) asked x _) _ _ _ _ _ kept c.new-reports.ensures.items (takes_as _ _ asked _ _ l.meaning c.run_program.ensures.input));
+      headline = λ words handed s there kept. run_ends words _ _ heard asked c.args.name.now l.tree s there l.loaded end (heard_from (λ x. Runs (program_of l.tree) asked x to end) input output _ _ _ kept c.new-reports.ensures.items (runs_as _ _ asked _ to end l.meaning ran)) (omega (arith, known.still.count)) _ told;
+      input = λ words handed s there kept. run_takes words _ _ heard asked c.args.name.now l.tree s there l.loaded (heard_from (λ x. TakesInput (program_of l.tree) asked x to) input output _ _ _ kept c.new-reports.ensures.items (takes_as _ _ asked _ to l.meaning c.run_program.ensures.input));
     }
