@@ -141,7 +141,7 @@ module _ (one_command : OneCommand) where
   -- no run ends with the status of faulty words
   not_words : (end : End) (status : Status) → status_of end ≡ Some status → status ≡ Words → ⊥
   not_words events.Done status h e = absurd (cc)
-  not_words (events.Stopped kind line) status h e = absurd (cc)
+  not_words (events.Stopped why line) status h e = absurd (cc)
   not_words events.Spent status h e = absurd (cc)
   not_words events.Stuck status h e = absurd (cc)
 

@@ -121,7 +121,7 @@ pub record IsAtRead (words : List (List ℕ)) (before : Outside) (out : List ℕ
 -- what a trial with this line writes whose run ends so: the line where it is done, and otherwise nothing
 abbrev pub trial_output : End → List ℕ → List ℕ
 trial_output run.Done line = line
-trial_output (run.Stopped kind at) line = []
+trial_output (run.Stopped why at) line = []
 trial_output run.Spent line = []
 trial_output run.Stuck line = []
 
