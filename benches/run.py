@@ -120,7 +120,7 @@ def main():
     program = given.program.resolve()
     if not program.exists():
         sys.exit(f'run: {program} isn\'t there; rt ci leaves it')
-    empties = [[program, 'run', FOLDER.parent / 'examples' / 'empty.setl'], [sys.executable, '-c', '']]
+    empties = [[program, 'run', FOLDER.parent / 'examples' / 'regressions' / 'empty.setl'], [sys.executable, '-c', '']]
     try:
         empty, _ = least(empties, b'0\n', max(given.rounds, 5), given.limit)
     except Failed as failed:
