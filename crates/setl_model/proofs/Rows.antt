@@ -2,10 +2,8 @@
 use Rattle.std.proofs.Common.{◌≡◌, true, [], refl}
 use Rattle.std.specs.Prelude.{codes}
 use Rattle.std.specs.Fmt.{digits}
-use Rattle.setl_model_runs.specs.Events.{Done, Stopped, Wide, Unfit, Nothing}
-use Rattle.setl_model_runs.specs.Variable.{Global}
+use Rattle.setl_model_runs.specs.Events.{Done}
 use Rattle.setl_text.specs.Texts.{print_line}
-use Rattle.setl_model.specs.Answers.{error_line}
 use Rattle.setl_model.specs.Means.{Means}
 use Rattle.setl_model.specs.Samples.{mixed_values, nested_values, empty_program, growing_set, copied_set, several_lines}
 
@@ -33,15 +31,3 @@ mixed_text = refl
 pub nested_text : print_line nested_values ≡ codes "{true -7 'it''s' #7} [] * false\n"
 unfolding digits
 nested_text = refl
-
-pub wide_text : error_line (Stopped Wide 3) ≡ codes "line 3: wide\n"
-unfolding digits
-wide_text = refl
-
-pub unfit_text : error_line (Stopped (Unfit (Global (codes "s"))) 14) ≡ codes "line 14: value does not fit s\n"
-unfolding digits
-unfit_text = refl
-
-pub nothing_text : error_line (Stopped Nothing 2) ≡ codes "line 2: nothing to go back to\n"
-unfolding digits
-nothing_text = refl

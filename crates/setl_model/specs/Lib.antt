@@ -11,7 +11,6 @@ pub mod Statements
 pub mod Step
 pub mod StraightRuns
 pub mod Means
-pub mod Answers
 pub mod Entered
 pub mod Dump
 pub mod Laws

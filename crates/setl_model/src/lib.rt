@@ -5,9 +5,7 @@ pub mod worked;
 
 ghost use Rattle.std.specs.Prelude.{◌≡◌, true, false, [], codes};
 ghost use Rattle.setl_model_runs.specs.Events.{Done, Spent, Stopped, Wide, Form, Unfit, Nothing};
-ghost use Rattle.setl_model_runs.specs.Variable.{Global};
 ghost use Rattle.setl_text.specs.Texts.{print_line};
-ghost use Rattle.setl_model.specs.Answers.{error_line};
 ghost use Rattle.setl_model.specs.Means.{Means};
 ghost use Rattle.setl_model.specs.Samples.{mixed_values, nested_values, empty_program, growing_set, copied_set, several_lines};
 ghost use Rattle.setl_program.specs.Source.{f, s};
@@ -64,15 +62,10 @@ pub fn worked_programs()
 {}
 
 /// Worked texts. A string stands as it is where it is a whole argument of `print`, and between apostrophes with each
-/// apostrophe doubled inside another value. The error line of a stop has its line and its words.
+/// apostrophe doubled inside another value.
 pub fn worked_texts()
     ensures mixed_values { print_line mixed_values ≡ codes "{1 2 3} [1 * 2] it's\n" }
     ensures nested_values { print_line nested_values ≡ codes "{true -7 'it''s' #7} [] * false\n" }
-    ensures wide { error_line (Stopped Wide 3) ≡ codes "line 3: wide\n" }
-    ensures unfit { error_line (Stopped (Unfit (Global (codes "s"))) 14) ≡ codes "line 14: value does not fit s\n" }
-    ensures nothing { error_line (Stopped Nothing 2) ≡ codes "line 2: nothing to go back to\n" }
-    ensures spent { error_line Spent ≡ codes "out of turns\n" }
-    ensures done { error_line Done ≡ [] }
 {}
 
 /// Worked programs of operators: images of a map, a sum past 128 bits, quotients and remainders, folds, sets of subsets,
