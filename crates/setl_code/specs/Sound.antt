@@ -3,11 +3,10 @@
 use Rattle.std.specs.Prelude.{◌≡◌, ℕ, zero, suc, ◌<◌, ◌^◌, Bool, true, false, ◌&&◌, ◌||◌, not, List, [], ◌∷◌, ◌++◌, length, slice_get, Option, Some, None}
 use Rattle.std.specs.List.{Contains}
 use Rattle.setl_model_runs.specs.Variable.{Variable, Global, is_variable}
-use Rattle.setl_operators_table.specs.declared.Operator.{Operator}
-use Rattle.setl_operators_table.specs.declared.Operator.TheVariants.{Add, Subtract, Multiply, Power, Divide, Modulo, Max, Min, With, Less, Lessf, Npow}
 use Rattle.setl_tree.specs.declared.tree.Passing.{Passing}
 use Rattle.setl_tree.specs.declared.tree.Passing.TheVariants.{Rd, Wr, Rw}
 use Rattle.setl_program.specs.Program.{Parameter}
+use Rattle.setl_program.specs.Updating.{is_updating}
 use Rattle.setl_model.specs.Calls.{parameter}
 use Rattle.setl_code.specs.Code.{Alteration, Putting, Combining, TakingOut, Instr, Load, Take, StoreIn, Alter, Decides, Unless, Jump, NextOr, CallBody, ReturnTop, GoBack, StopRun, Step, Body, Code}
 use Rattle.setl_code.specs.Piece.{Is}
@@ -111,22 +110,6 @@ pub record Sound (c : Code) (declared : List Variable) : Type 0 where
   pub main : 0 < length c.bodies
 
 -- ---- what is named exists
-
--- the operators that an update may have
-abbrev pub is_updating : Operator → Bool
-is_updating Add = true
-is_updating Subtract = true
-is_updating Multiply = true
-is_updating Power = true
-is_updating Divide = true
-is_updating Modulo = true
-is_updating Max = true
-is_updating Min = true
-is_updating With = true
-is_updating Less = true
-is_updating Lessf = true
-is_updating Npow = true
-is_updating o = false
 
 abbrev pub may_alter : Alteration → Bool
 may_alter Putting = true

@@ -11,7 +11,7 @@ use Rattle.setl_code.specs.Piece.{Labels, Laid, nothing}
 use Rattle.setl_code.specs.Generated.{store_slots, bind, clear, set_by, negated, expr, exprs, iterators, condition, arguments, selectors, alter, put, read_all, quit, stmt, block}
 use Rattle.setl_code.specs.Names.{around, in_expr, in_exprs, in_iterators, in_condition, in_arguments, in_selectors, in_stmt, in_block}
 use Rattle.setl_code.specs.Sound.{may_alter}
-use Rattle.setl_code_soundness.specs.Named.{UpdatesInStmt, UpdatesInBlock}
+use Rattle.setl_program.specs.Updating.{UpdatingStmt, UpdatingBlock}
 use Rattle.setl_code_soundness.proofs.Laying.{Each}
 
 -- something holds of each of these variables
@@ -151,7 +151,7 @@ module _ (V : Variable → Type 0) where
   quit_used (suc k) line l at = (tt, tt)
 
   mutual
-    stmt_used : (st : Stmt) (leaves line : ℕ) (l : Labels) (at : ℕ) → Each_of V (in_stmt st) → UpdatesInStmt st → Each (Uses V) l at (stmt leaves line st at)
+    stmt_used : (st : Stmt) (leaves line : ℕ) (l : Labels) (at : ℕ) → Each_of V (in_stmt st) → UpdatingStmt st → Each (Uses V) l at (stmt leaves line st at)
     stmt_used (Assign p e) leaves line l at h u = let two = split V (p.variable ∷ in_selectors p.selectors) (in_expr e) h in (expr_used e line l at two.1, put_used p.variable p.selectors line l _ two.0.0 two.0.1)
     stmt_used (Update o p e) leaves line l at h u = let two = split V (p.variable ∷ in_selectors p.selectors) (in_expr e) h in (expr_used e line l at two.1, alter_used (Combining o) p.variable p.selectors line l _ u two.0.0 two.0.1)
     stmt_used (AssignParts xs e) leaves line l at h u = let two = split V (variables_in xs) (in_expr e) h in (expr_used e line l at two.1, (tt, slots_used xs line l _ two.0))
@@ -175,6 +175,6 @@ module _ (V : Variable → Type 0) where
     stmt_used (Print es) leaves line l at h u = (exprs_used es line l at h, tt)
     stmt_used (Read xs) leaves line l at h u = reads_used xs line l at h
 
-    pub block_used : (b : Block) (leaves : ℕ) (l : Labels) (at : ℕ) → Each_of V (in_block b) → UpdatesInBlock b → Each (Uses V) l at (block leaves b at)
+    pub block_used : (b : Block) (leaves : ℕ) (l : Labels) (at : ℕ) → Each_of V (in_block b) → UpdatingBlock b → Each (Uses V) l at (block leaves b at)
     block_used no_stmt leaves l at h u = tt
     block_used (more_stmts line st rest) leaves l at h u = let two = split V (in_stmt st) (in_block rest) h in (stmt_used st leaves line l at two.0 u.0, block_used rest leaves l _ two.1 u.1)

@@ -2,9 +2,9 @@
 -- operator.
 use Rattle.std.specs.Prelude.{◌≡◌, true, List, [], ◌∷◌, map}
 use Rattle.setl_model_runs.specs.Variable.{Variable, Global, Own, Bound}
-use Rattle.setl_program.specs.Program.{Stmt, Update, If, For, While, Block, no_stmt, more_stmts, Procedure, Program}
+use Rattle.setl_program.specs.Program.{Block, Procedure, Program}
+use Rattle.setl_program.specs.Updating.{UpdatingBlock}
 use Rattle.setl_code.specs.Names.{is_among, in_block}
-use Rattle.setl_code.specs.Sound.{is_updating}
 
 -- those of the whole program are among these
 abbrev pub AreAmong : List Variable → List Variable → Type 0
@@ -13,20 +13,8 @@ AreAmong vars (Global name ∷ xs) = (is_among vars (Global name) ≡ true) × A
 AreAmong vars (Own body name ∷ xs) = AreAmong vars xs
 AreAmong vars (Bound former name ∷ xs) = AreAmong vars xs
 
-abbrev mutual
-  pub UpdatesInStmt : Stmt → Type 0
-  UpdatesInStmt (Update o p e) = is_updating o ≡ true
-  UpdatesInStmt (If e a b) = UpdatesInBlock a × UpdatesInBlock b
-  UpdatesInStmt (For is t b) = UpdatesInBlock b
-  UpdatesInStmt (While e b) = UpdatesInBlock b
-  UpdatesInStmt st = Unit {0}
-
-  pub UpdatesInBlock : Block → Type 0
-  UpdatesInBlock no_stmt = Unit {0}
-  UpdatesInBlock (more_stmts line st rest) = UpdatesInStmt st × UpdatesInBlock rest
-
 abbrev pub NamedBlock : List Variable → Block → Type 0
-NamedBlock vars b = AreAmong vars (in_block b) × UpdatesInBlock b
+NamedBlock vars b = AreAmong vars (in_block b) × UpdatingBlock b
 
 abbrev pub NamedProcedures : List Variable → List Procedure → Type 0
 NamedProcedures vars [] = Unit {0}

@@ -3,6 +3,7 @@ pub mod Source
 pub mod Formed
 pub mod FormedLaws
 pub mod Placed
+pub mod Updating
 pub mod Numbered
 pub mod Lists
 pub mod Scope

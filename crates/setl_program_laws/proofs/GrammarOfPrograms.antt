@@ -13,7 +13,7 @@ use Rattle.setl_tree.specs.Statements as g
 use Rattle.setl_tree.specs.Statements.{simple}
 use Rattle.setl_tree.specs.Programs as p
 use Rattle.setl_program.specs.Operators.{updating}
-use Rattle.setl_program_laws.specs.Updating.{is_updating}
+use Rattle.setl_program.specs.Updating.{is_updating}
 use Rattle.setl_program_laws.proofs.Languages.{Each, Maybe, Keeps, k_any, k_pure, k_never, k_then, k_or, k_one_of, k_many, k_optional, k_past, k_separated, k_listed, k_lined}
 use Rattle.setl_program_laws.proofs.Fine.{Context}
 use Rattle.setl_program_laws.proofs.Trees.{Good, GoodSelector, selector_round, selector_braces}

@@ -17,7 +17,7 @@ use Rattle.setl_names.specs.declared.occurrence.What.TheVariants as what
 use Rattle.setl_names.specs.Occurrences as n
 use Rattle.setl_names.specs.Statements as ns
 use Rattle.setl_program.specs.Operators.{updating}
-use Rattle.setl_program_laws.specs.Updating.{is_updating}
+use Rattle.setl_program.specs.Updating.{is_updating}
 use Rattle.setl_program.specs.Expressions as q
 use Rattle.setl_program.specs.Statements as qs
 use Rattle.setl_program_laws.proofs.Languages.{Each, SomeEach, Maybe}

@@ -16,7 +16,7 @@ use Rattle.setl_names.specs.Statements as ns
 use Rattle.setl_program.specs.Program.{Place as Changed, Stmt, Quit, Continue, Fail, Stop, Pass, Block, Expr}
 use Rattle.setl_program.specs.Formed.{FormedStmt, FormedBlock, FormedVariables, InProcedure, IsInLoop}
 use Rattle.setl_program.specs.Placed.{PlacedStmt, PlacedBlock, PlacedVariables}
-use Rattle.setl_program_laws.specs.Updating.{is_updating, UpdatingStmt, UpdatingBlock}
+use Rattle.setl_program.specs.Updating.{is_updating, UpdatingStmt, UpdatingBlock}
 use Rattle.setl_program.specs.Operators.{updating}
 use Rattle.setl_program.specs.Lists.{all_selectors, block_of, otherwise}
 use Rattle.setl_program.specs.Scope.{Scope, variable_of, procedure_of}

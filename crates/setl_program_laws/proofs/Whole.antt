@@ -15,7 +15,7 @@ use Rattle.setl_names.specs.Variables.{var_names}
 use Rattle.setl_program.specs.Program.{Arguments, Procedure}
 use Rattle.setl_program.specs.Formed.{PassedAs, Passed, FormedProcedures, Formed}
 use Rattle.setl_program.specs.Placed.{PlacedProcedures, Placed}
-use Rattle.setl_program_laws.specs.Updating.{UpdatingProcedures, Updating}
+use Rattle.setl_program.specs.Updating.{UpdatingProcedures, Updating}
 use Rattle.setl_program.specs.Scope.{Scope}
 use Rattle.setl_program.specs.Statements as qs
 use Rattle.setl_program.specs.ProgramOf.{main_scope, in_body, parameter_of, procedures_from, program_of}

@@ -7,7 +7,7 @@ use Rattle.setl_names.specs.Breaks.{breaks, first_break}
 use Rattle.setl_program.specs.ProgramOf.{program_of}
 use Rattle.setl_program.specs.Formed.{Formed}
 use Rattle.setl_program.specs.Placed.{Placed}
-use Rattle.setl_program_laws.specs.Updating.{Updating}
+use Rattle.setl_program.specs.Updating.{Updating}
 
 -- some tokens derive the tree, and it breaks no rule
 pub record IsAccepted (tree : Tree) : Type 0 where

@@ -1,2 +1,1 @@
-pub mod Updating
 pub mod Claims
