@@ -13,8 +13,9 @@ ghost use Rattle.setl_code.specs.Plain.{plain_code, plain_instr};
 ghost use Rattle.setl_code_listing.specs.Parts.{bodies_of, body_of, variables_of};
 
 use crate::instructions::push_instr;
-use crate::texts::{push_decimal, push_word};
+use crate::texts::push_word;
 use setl_code::{Body, Code, Step};
+use setl_text::push_decimal;
 use setl_value::Memory;
 use std::alloc::Global;
 

@@ -6,8 +6,8 @@ ghost use Rattle.setl_code.specs.Listing.{name_at, variable_text};
 ghost use Rattle.setl_code.specs.Plain.{own_variables, plain_name, plain_slot, variable_at};
 ghost use Rattle.setl_code_listing.specs.Parts.{bodies_of, variables_of};
 
-use crate::texts::push_decimal;
 use setl_code::{Body, Code, OwnName, Slot};
+use setl_text::push_decimal;
 use setl_tree::Text;
 use setl_value::Memory;
 

@@ -1,12 +1,12 @@
 //! Words, numbers and strings.
 
-ghost use Rattle.std.specs.Prelude.{◌≡◌, ◌++◌, codes, decimal, OnOk, Some};
+ghost use Rattle.std.specs.Prelude.{◌≡◌, ◌++◌, codes, OnOk};
 ghost use Rattle.std.specs.Fmt.{signed_decimal};
 ghost use Rattle.setl_value.specs.Datum.{int, text};
-ghost use Rattle.setl_text.specs.Texts.{doubled, inner_text};
+ghost use Rattle.setl_text.specs.Texts.{inner_text};
 ghost use Rattle.setl_code.specs.Listing.{numbered};
 
-use itoa::Buffer;
+use setl_text::push_decimal;
 use setl_tree::Text;
 use setl_value::Memory;
 
@@ -15,14 +15,6 @@ pub fn push_word(into: &mut Vec<u8>, word: &str) -> Result<(), Memory>
     ensures { OnOk result (into.new.items ≡ into.old.items ++ word.now) }
 {
     into.extend_from_slice(word.as_bytes())
-}
-
-/// Adds a number in decimal.
-pub fn push_decimal(into: &mut Vec<u8>, n: u64) -> Result<(), Memory>
-    ensures { OnOk result (into.new.items ≡ into.old.items ++ decimal n) }
-{
-    let mut buffer = Buffer::new();
-    into.extend_from_slice(buffer.format(n).as_bytes())
 }
 
 /// Adds a word, a blank, and a number in decimal.
@@ -39,29 +31,13 @@ pub fn push_integer(into: &mut Vec<u8>, n: i128) -> Result<(), Memory>
     ensures { OnOk result (into.new.items ≡ into.old.items ++ (codes "int " ++ signed_decimal n)) }
 {
     push_word(into, "int ")?;
-    let mut buffer = Buffer::new();
-    into.extend_from_slice(buffer.format(n).as_bytes())
+    setl_text::push_integer(into, n)
 }
 
 /// Adds the word for a string, and the string between apostrophes with each apostrophe in it doubled.
 pub fn push_string(into: &mut Vec<u8>, t: &Text) -> Result<(), Memory>
     ensures { OnOk result (into.new.items ≡ into.old.items ++ (codes "str " ++ inner_text (text t.now))) }
 {
-    push_word(into, "str '")?;
-    push_doubled(into, t.bytes())?;
-    into.push(b'\'')?;
-    Ok(())
-}
-
-// Adds bytes with each apostrophe doubled.
-fn push_doubled(into: &mut Vec<u8>, bytes: &[u8]) -> Result<(), Memory>
-    ensures { OnOk result (into.new.items ≡ into.old.items ++ doubled bytes.now) }
-{
-    for b in bytes {
-        if *b == b'\'' {
-            into.push(b'\'')?;
-        }
-        into.push(*b)?;
-    }
-    Ok(())
+    push_word(into, "str ")?;
+    setl_text::push_string(into, t)
 }

@@ -162,12 +162,20 @@ fn push_boolean(into: &mut Vec<u8>, b: bool) -> Result<(), Memory>
     }
 }
 
-// Adds the text of an integer.
-fn push_integer(into: &mut Vec<u8>, z: i128) -> Result<(), Memory>
+/// Adds an integer in decimal. The error is want of memory.
+pub fn push_integer(into: &mut Vec<u8>, z: i128) -> Result<(), Memory>
     ensures { OnOk result (into.new.items ≡ into.old.items ++ signed_decimal z) }
 {
     let mut buffer = Buffer::new();
     into.extend_from_slice(buffer.format(z).as_bytes())
+}
+
+/// Adds a number in decimal. The error is want of memory.
+pub fn push_decimal(into: &mut Vec<u8>, n: u64) -> Result<(), Memory>
+    ensures { OnOk result (into.new.items ≡ into.old.items ++ decimal n) }
+{
+    let mut buffer = Buffer::new();
+    into.extend_from_slice(buffer.format(n).as_bytes())
 }
 
 // Adds the text of an atom.
@@ -175,12 +183,11 @@ fn push_atom(into: &mut Vec<u8>, n: u64) -> Result<(), Memory>
     ensures { OnOk result (into.new.items ≡ into.old.items ++ 35 ∷ decimal n) }
 {
     into.push(b'#')?;
-    let mut buffer = Buffer::new();
-    into.extend_from_slice(buffer.format(n).as_bytes())
+    push_decimal(into, n)
 }
 
-// Adds the text of a string inside another value.
-fn push_string(into: &mut Vec<u8>, t: &Text) -> Result<(), Memory>
+/// Adds a string between apostrophes, with each apostrophe in it doubled. The error is want of memory.
+pub fn push_string(into: &mut Vec<u8>, t: &Text) -> Result<(), Memory>
     ensures { OnOk result (into.new.items ≡ into.old.items ++ inner_text (text t.now)) }
 {
     into.push(b'\'')?;

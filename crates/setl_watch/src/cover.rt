@@ -3,8 +3,9 @@
 ghost use Rattle.std.specs.Prelude.{◌≡◌, ◌≤◌, ◌<◌, ◌++◌, ◌∷◌, [], length, IsTrue, IfOk, OnOk, OnErr};
 ghost use Rattle.setl_watch.specs.Covers.{cover, counted, cover_report, has, place};
 
-use crate::text::{push_number, push_word};
+use crate::text::push_word;
 use crate::{Event, Memory, Wants, Watcher};
+use setl_text::push_decimal;
 use std::alloc::{AllocError, Global};
 use std::marker::Model;
 
@@ -91,9 +92,9 @@ fn push_count(into: &mut Vec<u8>, line: u32, count: u64) -> Result<(), Memory>
     ensures { OnOk result (into.new.items ≡ into.old.items ++ cover_report ((line, count) ∷ [])) }
 {
     push_word(into, "line ")?;
-    push_number(into, u64::from(line))?;
+    push_decimal(into, u64::from(line))?;
     push_word(into, ": ")?;
-    push_number(into, count)?;
+    push_decimal(into, count)?;
     into.push(b'\n')?;
     Ok(())
 }

@@ -6,7 +6,7 @@ ghost use Rattle.setl_watch.specs.code.NoticeOf.{notice_of};
 ghost use Rattle.setl_watch.specs.Traces.{event_text, value_text};
 
 use crate::{Event, Memory};
-use itoa::Buffer;
+use setl_text::push_decimal;
 use setl_tree::Text;
 use setl_value::Value;
 use std::alloc::Global;
@@ -16,14 +16,6 @@ pub(crate) fn push_word(into: &mut Vec<u8>, word: &str) -> Result<(), Memory>
     ensures { OnOk result (into.new.items ≡ into.old.items ++ word.now) }
 {
     into.extend_from_slice(word.as_bytes())
-}
-
-/// Adds a number in decimal digits.
-pub(crate) fn push_number(into: &mut Vec<u8>, n: u64) -> Result<(), Memory>
-    ensures { OnOk result (into.new.items ≡ into.old.items ++ decimal n) }
-{
-    let mut buffer = Buffer::new();
-    into.extend_from_slice(buffer.format(n).as_bytes())
 }
 
 /// Adds the line of an event, without byte 10.
@@ -55,7 +47,7 @@ fn push_at_line(into: &mut Vec<u8>, word: &str, line: u32, name: &Text) -> Resul
     ensures { OnOk result (into.new.items ≡ into.old.items ++ (word.now ++ decimal line ++ 32 ∷ name.now)) }
 {
     push_word(into, word)?;
-    push_number(into, u64::from(line))?;
+    push_decimal(into, u64::from(line))?;
     into.push(b' ')?;
     into.extend_from_slice(name.bytes())
 }
