@@ -19,32 +19,32 @@ use std::mem;
 
 /// Begins the body of a number: it has these parameters, and the names in these statements.
 fn begin<'p>(
-    to: &mut Emitter<'p>,
+    emitter: &mut Emitter<'p>,
     body: u32,
     parameters: &'p [Param],
     statements: &'p [Stmt],
 ) -> Result<(), Memory>
-    ensures { OnOk result (held to.new ≡ blank (table_of to.old.names.vars body parameters.now (plain_block statements.now))) }
+    ensures { OnOk result (held emitter.new ≡ blank (table_of emitter.old.names.vars body parameters.now (plain_block statements.now))) }
 {
-    to.names.begin(body, parameters)?;
-    let mut all = Found::new(to.alloc);
+    emitter.names.begin(body, parameters)?;
+    let mut all = Found::new(emitter.alloc);
     found::block(statements, &mut all)?;
-    to.names.note_all(all.as_slice())?;
-    to.steps = Vec::new(to.alloc);
-    to.exits = Items::new(to.alloc);
-    to.again = 0;
+    emitter.names.note_all(all.as_slice())?;
+    emitter.steps = Vec::new(emitter.alloc);
+    emitter.exits = Items::new(emitter.alloc);
+    emitter.again = 0;
     Ok(())
 }
 
 /// The body that was emitted.
-fn finish(to: &mut Emitter<'_>, name: &Text) -> Result<Body, Memory>
-    ensures body { IfOk result (λ b. plain_body (map run.Global to.old.names.vars) to.old.names.body b ≡ finished name.now to.old.names (held to.old)) }
-    ensures vars { to.new.names ≡ to.old.names }
+fn finish(emitter: &mut Emitter<'_>, name: &Text) -> Result<Body, Memory>
+    ensures body { IfOk result (λ b. plain_body (map run.Global emitter.old.names.vars) emitter.old.names.body b ≡ finished name.now emitter.old.names (held emitter.old)) }
+    ensures vars { emitter.new.names ≡ emitter.old.names }
 {
-    let parameters = copied_items(to.alloc, to.names.parameters())?;
+    let parameters = copied_items(emitter.alloc, emitter.names.parameters())?;
     let name = name.copy()?;
-    let names = to.names.names()?;
-    let steps = mem::replace(&mut to.steps, Vec::new(to.alloc));
+    let names = emitter.names.names()?;
+    let steps = mem::replace(&mut emitter.steps, Vec::new(emitter.alloc));
     Ok(Body {
         name,
         parameters,
@@ -54,41 +54,41 @@ fn finish(to: &mut Emitter<'_>, name: &Text) -> Result<Body, Memory>
 }
 
 /// The body of the main program.
-fn main_body<'p>(to: &mut Emitter<'p>, p: &'p Program) -> Result<Body, Memory>
-    ensures body { IfOk result (λ b. plain_body (map run.Global to.old.names.vars) 0 b ≡ code.main_body (plain_program p.now)) }
-    ensures vars { OnOk result (to.new.names.vars ≡ to.old.names.vars) }
+fn main_body<'p>(emitter: &mut Emitter<'p>, p: &'p Program) -> Result<Body, Memory>
+    ensures body { IfOk result (λ b. plain_body (map run.Global emitter.old.names.vars) 0 b ≡ code.main_body (plain_program p.now)) }
+    ensures vars { OnOk result (emitter.new.names.vars ≡ emitter.old.names.vars) }
 {
     let statements = p.main.as_slice();
-    begin(to, 0, &[], statements)?;
-    stmts::block(to, 0, statements)?;
-    to.put(p.end_line, Instr::Stop)?;
-    finish(to, &p.name)
+    begin(emitter, 0, &[], statements)?;
+    stmts::block(emitter, 0, statements)?;
+    emitter.put(p.end_line, Instr::Stop)?;
+    finish(emitter, &p.name)
 }
 
 /// The body of a procedure, by its number.
-fn procedure_body<'p>(to: &mut Emitter<'p>, n: u32, p: &'p Procedure) -> Result<Body, Memory>
-    ensures body { IfOk result (λ b. plain_body (map run.Global to.old.names.vars) n b ≡ code.procedure_body (plain_procedure p.now)) }
-    ensures vars { OnOk result (to.new.names.vars ≡ to.old.names.vars) }
+fn procedure_body<'p>(emitter: &mut Emitter<'p>, n: u32, p: &'p Procedure) -> Result<Body, Memory>
+    ensures body { IfOk result (λ b. plain_body (map run.Global emitter.old.names.vars) n b ≡ code.procedure_body (plain_procedure p.now)) }
+    ensures vars { OnOk result (emitter.new.names.vars ≡ emitter.old.names.vars) }
 {
     let statements = p.body.as_slice();
-    begin(to, n, p.parameters.as_slice(), statements)?;
-    stmts::block(to, 0, statements)?;
-    to.put(p.end_line, Instr::Undefined)?;
-    to.put(p.end_line, Instr::Return)?;
-    finish(to, &p.name)
+    begin(emitter, n, p.parameters.as_slice(), statements)?;
+    stmts::block(emitter, 0, statements)?;
+    emitter.put(p.end_line, Instr::Undefined)?;
+    emitter.put(p.end_line, Instr::Return)?;
+    finish(emitter, &p.name)
 }
 
 /// The bodies of procedures, behind the bodies that are there.
 fn procedures<'p>(
-    to: &mut Emitter<'p>,
+    emitter: &mut Emitter<'p>,
     ps: &'p [Procedure],
     bodies: &mut Items<Body>,
 ) -> Result<(), Memory>
-    ensures { OnOk result (plain_bodies (map run.Global to.old.names.vars) 0 bodies.new ≡ plain_bodies (map run.Global to.old.names.vars) 0 bodies.old ++ map code.procedure_body (map plain_procedure ps.now)) }
+    ensures { OnOk result (plain_bodies (map run.Global emitter.old.names.vars) 0 bodies.new ≡ plain_bodies (map run.Global emitter.old.names.vars) 0 bodies.old ++ map code.procedure_body (map plain_procedure ps.now)) }
 {
     for p in ps {
         let n = number(bodies.len())?;
-        let body = procedure_body(to, n, p)?;
+        let body = procedure_body(emitter, n, p)?;
         bodies.push(body)?;
     }
     Ok(())
@@ -104,7 +104,7 @@ pub fn emit(alloc: Global, program: &Program) -> Result<Code, Memory>
     ensures { IfOk result (λ c. plain_code c ≡ code.code_of (plain_program program.now)) }
 {
     let names = Names::new(alloc, program.vars.as_slice())?;
-    let mut to = Emitter {
+    let mut emitter = Emitter {
         alloc,
         names,
         steps: Vec::new(alloc),
@@ -112,9 +112,9 @@ pub fn emit(alloc: Global, program: &Program) -> Result<Code, Memory>
         again: 0,
     };
     let mut bodies = Items::new(alloc);
-    let body = main_body(&mut to, program)?;
+    let body = main_body(&mut emitter, program)?;
     bodies.push(body)?;
-    procedures(&mut to, program.procedures.as_slice(), &mut bodies)?;
+    procedures(&mut emitter, program.procedures.as_slice(), &mut bodies)?;
     let vars = copied_items(alloc, program.vars.as_slice())?;
     Ok(Code { vars, bodies })
 }

@@ -23,214 +23,229 @@ use std::alloc::AllocError;
 
 /// An expression.
 #[cycle(expr)]
-pub fn expr<'p>(to: &mut Emitter<'p>, line: u32, e: &'p Expr) -> Result<(), Memory>
-    ensures { OnOk result (held to.new ≡ after (code.expr line (plain_expr e.now)) (held to.old)) }
+pub fn expr<'p>(emitter: &mut Emitter<'p>, line: u32, e: &'p Expr) -> Result<(), Memory>
+    ensures { OnOk result (held emitter.new ≡ after (code.expr line (plain_expr e.now)) (held emitter.old)) }
 {
     match e {
-        Expr::Integer(n) => to.put(line, Instr::Integer(Literal::new(*n))),
-        Expr::Text(t) => to.text(line, t),
-        Expr::Truth(t) => to.put(line, Instr::Truth(*t)),
-        Expr::Undefined => to.put(line, Instr::Undefined),
-        Expr::Name(x) => to.load(line, x),
-        Expr::Apply(o, es) => apply(to, line, *o, es.as_slice()),
-        Expr::Chain(first, ls) => chain(to, line, ls.as_slice(), first.get()),
-        Expr::Choose(t, a, b) => choose(to, line, t.get(), a.get(), b.get()),
-        Expr::Former(k, e, is, t) => former(to, line, *k, e.get(), is.as_slice(), t),
-        Expr::Selection(k, b, es, c) => selection(to, line, *k, b, es.as_slice(), c.get()),
-        Expr::Quantified(q, is, c) => quantified(to, line, *q, is.as_slice(), c.get()),
-        Expr::Call(f, all) => call(to, line, *f, all.as_slice()),
-        Expr::Newat => to.put(line, Instr::NewAtom),
-        Expr::Eof => to.put(line, Instr::Eof),
-        Expr::Ok => to.put(line, Instr::Keep),
+        Expr::Integer(n) => emitter.put(line, Instr::Integer(Literal::new(*n))),
+        Expr::Text(t) => emitter.text(line, t),
+        Expr::Truth(t) => emitter.put(line, Instr::Truth(*t)),
+        Expr::Undefined => emitter.put(line, Instr::Undefined),
+        Expr::Name(x) => emitter.load(line, x),
+        Expr::Apply(o, es) => apply(emitter, line, *o, es.as_slice()),
+        Expr::Chain(first, ls) => chain(emitter, line, ls.as_slice(), first.get()),
+        Expr::Choose(t, a, b) => choose(emitter, line, t.get(), a.get(), b.get()),
+        Expr::Former(k, e, is, t) => former(emitter, line, *k, e.get(), is.as_slice(), t),
+        Expr::Selection(k, b, es, c) => selection(emitter, line, *k, b, es.as_slice(), c.get()),
+        Expr::Quantified(q, is, c) => quantified(emitter, line, *q, is.as_slice(), c.get()),
+        Expr::Call(f, all) => call(emitter, line, *f, all.as_slice()),
+        Expr::Newat => emitter.put(line, Instr::NewAtom),
+        Expr::Eof => emitter.put(line, Instr::Eof),
+        Expr::Ok => emitter.put(line, Instr::Keep),
     }
 }
 
 /// An expression with links behind it.
 #[cycle(expr)]
-fn chain<'p>(to: &mut Emitter<'p>, line: u32, ls: &'p [Link], first: &'p Expr) -> Result<(), Memory>
-    ensures { OnOk result (held to.new ≡ after (code.expr line (chained (plain_expr first.now) (map plain_link ls.now))) (held to.old)) }
+fn chain<'p>(
+    emitter: &mut Emitter<'p>,
+    line: u32,
+    ls: &'p [Link],
+    first: &'p Expr,
+) -> Result<(), Memory>
+    ensures { OnOk result (held emitter.new ≡ after (code.expr line (chained (plain_expr first.now) (map plain_link ls.now))) (held emitter.old)) }
 {
-    expr(to, line, first)?;
-    links(to, line, ls)?;
+    expr(emitter, line, first)?;
+    links(emitter, line, ls)?;
     Ok(())
 }
 
 /// An `if` expression.
 #[cycle(expr)]
 fn choose<'p>(
-    to: &mut Emitter<'p>,
+    emitter: &mut Emitter<'p>,
     line: u32,
     t: &'p Expr,
     a: &'p Expr,
     b: &'p Expr,
 ) -> Result<(), Memory>
-    ensures { OnOk result (held to.new ≡ after (code.expr line (Choose (plain_expr t.now) (plain_expr a.now) (plain_expr b.now))) (held to.old)) }
+    ensures { OnOk result (held emitter.new ≡ after (code.expr line (Choose (plain_expr t.now) (plain_expr a.now) (plain_expr b.now))) (held emitter.old)) }
 {
-    expr(to, line, t)?;
-    let test = to.step(line, Instr::Unless(0))?;
-    expr(to, line, a)?;
-    let over = to.step(line, Instr::Jump(0))?;
-    to.unless_here(test, line)?;
-    expr(to, line, b)?;
-    to.jump_here(over, line)?;
+    expr(emitter, line, t)?;
+    let test = emitter.step(line, Instr::Unless(0))?;
+    expr(emitter, line, a)?;
+    let over = emitter.step(line, Instr::Jump(0))?;
+    emitter.unless_here(test, line)?;
+    expr(emitter, line, b)?;
+    emitter.jump_here(over, line)?;
     Ok(())
 }
 
 /// A former that collects an expression.
 #[cycle(expr)]
 fn former<'p>(
-    to: &mut Emitter<'p>,
+    emitter: &mut Emitter<'p>,
     line: u32,
-    k: Collection,
+    collection: Collection,
     e: &'p Expr,
     is: &'p [Iterator],
     t: &'p Option<Boxed<Expr>>,
 ) -> Result<(), Memory>
-    ensures { OnOk result (held to.new ≡ after (code.expr line (Former k (plain_expr e.now) (plain_iterators is.now) (condition_of (option_map plain_expr t.now)))) (held to.old)) }
+    ensures { OnOk result (held emitter.new ≡ after (code.expr line (Former collection (plain_expr e.now) (plain_iterators is.now) (condition_of (option_map plain_expr t.now)))) (held emitter.old)) }
 {
-    to.put(line, Instr::Collect(k))?;
-    let (first, innermost) = iterators(to, line, is)?;
-    condition(to, line, t, innermost)?;
-    expr(to, line, e)?;
-    add_and_go_on(to, line, is.len(), innermost)?;
-    to.next_here(first, line)?;
+    emitter.put(line, Instr::Collect(collection))?;
+    let (first, innermost) = iterators(emitter, line, is)?;
+    condition(emitter, line, t, innermost)?;
+    expr(emitter, line, e)?;
+    add_and_go_on(emitter, line, is.len(), innermost)?;
+    emitter.next_here(first, line)?;
     Ok(())
 }
 
 /// A former that collects its members.
 #[cycle(expr)]
 fn selection<'p>(
-    to: &mut Emitter<'p>,
+    emitter: &mut Emitter<'p>,
     line: u32,
-    k: Collection,
+    collection: Collection,
     b: &'p Binding,
     es: &'p [Expr],
     c: &'p Expr,
 ) -> Result<(), Memory>
-    ensures { OnOk result (held to.new ≡ after (code.expr line (Selection k (plain_binding b.now) (plain_exprs es.now) (plain_expr c.now))) (held to.old)) }
+    ensures { OnOk result (held emitter.new ≡ after (code.expr line (Selection collection (plain_binding b.now) (plain_exprs es.now) (plain_expr c.now))) (held emitter.old)) }
 {
-    to.put(line, Instr::Collect(k))?;
-    exprs(to, line, es)?;
-    let next = begin_selection(to, line, b, es.len())?;
-    expr(to, line, c)?;
-    keep_or_drop(to, line, next)?;
-    to.next_here(next, line)?;
+    emitter.put(line, Instr::Collect(collection))?;
+    exprs(emitter, line, es)?;
+    let next = begin_selection(emitter, line, b, es.len())?;
+    expr(emitter, line, c)?;
+    keep_or_drop(emitter, line, next)?;
+    emitter.next_here(next, line)?;
     Ok(())
 }
 
 /// A quantifier.
 #[cycle(expr)]
 fn quantified<'p>(
-    to: &mut Emitter<'p>,
+    emitter: &mut Emitter<'p>,
     line: u32,
-    q: Quantifier,
+    quantifier: Quantifier,
     is: &'p [Iterator],
     c: &'p Expr,
 ) -> Result<(), Memory>
-    ensures { OnOk result (held to.new ≡ after (code.expr line (Quantified q (plain_iterators is.now) (plain_expr c.now))) (held to.old)) }
+    ensures { OnOk result (held emitter.new ≡ after (code.expr line (Quantified quantifier (plain_iterators is.now) (plain_expr c.now))) (held emitter.old)) }
 {
-    let outer = to.enter();
-    let (first, innermost) = iterators(to, line, is)?;
-    expr(to, line, c)?;
-    leave_decided(to, line, q, is.len(), innermost)?;
-    to.next_here(first, line)?;
-    let inner = to.leave(outer);
-    end_undecided(to, line, q, is, inner)?;
+    let outer = emitter.enter();
+    let (first, innermost) = iterators(emitter, line, is)?;
+    expr(emitter, line, c)?;
+    leave_decided(emitter, line, quantifier, is.len(), innermost)?;
+    emitter.next_here(first, line)?;
+    let inner = emitter.leave(outer);
+    end_undecided(emitter, line, quantifier, is, inner)?;
     Ok(())
 }
 
 /// Expressions in their order.
 #[cycle(expr)]
-pub fn exprs<'p>(to: &mut Emitter<'p>, line: u32, es: &'p [Expr]) -> Result<(), Memory>
-    ensures { OnOk result (held to.new ≡ after (code.exprs line (plain_exprs es.now)) (held to.old)) }
+pub fn exprs<'p>(emitter: &mut Emitter<'p>, line: u32, es: &'p [Expr]) -> Result<(), Memory>
+    ensures { OnOk result (held emitter.new ≡ after (code.exprs line (plain_exprs es.now)) (held emitter.old)) }
 {
     for e in es {
-        expr(to, line, e)?;
+        expr(emitter, line, e)?;
     }
     Ok(())
 }
 
 /// An operator over its operands.
 #[cycle(expr)]
-fn apply<'p>(to: &mut Emitter<'p>, line: u32, o: Operator, es: &'p [Expr]) -> Result<(), Memory>
-    ensures { OnOk result (held to.new ≡ after (code.expr line (Apply o (plain_exprs es.now))) (held to.old)) }
+fn apply<'p>(
+    emitter: &mut Emitter<'p>,
+    line: u32,
+    o: Operator,
+    es: &'p [Expr],
+) -> Result<(), Memory>
+    ensures { OnOk result (held emitter.new ≡ after (code.expr line (Apply o (plain_exprs es.now))) (held emitter.old)) }
 {
-    exprs(to, line, es)?;
+    exprs(emitter, line, es)?;
     let count = number(es.len())?;
-    to.put(line, Instr::Operate(o, count))?;
+    emitter.put(line, Instr::Operate(o, count))?;
     Ok(())
 }
 
 /// Links behind an expression.
 #[cycle(expr)]
-fn links<'p>(to: &mut Emitter<'p>, line: u32, ls: &'p [Link]) -> Result<(), Memory>
-    ensures { OnOk result (CodeGoesOn line (λ e. chained e (map plain_link ls.now)) (held to.old) (held to.new)) }
+fn links<'p>(emitter: &mut Emitter<'p>, line: u32, ls: &'p [Link]) -> Result<(), Memory>
+    ensures { OnOk result (CodeGoesOn line (λ e. chained e (map plain_link ls.now)) (held emitter.old) (held emitter.new)) }
 {
     for l in ls {
-        link(to, line, l)?;
+        link(emitter, line, l)?;
     }
     Ok(())
 }
 
 /// A link behind an expression.
 #[cycle(expr)]
-fn link<'p>(to: &mut Emitter<'p>, line: u32, l: &'p Link) -> Result<(), Memory>
-    ensures { OnOk result (CodeGoesOn line (plain_link l.now) (held to.old) (held to.new)) }
+fn link<'p>(emitter: &mut Emitter<'p>, line: u32, l: &'p Link) -> Result<(), Memory>
+    ensures { OnOk result (CodeGoesOn line (plain_link l.now) (held emitter.old) (held emitter.new)) }
 {
     match l {
-        Link::Unary(o) => unary(to, line, *o),
-        Link::Binary(o, x) => binary(to, line, *o, x),
+        Link::Unary(o) => unary(emitter, line, *o),
+        Link::Binary(o, x) => binary(emitter, line, *o, x),
         Link::Ternary(o, x, y) => {
-            expr(to, line, x.get())?;
-            expr(to, line, y.get())?;
-            to.put(line, Instr::Operate(*o, 3))?;
+            expr(emitter, line, x.get())?;
+            expr(emitter, line, y.get())?;
+            emitter.put(line, Instr::Operate(*o, 3))?;
             Ok(())
         }
-        Link::Connect(k, x) => connect(to, line, *k, x.get()),
+        Link::Connect(k, x) => connect(emitter, line, *k, x.get()),
     }
 }
 
 /// An operator behind its one operand.
-fn unary(to: &mut Emitter<'_>, line: u32, o: Operator) -> Result<(), Memory>
-    ensures { OnOk result (CodeGoesOn line (one o) (held to.old) (held to.new)) }
+fn unary(emitter: &mut Emitter<'_>, line: u32, o: Operator) -> Result<(), Memory>
+    ensures { OnOk result (CodeGoesOn line (one o) (held emitter.old) (held emitter.new)) }
 {
-    to.put(line, Instr::Operate(o, 1))?;
+    emitter.put(line, Instr::Operate(o, 1))?;
     Ok(())
 }
 
 /// An operator with its second operand, behind the first.
 #[cycle(expr)]
-fn binary<'p>(to: &mut Emitter<'p>, line: u32, o: Operator, x: &'p Expr) -> Result<(), Memory>
-    ensures { OnOk result (CodeGoesOn line (λ e. two o e (plain_expr x.now)) (held to.old) (held to.new)) }
+fn binary<'p>(emitter: &mut Emitter<'p>, line: u32, o: Operator, x: &'p Expr) -> Result<(), Memory>
+    ensures { OnOk result (CodeGoesOn line (λ e. two o e (plain_expr x.now)) (held emitter.old) (held emitter.new)) }
 {
-    expr(to, line, x)?;
-    to.put(line, Instr::Operate(o, 2))?;
+    expr(emitter, line, x)?;
+    emitter.put(line, Instr::Operate(o, 2))?;
     Ok(())
 }
 
 /// A connective with its right part, behind the left one.
 #[cycle(expr)]
-fn connect<'p>(to: &mut Emitter<'p>, line: u32, k: Connective, x: &'p Expr) -> Result<(), Memory>
-    ensures { OnOk result (CodeGoesOn line (λ e. Connect k e (plain_expr x.now)) (held to.old) (held to.new)) }
+fn connect<'p>(
+    emitter: &mut Emitter<'p>,
+    line: u32,
+    connective: Connective,
+    x: &'p Expr,
+) -> Result<(), Memory>
+    ensures { OnOk result (CodeGoesOn line (λ e. Connect connective e (plain_expr x.now)) (held emitter.old) (held emitter.new)) }
 {
-    let test = to.step(line, Instr::Decide(k, 0))?;
-    expr(to, line, x)?;
-    to.put(line, Instr::TestTruth)?;
-    to.decide_here(test, line, k)?;
+    let test = emitter.step(line, Instr::Decide(connective, 0))?;
+    expr(emitter, line, x)?;
+    emitter.put(line, Instr::TestTruth)?;
+    emitter.decide_here(test, line, connective)?;
     Ok(())
 }
 
 /// An iterator up to its first binding, whose end leads back. It gives the place of the iterator's next step.
 #[cycle(expr)]
-fn head<'p>(to: &mut Emitter<'p>, line: u32, i: &'p Iterator, back: u32) -> Result<u32, Memory>
-    ensures place { IfOk result (λ at. at ≡ here (after (begun line (plain_iterator i.now)) (held to.old))) }
-    ensures code { OnOk result (held to.new ≡ after (next line back (plain_iterator i.now)) (after (begun line (plain_iterator i.now)) (held to.old))) }
+fn head<'p>(emitter: &mut Emitter<'p>, line: u32, i: &'p Iterator, back: u32) -> Result<u32, Memory>
+    ensures place { IfOk result (λ at. at ≡ here (after (begun line (plain_iterator i.now)) (held emitter.old))) }
+    ensures code { OnOk result (held emitter.new ≡ after (next line back (plain_iterator i.now)) (after (begun line (plain_iterator i.now)) (held emitter.old))) }
 {
-    exprs(to, line, i.sources.as_slice())?;
+    exprs(emitter, line, i.sources.as_slice())?;
     let count = number(i.sources.len())?;
-    begin(to, line, &i.binding, count)?;
-    let at = to.step(line, Instr::Next(back))?;
-    bind(to, line, &i.binding)?;
+    begin(emitter, line, &i.binding, count)?;
+    let at = emitter.step(line, Instr::Next(back))?;
+    bind(emitter, line, &i.binding)?;
     Ok(at)
 }
 
@@ -239,16 +254,16 @@ fn head<'p>(to: &mut Emitter<'p>, line: u32, i: &'p Iterator, back: u32) -> Resu
 /// (`number`), or that there is no iterator, which formed programs rule out (`HasIterator`).
 #[cycle(expr)]
 pub fn iterators<'p>(
-    to: &mut Emitter<'p>,
+    emitter: &mut Emitter<'p>,
     line: u32,
     is: &'p [Iterator],
 ) -> Result<(u32, u32), Memory>
-    ensures { IfOk result (λ r. opened line (plain_iterators is.now) (held to.old) ≡ Some (r.0, held to.new, r.1)) }
+    ensures { IfOk result (λ r. opened line (plain_iterators is.now) (held emitter.old) ≡ Some (r.0, held emitter.new, r.1)) }
 {
     let mut first = None;
     let mut at = 0;
     for i in is {
-        at = head(to, line, i, at)?;
+        at = head(emitter, line, i, at)?;
         first = Some(first.unwrap_or(at));
     }
     match first {
@@ -260,60 +275,65 @@ pub fn iterators<'p>(
 /// A condition that goes back where it doesn't hold.
 #[cycle(expr)]
 fn condition<'p>(
-    to: &mut Emitter<'p>,
+    emitter: &mut Emitter<'p>,
     line: u32,
     t: &'p Option<Boxed<Expr>>,
     back: u32,
 ) -> Result<(), Memory>
-    ensures { OnOk result (held to.new ≡ after (code.condition line (condition_of (option_map plain_expr t.now)) back) (held to.old)) }
+    ensures { OnOk result (held emitter.new ≡ after (code.condition line (condition_of (option_map plain_expr t.now)) back) (held emitter.old)) }
 {
     match t {
         None => Ok(()),
-        Some(c) => tested(to, line, c.get(), back),
+        Some(c) => tested(emitter, line, c.get(), back),
     }
 }
 
 /// A test that goes back where it doesn't hold.
 #[cycle(expr)]
-pub fn tested<'p>(to: &mut Emitter<'p>, line: u32, c: &'p Expr, back: u32) -> Result<(), Memory>
-    ensures { OnOk result (held to.new ≡ after (code.condition line (only_if (plain_expr c.now)) back) (held to.old)) }
+pub fn tested<'p>(
+    emitter: &mut Emitter<'p>,
+    line: u32,
+    c: &'p Expr,
+    back: u32,
+) -> Result<(), Memory>
+    ensures { OnOk result (held emitter.new ≡ after (code.condition line (only_if (plain_expr c.now)) back) (held emitter.old)) }
 {
-    expr(to, line, c)?;
-    to.put(line, Instr::Unless(back))?;
+    expr(emitter, line, c)?;
+    emitter.put(line, Instr::Unless(back))?;
     Ok(())
 }
 
 /// An argument of a call.
 #[cycle(expr)]
-fn argument<'p>(to: &mut Emitter<'p>, line: u32, x: &'p Argument) -> Result<(), Memory>
-    ensures { OnOk result (held to.new ≡ after (argument_code line (plain_argument x.now no_argument)) (held to.old)) }
+fn argument<'p>(emitter: &mut Emitter<'p>, line: u32, x: &'p Argument) -> Result<(), Memory>
+    ensures { OnOk result (held emitter.new ≡ after (argument_code line (plain_argument x.now no_argument)) (held emitter.old)) }
 {
     match x {
-        Argument::Rd(e) => expr(to, line, e),
-        Argument::Wr(_) => to.put(line, Instr::Undefined),
-        Argument::Rw(x) => to.load(line, x),
+        Argument::Rd(e) => expr(emitter, line, e),
+        Argument::Wr(_) => emitter.put(line, Instr::Undefined),
+        Argument::Rw(x) => emitter.load(line, x),
     }
 }
 
 /// Arguments of a call.
 #[cycle(expr)]
-fn arguments<'p>(to: &mut Emitter<'p>, line: u32, all: &'p [Argument]) -> Result<(), Memory>
-    ensures { OnOk result (held to.new ≡ after (code.arguments line (plain_arguments all.now)) (held to.old)) }
+fn arguments<'p>(emitter: &mut Emitter<'p>, line: u32, all: &'p [Argument]) -> Result<(), Memory>
+    ensures { OnOk result (held emitter.new ≡ after (code.arguments line (plain_arguments all.now)) (held emitter.old)) }
 {
     for x in all {
-        argument(to, line, x)?;
+        argument(emitter, line, x)?;
     }
     Ok(())
 }
 
 /// A call of a procedure.
 #[cycle(expr)]
-fn call<'p>(to: &mut Emitter<'p>, line: u32, f: u32, all: &'p [Argument]) -> Result<(), Memory>
-    ensures { OnOk result (held to.new ≡ after (code.expr line (Call f (plain_arguments all.now))) (held to.old)) }
+fn call<'p>(emitter: &mut Emitter<'p>, line: u32, f: u32, all: &'p [Argument]) -> Result<(), Memory>
+    ensures { OnOk result (held emitter.new ≡ after (code.expr line (Call f (plain_arguments all.now))) (held emitter.old)) }
 {
-    arguments(to, line, all)?;
+    arguments(emitter, line, all)?;
     let body = number(f as usize + 1)?;
-    to.put(line, Instr::Call(body))?;
-    store_set(to, line, all)?;
+    emitter.put(line, Instr::Call(body))?;
+    store_set(emitter, line, all)?;
     Ok(())
 }

@@ -18,21 +18,21 @@ use setl_tree::{Boxed, Items};
 use std::alloc::Global;
 
 /// A selector.
-fn selector<'p>(to: &mut Emitter<'p>, line: u32, s: &'p Selector) -> Result<(), Memory>
-    ensures { OnOk result (held to.new ≡ after (selector_code line s.now) (held to.old)) }
+fn selector<'p>(emitter: &mut Emitter<'p>, line: u32, s: &'p Selector) -> Result<(), Memory>
+    ensures { OnOk result (held emitter.new ≡ after (selector_code line s.now) (held emitter.old)) }
 {
     match s {
-        Selector::Round(e) => expr(to, line, e),
-        Selector::Brace(e) => expr(to, line, e),
+        Selector::Round(e) => expr(emitter, line, e),
+        Selector::Brace(e) => expr(emitter, line, e),
     }
 }
 
 /// The selectors of a place.
-fn selectors<'p>(to: &mut Emitter<'p>, line: u32, ss: &'p [Selector]) -> Result<(), Memory>
-    ensures { OnOk result (held to.new ≡ after (code.selectors line (selectors_of ss.now)) (held to.old)) }
+fn selectors<'p>(emitter: &mut Emitter<'p>, line: u32, ss: &'p [Selector]) -> Result<(), Memory>
+    ensures { OnOk result (held emitter.new ≡ after (code.selectors line (selectors_of ss.now)) (held emitter.old)) }
 {
     for s in ss {
-        selector(to, line, s)?;
+        selector(emitter, line, s)?;
     }
     Ok(())
 }
@@ -59,43 +59,48 @@ fn brackets(alloc: Global, ss: &[Selector]) -> Result<Items<Bracket>, Memory>
 }
 
 /// The part at a place is changed.
-pub fn alter<'p>(to: &mut Emitter<'p>, line: u32, a: Alteration, p: &'p Place) -> Result<(), Memory>
-    ensures { OnOk result (held to.new ≡ after (code.alter line (plain_alteration a) (plain_variable p.now.variable) (selectors_of p.now.selectors)) (held to.old)) }
+pub fn alter<'p>(
+    emitter: &mut Emitter<'p>,
+    line: u32,
+    a: Alteration,
+    p: &'p Place,
+) -> Result<(), Memory>
+    ensures { OnOk result (held emitter.new ≡ after (code.alter line (plain_alteration a) (plain_variable p.now.variable) (selectors_of p.now.selectors)) (held emitter.old)) }
 {
-    selectors(to, line, p.selectors.as_slice())?;
-    let bs = brackets(to.alloc, p.selectors.as_slice())?;
-    let slot = to.names.slot(&p.variable)?;
-    to.put(line, Instr::Alter(a, slot, Boxed::new(to.alloc, bs)?))?;
+    selectors(emitter, line, p.selectors.as_slice())?;
+    let bs = brackets(emitter.alloc, p.selectors.as_slice())?;
+    let slot = emitter.names.slot(&p.variable)?;
+    emitter.put(line, Instr::Alter(a, slot, Boxed::new(emitter.alloc, bs)?))?;
     Ok(())
 }
 
 /// A right side is put into a place.
-pub fn put<'p>(to: &mut Emitter<'p>, line: u32, p: &'p Place) -> Result<(), Memory>
-    ensures { OnOk result (held to.new ≡ after (code.put line (plain_variable p.now.variable) (selectors_of p.now.selectors)) (held to.old)) }
+pub fn put<'p>(emitter: &mut Emitter<'p>, line: u32, p: &'p Place) -> Result<(), Memory>
+    ensures { OnOk result (held emitter.new ≡ after (code.put line (plain_variable p.now.variable) (selectors_of p.now.selectors)) (held emitter.old)) }
 {
     if p.selectors.is_empty() {
-        to.store(line, &p.variable)?;
+        emitter.store(line, &p.variable)?;
     } else {
-        alter(to, line, Alteration::Put, p)?;
+        alter(emitter, line, Alteration::Put, p)?;
     }
     Ok(())
 }
 
 /// A variable is read.
-fn read_one<'p>(to: &mut Emitter<'p>, line: u32, x: &'p Variable) -> Result<(), Memory>
-    ensures { OnOk result (held to.new ≡ after (one line ReadOne ⨾ one line (StoreIn (plain_variable x.now))) (held to.old)) }
+fn read_one<'p>(emitter: &mut Emitter<'p>, line: u32, x: &'p Variable) -> Result<(), Memory>
+    ensures { OnOk result (held emitter.new ≡ after (one line ReadOne ⨾ one line (StoreIn (plain_variable x.now))) (held emitter.old)) }
 {
-    to.put(line, Instr::Read)?;
-    to.store(line, x)?;
+    emitter.put(line, Instr::Read)?;
+    emitter.store(line, x)?;
     Ok(())
 }
 
 /// Variables are read.
-pub fn read_all<'p>(to: &mut Emitter<'p>, line: u32, xs: &'p [Variable]) -> Result<(), Memory>
-    ensures { OnOk result (held to.new ≡ after (code.read_all line (map plain_variable xs.now)) (held to.old)) }
+pub fn read_all<'p>(emitter: &mut Emitter<'p>, line: u32, xs: &'p [Variable]) -> Result<(), Memory>
+    ensures { OnOk result (held emitter.new ≡ after (code.read_all line (map plain_variable xs.now)) (held emitter.old)) }
 {
     for x in xs {
-        read_one(to, line, x)?;
+        read_one(emitter, line, x)?;
     }
     Ok(())
 }

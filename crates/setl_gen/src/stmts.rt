@@ -19,78 +19,83 @@ use setl_tree::Items;
 
 /// Statements in their order, in a loop with so many iterators.
 #[cycle(stmt)]
-pub fn block<'p>(to: &mut Emitter<'p>, leaves: u32, ss: &'p [Stmt]) -> Result<(), Memory>
-    ensures { OnOk result (held to.new ≡ after (code.block leaves (plain_block ss.now)) (held to.old)) }
+pub fn block<'p>(emitter: &mut Emitter<'p>, leaves: u32, ss: &'p [Stmt]) -> Result<(), Memory>
+    ensures { OnOk result (held emitter.new ≡ after (code.block leaves (plain_block ss.now)) (held emitter.old)) }
 {
     for s in ss {
-        stmt(to, leaves, s)?;
+        stmt(emitter, leaves, s)?;
     }
     Ok(())
 }
 
 /// A statement.
 #[cycle(stmt)]
-fn stmt<'p>(to: &mut Emitter<'p>, leaves: u32, s: &'p Stmt) -> Result<(), Memory>
-    ensures { OnOk result (held to.new ≡ after (code.stmt leaves (plain_stmt s.now).0 (plain_stmt s.now).1) (held to.old)) }
+fn stmt<'p>(emitter: &mut Emitter<'p>, leaves: u32, s: &'p Stmt) -> Result<(), Memory>
+    ensures { OnOk result (held emitter.new ≡ after (code.stmt leaves (plain_stmt s.now).0 (plain_stmt s.now).1) (held emitter.old)) }
 {
-    kind(to, leaves, s.line, &s.kind)
+    kind(emitter, leaves, s.line, &s.kind)
 }
 
 /// What a statement is.
 #[cycle(stmt)]
-fn kind<'p>(to: &mut Emitter<'p>, leaves: u32, line: u32, k: &'p StmtKind) -> Result<(), Memory>
-    ensures { OnOk result (held to.new ≡ after (code.stmt leaves line (plain_kind k.now)) (held to.old)) }
+fn kind<'p>(
+    emitter: &mut Emitter<'p>,
+    leaves: u32,
+    line: u32,
+    k: &'p StmtKind,
+) -> Result<(), Memory>
+    ensures { OnOk result (held emitter.new ≡ after (code.stmt leaves line (plain_kind k.now)) (held emitter.old)) }
 {
     match k {
-        StmtKind::Assign(p, e) => assign(to, line, p, e),
-        StmtKind::Update(o, p, e) => update(to, line, *o, p, e),
-        StmtKind::AssignParts(xs, e) => assign_parts(to, line, xs.as_slice(), e),
-        StmtKind::TakeFrom(k, x, p) => take_from(to, line, *k, x, p),
-        StmtKind::Perform(e) => perform(to, line, e),
+        StmtKind::Assign(p, e) => assign(emitter, line, p, e),
+        StmtKind::Update(o, p, e) => update(emitter, line, *o, p, e),
+        StmtKind::AssignParts(xs, e) => assign_parts(emitter, line, xs.as_slice(), e),
+        StmtKind::TakeFrom(k, x, p) => take_from(emitter, line, *k, x, p),
+        StmtKind::Perform(e) => perform(emitter, line, e),
         StmtKind::If(c, x, bs, y) => {
-            let mut overs = Items::new(to.alloc);
-            guard(to, leaves, line, x.as_slice(), c, &mut overs)?;
-            branches(to, leaves, bs.as_slice(), &mut overs)?;
-            block(to, leaves, y.as_slice())?;
-            to.close(overs)?;
+            let mut overs = Items::new(emitter.alloc);
+            guard(emitter, leaves, line, x.as_slice(), c, &mut overs)?;
+            branches(emitter, leaves, bs.as_slice(), &mut overs)?;
+            block(emitter, leaves, y.as_slice())?;
+            emitter.close(overs)?;
             Ok(())
         }
         StmtKind::For(is, t, b) => {
-            for_loop(to, line, b.as_slice(), is.as_slice(), t)?;
+            for_loop(emitter, line, b.as_slice(), is.as_slice(), t)?;
             Ok(())
         }
         StmtKind::While(c, b) => {
-            while_loop(to, line, b.as_slice(), c)?;
+            while_loop(emitter, line, b.as_slice(), c)?;
             Ok(())
         }
-        StmtKind::Quit => quit(to, leaves, line),
-        StmtKind::Continue => to.jump_on(line),
-        StmtKind::Fail => to.put(line, Instr::Back),
-        StmtKind::Stop => to.put(line, Instr::Stop),
+        StmtKind::Quit => quit(emitter, leaves, line),
+        StmtKind::Continue => emitter.jump_on(line),
+        StmtKind::Fail => emitter.put(line, Instr::Back),
+        StmtKind::Stop => emitter.put(line, Instr::Stop),
         StmtKind::Pass => Ok(()),
-        StmtKind::Return(e) => give_back(to, line, e),
-        StmtKind::Print(es) => print(to, line, es.as_slice()),
-        StmtKind::Read(xs) => read_all(to, line, xs.as_slice()),
+        StmtKind::Return(e) => give_back(emitter, line, e),
+        StmtKind::Print(es) => print(emitter, line, es.as_slice()),
+        StmtKind::Read(xs) => read_all(emitter, line, xs.as_slice()),
     }
 }
 
 /// A condition with the statements that it guards. The jump over the others is put among those that have no target yet.
 #[cycle(stmt)]
 fn guard<'p>(
-    to: &mut Emitter<'p>,
+    emitter: &mut Emitter<'p>,
     leaves: u32,
     line: u32,
     b: &'p [Stmt],
     c: &'p Expr,
     overs: &mut Items<Hole>,
 ) -> Result<(), Memory>
-    ensures { OnOk result (IsGuarded leaves line (plain_expr c.now) (plain_block b.now) (held to.old) overs.old (held to.new) overs.new) }
+    ensures { OnOk result (IsGuarded leaves line (plain_expr c.now) (plain_block b.now) (held emitter.old) overs.old (held emitter.new) overs.new) }
 {
-    expr(to, line, c)?;
-    let test = to.step(line, Instr::Unless(0))?;
-    block(to, leaves, b)?;
-    let place = to.step(line, Instr::Jump(0))?;
-    to.unless_here(test, line)?;
+    expr(emitter, line, c)?;
+    let test = emitter.step(line, Instr::Unless(0))?;
+    block(emitter, leaves, b)?;
+    let place = emitter.step(line, Instr::Jump(0))?;
+    emitter.unless_here(test, line)?;
     overs.push(Hole { place, line })?;
     Ok(())
 }
@@ -98,28 +103,35 @@ fn guard<'p>(
 /// A further condition with the statements that it guards.
 #[cycle(stmt)]
 fn branch<'p>(
-    to: &mut Emitter<'p>,
+    emitter: &mut Emitter<'p>,
     leaves: u32,
     b: &'p Branch,
     overs: &mut Items<Hole>,
 ) -> Result<(), Memory>
-    ensures { OnOk result (IsBranch leaves b.now (held to.old) overs.old (held to.new) overs.new) }
+    ensures { OnOk result (IsBranch leaves b.now (held emitter.old) overs.old (held emitter.new) overs.new) }
 {
-    guard(to, leaves, b.line, b.body.as_slice(), &b.condition, overs)
+    guard(
+        emitter,
+        leaves,
+        b.line,
+        b.body.as_slice(),
+        &b.condition,
+        overs,
+    )
 }
 
 /// Further conditions with the statements that they guard.
 #[cycle(stmt)]
 fn branches<'p>(
-    to: &mut Emitter<'p>,
+    emitter: &mut Emitter<'p>,
     leaves: u32,
     bs: &'p [Branch],
     overs: &mut Items<Hole>,
 ) -> Result<(), Memory>
-    ensures { OnOk result (AreBranches leaves bs.now (held to.old) overs.old (held to.new) overs.new) }
+    ensures { OnOk result (AreBranches leaves bs.now (held emitter.old) overs.old (held emitter.new) overs.new) }
 {
     for b in bs {
-        branch(to, leaves, b, overs)?;
+        branch(emitter, leaves, b, overs)?;
     }
     Ok(())
 }
@@ -127,73 +139,78 @@ fn branches<'p>(
 /// The statements of a loop that goes on at a place.
 #[cycle(stmt)]
 fn rounds<'p>(
-    to: &mut Emitter<'p>,
+    emitter: &mut Emitter<'p>,
     line: u32,
     again: u32,
     leaves: u32,
     b: &'p [Stmt],
 ) -> Result<(), Memory>
-    ensures { OnOk result (held to.new ≡ after (looped line again leaves (plain_block b.now)) (held to.old)) }
+    ensures { OnOk result (held emitter.new ≡ after (looped line again leaves (plain_block b.now)) (held emitter.old)) }
 {
-    let around = to.go_on_at(again);
-    block(to, leaves, b)?;
-    to.go_on_at(around);
-    to.put(line, Instr::Jump(again))?;
+    let around = emitter.go_on_at(again);
+    block(emitter, leaves, b)?;
+    emitter.go_on_at(around);
+    emitter.put(line, Instr::Jump(again))?;
     Ok(())
 }
 
 /// A loop over members.
 #[cycle(stmt)]
 fn for_loop<'p>(
-    to: &mut Emitter<'p>,
+    emitter: &mut Emitter<'p>,
     line: u32,
     b: &'p [Stmt],
     is: &'p [Iterator],
     t: &'p Option<Expr>,
 ) -> Result<(), Memory>
-    ensures { OnOk result (held to.new ≡ after (code.stmt 0 line (For (plain_iterators is.now) (condition_of (option_map plain_expr t.now)) (plain_block b.now))) (held to.old)) }
+    ensures { OnOk result (held emitter.new ≡ after (code.stmt 0 line (For (plain_iterators is.now) (condition_of (option_map plain_expr t.now)) (plain_block b.now))) (held emitter.old)) }
 {
-    let outer = to.enter();
-    let (first, innermost) = iterators(to, line, is)?;
-    condition(to, line, t, innermost)?;
+    let outer = emitter.enter();
+    let (first, innermost) = iterators(emitter, line, is)?;
+    condition(emitter, line, t, innermost)?;
     let levels = number(is.len())?;
-    rounds(to, line, innermost, levels, b)?;
-    to.next_here(first, line)?;
-    let inner = to.leave(outer);
-    let end = to.here()?;
-    to.fill_all(inner, end);
+    rounds(emitter, line, innermost, levels, b)?;
+    emitter.next_here(first, line)?;
+    let inner = emitter.leave(outer);
+    let end = emitter.here()?;
+    emitter.fill_all(inner, end);
     Ok(())
 }
 
 /// A condition that goes back where it doesn't hold.
 fn condition<'p>(
-    to: &mut Emitter<'p>,
+    emitter: &mut Emitter<'p>,
     line: u32,
     t: &'p Option<Expr>,
     back: u32,
 ) -> Result<(), Memory>
-    ensures { OnOk result (held to.new ≡ after (code.condition line (condition_of (option_map plain_expr t.now)) back) (held to.old)) }
+    ensures { OnOk result (held emitter.new ≡ after (code.condition line (condition_of (option_map plain_expr t.now)) back) (held emitter.old)) }
 {
     match t {
         None => Ok(()),
-        Some(c) => tested(to, line, c, back),
+        Some(c) => tested(emitter, line, c, back),
     }
 }
 
 /// A loop while a condition holds.
 #[cycle(stmt)]
-fn while_loop<'p>(to: &mut Emitter<'p>, line: u32, b: &'p [Stmt], c: &'p Expr) -> Result<(), Memory>
-    ensures { OnOk result (held to.new ≡ after (code.stmt 0 line (While (plain_expr c.now) (plain_block b.now))) (held to.old)) }
+fn while_loop<'p>(
+    emitter: &mut Emitter<'p>,
+    line: u32,
+    b: &'p [Stmt],
+    c: &'p Expr,
+) -> Result<(), Memory>
+    ensures { OnOk result (held emitter.new ≡ after (code.stmt 0 line (While (plain_expr c.now) (plain_block b.now))) (held emitter.old)) }
 {
-    let outer = to.enter();
-    let start = to.here()?;
-    expr(to, line, c)?;
-    let test = to.step(line, Instr::Unless(0))?;
-    to.put(line, Instr::Round)?;
-    rounds(to, line, start, 0, b)?;
-    to.unless_here(test, line)?;
-    let inner = to.leave(outer);
-    let end = to.here()?;
-    to.fill_all(inner, end);
+    let outer = emitter.enter();
+    let start = emitter.here()?;
+    expr(emitter, line, c)?;
+    let test = emitter.step(line, Instr::Unless(0))?;
+    emitter.put(line, Instr::Round)?;
+    rounds(emitter, line, start, 0, b)?;
+    emitter.unless_here(test, line)?;
+    let inner = emitter.leave(outer);
+    let end = emitter.here()?;
+    emitter.fill_all(inner, end);
     Ok(())
 }

@@ -17,48 +17,60 @@ use setl_code::Instr;
 use setl_program::{Argument, Binding, Iterator, Variable};
 
 /// A store in a variable; `None` drops a value.
-fn store_one<'p>(to: &mut Emitter<'p>, line: u32, x: &'p Option<Variable>) -> Result<(), Memory>
-    ensures { OnOk result (held to.new ≡ after (slot_code line (option_map plain_variable x.now)) (held to.old)) }
+fn store_one<'p>(
+    emitter: &mut Emitter<'p>,
+    line: u32,
+    x: &'p Option<Variable>,
+) -> Result<(), Memory>
+    ensures { OnOk result (held emitter.new ≡ after (slot_code line (option_map plain_variable x.now)) (held emitter.old)) }
 {
     match x {
-        None => to.put(line, Instr::Discard),
-        Some(x) => to.store(line, x),
+        None => emitter.put(line, Instr::Discard),
+        Some(x) => emitter.store(line, x),
     }
 }
 
 /// Stores in variables, in their order.
-fn store_all<'p>(to: &mut Emitter<'p>, line: u32, xs: &'p [Option<Variable>]) -> Result<(), Memory>
-    ensures { OnOk result (held to.new ≡ after (store_slots line (plain_slots xs.now)) (held to.old)) }
+fn store_all<'p>(
+    emitter: &mut Emitter<'p>,
+    line: u32,
+    xs: &'p [Option<Variable>],
+) -> Result<(), Memory>
+    ensures { OnOk result (held emitter.new ≡ after (store_slots line (plain_slots xs.now)) (held emitter.old)) }
 {
     for x in xs {
-        store_one(to, line, x)?;
+        store_one(emitter, line, x)?;
     }
     Ok(())
 }
 
 /// A tuple on top is taken apart.
-pub fn parts<'p>(to: &mut Emitter<'p>, line: u32, xs: &'p [Option<Variable>]) -> Result<(), Memory>
-    ensures { OnOk result (held to.new ≡ after (code.parts line (plain_slots xs.now)) (held to.old)) }
+pub fn parts<'p>(
+    emitter: &mut Emitter<'p>,
+    line: u32,
+    xs: &'p [Option<Variable>],
+) -> Result<(), Memory>
+    ensures { OnOk result (held emitter.new ≡ after (code.parts line (plain_slots xs.now)) (held emitter.old)) }
 {
     let count = number(xs.len())?;
-    to.put(line, Instr::Parts(count))?;
-    store_all(to, line, xs)?;
+    emitter.put(line, Instr::Parts(count))?;
+    store_all(emitter, line, xs)?;
     Ok(())
 }
 
 /// The stores of a binding.
-pub fn bind<'p>(to: &mut Emitter<'p>, line: u32, b: &'p Binding) -> Result<(), Memory>
-    ensures { OnOk result (held to.new ≡ after (code.bind line (plain_binding b.now)) (held to.old)) }
+pub fn bind<'p>(emitter: &mut Emitter<'p>, line: u32, b: &'p Binding) -> Result<(), Memory>
+    ensures { OnOk result (held emitter.new ≡ after (code.bind line (plain_binding b.now)) (held emitter.old)) }
 {
     match b {
         Binding::Member(_, x) => {
-            to.store(line, x)?;
+            emitter.store(line, x)?;
             Ok(())
         }
-        Binding::Components(_, xs) => parts(to, line, xs.as_slice()),
+        Binding::Components(_, xs) => parts(emitter, line, xs.as_slice()),
         Binding::Point(y, x) => {
-            to.store(line, x)?;
-            to.store(line, y)?;
+            emitter.store(line, x)?;
+            emitter.store(line, y)?;
             Ok(())
         }
     }
@@ -66,71 +78,79 @@ pub fn bind<'p>(to: &mut Emitter<'p>, line: u32, b: &'p Binding) -> Result<(), M
 
 /// The store behind a call in what an argument sets.
 #[tactic(auto, using(crate::specs::EmittedLaws::after_nothing))]
-fn store_argument<'p>(to: &mut Emitter<'p>, line: u32, x: &'p Argument) -> Result<(), Memory>
-    ensures { OnOk result (held to.new ≡ after (set_code line (plain_argument x.now no_argument)) (held to.old)) }
+fn store_argument<'p>(emitter: &mut Emitter<'p>, line: u32, x: &'p Argument) -> Result<(), Memory>
+    ensures { OnOk result (held emitter.new ≡ after (set_code line (plain_argument x.now no_argument)) (held emitter.old)) }
 {
     match x {
         Argument::Rd(_) => Ok(()),
-        Argument::Wr(x) => to.store(line, x),
-        Argument::Rw(x) => to.store(line, x),
+        Argument::Wr(x) => emitter.store(line, x),
+        Argument::Rw(x) => emitter.store(line, x),
     }
 }
 
 /// The stores behind a call.
-pub fn store_set<'p>(to: &mut Emitter<'p>, line: u32, all: &'p [Argument]) -> Result<(), Memory>
-    ensures { OnOk result (held to.new ≡ after (store_slots line (set_by (plain_arguments all.now))) (held to.old)) }
+pub fn store_set<'p>(
+    emitter: &mut Emitter<'p>,
+    line: u32,
+    all: &'p [Argument],
+) -> Result<(), Memory>
+    ensures { OnOk result (held emitter.new ≡ after (store_slots line (set_by (plain_arguments all.now))) (held emitter.old)) }
 {
     for k in 0..all.len() {
-        store_argument(to, line, &all[k])?;
+        store_argument(emitter, line, &all[k])?;
     }
     Ok(())
 }
 
 /// `om` in a variable, if there is one.
 #[tactic(auto, using(crate::specs::EmittedLaws::after_nothing))]
-fn clear_one<'p>(to: &mut Emitter<'p>, line: u32, x: &'p Option<Variable>) -> Result<(), Memory>
-    ensures { OnOk result (held to.new ≡ after (clear_code line (option_map plain_variable x.now)) (held to.old)) }
+fn clear_one<'p>(
+    emitter: &mut Emitter<'p>,
+    line: u32,
+    x: &'p Option<Variable>,
+) -> Result<(), Memory>
+    ensures { OnOk result (held emitter.new ≡ after (clear_code line (option_map plain_variable x.now)) (held emitter.old)) }
 {
     match x {
         None => Ok(()),
-        Some(x) => to.clear(line, x),
+        Some(x) => emitter.clear(line, x),
     }
 }
 
 /// `om` in variables.
-fn clear<'p>(to: &mut Emitter<'p>, line: u32, xs: &'p [Option<Variable>]) -> Result<(), Memory>
-    ensures { OnOk result (held to.new ≡ after (code.clear line (variables_in (plain_slots xs.now))) (held to.old)) }
+fn clear<'p>(emitter: &mut Emitter<'p>, line: u32, xs: &'p [Option<Variable>]) -> Result<(), Memory>
+    ensures { OnOk result (held emitter.new ≡ after (code.clear line (variables_in (plain_slots xs.now))) (held emitter.old)) }
 {
     for x in xs {
-        clear_one(to, line, x)?;
+        clear_one(emitter, line, x)?;
     }
     Ok(())
 }
 
 /// `om` in the variables of a binding.
-fn clear_bound<'p>(to: &mut Emitter<'p>, line: u32, b: &'p Binding) -> Result<(), Memory>
-    ensures { OnOk result (held to.new ≡ after (code.clear line (variables_in (bound_by (plain_binding b.now)))) (held to.old)) }
+fn clear_bound<'p>(emitter: &mut Emitter<'p>, line: u32, b: &'p Binding) -> Result<(), Memory>
+    ensures { OnOk result (held emitter.new ≡ after (code.clear line (variables_in (bound_by (plain_binding b.now)))) (held emitter.old)) }
 {
     match b {
         Binding::Member(_, x) => {
-            to.clear(line, x)?;
+            emitter.clear(line, x)?;
             Ok(())
         }
-        Binding::Components(_, xs) => clear(to, line, xs.as_slice()),
+        Binding::Components(_, xs) => clear(emitter, line, xs.as_slice()),
         Binding::Point(y, x) => {
-            to.clear(line, y)?;
-            to.clear(line, x)?;
+            emitter.clear(line, y)?;
+            emitter.clear(line, x)?;
             Ok(())
         }
     }
 }
 
 /// `om` in the variables of iterators.
-pub fn clear_all<'p>(to: &mut Emitter<'p>, line: u32, is: &'p [Iterator]) -> Result<(), Memory>
-    ensures { OnOk result (held to.new ≡ after (code.clear line (all_bound (plain_iterators is.now))) (held to.old)) }
+pub fn clear_all<'p>(emitter: &mut Emitter<'p>, line: u32, is: &'p [Iterator]) -> Result<(), Memory>
+    ensures { OnOk result (held emitter.new ≡ after (code.clear line (all_bound (plain_iterators is.now))) (held emitter.old)) }
 {
     for i in is {
-        clear_bound(to, line, &i.binding)?;
+        clear_bound(emitter, line, &i.binding)?;
     }
     Ok(())
 }

@@ -146,11 +146,11 @@ impl<'p> Emitter<'p> {
     }
 
     /// A decision, at a place, leads to the next step.
-    pub fn decide_here(&mut self, at: u32, line: u32, k: Connective) -> Result<(), Memory>
-        ensures { OnOk result (held self.new ≡ with_step at line (Decides k (here (held self.old))) (held self.old)) }
+    pub fn decide_here(&mut self, at: u32, line: u32, connective: Connective) -> Result<(), Memory>
+        ensures { OnOk result (held self.new ≡ with_step at line (Decides connective (here (held self.old))) (held self.old)) }
     {
         let end = self.here()?;
-        self.fill(at, line, Instr::Decide(k, end));
+        self.fill(at, line, Instr::Decide(connective, end));
         Ok(())
     }
 

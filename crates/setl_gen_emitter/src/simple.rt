@@ -21,10 +21,10 @@ use setl_program::{Binding, Iterator, Quantifier};
 use setl_tree::Items;
 
 /// What a quantifier is once a member decides it.
-fn decided(q: Quantifier) -> bool
-    ensures { result ≡ model.decided q }
+fn decided(quantifier: Quantifier) -> bool
+    ensures { result ≡ model.decided quantifier }
 {
-    match q {
+    match quantifier {
         Quantifier::Exists => true,
         Quantifier::Forall => false,
         Quantifier::NotExists => false,
@@ -32,10 +32,10 @@ fn decided(q: Quantifier) -> bool
 }
 
 /// What a quantifier is where no member decides it.
-fn undecided(q: Quantifier) -> bool
-    ensures { result ≡ model.undecided q }
+fn undecided(quantifier: Quantifier) -> bool
+    ensures { result ≡ model.undecided quantifier }
 {
-    match q {
+    match quantifier {
         Quantifier::Exists => false,
         Quantifier::Forall => true,
         Quantifier::NotExists => true,
@@ -43,129 +43,134 @@ fn undecided(q: Quantifier) -> bool
 }
 
 /// A new iterator over the parts of a source, so many.
-pub fn begin(to: &mut Emitter<'_>, line: u32, b: &Binding, parts: u32) -> Result<(), Memory>
-    ensures { OnOk result (held to.new ≡ after (one line (BeginOver (begin_of (plain_binding b.now)) parts)) (held to.old)) }
+pub fn begin(emitter: &mut Emitter<'_>, line: u32, b: &Binding, parts: u32) -> Result<(), Memory>
+    ensures { OnOk result (held emitter.new ≡ after (one line (BeginOver (begin_of (plain_binding b.now)) parts)) (held emitter.old)) }
 {
     match b {
-        Binding::Member(k, _) => to.put(line, Instr::Begin(Begin::Members(*k), parts)),
-        Binding::Components(k, _) => to.put(line, Instr::Begin(Begin::Members(*k), parts)),
-        Binding::Point(_, _) => to.put(line, Instr::Begin(Begin::Points, parts)),
+        Binding::Member(k, _) => emitter.put(line, Instr::Begin(Begin::Members(*k), parts)),
+        Binding::Components(k, _) => emitter.put(line, Instr::Begin(Begin::Members(*k), parts)),
+        Binding::Point(_, _) => emitter.put(line, Instr::Begin(Begin::Points, parts)),
     }
 }
 
 /// `not`, where a member that a condition doesn't hold for decides a quantifier.
 #[tactic(auto, using(crate::specs::EmittedLaws::after_nothing))]
-fn negated(to: &mut Emitter<'_>, line: u32, q: Quantifier) -> Result<(), Memory>
-    ensures { OnOk result (held to.new ≡ after (code.negated line q) (held to.old)) }
+fn negated(emitter: &mut Emitter<'_>, line: u32, quantifier: Quantifier) -> Result<(), Memory>
+    ensures { OnOk result (held emitter.new ≡ after (code.negated line quantifier) (held emitter.old)) }
 {
-    match q {
+    match quantifier {
         Quantifier::Exists => Ok(()),
-        Quantifier::Forall => to.put(line, Instr::Operate(Operator::Not, 1)),
+        Quantifier::Forall => emitter.put(line, Instr::Operate(Operator::Not, 1)),
         Quantifier::NotExists => Ok(()),
     }
 }
 
 /// A member below a condition is kept or dropped, and the next one follows.
-pub fn keep_or_drop(to: &mut Emitter<'_>, line: u32, next: u32) -> Result<(), Memory>
-    ensures { OnOk result (held to.new ≡ after (code.keep_or_drop line next) (held to.old)) }
+pub fn keep_or_drop(emitter: &mut Emitter<'_>, line: u32, next: u32) -> Result<(), Memory>
+    ensures { OnOk result (held emitter.new ≡ after (code.keep_or_drop line next) (held emitter.old)) }
 {
-    let test = to.step(line, Instr::Unless(0))?;
-    to.put(line, Instr::Add(1))?;
-    to.put(line, Instr::Jump(next))?;
-    to.unless_here(test, line)?;
-    to.put(line, Instr::Discard)?;
-    to.put(line, Instr::Jump(next))?;
+    let test = emitter.step(line, Instr::Unless(0))?;
+    emitter.put(line, Instr::Add(1))?;
+    emitter.put(line, Instr::Jump(next))?;
+    emitter.unless_here(test, line)?;
+    emitter.put(line, Instr::Discard)?;
+    emitter.put(line, Instr::Jump(next))?;
     Ok(())
 }
 
 /// A value is added below so many iterators, and the innermost goes on.
 pub fn add_and_go_on(
-    to: &mut Emitter<'_>,
+    emitter: &mut Emitter<'_>,
     line: u32,
     levels: usize,
     next: u32,
 ) -> Result<(), Memory>
-    ensures { OnOk result (held to.new ≡ after (one line (AddBelow levels) ⨾ one line (Jump next)) (held to.old)) }
+    ensures { OnOk result (held emitter.new ≡ after (one line (AddBelow levels) ⨾ one line (Jump next)) (held emitter.old)) }
 {
     let levels = number(levels)?;
-    to.put(line, Instr::Add(levels))?;
-    to.put(line, Instr::Jump(next))?;
+    emitter.put(line, Instr::Add(levels))?;
+    emitter.put(line, Instr::Jump(next))?;
     Ok(())
 }
 
 /// An iterator over the parts of a source, so many, with what it binds; the member stays below. It gives the place of
 /// the iterator's next step, whose end has no target yet.
 pub fn begin_selection<'p>(
-    to: &mut Emitter<'p>,
+    emitter: &mut Emitter<'p>,
     line: u32,
     b: &'p Binding,
     parts: usize,
 ) -> Result<u32, Memory>
-    ensures place { IfOk result (λ at. at ≡ here (after (one line (BeginOver (begin_of (plain_binding b.now)) parts)) (held to.old))) }
-    ensures code { OnOk result (held to.new ≡ after (one line (NextOr 0) ⨾ one line DupTop ⨾ code.bind line (plain_binding b.now)) (after (one line (BeginOver (begin_of (plain_binding b.now)) parts)) (held to.old))) }
+    ensures place { IfOk result (λ at. at ≡ here (after (one line (BeginOver (begin_of (plain_binding b.now)) parts)) (held emitter.old))) }
+    ensures code { OnOk result (held emitter.new ≡ after (one line (NextOr 0) ⨾ one line DupTop ⨾ code.bind line (plain_binding b.now)) (after (one line (BeginOver (begin_of (plain_binding b.now)) parts)) (held emitter.old))) }
 {
     let parts = number(parts)?;
-    begin(to, line, b, parts)?;
-    let next = to.step(line, Instr::Next(0))?;
-    to.put(line, Instr::Duplicate)?;
-    bind(to, line, b)?;
+    begin(emitter, line, b, parts)?;
+    let next = emitter.step(line, Instr::Next(0))?;
+    emitter.put(line, Instr::Duplicate)?;
+    bind(emitter, line, b)?;
     Ok(next)
 }
 
 /// A member that a condition was tested for decides a quantifier over so many iterators, or the innermost goes on.
 pub fn leave_decided(
-    to: &mut Emitter<'_>,
+    emitter: &mut Emitter<'_>,
     line: u32,
-    q: Quantifier,
+    quantifier: Quantifier,
     levels: usize,
     next: u32,
 ) -> Result<(), Memory>
-    ensures { OnOk result (held to.new ≡ after (code.negated line q ⨾ one line (Unless next) ⨾ one line (LeaveAll levels) ⨾ one line (Push (Some (bool (model.decided q)))) ⨾ jumps_out line) (held to.old)) }
+    ensures { OnOk result (held emitter.new ≡ after (code.negated line quantifier ⨾ one line (Unless next) ⨾ one line (LeaveAll levels) ⨾ one line (Push (Some (bool (model.decided quantifier)))) ⨾ jumps_out line) (held emitter.old)) }
 {
-    negated(to, line, q)?;
-    to.put(line, Instr::Unless(next))?;
-    leave_with(to, line, levels, decided(q))?;
+    negated(emitter, line, quantifier)?;
+    emitter.put(line, Instr::Unless(next))?;
+    leave_with(emitter, line, levels, decided(quantifier))?;
     Ok(())
 }
 
 /// So many iterators are left with a truth value.
-fn leave_with(to: &mut Emitter<'_>, line: u32, levels: usize, truth: bool) -> Result<(), Memory>
-    ensures { OnOk result (held to.new ≡ after (one line (LeaveAll levels) ⨾ one line (Push (Some (bool truth))) ⨾ jumps_out line) (held to.old)) }
+fn leave_with(
+    emitter: &mut Emitter<'_>,
+    line: u32,
+    levels: usize,
+    truth: bool,
+) -> Result<(), Memory>
+    ensures { OnOk result (held emitter.new ≡ after (one line (LeaveAll levels) ⨾ one line (Push (Some (bool truth))) ⨾ jumps_out line) (held emitter.old)) }
 {
     let levels = number(levels)?;
-    to.put(line, Instr::Leave(levels))?;
-    to.put(line, Instr::Truth(truth))?;
-    to.jump_out(line)?;
+    emitter.put(line, Instr::Leave(levels))?;
+    emitter.put(line, Instr::Truth(truth))?;
+    emitter.jump_out(line)?;
     Ok(())
 }
 
 /// No member decides a quantifier: its variables are `om`. Behind that the jumps out of it end.
 pub fn end_undecided<'p>(
-    to: &mut Emitter<'p>,
+    emitter: &mut Emitter<'p>,
     line: u32,
-    q: Quantifier,
+    quantifier: Quantifier,
     is: &'p [Iterator],
     exits: Items<Hole>,
 ) -> Result<(), Memory>
-    ensures { OnOk result (held to.new ≡ with_end_undecided line q (plain_iterators is.now) exits (held to.old)) }
+    ensures { OnOk result (held emitter.new ≡ with_end_undecided line quantifier (plain_iterators is.now) exits (held emitter.old)) }
 {
-    clear_all(to, line, is)?;
-    to.put(line, Instr::Truth(undecided(q)))?;
-    let end = to.here()?;
-    to.fill_all(exits, end);
+    clear_all(emitter, line, is)?;
+    emitter.put(line, Instr::Truth(undecided(quantifier)))?;
+    let end = emitter.here()?;
+    emitter.fill_all(exits, end);
     Ok(())
 }
 
 /// The innermost loop, of so many iterators, is left.
-pub fn quit(to: &mut Emitter<'_>, leaves: u32, line: u32) -> Result<(), Memory>
-    ensures { OnOk result (held to.new ≡ after (code.quit line leaves) (held to.old)) }
+pub fn quit(emitter: &mut Emitter<'_>, leaves: u32, line: u32) -> Result<(), Memory>
+    ensures { OnOk result (held emitter.new ≡ after (code.quit line leaves) (held emitter.old)) }
 {
     if leaves == 0 {
-        to.jump_out(line)?;
+        emitter.jump_out(line)?;
         Ok(())
     } else {
-        to.put(line, Instr::Leave(leaves))?;
-        to.jump_out(line)?;
+        emitter.put(line, Instr::Leave(leaves))?;
+        emitter.jump_out(line)?;
         Ok(())
     }
 }

@@ -6,7 +6,7 @@ use Rattle.setl_gen.proofs.bodies.begin.Goals as goal
 
 pub returns : goal.returns
 returns c =
-    let t0 = c.args.to.now.names in
+    let t0 = c.args.emitter.now.names in
     let ps = c.args.parameters.now in
     let b = plain_block c.args.statements.now in
     let xs = map (λ x. plain_variable x.now) c.as_slice.result.now in

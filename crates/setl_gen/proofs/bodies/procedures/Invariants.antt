@@ -7,6 +7,6 @@ use Rattle.setl_gen.proofs.bodies.procedures.Given as goal
 
 abbrev pub invariant-loop-p : goal.invariant-loop-p
 invariant-loop-p l =
-    let vars = map Global l.initial.to.names.vars in
-    (l.to.names.vars ≡ l.initial.to.names.vars)
+    let vars = map Global l.initial.emitter.names.vars in
+    (l.emitter.names.vars ≡ l.initial.emitter.names.vars)
     × (plain_bodies vars 0 l.bodies ++ map procedure_body (map plain_procedure (drop l.p-index l.ps)) ≡ plain_bodies vars 0 l.initial.bodies ++ map procedure_body (map plain_procedure l.ps))

@@ -7,4 +7,4 @@ use Rattle.setl_gen.proofs.places.read_one.Goals as goal
 
 pub returns : goal.returns
 returns c =
-    then_made (one c.args.line ReadOne) (one c.args.line (StoreIn (plain_variable c.args.x.now))) (held c.args.to.now) (held c.put.new.self) (held c.store.new.self) c.in_ok-put.ensures c.in_ok-store.ensures
+    then_made (one c.args.line ReadOne) (one c.args.line (StoreIn (plain_variable c.args.x.now))) (held c.args.emitter.now) (held c.put.new.self) (held c.store.new.self) c.in_ok-put.ensures c.in_ok-store.ensures

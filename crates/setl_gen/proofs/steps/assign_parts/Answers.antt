@@ -6,6 +6,6 @@ use Rattle.setl_gen.proofs.steps.assign_parts.Goals as goal
 
 pub returns : goal.returns
 returns c =
-    then_made (code.expr c.args.line (plain_expr c.args.e.now)) (code.parts c.args.line (plain_slots c.args.xs.now)) (held c.args.to.now) (held c.expr.new.to) (held c.parts.new.to)
+    then_made (code.expr c.args.line (plain_expr c.args.e.now)) (code.parts c.args.line (plain_slots c.args.xs.now)) (held c.args.emitter.now) (held c.expr.new.emitter) (held c.parts.new.emitter)
     c.in_ok-expr.ensures
     c.in_ok-parts.ensures

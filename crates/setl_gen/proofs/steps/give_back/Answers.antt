@@ -8,6 +8,6 @@ use Rattle.setl_gen.proofs.steps.give_back.Goals as goal
 
 pub returns : goal.returns
 returns c =
-    then_made (code.expr c.args.line (plain_expr c.args.e.now)) (one c.args.line ReturnTop) (held c.args.to.now) (held c.expr.new.to) (held c.put.new.self)
+    then_made (code.expr c.args.line (plain_expr c.args.e.now)) (one c.args.line ReturnTop) (held c.args.emitter.now) (held c.expr.new.emitter) (held c.put.new.self)
     c.in_ok-expr.ensures
     c.in_ok-put.ensures

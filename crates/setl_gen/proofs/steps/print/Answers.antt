@@ -10,6 +10,6 @@ use Rattle.setl_gen.proofs.steps.print.Goals as goal
 
 pub returns : goal.returns
 returns c =
-    then_made (code.exprs c.args.line (plain_exprs c.args.es.now)) (one c.args.line (PrintTop (code.count (plain_exprs c.args.es.now)))) (held c.args.to.now) (held c.exprs.new.to) (held c.put.new.self)
+    then_made (code.exprs c.args.line (plain_exprs c.args.es.now)) (one c.args.line (PrintTop (code.count (plain_exprs c.args.es.now)))) (held c.args.emitter.now) (held c.exprs.new.emitter) (held c.put.new.self)
     c.in_ok-exprs.ensures
-    (c.in_ok-put.ensures ∙ ap (λ m. after (one c.args.line (PrintTop m)) (held c.exprs.new.to)) (c.in_ok-count.ensures ∙ count_is c.args.es.now))
+    (c.in_ok-put.ensures ∙ ap (λ m. after (one c.args.line (PrintTop m)) (held c.exprs.new.emitter)) (c.in_ok-count.ensures ∙ count_is c.args.es.now))

@@ -9,6 +9,6 @@ use Rattle.setl_gen.proofs.steps.take_from.Goals as goal
 
 pub returns : goal.returns
 returns c =
-    then_made (code.alter c.args.line (TakingOut c.args.k) (plain_variable c.args.p.now.variable) (selectors_of c.args.p.now.selectors)) (code.store_slots c.args.line (Some (plain_variable c.args.x.now) ∷ [])) (held c.args.to.now) (held c.alter.new.to) (held c.store.new.self)
+    then_made (code.alter c.args.line (TakingOut c.args.taking) (plain_variable c.args.p.now.variable) (selectors_of c.args.p.now.selectors)) (code.store_slots c.args.line (Some (plain_variable c.args.x.now) ∷ [])) (held c.args.emitter.now) (held c.alter.new.emitter) (held c.store.new.self)
     c.in_ok-alter.ensures
-    (one_store c.args.line (plain_variable c.args.x.now) (held c.alter.new.to) (held c.store.new.self) c.in_ok-store.ensures)
+    (one_store c.args.line (plain_variable c.args.x.now) (held c.alter.new.emitter) (held c.store.new.self) c.in_ok-store.ensures)

@@ -7,6 +7,6 @@ use Rattle.setl_gen.proofs.steps.update.Goals as goal
 
 pub returns : goal.returns
 returns c =
-    then_made (code.expr c.args.line (plain_expr c.args.e.now)) (code.alter c.args.line (Combining c.args.o) (plain_variable c.args.p.now.variable) (selectors_of c.args.p.now.selectors)) (held c.args.to.now) (held c.expr.new.to) (held c.alter.new.to)
+    then_made (code.expr c.args.line (plain_expr c.args.e.now)) (code.alter c.args.line (Combining c.args.o) (plain_variable c.args.p.now.variable) (selectors_of c.args.p.now.selectors)) (held c.args.emitter.now) (held c.expr.new.emitter) (held c.alter.new.emitter)
     c.in_ok-expr.ensures
     c.in_ok-alter.ensures

@@ -8,5 +8,5 @@ use Rattle.setl_gen.proofs.stmts.condition.Goals as goal
 
 pub returns-in-None : goal.returns-in-None
 returns-in-None c =
-    let s = held c.args.to.now in
+    let s = held c.args.emitter.now in
     sym (after_nothing s) ∙ ap (λ o. after (code.condition c.args.line (condition_of (option_map plain_expr o)) c.args.back) s) (sym c.in-None.is)

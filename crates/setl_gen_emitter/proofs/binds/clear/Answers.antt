@@ -10,11 +10,11 @@ use Rattle.setl_gen_emitter.proofs.binds.clear.Goals as goal
 
 pub loop-x-preserved : goal.loop-x-preserved
 loop-x-preserved c =
-    clears_round c.args.line c.args.xs.now c.loop-x.x-index c.x-item.result (held c.loop-x.to) (held c.clear_one.new.to) c.loop-x-test.true c.x-item.is c.in_ok-clear_one.ensures
+    clears_round c.args.line c.args.xs.now c.loop-x.x-index c.x-item.result (held c.loop-x.emitter) (held c.clear_one.new.emitter) c.loop-x-test.true c.x-item.is c.in_ok-clear_one.ensures
     ∙ c.loop-x.invariant
 
 pub returns : goal.returns
 returns c =
     let line = c.args.line in
     let f = λ (r : List (Option Variable)). clear line (variables_in (plain_slots r)) in
-    done_made f c.args.xs.now c.loop-x.x-index (held c.loop-x.to) (after (f c.args.xs.now) (held c.args.to.now)) c.loop-x-test.false (after_nothing (held c.loop-x.to)) c.loop-x.invariant
+    done_made f c.args.xs.now c.loop-x.x-index (held c.loop-x.emitter) (after (f c.args.xs.now) (held c.args.emitter.now)) c.loop-x-test.false (after_nothing (held c.loop-x.emitter)) c.loop-x.invariant

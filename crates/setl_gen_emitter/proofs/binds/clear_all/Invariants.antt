@@ -6,4 +6,4 @@ use Rattle.setl_gen_emitter.specs.Emitted.{held, after}
 use Rattle.setl_gen_emitter.proofs.binds.clear_all.Given as goal
 
 abbrev pub invariant-loop-i : goal.invariant-loop-i
-invariant-loop-i l = after (clear l.line (all_bound (plain_iterators (drop l.i-index l.is)))) (held l.to) ≡ after (clear l.line (all_bound (plain_iterators l.is))) (held l.initial.to)
+invariant-loop-i l = after (clear l.line (all_bound (plain_iterators (drop l.i-index l.is)))) (held l.emitter) ≡ after (clear l.line (all_bound (plain_iterators l.is))) (held l.initial.emitter)

@@ -13,5 +13,5 @@ returns-clause-code c =
     let line = c.args.line in
     let b = plain_binding c.args.b.now in
     let w = one line (NextOr 0) ⨾ one line DupTop ⨾ bind line b in
-    then_two (one line (NextOr 0)) (one line DupTop) (bind line b) (held c.begin.new.to) (held c.step.new.self) (held c.put.new.self) (held c.bind.new.to) c.in_ok-next.ensures.code c.in_ok-put.ensures c.in_ok-bind.ensures
-    ∙ ap (after w) (c.in_ok-begin.ensures ∙ ap (λ m. after (one line (BeginOver (begin_of b) m)) (held c.args.to.now)) c.in_ok-parts.ensures)
+    then_two (one line (NextOr 0)) (one line DupTop) (bind line b) (held c.begin.new.emitter) (held c.step.new.self) (held c.put.new.self) (held c.bind.new.emitter) c.in_ok-next.ensures.code c.in_ok-put.ensures c.in_ok-bind.ensures
+    ∙ ap (after w) (c.in_ok-begin.ensures ∙ ap (λ m. after (one line (BeginOver (begin_of b) m)) (held c.args.emitter.now)) c.in_ok-parts.ensures)

@@ -12,5 +12,5 @@ returns c =
     let line = c.args.line in
     let rest : Bool → Laid = λ t. one line (LeaveAll c.args.levels) ⨾ one line (Push (Some (bool t))) ⨾ jumps_out line in
     let s3 = held c.put.new.self in
-    then_two (negated line c.args.q) (one line (Unless c.args.next)) (rest c.decided.result) (held c.args.to.now) (held c.negated.new.to) s3 (held c.leave_with.new.to) c.in_ok-negated.ensures c.in_ok-put.ensures c.in_ok-leave_with.ensures
-    ∙ ap (λ (t : Bool). after (negated line c.args.q ⨾ one line (Unless c.args.next) ⨾ rest t) (held c.args.to.now)) c.decided.ensures
+    then_two (negated line c.args.quantifier) (one line (Unless c.args.next)) (rest c.decided.result) (held c.args.emitter.now) (held c.negated.new.emitter) s3 (held c.leave_with.new.emitter) c.in_ok-negated.ensures c.in_ok-put.ensures c.in_ok-leave_with.ensures
+    ∙ ap (λ (t : Bool). after (negated line c.args.quantifier ⨾ one line (Unless c.args.next) ⨾ rest t) (held c.args.emitter.now)) c.decided.ensures
