@@ -3,15 +3,11 @@ use Rattle.std.specs.Prelude.{◌≡◌, ℕ, Bool, false, List, [], slice_get, 
 use Rattle.setl_model_runs.specs.Variable.{Variable}
 use Rattle.setl_modes.specs.Modes.{Mode}
 use Rattle.setl_model_runs.specs.Events.{End}
-use Rattle.setl_model_runs.specs.Run.{State, Goes, Ends, step, run}
+use Rattle.setl_model_runs.specs.Run.{State, Ends, run}
 use Rattle.setl_model.specs.Step.{test_of}
 use Rattle.setl_code.specs.Code.{Body, Code}
 use Rattle.setl_code.specs.CodeCore.{Cells, cleared, variables_of, CodeCore}
 use Rattle.setl_code.specs.Machine.{machine}
-
--- one instruction leads from the first state to the second
-abbrev pub CodeStep : Code → List (Variable × Mode) → Bool → State CodeCore → State CodeCore → Type 0
-CodeStep c modes based a b = step (machine c) (test_of modes based) a ≡ Goes b
 
 abbrev pub main_slots : Option Body → Cells
 main_slots None = []
