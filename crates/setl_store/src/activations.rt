@@ -3,11 +3,12 @@
 ghost use Rattle.std.specs.Prelude.{◌≡◌, ◌<◌, ◌-◌, ◌+◌, ◌≤◌, [], ◌∷◌, ◌++◌, None, map, length, take, reverse, replicate, IfSome, OnOk, OnErr};
 ghost use Rattle.setl_code.specs.CodeCore.{There};
 ghost use Rattle.setl_value.specs.code.DatumOf.{part};
-ghost use Rattle.setl_store.specs.Flat.{helds, HasMembers, members_below};
+ghost use Rattle.setl_store.specs.Flat.{helds, HasMembers};
 ghost use Rattle.setl_store.specs.Returning.{operand_by};
 
 use crate::cells::{Contents, Frame, Operand};
 use crate::changes::reserve_one_more;
+use crate::lent::members_below;
 use crate::store::{held, operand};
 use setl_store_environment::Memory;
 use setl_store_slots::Held;
@@ -134,19 +135,9 @@ pub(crate) fn members_of_lower(environment: &Contents, lowest: usize) -> usize
     let count = environment.operands();
     let mut members = environment.members();
     for i in 0..count - lowest {
-        members = members_under(environment.operand(count - 1 - i), members);
+        members = members_below(environment.operand(count - 1 - i), members);
     }
     members
-}
-
-// How many of so many members are left without an operand.
-fn members_under(operand: &Operand, members: usize) -> usize
-    ensures { result ≡ members_below operand.now members }
-{
-    match operand {
-        Operand::Collection(_, lowest, _) => *lowest,
-        _ => members,
-    }
 }
 
 /// Drops the innermost activation, and all from its lowest slot and operand and this member on.

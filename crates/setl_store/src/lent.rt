@@ -78,7 +78,7 @@ impl<'c> Store<'c> {
 }
 
 /// How many of so many members are left without this operand.
-fn members_below(operand: &Operand, members: usize) -> usize
+pub(crate) fn members_below(operand: &Operand, members: usize) -> usize
     ensures { result ≡ members_below operand.now members }
 {
     match operand {
