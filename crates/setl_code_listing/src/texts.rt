@@ -39,5 +39,5 @@ pub fn push_string(into: &mut Vec<u8>, t: &Text) -> Result<(), Memory>
     ensures { OnOk result (into.new.items ≡ into.old.items ++ (codes "str " ++ inner_text (text t.now))) }
 {
     push_word(into, "str ")?;
-    setl_text::push_string(into, t)
+    setl_text::push_quoted(into, t.bytes())
 }

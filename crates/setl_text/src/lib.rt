@@ -13,7 +13,7 @@ mod texts;
 
 pub use read::Reader;
 use setl_value::{Memory, Value};
-pub use texts::{line, push_decimal, push_integer, push_string, text};
+pub use texts::{line, push_decimal, push_integer, push_quoted, text};
 
 /// What was read: a value, `om`, or only blanks up to the end of the input.
 #[derive(Drop)]

@@ -78,7 +78,7 @@ fn push_inner(into: &mut Vec<u8>, v: &Value) -> Result<(), Memory>
     match v {
         Value::Bool(b) => push_boolean(into, *b),
         Value::Int(z) => push_integer(into, *z),
-        Value::Text(t) => push_string(into, t),
+        Value::Text(t) => push_quoted(into, t.bytes()),
         Value::Atom(n) => push_atom(into, *n),
         Value::Tuple(t) => push_tuple(into, t),
         Value::Set(s) => push_set(into, s),
@@ -186,12 +186,13 @@ fn push_atom(into: &mut Vec<u8>, n: u64) -> Result<(), Memory>
     push_decimal(into, n)
 }
 
-/// Adds a string between apostrophes, with each apostrophe in it doubled. The error is want of memory.
-pub fn push_string(into: &mut Vec<u8>, t: &Text) -> Result<(), Memory>
-    ensures { OnOk result (into.new.items ≡ into.old.items ++ inner_text (text t.now)) }
+/// Adds the text of a string of these bytes inside another value: between apostrophes, each apostrophe in it doubled. The
+/// error is want of memory.
+pub fn push_quoted(into: &mut Vec<u8>, bytes: &[u8]) -> Result<(), Memory>
+    ensures { OnOk result (into.new.items ≡ into.old.items ++ inner_text (text bytes.now)) }
 {
     into.push(b'\'')?;
-    push_doubled(into, t.bytes())?;
+    push_doubled(into, bytes)?;
     into.push(b'\'')?;
     Ok(())
 }
