@@ -45,6 +45,10 @@ pub trimmed-copies : (n : ℕ) (t : List (Option Datum)) → IsTrimmed t → IsT
 trimmed-copies zero t h = tt
 trimmed-copies (suc n) t h = trimmed-append t (copies n t) h (trimmed-copies n t h)
 
+pub trimmed-gap : (k : ℕ) (d : Datum) → IsTrimmed (replicate k None ++ Some d ∷ [])
+trimmed-gap zero d = tt
+trimmed-gap (suc k) d = ends-append None (Some d) (replicate k None) [] tt
+
 -- `om` at the end is dropped
 trim-om : (k : ℕ) → trim (replicate k None) ≡ []
 trim-om zero = refl

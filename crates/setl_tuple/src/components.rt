@@ -6,7 +6,7 @@ ghost use Rattle.setl_value.specs.code.DatumOf.{datum, part};
 ghost use Rattle.setl_tuple.specs.Tuples.{index_of, get_of, put_of, with_of};
 
 use crate::TupleFault;
-use crate::lists::{push_all, push_om};
+use crate::lists::push_om;
 use setl_value::{Memory, TupleBody, Value};
 use std::alloc::Global;
 
@@ -69,24 +69,18 @@ fn put_past_end(alloc: Global, t: &mut TupleBody, index: u128, v: Value) -> Resu
         return Err(TupleFault::NoMemory);
     };
     t.learn();
-    let parts = lengthened(alloc, t, index, v)?;
-    *t = TupleBody::of(alloc, parts)?;
+    let parts = behind_gap(alloc, index - t.len(), v)?;
+    let tail = TupleBody::of(alloc, parts)?;
+    t.append(&tail)?;
     Ok(())
 }
 
-/// The components of `t`, then `om` up to the index, then `v`.
-fn lengthened(
-    alloc: Global,
-    t: &TupleBody,
-    index: usize,
-    v: Value,
-) -> Result<Vec<Option<Value>>, Memory>
-    requires { length t.now ≤ index }
-    ensures { IfOk result (λ parts. map part parts.items ≡ t.now ++ replicate (index - length t.now) None ++ Some (datum v) ∷ []) }
+/// `om` `n` times, then `v`.
+fn behind_gap(alloc: Global, n: usize, v: Value) -> Result<Vec<Option<Value>>, Memory>
+    ensures { IfOk result (λ parts. map part parts.items ≡ replicate n None ++ Some (datum v) ∷ []) }
 {
-    let mut parts = Vec::with_capacity(alloc, index.saturating_add(1))?;
-    push_all(&mut parts, t)?;
-    push_om(&mut parts, index - t.len())?;
+    let mut parts = Vec::with_capacity(alloc, n.saturating_add(1))?;
+    push_om(&mut parts, n)?;
     parts.push(Some(v))?;
     Ok(parts)
 }

@@ -76,7 +76,7 @@ pub fn slice(alloc: Global, t: &TupleBody, i: i128, j: i128) -> Result<TupleBody
 }
 
 /// Pushes the components of `t`.
-pub(crate) fn push_all(parts: &mut Vec<Option<Value>>, t: &TupleBody) -> Result<(), Memory>
+fn push_all(parts: &mut Vec<Option<Value>>, t: &TupleBody) -> Result<(), Memory>
     ensures { OnOk result (map part parts.new.items ≡ map part parts.old.items ++ t.now) }
 {
     push_part(parts, t, 0, t.len())
