@@ -50,13 +50,16 @@ pub(crate) fn extend<T: Clone>(list: &mut Vec<T>, more: &[T]) -> Result<(), Memo
     Ok(())
 }
 
-/// Drops the first `n` items.
+/// Drops the first `n` items. Nothing is copied where `n` is 0.
 pub fn drop_front<T: Clone + Drop>(items: &mut Rc<Vec<T>>, n: usize) -> Result<(), Memory>
     requires exact { (x y : T) → T.is_clone x y → y ≡ x }
     requires inside { n ≤ length items.old.value.items }
     ensures dropped { OnOk result (items.new.value.items ≡ drop n items.old.value.items) }
     ensures refused { OnErr result (items.new.value.items ≡ items.old.value.items) }
 {
+    if n == 0 {
+        return Ok(());
+    }
     let list = Rc::make_mut(items)?;
     let rest = list.split_off(n)?;
     *list = rest;
