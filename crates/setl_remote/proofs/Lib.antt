@@ -4,3 +4,4 @@ pub mod Counts
 pub mod Writing
 pub mod Combining
 pub mod Slot
+pub mod Listing

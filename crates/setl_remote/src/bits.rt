@@ -1,10 +1,12 @@
 //! Sets of numbers, a bit each.
 ghost use Rattle.std.specs.Prelude.{◌≡◌, ℕ, if◌then◌else◌, IfOk, OnOk, OnErr};
+ghost use Rattle.std.specs.List.Sorted.{IsStrictlyIncreasing};
 ghost use Rattle.std.specs.FinSet as set;
 ghost use Rattle.setl_remote.specs.Operation.{keeps};
 
 use crate::Memory;
 use crate::combine::{Operation, combine};
+use crate::numbers::numbers;
 use crate::words::{count, is_on, write};
 use std::alloc::Global;
 use std::marker::Model;
@@ -66,6 +68,14 @@ impl Bits {
         ensures { result ≡ set.len self.now }
     {
         count(self.words.as_slice())
+    }
+
+    /// The numbers, rising. An error is want of memory.
+    pub fn numbers(&self, alloc: Global) -> Result<Vec<u64>, Memory>
+        ensures rising { IfOk result (λ numbers. IsStrictlyIncreasing numbers.items) }
+        ensures members { IfOk result (λ numbers. set.from_list numbers.items ≡ self.now) }
+    {
+        numbers(alloc, self.words.as_slice())
     }
 
     /// An equal set, which shares the words. An error is want of memory.

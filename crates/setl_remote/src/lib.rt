@@ -6,6 +6,7 @@
 
 mod bits;
 mod combine;
+mod numbers;
 mod slots;
 mod words;
 

@@ -1,7 +1,7 @@
 //! Maps from numbers, a slot each.
-ghost use Rattle.std.specs.Prelude.{◌≡◌, ℕ, ◌+◌, ◌<◌, ◌≤◌, max, length, [], ◌∷◌, is_some, if◌then◌else◌, option_copied, IfSome, IfOk, OnOk, OnErr};
+ghost use Rattle.std.specs.Prelude.{◌≡◌, ℕ, ◌+◌, ◌<◌, ◌≤◌, max, length, [], ◌∷◌, is_some, if◌then◌else◌, Some, IsSome, option_copied, IfSome, IfOk, OnOk, OnErr};
 ghost use Rattle.std.specs.List.{IsAmong};
-ghost use Rattle.setl_remote.specs.Slots.{slot_at, slots_len, PutsSlot};
+ghost use Rattle.setl_remote.specs.Slots.{slot_at, slots_len, PutsSlot, AreSlotCopies};
 
 use crate::Memory;
 use std::alloc::Global;
@@ -87,6 +87,27 @@ impl<T> Slots<T> {
         ensures member { IfSome result (λ c. IsAmong self.now (Some c.now)) }
     {
         self.slots.get(block as usize)?.as_ref()
+    }
+
+    /// Gives a number that has a content another one, and gives back its old one. Takes no memory.
+    pub fn replace(&mut self, block: u64, content: T) -> Option<T>
+        requires there { IsSome (slot_at self.old block) }
+        ensures old { result ≡ slot_at self.old block }
+        ensures new { PutsSlot block (Some content) self.old self.new }
+        ensures len { slots_len self.new ≡ slots_len self.old }
+    {
+        mem::replace(&mut self.slots[block as usize], Some(content))
+    }
+}
+
+impl<T: Clone> Clone for Slots<T> {
+    ghost is_clone = { AreSlotCopies T.is_clone };
+
+    /// A copy of each content at the same number, and the same length. An error is want of memory.
+    fn clone(&self) -> Result<Slots<T>, Memory> {
+        Ok(Slots {
+            slots: self.slots.clone()?,
+        })
     }
 }
 

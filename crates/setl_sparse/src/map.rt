@@ -1,9 +1,9 @@
 //! Maps from numbers.
-ghost use Rattle.std.specs.Prelude.{◌≡◌, ℕ, nat_eq, [], false, is_some, IfSome, IfOk, OnOk, OnErr, option_copied};
-ghost use Rattle.std.specs.List.{list_any, zip, IsAmong};
-ghost use Rattle.std.specs.Map.{values_of};
+ghost use Rattle.std.specs.Prelude.{◌≡◌, ℕ, nat_eq, [], false, Some, is_some, IsSome, slice_get, length, ◌<◌, IfSome, IfOk, OnOk, OnErr, option_copied};
+ghost use Rattle.std.specs.List.{list_any, zip, IsAmong, IsDistinct};
+ghost use Rattle.std.specs.Map.{keys_of, values_of};
 ghost use Rattle.std.specs.List.Sorted.{IsStrictlyIncreasing};
-ghost use Rattle.setl_sparse.specs.Entries.{content_at, Puts, IsTable};
+ghost use Rattle.setl_sparse.specs.Entries.{content_at, Puts, IsTable, AreCopies};
 
 use crate::Memory;
 use crate::set::rising;
@@ -120,6 +120,52 @@ impl<T> SparseMap<T> {
         ensures members { IfOk result (λ numbers. (n : ℕ) → list_any (nat_eq n) numbers.items ≡ is_some (content_at self.now n)) }
     {
         rising(alloc, &self.numbers)
+    }
+
+    /// How many numbers have a content. Takes no memory.
+    pub fn len(&self) -> usize
+        ensures { result ≡ length self.now }
+    {
+        self.contents.len()
+    }
+
+    /// The i-th of the numbers that have a content, with that, in the order of the entries. Takes no memory.
+    pub fn at(&self, i: usize) -> (u64, &T)
+        requires { i < length self.now }
+        ensures { slice_get self.now i ≡ Some (result.0, result.1.now) }
+    {
+        (self.numbers[i], &self.contents[i])
+    }
+
+    /// Has no effect: it hands a proof that each number has one entry.
+    pub fn learn(&self)
+        ensures { IsDistinct nat_eq (keys_of self.now) }
+    {
+        let _len = self.contents.len();
+    }
+
+    /// Gives a number that has a content another one, and gives back its old one. Each number keeps its place. Takes no
+    /// memory.
+    pub fn replace(&mut self, block: u64, content: T) -> T
+        requires there { IsSome (content_at self.old block) }
+        ensures old { Some result ≡ content_at self.old block }
+        ensures new { Puts block (Some content) self.old self.new }
+        ensures places { keys_of self.new ≡ keys_of self.old }
+    {
+        let place = self.numbers.get_index_of(&block).unwrap();
+        mem::replace(&mut self.contents[place], content)
+    }
+}
+
+impl<T: Clone> Clone for SparseMap<T> {
+    ghost is_clone = { AreCopies T.is_clone };
+
+    /// The numbers, each with a copy of its content, in the same order. An error is want of memory.
+    fn clone(&self) -> Result<SparseMap<T>, Memory> {
+        Ok(SparseMap {
+            numbers: self.numbers.clone()?,
+            contents: self.contents.clone()?,
+        })
     }
 }
 

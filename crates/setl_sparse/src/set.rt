@@ -70,6 +70,17 @@ impl SparseSet {
     }
 }
 
+impl Clone for SparseSet {
+    ghost is_clone = { λ s copy. copy ≡ s };
+
+    /// The same numbers. An error is want of memory.
+    fn clone(&self) -> Result<SparseSet, Memory> {
+        Ok(SparseSet {
+            numbers: self.numbers.clone()?,
+        })
+    }
+}
+
 /// The numbers of a table, rising.
 pub(crate) fn rising(alloc: Global, table: &IndexSet<u64>) -> Result<Vec<u64>, Memory>
     ensures rising { IfOk result (λ numbers. IsStrictlyIncreasing numbers.items) }
