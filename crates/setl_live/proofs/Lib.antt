@@ -1,0 +1,3 @@
+pub mod OwnSlots
+pub mod Paths
+pub mod Bodies
