@@ -1,0 +1,45 @@
+//! Which reads of a body's slots are the last ones, by all paths.
+#![tactic(auto)]
+
+ghost use Rattle.std.specs.Prelude.{◌≡◌, ◌<◌, ◌^◌, ℕ, length, slice_get, Some, IfOk};
+ghost use Rattle.setl_live_reads.specs.declared.node.Access.TheVariants.{Read};
+ghost use Rattle.setl_live_reads.specs.Paths.{IsRight};
+
+mod masks;
+mod node;
+mod ranges;
+mod row;
+mod sweep;
+mod window;
+
+use crate::ranges::{sources, spans};
+use crate::row::mark_rows;
+pub use node::{Access, Node, Way};
+use std::alloc::Global;
+
+/// Want of memory.
+pub use std::alloc::AllocError as Memory;
+
+/// For each step that reads a slot, whether no path from the next step reaches a read of that slot before a write of it.
+/// `back` tells the slots that are handed back, and there are so many slots.
+///
+/// The error is want of memory.
+pub fn last_reads(
+    alloc: Global,
+    nodes: &[Node],
+    back: &[bool],
+    slots: u32,
+) -> Result<Vec<bool>, Memory>
+    requires few { length nodes.now < 2 ^ 32 }
+    requires slots { (at x : ℕ) (node : _) → slice_get nodes.now at ≡ Some node → node.access ≡ Read x → x < slots }
+    ensures sizes { IfOk result (λ marks. length marks.items ≡ length nodes.now) }
+    ensures right { IfOk result (λ marks. (at x : ℕ) (node : _) → slice_get nodes.now at ≡ Some node → node.access ≡ Read x → IsRight nodes.now back.now marks.items at x) }
+{
+    let rows = slots / 64 + 1;
+    let sources = sources(alloc, nodes)?;
+    let spans = spans(alloc, nodes, rows as usize)?;
+    let mut masks = vec![in alloc; 0u64; nodes.len()]?;
+    let mut marks = vec![in alloc; false; nodes.len()]?;
+    mark_rows(nodes, back, &sources, &spans, rows, &mut masks, &mut marks);
+    Ok(marks)
+}
