@@ -1,6 +1,6 @@
 pub mod Keeping
 pub mod Loading
-pub mod Listing
+pub mod Marking
 pub mod Ends
 pub mod OneReason
 pub mod Exclude

@@ -2,7 +2,7 @@ use Rattle.std.proofs.Common.{subst, sym}
 use Rattle.setl_program.specs.Placed.{Placed}
 use Rattle.setl_program.specs.code.Plain.{plain_program}
 use Rattle.setl_top.proofs.Declaring.{only_main}
-use Rattle.setl_top.proofs.Listing.{marked_by}
+use Rattle.setl_top.proofs.Marking.{marked_by}
 use Rattle.setl_top.proofs.coding.code_of_program.Goals as goal
 
 pub take_marks-requires : goal.take_marks-requires

@@ -1,4 +1,4 @@
-use Rattle.setl_top.proofs.Listing.{one_listing}
+use Rattle.setl_top.proofs.Marking.{one_listing}
 use Rattle.setl_top.proofs.laws.each_program_has_one_listing.Goals as goal
 
 pub returns : goal.returns

@@ -1,4 +1,4 @@
-use Rattle.setl_top.proofs.Listing.{listed_by}
+use Rattle.setl_top.proofs.Marking.{listed_by}
 use Rattle.setl_top.proofs.listing.listed.Goals as goal
 
 pub code_of_program-requires : goal.code_of_program-requires

@@ -1,6 +1,6 @@
 use Rattle.setl_top_status.specs.code.Writes.{no_text}
 use Rattle.std.proofs.Common.{refl}
-use Rattle.setl_top.proofs.Listing.{some_listing}
+use Rattle.setl_top.proofs.Marking.{some_listing}
 use Rattle.setl_top.proofs.listing.write_listing.Goals as goal
 
 pub returns-in_default : goal.returns-in_default

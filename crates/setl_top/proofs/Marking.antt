@@ -1,4 +1,4 @@
--- Each program has one listing.
+-- The marked code of a program, and its one listing.
 use Rattle.std.proofs.Common.{◌≡◌, ◌∙◌, ℕ, List, Result, Ok, Err, IfOk, refl, ap, subst, sym}
 use Rattle.setl_code.specs.declared.code.Code.{Code as RustCode}
 use Rattle.setl_code.specs.Code.{Code}
