@@ -3,8 +3,8 @@ use Rattle.std.proofs.Common.{◌≡◌, ◌<◌, ℕ, suc, ◌+◌, ◌-◌, Bo
 use Rattle.std.specs.Prelude.{slice_get}
 use Rattle.std.specs.List.{Contains}
 use Rattle.setl_value.specs.Datum.{Datum, bool, int, text, atom, tuple, set, part_list}
-use Rattle.setl_map.specs.Outcome.{Outcome, Gives, Fails, Overspends}
-use Rattle.setl_map.specs.Operators.{op_of}
+use Rattle.setl_operators_table.specs.Outcome.{Outcome, Gives, Fails, Overspends}
+use Rattle.setl_operators_table.specs.Operators.{op_of}
 use Rattle.setl_text.specs.Texts.{print_line}
 use Rattle.setl_text.specs.Reading.{Reading, Denotes, AtEnd, NotForm, TooWide, TooDeep, read_denotation}
 use Rattle.setl_program.specs.declared.kinds.Connective.{Connective}

@@ -1,3 +1,4 @@
 pub mod OwnSlots
 pub mod Paths
 pub mod Bodies
+pub mod Tables

@@ -87,7 +87,7 @@ pub(crate) fn declared_slots(
     ensures { IfOk result (λ table. TellsDeclared (declared_in (map plain_declared declared.now)) (slice_get code.now.bodies 0) table.items) }
 {
     let names = main_names(alloc, declared)?;
-    match code.bodies.as_slice().first() {
+    match code.bodies.as_slice().get(0) {
         None => Ok(Vec::new(alloc)),
         Some(body) => table_by(alloc, &names, body),
     }
