@@ -1,5 +1,7 @@
 -- That the declarations of a program are those of variables of its main program, and that its main body has no parameters.
-use Rattle.std.proofs.Common.{◌≡◌, ◌∙◌, Bool, true, false, List, [], ◌∷◌, map, if◌then◌else◌, refl, ap, subst, sym}
+use Rattle.std.proofs.Common.{◌≡◌, ◌∙◌, ℕ, zero, suc, Bool, true, false, ◌||◌, List, [], ◌∷◌, map, Option, None, Some, IfSome, if◌then◌else◌, refl, ap, subst, sym}
+use Rattle.std.specs.Prelude.{slice_get}
+use Rattle.setl_model_runs.specs.Variable.{Variable, Global, Own, Bound, is_variable}
 use Rattle.setl_modes.specs.Modes.{Mode}
 use Rattle.setl_modes.specs.Declarations.{variables_of}
 use Rattle.setl_names.specs.Names.{Name, in_order, has}
@@ -11,11 +13,15 @@ use Rattle.setl_program.specs.declared.program.Declared.{Declared}
 use Rattle.setl_program.specs.code.Plain.{plain_declared}
 use Rattle.setl_tree.specs.declared.tree.Tree.{Tree}
 use Rattle.setl_code.specs.declared.code.Code.{Code as RustCode}
-use Rattle.setl_code.specs.Code.{Code}
+use Rattle.setl_code.specs.Code.{Body, Code}
 use Rattle.setl_code.specs.CodeOf.{code_of}
+use Rattle.setl_code.specs.Names.{is_among}
 use Rattle.setl_code.specs.Plain.{plain_code}
+use Rattle.setl_code_marked.specs.Marked.{declared_in, MarksBodies}
+use Rattle.setl_live.specs.Slots.{OnlyMain}
 use Rattle.setl_store.specs.Standing.{Standing, started}
 use Rattle.setl_machine_control.specs.Declaring.{DeclarationTable, modes_of, IsOfMain, AreOfMain, IsBare, Serves}
+use Rattle.setl_top.specs.Listings.{IsMarked}
 use Rattle.setl_top.specs.code.Runs.{IsMeant, counted}
 use Rattle.setl_top_words.specs.Words.{Options}
 
@@ -31,16 +37,52 @@ are_of_main : (t : Tree) (ds : List (Name × Mode)) → AreOfMain (map (declarat
 are_of_main t [] = tt
 are_of_main t (d ∷ ds) = (of_main t d.0, are_of_main t ds)
 
+modes_of_main : (p : Program) → IsMeant p → AreOfMain p.modes
+modes_of_main p m = subst AreOfMain (sym (ap (λ (q : Program). q.modes) m.meaning)) (are_of_main m.tree (variables_of m.tree.modes))
+
 -- those that count are so
 pub counted_of_main : (asked : Options) (p : Program) → IsMeant p → AreOfMain (counted asked p)
 counted_of_main asked p m = go asked.based
   where
     go : (b : Bool) → AreOfMain (if b then p.modes else [])
-    go true = subst AreOfMain (sym (ap (λ (q : Program). q.modes) m.meaning)) (are_of_main m.tree (variables_of m.tree.modes))
+    go true = modes_of_main p m
     go false = tt
 
-pub code_is_bare : (c : Code) (p : Program) → c ≡ code_of p → IsBare c
-code_is_bare c p is = subst IsBare (sym is) refl
+-- a marked body has the parameters of the body
+marked_is_bare : (declared : List Variable) (b d : Option Body) → MarksBodies declared 0 b d → IfSome b (λ x. x.parameters ≡ []) → IfSome d (λ x. x.parameters ≡ [])
+marked_is_bare declared None None h bare = bare
+marked_is_bare declared None (Some d) h bare = absurd h
+marked_is_bare declared (Some b) None h bare = absurd h
+marked_is_bare declared (Some b) (Some d) h bare = ap (λ (x : Body). x.parameters) h.rest ∙ bare
+
+pub code_is_bare : (p : Program) (c : Code) → IsMarked p c → IsBare c
+code_is_bare p c marked = marked_is_bare (declared_in p.modes) (slice_get (code_of p).bodies 0) (slice_get c.bodies 0) (marked.bodies 0) refl
+
+-- a variable of a procedure or a former isn't one of the main program
+not_procedures : (n : ℕ) (name : List ℕ) (y : Variable) → IsOfMain y → is_variable (Own (suc n) name) y ≡ false
+not_procedures n name (Global x) h = refl
+not_procedures n name (Own zero x) h = refl
+not_procedures n name (Own (suc m) x) h = absurd h
+not_procedures n name (Bound former x) h = absurd h
+
+not_formers : (k : ℕ) (name : List ℕ) (y : Variable) → IsOfMain y → is_variable (Bound k name) y ≡ false
+not_formers k name (Global x) h = refl
+not_formers k name (Own zero x) h = refl
+not_formers k name (Own (suc m) x) h = absurd h
+not_formers k name (Bound former x) h = absurd h
+
+not_declared : (x : Variable) → ((y : Variable) → IsOfMain y → is_variable x y ≡ false) → (ms : Modes) → AreOfMain ms → is_among (declared_in ms) x ≡ false
+not_declared x other [] h = refl
+not_declared x other (m ∷ ms) h = ap (λ b. b || is_among (declared_in ms) x) (other m.0 h.0) ∙ not_declared x other ms h.1
+
+-- so the declared variables of a program are those of its main program alone
+pub only_main : (p : Program) → IsMeant p → OnlyMain (declared_in p.modes)
+only_main p m =
+    let main = modes_of_main p m in
+    record {
+      procedures = λ n name. not_declared (Own (suc n) name) (not_procedures n name) p.modes main;
+      formers = λ k name. not_declared (Bound k name) (not_formers k name) p.modes main;
+    }
 
 -- a table of these declarations serves the code of a store that was started
 pub serves : (code : RustCode) (declared : List Declared) (d : DeclarationTable) (store : Standing) → d ≡ record { code = code; declared = declared } → store ≡ started code → IsBare (plain_code code) → AreOfMain (map plain_declared declared) → Serves d store.code

@@ -20,7 +20,7 @@ use Rattle.setl_top_status.specs.declared.fault.Fault.TheVariants as fault
 use Rattle.setl_top_status.specs.declared.status.Status.{Status}
 use Rattle.setl_top_status.specs.declared.status.Status.TheVariants.{Done, Refused, Words, Stopped, Spent}
 use Rattle.setl_top_status.specs.FrontLaws.{appends_none, front_none}
-use Rattle.setl_top.specs.Listings.{listing_of}
+use Rattle.setl_top.specs.Listings.{IsListing}
 use Rattle.setl_top.specs.code.Lists.{Lists, listed_so, not_listed}
 use Rattle.setl_top.specs.code.Loads.{Loaded, NotLoaded, not_accepted, not_read, no_room, Checks, checked_so, not_checked}
 use Rattle.setl_top.specs.code.Runs.{Streams, streams, counted, RunsTo, RunsInto, WritesInto, RunsToRead, RunsUpTo, Runs, TakesInput}
@@ -239,8 +239,8 @@ check_ends words before after name s rest r (not_checked _ h) =
     not_loaded words before after (Check name) name s refl tt (appends_same before.output after.output rest.output) (held_same before.input after.input rest.input) (count_same before.input after.input rest.input) (count_same before.output after.output rest.output) r h
 
 -- the program of a file is to be listed
-to_list : (words : List (List ℕ)) (before : Outside) (name : List ℕ) (tree : Tree) → Spells words (Code name) → Loaded before.files.held name tree → IsToList words before (listing_of tree)
-to_list words before name tree s l = record { name = name; source = l.source; tree = tree; spelled = s; text = l.text; is_program = l.is_program; is_listing = refl }
+to_list : (words : List (List ℕ)) (before : Outside) (name : List ℕ) (tree : Tree) (text : List ℕ) → Spells words (Code name) → Loaded before.files.held name tree → IsListing tree text → IsToList words before text
+to_list words before name tree text s l is = record { name = name; source = l.source; tree = tree; spelled = s; text = l.text; is_program = l.is_program; is_listing = is }
 
 -- a text that the answer is was written, or not
 pub written_ends : (words : List (List ℕ)) (before after : Outside) (text : List ℕ) → Answers words before Done text [] before.input.held → ((n : ℕ) → n < length text → UpToWrite words before (take n text)) → after.input ≡ before.input → after.files.faults ≡ before.files.faults → (r : Status) → Written text before.output after.output before.error_output after.error_output r → Headline words before after r
@@ -274,7 +274,7 @@ written_ends words before after text a part_of same files _ (no_text none h) = r
 -- a listing of a file, which leaves the input alone
 pub list_ends : (words : List (List ℕ)) (before after : Outside) (name : List ℕ) → Spells words (Code name) → after.input ≡ before.input → (r : Status) → Lists name before.files after.files before.output after.output before.error_output after.error_output r → Headline words before after r
 list_ends words before after name s same r (listed_so tree _ l files w) =
-    let a = to_list words before name tree s l in
-    written_ends words before after (listing_of tree) (listed (listing_of tree) a) (λ n. in_listing (listing_of tree) n a) same files r w
+    let a = to_list words before name tree w.text s l w.is_listing in
+    written_ends words before after w.text (listed w.text a) (λ n. in_listing w.text n a) same files r w.written
 list_ends words before after name s same r (not_listed _ h still) =
     not_loaded words before after (Code name) name s refl tt (appends_same before.output after.output still) (held_same before.input after.input same) (count_same before.input after.input same) (count_same before.output after.output still) r h

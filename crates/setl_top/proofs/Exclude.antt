@@ -13,7 +13,7 @@ use Rattle.setl_program.specs.ProgramOf.{program_of}
 use Rattle.setl_top.specs.Accepted.{IsProgram, Accepted, Refusal, IsRefusedFor}
 use Rattle.setl_top.specs.Headline.{AnyRose, ReadCause, load_failed, read_failed, InputLeft, untouched, read_from, WriteCause, print_failed, out_failed, err_failed, faulty_words, no_such_watcher, refused, checked, listed, run_ended, trial_refused, trial_ended, Job, IsInput, IsToRun, IsRun, IsTried, trial_output}
 use Rattle.setl_top.specs.Laws.{IsComplete, FaultyWordsReadNothing, WordsExactly, RefusesExactly, ChecksExactly, ListsExactly, TrialsReadNothing, TriesExactly, EndsExactly, TellsTexts}
-use Rattle.setl_top.specs.Listings.{listing_of}
+use Rattle.setl_top.specs.Listings.{IsListing}
 use Rattle.setl_top.specs.Outside.{Outside}
 use Rattle.setl_top.specs.Trials.{trial_source, trial_input, trial_line}
 use Rattle.setl_top.specs.Watching.{asked_for, IsThere, IsNoRequest, reports_of}
@@ -216,7 +216,7 @@ module _ (one_command : OneCommand) where
   lists_only laws words before texts name source _ _ _ _ t s h (listed text a) =
       let sources = one_source words before texts t (Code a.name) (Code name) a.name name a.source source a.spelled refl a.text s refl (told_text before texts t name source h) in
       let program = subst (λ y. IsProgram y a.tree) sources a.is_program in
-      (((λ _. (a.tree, program)), (λ _. refl)), (λ tree p. (a.is_listing ∙ ap listing_of (one_program_tree laws source a.tree tree program p), refl)), inl refl, refl)
+      (((λ _. (a.tree, program)), (λ _. refl)), (λ tree p. (subst (λ y. IsListing y text) (one_program_tree laws source a.tree tree program p) a.is_listing, refl)), inl refl, refl)
   lists_only laws words before texts name source _ _ _ _ t s h (run_ended out err end status left q how) = absurd (runs_so words before q.job (Code name) q.asked s)
   lists_only laws words before texts name source _ _ _ _ t s h (trial_refused a b l q r) = absurd (no_file words (Code name) name a b q s refl)
   lists_only laws words before texts name source _ _ _ _ t s h (trial_ended l end status a e) = absurd (no_file words (Code name) name a.seed a.nodes a.spelled s refl)

@@ -1,5 +1,6 @@
 pub mod Keeping
 pub mod Loading
+pub mod Marking
 pub mod Ends
 pub mod OneReason
 pub mod Exclude

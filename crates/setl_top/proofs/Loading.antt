@@ -3,8 +3,7 @@ use Rattle.std.proofs.Common.{◌≡◌, ℕ, List, [], ◌∷◌, ◌++◌, sub
 use Rattle.setl_io.specs.Files.{IsText}
 use Rattle.setl_tree.specs.declared.tree.Tree.{Tree}
 use Rattle.setl_top.specs.Accepted.{IsRefusedFor}
-use Rattle.setl_top.specs.Listings.{listing_of}
-use Rattle.setl_top.specs.code.Lists.{Lists, listed_so}
+use Rattle.setl_top.specs.code.Lists.{WritesListing, Lists, listed_so}
 use Rattle.setl_top.specs.code.Loads.{Loaded, NotLoaded, not_accepted, not_read, no_room}
 use Rattle.setl_top_status.specs.Lines.{AppendsFront, fault_line}
 use Rattle.setl_top_status.specs.Reasons.{reason_line}
@@ -12,7 +11,6 @@ use Rattle.setl_top_status.specs.Seen.{Seen}
 use Rattle.setl_top_status.specs.code.Loads.{SeenFiles, IsStill, NoText}
 use Rattle.setl_top_status.specs.code.Loads as loads
 use Rattle.setl_top_status.specs.code.Tells.{Tells}
-use Rattle.setl_top_status.specs.code.Writes.{Written}
 use Rattle.setl_top_status.specs.declared.fault.Fault.TheVariants as fault
 use Rattle.setl_top_status.specs.declared.reason.Reason.{Reason}
 use Rattle.setl_top_status.specs.declared.reason.Reason.TheVariants as reason
@@ -37,6 +35,6 @@ module _ (name : List ℕ) (files files' : SeenFiles) where
     no_room_then told = no_room (subst (λ (o : Seen (List ℕ)). AppendsFront o.held err'.held (fault_line fault.NoMemory)) still.same told)
 
     -- a listing that was written then, or not
-    pub listed_then : (tree : Tree) (out out' : Seen (List ℕ)) → Loaded files.held name tree → (ends : Status) → Written (listing_of tree) out out' mid err' ends → Lists name files files' out out' err err' ends
+    pub listed_then : (tree : Tree) (out out' : Seen (List ℕ)) → Loaded files.held name tree → (ends : Status) → WritesListing tree out out' mid err' ends → Lists name files files' out out' err err' ends
     listed_then tree out out' loaded ends w =
-        listed_so tree ends loaded still.count (subst (λ (o : Seen (List ℕ)). Written (listing_of tree) out out' o err' ends) still.same w)
+        listed_so tree ends loaded still.count (subst (λ (o : Seen (List ℕ)). WritesListing tree out out' o err' ends) still.same w)

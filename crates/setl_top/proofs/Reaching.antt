@@ -1,4 +1,4 @@
--- States that the code of a program reaches, and what the program has written there.
+-- States that the marked code of a program reaches, and what the program has written there.
 use Rattle.std.proofs.Common.{◌≡◌, ◌∙◌, ℕ, zero, suc, Bool, true, false, List, [], ◌∷◌, ◌++◌, Option, Some, if◌then◌else◌, refl, sym, ap, subst}
 use Rattle.std.proofs.lemmas.List.{append-nil}
 use Rattle.setl_value.specs.Datum.{Datum}
@@ -13,15 +13,15 @@ use Rattle.setl_model.specs.Step.{test_of}
 use Rattle.setl_code.specs.Code.{Code, PrintTop}
 use Rattle.setl_code.specs.CodeCore.{Operand, Pops, popped, CodeCore}
 use Rattle.setl_code.specs.CodeMeans.{code_first}
-use Rattle.setl_code.specs.CodeOf.{code_of}
 use Rattle.setl_code.specs.Machine.{machine, fetch, do_step, on_popped, print_values}
 use Rattle.setl_machine_control.specs.Declaring.{tested}
 use Rattle.setl_machine_control.specs.Answers.{said, start}
 use Rattle.setl_machine.specs.Outcome.{AtPrint, AtRead, EndsWriteNothing}
-use Rattle.setl_code_simulation.specs.Claims.{CodeEndsAlike, CodeMeansAlike, CodeEndsInTheSameState, CodeReachesTheSameStates, CodeReadsWhereMeant, CodePrintsWhereMeant}
-use Rattle.setl_code_simulation.specs.States.{CodeReaches}
+use Rattle.setl_code_marked.specs.Marked.{declared_in}
+use Rattle.setl_code_marked_simulation.specs.Claims.{MarkedEndsAlike, MarkedMeansWhatTheProgramMeans, MarkedEndsInTheSameState, MarkedReaches, MarkedReachesTheSameStates, MarkedReadsWhereMeant, MarkedPrintsWhereMeant}
 use Rattle.setl_top.specs.Moments.{AtState}
 use Rattle.setl_top.specs.Moments as moments
+use Rattle.setl_top.specs.Listings.{IsMarked}
 use Rattle.setl_top.specs.code.Runs.{counted}
 use Rattle.setl_top_words.specs.Words.{Options}
 
@@ -73,14 +73,14 @@ said_at_print c test k line n vs xs next ops =
 
 -- ---- the laws
 
--- that code means what its program means
+-- that marked code means what its program means
 pub record CodeLaws : Type 0 where
-  pub ends : CodeEndsAlike
-  pub means : CodeMeansAlike
-  pub last : CodeEndsInTheSameState
-  pub reached : CodeReachesTheSameStates
-  pub reads : CodeReadsWhereMeant
-  pub prints : CodePrintsWhereMeant
+  pub ends : MarkedEndsAlike
+  pub means : MarkedMeansWhatTheProgramMeans
+  pub last : MarkedEndsInTheSameState
+  pub reached : MarkedReachesTheSameStates
+  pub reads : MarkedReadsWhereMeant
+  pub prints : MarkedPrintsWhereMeant
   pub not_stuck : NoneIsStuck
   pub silent : EndsWriteNothing
 
@@ -92,42 +92,42 @@ counts asked p = go asked.based
     go true = refl
     go false = refl
 
-module _ (p : Program) (asked : Options) (input : List ℕ) where
+module _ (p : Program) (c : Code) (asked : Options) (input : List ℕ) where
   -- which values each variable takes
   abbrev pub Taken : Test
   Taken = tested (counted asked p)
 
   -- the code's run so far
   abbrev pub coded : ℕ → Next CodeCore
-  coded n = run (machine (code_of p)) Taken n (code_first (code_of p) input asked.turns)
+  coded n = run (machine c) Taken n (code_first c input asked.turns)
 
   -- it tests as the meaning does
-  pub as_meant : (n : ℕ) (x : Next CodeCore) → coded n ≡ x → run (machine (code_of p)) (test_of p.modes asked.based) n (code_first (code_of p) input asked.turns) ≡ x
-  as_meant n x h = subst (λ t. run (machine (code_of p)) t n (code_first (code_of p) input asked.turns) ≡ x) (counts asked p) h
+  pub as_meant : (n : ℕ) (x : Next CodeCore) → coded n ≡ x → run (machine c) (test_of p.modes asked.based) n (code_first c input asked.turns) ≡ x
+  as_meant n x h = subst (λ t. run (machine c) t n (code_first c input asked.turns) ≡ x) (counts asked p) h
 
   abbrev pub Came : State CodeCore → Type 0
   Came s = (n : ℕ) × (coded n ≡ Goes s)
 
-  comes : (s : State CodeCore) → Came s → CodeReaches p input asked.turns asked.based s
+  comes : (s : State CodeCore) → Came s → MarkedReaches c p input asked.turns asked.based s
   comes s h = (h.0, as_meant h.0 (Goes s) h.1)
 
-  module _ (laws : CodeLaws) (formed : Formed p) (s : State CodeCore) (came : Came s) where
+  module _ (laws : CodeLaws) (formed : Formed p) (marked : IsMarked p c) (s : State CodeCore) (came : Came s) where
     pub came_at_state : AtState p input asked.turns asked.based s.out
     came_at_state =
-        let r = laws.reached p formed input asked.turns asked.based s (comes s came) in
+        let r = laws.reached p formed (declared_in p.modes) c marked input asked.turns asked.based s (comes s came) in
         record { state = r.state; reached = r.reached; printed = r.same.out }
 
-    pub came_at_read : AtRead (code_of p) s.core → moments.AtRead p input asked.turns asked.based s.out
+    pub came_at_read : AtRead c s.core → moments.AtRead p input asked.turns asked.based s.out
     came_at_read next =
-        let r = laws.reads p formed input asked.turns asked.based s next.0 (comes s came) next.1 in
+        let r = laws.reads p formed (declared_in p.modes) c marked input asked.turns asked.based s next.0 (comes s came) next.1 in
         record { state = r.there.state; reached = r.there.reached; printed = r.there.same.out; in_hand = r.in_hand }
 
     -- the world is the same there
-    pub came_at_print : (line : List ℕ) → line ≡ said (step (machine (code_of p)) Taken (start s.core)) → AtPrint (code_of p) s.core →
+    pub came_at_print : (line : List ℕ) → line ≡ said (step (machine c) Taken (start s.core)) → AtPrint c s.core →
         (at : moments.AtPrint p input asked.turns asked.based s.out line) × (s.core.world ≡ at.state.core.shared.world)
     came_at_print line says next =
-        let r = laws.prints p formed input asked.turns asked.based s next.0 next.1 (comes s came) next.2 in
-        let text = said_at_print (code_of p) Taken s.core next.0 next.1 r.values r.others next.2 r.operands in (
+        let r = laws.prints p formed (declared_in p.modes) c marked input asked.turns asked.based s next.0 next.1 (comes s came) next.2 in
+        let text = said_at_print c Taken s.core next.0 next.1 r.values r.others next.2 r.operands in (
           record {
             state = r.there.state;
             reached = r.there.reached;

@@ -1,4 +1,4 @@
--- A run of the code of a program as a run of the program.
+-- A run of the marked code of a program as a run of the program.
 use Rattle.std.proofs.Common.{◌≡◌, ◌∙◌, ◌⊎◌, inl, inr, ℕ, zero, suc, Bool, true, false, List, [], ◌∷◌, ◌++◌, length, take, Option, None, Some, Result, Ok, Err, IfOk, OnErr, refl, sym, ap, subst, true≢false, append_assoc, arith}
 use Rattle.std.proofs.lemmas.List.{append-nil}
 use Rattle.std.specs.Result.{result_unwrap_or}
@@ -15,8 +15,8 @@ use Rattle.setl_code.specs.Plain.{plain_code}
 use Rattle.setl_code.specs.Code.{Code}
 use Rattle.setl_code.specs.CodeCore.{CodeCore}
 use Rattle.setl_code.specs.CodeMeans.{CodeMeans, code_first}
-use Rattle.setl_code.specs.CodeOf.{code_of}
 use Rattle.setl_code.specs.Machine.{machine}
+use Rattle.setl_code_marked.specs.Marked.{declared_in}
 use Rattle.setl_store.specs.Standing.{Standing, started}
 use Rattle.setl_machine_control.specs.Control.{ControlState, IsRest, kept_for, stood_for}
 use Rattle.setl_machine_control.specs.Declaring.{Modes}
@@ -30,6 +30,7 @@ use Rattle.setl_machine_control.specs.declared.end.End.TheVariants as end
 use Rattle.setl_machine_control.specs.declared.end.StopKind.{StopKind}
 use Rattle.setl_top.specs.code.CodeRuns.{RunsCode, seen_of}
 use Rattle.setl_top.specs.Headline.{IsInput, IsLeft}
+use Rattle.setl_top.specs.Listings.{IsMarked}
 use Rattle.setl_top.specs.Moments as moments
 use Rattle.setl_top.specs.Moments.{AtState}
 use Rattle.setl_top.specs.code.Runs.{Streams, streams, counted, RunsTo, RunsInto, WritesInto, RunsToRead, RunsUpTo, Runs, TakesInput}
@@ -117,33 +118,33 @@ behind None new out more h = tt
 behind (Some xs) None out more h = absurd h
 behind (Some xs) (Some ys) out more h = h ∙ append_assoc xs out more
 
-module _ (laws : CodeLaws) (p : Program) (formed : Formed p) (asked : Options) (s u : Streams) (input : List ℕ) (known : IsInput s.input.held input) where
+module _ (laws : CodeLaws) (p : Program) (formed : Formed p) (c : Code) (marked : IsMarked p c) (asked : Options) (s u : Streams) (input : List ℕ) (known : IsInput s.input.held input) where
   abbrev from : CodeCore
-  from = (code_first (code_of p) input asked.turns).core
+  from = (code_first c input asked.turns).core
 
   -- a state before which fewer steps were done
   abbrev Early : ℕ → State CodeCore → List ℕ → Type 0
-  Early n t line = Before (counted asked p) (code_of p) n from t line
+  Early n t line = Before (counted asked p) c n from t line
 
-  came : (n : ℕ) (t : State CodeCore) (line : List ℕ) → Early n t line → Came p asked input t
+  came : (n : ℕ) (t : State CodeCore) (line : List ℕ) → Early n t line → Came p c asked input t
   came n t line b = (b.after, b.reached)
 
   -- the run ended in the meaning's sense
-  coming_to : (n : ℕ) (last : CodeCore) (e : run.End) → EndsAs (coded p asked input n) last e → IsLeft s.input.held u.input.held last.world.input → Appends s.output.held u.output.held (said (coded p asked input n)) → NoFault (seen_of s) (seen_of u) → u.watchers ≡ told_all (events_told (coded p asked input n)) s.watchers → RunsTo p asked s u e
+  coming_to : (n : ℕ) (last : CodeCore) (e : run.End) → EndsAs (coded p c asked input n) last e → IsLeft s.input.held u.input.held last.world.input → Appends s.output.held u.output.held (said (coded p c asked input n)) → NoFault (seen_of s) (seen_of u) → u.watchers ≡ told_all (events_told (coded p c asked input n)) s.watchers → RunsTo p asked s u e
   coming_to n last e x left gained count heard =
       let out : List ℕ = x.state.out in
-      let ends = as_meant p asked input n (Ends e x.state) x.is in
-      let code : CodeMeans (code_of p) p.modes input asked.turns asked.based out e = record { steps = n; last = x.state; ends = ends; written = refl } in
-      let meant : Ended p input asked.turns asked.based out x.state.events e = (laws.ends p formed input asked.turns asked.based out x.state.events e).1 (record { steps = n; last = x.state; ends = ends; written = refl; told = refl }) in
+      let ends = as_meant p c asked input n (Ends e x.state) x.is in
+      let code : CodeMeans c p.modes input asked.turns asked.based out e = record { steps = n; last = x.state; ends = ends; written = refl } in
+      let meant : Ended p input asked.turns asked.based out x.state.events e = (laws.ends p formed (declared_in p.modes) c marked input asked.turns asked.based out x.state.events e).1 (record { steps = n; last = x.state; ends = ends; written = refl; told = refl }) in
       let means : Means p input asked.turns asked.based out e = record { steps = meant.steps; last = meant.last; ends = meant.ends; written = meant.written } in
-      let reach = ends_at (machine (code_of p)) (Taken p asked input) (laws.silent (code_of p) (counted asked p)) n (code_first (code_of p) input asked.turns) x.state e x.is in
-      let same = laws.last p formed input asked.turns asked.based out out e e means code in
+      let reach = ends_at (machine c) (Taken p c asked input) (laws.silent c (counted asked p)) n (code_first c input asked.turns) x.state e x.is in
+      let same = laws.last p formed (declared_in p.modes) c marked input asked.turns asked.based out out e e means code in
       record {
         input = input;
         known = known;
         out = out;
         means = means;
-        at_end = subst (AtState p input asked.turns asked.based) reach.3 (came_at_state p asked input laws formed reach.1 (reach.0, reach.2));
+        at_end = subst (AtState p input asked.turns asked.based) reach.3 (came_at_state p c asked input laws formed marked reach.1 (reach.0, reach.2));
         left = subst (λ w. IsLeft s.input.held u.input.held w.input) same.core.world (left_of x.state.core last s.input.held u.input.held x.likely left);
         gained = subst (Appends s.output.held u.output.held) (ap said x.is) gained;
         input_count = count.1;
@@ -152,11 +153,11 @@ module _ (laws : CodeLaws) (p : Program) (formed : Formed p) (asked : Options) (
       }
 
   -- no run is stuck
-  not_stuck : (n : ℕ) (last : CodeCore) → EndsAs (coded p asked input n) last run.Stuck → ⊥
+  not_stuck : (n : ℕ) (last : CodeCore) → EndsAs (coded p c asked input n) last run.Stuck → ⊥
   not_stuck n last x =
       let out : List ℕ = x.state.out in
-      let code : CodeMeans (code_of p) p.modes input asked.turns asked.based out run.Stuck = record { steps = n; last = x.state; ends = as_meant p asked input n (Ends run.Stuck x.state) x.is; written = refl } in
-      laws.not_stuck p formed input asked.turns asked.based out ((laws.means p formed input asked.turns asked.based out run.Stuck).1 code)
+      let code : CodeMeans c p.modes input asked.turns asked.based out run.Stuck = record { steps = n; last = x.state; ends = as_meant p c asked input n (Ends run.Stuck x.state) x.is; written = refl } in
+      laws.not_stuck p formed input asked.turns asked.based out ((laws.means p formed (declared_in p.modes) c marked input asked.turns asked.based out run.Stuck).1 code)
 
   -- some of the line in hand was written
   abbrev broken : (t : State CodeCore) (line : List ℕ) → moments.AtPrint p input asked.turns asked.based t.out line → AppendsPart (append_known s.output.held t.out) u.output.held line → RunsInto p asked s u
@@ -171,51 +172,51 @@ module _ (laws : CodeLaws) (p : Program) (formed : Formed p) (asked : Options) (
     gained = behind s.output.held u.output.held t.out (take part.0 line) part.2;
   }
 
-  breaking : (n : ℕ) (t : State CodeCore) (line : List ℕ) → Early n t line → AtPrint (code_of p) t.core → AppendsPart (append_known s.output.held t.out) u.output.held line → RunsInto p asked s u
-  breaking n t line b next part = broken t line (came_at_print p asked input laws formed t (came n t line b) line b.says next).0 part
+  breaking : (n : ℕ) (t : State CodeCore) (line : List ℕ) → Early n t line → AtPrint c t.core → AppendsPart (append_known s.output.held t.out) u.output.held line → RunsInto p asked s u
+  breaking n t line b next part = broken t line (came_at_print p c asked input laws formed marked t (came n t line b) line b.says next).0 part
 
   -- and the input is as it was there
-  writing : (n : ℕ) (t : State CodeCore) (line : List ℕ) (last : CodeCore) → Early n t line → AtPrint (code_of p) t.core → AppendsPart (append_known s.output.held t.out) u.output.held line → last.world.input ≡ t.core.world.input → IsLeft s.input.held u.input.held last.world.input → WritesInto p asked s u
+  writing : (n : ℕ) (t : State CodeCore) (line : List ℕ) (last : CodeCore) → Early n t line → AtPrint c t.core → AppendsPart (append_known s.output.held t.out) u.output.held line → last.world.input ≡ t.core.world.input → IsLeft s.input.held u.input.held last.world.input → WritesInto p asked s u
   writing n t line last b next part same left =
-      let here = came_at_print p asked input laws formed t (came n t line b) line b.says next in
+      let here = came_at_print p c asked input laws formed marked t (came n t line b) line b.says next in
       record { into = broken t line here.0 part; left = subst (λ w. IsLeft s.input.held u.input.held w.input) here.1 (subst (IsLeft s.input.held u.input.held) same left) }
 
   -- a `read` was in hand
-  reading : (n : ℕ) (t : State CodeCore) (line : List ℕ) → Early n t line → AtRead (code_of p) t.core → Appends s.output.held u.output.held t.out → RunsToRead p asked s u
-  reading n t line b next gained = record { input = input; known = known; out = t.out; at = came_at_read p asked input laws formed t (came n t line b) next; gained = gained }
+  reading : (n : ℕ) (t : State CodeCore) (line : List ℕ) → Early n t line → AtRead c t.core → Appends s.output.held u.output.held t.out → RunsToRead p asked s u
+  reading n t line b next gained = record { input = input; known = known; out = t.out; at = came_at_read p c asked input laws formed marked t (came n t line b) next; gained = gained }
 
   -- nothing was written of what is in hand
   halting : (n : ℕ) (t : State CodeCore) (line : List ℕ) → Early n t line → Appends s.output.held u.output.held t.out → RunsUpTo p asked s u
-  halting n t line b gained = record { input = input; known = known; out = t.out; at = came_at_state p asked input laws formed t (came n t line b); gained = gained }
+  halting n t line b gained = record { input = input; known = known; out = t.out; at = came_at_state p c asked input laws formed marked t (came n t line b); gained = gained }
 
   -- at want of memory
-  starving : (n : ℕ) (t : State CodeCore) (line : List ℕ) → Early n t line → (length line ≡ 0) ⊎ AtPrint (code_of p) t.core → outcome.AppendsFront (append_known s.output.held t.out) u.output.held line → RunsInto p asked s u ⊎ RunsUpTo p asked s u
+  starving : (n : ℕ) (t : State CodeCore) (line : List ℕ) → Early n t line → (length line ≡ 0) ⊎ AtPrint c t.core → outcome.AppendsFront (append_known s.output.held t.out) u.output.held line → RunsInto p asked s u ⊎ RunsUpTo p asked s u
   starving n t [] b h front =
       let none : take front.0 [] ≡ [] = take_none front.0 in
       inr (halting n t [] b (subst (Appends s.output.held u.output.held) (ap (λ xs. t.out ++ xs) none ∙ append-nil t.out) (behind s.output.held u.output.held t.out (take front.0 []) front.2)))
-  starving n t (c ∷ line) b (inl none) front = absurd (omega (arith, none))
-  starving n t (c ∷ line) b (inr next) front = inl (breaking n t (c ∷ line) b next (front.0, omega (arith, front.1), front.2))
+  starving n t (byte ∷ line) b (inl none) front = absurd (omega (arith, none))
+  starving n t (byte ∷ line) b (inr next) front = inl (breaking n t (byte ∷ line) b next (front.0, omega (arith, front.1), front.2))
 
 -- the machine's run is one of the program
-runs : (laws : CodeLaws) (p : Program) (formed : Formed p) (asked : Options) (s u : Streams) (e : End) → RunsCode (code_of p) (counted asked p) asked.turns s u e → Runs p asked s u e
-runs laws p formed asked s u end.Done r =
-    coming_to laws p formed asked s u r.input r.known r.steps r.last run.Done (done (counted asked p) (coded p asked r.input r.steps) r.last r.ran.0) r.left r.ran.1 r.ran.2 r.heard
-runs laws p formed asked s u (end.Stopped why line) r =
-    coming_to laws p formed asked s u r.input r.known r.steps r.last (run.Stopped (kind_of (counted asked p) why) line) (stopped (counted asked p) (coded p asked r.input r.steps) r.last why line r.ran.0) r.left r.ran.1 r.ran.2 r.heard
-runs laws p formed asked s u end.Spent r =
-    coming_to laws p formed asked s u r.input r.known r.steps r.last run.Spent (spent (counted asked p) (coded p asked r.input r.steps) r.last r.ran.0) r.left r.ran.1 r.ran.2 r.heard
-runs laws p formed asked s u end.ReadFault r = (reading laws p formed asked s u r.input r.known r.steps r.ran.0 r.ran.1 r.ran.2 r.ran.3 r.ran.4, r.ran.5)
-runs laws p formed asked s u end.WriteFault r = (writing laws p formed asked s u r.input r.known r.steps r.ran.0 r.ran.1 r.last r.ran.2 r.ran.3 r.ran.4 r.ran.7 r.left, r.ran.5)
-runs laws p formed asked s u end.NoMemory r = starving laws p formed asked s u r.input r.known r.steps r.ran.0 r.ran.1 r.ran.2 r.ran.3 r.ran.4
-runs laws p formed asked s u end.Paused r = r.whole refl
-runs laws p formed asked s u end.Stuck r = not_stuck laws p formed asked s u r.input r.known r.steps r.last (stuck (counted asked p) (coded p asked r.input r.steps) r.last r.ran.0)
+runs : (laws : CodeLaws) (p : Program) (formed : Formed p) (c : Code) (marked : IsMarked p c) (asked : Options) (s u : Streams) (e : End) → RunsCode c (counted asked p) asked.turns s u e → Runs p asked s u e
+runs laws p formed c marked asked s u end.Done r =
+    coming_to laws p formed c marked asked s u r.input r.known r.steps r.last run.Done (done (counted asked p) (coded p c asked r.input r.steps) r.last r.ran.0) r.left r.ran.1 r.ran.2 r.heard
+runs laws p formed c marked asked s u (end.Stopped why line) r =
+    coming_to laws p formed c marked asked s u r.input r.known r.steps r.last (run.Stopped (kind_of (counted asked p) why) line) (stopped (counted asked p) (coded p c asked r.input r.steps) r.last why line r.ran.0) r.left r.ran.1 r.ran.2 r.heard
+runs laws p formed c marked asked s u end.Spent r =
+    coming_to laws p formed c marked asked s u r.input r.known r.steps r.last run.Spent (spent (counted asked p) (coded p c asked r.input r.steps) r.last r.ran.0) r.left r.ran.1 r.ran.2 r.heard
+runs laws p formed c marked asked s u end.ReadFault r = (reading laws p formed c marked asked s u r.input r.known r.steps r.ran.0 r.ran.1 r.ran.2 r.ran.3 r.ran.4, r.ran.5)
+runs laws p formed c marked asked s u end.WriteFault r = (writing laws p formed c marked asked s u r.input r.known r.steps r.ran.0 r.ran.1 r.last r.ran.2 r.ran.3 r.ran.4 r.ran.7 r.left, r.ran.5)
+runs laws p formed c marked asked s u end.NoMemory r = starving laws p formed c marked asked s u r.input r.known r.steps r.ran.0 r.ran.1 r.ran.2 r.ran.3 r.ran.4
+runs laws p formed c marked asked s u end.Paused r = r.whole refl
+runs laws p formed c marked asked s u end.Stuck r = not_stuck laws p formed c marked asked s u r.input r.known r.steps r.last (stuck (counted asked p) (coded p c asked r.input r.steps) r.last r.ran.0)
 
 -- it takes nothing of its input, or takes it at a `read`
-takes : (laws : CodeLaws) (p : Program) (formed : Formed p) (asked : Options) (s u : Streams) (e : End) → RunsCode (code_of p) (counted asked p) asked.turns s u e → TakesInput p asked s u
-takes laws p formed asked s u e r =
+takes : (laws : CodeLaws) (p : Program) (formed : Formed p) (c : Code) (marked : IsMarked p c) (asked : Options) (s u : Streams) (e : End) → RunsCode c (counted asked p) asked.turns s u e → TakesInput p asked s u
+takes laws p formed c marked asked s u e r =
     elim r.reads [
       | inl same ↦ inl same
-      | inr b ↦ inr (record { input = r.input; known = r.known; out = b.0.out; more = b.4; taken = r.took.0; at = came_at_read p asked r.input laws formed b.0 (b.2.after, b.2.reached) b.3; gained = b.5; consumed = r.took.1 })
+      | inr b ↦ inr (record { input = r.input; known = r.known; out = b.0.out; more = b.4; taken = r.took.0; at = came_at_read p c asked r.input laws formed marked b.0 (b.2.after, b.2.reached) b.3; gained = b.5; consumed = r.took.1 })
     ]
 
 -- nothing was done
@@ -234,14 +235,14 @@ runs_by c modes others turns s u r is h = subst (λ ms. IfOk r (RunsCode c ms tu
 
 -- ---- where memory may have been refused first
 
-module _ (laws : CodeLaws) (p : Program) (formed : Formed p) (asked : Options) (s u : Streams) {F : Type 0} where
-  pub all_runs : (c : Code) → c ≡ code_of p → (r : Result End F) → IfOk r (RunsCode c (counted asked p) asked.turns s u) → IfOk r (Runs p asked s u)
-  all_runs c is (Ok e) h = runs laws p formed asked s u e (subst (λ k. RunsCode k (counted asked p) asked.turns s u e) is h)
-  all_runs c is (Err e) h = h
+module _ (laws : CodeLaws) (p : Program) (formed : Formed p) (c : Code) (marked : IsMarked p c) (asked : Options) (s u : Streams) {F : Type 0} where
+  pub all_runs : (r : Result End F) → IfOk r (RunsCode c (counted asked p) asked.turns s u) → IfOk r (Runs p asked s u)
+  all_runs (Ok e) h = runs laws p formed c marked asked s u e h
+  all_runs (Err e) h = h
 
-  pub all_takes : (c : Code) → c ≡ code_of p → (r : Result End F) → IfOk r (RunsCode c (counted asked p) asked.turns s u) → OnErr r (u.input.held ≡ s.input.held) → TakesInput p asked s u
-  all_takes c is (Ok e) h same = takes laws p formed asked s u e (subst (λ k. RunsCode k (counted asked p) asked.turns s u e) is h)
-  all_takes c is (Err e) h same = inl same
+  pub all_takes : (r : Result End F) → IfOk r (RunsCode c (counted asked p) asked.turns s u) → OnErr r (u.input.held ≡ s.input.held) → TakesInput p asked s u
+  all_takes (Ok e) h same = takes laws p formed c marked asked s u e h
+  all_takes (Err e) h same = inl same
 
 -- a run that wasn't begun is one that was broken off at its first state
 pub runs_or : {F : Type 0} (p : Program) (asked : Options) (s u : Streams) (r : Result End F) (e : End) → e ≡ result_unwrap_or r end.NoMemory → IfOk r (Runs p asked s u) → OnErr r (u.output.held ≡ s.output.held) → Runs p asked s u e

@@ -9,7 +9,7 @@ use Rattle.setl_model.specs.Means.{Means}
 use Rattle.setl_program.specs.Program.{Program}
 use Rattle.setl_tree.specs.declared.tree.Tree.{Tree}
 use Rattle.setl_top.specs.Accepted.{IsProgram, Accepted, Refusal}
-use Rattle.setl_top.specs.Listings.{listing_of}
+use Rattle.setl_top.specs.Listings.{IsListing}
 use Rattle.setl_top.specs.Moments.{AtState, AtPrint, AtRead}
 use Rattle.setl_top.specs.Outside.{Outside}
 use Rattle.setl_top.specs.Trials.{trial_source, trial_input, trial_line}
@@ -69,7 +69,7 @@ pub record IsToList (words : List (List ℕ)) (before : Outside) (listed : List 
   pub spelled : Spells words (Code name)
   pub text : IsText before.files.held name source
   pub is_program : IsProgram source tree
-  pub is_listing : listed ≡ listing_of tree
+  pub is_listing : IsListing tree listed
 
 -- the words ask for a trial, the run of its program on its input ends so with its declarations, and this is the trial's line
 pub record IsTried (words : List (List ℕ)) (line : List ℕ) (end : End) : Type 0 where

@@ -7,7 +7,7 @@ use Rattle.setl_program.specs.Program.{Program}
 use Rattle.setl_tree.specs.declared.tree.Tree.{Tree}
 use Rattle.setl_top.specs.Accepted.{IsProgram, Accepted, Refusal}
 use Rattle.setl_top.specs.Headline.{Headline, InputLeft, Ended, AnyRose, Answers, Job, IsToLoad, IsToRun, IsTried, trial_output}
-use Rattle.setl_top.specs.Listings.{listing_of}
+use Rattle.setl_top.specs.Listings.{IsListing}
 use Rattle.setl_top.specs.Outside.{Outside}
 use Rattle.setl_top.specs.Watching.{IsThere, IsNoRequest, reports_of}
 use Rattle.setl_top_status.specs.Ends.{status_of, error_line}
@@ -52,7 +52,11 @@ ChecksExactly = (words : List (List ℕ)) (before : Outside) (texts : List ℕ �
 abbrev pub ListsExactly : Type 0
 ListsExactly = (words : List (List ℕ)) (before : Outside) (texts : List ℕ → Option (List ℕ)) (name source : List ℕ) (status : Status) (out err : List ℕ) (left : Option (List ℕ)) →
     TellsTexts before texts → Spells words (Code name) → texts name ≡ Some source → Answers words before status out err left →
-    ((status ≡ ended.Done) ↔ ((tree : Tree) × IsProgram source tree)) × ((tree : Tree) → IsProgram source tree → (out ≡ listing_of tree) × (err ≡ [])) × ((status ≡ ended.Done) ⊎ ((status ≡ ended.Refused) × (out ≡ []))) × (left ≡ before.input.held)
+    ((status ≡ ended.Done) ↔ ((tree : Tree) × IsProgram source tree)) × ((tree : Tree) → IsProgram source tree → IsListing tree out × (err ≡ [])) × ((status ≡ ended.Done) ⊎ ((status ≡ ended.Refused) × (out ≡ []))) × (left ≡ before.input.held)
+
+-- each program has a listing, and only one
+abbrev pub OneListing : Type 0
+OneListing = (tree : Tree) → (text : List ℕ) × IsListing tree text × ((other : List ℕ) → IsListing tree other → other ≡ text)
 
 -- a trial never answers a read fault
 abbrev pub TrialsReadNothing : Type 0

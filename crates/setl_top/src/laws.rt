@@ -1,5 +1,5 @@
 //! What follows from the headline and the definitions alone. The functions have no effect: each states a law.
-ghost use Rattle.setl_top.specs.Laws.{IsComplete, FaultyWordsReadNothing, WordsExactly, RefusesExactly, ChecksExactly, ListsExactly, TrialsReadNothing, TriesExactly, EndsExactly, AcceptedRunsEnd, NoAcceptedRunIsStuck};
+ghost use Rattle.setl_top.specs.Laws.{IsComplete, FaultyWordsReadNothing, WordsExactly, RefusesExactly, ChecksExactly, ListsExactly, OneListing, TrialsReadNothing, TriesExactly, EndsExactly, AcceptedRunsEnd, NoAcceptedRunIsStuck};
 
 /// Where no count of faults rose and memory was found, the call came to its end.
 pub fn completeness()
@@ -51,6 +51,13 @@ pub fn lists_exactly()
     setl_token::lexing_is_determined();
     setl_parse_reading::tree_is_unique();
     setl_parse::one_fault();
+}
+
+/// Each program has a listing, and only one.
+pub fn each_program_has_one_listing()
+    ensures { OneListing }
+{
+    setl_code_marked::each_code_has_one_marked_code();
 }
 
 /// A trial never answers that a read failed.

@@ -1,13 +1,13 @@
 //! Listings of programs.
-ghost use Rattle.std.specs.Prelude.{◌≡◌, IfOk};
-ghost use Rattle.setl_top.specs.Listings.{listing_of};
+ghost use Rattle.std.specs.Prelude.{IfOk};
+ghost use Rattle.setl_program_laws.specs.Claims.{IsAccepted};
+ghost use Rattle.setl_top.specs.Listings.{IsListing};
 ghost use Rattle.setl_top_status.specs.Seen.{seen};
-ghost use Rattle.setl_top_status.specs.code.Writes.{Written};
-ghost use Rattle.setl_top.specs.code.Lists.{Lists};
+ghost use Rattle.setl_top.specs.code.Lists.{WritesListing, Lists};
 ghost use Rattle.setl_top_rules.specs.Rules.{AreModes};
 
 use crate::Status;
-use crate::coding::code_of_source;
+use crate::coding::{code_of_program, program_of_source};
 use crate::front::Checked;
 use crate::load::load_program;
 use setl_code_listing::listing;
@@ -17,10 +17,12 @@ use std::alloc::{AllocError, Global};
 
 /// The listing of the code of the program of a source. The error is want of memory.
 fn listed(alloc: Global, source: Checked) -> Result<Vec<u8>, AllocError>
-    requires { AreModes source.tree source.modes }
-    ensures { IfOk result (λ text. text.items ≡ listing_of source.tree) }
+    requires modes { AreModes source.tree source.modes }
+    requires accepted { IsAccepted source.tree }
+    ensures { IfOk result (λ text. IsListing source.tree text.items) }
 {
-    let code = code_of_source(alloc, source)?;
+    let program = program_of_source(alloc, source)?;
+    let code = code_of_program(alloc, &program)?;
     listing(alloc, &code)
 }
 
@@ -31,9 +33,11 @@ fn write_listing<O: Sink, E: Sink>(
     out: &mut O,
     err: &mut E,
 ) -> Status
-    requires { AreModes source.tree source.modes }
-    ensures { Written (listing_of source.tree) (seen O.held O.faults out.old) (seen O.held O.faults out.new) (seen E.held E.faults err.old) (seen E.held E.faults err.new) result }
+    requires modes { AreModes source.tree source.modes }
+    requires accepted { IsAccepted source.tree }
+    ensures { WritesListing source.tree (seen O.held O.faults out.old) (seen O.held O.faults out.new) (seen E.held E.faults err.old) (seen E.held E.faults err.new) result }
 {
+    setl_code_marked::each_code_has_one_marked_code();
     let Ok(text) = listed(alloc, source) else {
         return break_off(err, Fault::NoMemory);
     };

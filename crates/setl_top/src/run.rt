@@ -10,8 +10,8 @@ ghost use Rattle.setl_top_status.specs.Seen.{seen};
 ghost use Rattle.setl_watch.specs.Watches.{watched};
 ghost use Rattle.setl_top_words.specs.code.Commands.{options_now};
 
+use crate::coding::code_of_program;
 use setl_code::Code;
-use setl_gen::emit;
 use setl_io::{Sink, Source};
 use setl_machine::{Control, Declarations, End, run_watched};
 use setl_program::{Declared, Program};
@@ -80,13 +80,11 @@ pub fn run_program<I: Source, O: Sink>(
     ensures out { OnErr result (O.held out.new ≡ O.held out.old) }
 {
     setl_program_laws::accepted_is_formed();
-    setl_code_may_run::code_may_run();
-    setl_code_simulation::code_means_what_the_program_means();
-    setl_code_simulation::code_ends_in_the_same_state();
-    setl_code_simulation::code_reaches_the_same_states();
+    setl_code_marked_simulation::marked_code_means_what_the_program_means();
+    setl_code_marked_simulation::marked_code_reaches_the_same_states();
     setl_code_simulation::every_run_ends();
     setl_machine::ends_write_nothing();
-    let code = emit(alloc, program)?;
+    let code = code_of_program(alloc, program)?;
     run_code(
         alloc,
         &code,

@@ -1,6 +1,6 @@
 //! Listings of programs, and what stands in the outputs where a listing isn't written whole.
 
-use crate::calls::{Faults, NO_FAULTS, answer, call};
+use crate::calls::{Faults, NO_FAULTS, answer, call, expect_calls};
 use crate::faults::expect_faults;
 use setl_top::Status;
 use std::test::Fail;
@@ -25,7 +25,7 @@ end program;";
 const LISTED: &str = "main:
 0 read
 1 store n
-2 load s
+2 take s
 3 parts 2
 4 store a
 5 drop
@@ -33,7 +33,7 @@ const LISTED: &str = "main:
 7 int 1
 8 int 2
 9 put g () {}
-10 load a
+10 take a
 11 with g
 12 int 1
 13 frome g ()
@@ -53,7 +53,7 @@ const LISTED: &str = "main:
 27 int 3
 28 /=
 29 unless 24
-30 load i
+30 take i
 31 int 2
 32 =
 33 unless 36
@@ -70,7 +70,7 @@ const LISTED: &str = "main:
 44 int 1
 45 - n
 46 jump 39
-47 load n
+47 take n
 48 om
 49 print 2
 50 stop
@@ -86,6 +86,97 @@ proc p:
 fn each_kind_of_statement_is_listed(rt: HostRuntime) -> Result<(), Fail> {
     let left = answer(rt.alloc(), "code a", EACH)?;
     assert!(rt; left.is(Status::Done, LISTED, ""));
+    Ok(())
+}
+
+/// Words, programs, and the listing of each.
+const TAKEN: &str = "code a
+--
+program p; x := 1; print(x); end program;
+--
+main:
+0 int 1
+1 store x
+2 take x
+3 print 1
+4 stop
+====
+code a
+--
+program q; proc p(a); b := a; b with:= 1; return b; end proc; end program;
+--
+main:
+0 stop
+proc p:
+0 take a
+1 store b
+2 int 1
+3 with b
+4 take b
+5 return
+6 om
+7 return
+====
+code a
+--
+program p; s := {1}; (while true) t := s; print(t); end while; end program;
+--
+main:
+0 int 1
+1 set 1
+2 store s
+3 true
+4 unless 11
+5 round
+6 load s
+7 store t
+8 take t
+9 print 1
+10 jump 3
+11 stop
+====
+code a
+--
+program p; x := {}; g(x, 1); print(x); proc g(rw s, i); s with:= i; t := s; end proc; end program;
+--
+main:
+0 set 0
+1 store x
+2 take x
+3 int 1
+4 call g
+5 store x
+6 drop
+7 take x
+8 print 1
+9 stop
+proc g:
+0 take i
+1 with s
+2 load s
+3 store t
+4 om
+5 return
+====
+code a
+--
+program p; var x; repr y: int; end repr; x := 1; y := x; print(y); end program;
+--
+main:
+0 int 1
+1 store x
+2 load x
+3 store y
+4 load y
+5 print 1
+6 stop
+";
+
+/// A value is taken at its last use: not where a loop leads back to a read, where a parameter is handed back, or where a
+/// variable stands in `var` or is declared.
+#[test]
+fn values_are_taken_at_their_last_use(rt: HostRuntime) -> Result<(), Fail> {
+    expect_calls(&rt, rt.alloc(), Status::Done, TAKEN)?;
     Ok(())
 }
 
