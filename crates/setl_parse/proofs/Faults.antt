@@ -1,15 +1,19 @@
 -- The faults that are told.
-use Rattle.std.proofs.Common.{◌≡◌, ◌<◌, [], ◌∷◌, length, Ok, sym, ap, subst, ◌∙◌, arith}
+use Rattle.std.proofs.Common.{◌≡◌, ◌⊎◌, inl, inr, ◌<◌, [], ◌∷◌, length, Ok, Err, refl, sym, ap, subst, ◌∙◌, arith}
 use Rattle.setl_tree.specs.declared.tree.Tree.{Tree}
 use Rattle.setl_tree.specs.Tokens.{Tokens}
 use Rattle.setl_parse_reading.specs.declared.fault.Fault.{Fault}
 use Rattle.setl_parse_reading.specs.declared.fault.Fault.TheVariants as left
-use Rattle.setl_parse_reading.specs.Claims.{FaultIsUnique, ProgramsHaveNoFault, LeftoverIsExact}
+use Rattle.setl_parse_reading.specs.Claims.{ReadingIsSound, FaultIsUnique, FaultIsExact, ProgramsHaveNoFault, LeftoverIsExact}
 use Rattle.setl_parse_reading.specs.Fronts.{FaultOf}
+use Rattle.setl_parse_reading.specs.code.Reading.{Outcome}
 use Rattle.setl_parse_reading.specs.code.ReadPrograms as reading
+use Rattle.setl_token.specs.Text.{Lexed}
+use Rattle.setl_tree.specs.Programs as grammar
 use Rattle.setl_parse_cursor.specs.Plain.{plain_tokens}
-use Rattle.setl_parse.specs.Places.{fault_of}
+use Rattle.setl_parse.specs.Places.{fault_of, IsFaultOf}
 use Rattle.setl_parse.specs.Places as places
+use Rattle.setl_parse.specs.declared.fault.ParseFault.{ParseFault}
 
 pub fault_is_unique : FaultIsUnique → places.FaultIsUnique
 fault_is_unique law l one two a b = a.2 ∙ ap (fault_of l) (law 200 (plain_tokens l) a.0 b.0 a.1 b.1) ∙ sym b.2
@@ -21,3 +25,20 @@ programs_have_no_fault law l tree fault derived h = law 200 (plain_tokens l) tre
 pub leftover : LeftoverIsExact → (toks : Tokens) (tree : Tree) (rest : Tokens) (e : Fault) → e ≡ left.Syntax (length rest) → reading.program 200 toks ≡ Ok (tree, rest) → 0 < length rest → FaultOf 200 toks e
 leftover law toks tree [] e is read some = absurd (omega (arith, some))
 leftover law toks tree (t ∷ rest) e is read some = subst (λ e. FaultOf 200 toks e) (sym is) (law 200 toks tree t rest read)
+
+-- reading ends with a tree or with the fault
+pub others_have_a_fault : ReadingIsSound → FaultIsExact → LeftoverIsExact → places.OthersHaveAFault
+others_have_a_fault sound exact law l = go (reading.program 200 (plain_tokens l)) refl
+  where
+    abbrev Found : Type 0
+    Found = ((tree : Tree) × grammar.program 200 (plain_tokens l) tree) ⊎ ((fault : ParseFault) × IsFaultOf l fault)
+
+    by_rest : (tree : Tree) (rest : Tokens) → reading.program 200 (plain_tokens l) ≡ Ok (tree, rest) → Found
+    by_rest tree [] h = inl (tree, sound 200 (plain_tokens l) tree h)
+    by_rest tree (t ∷ rest) h =
+        let e : Fault = left.Syntax (length (t ∷ rest)) in
+        inr (fault_of l e, (e, law 200 (plain_tokens l) tree t rest h, refl))
+
+    go : (o : Outcome Tree) → reading.program 200 (plain_tokens l) ≡ o → Found
+    go (Ok x) h = by_rest x.0 x.1 h
+    go (Err e) h = inr (fault_of l e, (e, exact 200 (plain_tokens l) e h, refl))

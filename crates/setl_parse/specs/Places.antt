@@ -1,5 +1,5 @@
 -- The places of faults.
-use Rattle.std.specs.Prelude.{◌≡◌, ℕ, ◌-◌, length, slice_get, Option, Some, None}
+use Rattle.std.specs.Prelude.{◌≡◌, ◌⊎◌, ℕ, ◌-◌, length, slice_get, Option, Some, None}
 use Rattle.setl_tree.specs.declared.tree.Tree.{Tree}
 use Rattle.setl_tree.specs.Programs as grammar
 use Rattle.setl_token.specs.declared.Token.{Token as Lexeme}
@@ -37,3 +37,7 @@ FaultIsUnique = (l : Lexed) (one two : ParseFault) → IsFaultOf l one → IsFau
 -- tokens that derive a tree within 200 nestings have none
 abbrev pub ProgramsHaveNoFault : Type 0
 ProgramsHaveNoFault = (l : Lexed) (tree : Tree) (fault : ParseFault) → grammar.program 200 (plain_tokens l) tree → IsFaultOf l fault → ⊥
+
+-- all others have one
+abbrev pub OthersHaveAFault : Type 0
+OthersHaveAFault = (l : Lexed) → ((tree : Tree) × grammar.program 200 (plain_tokens l) tree) ⊎ ((fault : ParseFault) × IsFaultOf l fault)

@@ -3,6 +3,7 @@ pub mod Loading
 pub mod Ends
 pub mod OneReason
 pub mod Exclude
+pub mod FirstFault
 pub mod Parsing
 pub mod Stopping
 pub mod Asked
