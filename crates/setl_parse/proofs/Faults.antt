@@ -26,19 +26,20 @@ pub leftover : LeftoverIsExact → (toks : Tokens) (tree : Tree) (rest : Tokens)
 leftover law toks tree [] e is read some = absurd (omega (arith, some))
 leftover law toks tree (t ∷ rest) e is read some = subst (λ e. FaultOf 200 toks e) (sym is) (law 200 toks tree t rest read)
 
+module _ (l : Lexed) where
+  abbrev Found : Type 0
+  Found = ((tree : Tree) × grammar.program 200 (plain_tokens l) tree) ⊎ ((fault : ParseFault) × IsFaultOf l fault)
+
+  by_rest : ReadingIsSound → LeftoverIsExact → (tree : Tree) (rest : Tokens) → reading.program 200 (plain_tokens l) ≡ Ok (tree, rest) → Found
+  by_rest sound law tree [] h = inl (tree, sound 200 (plain_tokens l) tree h)
+  by_rest sound law tree (t ∷ rest) h =
+      let e : Fault = left.Syntax (length (t ∷ rest)) in
+      inr (fault_of l e, (e, law 200 (plain_tokens l) tree t rest h, refl))
+
+  by_outcome : ReadingIsSound → FaultIsExact → LeftoverIsExact → (o : Outcome Tree) → reading.program 200 (plain_tokens l) ≡ o → Found
+  by_outcome sound exact law (Ok x) h = by_rest sound law x.0 x.1 h
+  by_outcome sound exact law (Err e) h = inr (fault_of l e, (e, exact 200 (plain_tokens l) e h, refl))
+
 -- reading ends with a tree or with the fault
 pub others_have_a_fault : ReadingIsSound → FaultIsExact → LeftoverIsExact → places.OthersHaveAFault
-others_have_a_fault sound exact law l = go (reading.program 200 (plain_tokens l)) refl
-  where
-    abbrev Found : Type 0
-    Found = ((tree : Tree) × grammar.program 200 (plain_tokens l) tree) ⊎ ((fault : ParseFault) × IsFaultOf l fault)
-
-    by_rest : (tree : Tree) (rest : Tokens) → reading.program 200 (plain_tokens l) ≡ Ok (tree, rest) → Found
-    by_rest tree [] h = inl (tree, sound 200 (plain_tokens l) tree h)
-    by_rest tree (t ∷ rest) h =
-        let e : Fault = left.Syntax (length (t ∷ rest)) in
-        inr (fault_of l e, (e, law 200 (plain_tokens l) tree t rest h, refl))
-
-    go : (o : Outcome Tree) → reading.program 200 (plain_tokens l) ≡ o → Found
-    go (Ok x) h = by_rest x.0 x.1 h
-    go (Err e) h = inr (fault_of l e, (e, exact 200 (plain_tokens l) e h, refl))
+others_have_a_fault sound exact law l = by_outcome l sound exact law (reading.program 200 (plain_tokens l)) refl
