@@ -1,7 +1,6 @@
 -- How the parts of a call make its headline.
-use Rattle.std.proofs.Common.{◌≡◌, ◌⊎◌, inl, inr, ◌<◌, ◌≤◌, ℕ, List, [], ◌∷◌, ◌++◌, length, take, Option, Some, refl, sym, ap, subst, arith}
+use Rattle.std.proofs.Common.{◌≡◌, ◌⊎◌, inl, inr, ◌<◌, ℕ, List, [], ◌∷◌, ◌++◌, length, take, Some, refl, sym, ap, subst}
 use Rattle.std.specs.Io.KnownBytes.{Appends}
-use Rattle.setl_io.specs.Faults.{Rose}
 use Rattle.setl_model_runs.specs.Events as run
 use Rattle.setl_program.specs.ProgramOf.{program_of}
 use Rattle.setl_tree.specs.declared.tree.Tree.{Tree}
@@ -10,22 +9,22 @@ use Rattle.setl_machine_control.specs.Answers.{kind_of}
 use Rattle.setl_machine_control.specs.declared.end.End.{End}
 use Rattle.setl_machine_control.specs.declared.end.End.TheVariants as end
 use Rattle.setl_top_status.specs.Ends.{status_of, error_line}
-use Rattle.setl_top_status.specs.Lines.{AppendsFront, AppendsFronts, fault_line}
+use Rattle.setl_top_status.specs.Lines.{AppendsFront, fault_line}
 use Rattle.setl_top_status.specs.Reasons.{reason_line}
-use Rattle.setl_top_status.specs.Seen.{Seen}
+use Rattle.setl_top_status.specs.Seen.{Seen, CountRose, CountStays}
 use Rattle.setl_top_status.specs.code.Tells.{Tells, whole, failed, no_memory}
 use Rattle.setl_top_status.specs.code.Writes.{Written, all_written, write_failed, write_starved, no_text}
 use Rattle.setl_top_status.specs.declared.fault.Fault.{Fault}
 use Rattle.setl_top_status.specs.declared.fault.Fault.TheVariants as fault
 use Rattle.setl_top_status.specs.declared.status.Status.{Status}
 use Rattle.setl_top_status.specs.declared.status.Status.TheVariants.{Done, Refused, Words, Stopped, Spent}
-use Rattle.setl_top_status.specs.FrontLaws.{appends_none, front_none}
+use Rattle.setl_top_status.specs.FrontLaws.{appends_none, front_alone}
 use Rattle.setl_top.specs.Listings.{IsListing}
 use Rattle.setl_top.specs.code.Lists.{Lists, listed_so, not_listed}
 use Rattle.setl_top.specs.code.Loads.{Loaded, NotLoaded, not_accepted, not_read, no_room, Checks, checked_so, not_checked}
 use Rattle.setl_top.specs.code.Runs.{Streams, streams, counted, RunsTo, RunsInto, WritesInto, RunsToRead, RunsUpTo, Runs, TakesInput}
 use Rattle.setl_top.specs.code.Tells.{TellsEnd}
-use Rattle.setl_top.specs.Headline.{Job, IsInput, IsToLoad, IsToRun, IsToList, Answers, faulty_words, refused, checked, listed, run_ended, UpToWrite, UpToAny, no_program, at_state, in_print, in_write, in_listing, load_failed, read_failed, no_such_watcher, TellsFault, LeavesRest, Ended, ReadFailed, WriteFailed, MemoryFailed, print_failed, out_failed, err_failed, InputLeft, untouched, read_from, Headline}
+use Rattle.setl_top.specs.Headline.{Job, IsInput, IsToLoad, IsToRun, IsToList, Answers, faulty_words, refused, checked, listed, run_ended, UpToWrite, UpToAny, no_program, at_state, in_print, in_write, in_listing, load_failed, read_failed, no_such_watcher, TellsFault, LeavesRest, IsQuiet, at_work, at_end, Ended, ReadFailed, WriteFailed, MemoryFailed, print_failed, out_failed, err_failed, InputLeft, untouched, read_from, Headline}
 use Rattle.setl_top.specs.Outside.{Outside}
 use Rattle.setl_top.specs.Watching.{asked_for, IsThere, no_watcher_line, all_told, reports_of}
 use Rattle.setl_watch.specs.Watches.{Watched, watched}
@@ -33,89 +32,87 @@ use Rattle.setl_top_words.specs.Words.{Options, IsFaulty, Spells, HasFile, watch
 use Rattle.setl_top_words.specs.Told.{TellsFaulty}
 
 -- a fault's own line, and nothing before it
-pub fault_alone : (words : List (List ℕ)) (before after : Outside) (why : Fault) → AppendsFront before.error_output.held after.error_output.held (fault_line why) → TellsFault words before after why
-fault_alone words before after why h = record {
-  status = Done;
-  out = [];
-  otherwise = [];
-  left = before.input.held;
-  told = [];
-  fault = h.0;
-  answer = inl refl;
-  told_front = front_none [];
-  fault_front = h.1;
-  gained = h.2;
-}
-
--- a front of an answer's line, and then a front of a fault's own line
-pub fault_after : (words : List (List ℕ)) (before after : Outside) (why : Fault) (status : Status) (out err : List ℕ) (left : Option (List ℕ)) → Answers words before status out err left → AppendsFronts before.error_output.held after.error_output.held err (fault_line why) → TellsFault words before after why
-fault_after words before after why status out err left a h = record {
-  status = status;
-  out = out;
-  otherwise = err;
-  left = left;
-  told = h.0;
-  fault = h.1;
-  answer = inr a;
-  told_front = h.2;
-  fault_front = h.3;
-  gained = h.4;
-}
+pub fault_alone : (before after : Outside) (why : Fault) → AppendsFront before.error_output.held after.error_output.held (fault_line why) → TellsFault before after [] why
+fault_alone before after why h = front_alone before.error_output.held after.error_output.held [] (fault_line why) h
 
 -- the last line of an end was told, or not
-pub told : (words : List (List ℕ)) (before after : Outside) (status : Status) (out err : List ℕ) → (Ended words before after status → Headline words before after status) → Answers words before status out err after.input.held → UpToAny words before out → Appends before.output.held after.output.held out → after.files.faults ≤ before.files.faults → after.input.faults ≤ before.input.faults → after.output.faults ≤ before.output.faults → (r : Status) → Tells status err before.error_output after.error_output r → Headline words before after r
-told words before after status out err ends a so_far o f i u _ (whole h k) =
-    ends
-    (record {
-      out = out;
-      err = err;
-      answer = a;
-      out_gained = o;
-      err_gained = h;
-      quiet = record { files = f; input = i; output = u; error_output = omega arith };
-    })
-told words before after status out err ends a so_far o f i u _ (failed rose h) = record {
+pub told : (words : List (List ℕ)) (before after : Outside) (status : Status) (out err : List ℕ) → (Ended words before after status → Headline words before after status) → Answers words before status out err after.input.held → Appends before.output.held after.output.held out → IsQuiet before after → (r : Status) → Tells status err before.error_output after.error_output r → Headline words before after r
+told words before after status out err ends a o q _ (whole h k) =
+    ends (record { out = out; err = err; answer = a; out_gained = o; err_gained = h; quiet = q; told = k })
+told words before after status out err ends a o q _ (failed rose h) = record {
   out = out;
-  cause = err_failed status err rose a;
+  telling = err;
+  cause = err_failed out err (record { status = status; answer = a; rose = rose; quiet = q });
   out_gained = o;
-  err_gained = fault_after words before after fault.Write status out err after.input.held a h;
+  err_gained = h;
 }
-told words before after status out err ends a so_far o f i u _ (no_memory h) = record {
+told words before after status out err ends a o q _ (no_memory h) = record {
   out = out;
-  so_far = so_far;
+  telling = err;
+  cause = at_end status out err a;
   out_gained = o;
-  err_gained = fault_after words before after fault.NoMemory status out err after.input.held a h;
+  err_gained = h;
+  quiet = q;
+}
+
+-- ---- where the input and the output are as before
+
+-- nothing was added, where nothing changed
+pub appends_same : (a b : Seen (List ℕ)) → b ≡ a → Appends a.held b.held []
+appends_same a b e = subst (λ (c : Seen (List ℕ)). Appends a.held c.held []) (sym e) (appends_none a.held)
+
+-- and no count rose
+pub count_same : {A : Type 0} (a b : Seen A) → b ≡ a → CountStays a b
+count_same {A = A} a b e = ap (λ (c : Seen A). c.faults) e
+
+-- what was held is held
+pub held_same : {A : Type 0} (a b : Seen A) → b ≡ a → b.held ≡ a.held
+held_same {A = A} a b e = ap (λ (c : Seen A). c.held) e
+
+pub quiet_where : (before after : Outside) → CountStays before.files after.files → LeavesRest before after → IsQuiet before after
+quiet_where before after f rest =
+    record { files = f; input = count_same before.input after.input rest.input; output = count_same before.output after.output rest.output }
+
+-- the last line was told, or not
+pub told_alone : (words : List (List ℕ)) (before after : Outside) (status : Status) (err : List ℕ) → (Ended words before after status → Headline words before after status) → Answers words before status [] err before.input.held → CountStays before.files after.files → LeavesRest before after → (r : Status) → Tells status err before.error_output after.error_output r → Headline words before after r
+told_alone words before after status err ends a f rest r t =
+    let answer = subst (Answers words before status [] err) (sym (held_same before.input after.input rest.input)) a in
+    told words before after status [] err ends answer (appends_same before.output after.output rest.output) (quiet_where before after f rest) r t
+
+-- memory was refused before anything was told
+pub starved : (words : List (List ℕ)) (before after : Outside) → CountStays before.files after.files → LeavesRest before after → AppendsFront before.error_output.held after.error_output.held (fault_line fault.NoMemory) → MemoryFailed words before after
+starved words before after f rest h = record {
+  out = [];
+  telling = [];
+  cause = at_work [] no_program;
+  out_gained = appends_same before.output after.output rest.output;
+  err_gained = fault_alone before after fault.NoMemory h;
+  quiet = quiet_where before after f rest;
 }
 
 -- what is told of faulty words was told, or not
-pub faulty_ends : (words : List (List ℕ)) (before after : Outside) (text : List ℕ) → IsFaulty words → TellsFaulty words text → Appends before.output.held after.output.held [] → after.input.held ≡ before.input.held → after.files.faults ≤ before.files.faults → after.input.faults ≤ before.input.faults → after.output.faults ≤ before.output.faults → (r : Status) → Tells Words text before.error_output after.error_output r → Headline words before after r
-faulty_ends words before after text h tells o l f i u r t =
-    told words before after Words [] text (λ e. e) (subst (Answers words before Words [] text) (sym l) (faulty_words text h tells)) no_program o f i u r t
+pub faulty_ends : (words : List (List ℕ)) (before after : Outside) (text : List ℕ) → IsFaulty words → TellsFaulty words text → CountStays before.files after.files → LeavesRest before after → (r : Status) → Tells Words text before.error_output after.error_output r → Headline words before after r
+faulty_ends words before after text h tells f rest r t = told_alone words before after Words text (λ e. e) (faulty_words text h tells) f rest r t
 
 -- what is told where the watcher that is asked for isn't there was told, or not
-pub no_watcher_ends : (words : List (List ℕ)) (before after : Outside) (command : Command) → Spells words command → (IsThere (watched_by command) before.watchers → ⊥) → Appends before.output.held after.output.held [] → after.input.held ≡ before.input.held → after.files.faults ≤ before.files.faults → after.input.faults ≤ before.input.faults → after.output.faults ≤ before.output.faults → (r : Status) → Tells Words no_watcher_line before.error_output after.error_output r → Headline words before after r
-no_watcher_ends words before after command s none o l f i u r t =
-    told words before after Words [] no_watcher_line (λ e. e) (subst (Answers words before Words [] no_watcher_line) (sym l) (no_such_watcher command s none)) no_program o f i u r t
+pub no_watcher_ends : (words : List (List ℕ)) (before after : Outside) (command : Command) → Spells words command → (IsThere (watched_by command) before.watchers → ⊥) → CountStays before.files after.files → LeavesRest before after → (r : Status) → Tells Words no_watcher_line before.error_output after.error_output r → Headline words before after r
+no_watcher_ends words before after command s none f rest r t = told_alone words before after Words no_watcher_line (λ e. e) (no_such_watcher command s none) f rest r t
 
 -- a source wasn't loaded
-pub not_loaded : (words : List (List ℕ)) (before after : Outside) (command : Command) (name : List ℕ) → Spells words command → HasFile command name → IsThere (watched_by command) before.watchers → Appends before.output.held after.output.held [] → after.input.held ≡ before.input.held → after.input.faults ≤ before.input.faults → after.output.faults ≤ before.output.faults → (r : Status) → NotLoaded name before.files after.files before.error_output after.error_output r → Headline words before after r
-not_loaded words before after command name s f there o l i u _ (not_accepted source reason r t why e h) =
+pub not_loaded : (words : List (List ℕ)) (before after : Outside) (command : Command) (name : List ℕ) → Spells words command → HasFile command name → IsThere (watched_by command) before.watchers → LeavesRest before after → (r : Status) → NotLoaded name before.files after.files before.error_output after.error_output r → Headline words before after r
+not_loaded words before after command name s f there rest _ (not_accepted source reason r t why e h) =
     let line : List ℕ = reason_line reason in
     let load : IsToLoad words before name = record { command = command; spelled = s; file = f; there = there } in
-    let answer : Answers words before Refused [] (line ++ 10 ∷ []) before.input.held = refused name source line load t (record { reason = reason; refused = why; tells = refl }) in
-    told words before after Refused [] (line ++ 10 ∷ []) (λ e. e) (subst (Answers words before Refused [] (line ++ 10 ∷ [])) (sym l) answer) no_program o (omega (arith, e)) i u r h
-not_loaded words before after command name s f there o l i u _ (not_read rose h) = record {
+    told_alone words before after Refused (line ++ 10 ∷ []) (λ e. e) (refused name source line load t (record { reason = reason; refused = why; tells = refl })) e rest r h
+not_loaded words before after command name s f there rest _ (not_read rose h) = record {
   out = [];
-  cause = load_failed (record { name = name; asked = record { command = command; spelled = s; file = f; there = there }; rose = rose; told = h });
-  out_gained = o;
-  err_gained = fault_alone words before after fault.Read h;
+  cause = load_failed (record { name = name; asked = record { command = command; spelled = s; file = f; there = there }; rose = rose; input = rest.input; output = rest.output });
+  out_gained = appends_same before.output after.output rest.output;
+  err_gained = fault_alone before after fault.Read h;
 }
-not_loaded words before after command name s f there o l i u _ (no_room h) = record {
-  out = [];
-  so_far = no_program;
-  out_gained = o;
-  err_gained = fault_alone words before after fault.NoMemory h;
-}
+not_loaded words before after command name s f there rest _ (no_room e h) = starved words before after e rest h
+
+-- ---- runs
 
 -- what is told of an end, behind a load that told nothing, with the same declarations and watchers
 pub tells_then : (modes others : Modes) (h k : Watched) (e : End) (err mid err' : Seen (List ℕ)) (r : Status) → modes ≡ others → h ≡ k → mid ≡ err → TellsEnd modes h e mid err' r → TellsEnd others k e err err' r
@@ -156,55 +153,63 @@ module _ (words : List (List ℕ)) (before after : Outside) (heard : Watched) (a
   to_be_run input known = to_run words before asked name tree input s there l known
 
   -- a run came to its end
-  run_told : (end : run.End) (status : Status) → status_of end ≡ Some status → RunsTo (program_of tree) asked from to end → (Ended words before after status → Headline words before after status) → after.files.faults ≤ before.files.faults → (r : Status) → Tells status (all_told heard ++ error_line end) before.error_output after.error_output r → Headline words before after r
+  run_told : (end : run.End) (status : Status) → status_of end ≡ Some status → RunsTo (program_of tree) asked from to end → (Ended words before after status → Headline words before after status) → CountStays before.files after.files → (r : Status) → Tells status (all_told heard ++ error_line end) before.error_output after.error_output r → Headline words before after r
   run_told end status how x ends f r t =
       let job = job_of asked tree x.input before in
       let a = to_be_run x.input x.known in
       let line : List ℕ = reports_of job.watchers x.means.last.events ++ error_line end in
       let same = subst (λ h. Tells status (all_told h ++ error_line end) before.error_output after.error_output r) x.told t in
-      told words before after status x.out line ends (run_ended x.out line end status after.input.held (record { job = job; asked = a; means = x.means; leaves = x.left; tells = refl }) how) (at_state x.out (record { job = job; asked = a; at = x.at_end })) x.gained f (omega (arith, x.input_count)) (omega (arith, x.out_count)) r same
+      told words before after status x.out line ends (run_ended x.out line end status after.input.held (record { job = job; asked = a; means = x.means; leaves = x.left; tells = refl }) how) x.gained (record { files = f; input = x.input_count; output = x.out_count }) r same
 
   -- it was broken off
-  run_unread : RunsToRead (program_of tree) asked from to → Rose before.input.faults after.input.faults → AppendsFront before.error_output.held after.error_output.held (fault_line fault.Read) → ReadFailed words before after
-  run_unread x rose h = record {
-    out = x.out;
-    cause = read_failed x.out rose (record { job = job_of asked tree x.input before; asked = to_be_run x.input x.known; at = x.at });
-    out_gained = x.gained;
-    err_gained = fault_alone words before after fault.Read h;
-  }
-
-  run_unwritten : WritesInto (program_of tree) asked from to → Rose before.output.faults after.output.faults → AppendsFront before.error_output.held after.error_output.held (fault_line fault.Write) → WriteFailed words before after
-  run_unwritten w rose h =
-      let x = w.into in
+  run_unread : RunsToRead (program_of tree) asked from to → CountRose before.input after.input → CountStays before.output after.output → CountStays before.files after.files → AppendsFront before.error_output.held after.error_output.held (fault_line fault.Read) → ReadFailed words before after
+  run_unread x rose still f h =
+      let reading = record { job = job_of asked tree x.input before; asked = to_be_run x.input x.known; at = x.at } in
       record {
-        out = x.out ++ take x.n x.line;
-        cause = print_failed x.out x.line x.n (record { rose = rose; printing = record { job = job_of asked tree x.input before; asked = to_be_run x.input x.known; at = x.at }; part = x.part; leaves = w.left });
+        out = x.out;
+        cause = read_failed x.out (record { rose = rose; reading = reading; files = f; output = still });
         out_gained = x.gained;
-        err_gained = fault_alone words before after fault.Write h;
+        err_gained = fault_alone before after fault.Read h;
       }
 
-  run_starved : RunsInto (program_of tree) asked from to ⊎ RunsUpTo (program_of tree) asked from to → AppendsFront before.error_output.held after.error_output.held (fault_line fault.NoMemory) → MemoryFailed words before after
-  run_starved (inl x) h = record {
+  run_unwritten : WritesInto (program_of tree) asked from to → CountRose before.output after.output → CountStays before.input after.input → CountStays before.files after.files → AppendsFront before.error_output.held after.error_output.held (fault_line fault.Write) → WriteFailed words before after
+  run_unwritten w rose still f h =
+      let x = w.into in
+      let printing = record { job = job_of asked tree x.input before; asked = to_be_run x.input x.known; at = x.at } in
+      record {
+        out = x.out ++ take x.n x.line;
+        telling = [];
+        cause = print_failed x.out x.line x.n (record { rose = rose; printing = printing; part = x.part; leaves = w.left; files = f; input = still });
+        out_gained = x.gained;
+        err_gained = fault_alone before after fault.Write h;
+      }
+
+  run_starved : RunsInto (program_of tree) asked from to ⊎ RunsUpTo (program_of tree) asked from to → IsQuiet before after → AppendsFront before.error_output.held after.error_output.held (fault_line fault.NoMemory) → MemoryFailed words before after
+  run_starved (inl x) quiet h = record {
     out = x.out ++ take x.n x.line;
-    so_far = in_print x.out x.line x.n (record { job = job_of asked tree x.input before; asked = to_be_run x.input x.known; at = x.at }) x.part;
+    telling = [];
+    cause = at_work (x.out ++ take x.n x.line) (in_print x.out x.line x.n (record { job = job_of asked tree x.input before; asked = to_be_run x.input x.known; at = x.at }) x.part);
     out_gained = x.gained;
-    err_gained = fault_alone words before after fault.NoMemory h;
+    err_gained = fault_alone before after fault.NoMemory h;
+    quiet = quiet;
   }
-  run_starved (inr x) h = record {
+  run_starved (inr x) quiet h = record {
     out = x.out;
-    so_far = at_state x.out (record { job = job_of asked tree x.input before; asked = to_be_run x.input x.known; at = x.at });
+    telling = [];
+    cause = at_work x.out (at_state x.out (record { job = job_of asked tree x.input before; asked = to_be_run x.input x.known; at = x.at }));
     out_gained = x.gained;
-    err_gained = fault_alone words before after fault.NoMemory h;
+    err_gained = fault_alone before after fault.NoMemory h;
+    quiet = quiet;
   }
 
   -- the run of a program, and the line that tells its end
-  pub run_ends : (e : End) → Runs (program_of tree) asked from to e → after.files.faults ≤ before.files.faults → (r : Status) → TellsEnd (counted asked (program_of tree)) heard e before.error_output after.error_output r → Headline words before after r
+  pub run_ends : (e : End) → Runs (program_of tree) asked from to e → CountStays before.files after.files → (r : Status) → TellsEnd (counted asked (program_of tree)) heard e before.error_output after.error_output r → Headline words before after r
   run_ends end.Done x f r t = run_told run.Done Done refl x (λ y. y) f r t
   run_ends (end.Stopped why line) x f r t = run_told (run.Stopped (kind_of (counted asked (program_of tree)) why) line) Stopped refl x (λ y. y) f r t
   run_ends end.Spent x f r t = run_told run.Spent Spent refl x (λ y. y) f r t
-  run_ends end.ReadFault x f r t = subst (Headline words before after) (sym t.0) (run_unread x.0 x.1 t.1)
-  run_ends end.WriteFault x f r t = subst (Headline words before after) (sym t.0) (run_unwritten x.0 x.1 t.1)
-  run_ends end.NoMemory x f r t = subst (Headline words before after) (sym t.0) (run_starved x t.1)
+  run_ends end.ReadFault x f r t = subst (Headline words before after) (sym t.0) (run_unread x.0 x.1 x.2 f t.1)
+  run_ends end.WriteFault x f r t = subst (Headline words before after) (sym t.0) (run_unwritten x.0 x.1 x.2 f t.1)
+  run_ends end.NoMemory x f r t = subst (Headline words before after) (sym t.0) (run_starved x.0 (record { files = f; input = x.1; output = x.2 }) t.1)
   run_ends end.Paused x f r t = absurd x
   run_ends end.Stuck x f r t = absurd x
 
@@ -213,17 +218,7 @@ module _ (words : List (List ℕ)) (before after : Outside) (heard : Watched) (a
   run_takes (inl same) = untouched same
   run_takes (inr x) = read_from x.out x.more x.taken (record { job = job_of asked tree x.input before; asked = to_be_run x.input x.known; at = x.at }) x.gained x.consumed
 
--- nothing was added, where nothing changed
-pub appends_same : (a b : Seen (List ℕ)) → b ≡ a → Appends a.held b.held []
-appends_same a b e = subst (λ (c : Seen (List ℕ)). Appends a.held c.held []) (sym e) (appends_none a.held)
-
--- and no count rose
-pub count_same : {A : Type 0} (a b : Seen A) → b ≡ a → b.faults ≤ a.faults
-count_same {A = A} a b e = let same : b.faults ≡ a.faults = ap (λ (c : Seen A). c.faults) e in omega (arith, same)
-
--- what was held is held
-pub held_same : {A : Type 0} (a b : Seen A) → b ≡ a → b.held ≡ a.held
-held_same {A = A} a b e = ap (λ (c : Seen A). c.held) e
+-- ---- checks, listings and trials
 
 -- a check of a file, which leaves the input and the output alone
 pub check_ends : (words : List (List ℕ)) (before after : Outside) (name : List ℕ) → Spells words (Check name) → LeavesRest before after → (r : Status) → Checks name before.files after.files before.error_output after.error_output r → Headline words before after r
@@ -233,48 +228,46 @@ check_ends words before after name s rest _ (checked_so tree l still) = record {
   answer = subst (Answers words before Done [] []) (sym (held_same before.input after.input rest.input)) (checked name l.source tree s l.text l.is_program);
   out_gained = appends_same before.output after.output rest.output;
   err_gained = appends_same before.error_output after.error_output still.same;
-  quiet = record { files = omega (arith, still.count); input = count_same before.input after.input rest.input; output = count_same before.output after.output rest.output; error_output = count_same before.error_output after.error_output still.same };
+  quiet = quiet_where before after still.count rest;
+  told = count_same before.error_output after.error_output still.same;
 }
-check_ends words before after name s rest r (not_checked _ h) =
-    not_loaded words before after (Check name) name s refl tt (appends_same before.output after.output rest.output) (held_same before.input after.input rest.input) (count_same before.input after.input rest.input) (count_same before.output after.output rest.output) r h
+check_ends words before after name s rest r (not_checked _ h) = not_loaded words before after (Check name) name s refl tt rest r h
 
 -- the program of a file is to be listed
 to_list : (words : List (List ℕ)) (before : Outside) (name : List ℕ) (tree : Tree) (text : List ℕ) → Spells words (Code name) → Loaded before.files.held name tree → IsListing tree text → IsToList words before text
 to_list words before name tree text s l is = record { name = name; source = l.source; tree = tree; spelled = s; text = l.text; is_program = l.is_program; is_listing = is }
 
 -- a text that the answer is was written, or not
-pub written_ends : (words : List (List ℕ)) (before after : Outside) (text : List ℕ) → Answers words before Done text [] before.input.held → ((n : ℕ) → n < length text → UpToWrite words before (take n text)) → after.input ≡ before.input → after.files.faults ≡ before.files.faults → (r : Status) → Written text before.output after.output before.error_output after.error_output r → Headline words before after r
+pub written_ends : (words : List (List ℕ)) (before after : Outside) (text : List ℕ) → Answers words before Done text [] before.input.held → ((n : ℕ) → n < length text → UpToWrite words before (take n text)) → after.input ≡ before.input → CountStays before.files after.files → (r : Status) → Written text before.output after.output before.error_output after.error_output r → Headline words before after r
 written_ends words before after text a part_of same files _ (all_written gained count still) = record {
   out = text;
   err = [];
   answer = subst (Answers words before Done text []) (sym (held_same before.input after.input same)) a;
   out_gained = gained;
   err_gained = appends_same before.error_output after.error_output still;
-  quiet = record { files = omega (arith, files); input = count_same before.input after.input same; output = omega (arith, count); error_output = count_same before.error_output after.error_output still };
+  quiet = record { files = files; input = count_same before.input after.input same; output = count };
+  told = count_same before.error_output after.error_output still;
 }
 written_ends words before after text a part_of same files _ (write_failed part rose h) = record {
   out = take part.0 text;
-  cause = out_failed rose (part_of part.0 part.1);
+  telling = [];
+  cause = out_failed (take part.0 text) (record { rose = rose; writing = part_of part.0 part.1; files = files; input = same });
   out_gained = part.2;
-  err_gained = fault_alone words before after fault.Write h;
+  err_gained = fault_alone before after fault.Write h;
 }
-written_ends words before after text a part_of same files _ (write_starved part h) = record {
+written_ends words before after text a part_of same files _ (write_starved part count h) = record {
   out = take part.0 text;
-  so_far = in_write (take part.0 text) (part_of part.0 part.1);
+  telling = [];
+  cause = at_work (take part.0 text) (in_write (take part.0 text) (part_of part.0 part.1));
   out_gained = part.2;
-  err_gained = fault_alone words before after fault.NoMemory h;
+  err_gained = fault_alone before after fault.NoMemory h;
+  quiet = record { files = files; input = count_same before.input after.input same; output = count };
 }
-written_ends words before after text a part_of same files _ (no_text none h) = record {
-  out = [];
-  so_far = no_program;
-  out_gained = subst (λ (c : Option (List ℕ)). Appends before.output.held c []) (sym none) (appends_none before.output.held);
-  err_gained = fault_alone words before after fault.NoMemory h;
-}
+written_ends words before after text a part_of same files _ (no_text none h) = starved words before after files (record { input = same; output = none }) h
 
 -- a listing of a file, which leaves the input alone
 pub list_ends : (words : List (List ℕ)) (before after : Outside) (name : List ℕ) → Spells words (Code name) → after.input ≡ before.input → (r : Status) → Lists name before.files after.files before.output after.output before.error_output after.error_output r → Headline words before after r
 list_ends words before after name s same r (listed_so tree _ l files w) =
     let a = to_list words before name tree w.text s l w.is_listing in
     written_ends words before after w.text (listed w.text a) (λ n. in_listing w.text n a) same files r w.written
-list_ends words before after name s same r (not_listed _ h still) =
-    not_loaded words before after (Code name) name s refl tt (appends_same before.output after.output still) (held_same before.input after.input same) (count_same before.input after.input same) (count_same before.output after.output still) r h
+list_ends words before after name s same r (not_listed _ h still) = not_loaded words before after (Code name) name s refl tt (record { input = same; output = still }) r h

@@ -24,14 +24,14 @@ use Rattle.setl_top_status.specs.declared.status.Status.TheVariants.{Done, Refus
 use Rattle.setl_top_words.specs.Words.{Command, Run, Check, Code, Trial, Spells, HasFile, RunsFile, watched_by, OneCommand}
 use Rattle.setl_top.proofs.OneReason.{FrontLaws, one_reason, one_program_tree, not_refused}
 
-write_rose : (words : List (List ℕ)) (before after : Outside) (out : List ℕ) → WriteCause words before after out → AnyRose before after
-write_rose words before after _ (print_failed out line n h) = inr (inl h.rose)
-write_rose words before after _ (out_failed r u) = inr (inl r)
-write_rose words before after _ (err_failed s e r a) = inr (inr r)
+write_rose : (words : List (List ℕ)) (before after : Outside) (out telling : List ℕ) → WriteCause words before after out telling → AnyRose before after
+write_rose words before after _ _ (print_failed out line n h) = inr (inl h.rose)
+write_rose words before after _ _ (out_failed out h) = inr (inl h.rose)
+write_rose words before after _ _ (err_failed out err h) = inr (inr h.rose)
 
 read_rose : (words : List (List ℕ)) (before after : Outside) (out : List ℕ) → ReadCause words before after out → AnyRose before after
 read_rose words before after _ (load_failed h) = inl (inl h.rose)
-read_rose words before after _ (read_failed out r h) = inl (inr r)
+read_rose words before after _ (read_failed out h) = inl (inr h.rose)
 
 pub complete : IsComplete
 complete words before after Done h = inr h
@@ -40,14 +40,14 @@ complete words before after Words h = inr h
 complete words before after Stopped h = inr h
 complete words before after Spent h = inr h
 complete words before after ReadFault h = inl (inl (read_rose words before after h.out h.cause))
-complete words before after WriteFault h = inl (inl (write_rose words before after h.out h.cause))
+complete words before after WriteFault h = inl (inl (write_rose words before after h.out h.telling h.cause))
 complete words before after NoMemory h = inl (inr refl)
 
 -- ---- the words
 
 no_read : (words : List (List ℕ)) (before after : Outside) (out : List ℕ) → IsNoRequest words before.watchers → ReadCause words before after out → ⊥
 no_read words before after _ faulty (load_failed h) = faulty h.asked.command h.asked.spelled h.asked.there
-no_read words before after _ faulty (read_failed out r h) = faulty h.asked.command h.asked.spelled h.asked.there
+no_read words before after _ faulty (read_failed out h) = faulty h.reading.asked.command h.reading.asked.spelled h.reading.asked.there
 
 no_input : (words : List (List ℕ)) (before after : Outside) → IsNoRequest words before.watchers → InputLeft words before after → after.input.held ≡ before.input.held
 no_input words before after faulty (untouched e) = e
@@ -280,7 +280,7 @@ module _ (one_command : OneCommand) where
 
   no_trial_read : (words : List (List ℕ)) (before after : Outside) (out : List ℕ) (a b : ℕ) → Spells words (Trial a b) → ReadCause words before after out → ⊥
   no_trial_read words before after _ a b s (load_failed h) = no_file words h.asked.command h.name a b s h.asked.spelled h.asked.file
-  no_trial_read words before after _ a b s (read_failed out r h) = runs_so words before h.job (Trial a b) h.asked s
+  no_trial_read words before after _ a b s (read_failed out h) = runs_so words before h.reading.job (Trial a b) h.reading.asked s
 
   pub trial_reads_nothing : TrialsReadNothing
   trial_reads_nothing words before after a b s h = no_trial_read words before after h.out a b s h.cause

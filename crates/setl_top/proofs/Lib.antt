@@ -4,6 +4,7 @@ pub mod Marking
 pub mod Ends
 pub mod OneReason
 pub mod Exclude
+pub mod FirstFault
 pub mod Parsing
 pub mod Stopping
 pub mod Asked

@@ -22,7 +22,7 @@ module _ (name : List ℕ) (files files' : SeenFiles) where
   pub not_loaded_by : (err err' : Seen (List ℕ)) (ends : Status) → NoText name files files' err err' ends → NotLoaded name files files' err err' ends
   not_loaded_by err err' ends (loads.too_long source _ is long still told) = not_accepted source reason.TooLong ends is long still told
   not_loaded_by err err' ends (loads.not_read rose told) = not_read rose told
-  not_loaded_by err err' ends (loads.no_room told) = no_room told
+  not_loaded_by err err' ends (loads.no_room still told) = no_room still told
 
   module _ (err mid : Seen (List ℕ)) (still : IsStill files files' err mid) (err' : Seen (List ℕ)) where
     -- a refusal that was told then
@@ -32,7 +32,7 @@ module _ (name : List ℕ) (files files' : SeenFiles) where
 
     -- want of memory that was told then
     pub no_room_then : AppendsFront mid.held err'.held (fault_line fault.NoMemory) → NotLoaded name files files' err err' status.NoMemory
-    no_room_then told = no_room (subst (λ (o : Seen (List ℕ)). AppendsFront o.held err'.held (fault_line fault.NoMemory)) still.same told)
+    no_room_then told = no_room still.count (subst (λ (o : Seen (List ℕ)). AppendsFront o.held err'.held (fault_line fault.NoMemory)) still.same told)
 
     -- a listing that was written then, or not
     pub listed_then : (tree : Tree) (out out' : Seen (List ℕ)) → Loaded files.held name tree → (ends : Status) → WritesListing tree out out' mid err' ends → Lists name files files' out out' err err' ends

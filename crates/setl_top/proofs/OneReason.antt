@@ -1,19 +1,25 @@
 -- A source is refused for one reason, or it is a program, and not both.
-use Rattle.std.proofs.Common.{◌≡◌, ◌<◌, ◌≤◌, ◌^◌, ℕ, List, length, refl, ap, subst, arith}
+use Rattle.std.proofs.Common.{◌≡◌, ◌⊎◌, inl, inr, ◌<◌, ◌≤◌, ◌^◌, ℕ, List, length, Option, Some, None, refl, ap, subst, arith}
+use Rattle.std.proofs.lemmas.Bool.Decides.{leb_tells}
 use Rattle.setl_token.specs.Lex.{Spelled, LexFails}
+use Rattle.setl_token.specs.Text.{Lexed}
 use Rattle.setl_token.specs.declared.Cause.{Cause}
 use Rattle.setl_token.specs.declared.Cause.TheVariants as cause
 use Rattle.setl_token.specs.declared.Token.{Token}
 use Rattle.setl_tree.specs.Programs as grammar
 use Rattle.setl_tree.specs.declared.tree.Tree.{Tree}
 use Rattle.setl_parse_reading.specs.Claims.{TreeIsUnique}
+use Rattle.setl_parse_reading.specs.Fronts.{FaultOf}
+use Rattle.setl_parse_reading.specs.declared.fault.Fault.{Fault}
+use Rattle.setl_parse_reading.specs.declared.fault.Fault.TheVariants as reading
 use Rattle.setl_parse_cursor.specs.Plain.{plain_tokens}
-use Rattle.setl_parse.specs.Places.{FaultIsUnique, ProgramsHaveNoFault, IsFaultOf}
+use Rattle.setl_parse.specs.Places.{FaultIsUnique, ProgramsHaveNoFault, OthersHaveAFault, IsFaultOf, fault_of}
 use Rattle.setl_parse.specs.declared.fault.ParseFault.{ParseFault}
 use Rattle.setl_parse.specs.declared.fault.ParseFault.TheVariants as fault
 use Rattle.setl_names.specs.Breaks.{first_break, break_at}
 use Rattle.setl_names.specs.declared.broken.Break.{Break}
 use Rattle.setl_top.specs.Accepted.{lexed, IsParsed, IsProgram, IsUnspelled, IsUnparsed, IsUnsound, IsRefusedFor}
+use Rattle.setl_top.specs.Laws.{EitherProgramOrRefused}
 use Rattle.setl_top_rules.specs.Rules.{all_breaks}
 use Rattle.setl_top_status.specs.declared.reason.Reason.{Reason}
 use Rattle.setl_top_status.specs.declared.reason.Reason.TheVariants as reason
@@ -133,3 +139,48 @@ one_stage laws source _ _ (resolving x u) (resolving y v) = ap (λ (z : Break). 
 
 pub one_reason : FrontLaws → (source : List ℕ) (a b : Reason) → IsRefusedFor source a → IsRefusedFor source b → a ≡ b
 one_reason laws source a b h k = one_stage laws source a b (stage source a h) (stage source b k)
+
+-- ---- each source is one of them
+
+-- each source is spelled, or fails
+abbrev LexingIsTotal : Type 0
+LexingIsTotal = (source : List ℕ) → ((ts : List Token) × Spelled source ts) ⊎ ((why : Cause) × (place : ℕ) × LexFails source why place)
+
+module _ (source : List ℕ) (short : length source ≤ 2 ^ 24) where
+  abbrev Read : Type 0
+  Read = ((tree : Tree) × IsProgram source tree) ⊎ ((r : Reason) × IsRefusedFor source r)
+
+  failed : (why : Cause) (place : ℕ) → LexFails source why place → Read
+  failed cause.Byte place h = inr (reason.Byte place, record { short = short; fails = h })
+  failed cause.OpenString place h = inr (reason.OpenString place, record { short = short; fails = h })
+  failed cause.WideNumber place h = inr (reason.WideNumber place, record { short = short; fails = h })
+
+  -- want of memory is no fault of tokens
+  no_memory : (l : Lexed) (e : Fault) → FaultOf 200 (plain_tokens l) e → fault.NoMemory ≡ fault_of l e → ⊥
+  no_memory l reading.Memory h is = h
+  no_memory l (reading.Syntax left) h is = absurd (cc)
+  no_memory l (reading.Nesting left) h is = absurd (cc)
+
+  stopped : (ts : List Token) → Spelled source ts → (f : ParseFault) → IsFaultOf (lexed source ts) f → Read
+  stopped ts s (fault.Syntax place) h = inr (reason.Syntax place, record { short = short; tokens = ts; spelled = s; fault = h })
+  stopped ts s (fault.Nesting place) h = inr (reason.Nesting place, record { short = short; tokens = ts; spelled = s; fault = h })
+  stopped ts s fault.NoMemory h = absurd (no_memory (lexed source ts) h.0 h.1 h.2)
+
+  parsed : (tree : Tree) → IsParsed source tree → (first : Option Break) → first_break (all_breaks tree) ≡ first → Read
+  parsed tree p None h = inl (tree, record { parsed = p; sound = h })
+  parsed tree p (Some b) h = inr (reason.Broken b.rule b.line, record { tree = tree; parsed = p; first = h })
+
+  pub program_or_refused : LexingIsTotal → OthersHaveAFault → Read
+  program_or_refused lexes parses = elim (lexes source) [
+    | inl s ↦ elim (parses (lexed source s.0)) [
+      | inl d ↦ parsed d.0 (record { short = short; tokens = s.0; spelled = s.1; derived = d.1 }) (first_break (all_breaks d.0)) refl
+      | inr f ↦ stopped s.0 s.1 f.0 f.1
+    ]
+    | inr f ↦ failed f.0 f.1 f.2
+  ]
+
+pub either : LexingIsTotal → OthersHaveAFault → EitherProgramOrRefused
+either lexes parses source = elim (leb_tells (length source) (2 ^ 24)) [
+  | inl x ↦ program_or_refused source x.1 lexes parses
+  | inr x ↦ inr (reason.TooLong, x.1)
+]

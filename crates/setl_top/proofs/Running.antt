@@ -205,9 +205,11 @@ runs laws p formed c marked asked s u (end.Stopped why line) r =
     coming_to laws p formed c marked asked s u r.input r.known r.steps r.last (run.Stopped (kind_of (counted asked p) why) line) (stopped (counted asked p) (coded p c asked r.input r.steps) r.last why line r.ran.0) r.left r.ran.1 r.ran.2 r.heard
 runs laws p formed c marked asked s u end.Spent r =
     coming_to laws p formed c marked asked s u r.input r.known r.steps r.last run.Spent (spent (counted asked p) (coded p c asked r.input r.steps) r.last r.ran.0) r.left r.ran.1 r.ran.2 r.heard
-runs laws p formed c marked asked s u end.ReadFault r = (reading laws p formed c marked asked s u r.input r.known r.steps r.ran.0 r.ran.1 r.ran.2 r.ran.3 r.ran.4, r.ran.5)
-runs laws p formed c marked asked s u end.WriteFault r = (writing laws p formed c marked asked s u r.input r.known r.steps r.ran.0 r.ran.1 r.last r.ran.2 r.ran.3 r.ran.4 r.ran.7 r.left, r.ran.5)
-runs laws p formed c marked asked s u end.NoMemory r = starving laws p formed c marked asked s u r.input r.known r.steps r.ran.0 r.ran.1 r.ran.2 r.ran.3 r.ran.4
+runs laws p formed c marked asked s u end.ReadFault r = (reading laws p formed c marked asked s u r.input r.known r.steps r.ran.0 r.ran.1 r.ran.2 r.ran.3 r.ran.4, r.ran.5, r.ran.6)
+runs laws p formed c marked asked s u end.WriteFault r = (writing laws p formed c marked asked s u r.input r.known r.steps r.ran.0 r.ran.1 r.last r.ran.2 r.ran.3 r.ran.4 r.ran.7 r.left, r.ran.5, r.ran.6)
+runs laws p formed c marked asked s u end.NoMemory r =
+    let quiet : NoFault (seen_of s) (seen_of u) = r.ran.5 in
+    (starving laws p formed c marked asked s u r.input r.known r.steps r.ran.0 r.ran.1 r.ran.2 r.ran.3 r.ran.4, quiet.1, quiet.0)
 runs laws p formed c marked asked s u end.Paused r = r.whole refl
 runs laws p formed c marked asked s u end.Stuck r = not_stuck laws p formed c marked asked s u r.input r.known r.steps r.last (stuck (counted asked p) (coded p c asked r.input r.steps) r.last r.ran.0)
 
@@ -240,14 +242,16 @@ module _ (laws : CodeLaws) (p : Program) (formed : Formed p) (c : Code) (marked 
   all_runs (Ok e) h = runs laws p formed c marked asked s u e h
   all_runs (Err e) h = h
 
-  pub all_takes : (r : Result End F) → IfOk r (RunsCode c (counted asked p) asked.turns s u) → OnErr r (u.input.held ≡ s.input.held) → TakesInput p asked s u
+  pub all_takes : (r : Result End F) → IfOk r (RunsCode c (counted asked p) asked.turns s u) → OnErr r (u.input ≡ s.input) → TakesInput p asked s u
   all_takes (Ok e) h same = takes laws p formed c marked asked s u e h
-  all_takes (Err e) h same = inl same
+  all_takes (Err e) h same = inl (ap (λ (i : Seen (List ℕ)). i.held) same)
 
 -- a run that wasn't begun is one that was broken off at its first state
-pub runs_or : {F : Type 0} (p : Program) (asked : Options) (s u : Streams) (r : Result End F) (e : End) → e ≡ result_unwrap_or r end.NoMemory → IfOk r (Runs p asked s u) → OnErr r (u.output.held ≡ s.output.held) → Runs p asked s u e
-runs_or p asked s u (Ok d) e is h same = subst (Runs p asked s u) (sym is) h
-runs_or p asked s u (Err d) e is h same = subst (Runs p asked s u) (sym is) (not_begun p asked s u same)
+pub runs_or : {F : Type 0} (p : Program) (asked : Options) (s u : Streams) (r : Result End F) (e : End) → e ≡ result_unwrap_or r end.NoMemory → IfOk r (Runs p asked s u) → OnErr r (u.input ≡ s.input) → OnErr r (u.output ≡ s.output) → Runs p asked s u e
+runs_or p asked s u (Ok d) e is h unread same = subst (Runs p asked s u) (sym is) h
+runs_or p asked s u (Err d) e is h unread same =
+    let none = not_begun p asked s u (ap (λ (o : Seen (List ℕ)). o.held) same) in
+    subst (Runs p asked s u) (sym is) (none, ap (λ (i : Seen (List ℕ)). i.faults) unread, ap (λ (o : Seen (List ℕ)). o.faults) same)
 
 -- so it is neither paused nor stuck
 pub not_paused : (p : Program) (asked : Options) (s u : Streams) (e : End) → Runs p asked s u e → e ≡ end.Paused → ⊥

@@ -1,5 +1,5 @@
 -- A trial as an answer of the program.
-use Rattle.std.proofs.Common.{◌≡◌, ◌≤◌, ◌^◌, ◌-◌, ℕ, Bool, true, List, [], ◌∷◌, ◌++◌, Option, Some, refl, sym, ap, subst, arith}
+use Rattle.std.proofs.Common.{◌≡◌, ◌^◌, ◌-◌, ℕ, Bool, true, List, [], ◌∷◌, ◌++◌, Option, Some, refl, sym, subst, arith}
 use Rattle.std.specs.Io.KnownBytes.{Appends}
 use Rattle.setl_io.specs.Faults.{Rose}
 use Rattle.setl_machine_control.specs.Answers.{kind_of}
@@ -9,7 +9,7 @@ use Rattle.setl_model.specs.Means.{Means}
 use Rattle.setl_program.specs.Program.{Program}
 use Rattle.setl_model_runs.specs.Events as run
 use Rattle.setl_top.specs.Accepted.{Accepted}
-use Rattle.setl_top.specs.Headline.{IsInput, IsTried, trial_output, Answers, trial_ended, in_trial, no_program, LeavesFilesAndInput, Ended, Headline}
+use Rattle.setl_top.specs.Headline.{IsInput, IsTried, trial_output, Answers, trial_ended, in_trial, LeavesFilesAndInput, Ended, Headline}
 use Rattle.setl_top.specs.Headline as headline
 use Rattle.setl_top.specs.Outside.{Outside}
 use Rattle.setl_top.specs.Trials.{trial_source, trial_input, trial_line}
@@ -18,14 +18,13 @@ use Rattle.setl_top.specs.code.Tells.{TellsEnd}
 use Rattle.setl_top.specs.code.Tries.{trial_options, RunEnds, TrialRuns, Tries, trial_refused, trial_done, trial_stopped, trial_spent, trial_starved}
 use Rattle.setl_top_status.specs.Ends.{status_of, error_line}
 use Rattle.setl_top_status.specs.Reasons.{reason_line}
-use Rattle.setl_top_status.specs.Seen.{Seen, seen}
+use Rattle.setl_top_status.specs.Seen.{Seen, CountStays}
 use Rattle.setl_top_status.specs.code.Tells.{Tells}
-use Rattle.setl_top_status.specs.declared.fault.Fault.TheVariants as fault
 use Rattle.setl_top_status.specs.declared.status.Status.{Status}
 use Rattle.setl_top_status.specs.declared.status.Status.TheVariants.{Done, Refused, Stopped, Spent}
 use Rattle.setl_watch.specs.Watches.{watched}
 use Rattle.setl_top_words.specs.Words.{Trial, Spells}
-use Rattle.setl_top.proofs.Ends.{fault_alone, told, appends_same, count_same, held_same, written_ends}
+use Rattle.setl_top.proofs.Ends.{count_same, told_alone, starved, written_ends}
 
 -- ---- runs in memory
 
@@ -89,13 +88,12 @@ module _ (words : List (List ℕ)) (before after : Outside) (seed nodes : ℕ) (
   answer : (printed : List ℕ) (e : run.End) (status : Status) → TrialRuns seed nodes printed e → status_of e ≡ Some status → Answers words before status (trial_output e (trial_line seed nodes printed)) (error_line e) before.input.held
   answer printed e status m how = trial_ended (trial_line seed nodes printed) e status (tried printed e m) how
 
-  files_quiet : after.files.faults ≤ before.files.faults
-  files_quiet = count_same before.files after.files rest.files
+  no_load : CountStays before.files after.files
+  no_load = count_same before.files after.files rest.files
 
   -- the last line was told, or not, and nothing was written
   silent : (status : Status) (line : List ℕ) → (Ended words before after status → Headline words before after status) → Answers words before status [] line before.input.held → after.output ≡ before.output → (r : Status) → Tells status line before.error_output after.error_output r → Headline words before after r
-  silent status line ends a still r t =
-      told words before after status [] line ends (subst (Answers words before status [] line) (sym (held_same before.input after.input rest.input)) a) no_program (appends_same before.output after.output still) files_quiet (count_same before.input after.input rest.input) (count_same before.output after.output still) r t
+  silent status line ends a still r t = told_alone words before after status line ends a no_load (record { input = rest.input; output = still }) r t
 
   -- what a trial does makes its headline
   pub trial_ends : (r : Status) → Tries seed nodes before.output after.output before.error_output after.error_output r → Headline words before after r
@@ -103,14 +101,9 @@ module _ (words : List (List ℕ)) (before after : Outside) (seed nodes : ℕ) (
       silent Refused (reason_line reason ++ 10 ∷ []) (λ e. e) (headline.trial_refused seed nodes (reason_line reason) s (record { reason = reason; refused = why; tells = refl })) still ends t
   trial_ends _ (trial_done printed ends m w) =
       let line : List ℕ = trial_line seed nodes printed in
-      written_ends words before after line (answer printed run.Done Done m refl) (λ n. in_trial line n (tried printed run.Done m)) rest.input (ap (λ (f : Seen (List ℕ → Option (List ℕ))). f.faults) rest.files) ends w
+      written_ends words before after line (answer printed run.Done Done m refl) (λ n. in_trial line n (tried printed run.Done m)) rest.input no_load ends w
   trial_ends _ (trial_stopped printed kind line ends m still t) =
       silent Stopped (error_line (run.Stopped kind line)) (λ e. e) (answer printed (run.Stopped kind line) Stopped m refl) still ends t
   trial_ends _ (trial_spent printed ends m still t) =
       silent Spent (error_line run.Spent) (λ e. e) (answer printed run.Spent Spent m refl) still ends t
-  trial_ends _ (trial_starved still t) = record {
-    out = [];
-    so_far = no_program;
-    out_gained = appends_same before.output after.output still;
-    err_gained = fault_alone words before after fault.NoMemory t;
-  }
+  trial_ends _ (trial_starved still t) = starved words before after no_load (record { input = rest.input; output = still }) t

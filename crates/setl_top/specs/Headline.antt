@@ -1,7 +1,6 @@
 -- What a call of the program answers, and what it does to the outside.
-use Rattle.std.specs.Prelude.{◌≡◌, ◌⊎◌, ◌<◌, ◌≤◌, ◌-◌, ◌^◌, ℕ, Bool, true, List, [], ◌∷◌, ◌++◌, length, take, Option, None, Some, ⊤, codes}
+use Rattle.std.specs.Prelude.{◌≡◌, ◌⊎◌, ◌<◌, ◌-◌, ◌^◌, ℕ, Bool, true, List, [], ◌∷◌, ◌++◌, length, take, Option, None, Some, ⊤, codes}
 use Rattle.std.specs.Io.KnownBytes.{Appends, Consumes, prepend_known}
-use Rattle.setl_io.specs.Faults.{Rose}
 use Rattle.setl_io.specs.Files.{IsText}
 use Rattle.setl_model_runs.specs.Events.{End}
 use Rattle.setl_model_runs.specs.Events as run
@@ -15,8 +14,8 @@ use Rattle.setl_top.specs.Outside.{Outside}
 use Rattle.setl_top.specs.Trials.{trial_source, trial_input, trial_line}
 use Rattle.setl_top.specs.Watching.{asked_for, IsThere, no_watcher_line, reports_of}
 use Rattle.setl_top_status.specs.Ends.{status_of, error_line}
-use Rattle.setl_top_status.specs.Fronts.{IsFront}
-use Rattle.setl_top_status.specs.Lines.{AppendsFront, fault_line}
+use Rattle.setl_top_status.specs.Lines.{AppendsFronts, fault_line}
+use Rattle.setl_top_status.specs.Seen.{CountRose, CountStays}
 use Rattle.setl_top_status.specs.declared.fault.Fault.{Fault}
 use Rattle.setl_top_status.specs.declared.fault.Fault.TheVariants as fault
 use Rattle.setl_top_status.specs.declared.status.Status.{Status}
@@ -136,12 +135,11 @@ pub data Answers (words : List (List ℕ)) (before : Outside) : Status → List 
   trial_refused : (seed nodes : ℕ) (line : List ℕ) → Spells words (Trial seed nodes) → Refusal trial_source line → Answers words before Refused [] (line ++ 10 ∷ []) before.input.held
   trial_ended : (line : List ℕ) (end : End) (status : Status) → IsTried words line end → status_of end ≡ Some status → Answers words before status (trial_output end line) (error_line end) before.input.held
 
--- no count of faults is greater than before
+-- no count of faults rose before the last line was tried on the error output
 pub record IsQuiet (before after : Outside) : Type 0 where
-  pub files : after.files.faults ≤ before.files.faults
-  pub input : after.input.faults ≤ before.input.faults
-  pub output : after.output.faults ≤ before.output.faults
-  pub error_output : after.error_output.faults ≤ before.error_output.faults
+  pub files : CountStays before.files after.files
+  pub input : CountStays before.input after.input
+  pub output : CountStays before.output after.output
 
 -- the call came to its end
 pub record Ended (words : List (List ℕ)) (before after : Outside) (status : Status) : Type 0 where
@@ -151,6 +149,7 @@ pub record Ended (words : List (List ℕ)) (before after : Outside) (status : St
   pub out_gained : Appends before.output.held after.output.held out
   pub err_gained : Appends before.error_output.held after.error_output.held err
   pub quiet : IsQuiet before after
+  pub told : CountStays before.error_output after.error_output
 
 -- ---- a call that is broken off
 
@@ -167,64 +166,88 @@ pub data UpToAny (words : List (List ℕ)) (before : Outside) : List ℕ → Typ
   in_print : (out line : List ℕ) (n : ℕ) → IsAtPrint words before out line → n < length line → UpToAny words before (out ++ take n line)
   in_write : (out : List ℕ) → UpToWrite words before out → UpToAny words before out
 
--- What the error output gains when a call is broken off: a front of what it would hold otherwise, and then a front of
--- the fault's line.
-pub record TellsFault (words : List (List ℕ)) (before after : Outside) (why : Fault) : Type 0 where
-  pub status : Status
-  pub out : List ℕ
-  pub otherwise : List ℕ
-  pub left : Option (List ℕ)
-  pub told : List ℕ
-  pub fault : List ℕ
-  pub answer : (otherwise ≡ []) ⊎ Answers words before status out otherwise left
-  pub told_front : IsFront told otherwise
-  pub fault_front : IsFront fault (fault_line why)
-  pub gained : Appends before.error_output.held after.error_output.held (told ++ fault)
+-- What the error output gains when a call is broken off: a front of what was being told, and then a front of the fault's
+-- line.
+abbrev pub TellsFault : (before after : Outside) → (telling : List ℕ) → Fault → Type 0
+TellsFault before after telling why = AppendsFronts before.error_output.held after.error_output.held telling (fault_line why)
 
--- the load of the file that the words name failed, and nothing was told but a front of the fault's line
+-- the load of the file that the words name failed, and the input and the output are as before
 pub record LoadFailed (words : List (List ℕ)) (before after : Outside) : Type 0 where
   pub name : List ℕ
   pub asked : IsToLoad words before name
-  pub rose : Rose before.files.faults after.files.faults
-  pub told : AppendsFront before.error_output.held after.error_output.held (fault_line fault.Read)
+  pub rose : CountRose before.files after.files
+  pub input : after.input ≡ before.input
+  pub output : after.output ≡ before.output
 
--- a load failed, and nothing was added to the output; or a read failed after the output up to it
-pub data ReadCause (words : List (List ℕ)) (before after : Outside) : List ℕ → Type 0 where
+-- a read failed in a run, after this output, and nothing else did
+pub record InputFailed (words : List (List ℕ)) (before after : Outside) (out : List ℕ) : Type 0 where
+  pub rose : CountRose before.input after.input
+  pub reading : IsAtRead words before out
+  pub files : CountStays before.files after.files
+  pub output : CountStays before.output after.output
+
+-- what couldn't be read, with what the output has gained then
+pub data ReadCause (words : List (List ℕ)) (before after : Outside) : (out : List ℕ) → Type 0 where
   load_failed : LoadFailed words before after → ReadCause words before after []
-  read_failed : (out : List ℕ) → Rose before.input.faults after.input.faults → IsAtRead words before out → ReadCause words before after out
+  read_failed : (out : List ℕ) → InputFailed words before after out → ReadCause words before after out
 
+-- nothing but the fault is told
 pub record ReadFailed (words : List (List ℕ)) (before after : Outside) : Type 0 where
   pub out : List ℕ
   pub cause : ReadCause words before after out
   pub out_gained : Appends before.output.held after.output.held out
-  pub err_gained : TellsFault words before after fault.Read
+  pub err_gained : TellsFault before after [] fault.Read
 
--- the output failed in a print, after the output up to it and some of its line, and not all of it, and the input has what
--- the run had left there, but for bytes that were taken ahead
+-- The output failed in a print, after the output up to it and some of its line, and not all of it, and nothing else did.
+-- The input has what the run had left there, but for bytes that were taken ahead.
 pub record PrintFailed (words : List (List ℕ)) (before after : Outside) (out line : List ℕ) (n : ℕ) : Type 0 where
-  pub rose : Rose before.output.faults after.output.faults
+  pub rose : CountRose before.output after.output
   pub printing : IsAtPrint words before out line
   pub part : n < length line
   pub leaves : IsLeft before.input.held after.input.held printing.at.state.core.shared.world.input
+  pub files : CountStays before.files after.files
+  pub input : CountStays before.input after.input
 
--- The output failed in a print, in a listing or in a trial's line; or the error output failed after the whole output.
-pub data WriteCause (words : List (List ℕ)) (before after : Outside) : List ℕ → Type 0 where
-  print_failed : (out line : List ℕ) (n : ℕ) → PrintFailed words before after out line n → WriteCause words before after (out ++ take n line)
-  out_failed : {out : List ℕ} → Rose before.output.faults after.output.faults → UpToWrite words before out → WriteCause words before after out
-  err_failed : {out : List ℕ} (status : Status) (err : List ℕ) → Rose before.error_output.faults after.error_output.faults → Answers words before status out err after.input.held → WriteCause words before after out
+-- the output failed in a listing or in a trial's line, nothing else did, and the input is as before
+pub record TextFailed (words : List (List ℕ)) (before after : Outside) (out : List ℕ) : Type 0 where
+  pub rose : CountRose before.output after.output
+  pub writing : UpToWrite words before out
+  pub files : CountStays before.files after.files
+  pub input : after.input ≡ before.input
+
+-- the error output failed at what an answer tells, after the whole output, and nothing failed before
+pub record TellingFailed (words : List (List ℕ)) (before after : Outside) (out err : List ℕ) : Type 0 where
+  pub status : Status
+  pub answer : Answers words before status out err after.input.held
+  pub rose : CountRose before.error_output after.error_output
+  pub quiet : IsQuiet before after
+
+-- what couldn't be written, with what the output has gained then, and what was being told: nothing, or what an answer tells
+pub data WriteCause (words : List (List ℕ)) (before after : Outside) : (out telling : List ℕ) → Type 0 where
+  print_failed : (out line : List ℕ) (n : ℕ) → PrintFailed words before after out line n → WriteCause words before after (out ++ take n line) []
+  out_failed : (out : List ℕ) → TextFailed words before after out → WriteCause words before after out []
+  err_failed : (out err : List ℕ) → TellingFailed words before after out err → WriteCause words before after out err
 
 pub record WriteFailed (words : List (List ℕ)) (before after : Outside) : Type 0 where
   pub out : List ℕ
-  pub cause : WriteCause words before after out
+  pub telling : List ℕ
+  pub cause : WriteCause words before after out telling
   pub out_gained : Appends before.output.held after.output.held out
-  pub err_gained : TellsFault words before after fault.Write
+  pub err_gained : TellsFault before after telling fault.Write
 
--- memory was refused
+-- where memory was refused: anywhere with nothing told, or at what an answer tells, after the whole output
+pub data MemoryCause (words : List (List ℕ)) (before after : Outside) : (out telling : List ℕ) → Type 0 where
+  at_work : (out : List ℕ) → UpToAny words before out → MemoryCause words before after out []
+  at_end : (status : Status) (out err : List ℕ) → Answers words before status out err after.input.held → MemoryCause words before after out err
+
+-- memory was refused, and nothing failed before
 pub record MemoryFailed (words : List (List ℕ)) (before after : Outside) : Type 0 where
   pub out : List ℕ
-  pub so_far : UpToAny words before out
+  pub telling : List ℕ
+  pub cause : MemoryCause words before after out telling
   pub out_gained : Appends before.output.held after.output.held out
-  pub err_gained : TellsFault words before after fault.NoMemory
+  pub err_gained : TellsFault before after telling fault.NoMemory
+  pub quiet : IsQuiet before after
 
 -- ---- the headline
 
@@ -267,4 +290,4 @@ TrialLeavesFilesAndInput words before after = (seed nodes : ℕ) → Spells word
 
 -- some count rose
 abbrev pub AnyRose : Outside → Outside → Type 0
-AnyRose before after = (Rose before.files.faults after.files.faults ⊎ Rose before.input.faults after.input.faults) ⊎ (Rose before.output.faults after.output.faults ⊎ Rose before.error_output.faults after.error_output.faults)
+AnyRose before after = (CountRose before.files after.files ⊎ CountRose before.input after.input) ⊎ (CountRose before.output after.output ⊎ CountRose before.error_output after.error_output)

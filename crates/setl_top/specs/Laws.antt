@@ -1,25 +1,65 @@
 -- Laws over the headline and the definitions under it.
-use Rattle.std.specs.Prelude.{◌≡◌, ◌↔◌, ◌⊎◌, ℕ, Bool, List, [], ◌∷◌, ◌++◌, Option, Some}
+use Rattle.std.specs.Prelude.{◌≡◌, ◌<◌, ◌↔◌, ◌⊎◌, ℕ, Bool, List, [], ◌∷◌, ◌++◌, Option, Some}
 use Rattle.setl_model.specs.Ending.{Ending}
 use Rattle.setl_model_runs.specs.Events.{End, Stuck}
 use Rattle.setl_model.specs.Means.{Means}
 use Rattle.setl_program.specs.Program.{Program}
 use Rattle.setl_tree.specs.declared.tree.Tree.{Tree}
-use Rattle.setl_top.specs.Accepted.{IsProgram, Accepted, Refusal}
+use Rattle.setl_top.specs.Accepted.{IsProgram, Accepted, IsRefusedFor, Refusal}
 use Rattle.setl_top.specs.Headline.{Headline, InputLeft, Ended, AnyRose, Answers, Job, IsToLoad, IsToRun, IsTried, trial_output}
 use Rattle.setl_top.specs.Listings.{IsListing}
 use Rattle.setl_top.specs.Outside.{Outside}
 use Rattle.setl_top.specs.Watching.{IsThere, IsNoRequest, reports_of}
 use Rattle.setl_top_status.specs.Ends.{status_of, error_line}
+use Rattle.setl_top_status.specs.Seen.{CountStays}
+use Rattle.setl_top_status.specs.declared.reason.Reason.{Reason}
 use Rattle.setl_top_status.specs.declared.status.Status.{Status}
-use Rattle.setl_top_status.specs.declared.status.Status.TheVariants.{NoMemory, ReadFault, Refused}
+use Rattle.setl_top_status.specs.declared.status.Status.TheVariants.{NoMemory, ReadFault, Refused, WriteFault}
 use Rattle.setl_top_status.specs.declared.status.Status.TheVariants as ended
 use Rattle.setl_top_words.specs.Words.{Command, Check, Code, Trial, Spells, HasFile, watched_by}
+
+-- ---- sources
+
+-- each source is a program or is refused for a reason
+abbrev pub EitherProgramOrRefused : Type 0
+EitherProgramOrRefused = (source : List ℕ) → ((tree : Tree) × IsProgram source tree) ⊎ ((reason : Reason) × IsRefusedFor source reason)
+
+-- and not both
+abbrev pub NotProgramAndRefused : Type 0
+NotProgramAndRefused = (source : List ℕ) (tree : Tree) (reason : Reason) → IsProgram source tree → IsRefusedFor source reason → ⊥
+
+-- a program has one tree
+abbrev pub OneTree : Type 0
+OneTree = (source : List ℕ) (one two : Tree) → IsProgram source one → IsProgram source two → one ≡ two
+
+-- and any other source has one reason
+abbrev pub OneReason : Type 0
+OneReason = (source : List ℕ) (one two : Reason) → IsRefusedFor source one → IsRefusedFor source two → one ≡ two
+
+-- ---- calls
 
 -- the call failed in none of the three ways only where it came to its end
 abbrev pub IsComplete : Type 0
 IsComplete = (words : List (List ℕ)) (before after : Outside) (status : Status) →
     Headline words before after status → (AnyRose before after ⊎ (status ≡ NoMemory)) ⊎ Ended words before after status
+
+-- a load that failed ends the call, and the input and the output are as before
+abbrev pub FailedLoadEnds : Type 0
+FailedLoadEnds = (words : List (List ℕ)) (before after : Outside) (status : Status) →
+    Headline words before after status → before.files.faults < after.files.faults →
+    (status ≡ ReadFault) × (after.input ≡ before.input) × (after.output ≡ before.output)
+
+-- a read that failed ends it, and no other count rose but, at the fault's line, that of the error output
+abbrev pub FailedReadEnds : Type 0
+FailedReadEnds = (words : List (List ℕ)) (before after : Outside) (status : Status) →
+    Headline words before after status → before.input.faults < after.input.faults →
+    (status ≡ ReadFault) × CountStays before.files after.files × CountStays before.output after.output
+
+-- and so does a write of the output
+abbrev pub FailedWriteEnds : Type 0
+FailedWriteEnds = (words : List (List ℕ)) (before after : Outside) (status : Status) →
+    Headline words before after status → before.output.faults < after.output.faults →
+    (status ≡ WriteFault) × CountStays before.files after.files × CountStays before.input after.input
 
 -- words that are faulty or ask for a watcher that isn't there are never answered by a read fault, and the input is left as
 -- it was

@@ -1,9 +1,30 @@
 //! What follows from the headline and the definitions alone. The functions have no effect: each states a law.
-ghost use Rattle.setl_top.specs.Laws.{IsComplete, FaultyWordsReadNothing, WordsExactly, RefusesExactly, ChecksExactly, ListsExactly, OneListing, TrialsReadNothing, TriesExactly, EndsExactly, AcceptedRunsEnd, NoAcceptedRunIsStuck};
+ghost use Rattle.setl_top.specs.Laws.{IsComplete, FaultyWordsReadNothing, WordsExactly, RefusesExactly, ChecksExactly, ListsExactly, OneListing, TrialsReadNothing, TriesExactly, EndsExactly, AcceptedRunsEnd, NoAcceptedRunIsStuck, EitherProgramOrRefused, NotProgramAndRefused, OneTree, OneReason, FailedLoadEnds, FailedReadEnds, FailedWriteEnds};
+
+/// Each source, whatever its bytes, is a program with one tree or is refused for one reason, and not both.
+pub fn program_or_refusal()
+    ensures either { EitherProgramOrRefused }
+    ensures not_both { NotProgramAndRefused }
+    ensures one_tree { OneTree }
+    ensures one_reason { OneReason }
+{
+    setl_token::lexing_is_determined();
+    setl_parse_reading::tree_is_unique();
+    setl_parse::one_fault();
+}
 
 /// Where no count of faults rose and memory was found, the call came to its end.
 pub fn completeness()
     ensures { IsComplete }
+{}
+
+/// A load, a read or a write of the output that failed ends the call with its status: no other count of faults rose then
+/// but, at the line of the fault, that of the error output. After a load that failed the input and the output are as
+/// before.
+pub fn first_fault_ends()
+    ensures load { FailedLoadEnds }
+    ensures read { FailedReadEnds }
+    ensures write { FailedWriteEnds }
 {}
 
 /// Where the words are faulty or ask for a watcher that isn't there, a call never answers that a read failed, and the

@@ -45,8 +45,8 @@ fn run_code<I: Source, O: Sink>(
     requires main { AreOfMain (map plain_declared declared.now) }
     requires turns { turns < 2 ^ 63 }
     ensures ran { IfOk result (RunsCode (plain_code code.now) (map plain_declared declared.now) turns (streams (seen I.left I.faults input.old) (seen O.held O.faults out.old) (watched (map (λ w. watch w) watchers.old.items) reports.old.items)) (streams (seen I.left I.faults input.new) (seen O.held O.faults out.new) (watched (map (λ w. watch w) watchers.new.items) reports.new.items))) }
-    ensures input { OnErr result (I.left input.new ≡ I.left input.old) }
-    ensures out { OnErr result (O.held out.new ≡ O.held out.old) }
+    ensures input { OnErr result (seen I.left I.faults input.new ≡ seen I.left I.faults input.old) }
+    ensures out { OnErr result (seen O.held O.faults out.new ≡ seen O.held O.faults out.old) }
 {
     let declarations = Declarations::new(alloc, code, declared)?;
     let mut store = Store::start(alloc, code)?;
@@ -77,7 +77,8 @@ pub fn run_program<I: Source, O: Sink>(
     requires turns { asked.turns < 2 ^ 63 }
     ensures ran { IfOk result (Runs (plain_program program.now) (options_now asked) (streams (seen I.left I.faults input.old) (seen O.held O.faults out.old) (watched (map (λ w. watch w) watchers.old.items) reports.old.items)) (streams (seen I.left I.faults input.new) (seen O.held O.faults out.new) (watched (map (λ w. watch w) watchers.new.items) reports.new.items))) }
     ensures input { TakesInput (plain_program program.now) (options_now asked) (streams (seen I.left I.faults input.old) (seen O.held O.faults out.old) (watched (map (λ w. watch w) watchers.old.items) reports.old.items)) (streams (seen I.left I.faults input.new) (seen O.held O.faults out.new) (watched (map (λ w. watch w) watchers.new.items) reports.new.items)) }
-    ensures out { OnErr result (O.held out.new ≡ O.held out.old) }
+    ensures unread { OnErr result (seen I.left I.faults input.new ≡ seen I.left I.faults input.old) }
+    ensures out { OnErr result (seen O.held O.faults out.new ≡ seen O.held O.faults out.old) }
 {
     setl_program_laws::accepted_is_formed();
     setl_code_marked_simulation::marked_code_means_what_the_program_means();

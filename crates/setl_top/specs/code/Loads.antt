@@ -1,13 +1,12 @@
 -- What becomes of a source.
 use Rattle.std.specs.Prelude.{◌≡◌, ℕ, List, [], ◌∷◌, ◌++◌}
-use Rattle.setl_io.specs.Faults.{Rose}
 use Rattle.setl_io.specs.Files.{Texts, IsText}
 use Rattle.setl_program.specs.Program.{Program}
 use Rattle.setl_program.specs.ProgramOf.{program_of}
 use Rattle.setl_tree.specs.declared.tree.Tree.{Tree}
 use Rattle.setl_top.specs.Accepted.{IsProgram, IsRefusedFor}
 use Rattle.setl_top_status.specs.Lines.{AppendsFront, fault_line}
-use Rattle.setl_top_status.specs.Seen.{Seen}
+use Rattle.setl_top_status.specs.Seen.{Seen, CountRose, CountStays}
 use Rattle.setl_top_status.specs.code.Loads.{SeenFiles, IsStill}
 use Rattle.setl_top_status.specs.Reasons.{reason_line}
 use Rattle.setl_top_status.specs.code.Tells.{Tells}
@@ -45,9 +44,9 @@ pub record LoadedAs (texts : Texts) (name : List ℕ) (program : Program) : Type
 -- why there is no program to work on, and what was told of it, by what is seen of the files and of the error output before
 -- and after
 pub data NotLoaded (name : List ℕ) (files files' : SeenFiles) (err err' : Seen (List ℕ)) : Status → Type 0 where
-  not_accepted : (source : List ℕ) (reason : Reason) (ends : Status) → IsText files.held name source → IsRefusedFor source reason → files'.faults ≡ files.faults → Tells status.Refused (reason_line reason ++ 10 ∷ []) err err' ends → NotLoaded name files files' err err' ends
-  not_read : Rose files.faults files'.faults → AppendsFront err.held err'.held (fault_line fault.Read) → NotLoaded name files files' err err' status.ReadFault
-  no_room : AppendsFront err.held err'.held (fault_line fault.NoMemory) → NotLoaded name files files' err err' status.NoMemory
+  not_accepted : (source : List ℕ) (reason : Reason) (ends : Status) → IsText files.held name source → IsRefusedFor source reason → CountStays files files' → Tells status.Refused (reason_line reason ++ 10 ∷ []) err err' ends → NotLoaded name files files' err err' ends
+  not_read : CountRose files files' → AppendsFront err.held err'.held (fault_line fault.Read) → NotLoaded name files files' err err' status.ReadFault
+  no_room : CountStays files files' → AppendsFront err.held err'.held (fault_line fault.NoMemory) → NotLoaded name files files' err err' status.NoMemory
 
 -- what a check of a file does
 pub data Checks (name : List ℕ) (files files' : SeenFiles) (err err' : Seen (List ℕ)) : Status → Type 0 where

@@ -2,7 +2,6 @@
 -- bound on turns, and whether declarations count.
 use Rattle.std.specs.Prelude.{◌≡◌, ◌⊎◌, ◌<◌, ℕ, List, [], ◌++◌, length, take, if◌then◌else◌}
 use Rattle.std.specs.Io.KnownBytes.{Appends, Consumes}
-use Rattle.setl_io.specs.Faults.{Rose}
 use Rattle.setl_model_runs.specs.Events as run
 use Rattle.setl_model.specs.Means.{Means}
 use Rattle.setl_program.specs.Program.{Program}
@@ -15,7 +14,7 @@ use Rattle.setl_machine_control.specs.declared.end.End.{End}
 use Rattle.setl_machine_control.specs.declared.end.End.TheVariants as end
 use Rattle.setl_top.specs.Headline.{IsInput, IsLeft}
 use Rattle.setl_top.specs.Moments.{AtState, AtPrint, AtRead}
-use Rattle.setl_top_status.specs.Seen.{Seen}
+use Rattle.setl_top_status.specs.Seen.{Seen, CountRose, CountStays}
 use Rattle.setl_watch.specs.Watches.{Watched, told_all}
 use Rattle.setl_top_words.specs.Words.{Options}
 
@@ -48,8 +47,8 @@ pub record RunsTo (program : Program) (asked : Options) (before after : Streams)
   pub at_end : AtState program input asked.turns asked.based out
   pub left : IsLeft before.input.held after.input.held means.last.core.shared.world.input
   pub gained : Appends before.output.held after.output.held out
-  pub input_count : after.input.faults ≡ before.input.faults
-  pub out_count : after.output.faults ≡ before.output.faults
+  pub input_count : CountStays before.input after.input
+  pub out_count : CountStays before.output after.output
   pub told : after.watchers ≡ told_all means.last.events before.watchers
 
 -- the run was broken off in a print: the output up to it is added, and some of its line
@@ -89,9 +88,9 @@ abbrev pub Runs : Program → Options → (before after : Streams) → End → T
 Runs program asked before after end.Done = RunsTo program asked before after run.Done
 Runs program asked before after (end.Stopped why line) = RunsTo program asked before after (run.Stopped (kind_of (counted asked program) why) line)
 Runs program asked before after end.Spent = RunsTo program asked before after run.Spent
-Runs program asked before after end.ReadFault = RunsToRead program asked before after × Rose before.input.faults after.input.faults
-Runs program asked before after end.WriteFault = WritesInto program asked before after × Rose before.output.faults after.output.faults
-Runs program asked before after end.NoMemory = RunsInto program asked before after ⊎ RunsUpTo program asked before after
+Runs program asked before after end.ReadFault = RunsToRead program asked before after × CountRose before.input after.input × CountStays before.output after.output
+Runs program asked before after end.WriteFault = WritesInto program asked before after × CountRose before.output after.output × CountStays before.input after.input
+Runs program asked before after end.NoMemory = (RunsInto program asked before after ⊎ RunsUpTo program asked before after) × CountStays before.input after.input × CountStays before.output after.output
 Runs program asked before after end.Paused = ⊥
 Runs program asked before after end.Stuck = ⊥
 

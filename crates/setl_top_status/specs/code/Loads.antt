@@ -1,10 +1,9 @@
 -- What becomes of a text that is to be loaded, by what is seen of the files and of the error output before and after.
 use Rattle.std.specs.Prelude.{◌≡◌, ◌<◌, ◌≤◌, ◌^◌, ℕ, List, length, [], ◌∷◌, ◌++◌, Option}
-use Rattle.setl_io.specs.Faults.{Rose}
 use Rattle.setl_io.specs.Files.{Texts, IsText}
 use Rattle.setl_top_status.specs.Lines.{AppendsFront, fault_line}
 use Rattle.setl_top_status.specs.Reasons.{reason_line}
-use Rattle.setl_top_status.specs.Seen.{Seen}
+use Rattle.setl_top_status.specs.Seen.{Seen, CountRose, CountStays}
 use Rattle.setl_top_status.specs.code.Tells.{Tells}
 use Rattle.setl_top_status.specs.declared.fault.Fault.TheVariants as fault
 use Rattle.setl_top_status.specs.declared.reason.Reason.TheVariants as reason
@@ -22,11 +21,11 @@ pub record HasText (texts : Texts) (name source : List ℕ) : Type 0 where
 
 -- nothing failed, and nothing was told
 pub record IsStill (files files' : SeenFiles) (err err' : Seen (List ℕ)) : Type 0 where
-  pub count : files'.faults ≡ files.faults
+  pub count : CountStays files files'
   pub same : err' ≡ err
 
 -- why there is no text, and what was told of it
 pub data NoText (name : List ℕ) (files files' : SeenFiles) (err err' : Seen (List ℕ)) : Status → Type 0 where
-  too_long : (source : List ℕ) (ends : Status) → IsText files.held name source → 2 ^ 24 < length source → files'.faults ≡ files.faults → Tells status.Refused (reason_line reason.TooLong ++ 10 ∷ []) err err' ends → NoText name files files' err err' ends
-  not_read : Rose files.faults files'.faults → AppendsFront err.held err'.held (fault_line fault.Read) → NoText name files files' err err' status.ReadFault
-  no_room : AppendsFront err.held err'.held (fault_line fault.NoMemory) → NoText name files files' err err' status.NoMemory
+  too_long : (source : List ℕ) (ends : Status) → IsText files.held name source → 2 ^ 24 < length source → CountStays files files' → Tells status.Refused (reason_line reason.TooLong ++ 10 ∷ []) err err' ends → NoText name files files' err err' ends
+  not_read : CountRose files files' → AppendsFront err.held err'.held (fault_line fault.Read) → NoText name files files' err err' status.ReadFault
+  no_room : CountStays files files' → AppendsFront err.held err'.held (fault_line fault.NoMemory) → NoText name files files' err err' status.NoMemory

@@ -1,14 +1,13 @@
-use Rattle.std.proofs.Common.{◌≡◌, ◌∙◌, true, map, refl, sym, arith, true≢false}
+use Rattle.std.proofs.Common.{◌≡◌, ◌∙◌, true, map, refl, sym, true≢false}
 use Rattle.setl_top_words.specs.code.Commands.{options_now}
 use Rattle.setl_top_words.specs.Words.{Run}
 use Rattle.setl_top.specs.Watching.{IsThere}
 use Rattle.setl_top.proofs.Ends.{no_watcher_ends}
-use Rattle.setl_top_status.specs.FrontLaws.{appends_none}
 use Rattle.setl_top.proofs.top.run_asked.Goals as goal
 
 pub returns-then-not-keep_asked-clause-headline : goal.returns-then-not-keep_asked-clause-headline
 returns-then-not-keep_asked-clause-headline g c = λ words s.
-    no_watcher_ends words _ _ (Run (options_now c.args.asked) c.args.name.now) s (λ there. true≢false (sym (c.keep_asked.ensures.there.1 there) ∙ c.if-not-keep_asked.true)) (appends_none _) refl (omega arith) (omega arith) (omega arith) _ c.tell.ensures.told
+    no_watcher_ends words _ _ (Run (options_now c.args.asked) c.args.name.now) s (λ there. true≢false (sym (c.keep_asked.ensures.there.1 there) ∙ c.if-not-keep_asked.true)) refl (record { input = refl; output = refl }) _ c.tell.ensures.told
 
 pub returns : goal.returns
 returns g c =

@@ -1,9 +1,8 @@
-use Rattle.std.proofs.Common.{arith, refl}
+use Rattle.std.proofs.Common.{refl}
 use Rattle.setl_top.specs.Headline.{untouched}
 use Rattle.setl_top.proofs.Ends.{faulty_ends, check_ends, list_ends}
 use Rattle.setl_top.proofs.Asked.{turns_asked}
 use Rattle.setl_top.proofs.Trying.{trial_ends}
-use Rattle.setl_top_status.specs.FrontLaws.{appends_none}
 use Rattle.setl_top.proofs.top.setl.Goals as goal
 
 pub run_asked-requires : goal.run_asked-requires
@@ -17,7 +16,7 @@ run_trial-requires g c =
 pub returns-in-None-clause-headline : goal.returns-in-None-clause-headline
 returns-in-None-clause-headline g c =
     let told = c.tell_faulty.ensures.told in
-    faulty_ends _ _ _ told.0 c.in-None.ensures.faulty told.1 (appends_none _) refl (omega arith) (omega arith) (omega arith) _ told.2
+    faulty_ends _ _ _ told.0 c.in-None.ensures.faulty told.1 refl (record { input = refl; output = refl }) _ told.2
 
 pub returns-in-Some-Run-clause-headline : goal.returns-in-Some-Run-clause-headline
 returns-in-Some-Run-clause-headline g c = c.run_asked.ensures.headline _ (rw c.in-Some-Run.field-0-is at c.in-Some-Run.ensures.plain)

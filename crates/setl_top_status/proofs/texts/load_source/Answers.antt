@@ -10,4 +10,4 @@ pub returns-in-Failed-clause-not_loaded : goal.returns-in-Failed-clause-not_load
 returns-in-Failed-clause-not_loaded g c = rw c.break_off.ensures.tried.0 (not_read c.in-Failed.ensures.count c.break_off.ensures.tried.1)
 
 pub returns-in-NoMemory-clause-not_loaded : goal.returns-in-NoMemory-clause-not_loaded
-returns-in-NoMemory-clause-not_loaded g c = rw c.break_off-in-NoMemory.ensures.tried.0 (no_room c.break_off-in-NoMemory.ensures.tried.1)
+returns-in-NoMemory-clause-not_loaded g c = rw c.break_off-in-NoMemory.ensures.tried.0 (no_room c.in-NoMemory.ensures.count c.break_off-in-NoMemory.ensures.tried.1)

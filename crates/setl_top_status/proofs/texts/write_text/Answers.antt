@@ -11,4 +11,6 @@ returns-in-Err-Failed g c =
     rw c.break_off.ensures.tried.0 (write_failed known.part (known.failed refl) c.break_off.ensures.tried.1)
 
 pub returns-in-Err-NoMemory : goal.returns-in-Err-NoMemory
-returns-in-Err-NoMemory g c = rw c.break_off-in-Err-NoMemory.ensures.tried.0 (write_starved c.in-Err-NoMemory.ensures.part c.break_off-in-Err-NoMemory.ensures.tried.1)
+returns-in-Err-NoMemory g c =
+    let known = rw c.in-Err-NoMemory.field-0-is at c.in-Err-NoMemory.ensures in
+    rw c.break_off-in-Err-NoMemory.ensures.tried.0 (write_starved known.part (known.no_memory refl) c.break_off-in-Err-NoMemory.ensures.tried.1)
