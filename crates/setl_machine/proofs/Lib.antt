@@ -15,4 +15,5 @@ pub mod Printing
 pub mod Staying
 pub mod Told
 pub mod Hearing
+pub mod AtOnce
 pub mod ByFamily

@@ -19,7 +19,7 @@ use Rattle.setl_machine.proofs.Stays.{appends_same, honest_same}
 pub in_hand : (c : Code) (k : CodeCore) (xs : Variables) (s : declared.Step) (what : declared_instr.Instr) → fetch c k.now.body k.now.at ≡ Some (plain_step xs s) → s.what ≡ what → fetch c k.now.body k.now.at ≡ Some (s.line, plain_instr xs what)
 in_hand c k xs s what h e = h ∙ ap (λ w. Some (s.line, plain_instr xs w)) e
 
-step_is : (modes : Modes) (c : Code) (k : CodeCore) (line : ℕ) (i : Instr) → fetch c k.now.body k.now.at ≡ Some (line, i) → step (machine c) (tested modes) (start k) ≡ next_of modes c line i k
+pub step_is : (modes : Modes) (c : Code) (k : CodeCore) (line : ℕ) (i : Instr) → fetch c k.now.body k.now.at ≡ Some (line, i) → step (machine c) (tested modes) (start k) ≡ next_of modes c line i k
 step_is modes c k line i h = ap (λ o. settle (machine c) (tested modes) (start k) (do_step c o k)) h
 
 pub by_step : (modes : Modes) (c : Code) (k to : CodeCore) (line : ℕ) (i : Instr) (old new : Seen) (e : End) → fetch c k.now.body k.now.at ≡ Some (line, i) → Steps modes (next_of modes c line i k) old new to e → Steps modes (step (machine c) (tested modes) (start k)) old new to e

@@ -9,6 +9,7 @@ use Rattle.setl_model_runs.specs.Run as runs
 use Rattle.setl_code.specs.Code.{Code, PrintTop, ReadOne}
 use Rattle.setl_code.specs.CodeCore.{CodeCore}
 use Rattle.setl_code.specs.Machine.{machine, fetch}
+use Rattle.setl_machine_control.specs.Control.{ControlState, stood_for}
 use Rattle.setl_machine_control.specs.Declaring.{Modes, tested}
 use Rattle.setl_machine_control.specs.declared.end.End.{End}
 use Rattle.setl_machine_control.specs.declared.end.End.TheVariants as end
@@ -78,3 +79,7 @@ Ran modes c n from old new to e = Steps modes (runs.run (machine c) (tested mode
 abbrev pub ReadsOnly : Modes → Code → ℕ → CodeCore → (held held' left left' : Option (List ℕ)) → Type 0
 ReadsOnly modes c n from held held' left left' =
     (left' ≡ left) ⊎ ((s : State CodeCore) × (line : List ℕ) × Before modes c n from s line × AtRead c s.core × (more : List ℕ) × Appends held held' (s.out ++ more))
+
+-- The same of steps that neither read nor write: whatever is seen of the outside, and is still to come from the input.
+abbrev pub RanQuietly : Modes → Code → ℕ → CodeCore → ControlState → CodeCore → ControlState → End → Type 0
+RanQuietly modes c n old from new to e = (now : Seen) (rest : List ℕ) → Ran modes c n (stood_for old from rest) now now (stood_for new to rest) e

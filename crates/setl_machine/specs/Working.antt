@@ -1,6 +1,7 @@
 -- What the instructions on operands, bodies and the outside did, and the kinds of instructions.
 use Rattle.std.specs.Prelude.{◌≡◌, ℕ, zero, suc, Bool, true, false, List, [], ◌∷◌, length, slice_get, Option, Some, None, Result, Ok, Err}
 use Rattle.std.specs.Global.{Vec}
+use Rattle.std.specs.declared.alloc.AllocError.{AllocError}
 use Rattle.std.specs.Io.KnownBytes.{Appends}
 use Rattle.setl_io.specs.Faults.{Rose}
 use Rattle.setl_io.specs.Sink.{AppendsPart}
@@ -10,15 +11,17 @@ use Rattle.setl_text.specs.declared.ReadFault.{ReadFault}
 use Rattle.setl_text.specs.declared.ReadFault.TheVariants as read
 use Rattle.setl_program.specs.declared.kinds.Connective.{Connective}
 use Rattle.setl_program.specs.declared.kinds.Connective.TheVariants.{And, Or, Implies}
-use Rattle.setl_model_runs.specs.Run.{Move}
+use Rattle.setl_model_runs.specs.Run.{Move, Next, step}
 use Rattle.setl_model.specs.World.{branch}
-use Rattle.setl_code.specs.Code.{Body}
+use Rattle.setl_code.specs.Code.{Body, Instr}
 use Rattle.setl_code.specs.Plain.{plain_code}
 use Rattle.setl_code.specs.CodeCore.{Operand, Result as Holds, Pops, Lacks, popped, CodeCore}
-use Rattle.setl_code.specs.Machine.{on_top}
+use Rattle.setl_code.specs.Machine.{machine, on_top}
 use Rattle.setl_store.specs.Bodies.{entered}
 use Rattle.setl_store.specs.Standing.{Standing, over, at_place}
-use Rattle.setl_machine_control.specs.Control.{ControlState, TakesTurn}
+use Rattle.setl_machine_control.specs.Control.{ControlState, TakesTurn, stood_for}
+use Rattle.setl_machine_control.specs.Declaring.{Modes, tested}
+use Rattle.setl_machine_control.specs.Answers.{start, next_of, Quiet}
 use Rattle.setl_machine_control.specs.Working.{Halted}
 use Rattle.setl_machine.specs.Outcome.{Seen, NoFault, AppendsFront}
 use Rattle.setl_machine_control.specs.declared.end.End.{End}
@@ -94,3 +97,26 @@ EndsReading read.Wide line e = e ≡ end.Stopped kind.Wide line
 EndsReading read.Deep line e = e ≡ end.Stopped kind.Deep line
 EndsReading read.Source line e = e ≡ end.ReadFault
 EndsReading read.NoMemory line e = e ≡ end.NoMemory
+
+-- ---- done at once
+
+-- whether the run goes on after an instruction, or how it ended
+abbrev pub went_on : Result End AllocError → Result Bool End
+went_on (Ok end.Paused) = Ok true
+went_on (Ok e) = Err e
+went_on (Err e) = Err end.NoMemory
+
+-- What comes next by the rest of the input was done, and the run goes on or ends so; or all is as before. Neither read nor
+-- written was anything.
+abbrev pub GoesOrLeaves : Modes → (List ℕ → Next CodeCore) → Standing → ControlState → Standing → ControlState → Result Bool End → Type 0
+GoesOrLeaves modes by old from new to (Ok true) = (new.code ≡ old.code) × ((rest : List ℕ) → Quiet modes (by rest) (stood_for new.core to rest) end.Paused)
+GoesOrLeaves modes by old from new to (Ok false) = (new ≡ old) × (to ≡ from)
+GoesOrLeaves modes by old from new to (Err end.Paused) = ⊥
+GoesOrLeaves modes by old from new to (Err e) = (rest : List ℕ) → Quiet modes (by rest) (stood_for new.core to rest) e
+
+-- the same of an instruction of a line, and of the next step
+abbrev pub DoesOrLeaves : Modes → Standing → ControlState → ℕ → Instr → Standing → ControlState → Result Bool End → Type 0
+DoesOrLeaves modes old from line what new to r = GoesOrLeaves modes (λ rest. next_of modes (plain_code old.code) line what (stood_for old.core from rest)) old from new to r
+
+abbrev pub StepsOrLeaves : Modes → Standing → ControlState → Standing → ControlState → Result Bool End → Type 0
+StepsOrLeaves modes old from new to r = GoesOrLeaves modes (λ rest. step (machine (plain_code old.code)) (tested modes) (start (stood_for old.core from rest))) old from new to r

@@ -71,7 +71,12 @@ pub(crate) fn calls_telling(
 /// declared, so each takes every value.
 #[tactic(auto, using(crate::proofs::Entering::call_lacks))]
 #[inline(never)]
-fn call(body: u32, line: u32, store: &mut Store<'_>, control: &mut Control) -> Result<End, Memory>
+pub(crate) fn call(
+    body: u32,
+    line: u32,
+    store: &mut Store<'_>,
+    control: &mut Control,
+) -> Result<End, Memory>
     requires { store.old.core.now.at + 1 < 2 ^ 64 }
     ensures did { (modes : Modes) → AreOfMain modes → IsBare (plain_code store.old.code) → IfOk result (λ end. DoesBy modes store.old control.old line (CallBody body) store.new control.new end) }
     ensures reader { control.new.reader ≡ control.old.reader }
@@ -138,7 +143,7 @@ fn body_of(code: &Code, body: u32) -> Option<&Body>
 
 /// Ends the activation, and pushes the result and what the `wr` and `rw` parameters hold.
 #[inline(never)]
-fn leave_body(store: &mut Store<'_>) -> Result<End, Memory>
+pub(crate) fn leave_body(store: &mut Store<'_>) -> Result<End, Memory>
     ensures { (line : ℕ) → IfOk result (λ end. Works store.old line ReturnTop store.new end) }
 {
     let Some(value) = pop_top(store)? else {

@@ -35,7 +35,13 @@ pub(crate) fn do_condition(what: &Instr, line: u32, store: &mut Store<'_>) -> Re
 }
 
 /// Goes to the target where the truth value on top decides, and leaves the answer there; else pops it.
-fn decide(what: Connective, to: u32, line: u32, store: &mut Store<'_>) -> Result<End, Memory>
+#[inline(always)]
+pub(crate) fn decide(
+    what: Connective,
+    to: u32,
+    line: u32,
+    store: &mut Store<'_>,
+) -> Result<End, Memory>
     requires { store.old.core.now.at + 1 < 2 ^ 64 }
     ensures { IfOk result (λ end. Works store.old line (Decides what to) store.new end) }
 {
@@ -54,6 +60,7 @@ fn decide(what: Connective, to: u32, line: u32, store: &mut Store<'_>) -> Result
 }
 
 /// The answer of a connective, where the left part decides it.
+#[inline(always)]
 fn answer(what: Connective, left: bool) -> Option<bool>
     ensures { result ≡ decided what left }
 {
@@ -65,7 +72,8 @@ fn answer(what: Connective, left: bool) -> Option<bool>
 }
 
 /// Stops the run unless a truth value is on top.
-fn test(line: u32, store: &mut Store<'_>) -> Result<End, Memory>
+#[inline(always)]
+pub(crate) fn test(line: u32, store: &mut Store<'_>) -> Result<End, Memory>
     requires { store.old.core.now.at + 1 < 2 ^ 64 }
     ensures did { IfOk result (λ end. Works store.old line TestBool store.new end) }
     ensures sure { IsOk result }
@@ -80,7 +88,8 @@ fn test(line: u32, store: &mut Store<'_>) -> Result<End, Memory>
 }
 
 /// Pops a truth value, and goes to the target if it is false.
-fn unless(to: u32, line: u32, store: &mut Store<'_>) -> Result<End, Memory>
+#[inline(always)]
+pub(crate) fn unless(to: u32, line: u32, store: &mut Store<'_>) -> Result<End, Memory>
     requires { store.old.core.now.at + 1 < 2 ^ 64 }
     ensures { IfOk result (λ end. Works store.old line (Unless to) store.new end) }
 {
@@ -98,7 +107,8 @@ fn unless(to: u32, line: u32, store: &mut Store<'_>) -> Result<End, Memory>
 }
 
 /// Goes to the target.
-fn jump(to: u32, store: &mut Store<'_>) -> Result<End, Memory>
+#[inline(always)]
+pub(crate) fn jump(to: u32, store: &mut Store<'_>) -> Result<End, Memory>
     ensures did { (line : ℕ) → IfOk result (λ end. Works store.old line (Jump to) store.new end) }
     ensures sure { IsOk result }
 {
@@ -135,6 +145,7 @@ fn duplicate(store: &mut Store<'_>) -> Result<End, Memory>
 }
 
 /// The truth value on top, or how the run ends at this line where none is there.
+#[inline(always)]
 fn truth_on_top(store: &Store<'_>, line: u32) -> Result<bool, End>
     ensures { Judges store.now.core.now.operands line result }
 {

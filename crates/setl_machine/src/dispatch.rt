@@ -27,6 +27,7 @@ use setl_store::Store;
 use setl_store_environment::Memory;
 
 /// Does an instruction that neither reads nor writes, and says how the run stands then.
+#[inline(never)]
 pub(crate) fn quiet_step(
     what: &Instr,
     line: u32,

@@ -26,7 +26,7 @@ pub(crate) enum Family {
     Outside,
 }
 
-/// The family of an instruction. All dispatch goes by it.
+/// The family of an instruction. All dispatch goes by it, but that of the common instructions, which `at_once` does first.
 #[inline(always)]
 pub(crate) fn family_of(what: &Instr) -> Family
     ensures { result ≡ family_of what.now }

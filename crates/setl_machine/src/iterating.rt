@@ -109,7 +109,7 @@ fn begin_over(
 
 /// At the end of the iterator on top drops it and goes to the target; else takes one turn and pushes the next item.
 #[inline(never)]
-fn next(to: u32, store: &mut Store<'_>, control: &mut Control) -> Result<End, Memory>
+pub(crate) fn next(to: u32, store: &mut Store<'_>, control: &mut Control) -> Result<End, Memory>
     requires { store.old.core.now.at + 1 < 2 ^ 64 }
     ensures did { (line : ℕ) → IfOk result (λ end. Does store.old control.old line (NextOr to) store.new control.new end) }
     ensures reader { control.new.reader ≡ control.old.reader }
@@ -179,7 +179,8 @@ fn leave(count: u32, store: &mut Store<'_>) -> Result<End, Memory>
 }
 
 /// Takes one turn.
-fn round(store: &mut Store<'_>, control: &mut Control) -> Result<End, Memory>
+#[inline(always)]
+pub(crate) fn round(store: &mut Store<'_>, control: &mut Control) -> Result<End, Memory>
     requires { store.old.core.now.at + 1 < 2 ^ 64 }
     ensures did { (line : ℕ) → IfOk result (λ end. Does store.old control.old line PayRound store.new control.new end) }
     ensures reader { control.new.reader ≡ control.old.reader }

@@ -1,6 +1,7 @@
 //! The machine that runs the code of a program: by steps, over a store, a control, an input and an output.
 #![tactic(auto)]
 
+mod at_once;
 mod backtracking;
 mod calling;
 mod conditions;
@@ -11,6 +12,7 @@ mod laws;
 mod machine;
 mod operating;
 mod outside;
+mod quiet;
 mod telling;
 mod values;
 mod variables;

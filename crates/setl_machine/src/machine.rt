@@ -14,6 +14,7 @@ ghost use Rattle.setl_machine_control.specs.declared.end.End.{End};
 use crate::dispatch::quiet_step;
 use crate::families::{Family, family_of};
 use crate::outside::{print, read};
+use crate::quiet::run_quietly;
 use setl_code::Instr;
 use setl_io::{Sink, Source};
 use setl_machine_control::{Control, End};
@@ -30,6 +31,7 @@ use setl_store::Store;
 /// `print`, of which a part was written; what the code has left to read is then what it had left at that `print`.
 /// `NoMemory` comes where memory was refused. Bytes are taken of `input` only where the code comes to a `read`, and `out`
 /// has then gained what was written before it.
+#[inline(never)]
 pub fn run<I: Source, O: Sink>(
     declarations: &Declarations<'_>,
     store: &mut Store<'_>,
@@ -51,6 +53,12 @@ pub fn run<I: Source, O: Sink>(
 {
     let mut done = 0;
     while done < steps {
+        let quiet = run_quietly(declarations, store, control, steps - done - 1);
+        done += quiet.done;
+        match quiet.end {
+            End::Paused => {}
+            end => return end,
+        }
         match step(declarations, store, control, input, out) {
             End::Paused => done += 1,
             end => return end,

@@ -63,7 +63,7 @@ fn operate(
 
 /// Puts a value in the place of the two on top.
 #[inline(always)]
-fn put_for_two(value: Option<Value>, store: &mut Store<'_>) -> Result<End, Memory>
+pub(crate) fn put_for_two(value: Option<Value>, store: &mut Store<'_>) -> Result<End, Memory>
     requires few { store.old.core.now.at + 1 < 2 ^ 64 }
     requires two { AreTwo store.old.core.now.operands }
     ensures { IfOk result (λ end. PutsForTwo store.old (part value) store.new end) }
@@ -87,7 +87,7 @@ fn put_for_one(value: Option<Value>, store: &mut Store<'_>) -> Result<End, Memor
 
 /// The same, whatever the operands are.
 #[inline(never)]
-fn operate_any(
+pub(crate) fn operate_any(
     what: Operator,
     count: u32,
     line: u32,

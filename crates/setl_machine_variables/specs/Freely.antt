@@ -1,14 +1,17 @@
 -- Operators that charge nothing.
-use Rattle.std.specs.Prelude.{◌≡◌, ℕ, List, [], ◌∷◌, drop, Some, None}
+use Rattle.std.specs.Prelude.{◌≡◌, ℕ, Bool, true, false, List, [], ◌∷◌, drop, Some, None}
 use Rattle.setl_value.specs.Datum.{Datum}
 use Rattle.setl_operators_table.specs.declared.Operator.{Operator}
 use Rattle.setl_operators_table.specs.Operators.{op_of, operand_count}
 use Rattle.setl_operators_table.specs.Outcome.{Gives}
 use Rattle.setl_model_runs.specs.Variable.{Variable}
 use Rattle.setl_model.specs.Step.{declared_mode}
-use Rattle.setl_code.specs.Code.{Bracket, Alteration, Combining}
+use Rattle.setl_code.specs.Code.{Instr, Bracket, Alteration, Combining}
 use Rattle.setl_code.specs.CodeCore.{There, Operand, Result as Holds, CodeCore, held}
+use Rattle.setl_store.specs.Standing.{Standing}
 use Rattle.setl_machine_control.specs.Declaring.{Modes}
+use Rattle.setl_machine_control.specs.Working.{WorksBy}
+use Rattle.setl_machine_control.specs.declared.end.End.TheVariants as end
 
 -- the operator has two operands, and of these it gives that for no turn, however many are left
 abbrev pub GivesFreely : Operator → (a b d : Datum) → Type 0
@@ -25,3 +28,8 @@ InPlace o x k d = (a : Datum) × (b : Datum) × (held x k ≡ There (Some a)) ×
 -- an update without selectors combines so, and the variable isn't declared
 abbrev pub AltersFreely : Modes → Alteration → Variable → List Bracket → CodeCore → Datum → Type 0
 AltersFreely modes what x bs k d = (declared_mode modes x ≡ None) × (bs ≡ []) × ((o : Operator) × (what ≡ Combining o) × InPlace o x k d)
+
+-- the instruction was done and the run goes on, or all is as before
+abbrev pub WorksOrLeaves : Modes → Standing → ℕ → Instr → Standing → Bool → Type 0
+WorksOrLeaves modes old line what new true = WorksBy modes old line what new end.Paused
+WorksOrLeaves modes old line what new false = new ≡ old

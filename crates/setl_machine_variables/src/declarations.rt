@@ -87,6 +87,7 @@ impl<'p> Declarations<'p> {
     }
 
     /// The place of the declaration of a slot's variable.
+    #[inline(never)]
     fn place(&self, slot: Slot, store: &Store<'_>) -> Option<u32>
         requires { Serves self.now store.now.code }
         ensures { result ≡ place_of (modes_of self.now) (plain_slot (variables store.now.core) slot) }

@@ -22,7 +22,7 @@ use setl_value::Value;
 
 /// Does an update: an integer of an undeclared variable is combined with an integer at once, and else it is `alter`.
 /// The error is want of memory.
-#[inline]
+#[inline(always)]
 pub fn update(
     what: Alteration,
     slot: Slot,
@@ -41,12 +41,34 @@ pub fn update(
 {
     match new_integer(what, slot, brackets, declarations, store) {
         Some(value) => put_in_place(value, slot, store),
-        None => Ok(alter(what, slot, brackets, line, declarations, store, control)?.end),
+        None => update_any(what, slot, brackets, line, declarations, store, control),
     }
+}
+
+/// Does an update by `alter`. The error is want of memory.
+#[inline(always)]
+fn update_any(
+    what: Alteration,
+    slot: Slot,
+    brackets: &[Bracket],
+    line: u32,
+    declarations: &Declarations<'_>,
+    store: &mut Store<'_>,
+    control: &mut Control,
+) -> Result<End, Memory>
+    requires few { store.old.core.now.at + 1 < 2 ^ 64 }
+    requires there { HasSlot (length store.old.core.globals) (length store.old.core.now.own) slot }
+    requires can { CanAlter what }
+    requires serves { Serves declarations.now store.old.code }
+    ensures did { IfOk result (λ end. DoesBy (modes_of declarations.now) store.old control.old line (Alter (plain_alteration what) (plain_slot (variables store.old.core) slot) (map plain_bracket brackets.now)) store.new control.new end) }
+    ensures reader { control.new.reader ≡ control.old.reader }
+{
+    Ok(alter(what, slot, brackets, line, declarations, store, control)?.end)
 }
 
 /// The integer that an update without selectors makes of an undeclared variable's integer and the one on top; None where
 /// it is another update.
+#[inline(always)]
 fn new_integer(
     what: Alteration,
     slot: Slot,
@@ -79,6 +101,7 @@ fn new_integer(
 }
 
 /// Drops the top, and puts a value in a variable's slot.
+#[inline(always)]
 fn put_in_place(value: Value, slot: Slot, store: &mut Store<'_>) -> Result<End, Memory>
     requires few { store.old.core.now.at + 1 < 2 ^ 64 }
     requires there { HasSlot (length store.old.core.globals) (length store.old.core.now.own) slot }

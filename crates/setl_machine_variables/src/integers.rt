@@ -13,7 +13,7 @@ use setl_store::Store;
 use setl_value::Value;
 
 /// What an operator gives of the two values on top, where these are integers and it charges nothing.
-#[inline]
+#[inline(always)]
 pub fn freely_of_top(what: Operator, store: &Store<'_>) -> Option<Value>
     ensures { IfSome result (λ v. OnTop what store.now.core.now.operands (datum v)) }
 {
@@ -35,6 +35,7 @@ pub(crate) fn freely(what: Operator, a: &Value, b: &Value) -> Option<Value>
 }
 
 /// What an operator gives of two integers, where it has two operands, charges nothing and doesn't fail.
+#[inline(always)]
 fn freely_of(what: Operator, a: i128, b: i128) -> Option<Value>
     ensures { IfSome result (λ v. GivesFreely what (int a) (int b) (datum v)) }
 {

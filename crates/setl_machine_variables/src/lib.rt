@@ -11,4 +11,4 @@ pub use altering::{Updated, alter};
 pub use declarations::Declarations;
 pub use in_place::update;
 pub use integers::freely_of_top;
-pub use variables::{load, push, push_integer, push_text, store_in, take};
+pub use variables::{load, push, push_integer, push_text, store_at_once, store_in, take};

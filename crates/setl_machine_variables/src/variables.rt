@@ -1,14 +1,16 @@
 //! Instructions that push a value, and those on variables.
 
-ghost use Rattle.std.specs.Prelude.{ℕ, ◌<◌, ◌+◌, ◌^◌, length, Some, IfOk};
+ghost use Rattle.std.specs.Prelude.{◌≡◌, ◌∷◌, ℕ, ◌<◌, ◌+◌, ◌^◌, drop, length, Some, IfOk, IfSome};
 ghost use Rattle.setl_code.specs.Code.{Push, Load, Take, StoreIn};
+ghost use Rattle.setl_code.specs.CodeCore.{Result as Holds};
 ghost use Rattle.setl_code.specs.MayRun.{HasSlot};
 ghost use Rattle.setl_code.specs.Plain.{plain_slot};
 ghost use Rattle.setl_store.specs.Standing.{variables};
 ghost use Rattle.setl_value.specs.Datum.{int, text};
-ghost use Rattle.setl_value.specs.code.DatumOf.{part};
+ghost use Rattle.setl_value.specs.code.DatumOf.{datum, part};
 ghost use Rattle.setl_machine_control.specs.Declaring.{modes_of, Serves};
 ghost use Rattle.setl_machine_control.specs.Working.{Works, WorksBy};
+ghost use Rattle.setl_machine_variables.specs.Freely.{WorksOrLeaves};
 
 use crate::declarations::Declarations;
 use setl_code::{Literal, Slot};
@@ -31,7 +33,7 @@ pub fn push(value: Option<Value>, store: &mut Store<'_>) -> Result<End, Memory>
 }
 
 /// Pushes an integer. The error is want of memory.
-#[inline]
+#[inline(always)]
 pub fn push_integer(value: &Literal, store: &mut Store<'_>) -> Result<End, Memory>
     requires { store.old.core.now.at + 1 < 2 ^ 64 }
     ensures { (line : ℕ) → IfOk result (λ end. Works store.old line (Push (Some (int value.now))) store.new end) }
@@ -54,7 +56,7 @@ pub fn push_text(alloc: Global, bytes: &Name, store: &mut Store<'_>) -> Result<E
 }
 
 /// Pushes what a variable holds. The run is stuck where that was taken. The error is want of memory.
-#[inline]
+#[inline(always)]
 pub fn load(slot: Slot, store: &mut Store<'_>) -> Result<End, Memory>
     requires few { store.old.core.now.at + 1 < 2 ^ 64 }
     requires there { HasSlot (length store.old.core.globals) (length store.old.core.now.own) slot }
@@ -116,5 +118,42 @@ pub fn store_in(
             go_on(store);
             Ok(End::Paused)
         }
+    }
+}
+
+/// Pops an integer or a truth value into a variable that isn't declared. Its answer is whether such a value was on top and
+/// the variable isn't declared, and else all is as before. The error is want of memory.
+#[inline(always)]
+pub fn store_at_once(
+    slot: Slot,
+    declarations: &Declarations<'_>,
+    store: &mut Store<'_>,
+) -> Result<bool, Memory>
+    requires few { store.old.core.now.at + 1 < 2 ^ 64 }
+    requires there { HasSlot (length store.old.core.globals) (length store.old.core.now.own) slot }
+    requires serves { Serves declarations.now store.old.code }
+    ensures { (line : ℕ) → IfOk result (λ done. WorksOrLeaves (modes_of declarations.now) store.old line (StoreIn (plain_slot (variables store.old.core) slot)) store.new done) }
+{
+    let None = declarations.of_slot(slot, store) else {
+        return Ok(false);
+    };
+    let Some(value) = small_on_top(store) else {
+        return Ok(false);
+    };
+    store.drop_top()?;
+    store.set_slot(slot, Some(value))?;
+    go_on(store);
+    Ok(true)
+}
+
+/// The integer or truth value on top; None where something else or nothing is there.
+#[inline(always)]
+fn small_on_top(store: &Store<'_>) -> Option<Value>
+    ensures { IfSome result (λ value. store.now.core.now.operands ≡ Holds (Some (datum value)) ∷ drop 1 store.now.core.now.operands) }
+{
+    match store.one() {
+        Some(Value::Int(z)) => Some(Value::Int(*z)),
+        Some(Value::Bool(truth)) => Some(Value::Bool(*truth)),
+        _ => None,
     }
 }

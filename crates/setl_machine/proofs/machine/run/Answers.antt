@@ -1,7 +1,11 @@
 use Rattle.std.proofs.Common.{◌≡◌, ◌∙◌, ◌+◌, refl, sym, ap, subst, arith}
 use Rattle.setl_code.specs.Plain.{plain_code}
+use Rattle.setl_text.specs.code.Reads.{ReaderState, StaysHonest}
 use Rattle.setl_machine_control.specs.Declaring.{modes_of, Serves}
+use Rattle.setl_machine_control.specs.declared.end.End.{End}
 use Rattle.setl_machine_control.specs.declared.end.End.TheVariants.{Paused}
+use Rattle.setl_machine.specs.Outcome.{RanQuietly}
+use Rattle.setl_machine.proofs.AtOnce.{then_quietly}
 use Rattle.setl_machine.proofs.Rounds.{moment, Runs, runs_on, runs_longer, takes_then, honest_then}
 use Rattle.setl_machine.proofs.machine.run.Goals as goal
 
@@ -9,38 +13,76 @@ pub loop-done-preserved : goal.loop-done-preserved
 loop-done-preserved g c =
     let s = c.args.store.now in
     let l = c.loop-done in
-    let n = c.step.new in
     let i = l.invariant in
-    let a = c.in-Paused.ensures in
+    let q = c.run_quietly-quiet in
+    let modes = modes_of c.args.declarations.now in
     let old = moment s.core c.args.control.now (g.O.Sink.held c.args.out.now) (g.O.Sink.faults c.args.out.now) (g.I.Source.faults c.args.input.now) (g.I.Source.left c.args.input.now) in
     let mid = moment l.store.core l.control (g.O.Sink.held l.out) (g.O.Sink.faults l.out) (g.I.Source.faults l.input) (g.I.Source.left l.input) in
+    let there = moment q.new.store.core q.new.control (g.O.Sink.held l.out) (g.O.Sink.faults l.out) (g.I.Source.faults l.input) (g.I.Source.left l.input) in
+    let honest = subst (λ (r : ReaderState). StaysHonest old.control.reader.ended old.left r.ended mid.left) (sym q.ensures.reader) i.honest in
+    let code = q.ensures.code c.in-Paused.is ∙ i.code in
+    let came = then_quietly modes (plain_code s.code) (plain_code l.store.code) l.done q.result.done old mid there Paused (ap plain_code i.code) i.ran refl refl q.ensures.reader
+    (subst (λ (e : End). RanQuietly modes (plain_code l.store.code) q.result.done l.store.core l.control q.new.store.core q.new.control e) c.in-Paused.is q.ensures.ran) in
+    let n = c.step.new in
     let new = moment n.store.core n.control (g.O.Sink.held n.out) (g.O.Sink.faults n.out) (g.I.Source.faults n.input) (g.I.Source.left n.input) in
+    let a = c.in-Paused-step.ensures in
     record {
-      ran = runs_on (modes_of c.args.declarations.now) (plain_code s.code) (plain_code l.store.code) l.done old mid new Paused (ap plain_code i.code) i.ran a.did a.reads a.prints a.reads_only;
-      code = a.code refl ∙ i.code;
+      ran = runs_on modes (plain_code s.code) (plain_code q.new.store.code) (l.done + q.result.done) old there new Paused (ap plain_code code) came a.did a.reads a.prints a.reads_only;
+      code = a.code refl ∙ code;
       no_fault = a.goes_on refl;
-      took = takes_then old.left mid.left new.left i.took a.took;
-      honest = honest_then old.control.reader.ended mid.control.reader.ended new.control.reader.ended old.left mid.left new.left i.took i.honest a.honest;
+      took = takes_then old.left there.left new.left i.took a.took;
+      honest = honest_then old.control.reader.ended there.control.reader.ended new.control.reader.ended old.left there.left new.left i.took honest a.honest;
       within = omega arith;
     }
 
+-- an end without the outside
 pub returns-in_default : goal.returns-in_default
 returns-in_default g c =
     let s = c.args.store.now in
     let l = c.loop-done in
-    let n = c.step.new in
     let i = l.invariant in
-    let a = c.step.ensures in
+    let q = c.run_quietly-quiet in
+    let modes = modes_of c.args.declarations.now in
     let old = moment s.core c.args.control.now (g.O.Sink.held c.args.out.now) (g.O.Sink.faults c.args.out.now) (g.I.Source.faults c.args.input.now) (g.I.Source.left c.args.input.now) in
     let mid = moment l.store.core l.control (g.O.Sink.held l.out) (g.O.Sink.faults l.out) (g.I.Source.faults l.input) (g.I.Source.left l.input) in
-    let new = moment n.store.core n.control (g.O.Sink.held n.out) (g.O.Sink.faults n.out) (g.I.Source.faults n.input) (g.I.Source.left n.input) in
+    let there = moment q.new.store.core q.new.control (g.O.Sink.held l.out) (g.O.Sink.faults l.out) (g.I.Source.faults l.input) (g.I.Source.left l.input) in
+    let honest = subst (λ (r : ReaderState). StaysHonest old.control.reader.ended old.left r.ended mid.left) (sym q.ensures.reader) i.honest in
     let ne = c.in_default.not-Paused in
     record {
-      ran = runs_longer (modes_of c.args.declarations.now) (plain_code s.code) (l.done + 1) c.args.steps old new c.step.result ne (omega arith) (runs_on (modes_of c.args.declarations.now) (plain_code s.code) (plain_code l.store.code) l.done old mid new c.step.result (ap plain_code i.code) i.ran a.did a.reads a.prints a.reads_only);
+      ran = runs_longer modes (plain_code s.code) (l.done + q.result.done) c.args.steps old there q.result.end ne (omega arith)
+          (then_quietly modes (plain_code s.code) (plain_code l.store.code) l.done q.result.done old mid there q.result.end (ap plain_code i.code) i.ran refl refl q.ensures.reader q.ensures.ran);
       code = λ e. absurd (ne e);
       goes_on = λ e. absurd (ne e);
-      took = takes_then old.left mid.left new.left i.took a.took;
-      honest = honest_then old.control.reader.ended mid.control.reader.ended new.control.reader.ended old.left mid.left new.left i.took i.honest a.honest;
+      took = i.took;
+      honest = honest;
+    }
+
+-- an end at a step
+pub returns-in_default-step : goal.returns-in_default-step
+returns-in_default-step g c =
+    let s = c.args.store.now in
+    let l = c.loop-done in
+    let i = l.invariant in
+    let q = c.run_quietly-quiet in
+    let modes = modes_of c.args.declarations.now in
+    let old = moment s.core c.args.control.now (g.O.Sink.held c.args.out.now) (g.O.Sink.faults c.args.out.now) (g.I.Source.faults c.args.input.now) (g.I.Source.left c.args.input.now) in
+    let mid = moment l.store.core l.control (g.O.Sink.held l.out) (g.O.Sink.faults l.out) (g.I.Source.faults l.input) (g.I.Source.left l.input) in
+    let there = moment q.new.store.core q.new.control (g.O.Sink.held l.out) (g.O.Sink.faults l.out) (g.I.Source.faults l.input) (g.I.Source.left l.input) in
+    let honest = subst (λ (r : ReaderState). StaysHonest old.control.reader.ended old.left r.ended mid.left) (sym q.ensures.reader) i.honest in
+    let code = q.ensures.code c.in-Paused.is ∙ i.code in
+    let came = then_quietly modes (plain_code s.code) (plain_code l.store.code) l.done q.result.done old mid there Paused (ap plain_code i.code) i.ran refl refl q.ensures.reader
+    (subst (λ (e : End). RanQuietly modes (plain_code l.store.code) q.result.done l.store.core l.control q.new.store.core q.new.control e) c.in-Paused.is q.ensures.ran) in
+    let n = c.step.new in
+    let new = moment n.store.core n.control (g.O.Sink.held n.out) (g.O.Sink.faults n.out) (g.I.Source.faults n.input) (g.I.Source.left n.input) in
+    let a = c.step.ensures in
+    let ne = c.in_default-step.not-Paused in
+    record {
+      ran = runs_longer modes (plain_code s.code) (l.done + q.result.done + 1) c.args.steps old new c.step.result ne (omega arith)
+          (runs_on modes (plain_code s.code) (plain_code q.new.store.code) (l.done + q.result.done) old there new c.step.result (ap plain_code code) came a.did a.reads a.prints a.reads_only);
+      code = λ e. absurd (ne e);
+      goes_on = λ e. absurd (ne e);
+      took = takes_then old.left there.left new.left i.took a.took;
+      honest = honest_then old.control.reader.ended there.control.reader.ended new.control.reader.ended old.left there.left new.left i.took honest a.honest;
     }
 
 pub returns-clause-ran : goal.returns-clause-ran
@@ -53,4 +95,4 @@ returns-clause-ran g c =
     subst (λ n. Runs (modes_of c.args.declarations.now) (plain_code s.code) n old now Paused) all l.invariant.ran
 
 pub step-requires-clause-serves : goal.step-requires-clause-serves
-step-requires-clause-serves g c = subst (λ d. Serves c.args.declarations.now d) (sym c.loop-done.invariant.code) c.requires.serves
+step-requires-clause-serves g c = subst (λ d. Serves c.args.declarations.now d) (sym (c.run_quietly-quiet.ensures.code c.in-Paused.is ∙ c.loop-done.invariant.code)) c.requires.serves

@@ -1,0 +1,110 @@
+//! Runs of instructions that neither read nor write.
+
+ghost use Rattle.std.specs.Prelude.{◌≡◌, ◌≤◌, ◌<◌, ◌+◌, ◌^◌, length};
+ghost use Rattle.setl_code.specs.MayRun.{InstrFits};
+ghost use Rattle.setl_code.specs.Plain.{plain_code, plain_instr};
+ghost use Rattle.setl_store.specs.Standing.{variables};
+ghost use Rattle.setl_machine_control.specs.Declaring.{modes_of, Serves};
+ghost use Rattle.setl_machine.specs.Outcome.{RanQuietly};
+ghost use Rattle.setl_machine.specs.Working.{DoesOrLeaves, StepsOrLeaves};
+ghost use Rattle.setl_machine_control.specs.declared.end.End.{End};
+
+use crate::at_once::at_once;
+use crate::dispatch::quiet_step;
+use crate::families::{Family, family_of};
+use setl_code::Instr;
+use setl_machine_control::{Control, End};
+use setl_machine_variables::Declarations;
+use setl_store::Store;
+
+/// How many instructions were done, and how the run stands then.
+#[derive(Clone, Copy)]
+pub(crate) struct Progress {
+    pub done: u64,
+    pub end: End,
+}
+
+/// Does the next instructions that neither read nor write, at most `steps` of them. `Paused` comes where so many were done,
+/// or one that reads or writes is the next.
+#[inline(never)]
+pub(crate) fn run_quietly(
+    declarations: &Declarations<'_>,
+    store: &mut Store<'_>,
+    control: &mut Control,
+    steps: u64,
+) -> Progress
+    requires serves { Serves declarations.now store.old.code }
+    ensures ran { RanQuietly (modes_of declarations.now) (plain_code store.old.code) result.done store.old.core control.old store.new.core control.new result.end }
+    ensures most { result.done ≤ steps }
+    ensures code { result.end ≡ End.Paused → store.new.code ≡ store.old.code }
+    ensures reader { control.new.reader ≡ control.old.reader }
+{
+    let mut done = 0;
+    while done < steps {
+        match one_quietly(declarations, store, control) {
+            Ok(true) => done += 1,
+            Ok(false) => {
+                return Progress {
+                    done,
+                    end: End::Paused,
+                };
+            }
+            Err(end) => {
+                return Progress {
+                    done: done + 1,
+                    end,
+                };
+            }
+        }
+    }
+    Progress {
+        done,
+        end: End::Paused,
+    }
+}
+
+/// Does the next instruction if it neither reads nor writes. Its answer is whether it did so and the run goes on, and else
+/// all is as before. The error is how the run ended, which is never `Paused`.
+#[inline(always)]
+fn one_quietly(
+    declarations: &Declarations<'_>,
+    store: &mut Store<'_>,
+    control: &mut Control,
+) -> Result<bool, End>
+    requires serves { Serves declarations.now store.old.code }
+    ensures did { StepsOrLeaves (modes_of declarations.now) store.old control.old store.new control.new result }
+    ensures reader { control.new.reader ≡ control.old.reader }
+{
+    let Some(step) = store.step() else {
+        return Err(End::Stuck);
+    };
+    match at_once(&step.what, step.line, declarations, store, control) {
+        Ok(true) => Ok(true),
+        Ok(false) => else_quietly(&step.what, step.line, declarations, store, control),
+        Err(end) => Err(end),
+    }
+}
+
+/// The same without the common instructions first.
+#[inline(always)]
+fn else_quietly(
+    what: &Instr,
+    line: u32,
+    declarations: &Declarations<'_>,
+    store: &mut Store<'_>,
+    control: &mut Control,
+) -> Result<bool, End>
+    requires few { store.old.core.now.at + 1 < 2 ^ 64 }
+    requires fits { InstrFits (length store.old.core.globals) (length store.old.core.now.own) what.now }
+    requires serves { Serves declarations.now store.old.code }
+    ensures did { DoesOrLeaves (modes_of declarations.now) store.old control.old line (plain_instr (variables store.old.core) what.now) store.new control.new result }
+    ensures reader { control.new.reader ≡ control.old.reader }
+{
+    match family_of(what) {
+        Family::Outside => Ok(false),
+        _ => match quiet_step(what, line, declarations, store, control) {
+            End::Paused => Ok(true),
+            end => Err(end),
+        },
+    }
+}

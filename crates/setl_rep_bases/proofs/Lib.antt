@@ -1,0 +1,4 @@
+pub mod Ids
+pub mod Tabled
+pub mod Blocks
+pub mod Reading

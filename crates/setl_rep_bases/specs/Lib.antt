@@ -1,0 +1,5 @@
+pub mod BaseId
+pub mod Bases
+pub mod Tables
+pub mod Keeping
+pub mod Reading

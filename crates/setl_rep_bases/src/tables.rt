@@ -1,0 +1,95 @@
+//! A table of instances.
+
+ghost use Rattle.std.specs.Prelude.{◌≡◌, ◌<◌, ◌≤◌, ◌^◌, length, IsSome, IfOk, OnOk, OnErr, None, Some};
+ghost use Rattle.setl_value.specs.code.DatumOf.{datum};
+ghost use Rattle.setl_base.specs.Base.{find};
+ghost use Rattle.setl_rep_bases.specs.Bases.{fresh};
+ghost use Rattle.setl_rep_bases.specs.Tables.{found, base_in, Alters, Puts, Stays, with_value, cut_to, undone_to, gone_as, not_gone};
+
+use crate::{BaseId, Memory};
+use setl_base::{Base, BaseMark, Elt};
+use setl_value::Value;
+use std::alloc::Global;
+use std::collections::BTreeMap;
+
+/// An instance of a base, which may be gone.
+#[derive(Drop)]
+pub struct Instance {
+    pub base: Base,
+    pub gone: bool,
+}
+
+pub(crate) type Table = BTreeMap<BaseId, Instance>;
+
+/// The base of an instance.
+pub(crate) fn base_at(table: &Table, i: BaseId) -> &Base
+    requires { IsSome (found table.now.entries i) }
+    ensures { result.now ≡ base_in (found table.now.entries i) }
+{
+    &table.get(&i).unwrap().base
+}
+
+/// Enters a value into an instance and gives its handle. Where memory is refused, the table is as before.
+pub(crate) fn enter(table: &mut Table, i: BaseId, v: Value) -> Result<Elt, Memory>
+    requires { IsSome (found table.old.entries i) }
+    ensures entered { OnOk result (Alters (with_value (datum v)) i table.old.entries table.new.entries) }
+    ensures handle { IfOk result (λ e. find (base_in (found table.new.entries i)) (datum v) ≡ Some e) }
+    ensures refused { OnErr result (Alters (λ x. x) i table.old.entries table.new.entries) }
+{
+    let instance = table.get_mut(&i).unwrap();
+    instance.base.enter(v)
+}
+
+/// Cuts an instance as `Base::back` does.
+pub(crate) fn back(table: &mut Table, i: BaseId, m: &BaseMark)
+    requires there { IsSome (found table.old.entries i) }
+    requires within { m.now.count ≤ length (base_in (found table.old.entries i)).members }
+    requires few_cuts { (base_in (found table.old.entries i)).cuts < 2 ^ 63 }
+    ensures { Alters (cut_to m.now.count) i table.old.entries table.new.entries }
+{
+    let instance = table.get_mut(&i).unwrap();
+    instance.base.back(m);
+}
+
+/// Cuts an instance as `Base::undo` does.
+pub(crate) fn undo(table: &mut Table, i: BaseId, m: &BaseMark)
+    requires there { IsSome (found table.old.entries i) }
+    requires within { m.now.count ≤ length (base_in (found table.old.entries i)).members }
+    ensures { Alters (undone_to m.now.count) i table.old.entries table.new.entries }
+{
+    let instance = table.get_mut(&i).unwrap();
+    instance.base.undo(m);
+}
+
+/// Has an instance gone, or not.
+pub(crate) fn set_gone(table: &mut Table, i: BaseId, gone: bool)
+    ensures { Alters (gone_as gone) i table.old.entries table.new.entries }
+{
+    if let Some(instance) = table.get_mut(&i) {
+        instance.gone = gone;
+    }
+}
+
+/// Takes out the instances that are gone.
+pub(crate) fn drop_gone(table: &mut Table)
+    ensures { (i : BaseId) → found table.new.entries i ≡ not_gone (found table.old.entries i) }
+{
+    table.retain(|_, instance| !instance.gone);
+}
+
+/// Puts in an instance without members. Where memory is refused, the table is as before.
+pub(crate) fn add(alloc: Global, table: &mut Table, i: BaseId) -> Result<(), Memory>
+    ensures added { OnOk result (Puts i (Some fresh) table.old.entries table.new.entries) }
+    ensures refused { OnErr result (Stays table.old.entries table.new.entries) }
+{
+    let base = Base::new(alloc)?;
+    table.insert(i, Instance { base, gone: false })?;
+    Ok(())
+}
+
+/// Takes an instance out.
+pub(crate) fn remove(table: &mut Table, i: BaseId)
+    ensures { Puts i None table.old.entries table.new.entries }
+{
+    table.remove(&i);
+}

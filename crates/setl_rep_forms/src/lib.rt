@@ -1,0 +1,8 @@
+//! Forms in which values are held over bases of element blocks.
+#![tactic(auto)]
+
+mod held;
+pub mod laws;
+
+pub use held::Held;
+pub use std::alloc::AllocError as Memory;
