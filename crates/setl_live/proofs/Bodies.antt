@@ -60,8 +60,8 @@ reads_fit g o ss fit at x m is reads =
     go what fits e = cc
 
 module _ (declared : List Variable) (vars : List (List ℕ)) (n : ℕ) (b : Body) (differ : Differ (own_variables n b.parameters b.names)) (fit : StepsFit (length vars) (length (own_variables n b.parameters b.names)) b.steps) (may : List Bool) (table : MayTake declared n b may) (marks : List Bool) (right : (at x : ℕ) (m : Node) → slice_get (map node b.steps) at ≡ Some m → m.access ≡ Read x → IsRight (map node b.steps) (handed b.parameters) marks at x) where
-  abbrev xs : Variables
-  xs = record { global = map Global vars; own = own_variables n b.parameters b.names }
+  abbrev variables : Variables
+  variables = record { global = map Global vars; own = own_variables n b.parameters b.names }
 
   abbrev whole : plain.Body
   whole = plain_body (map Global vars) n b
@@ -73,15 +73,15 @@ module _ (declared : List Variable) (vars : List (List ℕ)) (n : ℕ) (b : Body
   no h g = cc
 
   -- a load of an own slot
-  load_marked : (at j : ℕ) → j < length (own_variables n b.parameters b.names) → IsRight (map node b.steps) (handed b.parameters) marks at j → Marks declared n whole at (plain.Load (variable_at (own_variables n b.parameters b.names) j)) (plain_instr xs (marked (get_or marks at false) may (i.Load (slot.Own j))))
+  load_marked : (at j : ℕ) → j < length (own_variables n b.parameters b.names) → IsRight (map node b.steps) (handed b.parameters) marks at j → Marks declared n whole at (plain.Load (variable_at (own_variables n b.parameters b.names) j)) (plain_instr variables (marked (get_or marks at false) may (i.Load (slot.Own j))))
   load_marked at j within known = go (get_or marks at false) (not (get_or may j false)) refl refl
     where
-      go : (last is : Bool) → get_or marks at false ≡ last → not (get_or may j false) ≡ is → Marks declared n whole at (plain.Load (variable_at (own_variables n b.parameters b.names) j)) (plain_instr xs (cond (last && is) (i.Take (slot.Own j)) (i.Load (slot.Own j))))
+      go : (last is : Bool) → get_or marks at false ≡ last → not (get_or may j false) ≡ is → Marks declared n whole at (plain.Load (variable_at (own_variables n b.parameters b.names) j)) (plain_instr variables (cond (last && is) (i.Take (slot.Own j)) (i.Load (slot.Own j))))
       go true true last is = inl ((sym (table j within) ∙ is, λ read. known.0 last (subst (λ (a : ℕ). nodes.ReadLater (map node b.steps) (handed b.parameters) j a) (next_is at) (to_nodes vars n b differ fit j within (suc at) read))), refl)
       go true false last is = inr (λ uses. no (sym (table j within) ∙ is) uses.0, refl)
       go false is last may_ = inr (λ uses. uses.1 (from_nodes vars n b differ fit j within (suc at) (subst (λ (a : ℕ). nodes.ReadLater (map node b.steps) (handed b.parameters) j a) (sym (next_is at)) (known.1 last))), refl)
 
-  instr_marked : (at : ℕ) (s : Step) → slice_get b.steps at ≡ Some s → (what : Instr) → s.what ≡ what → InstrFits (length vars) (length (own_variables n b.parameters b.names)) what → Marks declared n whole at (plain_instr xs what) (plain_instr xs (marked (get_or marks at false) may what))
+  instr_marked : (at : ℕ) (s : Step) → slice_get b.steps at ≡ Some s → (what : Instr) → s.what ≡ what → InstrFits (length vars) (length (own_variables n b.parameters b.names)) what → Marks declared n whole at (plain_instr variables what) (plain_instr variables (marked (get_or marks at false) may what))
   instr_marked at s is (i.Load (slot.Own j)) e fits = load_marked at j fits (right at j (node s) (mapped_to node b.steps at s is) (ap access e))
   instr_marked at s is (i.Load (slot.Global j)) e fits = inr (λ uses. no (globals_stay declared vars j fits) uses.0, refl)
   instr_marked at s is what e fits = inr (λ uses. uses, refl)
@@ -90,12 +90,12 @@ module _ (declared : List Variable) (vars : List (List ℕ)) (n : ℕ) (b : Body
   body_marked ss all = record {
     rest = refl;
     steps = λ at.
-        subst (λ (p : Option plain.Step). MarksStep declared n whole at p (slice_get (map (plain_step xs) ss) at)) (sym (get_mapped (plain_step xs) b.steps at))
-        (subst (λ (p : Option plain.Step). MarksStep declared n whole at (option_map (plain_step xs) (slice_get b.steps at)) p) (sym (get_mapped (plain_step xs) ss at ∙ ap (option_map (plain_step xs)) (all at)))
+        subst (λ (p : Option plain.Step). MarksStep declared n whole at p (slice_get (map (plain_step variables) ss) at)) (sym (get_mapped (plain_step variables) b.steps at))
+        (subst (λ (p : Option plain.Step). MarksStep declared n whole at (option_map (plain_step variables) (slice_get b.steps at)) p) (sym (get_mapped (plain_step variables) ss at ∙ ap (option_map (plain_step variables)) (all at)))
         (go at (slice_get b.steps at) refl));
   }
     where
-      go : (at : ℕ) (o : Option Step) → slice_get b.steps at ≡ o → MarksStep declared n whole at (option_map (plain_step xs) o) (option_map (plain_step xs) (option_map (marked_step (get_or marks at false) may) o))
+      go : (at : ℕ) (o : Option Step) → slice_get b.steps at ≡ o → MarksStep declared n whole at (option_map (plain_step variables) o) (option_map (plain_step variables) (option_map (marked_step (get_or marks at false) may) o))
       go at None is = tt
       go at (Some s) is = (refl, instr_marked at s is s.what refl (fits_at _ _ b.steps at s fit is))
 

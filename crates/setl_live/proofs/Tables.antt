@@ -4,7 +4,7 @@ use Rattle.std.specs.Prelude.{◌&&◌, if◌then◌else◌, Option, Some}
 use Rattle.std.specs.Cmp.Lexicographic.{bytes_decides}
 use Rattle.setl_tree.specs.declared.tree.Param.{Param}
 use Rattle.setl_names.specs.Names.{Name, has, with_name}
-use Rattle.setl_model_runs.specs.Variable.{Variable, Global, Own, Bound, is_variable}
+use Rattle.setl_model_runs.specs.Variable.{Variable, Global, Own, Bound}
 use Rattle.setl_code.specs.declared.code.OwnName.{OwnName}
 use Rattle.setl_code.specs.declared.code.OwnName.TheVariants as name
 use Rattle.setl_code.specs.declared.code.Body.{Body}
