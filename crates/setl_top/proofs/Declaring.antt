@@ -1,5 +1,6 @@
 -- That the declarations of a program are those of variables of its main program, and that its main body has no parameters.
-use Rattle.std.proofs.Common.{◌≡◌, ◌∙◌, ℕ, zero, suc, Bool, true, false, ◌||◌, List, [], ◌∷◌, map, Option, None, Some, IfSome, if◌then◌else◌, refl, ap, subst, sym}
+use Rattle.std.proofs.Common.{◌≡◌, ◌∙◌, inl, inr, ℕ, zero, suc, nat_eq, bytes_eq, Bool, true, false, ◌&&◌, ◌||◌, List, [], ◌∷◌, map, Option, None, Some, IfSome, if◌then◌else◌, refl, ap, subst, sym, arith}
+use Rattle.std.proofs.lemmas.Bool.Decides.{eqb_tells}
 use Rattle.std.specs.Prelude.{slice_get}
 use Rattle.setl_model_runs.specs.Variable.{Variable, Global, Own, Bound, is_variable}
 use Rattle.setl_modes.specs.Modes.{Mode}
@@ -20,7 +21,7 @@ use Rattle.setl_code.specs.Plain.{plain_code}
 use Rattle.setl_code_marked.specs.Marked.{declared_in, MarksBodies}
 use Rattle.setl_live.specs.Slots.{OnlyMain}
 use Rattle.setl_store.specs.Standing.{Standing, started}
-use Rattle.setl_machine_control.specs.Declaring.{DeclarationTable, modes_of, IsOfMain, AreOfMain, IsBare, Serves}
+use Rattle.setl_machine_control.specs.Declaring.{Modes, DeclarationTable, modes_of, IsOfMain, AreOfMain, IsBare, Serves}
 use Rattle.setl_top.specs.Listings.{IsMarked}
 use Rattle.setl_top.specs.code.Runs.{IsMeant, counted}
 use Rattle.setl_top_words.specs.Words.{Options}
@@ -58,10 +59,16 @@ marked_is_bare declared (Some b) (Some d) h bare = ap (λ (x : Body). x.paramete
 pub code_is_bare : (p : Program) (c : Code) → IsMarked p c → IsBare c
 code_is_bare p c marked = marked_is_bare (declared_in p.modes) (slice_get (code_of p).bodies 0) (slice_get c.bodies 0) (marked.bodies 0) refl
 
+not_zero : (n : ℕ) → nat_eq (suc n) 0 ≡ false
+not_zero n = elim (eqb_tells (suc n) 0) [
+  | inl x ↦ absurd (omega (arith, x.1))
+  | inr x ↦ x.0
+]
+
 -- a variable of a procedure or a former isn't one of the main program
 not_procedures : (n : ℕ) (name : List ℕ) (y : Variable) → IsOfMain y → is_variable (Own (suc n) name) y ≡ false
 not_procedures n name (Global x) h = refl
-not_procedures n name (Own zero x) h = refl
+not_procedures n name (Own zero x) h = ap (λ b. b && bytes_eq name x) (not_zero n)
 not_procedures n name (Own (suc m) x) h = absurd h
 not_procedures n name (Bound former x) h = absurd h
 
