@@ -1,16 +1,16 @@
--- `f{x} with:= y`: the images are read, y is added to them, and they are put.
-use Rattle.std.proofs.Common.{◌≡◌, ◌∙◌, ap, sym, refl, ℕ, ◌-◌, ◌+◌, Bool, true, false, List, [], ◌∷◌, Option, Some, arith}
+-- `f{x} with:= y` and `f{x} less:= y`: the images are read, y is added to them or taken out, and they are put.
+use Rattle.std.proofs.Common.{◌≡◌, ◌∙◌, ◌<◌, ap, sym, refl, ℕ, ◌-◌, ◌+◌, Bool, true, false, List, [], ◌∷◌, Option, Some, arith}
 use Rattle.std.specs.Prelude.{nat_le}
 use Rattle.std.specs.Bool.{if◌then◌else◌}
 use Rattle.std.proofs.lemmas.Bool.Decides.{nat_tests}
-use Rattle.setl_value.specs.Datum.{Datum, set, Elements, depth, set_of, element_list, element_list-elements_of}
+use Rattle.setl_value.specs.Datum.{Datum, set, Elements, depth, set_of, elements_of, element_list, element_list-elements_of}
 use Rattle.setl_value.specs.Pairs.{is_map, images}
-use Rattle.setl_set.specs.Sets.{insert_datum}
-use Rattle.setl_operators_table.specs.declared.Operator.TheVariants.{With, PutImages}
+use Rattle.setl_set.specs.Sets.{insert_datum, remove_datum}
+use Rattle.setl_operators_table.specs.declared.Operator.TheVariants.{With, Less, PutImages}
 use Rattle.setl_map.specs.Laws.{ImagesAreShallower}
 use Rattle.setl_map.specs.Maps.{put_images}
 use Rattle.setl_operators_table.specs.Outcome.{Outcome, Gives, Fails, Overspends, DeepFault, KindFault, adding, then_with, value, set_value, within_depth}
-use Rattle.setl_operators_table.specs.Collections.{on_map, with_datum}
+use Rattle.setl_operators_table.specs.Collections.{on_map, with_datum, less_datum}
 use Rattle.setl_operators_table.specs.Operators.{op_of}
 use Rattle.setl_operators_table.specs.Puts.{add_image}
 use Rattle.setl_model.specs.Core.{Brace}
@@ -58,3 +58,31 @@ of_map law ms x y left false h = refl
 pub one_image_more : ImagesAreShallower → (d x y : Datum) (left : ℕ) → combined (Brace (Some x) ∷ []) (Some d) (λ p now. op_of With (p ∷ Some y ∷ []) now) left ≡ add_image d x y
 one_image_more law (set ms) x y left = of_map law ms x y left (is_map (element_list ms)) refl
 one_image_more law d x y left = refl
+
+-- ---- one less
+
+puts_less : (ms : Elements) (x y : Datum) (left : ℕ) → is_map (element_list ms) ≡ true
+    → combined (Brace (Some x) ∷ []) (Some (set ms)) (λ p now. op_of Less (p ∷ Some y ∷ []) now) left
+    ≡ within_depth (set_of (put_images x (remove_datum y (images x (element_list ms))) (element_list ms)))
+puts_less ms x y left h =
+    let ys = images x (element_list ms) in
+    let zs = remove_datum y ys in
+    ap (λ b. then_with (if b then set_value ys else Fails KindFault) left (λ p now. then_with (op_of Less (p ∷ Some y ∷ []) now) now (puts ms x))) h
+    ∙ no_charge (then_with (less_datum (set_of ys) y) (left - 0) (puts ms x))
+    ∙ ap (λ l. then_with (set_value (remove_datum y l)) (left - 0) (puts ms x)) (element_list-elements_of ys)
+    ∙ no_charge (puts ms x (Some (set_of zs)) (left - 0 - 0))
+    ∙ puts_images ms x zs (left - 0 - 0) h
+
+shallow : (d : Datum) → depth d < 501 → within_depth d ≡ value d
+shallow d h =
+    let small : nat_le (depth d) 500 ≡ true = grind (arith, nat_tests) in
+    ap (λ b. if b then value d else Fails DeepFault) small
+
+-- where the map without the pair of x and y is `left_over`
+pub one_image_less : (f left_over : List Datum) (x y : Datum) (left : ℕ) → is_map f ≡ true → left_over ≡ put_images x (remove_datum y (images x f)) f → depth (set_of left_over) < 501
+    → combined (Brace (Some x) ∷ []) (Some (set_of f)) (λ p now. op_of Less (p ∷ Some y ∷ []) now) left ≡ value (set_of left_over)
+one_image_less f left_over x y left h e small =
+    puts_less (elements_of f) x y left (ap is_map (element_list-elements_of f) ∙ h)
+    ∙ ap (λ l. within_depth (set_of (put_images x (remove_datum y (images x l)) l))) (element_list-elements_of f)
+    ∙ ap (λ l. within_depth (set_of l)) (sym e)
+    ∙ shallow (set_of left_over) small

@@ -5,6 +5,7 @@
 //! and `part_at_all` with `take_out`. Of several faults the first on the way is told, and the whole is then as before.
 #![tactic(auto)]
 
+mod one_image;
 mod one_part;
 mod selectors;
 mod taking;

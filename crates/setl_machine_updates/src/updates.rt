@@ -10,6 +10,7 @@ ghost use Rattle.setl_model.specs.Places.{with_part_at_all, combined};
 ghost use Rattle.setl_machine_updates.specs.Selectors.{selected};
 ghost use Rattle.setl_machine_updates.specs.Updates.{Updates};
 
+use crate::one_image::remove_image;
 use crate::one_part::combine_there;
 use crate::selectors::{Selector, apply, part_at, put_part};
 use setl_map::laws::images_are_shallower;
@@ -98,6 +99,12 @@ fn combine_part(
     match (what, at, value) {
         (Operator::With, Selector::Brace(Some(x)), Some(y)) => {
             combine_images(alloc, whole, x, y, turns)
+        }
+        (Operator::Less, Selector::Brace(Some(x)), Some(y)) => {
+            match remove_image(alloc, whole, x, y, turns)? {
+                Some(left) => Ok(left),
+                None => combine_copy(alloc, what, whole, at, value, turns),
+            }
         }
         (_, Selector::Round(Some(x)), Some(y)) => {
             match combine_there(alloc, what, whole, x, y, turns)? {
