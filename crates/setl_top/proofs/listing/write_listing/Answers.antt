@@ -9,4 +9,4 @@ returns-in_default g c =
     record { text = some.0; is_listing = some.1; written = rw c.break_off.ensures.tried.0 (no_text refl c.break_off.ensures.tried.1) }
 
 pub returns : goal.returns
-returns g c = record { text = c.in_ok-text.text.items; is_listing = c.in_ok-text.ensures; written = c.write_text.ensures }
+returns g c = record { text = c.in-Ok.text.items; is_listing = c.in-Ok.ensures; written = rw c.deref.ensures.value at c.write_text.ensures }
