@@ -163,23 +163,20 @@ module _ (words : List (List ℕ)) (before after : Outside) (heard : Watched) (a
 
   -- it was broken off
   run_unread : RunsToRead (program_of tree) asked from to → CountRose before.input after.input → CountStays before.output after.output → CountStays before.files after.files → AppendsFront before.error_output.held after.error_output.held (fault_line fault.Read) → ReadFailed words before after
-  run_unread x rose still f h =
-      let reading = record { job = job_of asked tree x.input before; asked = to_be_run x.input x.known; at = x.at } in
-      record {
-        out = x.out;
-        cause = read_failed x.out (record { rose = rose; reading = reading; files = f; output = still });
-        out_gained = x.gained;
-        err_gained = fault_alone before after fault.Read h;
-      }
+  run_unread x rose still f h = record {
+    out = x.out;
+    cause = read_failed x.out (record { rose = rose; reading = record { job = job_of asked tree x.input before; asked = to_be_run x.input x.known; at = x.at }; files = f; output = still });
+    out_gained = x.gained;
+    err_gained = fault_alone before after fault.Read h;
+  }
 
   run_unwritten : WritesInto (program_of tree) asked from to → CountRose before.output after.output → CountStays before.input after.input → CountStays before.files after.files → AppendsFront before.error_output.held after.error_output.held (fault_line fault.Write) → WriteFailed words before after
   run_unwritten w rose still f h =
       let x = w.into in
-      let printing = record { job = job_of asked tree x.input before; asked = to_be_run x.input x.known; at = x.at } in
       record {
         out = x.out ++ take x.n x.line;
         telling = [];
-        cause = print_failed x.out x.line x.n (record { rose = rose; printing = printing; part = x.part; leaves = w.left; files = f; input = still });
+        cause = print_failed x.out x.line x.n (record { rose = rose; printing = record { job = job_of asked tree x.input before; asked = to_be_run x.input x.known; at = x.at }; part = x.part; leaves = w.left; files = f; input = still });
         out_gained = x.gained;
         err_gained = fault_alone before after fault.Write h;
       }

@@ -28,7 +28,9 @@ failed_load_ends words before after Refused h more = absurd (steady before.files
 failed_load_ends words before after Words h more = absurd (steady before.files after.files h.quiet.files more)
 failed_load_ends words before after Stopped h more = absurd (steady before.files after.files h.quiet.files more)
 failed_load_ends words before after Spent h more = absurd (steady before.files after.files h.quiet.files more)
-failed_load_ends words before after ReadFault h more = (refl, load_read words before after h.out h.cause more)
+failed_load_ends words before after ReadFault h more =
+    let rest = load_read words before after h.out h.cause more in
+    (refl, rest.0, rest.1)
 failed_load_ends words before after WriteFault h more = absurd (steady before.files after.files (load_write words before after h.out h.telling h.cause) more)
 failed_load_ends words before after NoMemory h more = absurd (steady before.files after.files h.quiet.files more)
 
@@ -49,7 +51,9 @@ failed_read_ends words before after Refused h more = absurd (steady before.input
 failed_read_ends words before after Words h more = absurd (steady before.input after.input h.quiet.input more)
 failed_read_ends words before after Stopped h more = absurd (steady before.input after.input h.quiet.input more)
 failed_read_ends words before after Spent h more = absurd (steady before.input after.input h.quiet.input more)
-failed_read_ends words before after ReadFault h more = (refl, read_read words before after h.out h.cause more)
+failed_read_ends words before after ReadFault h more =
+    let rest = read_read words before after h.out h.cause more in
+    (refl, rest.0, rest.1)
 failed_read_ends words before after WriteFault h more = absurd (steady before.input after.input (read_write words before after h.out h.telling h.cause) more)
 failed_read_ends words before after NoMemory h more = absurd (steady before.input after.input h.quiet.input more)
 
@@ -71,5 +75,7 @@ failed_write_ends words before after Words h more = absurd (steady before.output
 failed_write_ends words before after Stopped h more = absurd (steady before.output after.output h.quiet.output more)
 failed_write_ends words before after Spent h more = absurd (steady before.output after.output h.quiet.output more)
 failed_write_ends words before after ReadFault h more = absurd (steady before.output after.output (write_read words before after h.out h.cause) more)
-failed_write_ends words before after WriteFault h more = (refl, write_write words before after h.out h.telling h.cause more)
+failed_write_ends words before after WriteFault h more =
+    let rest = write_write words before after h.out h.telling h.cause more in
+    (refl, rest.0, rest.1)
 failed_write_ends words before after NoMemory h more = absurd (steady before.output after.output h.quiet.output more)
