@@ -38,7 +38,7 @@ for_loop-returns t c =
 
 pub branches-loop-b-preserved : goal.branches-loop-b-preserved
 branches-loop-b-preserved t c = λ q.
-    branches_round c.args.leaves c.args.bs.now q c.loop-b.b-index c.b-item.result c.loop-b.overs c.branch-to.new.overs (held c.loop-b.emitter) (held c.branch-to.new.emitter) c.loop-b-test.true c.b-item.is c.in_ok-branch.ensures
+    branches_round c.args.leaves c.args.bs.now q c.loop-b.b-index c.b-item.result c.loop-b.overs c.branch-emitter.new.overs (held c.loop-b.emitter) (held c.branch-emitter.new.emitter) c.loop-b-test.true c.b-item.is c.in_ok-branch.ensures
     ∙ c.loop-b.invariant q
 
 pub branches-returns : goal.branches-returns
