@@ -40,6 +40,10 @@ popped_more n i vs v old new l e =
     ∙ popped_step (n - (i + 1)) (reverse (map part vs)) old (part v) new e
     ∙ ap (λ l. popped (n - (i + 1)) l new) (sym more)
 
+-- both were on top, the lower one below the upper one
+pub popped_two : (old mid new : List core.Operand) (upper lower : Option Datum) → top_of old ≡ Some (upper, mid) → top_of mid ≡ Some (lower, new) → popped 2 [] old ≡ Pops (lower ∷ upper ∷ []) new
+popped_two old mid new upper lower one other = popped_step 1 [] old upper mid one ∙ popped_step 0 (upper ∷ []) mid lower new other
+
 -- ---- whether there are so many
 
 lacks_by : (n : ℕ) (vs : List (Option Datum)) (w : Option (Option Datum)) (xs : List core.Operand) → ((us : List (Option Datum)) → has_values n xs ≡ false → popped n us xs ≡ Lacks) →
@@ -75,6 +79,13 @@ pub one_more_there : (n i : ℕ) (vs : List (Option Datum)) (old now : List core
 one_more_there n i vs old now l e is =
     let less : n - i ≡ suc (n - (i + 1)) = omega (arith, l) in
     some_top (n - (i + 1)) vs now (λ h. enough n [] old e (is ∙ ap (λ k. popped k vs now) less ∙ h))
+
+-- so both of two are
+pub upper_there : (xs : List core.Operand) → has_values 2 xs ≡ true → IsSome (top_of xs)
+upper_there xs e = one_more_there 2 0 [] xs xs (omega arith) e refl
+
+pub lower_there : (xs ys : List core.Operand) (upper : Option Datum) → has_values 2 xs ≡ true → top_of xs ≡ Some (upper, ys) → IsSome (top_of ys)
+lower_there xs ys upper e top = one_more_there 2 1 (upper ∷ []) xs ys (omega arith) e (popped_step 1 [] xs upper ys top)
 
 -- ---- the flat list of operands
 

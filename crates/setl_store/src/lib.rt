@@ -11,6 +11,7 @@ mod lent;
 mod operands;
 mod returning;
 mod store;
+mod two;
 mod values;
 
 pub use iterating::Ahead;

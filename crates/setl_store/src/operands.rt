@@ -71,7 +71,7 @@ impl<'c> Store<'c> {
     }
 
     // Whether so many results are on top. It takes no memory.
-    fn has_values(&self, count: usize) -> bool
+    pub(crate) fn has_values(&self, count: usize) -> bool
         ensures { result ≡ has_values count self.now.core.now.operands }
     {
         let operands = self.environment.operands();
