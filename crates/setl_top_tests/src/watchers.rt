@@ -225,6 +225,14 @@ impl Watcher for AtOnce {
             None => Err(AllocError),
         }
     }
+
+    fn count(&self) -> u64 {
+        u64::from(self.told)
+    }
+
+    fn aim(&mut self, _line: u32) {
+        self.told = 0;
+    }
 }
 
 /// One that was told nothing yet.

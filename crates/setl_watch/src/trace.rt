@@ -90,4 +90,12 @@ impl Watcher for Trace {
         let lines = self.lines()?;
         into.extend_from_slice(&lines)
     }
+
+    fn count(&self) -> u64 {
+        self.events.len() as u64
+    }
+
+    fn aim(&mut self, _line: u32) {
+        self.events.clear();
+    }
 }
