@@ -35,12 +35,12 @@ impl Model for Trace {
 }
 
 impl Trace {
-    /// No event, and room for all that it keeps. The error is want of memory.
+    /// No event. The error is want of memory.
     pub fn new(alloc: Global) -> Result<Trace, Memory>
         ensures { IfOk result (λ t. t ≡ []) }
     {
         Ok(Trace {
-            events: Vec::with_capacity(alloc, MOST)?,
+            events: Vec::with_capacity(alloc, 1)?,
             alloc,
         })
     }
