@@ -11,7 +11,7 @@ use Rattle.setl_operators_table.specs.Outcome.{Gives}
 use Rattle.setl_model_runs.specs.Run.{settle}
 use Rattle.setl_code.specs.Code.{Operate}
 use Rattle.setl_code.specs.Plain.{plain_code}
-use Rattle.setl_code.specs.CodeCore.{Operand, Result as Holds, Iterator, PairIterator, Collecting, Lacks, Pops, popped, CodeCore}
+use Rattle.setl_code.specs.CodeCore.{Operand, Result as Holds, Iterator, PairIterator, Collecting, Pops, popped, CodeCore}
 use Rattle.setl_code.specs.Machine.{machine, do_instr, next, at_step, on_popped, with_outcome}
 use Rattle.setl_store.specs.Operands.{IsPlainTop}
 use Rattle.setl_store.specs.Standing.{Standing, over, at_place, top_of}
@@ -125,43 +125,6 @@ operated_not old from line n o vs ys f (Ok e) pops told ends =
     let k = stood_for old.core from rest in
     subst (λ q. Halted (on_popped q (λ us xs. with_outcome (op_of o us from.turns) line k (λ u l. next (Holds u ∷ xs) l))) e) (sym pops)
     (halts_by f (op_of o vs from.turns) line k (λ u l. next (Holds u ∷ ys) l) e told ends))
-
--- ---- two operands that were taken off
-
--- so many operands as the operator has
-of_two : (n : ℕ) (o : Operator) → operand_count o ≡ Some 2 → TakesOperands o n → n ≡ 2
-of_two n o two takes = subst (λ c. IsCount c n) two takes
-
--- what an operator gives of them was pushed
-pub operated_pair : (old mid put new : Standing) (from to : ControlState) (line n charged : ℕ) (o : Operator) (a b v : Option Datum) → operand_count o ≡ Some 2 → TakesOperands o n →
-    popped 2 [] old.core.now.operands ≡ Pops (a ∷ b ∷ []) mid.core.now.operands → mid ≡ record old { core = over mid.core.now.operands old.core } →
-    op_of o (a ∷ b ∷ []) from.turns ≡ Gives v charged → to ≡ record from { turns = from.turns - charged } →
-    put ≡ record mid { core = over (Holds v ∷ mid.core.now.operands) mid.core } → new ≡ record put { core = at_place (suc put.core.now.at) put.core } → Does old from line (Operate o n) new to end.Paused
-operated_pair old mid put new from to line n charged o a b v two takes pops rest gives same p g =
-    let ys = mid.core.now.operands in
-    let put_is : put ≡ record old { core = over (Holds v ∷ ys) old.core } = p ∙ ap (λ (s : Standing). record s { core = over (Holds v ∷ ys) s.core }) rest in
-    operated old new from to line n charged o (a ∷ b ∷ []) ys v (ap (λ m. popped m [] old.core.now.operands) (of_two n o two takes) ∙ pops) gives same
-    (g ∙ ap (λ (s : Standing). record s { core = at_place (suc s.core.now.at) s.core }) put_is)
-
--- a fault of it
-pub pair_not : (old mid : Standing) (from : ControlState) (line n : ℕ) (o : Operator) (a b : Option Datum) (f : OpFault) (r : Result End AllocError) → operand_count o ≡ Some 2 → TakesOperands o n →
-    popped 2 [] old.core.now.operands ≡ Pops (a ∷ b ∷ []) mid.core.now.operands → mid ≡ record old { core = over mid.core.now.operands old.core } →
-    Tells (Err f) (op_of o (a ∷ b ∷ []) from.turns) → IfOk r (λ e. EndsBy f line e) → IfOk r (λ e. Does old from line (Operate o n) mid from e)
-pair_not old mid from line n o a b f (Err e) two takes pops rest told ends = tt
-pair_not old mid from line n o a b f (Ok e) two takes pops rest told ends =
-    let ys = mid.core.now.operands in
-    stops_with old mid from from line (Operate o n) ys e rest refl (λ more.
-    let k = stood_for old.core from more in
-    subst (λ q. Halted (on_popped q (λ us xs. with_outcome (op_of o us from.turns) line k (λ u l. next (Holds u ∷ xs) l))) e) (sym (ap (λ m. popped m [] old.core.now.operands) (of_two n o two takes) ∙ pops))
-    (halts_by f (op_of o (a ∷ b ∷ []) from.turns) line k (λ u l. next (Holds u ∷ ys) l) e told ends))
-
--- there are fewer
-pub pair_lacks : (old mid : Standing) (from : ControlState) (line n : ℕ) (o : Operator) → operand_count o ≡ Some 2 → TakesOperands o n →
-    popped 2 [] old.core.now.operands ≡ Lacks → mid ≡ record old { core = over mid.core.now.operands old.core } → Does old from line (Operate o n) mid from end.Stuck
-pair_lacks old mid from line n o two takes pops rest =
-    stops_with old mid from from line (Operate o n) mid.core.now.operands end.Stuck rest refl (λ more.
-    let k = stood_for old.core from more in
-    subst (λ q. Halted (on_popped q (λ us xs. with_outcome (op_of o us from.turns) line k (λ u l. next (Holds u ∷ xs) l))) end.Stuck) (sym (ap (λ m. popped m [] old.core.now.operands) (of_two n o two takes) ∙ pops)) refl)
 
 pub two_not : (old : Standing) (from : ControlState) (line n : ℕ) (o : Operator) (a b : Option Datum) (f : OpFault) (r : Result End AllocError) → operand_count o ≡ Some 2 → TakesOperands o n → old.core.now.operands ≡ Holds b ∷ Holds a ∷ drop 2 old.core.now.operands → Tells (Err f) (op_of o (a ∷ b ∷ []) from.turns) → IfOk r (λ e. EndsBy f line e) → IfOk r (λ e. Does old from line (Operate o n) old from e)
 two_not old from line n o a b f r two takes top told ends =

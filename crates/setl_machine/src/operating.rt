@@ -16,7 +16,7 @@ ghost use Rattle.setl_machine.specs.declared.families.Family.{Family};
 use setl_code::Instr;
 use setl_machine_control::{Control, End, end_by, go_on};
 use setl_machine_variables::freely_of_top;
-use setl_operators::{Operator, op, op_one, op_pair, op_two};
+use setl_operators::{Operator, op, op_one, op_two};
 use setl_store::Store;
 use setl_store_environment::Memory;
 use setl_value::Value;
@@ -101,13 +101,12 @@ pub(crate) fn operate_any(
 {
     match what.operand_count() {
         Some(1) => operate_on_one(what, count, line, store, control),
-        Some(2) if uses_up(what) => operate_on_pair(what, count, line, store, control),
-        Some(2) => operate_on_two(what, count, line, store, control),
+        Some(2) if !uses_up(what) => operate_on_two(what, count, line, store, control),
         _ => operate_listed(what, count, line, store, control),
     }
 }
 
-/// Whether an operator changes an operand in place where it is handed over.
+/// Whether an operator with two operands changes one of them in place where it is handed over.
 fn uses_up(what: Operator) -> bool {
     matches!(
         what,
@@ -164,35 +163,6 @@ fn operate_on_two(
             put_for_two(answer.value, store)
         }
         Err(fault) => end_by(fault, line),
-    }
-}
-
-/// The same of an operator with two operands, which are handed over.
-fn operate_on_pair(
-    what: Operator,
-    count: u32,
-    line: u32,
-    store: &mut Store<'_>,
-    control: &mut Control,
-) -> Result<End, Memory>
-    requires few { store.old.core.now.at + 1 < 2 ^ 64 }
-    requires fits { TakesOperands what count }
-    requires two { operand_count what ≡ Some 2 }
-    ensures did { IfOk result (λ end. Does store.old control.old line (Operate what count) store.new control.new end) }
-    ensures reader { control.new.reader ≡ control.old.reader }
-{
-    let pair = store.pop_two()?;
-    match pair {
-        None => Ok(End::Stuck),
-        Some((a, b)) => match op_pair(control.alloc(), what, a, b, control.turns()) {
-            Ok(answer) => {
-                control.charge(answer.charged);
-                store.push(answer.value)?;
-                go_on(store);
-                Ok(End::Paused)
-            }
-            Err(fault) => end_by(fault, line),
-        },
     }
 }
 

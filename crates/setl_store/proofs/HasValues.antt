@@ -1,6 +1,6 @@
 -- So many results taken off.
 use Rattle.std.proofs.Common.{◌≡◌, ℕ, zero, suc, ◌+◌, ◌-◌, ◌<◌, Bool, true, false, List, [], ◌∷◌, ◌++◌, length, drop, map, reverse, get_or, refl, sym, ap, ◌∙◌, subst, arith, Option, Some, None}
-use Rattle.std.specs.Prelude.{slice_get, is_some, IsSome, ◌&&◌}
+use Rattle.std.specs.Prelude.{slice_get, is_some, ◌&&◌}
 use Rattle.std.specs.Option.{option_map}
 use Rattle.std.proofs.Math.Seq.{drop-cons}
 use Rattle.std.proofs.lemmas.List.{get_or-reverse, get_or-drop, length-drop, length-map, length-reverse, map-append, reverse-append}
@@ -40,10 +40,6 @@ popped_more n i vs v old new l e =
     ∙ popped_step (n - (i + 1)) (reverse (map part vs)) old (part v) new e
     ∙ ap (λ l. popped (n - (i + 1)) l new) (sym more)
 
--- both were on top, the lower one below the upper one
-pub popped_two : (old mid new : List core.Operand) (upper lower : Option Datum) → top_of old ≡ Some (upper, mid) → top_of mid ≡ Some (lower, new) → popped 2 [] old ≡ Pops (lower ∷ upper ∷ []) new
-popped_two old mid new upper lower one other = popped_step 1 [] old upper mid one ∙ popped_step 0 (upper ∷ []) mid lower new other
-
 -- ---- whether there are so many
 
 lacks_by : (n : ℕ) (vs : List (Option Datum)) (w : Option (Option Datum)) (xs : List core.Operand) → ((us : List (Option Datum)) → has_values n xs ≡ false → popped n us xs ≡ Lacks) →
@@ -55,37 +51,6 @@ pub lacks : (n : ℕ) (vs : List (Option Datum)) (xs : List core.Operand) → ha
 lacks zero vs xs e = absurd (cc)
 lacks (suc n) vs [] e = refl
 lacks (suc n) vs (o ∷ xs) e = lacks_by n vs (value_of o) xs (λ us h. lacks n us xs h) e
-
-enough_by : (n : ℕ) (vs : List (Option Datum)) (w : Option (Option Datum)) (xs : List core.Operand) → ((us : List (Option Datum)) → has_values n xs ≡ true → popped n us xs ≡ Lacks → ⊥) →
-    (is_some w && has_values n xs) ≡ true → pop_before w (λ v. popped n (v ∷ vs) xs) ≡ Lacks → ⊥
-enough_by n vs None xs rest e h = cc
-enough_by n vs (Some v) xs rest e h = rest (v ∷ vs) e h
-
-enough : (n : ℕ) (vs : List (Option Datum)) (xs : List core.Operand) → has_values n xs ≡ true → popped n vs xs ≡ Lacks → ⊥
-enough zero vs xs e h = let k : Pops vs xs ≡ Lacks = h in cc
-enough (suc n) vs [] e h = cc
-enough (suc n) vs (o ∷ xs) e h = enough_by n vs (value_of o) xs (λ us a b. enough n us xs a b) e h
-
-top_by : (n : ℕ) (vs : List (Option Datum)) (w : Option (Option Datum)) (xs : List core.Operand) → (pop_before w (λ v. popped n (v ∷ vs) xs) ≡ Lacks → ⊥) → IsSome (option_map {U = Option Datum × List core.Operand} (λ v. (v, xs)) w)
-top_by n vs None xs h = absurd (h refl)
-top_by n vs (Some v) xs h = refl
-
-some_top : (n : ℕ) (vs : List (Option Datum)) (xs : List core.Operand) → (popped (suc n) vs xs ≡ Lacks → ⊥) → IsSome (top_of xs)
-some_top n vs [] h = absurd (h refl)
-some_top n vs (o ∷ xs) h = top_by n vs (value_of o) xs h
-
--- where not all are popped, one is on top
-pub one_more_there : (n i : ℕ) (vs : List (Option Datum)) (old now : List core.Operand) → i < n → has_values n old ≡ true → popped n [] old ≡ popped (n - i) vs now → IsSome (top_of now)
-one_more_there n i vs old now l e is =
-    let less : n - i ≡ suc (n - (i + 1)) = omega (arith, l) in
-    some_top (n - (i + 1)) vs now (λ h. enough n [] old e (is ∙ ap (λ k. popped k vs now) less ∙ h))
-
--- so both of two are
-pub upper_there : (xs : List core.Operand) → has_values 2 xs ≡ true → IsSome (top_of xs)
-upper_there xs e = one_more_there 2 0 [] xs xs (omega arith) e refl
-
-pub lower_there : (xs ys : List core.Operand) (upper : Option Datum) → has_values 2 xs ≡ true → top_of xs ≡ Some (upper, ys) → IsSome (top_of ys)
-lower_there xs ys upper e top = one_more_there 2 1 (upper ∷ []) xs ys (omega arith) e (popped_step 1 [] xs upper ys top)
 
 -- ---- the flat list of operands
 

@@ -11,7 +11,6 @@ mod lent;
 mod operands;
 mod returning;
 mod store;
-mod two;
 mod values;
 
 pub use iterating::Ahead;
