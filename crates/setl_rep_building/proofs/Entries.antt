@@ -1,5 +1,5 @@
 -- Tables as entries.
-use Rattle.std.proofs.Common.{◌≡◌, ℕ, zero, suc, Bool, true, false, nat_eq, cond, List, [], ◌∷◌, map, Option, Some, None, refl, ap, sym, ◌∙◌, subst, get_or}
+use Rattle.std.proofs.Common.{◌≡◌, ℕ, zero, suc, Bool, true, false, nat_eq, cond, List, [], ◌∷◌, map, Option, Some, None, refl, ap, sym, ◌∙◌}
 use Rattle.std.specs.List.{AllByRecursion, IsDistinct}
 use Rattle.std.specs.Map.{keys_of, lookup}
 use Rattle.std.specs.Option.{option_map}
@@ -7,7 +7,7 @@ use Rattle.std.proofs.lemmas.Map.Keys.{IsDistinct-head, IsDistinct-tail}
 use Rattle.setl_remote.specs.Slots.{slot_at, PutsSlot}
 use Rattle.setl_sparse.specs.Entries.{content_at, Puts}
 use Rattle.setl_rep_forms.specs.declared.held.Held.{Held}
-use Rattle.setl_rep_forms.specs.Form.{Form, Entries, entries_of, slots_from}
+use Rattle.setl_rep_forms.specs.Form.{Entries, entries_of, slots_from}
 use Rattle.setl_rep_forms.specs.FormOf.{form}
 use Rattle.setl_rep_tables.specs.Tables.{content_in, IsKeyed, SlotsAreKeyed}
 use Rattle.setl_rep_building.specs.Contents.{PutsEntry}

@@ -1,7 +1,7 @@
 -- Membership, pairs and numbers.
-use Rattle.std.proofs.Common.{◌≡◌, ℕ, Bool, true, false, ◌||◌, cond, List, [], ◌∷◌, ◌++◌, Option, Some, None, option_and_then, Result, Ok, Err, refl, ap, sym, ◌∙◌, subst, ⊎_elim}
+use Rattle.std.proofs.Common.{◌≡◌, Bool, true, false, ◌||◌, cond, List, [], ◌∷◌, ◌++◌, Option, Some, None, option_and_then, Result, Ok, Err, refl, ap, ◌∙◌, subst, ⊎_elim}
 use Rattle.std.specs.List.{flat_map}
-use Rattle.std.specs.Option.{option_map, unwrap_or}
+use Rattle.std.specs.Option.{option_map}
 use Rattle.std.specs.Result.{IfOk}
 use Rattle.std.specs.Ordering.{is_eq}
 use Rattle.std.proofs.lemmas.Bool.{false≢true, or_left, or_right, or_cases}
@@ -50,12 +50,6 @@ pub pair_from : (d a b : Datum) → pair_parts d ≡ Some (a, b) → d ≡ pair 
 pair_from (tuple (part_then x (part_then y no_part))) a b h = (λ i. pair (ap (λ (q : Datum × Datum). q.0) (some_same h) i) (ap (λ (q : Datum × Datum). q.1) (some_same h) i))
 pair_from d a b h = absurd (not_both h)
 
-pub first_same : (x y a b : Datum) → pair x y ≡ pair a b → x ≡ a
-first_same x y a b p = ap (λ d. unwrap_or (option_map (λ (q : Datum × Datum). q.0) (pair_parts d)) x) p
-
-pub second_same : (x y a b : Datum) → pair x y ≡ pair a b → y ≡ b
-second_same x y a b p = ap (λ d. unwrap_or (option_map (λ (q : Datum × Datum). q.1) (pair_parts d)) y) p
-
 -- ---- numbers
 
 pub at_number : (b : BaseState) (e : Elt) (d : Datum) → value_of b e ≡ Some d → value_at b e.block ≡ Some d
@@ -77,7 +71,3 @@ rising_members ds v = subst (λ l. IsRising l) (element_list-elements_of ds) v.0
 pub ok_more : {A E : Type 0} (r : Result A E) (P Q : A → Type 0) → ((x : A) → P x → Q x) → IfOk r P → IfOk r Q
 ok_more (Ok x) P Q f h = f x h
 ok_more (Err e) P Q f h = h
-
-pub ok_both : {A E : Type 0} (r : Result A E) (P Q : A → Type 0) → IfOk r P → IfOk r Q → IfOk r (λ x. P x × Q x)
-ok_both (Ok x) P Q p q = (p, q)
-ok_both (Err e) P Q p q = p

@@ -1,11 +1,9 @@
 -- Members, components and elements whose places are found.
-use Rattle.std.proofs.Common.{◌≡◌, ℕ, true, ◌||◌, cond, List, [], ◌∷◌, ◌++◌, Option, Some, None, refl, ap, sym, ◌∙◌, subst, eq-eqb}
+use Rattle.std.proofs.Common.{◌≡◌, ℕ, true, cond, List, [], ◌∷◌, Option, Some, None, ap, sym, ◌∙◌, subst, eq-eqb}
 use Rattle.std.specs.List.{flat_map}
 use Rattle.std.specs.Option.{IsSome}
-use Rattle.std.specs.Ordering.{is_eq}
 use Rattle.std.proofs.lemmas.Bool.{or_left, or_right}
 use Rattle.setl_value.specs.Datum.{Datum, set_of, tuple_of, element_list-elements_of, part_list-parts_of}
-use Rattle.setl_value.specs.Order.{datum_cmp}
 use Rattle.setl_value.specs.WellFormed.{IsTrimmed}
 use Rattle.setl_set.specs.Sets.{has_datum}
 use Rattle.setl_modes.specs.declared.mode.Form.{Form as Attribute}

@@ -1,5 +1,5 @@
 -- Maps that fit their mode.
-use Rattle.std.proofs.Common.{◌≡◌, ℕ, Bool, true, false, ◌&&◌, ◌||◌, cond, List, [], ◌∷◌, ◌++◌, length, Option, Some, None, refl, ap, sym, ◌∙◌, subst, arith, eqb-true, ⊎_elim}
+use Rattle.std.proofs.Common.{◌≡◌, ℕ, Bool, true, false, ◌&&◌, ◌||◌, List, [], ◌∷◌, length, Option, Some, None, refl, ap, sym, ◌∙◌, subst, arith, eqb-true, ⊎_elim}
 use Rattle.std.specs.List.{flat_map, list_all, filter_map, cons_option}
 use Rattle.std.specs.Option.{IsSome, is_some}
 use Rattle.std.specs.Ordering.{is_eq}
@@ -20,9 +20,9 @@ use Rattle.setl_base.specs.Base.{find}
 use Rattle.setl_rep_bases.specs.declared.BaseId.{BaseId}
 use Rattle.setl_rep_bases.specs.Bases.{BasesState, base_at, IsThere}
 use Rattle.setl_rep_forms.specs.Form.{Form, Layout}
-use Rattle.setl_rep_forms.specs.Stands.{stands, IsOver, IsContent, IsImages, images_in}
+use Rattle.setl_rep_forms.specs.Stands.{stands, IsOver, IsImages}
 use Rattle.setl_rep_building.specs.Contents.{IsContentOf}
-use Rattle.setl_rep_building.specs.HasForm.{HasForm, IsMapMode, place_of, table_of, base_of}
+use Rattle.setl_rep_building.specs.HasForm.{HasForm, IsMapMode, table_of, base_of}
 use Rattle.setl_rep_building.specs.Places.{HasBases, PlacesAreFound}
 use Rattle.setl_rep_building.proofs.Facts.{not_both, has_append, has_first, given, pair_from}
 use Rattle.setl_rep_building.proofs.Finding.{at_element, names_base, place_on}

@@ -2,7 +2,6 @@
 use Rattle.std.proofs.Common.{◌≡◌, ℕ, Bool, true, false, ◌==◌, nat_eq, cond, List, [], ◌∷◌, Option, Some, None, refl, ap, sym, ◌∙◌, subst, eqb-true, eq-eqb, ⊎_elim, inl, inr, ◌⊎◌}
 use Rattle.std.specs.List.{Contains}
 use Rattle.std.specs.Option.{IsSome, is_some}
-use Rattle.std.specs.List.{list_all}
 use Rattle.std.specs.Ordering.{is_eq}
 use Rattle.std.proofs.lemmas.Bool.{false≢true, or_cases, and_parts}
 use Rattle.setl_value.specs.Datum.{Datum, set_of}
@@ -13,7 +12,6 @@ use Rattle.setl_set.specs.Sets.{has_datum}
 use Rattle.setl_set.specs.Laws.{RisingListsAgree, TestsMembership, Gathers}
 use Rattle.setl_map.specs.Laws.{ImagesByPairs}
 use Rattle.setl_map.specs.Maps.{domain_of}
-use Rattle.setl_modes.specs.declared.mode.Form.{Form as Attribute}
 use Rattle.setl_modes.specs.Modes.{Mode, General, Integers, Strings, Booleans, Atoms, Elements, Sets, Tuples, SingleMaps, MultiMaps}
 use Rattle.setl_base.specs.Base.{BaseState}
 use Rattle.setl_rep_bases.specs.declared.BaseId.{BaseId}
@@ -22,9 +20,9 @@ use Rattle.setl_rep_forms.specs.Form.{Form, Layout, Entries, no_entry, entry_the
 use Rattle.setl_rep_forms.specs.Stands.{value_at, stands, pairs_in, AreOver, IsOver, IsContent}
 use Rattle.setl_rep_tables.specs.Tables.{content_in, images_of, table_pairs, IsKeyed, MembersOfTables}
 use Rattle.setl_rep_building.specs.Contents.{IsContentOf, PutsEntry}
-use Rattle.setl_rep_building.specs.HasForm.{HasForm, HaveForms, IsMapForm, keeps_sets, content_mode, table_of, place_of}
+use Rattle.setl_rep_building.specs.HasForm.{HasForm, HaveForms, IsMapForm, keeps_sets, content_mode, table_of}
 use Rattle.setl_rep_building.proofs.Facts.{some_same, not_both, has_first, has_later, pair_from}
-use Rattle.setl_rep_building.proofs.Fitting.{in_domain, to_domain, to_images, from_images}
+use Rattle.setl_rep_building.proofs.Fitting.{to_domain, to_images, from_images}
 
 -- ---- keyed entries
 

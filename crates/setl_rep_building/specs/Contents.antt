@@ -1,5 +1,5 @@
 -- The contents of maps.
-use Rattle.std.specs.Prelude.{◌≡◌, ℕ, true, nat_eq, cond, List, map, Option, Some}
+use Rattle.std.specs.Prelude.{◌≡◌, ℕ, nat_eq, cond, List, map, Some}
 use Rattle.std.specs.Option.{option_map}
 use Rattle.setl_value.specs.Datum.{Datum}
 use Rattle.setl_value.specs.Pairs.{images}

@@ -1,4 +1,4 @@
-//! Values go into the forms of modes, and come back as plain values, over bases that don't change.
+//! Values go into the forms of modes, over bases that don't change.
 #![tactic(auto)]
 
 mod build;

@@ -26,7 +26,7 @@ use Rattle.setl_rep_forms.specs.Stands.{stands, value_at, IsOver}
 use Rattle.setl_rep_building.specs.Contents.{entries_in, layout, table_layout, IsContentOf}
 use Rattle.setl_rep_building.specs.HasForm.{HasForm, base_of, keeps_sets, table_of}
 use Rattle.setl_rep_building.specs.Places.{HasBases, PlacesAreFound}
-use Rattle.setl_rep_building.proofs.Facts.{at_number, has_first, ok_more, ok_both, rising_members}
+use Rattle.setl_rep_building.proofs.Facts.{at_number, has_first, ok_more, rising_members}
 use Rattle.setl_rep_building.proofs.Heights.{height}
 use Rattle.setl_rep_building.proofs.ModeCodes.{of_elmt, of_smap, of_mmap}
 use Rattle.setl_rep_building.proofs.Finding.{found_element}

@@ -1,4 +1,4 @@
-use Rattle.std.proofs.Common.{◌≡◌, ◌∙◌, ap, sym, subst, Some}
+use Rattle.std.proofs.Common.{◌∙◌, ap, sym, subst}
 use Rattle.setl_value.specs.Datum.{part_list-parts_of}
 use Rattle.setl_value.specs.WellFormed.{IsTrimmed}
 use Rattle.setl_modes.specs.Modes.{mode_of}
@@ -6,7 +6,6 @@ use Rattle.setl_rep_bases.specs.Bases.{base_at, named, IsThere}
 use Rattle.setl_rep_forms.specs.FormOf.{of_handles}
 use Rattle.setl_rep_forms.specs.Stands.{IsOver}
 use Rattle.setl_rep_based.specs.Found.{ArePartsFound}
-use Rattle.setl_rep_building.specs.HasForm.{base_of}
 use Rattle.setl_rep_building.proofs.Finding.{base_there, found_parts, handles_over}
 use Rattle.setl_rep_building.proofs.build.tuple_in_form.Goals as goal
 
