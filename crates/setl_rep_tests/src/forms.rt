@@ -1,7 +1,9 @@
-//! Values go into the forms of modes, and come back.
+//! Values go into the forms of modes, come back, and are operands of operators.
 
 use setl_io::SureSource;
 use setl_modes::{Form, Mode};
+use setl_operators::Operator;
+use setl_rep::apply;
 use setl_rep_bases::{BaseId, Bases};
 use setl_rep_building::in_form;
 use setl_rep_forms::Held;
@@ -146,6 +148,26 @@ fn values_go_into_their_forms(rt: HostRuntime) -> Result<(), Fail> {
         let (denotation, rest) = rest.split_once(" | ").unwrap_or((rest, ""));
         let (want, members) = rest.split_once(" | ").unwrap_or((rest, ""));
         assert_eq!(rt; answer(alloc, words, denotation, members)?, want, "{row}");
+    }
+    Ok(())
+}
+
+#[test]
+fn a_copy_with_one_more_member_stands_for_its_row(rt: HostRuntime) -> Result<(), Fail> {
+    let alloc = rt.alloc();
+    let value = denoted(alloc, "{30 10}")?;
+    let bases = one_base(alloc, &value)?;
+    let mode = mode(alloc, "sparse set elmt int")?;
+    let mut args = Vec::with_capacity(alloc, 2)?;
+    args.push(in_form(alloc, &mode, &value, &bases, 0)?.copy()?)?;
+    args.push(Held::Plain(Value::Int(20)))?;
+    let want = denoted(alloc, "{10 20 30}")?;
+    match apply(alloc, Operator::With, args, &bases, 1000) {
+        Ok(a) => {
+            assert!(rt; plain(alloc, &a.held, &bases)? == Some(want));
+            assert_eq!(rt; a.charged, 0);
+        }
+        Err(_) => assert!(rt; false),
     }
     Ok(())
 }
