@@ -1,17 +1,17 @@
 -- One member more or less, as an operator and by number.
-use Rattle.std.proofs.Common.{◌≡◌, ℕ, suc, ◌+◌, ◌<◌, ◌≤◌, max, Bool, true, false, not, ◌||◌, ◌&&◌, cond, List, [], ◌∷◌, filter, Option, Some, None, Result, Ok, Err, ⊎_elim, refl, ap, sym, ◌∙◌, subst, arith}
+use Rattle.std.proofs.Common.{◌≡◌, ℕ, ◌<◌, ◌≤◌, max, Bool, true, false, not, ◌||◌, ◌&&◌, cond, List, [], ◌∷◌, Some, Result, Ok, Err, refl, ap, sym, ◌∙◌, subst, arith}
 use Rattle.std.specs.declared.cmp.Ordering.{Ordering}
 use Rattle.std.specs.declared.cmp.Ordering.TheVariants.{Less, Equal, Greater}
 use Rattle.std.specs.Option.{is_some, option_and_then}
 use Rattle.std.specs.Ordering.{nat_cmp, is_eq}
 use Rattle.std.specs.FinSet as set
-use Rattle.std.proofs.lemmas.Bool.{false≢true, or_left, or_right}
-use Rattle.setl_value.specs.Datum.{Datum, depth, set_of, elements_of, elements_depth, element_list, element_list-elements_of}
+use Rattle.std.proofs.lemmas.Bool.{false≢true}
+use Rattle.setl_value.specs.Datum.{Datum, depth, set_of, elements_of, elements_depth, element_list-elements_of}
 use Rattle.setl_value.specs.Order.{datum_cmp}
 use Rattle.setl_value.specs.OrderLaws.{same_datum}
 use Rattle.setl_set.specs.Sets.{has_datum, insert_datum, insert_by, remove_datum}
 use Rattle.setl_operators_table.specs.Collections.{with_datum, less_datum}
-use Rattle.setl_operators_table.specs.Outcome.{Outcome, Gives, Fails, DeepFault, value, within_depth}
+use Rattle.setl_operators_table.specs.Outcome.{Gives, Fails, DeepFault, value, within_depth}
 use Rattle.setl_operators_table.specs.OutcomeLaws.{shallow, too_deep}
 use Rattle.setl_operators_table.specs.Operators.{op_of}
 use Rattle.setl_operators_table.specs.declared.Operator.TheVariants.{With, Less as Without}
@@ -27,7 +27,7 @@ use Rattle.setl_rep_forms.specs.Laws.{MembersAreTestedByNumber}
 use Rattle.setl_rep_based.specs.Members.{IsPut}
 use Rattle.setl_rep_kernels.specs.declared.changes.Plan.{Plan}
 use Rattle.setl_rep_kernels.specs.declared.changes.Plan.TheVariants.{Stays, Puts}
-use Rattle.setl_rep_kernels.specs.Kernels.{can_change, change_of, is_member, is_single}
+use Rattle.setl_rep_kernels.specs.Kernels.{change_of, is_member, is_single}
 use Rattle.setl_rep_kernels.specs.Changes.{IsChange, IsPlan}
 
 -- ---- depth

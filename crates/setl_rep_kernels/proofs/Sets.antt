@@ -1,5 +1,5 @@
 -- Operators on sets of members by number.
-use Rattle.std.proofs.Common.{◌≡◌, ℕ, Bool, true, false, List, [], ◌∷◌, Option, Some, None, ⊎_elim, length, refl, ap, sym, ◌∙◌, subst, pos}
+use Rattle.std.proofs.Common.{◌≡◌, ℕ, Bool, false, List, [], ◌∷◌, Option, Some, None, ⊎_elim, length, refl, ap, sym, ◌∙◌, subst, pos}
 use Rattle.std.specs.Cmp.{nat_cmp_total}
 use Rattle.std.proofs.lemmas.Bool.{or_cases, and_parts}
 use Rattle.std.specs.Ordering.{nat_cmp}
@@ -10,7 +10,7 @@ use Rattle.setl_operators_table.specs.Operators.{op_of}
 use Rattle.setl_operators_table.specs.Outcome.{Gives, truth, value, set_value}
 use Rattle.setl_operators_table.specs.declared.Operator.TheVariants.{In, Size}
 use Rattle.setl_base.specs.declared.Elt.{Elt}
-use Rattle.setl_base.specs.Base.{BaseState, IsBase, find, value_of}
+use Rattle.setl_base.specs.Base.{BaseState, IsBase}
 use Rattle.setl_rep_bases.specs.declared.BaseId.{BaseId}
 use Rattle.setl_rep_bases.specs.Bases.{BasesState, base_at, IsThere}
 use Rattle.setl_rep_forms.specs.Form.{Layout, Form, plain, element, numbers, remote}

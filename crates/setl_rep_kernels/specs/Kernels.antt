@@ -1,5 +1,5 @@
 -- For which forms there are kernels, and what a change in place tells.
-use Rattle.std.specs.Prelude.{◌≡◌, Bool, true, false, not, ◌&&◌, ◌||◌, if◌then◌else◌, Option, Some, None, is_some, option_and_then, Result, Ok, Err}
+use Rattle.std.specs.Prelude.{◌≡◌, Bool, true, false, not, ◌&&◌, ◌||◌, if◌then◌else◌, Option, is_some, option_and_then, Result, Ok, Err}
 use Rattle.std.specs.Option.{ForSome}
 use Rattle.std.specs.Ordering.{nat_cmp}
 use Rattle.std.specs.FinSet as set
@@ -14,7 +14,7 @@ use Rattle.setl_operators_table.specs.Outcome.{Outcome, Gives, Fails, DeepFault}
 use Rattle.setl_rep_bases.specs.declared.BaseId.{BaseId}
 use Rattle.setl_rep_bases.specs.BaseId.{is_id}
 use Rattle.setl_rep_bases.specs.Bases.{BasesState, base_at}
-use Rattle.setl_rep_forms.specs.Form.{Form, plain, element, numbers, remote, sparse}
+use Rattle.setl_rep_forms.specs.Form.{Form, plain, element, numbers, remote}
 use Rattle.setl_rep_forms.specs.Stands.{stands}
 use Rattle.setl_rep_based.specs.Walk.{IsStep}
 use Rattle.setl_rep_kernels.specs.declared.operations.SetOperation.{SetOperation}
