@@ -1,0 +1,14 @@
+//! The bases that a mode names are lengthened by the values at their places in a value of that mode.
+//!
+//! Each store of a value in a declared variable enters the values at its places `elmt b` into the instance that the base
+//! `b` has in the activation: in canonical order, and only those that aren't members yet. There are no forms here.
+#![tactic(auto)]
+
+mod enter;
+pub mod laws;
+mod places;
+mod there;
+
+pub use enter::enter_places;
+pub use std::alloc::AllocError as Memory;
+pub use there::bases_are_there;

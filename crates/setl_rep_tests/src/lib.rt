@@ -1,0 +1,5 @@
+//! Tests of values in their declared forms.
+#![tactic(auto)]
+
+#[cfg(test)]
+mod entering;
