@@ -7,14 +7,16 @@ use Rattle.std.specs.List.{flat_map}
 use Rattle.std.specs.Option.{is_some, is_none}
 use Rattle.std.specs.Ordering.{is_eq}
 use Rattle.setl_value.specs.declared.Value.{Value}
-use Rattle.setl_value.specs.Datum.{Datum, set_of}
+use Rattle.setl_value.specs.Datum.{Datum, set, element_list, set_of}
 use Rattle.setl_value.specs.code.DatumOf.{datum}
 use Rattle.setl_value.specs.Order.{datum_cmp}
 use Rattle.setl_value.specs.OrderLaws.{same_if_eq}
 use Rattle.setl_value.specs.Pairs.{pair_parts, images, first_of, second_of}
 use Rattle.setl_set.specs.Sets.{has_datum}
 use Rattle.setl_map.specs.code.Points.{part_at}
-use Rattle.setl_modes_places.specs.Places.{at_part, at_pair, at_point}
+use Rattle.setl_modes.specs.declared.mode.Form.{Form}
+use Rattle.setl_modes.specs.Modes.{Mode, SingleMaps, MultiMaps}
+use Rattle.setl_modes_places.specs.Places.{at_part, at_pair, at_point, elements_at}
 use Rattle.setl_rep_bases.specs.declared.BaseId.{BaseId}
 use Rattle.setl_base.specs.Base.{find}
 use Rattle.setl_rep_bases.specs.BaseId.{is_id, id, main}
@@ -23,7 +25,7 @@ use Rattle.setl_rep_bases.specs.Reading.{NamesAreExact}
 use Rattle.setl_rep_entering.specs.declared.places.Place.{Place}
 use Rattle.setl_rep_entering.specs.Entering.{values_in, is_named}
 use Rattle.setl_rep_entering.proofs.Entered.{found}
-use Rattle.setl_rep_entering.specs.code.Finding.{has_place, is_new, Gains, same_point, is_at_point, at_images, at_neighbour}
+use Rattle.setl_rep_entering.specs.code.Finding.{has_place, is_new, Gains, same_point, is_at_point, at_images, at_map, at_neighbour}
 
 -- ---- truth values
 
@@ -157,23 +159,18 @@ point_sides domain range f p = by (pair_parts p)
     by None = refl
     by (Some q) = refl
 
-module _ (bs : BasesState) (n : ℕ) (old mid new : List Place) (ms : List Datum) where
-  gains_like : (es fs : ℕ → List Datum) → ((b : ℕ) (x : Datum) → has_datum x (es b) ≡ has_datum x (fs b)) → Gains bs n es old new → Gains bs n fs old new
-  gains_like es fs h g i x = g i x ∙ ap (λ t. has_place i x old || (is_new bs n i x && t)) (h i.base x)
+-- a map has the places of its first parts and those of its images
+pub map_places : (form : Form) (d r : Mode) (b : ℕ) (e x : Datum)
+    → (has_datum x (at_map b (SingleMaps form d r) e) ≡ has_datum x (elements_at b (SingleMaps form d r) e)) × (has_datum x (at_map b (MultiMaps form d r) e) ≡ has_datum x (elements_at b (MultiMaps form d r) e))
+map_places form d r b (set es) x =
+    let ms = element_list es in (
+      has_sides (λ p. at_pair (elements_at b d) (elements_at b r) (pair_parts p)) (λ p. at_part (elements_at b d) (part_at true p)) (λ p. at_part (elements_at b r) (part_at false p)) (pair_sides (elements_at b d) (elements_at b r)) ms x,
+      has_sides (λ p. at_point (elements_at b d) (elements_at b r) ms (pair_parts p)) (λ p. at_part (elements_at b d) (part_at true p)) (λ p. at_images (elements_at b r) ms (pair_parts p)) (point_sides (elements_at b d) (elements_at b r) ms) ms x,
+    )
+map_places form d r b e x = (refl, refl)
 
-  pub gains_pairs : (domain range : ℕ → Datum → List Datum) → Gains bs n (λ b. flat_map (λ p. at_part (domain b) (part_at true p)) ms) old mid → Gains bs n (λ b. flat_map (λ p. at_part (range b) (part_at false p)) ms) mid new
-      → Gains bs n (λ b. flat_map (λ p. at_pair (domain b) (range b) (pair_parts p)) ms) old new
-  gains_pairs domain range g h =
-      gains_like (λ b. flat_map (λ p. at_part (domain b) (part_at true p)) ms ++ flat_map (λ p. at_part (range b) (part_at false p)) ms) (λ b. flat_map (λ p. at_pair (domain b) (range b) (pair_parts p)) ms)
-      (λ b x. has_sides (λ p. at_pair (domain b) (range b) (pair_parts p)) (λ p. at_part (domain b) (part_at true p)) (λ p. at_part (range b) (part_at false p)) (pair_sides (domain b) (range b)) ms x)
-      (gains_then bs n (λ b. flat_map (λ p. at_part (domain b) (part_at true p)) ms) (λ b. flat_map (λ p. at_part (range b) (part_at false p)) ms) old mid new g h)
-
-  pub gains_points : (domain range : ℕ → Datum → List Datum) → Gains bs n (λ b. flat_map (λ p. at_part (domain b) (part_at true p)) ms) old mid → Gains bs n (λ b. flat_map (λ p. at_images (range b) ms (pair_parts p)) ms) mid new
-      → Gains bs n (λ b. flat_map (λ p. at_point (domain b) (range b) ms (pair_parts p)) ms) old new
-  gains_points domain range g h =
-      gains_like (λ b. flat_map (λ p. at_part (domain b) (part_at true p)) ms ++ flat_map (λ p. at_images (range b) ms (pair_parts p)) ms) (λ b. flat_map (λ p. at_point (domain b) (range b) ms (pair_parts p)) ms)
-      (λ b x. has_sides (λ p. at_point (domain b) (range b) ms (pair_parts p)) (λ p. at_part (domain b) (part_at true p)) (λ p. at_images (range b) ms (pair_parts p)) (point_sides (domain b) (range b) ms) ms x)
-      (gains_then bs n (λ b. flat_map (λ p. at_part (domain b) (part_at true p)) ms) (λ b. flat_map (λ p. at_images (range b) ms (pair_parts p)) ms) old mid new g h)
+pub gains_like : (bs : BasesState) (n : ℕ) (es fs : ℕ → List Datum) (old new : List Place) → ((b : ℕ) (x : Datum) → has_datum x (es b) ≡ has_datum x (fs b)) → Gains bs n es old new → Gains bs n fs old new
+gains_like bs n es fs old new h g i x = g i x ∙ ap (λ t. has_place i x old || (is_new bs n i x && t)) (h i.base x)
 
 -- ---- one value
 

@@ -58,6 +58,7 @@ pub fn enter_places(
 }
 
 // Puts the mark of each base that a mode names at the end.
+#[tactic(auto, using(crate::proofs::Naming::marked_both))]
 fn mark_bases(a: &Activation<'_>, mode: &Mode, marks: &mut Vec<Mark>) -> Result<(), Memory>
     requires there { BasesAreThere a.now.bases.now a.now.instance (mode_of mode.now) }
     requires marks { AreMarks a.now.bases.now marks.old.items }
@@ -74,11 +75,13 @@ fn mark_bases(a: &Activation<'_>, mode: &Mode, marks: &mut Vec<Mark>) -> Result<
         Mode::Set(_, m) | Mode::Tuple(m) => mark_bases(a, m.get(), marks),
         Mode::Smap(_, d, r) => {
             mark_bases(a, d.get(), marks)?;
-            mark_bases(a, r.get(), marks)
+            mark_bases(a, r.get(), marks)?;
+            Ok(())
         }
         Mode::Mmap(_, d, s) => {
             mark_bases(a, d.get(), marks)?;
-            mark_bases(a, s.get(), marks)
+            mark_bases(a, s.get(), marks)?;
+            Ok(())
         }
         _ => Ok(()),
     }

@@ -1,6 +1,6 @@
 //! The values at the places of bases that aren't members of these.
 
-ghost use Rattle.std.specs.Prelude.{◌≡◌, [], ◌∷◌, ◌==◌, cond, slice_get, OnOk, IfOk, None};
+ghost use Rattle.std.specs.Prelude.{◌≡◌, [], ◌∷◌, ◌++◌, ◌==◌, cond, slice_get, OnOk, IfOk, None};
 ghost use Rattle.std.specs.List.Sorted.{IsStrictlySortedBy};
 ghost use Rattle.std.specs.Option.{unwrap_or};
 ghost use Rattle.std.specs.List.{flat_map};
@@ -13,7 +13,7 @@ ghost use Rattle.setl_modes.specs.Modes.{mode_of};
 ghost use Rattle.setl_modes_places.specs.Places.{at_part, elements_at};
 ghost use Rattle.setl_rep_bases.specs.Bases.{named, IsThere};
 ghost use Rattle.setl_rep_entering.specs.Entering.{BasesAreThere};
-ghost use Rattle.setl_rep_entering.specs.code.Finding.{Gains, HaveSamePlaces, at_images, at_neighbour, has_places, is_at_point, place_cmp};
+ghost use Rattle.setl_rep_entering.specs.code.Finding.{Gains, HaveSamePlaces, at_firsts, at_images, at_map, at_neighbour, at_seconds, has_places, is_at_point, place_cmp};
 
 use crate::Memory;
 use setl_map::{images, parts};
@@ -71,14 +71,8 @@ fn find_places(
         (Mode::Elmt(b, _), _) => push_new(a, *b, v, found),
         (Mode::Set(_, m), Value::Set(s)) => in_members(a, m.get(), s, found),
         (Mode::Tuple(m), Value::Tuple(t)) => in_parts(a, m.get(), t, found),
-        (Mode::Smap(_, d, r), Value::Set(f)) => {
-            in_sides(a, d.get(), f, true, found)?;
-            in_sides(a, r.get(), f, false, found)
-        }
-        (Mode::Mmap(_, d, s), Value::Set(f)) => {
-            in_sides(a, d.get(), f, true, found)?;
-            in_images(a, s.get(), f, found)
-        }
+        (Mode::Smap(_, _, _), _) => in_map(a, mode, v, found),
+        (Mode::Mmap(_, _, _), _) => in_map(a, mode, v, found),
         _ => Ok(()),
     }
 }
@@ -146,6 +140,70 @@ fn in_part(
     match t.at(i) {
         None => Ok(()),
         Some(v) => find_places(a, mode, v, found),
+    }
+}
+
+// Those of a map.
+#[cycle(finding)]
+fn in_map(a: &Activation<'_>, mode: &Mode, v: &Value, found: &mut Vec<Place>) -> Result<(), Memory>
+    requires { BasesAreThere a.now.bases.now a.now.instance (mode_of mode.now) }
+    ensures { OnOk result (Gains a.now.bases.now a.now.instance (λ b. at_map b (mode_of mode.now) (datum v.now)) found.old.items found.new.items) }
+{
+    match v {
+        Value::Set(f) => in_pairs(a, mode, f, found),
+        _ => Ok(()),
+    }
+}
+
+// Those of the pairs of a map: of their first parts, and then of their images.
+#[cycle(finding)]
+fn in_pairs(
+    a: &Activation<'_>,
+    mode: &Mode,
+    f: &SetBody,
+    found: &mut Vec<Place>,
+) -> Result<(), Memory>
+    requires { BasesAreThere a.now.bases.now a.now.instance (mode_of mode.now) }
+    ensures { OnOk result (Gains a.now.bases.now a.now.instance (λ b. at_firsts b (mode_of mode.now) (Members f.now) ++ at_seconds b (mode_of mode.now) (Members f.now)) found.old.items found.new.items) }
+{
+    in_firsts(a, mode, f, found)?;
+    in_seconds(a, mode, f, found)?;
+    Ok(())
+}
+
+// Those of the first parts of the pairs of a map.
+#[cycle(finding)]
+fn in_firsts(
+    a: &Activation<'_>,
+    mode: &Mode,
+    f: &SetBody,
+    found: &mut Vec<Place>,
+) -> Result<(), Memory>
+    requires { BasesAreThere a.now.bases.now a.now.instance (mode_of mode.now) }
+    ensures { OnOk result (Gains a.now.bases.now a.now.instance (λ b. at_firsts b (mode_of mode.now) (Members f.now)) found.old.items found.new.items) }
+{
+    match mode {
+        Mode::Smap(_, d, _) => in_sides(a, d.get(), f, true, found),
+        Mode::Mmap(_, d, _) => in_sides(a, d.get(), f, true, found),
+        _ => Ok(()),
+    }
+}
+
+// Those of the images in a map.
+#[cycle(finding)]
+fn in_seconds(
+    a: &Activation<'_>,
+    mode: &Mode,
+    f: &SetBody,
+    found: &mut Vec<Place>,
+) -> Result<(), Memory>
+    requires { BasesAreThere a.now.bases.now a.now.instance (mode_of mode.now) }
+    ensures { OnOk result (Gains a.now.bases.now a.now.instance (λ b. at_seconds b (mode_of mode.now) (Members f.now)) found.old.items found.new.items) }
+{
+    match mode {
+        Mode::Smap(_, _, r) => in_sides(a, r.get(), f, false, found),
+        Mode::Mmap(_, _, s) => in_images(a, s.get(), f, found),
+        _ => Ok(()),
     }
 }
 

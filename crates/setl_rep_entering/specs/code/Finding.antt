@@ -1,14 +1,16 @@
 -- Places that are found in a walk over a value.
-use Rattle.std.specs.Prelude.{◌≡◌, ℕ, Bool, true, false, not, ◌&&◌, ◌||◌, List, [], Option, Some, None}
-use Rattle.std.specs.List.{list_any}
+use Rattle.std.specs.Prelude.{◌≡◌, ℕ, Bool, true, false, not, ◌&&◌, ◌||◌, ◌++◌, List, [], Option, Some, None}
+use Rattle.std.specs.List.{flat_map, list_any}
 use Rattle.std.specs.Ordering.{is_eq, ordering_then}
 use Rattle.std.specs.declared.cmp.Ordering.{Ordering}
-use Rattle.setl_value.specs.Datum.{Datum, set_of}
+use Rattle.setl_value.specs.Datum.{Datum, set, element_list, set_of}
 use Rattle.setl_value.specs.code.DatumOf.{datum}
 use Rattle.setl_value.specs.Order.{datum_cmp}
 use Rattle.setl_value.specs.Pairs.{pair_parts, images}
 use Rattle.setl_set.specs.Sets.{has_datum}
+use Rattle.setl_map.specs.code.Points.{part_at}
 use Rattle.setl_modes.specs.Modes.{Mode, Elements, Sets, Tuples, SingleMaps, MultiMaps}
+use Rattle.setl_modes_places.specs.Places.{at_part, elements_at}
 use Rattle.setl_rep_bases.specs.declared.BaseId.{BaseId}
 use Rattle.setl_rep_bases.specs.BaseId.{id_cmp, is_id}
 use Rattle.setl_rep_bases.specs.Bases.{BasesState, base_at}
@@ -54,6 +56,21 @@ at_images range f (Some p) = range (set_of (images p.0 f))
 abbrev pub at_neighbour : (Datum → List Datum) → List Datum → Option Datum → List Datum
 at_neighbour range f None = []
 at_neighbour range f (Some a) = at_images range f (pair_parts a)
+
+-- the values at the places of the first parts of the pairs of a map, and of their images
+abbrev pub at_firsts : (b : ℕ) → Mode → List Datum → List Datum
+at_firsts b (SingleMaps form d r) ms = flat_map (λ p. at_part (elements_at b d) (part_at true p)) ms
+at_firsts b (MultiMaps form d s) ms = flat_map (λ p. at_part (elements_at b d) (part_at true p)) ms
+at_firsts b m ms = []
+
+abbrev pub at_seconds : (b : ℕ) → Mode → List Datum → List Datum
+at_seconds b (SingleMaps form d r) ms = flat_map (λ p. at_part (elements_at b r) (part_at false p)) ms
+at_seconds b (MultiMaps form d s) ms = flat_map (λ p. at_images (elements_at b s) ms (pair_parts p)) ms
+at_seconds b m ms = []
+
+abbrev pub at_map : (b : ℕ) → Mode → Datum → List Datum
+at_map b m (set ms) = at_firsts b m (element_list ms) ++ at_seconds b m (element_list ms)
+at_map b m d = []
 
 -- by instance, then by value
 abbrev pub place_cmp : Place → Place → Ordering

@@ -6,12 +6,13 @@ use Rattle.setl_value.specs.code.Body.{Members}
 use Rattle.setl_value.specs.code.DatumOf.{datum, lent}
 use Rattle.setl_value.specs.Pairs.{pair_parts}
 use Rattle.setl_map.specs.code.Points.{part_at}
+use Rattle.setl_set.specs.Sets.{has_datum}
 use Rattle.setl_modes.specs.Modes.{mode_of}
 use Rattle.setl_modes_places.specs.Places.{at_part, at_pair, at_point, elements_at}
-use Rattle.setl_rep_entering.specs.code.Finding.{at_images, at_neighbour, is_at_point}
-use Rattle.setl_rep_entering.proofs.ModeCodes.{of_set, of_tuple}
+use Rattle.setl_rep_entering.specs.code.Finding.{at_firsts, at_images, at_map, at_neighbour, at_seconds, is_at_point}
+use Rattle.setl_rep_entering.proofs.ModeCodes.{of_set, of_tuple, of_smap, of_mmap}
 use Rattle.setl_rep_entering.proofs.Naming.{names_none}
-use Rattle.setl_rep_entering.proofs.Gaining.{IsLeft, all_left, less_left, none_left, gains_none, gains_as, gains_again, next_part, same_neighbour, nothing_left}
+use Rattle.setl_rep_entering.proofs.Gaining.{IsLeft, all_left, less_left, none_left, gains_none, gains_as, gains_again, next_part, gains_then, gains_like, map_places, same_neighbour, nothing_left}
 use Rattle.setl_rep_entering.proofs.places.+finding.Goals as goal
 
 pub find_places-returns-then-not-has_places : goal.find_places-returns-then-not-has_places
@@ -154,3 +155,26 @@ in_parts-returns t c =
     let t = c.args.t.now in
     none_left bs n (λ b. flat_map (at_part (elements_at b m)) t) (λ b. flat_map (at_part (elements_at b m)) (drop c.loop-i.i t)) c.args.found.now.items c.loop-i.found.items c.loop-i.invariant
     (λ b. nothing_left (elements_at b m) c.loop-i.i t (omega arith))
+
+pub find_places-returns-in-Smap-default : goal.find_places-returns-in-Smap-default
+find_places-returns-in-Smap-default t c =
+    let v = datum c.args.v.now in
+    let is = ap mode_of c.in-Smap-default.is-0 ∙ of_smap c.in-Smap-default.field-0-0 c.in-Smap-default.field-1-0 c.in-Smap-default.field-2-0 in
+    on_ok_weaker c.in_map.result
+    (λ g. gains_like c.args.a.now.bases.now c.args.a.now.instance (λ b. at_map b (mode_of c.args.mode.now) v) (λ b. elements_at b (mode_of c.args.mode.now) v) c.args.found.now.items c.in_map.new.found.items
+    (λ b x. subst (λ m. has_datum x (at_map b m v) ≡ has_datum x (elements_at b m v)) (sym is) (map_places c.in-Smap-default.field-0-0 (mode_of c.in-Smap-default.field-1-0) (mode_of c.in-Smap-default.field-2-0) b v x).0) g)
+    c.in_map.ensures
+
+pub find_places-returns-in-Mmap-default : goal.find_places-returns-in-Mmap-default
+find_places-returns-in-Mmap-default t c =
+    let v = datum c.args.v.now in
+    let is = ap mode_of c.in-Mmap-default.is-0 ∙ of_mmap c.in-Mmap-default.field-0-0 c.in-Mmap-default.field-1-0 c.in-Mmap-default.field-2-0 in
+    on_ok_weaker c.in_map-in-Mmap-default.result
+    (λ g. gains_like c.args.a.now.bases.now c.args.a.now.instance (λ b. at_map b (mode_of c.args.mode.now) v) (λ b. elements_at b (mode_of c.args.mode.now) v) c.args.found.now.items c.in_map-in-Mmap-default.new.found.items
+    (λ b x. subst (λ m. has_datum x (at_map b m v) ≡ has_datum x (elements_at b m v)) (sym is) (map_places c.in-Mmap-default.field-0-0 (mode_of c.in-Mmap-default.field-1-0) (mode_of c.in-Mmap-default.field-2-0) b v x).1) g)
+    c.in_map-in-Mmap-default.ensures
+
+pub in_pairs-returns : goal.in_pairs-returns
+in_pairs-returns t c =
+    gains_then c.args.a.now.bases.now c.args.a.now.instance (λ b. at_firsts b (mode_of c.args.mode.now) (Members c.args.f.now)) (λ b. at_seconds b (mode_of c.args.mode.now) (Members c.args.f.now)) c.args.found.now.items c.in_firsts.new.found.items c.in_seconds.new.found.items
+    c.in_ok-in_firsts.ensures c.in_ok-in_seconds.ensures
