@@ -1,0 +1,4 @@
+pub mod Codec
+pub mod Numbers
+pub mod Texts
+pub mod Given

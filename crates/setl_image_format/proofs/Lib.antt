@@ -1,0 +1,6 @@
+pub mod Combined
+pub mod Exact
+pub mod ExactSteps
+pub mod ExactModes
+pub mod ExactNames
+pub mod ExactImage
