@@ -1,5 +1,0 @@
-//! Tests of values in their declared forms.
-#![tactic(auto)]
-
-#[cfg(test)]
-mod entering;
