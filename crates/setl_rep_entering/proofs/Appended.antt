@@ -1,9 +1,9 @@
 -- Each base gains the values at its places.
 use Rattle.std.proofs.Common.{◌≡◌, ◌∙◌, ℕ, Bool, true, false, not, cond, ◌&&◌, ◌||◌, List, [], ◌∷◌, ◌++◌, map, Option, None, Some, refl, sym, ap, subst}
-use Rattle.std.proofs.lemmas.Bool.{false≢true, or_left, or_right, or_cases, and_parts}
+use Rattle.std.proofs.lemmas.Bool.{false≢true, or_left, or_right, and_parts}
 use Rattle.std.proofs.lemmas.List.Kept.{IsStrictlySortedBy-filter}
 use Rattle.std.specs.Bool.{if◌then◌else◌}
-use Rattle.std.specs.List.{filter, list_any, AllByRecursion}
+use Rattle.std.specs.List.{filter, AllByRecursion}
 use Rattle.std.specs.List.Sorted.{IsStrictlySortedBy}
 use Rattle.std.specs.Option.{option_map, option_map_or}
 use Rattle.std.specs.declared.cmp.Ordering.{Ordering}
@@ -17,7 +17,7 @@ use Rattle.setl_set.specs.Sets.{has_datum, set_from}
 use Rattle.setl_set.specs.Laws.{RisingListsAgree, TestsMembership, Gathers}
 use Rattle.setl_modes.specs.Modes.{Mode}
 use Rattle.setl_modes_places.specs.Places.{elements_at, names, places_of, PlacesAreNamed}
-use Rattle.setl_base.specs.Base.{BaseState, empty}
+use Rattle.setl_base.specs.Base.{empty}
 use Rattle.setl_rep_bases.specs.declared.BaseId.{BaseId}
 use Rattle.setl_rep_bases.specs.declared.tables.Instance.{Instance}
 use Rattle.setl_rep_bases.specs.BaseId.{is_id}
@@ -26,8 +26,8 @@ use Rattle.setl_rep_bases.specs.Reading.{InstancesArePut, NamesAreExact}
 use Rattle.setl_rep_entering.specs.declared.places.Place.{Place}
 use Rattle.setl_rep_entering.specs.Entering.{values_in, with_values, lengthened_by, is_named, places_in, AreLengthened, BasesAreThere}
 use Rattle.setl_rep_entering.specs.code.Finding.{has_place, is_new, Gains}
-use Rattle.setl_rep_entering.specs.code.Growing.{all_placed, is_placed, ArePlacesThere, AreMarked}
-use Rattle.setl_rep_entering.proofs.Entered.{entering_appends, values_at, grown_by, placed_instance, placed_count, all_entered}
+use Rattle.setl_rep_entering.specs.code.Growing.{all_placed, is_placed, ArePlacesThere}
+use Rattle.setl_rep_entering.proofs.Entered.{entering_appends, values_at, grown_by, placed_instance, placed_count}
 
 itself : (d : Datum) → is_eq (datum_cmp d d) ≡ true
 itself d = (eq_iff_same d d).1 refl

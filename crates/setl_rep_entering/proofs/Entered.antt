@@ -1,6 +1,6 @@
 -- Bases into which places were entered one after the other.
-use Rattle.std.proofs.Common.{◌≡◌, ◌∙◌, ℕ, ◌+◌, Bool, true, false, not, cond, ◌&&◌, ◌||◌, List, [], ◌∷◌, ◌++◌, map, Option, None, Some, IsSome, refl, sym, ap, subst}
-use Rattle.std.proofs.lemmas.Bool.{false≢true, or_left, or_right, or_cases, and_parts}
+use Rattle.std.proofs.Common.{◌≡◌, ◌∙◌, ℕ, ◌+◌, Bool, true, false, not, cond, ◌||◌, List, [], ◌∷◌, ◌++◌, map, Option, None, Some, IsSome, refl, sym, ap, subst}
+use Rattle.std.proofs.lemmas.Bool.{false≢true}
 use Rattle.std.proofs.lemmas.List.Folds.{list_any-append}
 use Rattle.std.specs.Bool.{if◌then◌else◌}
 use Rattle.std.specs.List.{filter, AllByRecursion}
@@ -20,7 +20,7 @@ use Rattle.setl_rep_bases.specs.BaseId.{is_id}
 use Rattle.setl_rep_bases.specs.Bases.{BasesState, instance_at, base_at, is_gone, IsThere, with_entered}
 use Rattle.setl_rep_bases.specs.Reading.{InstancesArePut, NamesAreExact}
 use Rattle.setl_rep_entering.specs.declared.places.Place.{Place}
-use Rattle.setl_rep_entering.specs.Entering.{values_in, with_values, lengthened_by}
+use Rattle.setl_rep_entering.specs.Entering.{values_in, with_values}
 use Rattle.setl_rep_entering.specs.code.Growing.{all_placed, ArePlacesThere}
 
 itself : (d : Datum) → is_eq (datum_cmp d d) ≡ true

@@ -1,5 +1,5 @@
 -- What a walk over a value finds.
-use Rattle.std.proofs.Common.{◌≡◌, ◌∙◌, ℕ, zero, suc, ◌+◌, ◌<◌, ◌≤◌, ◌==◌, Bool, true, false, not, cond, ◌&&◌, ◌||◌, List, [], ◌∷◌, ◌++◌, length, drop, slice_get, unwrap_or, Option, None, Some, refl, sym, ap, subst, arith, eqb-true, eq-eqb}
+use Rattle.std.proofs.Common.{◌≡◌, ◌∙◌, ℕ, zero, suc, ◌+◌, ◌<◌, ◌≤◌, ◌==◌, Bool, true, false, not, cond, ◌&&◌, ◌||◌, List, [], ◌∷◌, ◌++◌, length, drop, slice_get, unwrap_or, Option, None, Some, refl, sym, ap, arith, eqb-true, eq-eqb}
 use Rattle.std.proofs.lemmas.Bool.{false≢true}
 use Rattle.std.proofs.lemmas.List.Folds.{list_any-append}
 use Rattle.std.specs.Bool.{if◌then◌else◌}
@@ -239,7 +239,3 @@ module _ (exact : NamesAreExact) (bs : BasesState) (n b : ℕ) (d : Datum) where
 pub none_if : {A : Type 0} (o : Option A) → is_none o ≡ true → o ≡ None
 none_if None h = refl
 none_if (Some x) h = absurd (false≢true h)
-
-pub some_if : {A : Type 0} (o : Option A) → is_none o ≡ false → is_some o ≡ true
-some_if None h = absurd (false≢true (sym h))
-some_if (Some x) h = refl

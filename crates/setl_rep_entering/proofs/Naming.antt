@@ -1,10 +1,9 @@
 -- The bases of a composite mode are those of its parts.
-use Rattle.std.proofs.Common.{◌≡◌, ◌∙◌, ℕ, Bool, true, false, ◌||◌, ◌&&◌, ◌==◌, List, IsSome, ⊎_elim, refl, sym, ap, subst, eqb-true, eq-eqb}
-use Rattle.std.specs.Prelude.{◌↔◌}
+use Rattle.std.proofs.Common.{◌≡◌, ◌∙◌, ℕ, Bool, true, false, ◌||◌, ◌&&◌, List, ⊎_elim, refl, sym, ap, subst, eqb-true, eq-eqb}
 use Rattle.std.proofs.lemmas.Bool.{false≢true, or_left, or_right, or_cases}
 use Rattle.setl_modes.specs.Modes.{Mode, General, Integers, Strings, Booleans, Atoms, Elements, Sets, Tuples, SingleMaps, MultiMaps}
 use Rattle.setl_modes_places.specs.Places.{names}
-use Rattle.setl_rep_bases.specs.Bases.{BasesState, named, is_there, IsThere}
+use Rattle.setl_rep_bases.specs.Bases.{BasesState, named, IsThere}
 use Rattle.setl_rep_bases.specs.declared.BaseId.{BaseId}
 use Rattle.setl_rep_entering.specs.declared.enter.Mark.{Mark}
 use Rattle.setl_rep_entering.specs.Entering.{is_named, BasesAreThere}

@@ -1,5 +1,5 @@
 -- Places that were sorted, each once.
-use Rattle.std.proofs.Common.{◌≡◌, ◌∙◌, ℕ, Bool, true, false, ◌&&◌, ◌||◌, cond, nat_eq, List, [], ◌∷◌, refl, sym, ap}
+use Rattle.std.proofs.Common.{◌≡◌, ◌∙◌, Bool, true, false, ◌&&◌, ◌||◌, cond, nat_eq, List, [], ◌∷◌, refl, sym, ap}
 use Rattle.std.proofs.lemmas.Bool.{and_parts}
 use Rattle.std.proofs.lemmas.List.Kept.{IsStrictlySortedBy-dedup}
 use Rattle.std.proofs.lemmas.List.Sorted.{list_any-IsPermutation}
@@ -7,8 +7,7 @@ use Rattle.std.specs.List.{list_any, dedup}
 use Rattle.std.specs.List.Sorted.{IsStrictlySortedBy, IsSorted, IsPermutation}
 use Rattle.std.specs.Cmp.{IsTotalOrder, then_total, on_total, nat_cmp_total, unsigned_tied, both_tied, tied_itself}
 use Rattle.std.specs.Ordering.{is_eq, nat_cmp, ordering_then, eq_by_cmp}
-use Rattle.std.specs.declared.cmp.Ordering.TheVariants.{Less, Equal}
-use Rattle.setl_value.specs.Datum.{Datum}
+use Rattle.std.specs.declared.cmp.Ordering.TheVariants.{Equal}
 use Rattle.setl_value.specs.code.DatumOf.{datum}
 use Rattle.setl_value.specs.Order.{datum_cmp}
 use Rattle.setl_value.specs.OrderLaws.{datum_cmp_total, same_if_eq}
@@ -16,7 +15,7 @@ use Rattle.setl_rep_bases.specs.declared.BaseId.{BaseId}
 use Rattle.setl_rep_bases.specs.BaseId.{id_cmp, is_id}
 use Rattle.setl_rep_bases.specs.Reading.{NamesAreExact}
 use Rattle.setl_rep_entering.specs.declared.places.Place.{Place}
-use Rattle.setl_rep_entering.specs.code.Finding.{has_place, place_cmp, HaveSamePlaces}
+use Rattle.setl_rep_entering.specs.code.Finding.{place_cmp, HaveSamePlaces}
 use Rattle.setl_rep_entering.proofs.Appended.{GoesByValue}
 
 -- ---- the order of places

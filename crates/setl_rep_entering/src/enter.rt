@@ -1,12 +1,12 @@
 //! Values at places are entered into their bases.
 
-ghost use Rattle.std.specs.Prelude.{◌≡◌, ◌≤◌, ◌||◌, ◌&&◌, true, length, OnOk, OnErr};
+ghost use Rattle.std.specs.Prelude.{◌≡◌, ◌||◌, ◌&&◌, true, OnOk, OnErr};
 ghost use Rattle.setl_rep_bases.specs.declared.BaseId.{BaseId};
 ghost use Rattle.setl_value.specs.code.DatumOf.{datum};
 ghost use Rattle.setl_modes.specs.Fits.{datum_fits};
 ghost use Rattle.setl_modes.specs.Modes.{mode_of};
 ghost use Rattle.setl_modes_places.specs.Places.{names};
-ghost use Rattle.setl_rep_bases.specs.Bases.{BasesState, base_at, with_undone, IsThere};
+ghost use Rattle.setl_rep_bases.specs.Bases.{BasesState};
 ghost use Rattle.setl_rep_entering.specs.Entering.{is_named, AreLengthened, BasesAreThere};
 ghost use Rattle.setl_rep_entering.specs.code.Growing.{all_placed, all_undone, is_marked, AreGrown, AreMarked, AreMarks, ArePlacesThere, ChangeWithin};
 

@@ -1,4 +1,4 @@
-use Rattle.std.proofs.Common.{◌≡◌, ◌∷◌, sym, subst}
+use Rattle.std.proofs.Common.{◌≡◌, ◌∷◌, refl, sym, subst}
 use Rattle.setl_rep_entering.proofs.Undoing.{IsUndoing, undoes, mark_there, mark_within}
 use Rattle.setl_rep_entering.proofs.enter.undo_all.Goals as goal
 
@@ -21,3 +21,8 @@ loop-m-preserved c =
     let u = subst (λ l. IsUndoing c.args.bases.now c.loop-m.bases l c.args.marks.items) next c.loop-m.invariant in
     subst (λ now. IsUndoing c.args.bases.now now rest c.args.marks.items) (sym c.undo.ensures)
     (undoes c.instances_are_read.ensures.put c.instances_are_read.ensures.names c.args.bases.now c.loop-m.bases c.in-Some.m rest c.args.marks.items u)
+
+pub loop-m-init : goal.loop-m-init
+loop-m-init c =
+    let all : c.into_iter-m-iterator.result.rest.items ≡ c.args.marks.items = c.into_iter-m-iterator.ensures.into_iter_gives.0 in
+    subst (λ l. IsUndoing c.args.bases.now c.args.bases.now l c.args.marks.items) (sym all) (record { same = refl; marks = c.requires })

@@ -1,14 +1,14 @@
-use Rattle.std.proofs.Common.{◌≡◌, ◌∙◌, [], ◌∷◌, ◌++◌, ◌+◌, true, false, Some, None, length, refl, sym, ap, subst, drop, slice_get, unwrap_or, arith}
+use Rattle.std.proofs.Common.{◌≡◌, ◌∙◌, [], ◌∷◌, ◌++◌, ◌+◌, true, None, refl, sym, ap, subst, drop, slice_get, unwrap_or, arith}
 use Rattle.std.specs.List.{flat_map}
 use Rattle.std.proofs.lemmas.Result.{on_ok_weaker}
-use Rattle.setl_value.specs.Datum.{Datum, set_of, tuple_of, element_list-elements_of, part_list-parts_of}
+use Rattle.setl_value.specs.Datum.{set_of, tuple_of, element_list-elements_of, part_list-parts_of}
 use Rattle.setl_value.specs.code.Body.{Members}
 use Rattle.setl_value.specs.code.DatumOf.{datum, lent}
 use Rattle.setl_value.specs.Pairs.{pair_parts}
 use Rattle.setl_map.specs.code.Points.{part_at}
 use Rattle.setl_set.specs.Sets.{has_datum}
 use Rattle.setl_modes.specs.Modes.{mode_of}
-use Rattle.setl_modes_places.specs.Places.{at_part, at_pair, at_point, elements_at}
+use Rattle.setl_modes_places.specs.Places.{at_part, elements_at}
 use Rattle.setl_rep_entering.specs.code.Finding.{at_firsts, at_images, at_map, at_neighbour, at_seconds, is_at_point}
 use Rattle.setl_rep_entering.proofs.ModeCodes.{of_set, of_tuple, of_smap, of_mmap}
 use Rattle.setl_rep_entering.proofs.Naming.{names_none}
@@ -178,3 +178,14 @@ pub in_pairs-returns : goal.in_pairs-returns
 in_pairs-returns t c =
     gains_then c.args.a.now.bases.now c.args.a.now.instance (λ b. at_firsts b (mode_of c.args.mode.now) (Members c.args.f.now)) (λ b. at_seconds b (mode_of c.args.mode.now) (Members c.args.f.now)) c.args.found.now.items c.in_firsts.new.found.items c.in_seconds.new.found.items
     c.in_ok-in_firsts.ensures c.in_ok-in_seconds.ensures
+
+pub in_map-returns-in-Set : goal.in_map-returns-in-Set
+in_map-returns-in-Set t c =
+    let bs = c.args.a.now.bases.now in
+    let n = c.args.a.now.instance in
+    let m = mode_of c.args.mode.now in
+    let ms = Members c.in-Set.f in
+    on_ok_weaker c.in_pairs.result
+    (λ g. gains_as bs n (λ b. at_firsts b m ms ++ at_seconds b m ms) (λ b. at_map b m (datum c.args.v.now)) c.args.found.now.items c.in_pairs.new.found.items
+    (λ b. (λ k. at_firsts b m (sym (element_list-elements_of ms) k) ++ at_seconds b m (sym (element_list-elements_of ms) k)) ∙ (λ k. at_map b m (datum (sym c.in-Set.is k)))) g)
+    c.in_pairs.ensures
