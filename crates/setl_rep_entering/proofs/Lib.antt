@@ -6,3 +6,4 @@ pub mod Appended
 pub mod Sorting
 pub mod Undoing
 pub mod Lengthened
+pub mod Taking

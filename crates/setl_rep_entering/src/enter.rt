@@ -1,14 +1,15 @@
 //! Values at places are entered into their bases.
 
-ghost use Rattle.std.specs.Prelude.{◌≡◌, ◌||◌, ◌&&◌, true, OnOk, OnErr};
+ghost use Rattle.std.specs.Prelude.{◌≡◌, ◌||◌, ◌&&◌, ℕ, true, OnOk, OnErr, IfOk};
 ghost use Rattle.setl_rep_bases.specs.declared.BaseId.{BaseId};
+ghost use Rattle.setl_value.specs.Datum.{Datum};
 ghost use Rattle.setl_value.specs.code.DatumOf.{datum};
 ghost use Rattle.setl_modes.specs.Fits.{datum_fits};
-ghost use Rattle.setl_modes.specs.Modes.{mode_of};
+ghost use Rattle.setl_modes.specs.Modes.{Mode as ModeState, mode_of};
 ghost use Rattle.setl_modes_places.specs.Places.{names};
 ghost use Rattle.setl_rep_bases.specs.Bases.{BasesState};
 ghost use Rattle.setl_rep_entering.specs.Entering.{is_named, AreLengthened, BasesAreThere};
-ghost use Rattle.setl_rep_entering.specs.code.Growing.{all_placed, all_undone, is_marked, AreGrown, AreMarked, AreMarks, ArePlacesThere, ChangeWithin};
+ghost use Rattle.setl_rep_entering.specs.code.Growing.{all_placed, all_undone, is_marked, AreGrown, AreMarked, AreMarks, AreMarksOf, ArePlacesThere, ChangeWithin};
 
 use crate::Memory;
 use crate::places::{Activation, Place, new_places};
@@ -20,7 +21,7 @@ use std::alloc::Global;
 
 /// How many members an instance had.
 #[derive(Clone, Copy)]
-pub(crate) struct Mark {
+pub struct Mark {
     pub base: BaseId,
     pub mark: BaseMark,
 }
@@ -52,9 +53,41 @@ pub fn enter_places(
         instance,
     };
     let places = new_places(&a, mode, v)?;
+    let marks = base_marks(alloc, mode, instance, bases)?;
+    enter_or_undo(places, marks, bases)
+}
+
+/// How many members each base that a mode names has in an activation: with these `take_back` undoes what `enter_places`
+/// does next.
+///
+/// The error is want of memory.
+pub fn base_marks(
+    alloc: Global,
+    mode: &Mode,
+    instance: u64,
+    bases: &Bases,
+) -> Result<Vec<Mark>, Memory>
+    requires { BasesAreThere bases.now instance (mode_of mode.now) }
+    ensures { IfOk result (λ ms. AreMarksOf bases.now instance (mode_of mode.now) ms.items) }
+{
+    let a = Activation {
+        alloc,
+        bases,
+        instance,
+    };
     let mut marks = Vec::new(alloc);
     mark_bases(&a, mode, &mut marks)?;
-    enter_or_undo(places, marks, bases)
+    Ok(marks)
+}
+
+/// Takes back what was entered since these marks were made: the bases are as they were then. It takes no memory.
+pub fn take_back(marks: Vec<Mark>, bases: &mut Bases)
+    requires { (m : ModeState) × (d : Datum) × (n : ℕ) × (bs : BasesState) × AreMarksOf bs n m marks.items × AreLengthened m d n bs bases.old }
+    ensures { (m : ModeState) (d : Datum) (n : ℕ) (bs : BasesState) → AreMarksOf bs n m marks.items → AreLengthened m d n bs bases.old → bases.new ≡ bs }
+{
+    setl_modes_places::places_are_named();
+    setl_rep_bases::laws::instances_are_read();
+    undo_all(marks, bases);
 }
 
 // Puts the mark of each base that a mode names at the end.

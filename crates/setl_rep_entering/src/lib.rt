@@ -9,6 +9,6 @@ pub mod laws;
 mod places;
 mod there;
 
-pub use enter::enter_places;
+pub use enter::{Mark, base_marks, enter_places, take_back};
 pub use std::alloc::AllocError as Memory;
 pub use there::bases_are_there;

@@ -1,12 +1,15 @@
 -- Bases into which places are entered, and which are taken back.
-use Rattle.std.specs.Prelude.{◌≡◌, ◌⊎◌, ◌≤◌, Bool, true, List, [], ◌∷◌, length, Option, Some, None}
+use Rattle.std.specs.Prelude.{◌≡◌, ◌⊎◌, ℕ, ◌≤◌, ◌&&◌, Bool, true, List, [], ◌∷◌, length, Option, Some, None}
 use Rattle.std.specs.List.{list_any, AllByRecursion}
 use Rattle.setl_value.specs.code.DatumOf.{datum}
+use Rattle.setl_modes.specs.Modes.{Mode}
+use Rattle.setl_modes_places.specs.Places.{names}
 use Rattle.setl_base.specs.Base.{undone}
 use Rattle.setl_rep_bases.specs.declared.BaseId.{BaseId}
 use Rattle.setl_rep_bases.specs.declared.tables.Instance.{Instance}
 use Rattle.setl_rep_bases.specs.BaseId.{is_id}
 use Rattle.setl_rep_bases.specs.Bases.{BasesState, instance_at, base_at, IsThere, with_entered, with_undone}
+use Rattle.setl_rep_entering.specs.Entering.{is_named}
 use Rattle.setl_rep_entering.specs.declared.places.Place.{Place}
 use Rattle.setl_rep_entering.specs.declared.enter.Mark.{Mark}
 
@@ -30,6 +33,11 @@ is_marked i ms = list_any (λ m. is_id i m.base) ms
 -- each is that of its instance
 abbrev pub AreMarks : BasesState → List Mark → Type 0
 AreMarks bs ms = AllByRecursion (λ m. IsThere bs m.base × (m.mark.count ≡ length (base_at bs m.base).members)) ms
+
+-- those of the instances that a mode names in the activation n
+pub record AreMarksOf (bs : BasesState) (n : ℕ) (m : Mode) (ms : List Mark) : Type 0 where
+  pub marks : AreMarks bs ms
+  pub all : (i : BaseId) → is_marked i ms ≡ (is_named bs n i && names i.base m)
 
 -- each instance with a place has a mark
 abbrev pub AreMarked : List Mark → List Place → Type 0

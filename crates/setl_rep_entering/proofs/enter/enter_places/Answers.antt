@@ -1,11 +1,9 @@
-use Rattle.std.proofs.Common.{◌∙◌, ◌&&◌, ◌||◌, sym, ap, subst}
+use Rattle.std.proofs.Common.{◌∙◌, sym, subst}
 use Rattle.std.proofs.lemmas.Result.{on_ok_weaker}
 use Rattle.setl_value.specs.code.DatumOf.{datum}
 use Rattle.setl_modes.specs.Modes.{mode_of}
-use Rattle.setl_modes_places.specs.Places.{names}
-use Rattle.setl_rep_entering.specs.Entering.{is_named, AreLengthened}
+use Rattle.setl_rep_entering.specs.Entering.{AreLengthened}
 use Rattle.setl_rep_entering.specs.code.Finding.{place_cmp}
-use Rattle.setl_rep_entering.specs.code.Growing.{is_marked}
 use Rattle.setl_rep_entering.proofs.Appended.{are_lengthened, places_there, places_marked, values_rise}
 use Rattle.setl_rep_entering.proofs.Sorting.{goes_by_value}
 use Rattle.setl_rep_entering.proofs.enter.enter_places.Goals as goal
@@ -17,10 +15,12 @@ enter_or_undo-requires-clause-there c =
 
 pub enter_or_undo-requires-clause-marked : goal.enter_or_undo-requires-clause-marked
 enter_or_undo-requires-clause-marked c =
-    λ i h. c.in_ok-mark_bases.ensures.all i
-    ∙ ap (λ l. is_marked i l || (is_named c.args.bases.now c.args.instance i && names i.base (mode_of c.args.mode.now))) c.new-marks.ensures.items
+    λ i h. c.in_ok-marks.ensures.all i
     ∙ places_marked c.rising_lists_agree.ensures c.tests_are_exact.ensures.membership c.operations_have_their_members.ensures.gather (mode_of c.args.mode.now) (datum c.args.v.now) c.args.instance c.args.bases.now c.in_ok-places.places.items
     c.in_ok-places.ensures.found c.places_are_named.ensures i h
+
+pub enter_or_undo-requires-clause-marks : goal.enter_or_undo-requires-clause-marks
+enter_or_undo-requires-clause-marks c = c.in_ok-marks.ensures.marks
 
 pub returns-clause-lengthened : goal.returns-clause-lengthened
 returns-clause-lengthened c =
