@@ -6,7 +6,8 @@
 
 use setl_io_adapters::{DiskFiles, ReaderSource, WriterSink};
 use setl_top::{Status, setl};
-use setl_watch::{Cover, Memory, Trace, Watcher};
+use setl_top_status::{Fault, break_off};
+use setl_watch::{Cover, Memory, Profile, Trace, Watcher};
 use std::alloc::Global;
 use std::process::ExitCode;
 use std::{env, io};
@@ -18,13 +19,14 @@ fn words(rt: &(impl env::Env + Alloc<A = Global>)) -> io::Result<Vec<String>> {
     Ok(env::args(rt)?.skip(1).collect(rt.alloc())?)
 }
 
-/// Does what the words ask for, over the real files and the standard streams, with a trace and a cover to be asked for. The
-/// error is want of memory for these.
+/// Does what the words ask for, over the real files and the standard streams, with a trace, a cover and a profile to be
+/// asked for. The error is want of memory for these.
 fn run(rt: &HostRuntime, words: &[String]) -> Result<Status, Memory> {
     let alloc = rt.alloc();
     let mut watchers: Vec<Box<dyn Watcher>> = Vec::new(alloc);
     watchers.push(Box::new(alloc, Trace::new(alloc)?)?)?;
     watchers.push(Box::new(alloc, Cover::new(alloc)?)?)?;
+    watchers.push(Box::new(alloc, Profile::new(alloc)?)?)?;
     let mut files = DiskFiles::new(rt);
     let mut input = ReaderSource::new(rt.stdin());
     let mut out = WriterSink::new(rt.stdout());
@@ -34,10 +36,15 @@ fn run(rt: &HostRuntime, words: &[String]) -> Result<Status, Memory> {
     ))
 }
 
+/// Tells that memory was refused before the call.
+fn starve(rt: &HostRuntime) -> Status {
+    break_off(&mut WriterSink::new(rt.stderr()), Fault::NoMemory)
+}
+
 fn main(rt: HostRuntime) -> ExitCode {
     let status = match words(&rt) {
-        Ok(words) => run(&rt, &words).unwrap_or(Status::NoMemory),
-        Err(error) if error.kind() == io::ErrorKind::OutOfMemory => Status::NoMemory,
+        Ok(words) => run(&rt, &words).unwrap_or_else(|_| starve(&rt)),
+        Err(error) if error.kind() == io::ErrorKind::OutOfMemory => starve(&rt),
         Err(_) => Status::Words,
     };
     ExitCode::from(status.number())

@@ -17,7 +17,7 @@ use crate::operating::{operate_any, put_for_two};
 use setl_code::{Alteration, Bracket, Instr, Slot};
 use setl_machine_control::{Control, End};
 use setl_machine_variables::{
-    Declarations, freely_of_top, load, push_integer, store_at_once, update,
+    Declarations, freely_of_top, load, push_integer, store_at_once, take, update,
 };
 use setl_operators::Operator;
 use setl_store::Store;
@@ -42,6 +42,7 @@ pub(crate) fn at_once(
     match what {
         Instr::Integer(n) => went_on(push_integer(n, store)),
         Instr::Load(slot) => went_on(load(*slot, store)),
+        Instr::Take(slot) => went_on(take(*slot, store)),
         Instr::Store(slot) => Ok(store_at_once(*slot, declarations, store)?),
         Instr::Operate(operator, count) => operate_at_once(*operator, *count, line, store, control),
         Instr::Alter(what, slot, brackets) => alter_at_once(

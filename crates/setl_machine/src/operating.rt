@@ -101,14 +101,17 @@ pub(crate) fn operate_any(
 {
     match what.operand_count() {
         Some(1) => operate_on_one(what, count, line, store, control),
-        Some(2) if !changes_first(what) => operate_on_two(what, count, line, store, control),
+        Some(2) if !uses_up(what) => operate_on_two(what, count, line, store, control),
         _ => operate_listed(what, count, line, store, control),
     }
 }
 
-/// Whether an operator changes its first operand in place where it is handed over.
-fn changes_first(what: Operator) -> bool {
-    matches!(what, Operator::With | Operator::Less | Operator::Lessf)
+/// Whether an operator with two operands changes one of them in place where it is handed over.
+fn uses_up(what: Operator) -> bool {
+    matches!(
+        what,
+        Operator::Add | Operator::Subtract | Operator::With | Operator::Less | Operator::Lessf
+    )
 }
 
 /// The same of an operator with one operand, which it is lent where that is a value.

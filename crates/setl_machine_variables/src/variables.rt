@@ -74,7 +74,7 @@ pub fn load(slot: Slot, store: &mut Store<'_>) -> Result<End, Memory>
 
 /// Pushes what a variable holds, and leaves nothing there. The run is stuck where that was taken before. The error is want of
 /// memory.
-#[inline(never)]
+#[inline(always)]
 pub fn take(slot: Slot, store: &mut Store<'_>) -> Result<End, Memory>
     requires few { store.old.core.now.at + 1 < 2 ^ 64 }
     requires there { HasSlot (length store.old.core.globals) (length store.old.core.now.own) slot }

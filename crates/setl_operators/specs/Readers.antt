@@ -1,4 +1,4 @@
--- Which operators only read their operands.
+-- Which operators take one or two operands, and which only read two.
 use Rattle.std.specs.Prelude.{ℕ, ◌==◌, ◌||◌, Bool, false, Option, Some, None}
 use Rattle.setl_operators_table.specs.declared.Operator.{Operator}
 use Rattle.setl_operators_table.specs.declared.Operator.TheVariants.{With, Less, Lessf, Equal, NotEqual}
@@ -12,12 +12,9 @@ abbrev is_two : Option ℕ → Bool
 is_two None = false
 is_two (Some n) = n == 2
 
--- on one or two operands, none of which is changed in place
-abbrev pub reads : Operator → Bool
-reads With = false
-reads Less = false
-reads Lessf = false
-reads what = is_few (operand_count what)
+-- on one or two operands
+abbrev pub takes_few : Operator → Bool
+takes_few what = is_few (operand_count what)
 
 -- on two values, neither of which may be `om` or is changed in place
 abbrev pub reads_two : Operator → Bool

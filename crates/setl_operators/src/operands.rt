@@ -65,19 +65,11 @@ pub(crate) fn one(a: Option<&Value>) -> Result<&Value, OpFault>
     a.ok_or(OpFault::Om)
 }
 
-/// Both operands, which are values. Om where one is `om`.
-pub(crate) fn two(args: Vec<Option<Value>>) -> Result<(Value, Value), OpFault>
-    requires { length args.items ≡ 2 }
-    ensures { MatchResult result (λ vs. map part args.items ≡ Some (datum vs.0) ∷ Some (datum vs.1) ∷ []) (λ e. (e ≡ OpFault.Om) × (all_values (map part args.items) ≡ None)) }
+/// The operand, a value, which is handed over. Om where it is `om`.
+pub(crate) fn own(a: Option<Value>) -> Result<Value, OpFault>
+    ensures { MatchResult result (λ v. part a ≡ Some (datum v)) (λ e. (e ≡ OpFault.Om) × (part a ≡ None)) }
 {
-    let (a, b) = any_two(args);
-    let Some(a) = a else {
-        return Err(OpFault::Om);
-    };
-    let Some(b) = b else {
-        return Err(OpFault::Om);
-    };
-    Ok((a, b))
+    a.ok_or(OpFault::Om)
 }
 
 /// The three operands, which are values. Om where one is `om`.

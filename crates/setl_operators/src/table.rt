@@ -8,14 +8,14 @@ ghost use Rattle.setl_operators_table.specs.Operators.{op_of, operand_count, Tak
 ghost use Rattle.setl_operators_table.specs.Outcome.{value};
 ghost use Rattle.setl_operators_table.specs.Puts.{put};
 ghost use Rattle.setl_text.specs.Texts.{whole_text};
-ghost use Rattle.setl_operators.specs.Readers.{reads, reads_two};
+ghost use Rattle.setl_operators.specs.Readers.{takes_few, reads_two};
 
 use crate::folds::{Combination, fold};
-use crate::operands::{any_one, any_three, any_two, lend, one, three, two};
+use crate::operands::{any_one, any_three, any_two, lend, one, own, three};
 use setl_operators_arithmetic::{
-    absolute, at_most, below, divide, equal, even, greater, is_atom, is_boolean, is_in, is_integer,
-    is_map, is_set, is_string, is_tuple, lesser, minus, modulo, negate, negation, not_equal,
-    not_in, odd, plus, power, subset, times,
+    absolute, at_most, below, difference, divide, equal, even, greater, is_atom, is_boolean, is_in,
+    is_integer, is_map, is_set, is_string, is_tuple, lesser, minus, modulo, negate, negation,
+    not_equal, not_in, odd, plus, power, subset, sum, times,
 };
 use setl_operators_collections::{
     arb, domain, get, images, less, lessf, put, put_images, range, size, slice, tail, with,
@@ -43,18 +43,6 @@ pub fn op(
     ensures { Tells result (op_of what (map part args.items) turns) }
 {
     match what {
-        Operator::With => {
-            let (a, b) = two(args)?;
-            with(alloc, a, b)
-        }
-        Operator::Less => {
-            let (a, b) = two(args)?;
-            less(a, &b)
-        }
-        Operator::Lessf => {
-            let (a, b) = two(args)?;
-            lessf(alloc, a, &b)
-        }
         Operator::Slice => {
             let (a, b, c) = three(args)?;
             slice(alloc, &a, &b, &c)
@@ -74,18 +62,18 @@ pub fn op(
             let (a, b, c) = three(args)?;
             put_images(alloc, a, b, &c)
         }
-        _ => read(alloc, what, args, turns),
+        _ => few(alloc, what, args, turns),
     }
 }
 
-// What an operator that only reads its one or two operands makes of them.
-fn read(
+// What an operator makes of its one or two operands.
+fn few(
     alloc: Global,
     what: Operator,
     args: Vec<Option<Value>>,
     turns: u64,
 ) -> Result<Answer, OpFault>
-    requires reads { IsTrue (reads what) }
+    requires few { IsTrue (takes_few what) }
     requires count { TakesOperands what (length args.items) }
     ensures { Tells result (op_of what (map part args.items) turns) }
 {
@@ -94,7 +82,29 @@ fn read(
         op_one(alloc, what, lend(&a), turns)
     } else {
         let (a, b) = any_two(args);
-        op_two(alloc, what, lend(&a), lend(&b), turns)
+        op_pair(alloc, what, a, b, turns)
+    }
+}
+
+/// What an operator with two operands makes of them, with these turns left. Both are used up, and None is `om`. It answers
+/// as `op` does.
+pub fn op_pair(
+    alloc: Global,
+    what: Operator,
+    a: Option<Value>,
+    b: Option<Value>,
+    turns: u64,
+) -> Result<Answer, OpFault>
+    requires { operand_count what ≡ Some 2 }
+    ensures { Tells result (op_of what (part a ∷ part b ∷ []) turns) }
+{
+    match what {
+        Operator::Add => sum(alloc, own(a)?, own(b)?),
+        Operator::Subtract => difference(alloc, own(a)?, &own(b)?),
+        Operator::With => with(alloc, own(a)?, own(b)?),
+        Operator::Less => less(own(a)?, &own(b)?),
+        Operator::Lessf => lessf(alloc, own(a)?, &own(b)?),
+        _ => op_two(alloc, what, lend(&a), lend(&b), turns),
     }
 }
 

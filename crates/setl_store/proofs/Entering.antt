@@ -21,6 +21,7 @@ use Rattle.setl_code.specs.CodeMeans.{main_slots}
 use Rattle.setl_code.specs.MayRun.{Differ, MayRun}
 use Rattle.setl_code.specs.Names.{is_among}
 use Rattle.setl_code.specs.Plain.{plain_body, plain_code, plain_name}
+use Rattle.setl_store_environment.specs.Places.{no_fields}
 use Rattle.setl_store.specs.declared.cells.Frame.{Frame}
 use Rattle.setl_store_slots.specs.declared.cells.Held.{Held as Slot}
 use Rattle.setl_store.specs.Bodies.{with_stores, entered}
@@ -233,12 +234,12 @@ counted_both (Some b) = refl
 
 pub starts : (code : Code) (e : Here) (v p m : ℕ) → MayRun code → v ≡ length code.vars → p ≡ parameter_count_of (slice_get code.bodies 0) → m ≡ name_count_of (slice_get code.bodies 0) →
     helds e ≡ (replicate v (There None) ++ replicate p (There None)) ++ replicate m (There None) →
-    e ≡ record { slots = e.slots; operands = []; activations = record { body = 0; from = 0; slots = v; operands = 0 } ∷ []; members = [] } →
+    e ≡ record { slots = e.slots; operands = []; activations = record { body = 0; from = 0; slots = v; operands = 0 } ∷ []; members = []; fields = no_fields } →
     (stands code 0 e [] ≡ started code) × IsSound (plain_code code) e
 starts code e v p m may vars ps ns filled_by now =
     let c = plain_code code in
     let f : Frame = record { body = 0; from = 0; slots = v; operands = 0 } in
-    let e0 : Here = record { slots = e.slots; operands = []; activations = f ∷ []; members = [] } in
+    let e0 : Here = record { slots = e.slots; operands = []; activations = f ∷ []; members = []; fields = no_fields } in
     let own = replicate p (There None) ++ replicate m (There None) in
     let hs : helds e ≡ replicate v (There None) ++ own = filled_by ∙ append_assoc (replicate v (There None)) (replicate p (There None)) (replicate m (There None)) in
     let all : p + m ≡ length (names_of c 0) = (λ i. ps i + ns i) ∙ counted_both (slice_get code.bodies 0) ∙ sym (ap length (names_same code 0) ∙ counted 0 (slice_get code.bodies 0)) in
@@ -261,11 +262,11 @@ starts code e v p m may vars ps ns filled_by now =
     )
 
 abbrev nothing : Here
-nothing = record { slots = []; operands = []; activations = []; members = [] }
+nothing = record { slots = []; operands = []; activations = []; members = []; fields = no_fields }
 
 -- what is there, step by step
 pub first_contents : (e0 e1 e2 e3 : Here) (f : Frame) → e0 ≡ nothing → e1 ≡ record e0 { slots = e1.slots } → e2 ≡ record e1 { slots = e2.slots } → e3 ≡ record e2 { slots = e3.slots; activations = e2.activations ++ f ∷ [] } →
-    e3 ≡ record { slots = e3.slots; operands = []; activations = f ∷ []; members = [] }
+    e3 ≡ record { slots = e3.slots; operands = []; activations = f ∷ []; members = []; fields = no_fields }
 first_contents e0 e1 e2 e3 f a b c d =
     d ∙ ap (λ (x : Here). record x { slots = e3.slots; activations = x.activations ++ f ∷ [] }) (c ∙ ap (λ (x : Here). record x { slots = e2.slots }) (b ∙ ap (λ (x : Here). record x { slots = e1.slots }) a))
 

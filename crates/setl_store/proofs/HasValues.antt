@@ -1,6 +1,6 @@
 -- So many results taken off.
 use Rattle.std.proofs.Common.{◌≡◌, ℕ, zero, suc, ◌+◌, ◌-◌, ◌<◌, Bool, true, false, List, [], ◌∷◌, ◌++◌, length, drop, map, reverse, get_or, refl, sym, ap, ◌∙◌, subst, arith, Option, Some, None}
-use Rattle.std.specs.Prelude.{slice_get, is_some, IsSome, ◌&&◌}
+use Rattle.std.specs.Prelude.{slice_get, is_some, ◌&&◌}
 use Rattle.std.specs.Option.{option_map}
 use Rattle.std.proofs.Math.Seq.{drop-cons}
 use Rattle.std.proofs.lemmas.List.{get_or-reverse, get_or-drop, length-drop, length-map, length-reverse, map-append, reverse-append}
@@ -51,30 +51,6 @@ pub lacks : (n : ℕ) (vs : List (Option Datum)) (xs : List core.Operand) → ha
 lacks zero vs xs e = absurd (cc)
 lacks (suc n) vs [] e = refl
 lacks (suc n) vs (o ∷ xs) e = lacks_by n vs (value_of o) xs (λ us h. lacks n us xs h) e
-
-enough_by : (n : ℕ) (vs : List (Option Datum)) (w : Option (Option Datum)) (xs : List core.Operand) → ((us : List (Option Datum)) → has_values n xs ≡ true → popped n us xs ≡ Lacks → ⊥) →
-    (is_some w && has_values n xs) ≡ true → pop_before w (λ v. popped n (v ∷ vs) xs) ≡ Lacks → ⊥
-enough_by n vs None xs rest e h = cc
-enough_by n vs (Some v) xs rest e h = rest (v ∷ vs) e h
-
-enough : (n : ℕ) (vs : List (Option Datum)) (xs : List core.Operand) → has_values n xs ≡ true → popped n vs xs ≡ Lacks → ⊥
-enough zero vs xs e h = let k : Pops vs xs ≡ Lacks = h in cc
-enough (suc n) vs [] e h = cc
-enough (suc n) vs (o ∷ xs) e h = enough_by n vs (value_of o) xs (λ us a b. enough n us xs a b) e h
-
-top_by : (n : ℕ) (vs : List (Option Datum)) (w : Option (Option Datum)) (xs : List core.Operand) → (pop_before w (λ v. popped n (v ∷ vs) xs) ≡ Lacks → ⊥) → IsSome (option_map {U = Option Datum × List core.Operand} (λ v. (v, xs)) w)
-top_by n vs None xs h = absurd (h refl)
-top_by n vs (Some v) xs h = refl
-
-some_top : (n : ℕ) (vs : List (Option Datum)) (xs : List core.Operand) → (popped (suc n) vs xs ≡ Lacks → ⊥) → IsSome (top_of xs)
-some_top n vs [] h = absurd (h refl)
-some_top n vs (o ∷ xs) h = top_by n vs (value_of o) xs h
-
--- where not all are popped, one is on top
-pub one_more_there : (n i : ℕ) (vs : List (Option Datum)) (old now : List core.Operand) → i < n → has_values n old ≡ true → popped n [] old ≡ popped (n - i) vs now → IsSome (top_of now)
-one_more_there n i vs old now l e is =
-    let less : n - i ≡ suc (n - (i + 1)) = omega (arith, l) in
-    some_top (n - (i + 1)) vs now (λ h. enough n [] old e (is ∙ ap (λ k. popped k vs now) less ∙ h))
 
 -- ---- the flat list of operands
 

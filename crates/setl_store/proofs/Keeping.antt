@@ -9,11 +9,8 @@ use Rattle.setl_code.specs.Plain.{plain_code}
 use Rattle.setl_store.specs.declared.cells.Operand.{Operand}
 use Rattle.setl_store.specs.declared.cells.Operand.TheVariants as operand
 use Rattle.setl_store.specs.Standing.{Standing, over, kept as with_kept}
-use Rattle.setl_store.specs.Flat.{Here, copy_of, core_of, stands, IsSound, AllSound, with_operand, now_operands}
-use Rattle.setl_store.proofs.OperandLists.{Changed, pushes, same_holds}
-
-abbrev pub answering : Here → Bool → Here
-answering e b = with_operand e (operand.Value (value.Bool b))
+use Rattle.setl_store.specs.Flat.{Here, copy_of, core_of, stands, IsSound, AllSound, answering, now_operands}
+use Rattle.setl_store.proofs.OperandLists.{Changed, pushes}
 
 -- with a truth value pushed
 answered : (code : Code) (at : ℕ) (e : Here) (kept : List (Here × ℕ)) (b : Bool) → MayRun code × IsSound (plain_code code) e × AllSound (plain_code code) kept →
@@ -23,11 +20,6 @@ answered code at e kept b h = pushes code at e (answering e b) kept kept (stands
 core_answered : (code : Code) (at : ℕ) (e : Here) (kept : List (Here × ℕ)) (b : Bool) → MayRun code × IsSound (plain_code code) e × AllSound (plain_code code) kept →
     core_of (plain_code code) at (answering e b) kept ≡ over (Holds (Some (bool b)) ∷ now_operands e) (core_of (plain_code code) at e kept)
 core_answered code at e kept b h = ap (λ (x : Standing). x.core) (answered code at e kept b h).stands
-
--- all that always holds still does, before it is kept
-pub holds_answering : (code : Code) (at : ℕ) (e e' : Here) (kept kept' : List (Here × ℕ)) → MayRun code × IsSound (plain_code code) e × AllSound (plain_code code) kept →
-    e' ≡ answering e false → kept' ≡ kept → MayRun code × IsSound (plain_code code) e' × AllSound (plain_code code) kept'
-holds_answering code at e e' kept kept' h now same = same_holds code (answering e false) e' kept kept' (answered code at e kept false h).holds now same
 
 last_set : {A : Type 0} (xs : List A) (x y : A) → set (xs ++ x ∷ []) (length xs) y ≡ xs ++ y ∷ []
 last_set [] x y = refl
@@ -46,17 +38,13 @@ abbrev copied : CodeCore → Copy
 copied k = record { globals = k.globals; now = record k.now { operands = drop 1 k.now.operands }; callers = k.callers }
 
 -- all that always holds still does, once it is kept
-pub keeps : (code : Code) (at : ℕ) (e e' : Here) (kept kept' : List (Here × ℕ)) → MayRun code × IsSound (plain_code code) e × AllSound (plain_code code) kept →
+keeps : (code : Code) (at : ℕ) (e e' : Here) (kept kept' : List (Here × ℕ)) → MayRun code × IsSound (plain_code code) e × AllSound (plain_code code) kept →
     e' ≡ answering e false → kept' ≡ (answering e false, at) ∷ kept → MayRun code × IsSound (plain_code code) e' × AllSound (plain_code code) kept'
 keeps code at e e' kept kept' h now added =
     let c = plain_code code in
     let sound = (answered code at e kept false h).holds.1 in
     let top = ap (λ (k : CodeCore). k.now.operands) (core_answered code at e kept false h) in
     (h.0, subst (IsSound c) (sym now) sound, subst (AllSound c) (sym added) (sound, top ∙ ap (λ l. Holds (Some (bool false)) ∷ drop 1 l) (sym top), h.2))
-
--- what is kept then
-pub kept_then : (e e1 : Here) (at : ℕ) (kept kept1 kept2 : List (Here × ℕ)) → kept2 ≡ (e1, at) ∷ kept1 → e1 ≡ answering e false → kept1 ≡ kept → kept2 ≡ (answering e false, at) ∷ kept
-kept_then e e1 at kept kept1 kept2 added now same = added ∙ (λ i. (now i, at) ∷ same i)
 
 -- and once it goes on
 pub all_kept : (code : Code) (at next : ℕ) (e e' : Here) (kept kept' : List (Here × ℕ)) (s : Standing) → MayRun code × IsSound (plain_code code) e × AllSound (plain_code code) kept → stands code at e kept ≡ s →

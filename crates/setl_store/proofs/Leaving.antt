@@ -32,7 +32,7 @@ use Rattle.setl_store_slots.specs.Handed.{and_held, and_handed}
 use Rattle.setl_store_slots.specs.Handed as cells
 use Rattle.setl_store.specs.declared.cells.Operand.{Operand}
 use Rattle.setl_store.specs.Bodies.{left, left_for}
-use Rattle.setl_store.specs.Flat.{Here, cells, held_of, helds, operand_of, results, body_in, slots_in, operands_in, activation, callers, core_of, stands, own_count_of, AllGot, HasMembers, members_below, IsShaped, IsSound, AllSound, with_operand}
+use Rattle.setl_store.specs.Flat.{Here, cells, held_of, helds, operand_of, results, body_in, slots_in, operands_in, activation, callers, core_of, stands, own_count_of, AllGot, HasMembers, members_below, IsShaped, IsSound, AllSound, with_operand, without}
 use Rattle.setl_store.specs.Returning.{operand_by, pushed_on, handed, handed_by, handed_in, parameter_count_of}
 use Rattle.setl_store.specs.Standing.{Standing, variables_by, over}
 use Rattle.setl_store.proofs.Bodies.{body_at, names_same, names_differ}
@@ -207,9 +207,6 @@ left_flat code at (f ∷ g ∷ fs) hs os kept v m may h =
 
 -- ---- the store that is left
 
-abbrev pub without : Here → Frame → ℕ → Here
-without e f m = record { slots = take f.slots e.slots; operands = take f.operands e.operands; activations = take (length e.activations - 1) e.activations; members = take m e.members }
-
 abbrev rest_of : Here → List Frame
 rest_of e = reverse (take (length e.activations - 1) e.activations)
 
@@ -242,12 +239,11 @@ dropped_sound c e f g fs m sound h rest has within =
     }
 
 -- what is known where the body at work is left
-pub record Drops (e e1 e2 : Here) (f : Frame) (m : ℕ) (vs : List (Option Value)) : Type 0 where
+pub record Drops (e e' : Here) (f : Frame) (m : ℕ) (vs : List (Option Value)) : Type 0 where
   pub last : reverse e.activations ≡ f ∷ rest_of e
   pub has : HasMembers (reverse (take f.operands e.operands)) m
   pub within : m ≤ length e.members
-  pub without_it : e1 ≡ without e f m
-  pub pushed : e2 ≡ record e1 { operands = e1.operands ++ map operand_by vs }
+  pub pushed : e' ≡ record (without e f m) { operands = take f.operands e.operands ++ map operand_by vs }
 
 left_rest : (code : Code) (at : ℕ) (e : Here) (kept : List (Here × ℕ)) (f : Frame) (m : ℕ) (v : Option Datum) (vs : List (Option Value)) (gs : List Frame) → MayRun code × IsSound (plain_code code) e × AllSound (plain_code code) kept →
     reverse e.activations ≡ f ∷ gs → rest_of e ≡ gs → HasMembers (reverse (take f.operands e.operands)) m → m ≤ length e.members →
@@ -272,20 +268,17 @@ left_rest code at e kept f m v vs (g ∷ fs) h last rest has within back =
       dropped_sound c e f g fs m h.1 shaped rest has within,
     )
 
-pub leaves : (code : Code) (at : ℕ) (e e1 e2 : Here) (kept k1 k2 : List (Here × ℕ)) (s : Standing) (f : Frame) (m : ℕ) (v : Option Datum) (vs : List (Option Value)) →
-    MayRun code × IsSound (plain_code code) e × AllSound (plain_code code) kept → stands code at e kept ≡ s → Drops e e1 e2 f m vs → k1 ≡ kept → k2 ≡ k1 →
+pub leaves : (code : Code) (at : ℕ) (e e' : Here) (kept kept' : List (Here × ℕ)) (s : Standing) (f : Frame) (m : ℕ) (v : Option Datum) (vs : List (Option Value)) →
+    MayRun code × IsSound (plain_code code) e × AllSound (plain_code code) kept → stands code at e kept ≡ s → Drops e e' f m vs → kept' ≡ kept →
     ((xs : List core.Operand) → handed_in code.bodies (reverse e.activations) (helds e) (core.Result v ∷ xs) ≡ Some (pushed_on (map part vs) xs)) →
-    (left (slice_get (plain_code s.code).bodies s.core.now.body) v s.core ≡ Some (stands code f.from e2 k2).core)
-    × (MayRun code × IsSound (plain_code code) e1 × AllSound (plain_code code) k1)
-    × (MayRun code × IsSound (plain_code code) e2 × AllSound (plain_code code) k2)
-leaves code at e e1 e2 kept k1 k2 s f m v vs h is drops same1 same2 back =
-    let c = plain_code code in
+    (left (slice_get (plain_code s.code).bodies s.core.now.body) v s.core ≡ Some (stands code f.from e' kept').core)
+    × (MayRun code × IsSound (plain_code code) e' × AllSound (plain_code code) kept')
+leaves code at e e' kept kept' s f m v vs h is drops same back =
     let r = left_rest code at e kept f m v vs (rest_of e) h drops.last refl drops.has drops.within back in
     let e0 = without e f m in
-    let p = pushes_all vs code f.from e0 e2 kept k2 (stands code f.from e0 kept) (h.0, r.1, h.2) refl (drops.pushed ∙ ap (λ (x : Here). record x { operands = x.operands ++ map operand_by vs }) drops.without_it) (same2 ∙ same1) in (
-      subst (λ (t : Standing). left (slice_get (plain_code t.code).bodies t.core.now.body) v t.core ≡ Some (stands code f.from e2 k2).core) is
+    let p = pushes_all vs code f.from e0 e' kept kept' (stands code f.from e0 kept) (h.0, r.1, h.2) refl drops.pushed same in (
+      subst (λ (t : Standing). left (slice_get (plain_code t.code).bodies t.core.now.body) v t.core ≡ Some (stands code f.from e' kept').core) is
           (r.0 ∙ sym (ap (λ (x : Standing). Some x.core) p.stands)),
-      (h.0, subst (IsSound c) (sym drops.without_it) r.1, subst (AllSound c) (sym same1) h.2),
       p.holds,
     )
 

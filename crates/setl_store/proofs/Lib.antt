@@ -9,6 +9,7 @@ pub mod Adding
 pub mod Collecting
 pub mod Popping
 pub mod HasValues
+pub mod Serving
 pub mod Dropping
 pub mod Steps
 pub mod Keeping

@@ -1,6 +1,6 @@
 -- Changes of the operands of the body at work.
 use Rattle.std.proofs.Common.{◌≡◌, ℕ, zero, suc, ◌+◌, ◌-◌, ◌<◌, ◌≤◌, List, [], ◌∷◌, ◌++◌, length, take, drop, map, reverse, refl, sym, ap, ◌∙◌, subst, arith, Bool, true, false, Some, None}
-use Rattle.std.proofs.lemmas.List.{drop-append-le, take_at, drop_at, drop_all, length-take-le, length-map, map-append, length_push, reverse-append, reverse-reverse, take-append-drop, append_assoc, drop-take, take-take, take-map, length-drop, length-reverse}
+use Rattle.std.proofs.lemmas.List.{drop-append-le, take_at, drop_at, length-take-le, length-map, map-append, length_push, reverse-append, reverse-reverse, take-append-drop, append_assoc, drop-take, take-take, take-map, length-drop, length-reverse}
 use Rattle.std.specs.Prelude.{slice_get}
 use Rattle.setl_program.specs.declared.kinds.Collection.{Collection}
 use Rattle.setl_model.specs.Core.{Item}
@@ -179,12 +179,10 @@ now_counted (f ∷ fs) os = omega (arith, length-reverse (drop f.operands os), l
 pub some_on_top : (e : Here) → 0 < length (now_operands e) → lowest_of e < length e.operands
 some_on_top e h = omega (arith, now_counted (reverse e.activations) (results e), length-map e.operands (operand_of e.members))
 
-none_above : (c : plain.Code) (fs : List Frame) (n : ℕ) (os : List core.Operand) → IsShaped c fs n (length os) → length os ≡ lowest_in fs → operands_in fs os ≡ []
-none_above c [] n os h e = refl
-none_above c (f ∷ fs) n os h e = ap reverse (drop_all f.operands os (omega (arith, e)))
-
-pub none_on_top : (c : plain.Code) (e : Here) → IsSound c e → length e.operands ≡ lowest_of e → now_operands e ≡ []
-none_on_top c e h same = none_above c (reverse e.activations) (length e.slots) (results e) (shaped_results c e h) (length-map e.operands (operand_of e.members) ∙ same)
+-- how many the body at work has
+pub on_top_counted : (code : Code) (at : ℕ) (e : Here) (kept : List (Here × ℕ)) (s : Standing) → stands code at e kept ≡ s → length s.core.now.operands ≤ length e.operands - lowest_of e
+on_top_counted code at e kept s is =
+    omega (arith, ap (λ (x : Standing). length x.core.now.operands) is, now_counted (reverse e.activations) (results e), length-map e.operands (operand_of e.members))
 
 pub has_below : (o : Operand) (os : List Operand) (n : ℕ) → HasMembers (o ∷ os) n → HasMembers os (members_below o n)
 has_below operand.Om os n h = h
@@ -215,10 +213,10 @@ top_of_flat (f ∷ fs) n os o some low short is =
     ∙ reverse-append (drop f.operands (take n os)) (o ∷ []) in
     tops ∙ ap (λ l. o ∷ drop 1 l) (sym tops)
 
-flat_below : (fs : List Frame) (n : ℕ) (os : List core.Operand) → 0 < length fs → lowest_in fs ≤ n → length os ≡ n + 1 → take n os ≡ take (lowest_in fs) os ++ reverse (drop 1 (operands_in fs os))
-flat_below [] n os some low long = absurd (omega (arith, some))
-flat_below (f ∷ fs) n os some low long =
-    subst (λ m. take m os ≡ take f.operands os ++ reverse (drop 1 (reverse (drop f.operands os)))) (omega (arith, low)) (take_more_reversed f.operands (n - f.operands) 1 os (omega (arith, low, long)))
+flat_below : (fs : List Frame) (n k : ℕ) (os : List core.Operand) → 0 < length fs → lowest_in fs ≤ n → length os ≡ n + k → take n os ≡ take (lowest_in fs) os ++ reverse (drop k (operands_in fs os))
+flat_below [] n k os some low long = absurd (omega (arith, some))
+flat_below (f ∷ fs) n k os some low long =
+    subst (λ m. take m os ≡ take f.operands os ++ reverse (drop k (reverse (drop f.operands os)))) (omega (arith, low)) (take_more_reversed f.operands (n - f.operands) k os (omega (arith, low, long)))
 
 pub on_top : (c : plain.Code) (e : Here) (n : ℕ) (o : Operand) → IsSound c e → length e.operands ≡ n + 1 → lowest_of e ≤ n → Some o ≡ slice_get e.operands n → OnTop c e n o
 on_top c e n o h long low is =
@@ -234,7 +232,7 @@ on_top c e n o h long low is =
       apart = apart;
       short = short;
       members = subst (λ os. HasMembers os (length e.members)) (ap reverse apart ∙ reverse-append (take n e.operands) (o ∷ [])) h.members;
-      flat = flat_below fs n (results e) some low (length-map e.operands f ∙ long);
+      flat = flat_below fs n 1 (results e) some low (length-map e.operands f ∙ long);
       now = top_of_flat fs n (results e) (f o) some low flat_short flat_apart;
     }
 
@@ -272,13 +270,21 @@ pops code at e e' kept kept' s n o h is long low at_end now same =
     subst (λ x. Changed code at x kept' s (over (drop 1 s.core.now.operands) s.core)) (sym now)
     (changed code at at e (cut_to e n m) kept kept' s (λ k. over (drop 1 k.now.operands) k) h is same to (cut_sound (plain_code code) e n m h.1 low t.short has within))
 
--- ---- what stays
+-- the store without so many operands
+pub cuts : (code : Code) (at : ℕ) (e e' : Here) (kept kept' : List (Here × ℕ)) (s : Standing) (n k m : ℕ) →
+    MayRun code × IsSound (plain_code code) e × AllSound (plain_code code) kept → stands code at e kept ≡ s →
+    length e.operands ≡ n + k → lowest_of e ≤ n → HasMembers (reverse (take n e.operands)) m → m ≤ length e.members →
+    e' ≡ cut_to e n m → kept' ≡ kept → Changed code at e' kept' s (over (drop k s.core.now.operands) s.core)
+cuts code at e e' kept kept' s n k m h is long low has within now same =
+    let c = plain_code code in
+    let some : 0 < length (reverse e.activations) = omega (arith, h.1.some, length-reverse e.activations) in
+    let short : length (take n e.operands) ≡ n = length-take-le n e.operands (omega (arith, long)) in
+    let flat = flat_below (reverse e.activations) n k (results e) some low (length-map e.operands (operand_of e.members) ∙ long) in
+    let to = above c at e (cut_to e n m) kept (drop k (now_operands e)) h.1 refl refl (cut_results e n m has within ∙ flat) in
+    subst (λ x. Changed code at x kept' s (over (drop k s.core.now.operands) s.core)) (sym now)
+    (changed code at at e (cut_to e n m) kept kept' s (λ q. over (drop k q.now.operands) q) h is same to (cut_sound c e n m h.1 low short has within))
 
--- where nothing was changed
-pub same_holds : (code : Code) (e e' : Here) (kept kept' : List (Here × ℕ)) →
-    MayRun code × IsSound (plain_code code) e × AllSound (plain_code code) kept → e' ≡ e → kept' ≡ kept →
-    MayRun code × IsSound (plain_code code) e' × AllSound (plain_code code) kept'
-same_holds code e e' kept kept' h now same = (h.0, subst (IsSound (plain_code code)) (sym now) h.1, subst (AllSound (plain_code code)) (sym same) h.2)
+-- ---- what stays
 
 pub got_iterator : (pairs : Bool) (left : List Item) → GotThese (iterator_by pairs left)
 got_iterator true left = tt
@@ -299,9 +305,6 @@ pub top_is : (code : Code) (at : ℕ) (e : Here) (kept : List (Here × ℕ)) (s 
     s.core.now.operands ≡ operand_of e.members o ∷ drop 1 s.core.now.operands
 top_is code at e kept s n o h is some last there =
     subst (λ l. l ≡ operand_of e.members o ∷ drop 1 l) (now_is code at e kept s is) (on_top (plain_code code) e n o h (omega arith) (omega arith) there).now
-
-pub no_top : (code : Code) (at : ℕ) (e : Here) (kept : List (Here × ℕ)) (s : Standing) → IsSound (plain_code code) e → stands code at e kept ≡ s → length e.operands ≡ lowest_of e → s.core.now.operands ≡ []
-no_top code at e kept s h is same = sym (now_is code at e kept s is) ∙ none_on_top (plain_code code) e h same
 
 pub shows_iterator : (pairs : Bool) (left : List Item) (xs : List core.Operand) → Shows (iterator_by pairs left ∷ xs) top.Iterator
 shows_iterator true left xs = tt

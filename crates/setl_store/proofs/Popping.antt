@@ -1,14 +1,11 @@
 -- The top operand taken off, and what it serves as.
-use Rattle.std.proofs.Common.{◌≡◌, ℕ, ◌+◌, ◌-◌, ◌<◌, ◌≤◌, Bool, true, false, List, [], ◌∷◌, length, take, drop, map, reverse, refl, sym, ap, ◌∙◌, subst, arith, Option, Some, None}
+use Rattle.std.proofs.Common.{◌≡◌, ℕ, ◌+◌, ◌-◌, ◌<◌, ◌≤◌, Bool, true, false, List, [], ◌∷◌, length, drop, refl, sym, ap, ◌∙◌, subst, arith, Option, Some, None}
 use Rattle.std.specs.Prelude.{slice_get, IsSome}
 use Rattle.std.specs.Option.{option_map}
-use Rattle.std.proofs.lemmas.List.{take_all, length-drop, map-append}
 use Rattle.setl_value.specs.Datum.{Datum}
 use Rattle.setl_program.specs.declared.kinds.Collection.{Collection}
-use Rattle.setl_model.specs.Collections.{collection}
 use Rattle.setl_model.specs.Core.{Item}
 use Rattle.setl_code.specs.declared.code.Code.{Code}
-use Rattle.setl_code.specs.Code as plain
 use Rattle.setl_code.specs.CodeCore as core
 use Rattle.setl_code.specs.CodeCore.{value_of}
 use Rattle.setl_code.specs.MayRun.{MayRun}
@@ -17,9 +14,9 @@ use Rattle.setl_store.specs.declared.cells.Member.{Member}
 use Rattle.setl_store.specs.declared.cells.Operand.{Operand}
 use Rattle.setl_store.specs.declared.cells.Operand.TheVariants as operand
 use Rattle.setl_store.specs.Standing.{Standing, over, iterator_by, top_of}
-use Rattle.setl_store.specs.Flat.{Here, IsPlain, GotAll, GotThese, got, member_of, operand_of, stands, IsSound, AllGot, AllSound, members_below, cut_to}
+use Rattle.setl_store.specs.Flat.{Here, IsPlain, operand_of, stands, IsSound, AllSound, members_below, cut_to}
 use Rattle.setl_store.proofs.Lists.{some_same}
-use Rattle.setl_store.proofs.OperandLists.{lowest_of, on_top, pops, some_below, top_is, got_right}
+use Rattle.setl_store.proofs.OperandLists.{lowest_of, pops, some_below, top_is}
 
 -- ---- the store without its top operand
 
@@ -65,33 +62,9 @@ plain_below (operand.Value v) n p = refl
 plain_below (operand.Iterator i) n p = absurd p
 plain_below (operand.Collection what lowest count) n p = absurd p
 
--- ---- a collection
-
--- its members are the last ones, and it refuses none
-pub record HasLast (ms : List Member) (what : Collection) (lowest count : ℕ) : Type 0 where
-  pub within : lowest ≤ length ms
-  pub whole : reverse (map member_of (drop lowest ms)) ≡ got ms lowest count
-  pub got : GotAll what (reverse (map member_of (drop lowest ms)))
-
-got_on_top : (c : plain.Code) (e : Here) (n : ℕ) (o : Operand) → IsSound c e → length e.operands ≡ n + 1 → lowest_of e ≤ n → Some o ≡ slice_get e.operands n → GotThese (operand_of e.members o)
-got_on_top c e n o h long low there =
-    let f = operand_of e.members in
-    let apart = ap (map f) (on_top c e n o h long low there).apart ∙ map-append f (take n e.operands) (o ∷ []) in
-    (got_right (map f (take n e.operands)) (f o ∷ []) (subst AllGot apart h.got)).0
-
-pub has_last : (c : plain.Code) (e : Here) (n : ℕ) (o : Operand) (what : Collection) (lowest count : ℕ) → IsSound c e →
-    length e.operands ≡ n + 1 → lowest_of e ≤ n → Some o ≡ slice_get e.operands n → o ≡ operand.Collection what lowest count → HasLast e.members what lowest count
-has_last c e n o what lowest count h long low there is =
-    let t = on_top c e n (operand.Collection what lowest count) h long low (ap Some (sym is) ∙ there) in
-    let size : length e.members ≡ lowest + count = t.members.0 in
-    let whole : reverse (map member_of (drop lowest e.members)) ≡ got e.members lowest count =
-    ap (λ l. reverse (map member_of l)) (sym (take_all count (drop lowest e.members) (omega (arith, size, length-drop lowest e.members)))) in
-    let kept = got_on_top c e n (operand.Collection what lowest count) h long low (ap Some (sym is) ∙ there) in
-    record { within = omega (arith, size); whole = whole; got = subst (GotAll what) (sym whole) kept }
-
 -- ---- what a step that pops finds
 
-top_there : (xs : List core.Operand) → IsSome (top_of xs) → 0 < length xs
+pub top_there : (xs : List core.Operand) → IsSome (top_of xs) → 0 < length xs
 top_there [] some = absurd (cc)
 top_there (o ∷ xs) some = omega arith
 
@@ -103,15 +76,13 @@ module _ (code : Code) (at : ℕ) (e : Here) (kept : List (Here × ℕ)) (s : St
   above_lowest : lowest_of e < length e.operands
   above_lowest = some_below code at e kept s is (top_there s.core.now.operands some)
 
-  pub collection_there : (what : Collection) (lowest count : ℕ) → o ≡ operand.Collection what lowest count → HasLast e.members what lowest count
-  collection_there what lowest count made = has_last (plain_code code) e (size - 1) o what lowest count h.1 (omega (arith, long, above_lowest)) (omega (arith, long, above_lowest)) there made
-
-  pub collection_taken : (e' : Here) (kept' : List (Here × ℕ)) (what : Collection) (lowest count : ℕ) → o ≡ operand.Collection what lowest count →
-      e' ≡ cut_to e (length e.operands - 1) lowest → kept' ≡ kept → TakesTop code at e' kept' s (Some (collection what (got e.members lowest count)))
-  collection_taken e' kept' what lowest count made now same =
-      takes_top code at e e' kept kept' s (size - 1) (operand.Collection what lowest count) (Some (collection what (got e.members lowest count))) h is
-      (omega (arith, long, above_lowest)) (omega (arith, long, above_lowest)) (ap Some (sym made) ∙ there)
-      (now ∙ ap (λ n. cut_to e (n - 1) lowest) (sym long)) same refl
+  -- what it serves as is made of a copy
+  pub copy_taken : (e' : Here) (kept' : List (Here × ℕ)) (what : Collection) (lowest count : ℕ) (d : Option Datum) → o ≡ operand.Collection what lowest count →
+      e' ≡ cut_to e (length e.operands - 1) lowest → kept' ≡ kept → value_of (operand_of e.members o) ≡ Some d → TakesTop code at e' kept' s d
+  copy_taken e' kept' what lowest count d made now same serves =
+      takes_top code at e e' kept kept' s (size - 1) o d h is
+      (omega (arith, long, above_lowest)) (omega (arith, long, above_lowest)) there
+      (now ∙ (λ i. cut_to e (sym long i - 1) (members_below (sym made i) (length e.members)))) same serves
 
   pub plain_there : (taken : Operand) → Some taken ≡ slice_get e.operands (length e.operands - 1) → ((what : Collection) (lowest count : ℕ) → o ≡ operand.Collection what lowest count → ⊥) → IsPlain taken
   plain_there taken last not =
@@ -128,9 +99,3 @@ plain_taken code at e e' kept kept' s h is some taken d last plain serves now sa
     let above = some_below code at e kept s is (top_there s.core.now.operands some) in
     takes_top code at e e' kept kept' s (length e.operands - 1) taken d h is (omega (arith, above)) (omega (arith, above)) last
     (now ∙ ap (cut_to e (length e.operands - 1)) (sym (plain_below taken (length e.members) plain))) same (ap value_of (serves e.members))
-
--- the value that is made of the members
-pub made_of : (ms members : List Member) (what : Collection) (lowest count : ℕ) (d : Datum) → HasLast ms what lowest count → members ≡ drop lowest ms →
-    d ≡ collection what (reverse (map member_of members)) → collection what (got ms lowest count) ≡ d
-made_of ms members what lowest count d last taken is =
-    ap (collection what) (sym last.whole) ∙ ap (λ l. collection what (reverse (map member_of l))) (sym taken) ∙ sym is

@@ -1,7 +1,8 @@
 -- How the activations lie in flat lists of slots, operands and members. No public clause cites this module.
-use Rattle.std.specs.Prelude.{◌≡◌, false, ℕ, ◌+◌, ◌<◌, ◌≤◌, List, [], ◌∷◌, ◌++◌, length, take, drop, map, reverse, Option, Some, None, slice_get, slice_set}
+use Rattle.std.specs.Prelude.{◌≡◌, Bool, false, ℕ, ◌-◌, ◌+◌, ◌<◌, ◌≤◌, List, [], ◌∷◌, ◌++◌, length, take, drop, map, reverse, Option, Some, None, slice_get, slice_set}
 use Rattle.setl_value.specs.Datum.{Datum, bool}
 use Rattle.setl_value.specs.code.DatumOf.{datum, part}
+use Rattle.setl_value.specs.declared.Value.TheVariants as value
 use Rattle.setl_model_runs.specs.Variable.{Variable}
 use Rattle.setl_program.specs.declared.kinds.Collection.{Collection}
 use Rattle.setl_model.specs.Collections.{refusal}
@@ -20,6 +21,7 @@ use Rattle.setl_store_slots.specs.declared.cells.Held.{Held}
 use Rattle.setl_store_slots.specs.declared.cells.Held.TheVariants as held
 use Rattle.setl_store.specs.declared.cells.Operand.{Operand}
 use Rattle.setl_store.specs.declared.cells.Operand.TheVariants as operand
+use Rattle.setl_store.specs.declared.cells.FieldContent.{FieldContent}
 use Rattle.setl_store.specs.declared.cells.Frame.{Frame}
 use Rattle.setl_store.specs.declared.cells.Member.{Member}
 use Rattle.setl_store.specs.Standing.{Standing, no_world, variables_by, iterator_by}
@@ -142,7 +144,7 @@ callers c (f ∷ g ∷ fs) hs os = activation c f.from (g ∷ fs) (take f.slots 
 -- ---- the whole
 
 abbrev pub Here : Type 0
-Here = Contents Held Operand Frame Member
+Here = Contents Held Operand Frame Member FieldContent
 
 abbrev pub helds : Here → List core.Held
 helds e = map held_of e.slots
@@ -230,3 +232,11 @@ cut_to e k m = record e { operands = take k e.operands; members = take m e.membe
 -- with this in a slot
 abbrev pub with_slot : Here → ℕ → Held → Here
 with_slot e n v = record e { slots = slice_set e.slots n v }
+
+-- without the innermost activation f, and the members from m on
+abbrev pub without : Here → Frame → ℕ → Here
+without e f m = record e { slots = take f.slots e.slots; operands = take f.operands e.operands; activations = take (length e.activations - 1) e.activations; members = take m e.members }
+
+-- with a truth value pushed, as `ok` pushes it
+abbrev pub answering : Here → Bool → Here
+answering e b = with_operand e (operand.Value (value.Bool b))

@@ -1,5 +1,5 @@
 -- What a store stands for: its code, and the core of the code's run but for the world, with all that is kept.
-use Rattle.std.specs.Prelude.{◌≡◌, ℕ, suc, Bool, true, false, List, [], ◌∷◌, map, Option, Some, None, slice_get}
+use Rattle.std.specs.Prelude.{◌≡◌, ℕ, suc, Bool, true, false, List, [], ◌∷◌, map, Option, Some, None, Result, Ok, Err, slice_get}
 use Rattle.std.specs.Option.{option_map}
 use Rattle.setl_value.specs.Datum.{Datum, bool}
 use Rattle.setl_value.specs.code.DatumOf.{datum}
@@ -86,6 +86,11 @@ top_of (o ∷ xs) = option_map (λ v. (v, xs)) (value_of o)
 abbrev pub iterator_by : Bool → List Item → Operand
 iterator_by true left = PairIterator left
 iterator_by false left = Iterator left
+
+-- the call makes this of the store, or it is refused and all is as before
+abbrev pub Becomes : {V E : Type 0} → Result V E → (old new made : Standing) → Type 0
+Becomes (Ok v) old new made = new ≡ made
+Becomes (Err e) old new made = new ≡ old
 
 -- what a slot holds
 abbrev pub IsHeld : Held → Content → Type 0

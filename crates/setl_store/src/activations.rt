@@ -1,13 +1,13 @@
 //! Activations of an environment, with the memory that they take.
 
-ghost use Rattle.std.specs.Prelude.{◌≡◌, ◌<◌, ◌-◌, ◌+◌, ◌≤◌, [], ◌∷◌, ◌++◌, None, map, length, take, reverse, replicate, IfSome, OnOk, OnErr};
+ghost use Rattle.std.specs.Prelude.{◌≡◌, ◌<◌, ◌-◌, ◌+◌, ◌≤◌, [], ◌∷◌, ◌++◌, None, map, length, take, reverse, replicate, OnOk, OnErr};
 ghost use Rattle.setl_code.specs.CodeCore.{There};
 ghost use Rattle.setl_value.specs.code.DatumOf.{part};
-ghost use Rattle.setl_store.specs.Flat.{helds, HasMembers};
+ghost use Rattle.setl_store.specs.Flat.{helds, without, HasMembers};
 ghost use Rattle.setl_store.specs.Returning.{operand_by};
 
 use crate::cells::{Contents, Frame, Operand};
-use crate::changes::reserve_one_more;
+use crate::changes::{reserve_one_more, reserve_sum};
 use crate::lent::members_below;
 use crate::store::{held, operand};
 use setl_store_environment::Memory;
@@ -71,30 +71,6 @@ fn reserve_activation(environment: &mut Contents, values: usize, names: usize) -
     environment.reserve_activations(1)
 }
 
-// Makes so many changes and one more ready. The error is want of memory, or that these are 2^64 or more, which no memory
-// holds.
-fn reserve_sum(
-    environment: &mut Contents,
-    slots: usize,
-    operands: usize,
-    members: usize,
-) -> Result<(), Memory>
-    ensures now { environment.new.now ≡ environment.old.now }
-    ensures kept { environment.new.kept ≡ environment.old.kept }
-    ensures ready { OnOk result (slots + operands + members + 1 ≤ environment.new.ready) }
-{
-    let Some(all) = sum(slots, operands, members) else {
-        return Err(AllocError);
-    };
-    reserve_one_more(environment, all)
-}
-
-fn sum(a: usize, b: usize, c: usize) -> Option<usize>
-    ensures { IfSome result (λ all. all ≡ a + b + c) }
-{
-    a.checked_add(b)?.checked_add(c)
-}
-
 // Adds slots that hold these values, for which there is memory.
 fn push_values(environment: &mut Contents, values: Vec<Option<Value>>)
     requires each { length values.items ≤ environment.old.ready }
@@ -140,17 +116,19 @@ pub(crate) fn members_of_lower(environment: &Contents, lowest: usize) -> usize
     members
 }
 
-/// Drops the innermost activation, and all from its lowest slot and operand and this member on.
-pub(crate) fn drop_activation(
+/// Drops the innermost activation, and all from its lowest slot and operand and this member on, and adds operands that are
+/// these values, the last one on top.
+pub(crate) fn end_activation(
     environment: &mut Contents,
     frame: Frame,
     members: usize,
+    values: Vec<Option<Value>>,
 ) -> Result<(), Memory>
     requires some { 0 < length environment.old.now.activations }
     requires slots { frame.slots ≤ length environment.old.now.slots }
     requires operands { frame.operands ≤ length environment.old.now.operands }
     requires members { members ≤ length environment.old.now.members }
-    ensures now { OnOk result (environment.new.now ≡ record { slots = take frame.slots environment.old.now.slots; operands = take frame.operands environment.old.now.operands; activations = take (length environment.old.now.activations - 1) environment.old.now.activations; members = take members environment.old.now.members }) }
+    ensures now { OnOk result (environment.new.now ≡ record (without environment.old.now frame members) { operands = take frame.operands environment.old.now.operands ++ map operand_by values.items }) }
     ensures kept { environment.new.kept ≡ environment.old.kept }
     ensures refused { OnErr result (environment.new.now ≡ environment.old.now) }
 {
@@ -159,27 +137,30 @@ pub(crate) fn drop_activation(
         environment.slots() - frame.slots,
         environment.operands() - frame.operands,
         environment.members() - members,
+        values.len(),
     )?;
+    environment.reserve_operands(values.len())?;
+    drop_activation(environment, frame, members);
+    push_operands(environment, values);
+    Ok(())
+}
+
+// Drops the innermost activation, and all from its lowest slot and operand and this member on.
+fn drop_activation(environment: &mut Contents, frame: Frame, members: usize)
+    requires some { 0 < length environment.old.now.activations }
+    requires slots { frame.slots ≤ length environment.old.now.slots }
+    requires operands { frame.operands ≤ length environment.old.now.operands }
+    requires members { members ≤ length environment.old.now.members }
+    requires each { (length environment.old.now.slots - frame.slots) + (length environment.old.now.operands - frame.operands) + (length environment.old.now.members - members) + 1 ≤ environment.old.ready }
+    ensures now { environment.new.now ≡ without environment.old.now frame members }
+    ensures kept { environment.new.kept ≡ environment.old.kept }
+    ensures ready { environment.old.ready ≤ environment.new.ready + ((length environment.old.now.slots - frame.slots) + (length environment.old.now.operands - frame.operands) + (length environment.old.now.members - members) + 1) }
+    ensures room { environment.old.room.operands ≤ environment.new.room.operands }
+{
     environment.cut_members(members);
     environment.cut_operands(frame.operands);
     environment.cut_slots(frame.slots);
     environment.drop_activation();
-    Ok(())
-}
-
-/// Adds operands that are these values, the last one on top.
-pub(crate) fn add_operands(
-    environment: &mut Contents,
-    values: Vec<Option<Value>>,
-) -> Result<(), Memory>
-    ensures now { OnOk result (environment.new.now ≡ record environment.old.now { operands = environment.old.now.operands ++ map operand_by values.items }) }
-    ensures kept { environment.new.kept ≡ environment.old.kept }
-    ensures refused { OnErr result (environment.new.now ≡ environment.old.now) }
-{
-    environment.reserve(values.len())?;
-    environment.reserve_operands(values.len())?;
-    push_operands(environment, values);
-    Ok(())
 }
 
 // Adds operands for which there is memory.

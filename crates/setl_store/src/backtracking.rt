@@ -1,12 +1,12 @@
 //! `ok` and `fail`.
 
-ghost use Rattle.std.specs.Prelude.{◌≡◌, ◌<◌, ◌+◌, ◌^◌, length, nat_lt, OnOk};
+ghost use Rattle.std.specs.Prelude.{◌≡◌, ◌<◌, ◌+◌, ◌^◌, ◌∷◌, length, nat_lt, true, false, OnOk, OnErr};
 ghost use Rattle.setl_value.specs.declared.Value.TheVariants as value;
 ghost use Rattle.setl_store.specs.declared.cells.Operand.TheVariants as operand;
-ghost use Rattle.setl_store.specs.Standing.{kept, Restored};
+ghost use Rattle.setl_store.specs.Flat.{answering};
+ghost use Rattle.setl_store.specs.Standing.{kept, Restored, Becomes};
 
-use crate::cells::Operand;
-use crate::changes::add_operand;
+use crate::cells::{Contents, Operand};
 use crate::store::Store;
 use setl_store_environment::Memory;
 use setl_value::Value;
@@ -14,16 +14,12 @@ use setl_value::Value;
 impl<'c> Store<'c> {
     /// Keeps all that there is, as `ok` does, and goes on behind the step in hand with `true` pushed.
     ///
-    /// The error is want of memory.
+    /// The error is want of memory, and then all is as before.
     pub fn keep(&mut self) -> Result<(), Memory>
         requires { self.old.core.now.at + 1 < 2 ^ 64 }
-        ensures { OnOk result (self.new ≡ record self.old { core = kept self.old.core }) }
+        ensures { Becomes result self.old self.new (record self.old { core = kept self.old.core }) }
     {
-        let top = self.environment.operands();
-        add_operand(&mut self.environment, truth(false))?;
-        self.environment.keep(self.at + 1)?;
-        self.environment.reserve(1)?;
-        self.environment.set_operand(top, truth(true));
+        keep_answering(&mut self.environment, self.at + 1)?;
         self.at += 1;
         Ok(())
     }
@@ -47,6 +43,25 @@ impl<'c> Store<'c> {
     {
         self.environment.is_kept()
     }
+}
+
+// Keeps what is there and on it `false`, which `fail` then brings back too, and goes on with `true` in its place.
+fn keep_answering(environment: &mut Contents, at: usize) -> Result<(), Memory>
+    ensures now { OnOk result (environment.new.now ≡ answering environment.old.now true) }
+    ensures kept { OnOk result (environment.new.kept ≡ (answering environment.old.now false, at) ∷ environment.old.kept) }
+    ensures refused { OnErr result (environment.new.now ≡ environment.old.now) }
+    ensures rest { OnErr result (environment.new.kept ≡ environment.old.kept) }
+{
+    let top = environment.operands();
+    environment.reserve(2)?;
+    environment.reserve_operands(1)?;
+    environment.push_operand(truth(false));
+    if let Err(refused) = environment.keep(at, 1) {
+        environment.drop_operand();
+        return Err(refused);
+    }
+    environment.set_operand(top, truth(true));
+    Ok(())
 }
 
 fn truth(b: bool) -> Operand

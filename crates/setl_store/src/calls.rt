@@ -1,6 +1,6 @@
 //! The start of a code, its steps, and calls and returns of its bodies.
 
-ghost use Rattle.std.specs.Prelude.{◌≡◌, ◌<◌, ◌+◌, ◌^◌, Some, None, map, length, slice_get, IfSome, IfNone, IfOk, OnOk};
+ghost use Rattle.std.specs.Prelude.{◌≡◌, ◌<◌, ◌+◌, ◌^◌, Some, None, map, length, slice_get, IfSome, IfNone, IfOk, OnErr};
 ghost use Rattle.setl_code.specs.Machine.{fetch};
 ghost use Rattle.setl_code.specs.MayRun.{MayRun, InstrFits};
 ghost use Rattle.setl_code.specs.Plain.{plain_code, plain_step};
@@ -8,10 +8,10 @@ ghost use Rattle.setl_value.specs.code.DatumOf.{part};
 ghost use Rattle.setl_store.specs.Bodies.{entered, left, Leaves};
 ghost use Rattle.setl_store.specs.Flat.{step_of};
 ghost use Rattle.setl_store.specs.Returning.{name_count_of, parameter_count_of};
-ghost use Rattle.setl_store.specs.Standing.{started, variables, variables_in};
+ghost use Rattle.setl_store.specs.Standing.{started, variables, variables_in, Becomes};
 
 use crate::activations::{
-    add_activation, add_cleared, add_operands, drop_activation, innermost, members_of_lower,
+    add_activation, add_cleared, end_activation, innermost, members_of_lower,
 };
 use crate::cells::{Contents, Frame};
 use crate::returning::handed_back;
@@ -81,12 +81,12 @@ impl<'c> Store<'c> {
     /// Has the body of this number at work, with these values in its parameters. The body that calls it goes on behind
     /// the step in hand.
     ///
-    /// The error is want of memory.
+    /// The error is want of memory, and then all is as before.
     pub fn enter(&mut self, body: u32, values: Vec<Option<Value>>) -> Result<(), Memory>
         requires there { body < length self.old.code.bodies }
         requires each { IfSome (slice_get self.old.code.bodies body) (λ b. length values.items ≡ length b.parameters) }
         requires few { self.old.core.now.at + 1 < 2 ^ 64 }
-        ensures { OnOk result (self.new ≡ record self.old { core = entered body (slice_get (plain_code self.old.code).bodies body) (map part values.items) self.old.core }) }
+        ensures { Becomes result self.old self.new (record self.old { core = entered body (slice_get (plain_code self.old.code).bodies body) (map part values.items) self.old.core }) }
     {
         let names = name_count(self.code, body);
         let frame = Frame {
@@ -104,19 +104,19 @@ impl<'c> Store<'c> {
     /// parameters hold, the first on top. Its answer is false where there is no such body or one of the parameters was
     /// taken, and then all is as before.
     ///
-    /// The error is want of memory.
+    /// The error is want of memory, and then all is as before.
     pub fn leave(&mut self, value: Option<Value>) -> Result<bool, Memory>
         ensures code { self.new.code ≡ self.old.code }
         ensures left { IfOk result (λ done. Leaves (left (slice_get (plain_code self.old.code).bodies self.old.core.now.body) (part value) self.old.core) done self.old.core self.new.core) }
+        ensures refused { OnErr result (self.new ≡ self.old) }
     {
         let Some(values) = handed_back(self.alloc, self.code, &self.environment, value)? else {
             return Ok(false);
         };
         let frame = innermost(&self.environment);
         let members = members_of_lower(&self.environment, frame.operands);
-        drop_activation(&mut self.environment, frame, members)?;
+        end_activation(&mut self.environment, frame, members, values)?;
         self.at = frame.from;
-        add_operands(&mut self.environment, values)?;
         Ok(true)
     }
 }

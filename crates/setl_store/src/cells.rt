@@ -31,9 +31,13 @@ pub(crate) struct Frame {
     pub operands: usize,
 }
 
-/// The slots, the operands, the activations and the members of collections, and what `ok` kept, each with its place in
-/// the code.
-pub(crate) type Contents = Environment<Held, Operand, Frame, Member, usize>;
+/// What a field of an element block holds beside its bit: nothing, since no variable lies in fields yet.
+#[derive(Drop)]
+pub(crate) enum FieldContent {}
+
+/// The slots, the operands, the activations, the members of collections and the fields of element blocks, and what `ok`
+/// kept, each with its place in the code.
+pub(crate) type Contents = Environment<Held, Operand, Frame, Member, FieldContent, usize>;
 
 impl Copied for Operand {
     fn copied(&self) -> Result<Operand, Memory> {

@@ -1,9 +1,9 @@
 //! Changes of the environment of a store, with the memory that they take.
 
-ghost use Rattle.std.specs.Prelude.{◌≡◌, ◌<◌, ◌-◌, ◌+◌, ◌≤◌, length, slice_get, slice_set, drop, Some, IfOk, OnOk, OnErr};
+ghost use Rattle.std.specs.Prelude.{◌≡◌, ◌<◌, ◌-◌, ◌+◌, ◌≤◌, length, slice_get, slice_set, Some, IfSome, IfOk, OnOk, OnErr};
 ghost use Rattle.setl_store.specs.Flat.{with_operand, with_slot, cut_to};
 
-use crate::cells::{Contents, Member, Operand};
+use crate::cells::{Contents, Operand};
 use setl_store_environment::Memory;
 use setl_store_slots::Held;
 use std::alloc::AllocError;
@@ -32,24 +32,6 @@ pub(crate) fn take_operand(environment: &mut Contents) -> Result<Operand, Memory
 {
     environment.reserve(1)?;
     environment.pop_operand()
-}
-
-/// Takes off the last operand and the members from this one on, and gives these.
-pub(crate) fn take_collection(
-    environment: &mut Contents,
-    lowest: usize,
-) -> Result<Vec<Member>, Memory>
-    requires some { 0 < length environment.old.now.operands }
-    requires fewer { lowest ≤ length environment.old.now.members }
-    ensures members { IfOk result (λ members. members.items ≡ drop lowest environment.old.now.members) }
-    ensures now { OnOk result (environment.new.now ≡ cut_to environment.old.now (length environment.old.now.operands - 1) lowest) }
-    ensures kept { environment.new.kept ≡ environment.old.kept }
-    ensures refused { OnErr result (environment.new.now ≡ environment.old.now) }
-{
-    reserve_one_more(environment, environment.members() - lowest)?;
-    let members = environment.pop_members(lowest)?;
-    environment.drop_operand();
-    Ok(members)
 }
 
 /// Drops the last operand and the members from this one on.
@@ -92,6 +74,55 @@ pub(crate) fn reserve_one_more(environment: &mut Contents, count: usize) -> Resu
         return Err(AllocError);
     };
     environment.reserve(all)
+}
+
+/// Makes as many changes ready as these are together, and one more. The error is want of memory, or that these are 2^64 or
+/// more, which no memory holds.
+pub(crate) fn reserve_sum(
+    environment: &mut Contents,
+    slots: usize,
+    operands: usize,
+    members: usize,
+    values: usize,
+) -> Result<(), Memory>
+    ensures now { environment.new.now ≡ environment.old.now }
+    ensures kept { environment.new.kept ≡ environment.old.kept }
+    ensures ready { OnOk result (slots + operands + members + values + 1 ≤ environment.new.ready) }
+{
+    let Some(all) = sum(slots, operands, members, values) else {
+        return Err(AllocError);
+    };
+    reserve_one_more(environment, all)
+}
+
+fn sum(a: usize, b: usize, c: usize, d: usize) -> Option<usize>
+    ensures { IfSome result (λ all. all ≡ a + b + c + d) }
+{
+    a.checked_add(b)?.checked_add(c)?.checked_add(d)
+}
+
+/// Drops the operands above the lowest `operands`, and the members from the place `members` on.
+pub(crate) fn cut_back(
+    environment: &mut Contents,
+    operands: usize,
+    members: usize,
+) -> Result<(), Memory>
+    requires operands { operands ≤ length environment.old.now.operands }
+    requires members { members ≤ length environment.old.now.members }
+    ensures now { OnOk result (environment.new.now ≡ cut_to environment.old.now operands members) }
+    ensures kept { environment.new.kept ≡ environment.old.kept }
+    ensures refused { OnErr result (environment.new.now ≡ environment.old.now) }
+{
+    reserve_sum(
+        environment,
+        0,
+        environment.operands() - operands,
+        environment.members() - members,
+        0,
+    )?;
+    environment.cut_members(members);
+    environment.cut_operands(operands);
+    Ok(())
 }
 
 /// Puts this in the place of what a slot holds.

@@ -54,24 +54,28 @@ impl<'c> Store<'c> {
 
     /// Takes the first item of the iterator on top, and pushes it: a member, or an image and on it its argument.
     ///
-    /// The error is want of memory.
+    /// The error is want of memory, and then all is as before.
     pub fn advance(&mut self) -> Result<(), Memory>
         requires { IsAhead self.old.core.now.operands ahead.AtItem }
         ensures item { OnOk result (Advances self.old.core.now.operands self.new.core.now.operands) }
         ensures rest { OnOk result (self.new ≡ record self.old { core = over self.new.core.now.operands self.old.core }) }
+        ensures refused { OnErr result (self.new ≡ self.old) }
     {
         let item = take_item(self.alloc, &mut self.environment)?;
         push_item(&mut self.environment, item);
         Ok(())
     }
 
-    /// Adds a value to the collection below so many iterators. Its answer is whether there is one.
+    /// Adds a value to the collection below so many iterators. Its answer is whether there is one, and else all is as
+    /// before.
     ///
     /// `Om` comes for `om` and a set, `Deep` for a value of depth 500, `NoMemory` for want of memory, or where the
-    /// collection has 2^64 - 1 values already, which no memory holds; then nothing was added.
+    /// collection has 2^64 - 1 values already, which no memory holds; then all is as before.
     pub fn add_below(&mut self, count: usize, value: Option<Value>) -> Result<bool, OpFault>
         ensures told { TellsAdded (added count (part value) self.old.core.now.operands) result self.new.core.now.operands }
         ensures rest { self.new ≡ record self.old { core = over self.new.core.now.operands self.old.core } }
+        ensures nowhere { IfOk result (λ is_added. is_added ≡ false → self.new ≡ self.old) }
+        ensures refused { OnErr result (self.new ≡ self.old) }
     {
         let Some(at) = below_iterators(&self.environment, count) else {
             return Ok(false);

@@ -1,11 +1,11 @@
 //! Operands that are lent, dropped, or replaced where they stand.
 
-ghost use Rattle.std.specs.Prelude.{◌≡◌, ◌∷◌, ◌+◌, drop, Some, IsSome, IfSome, OnOk};
+ghost use Rattle.std.specs.Prelude.{◌≡◌, ◌∷◌, ◌+◌, drop, Some, IsSome, IfSome};
 ghost use Rattle.setl_code.specs.CodeCore.{Result as Holds};
 ghost use Rattle.setl_value.specs.code.DatumOf.{datum, part};
 ghost use Rattle.setl_store.specs.Flat.{members_below};
 ghost use Rattle.setl_store.specs.Operands.{IsPlainTop};
-ghost use Rattle.setl_store.specs.Standing.{over, top_of};
+ghost use Rattle.setl_store.specs.Standing.{over, top_of, Becomes};
 
 use crate::cells::Operand;
 use crate::changes::{drop_operand, put_operand};
@@ -51,11 +51,11 @@ impl<'c> Store<'c> {
 
     /// Drops the top: a result, or a collection with its members.
     ///
-    /// The error is want of memory.
+    /// The error is want of memory, and then all is as before.
     #[inline(always)]
     pub fn drop_top(&mut self) -> Result<(), Memory>
         requires { IsSome (top_of self.old.core.now.operands) }
-        ensures { OnOk result (self.new ≡ record self.old { core = over (drop 1 self.old.core.now.operands) self.old.core }) }
+        ensures { Becomes result self.old self.new (record self.old { core = over (drop 1 self.old.core.now.operands) self.old.core }) }
     {
         let last = self.environment.operands() - 1;
         let members = self.environment.members();
@@ -66,11 +66,11 @@ impl<'c> Store<'c> {
 
     /// Puts a value, or `om`, in the place of the result on top, which is no collection.
     ///
-    /// The error is want of memory.
+    /// The error is want of memory, and then all is as before.
     #[inline(always)]
     pub fn put_top(&mut self, value: Option<Value>) -> Result<(), Memory>
         requires { IsPlainTop self.old.core.now.operands }
-        ensures { OnOk result (self.new ≡ record self.old { core = over (Holds (part value) ∷ drop 1 self.old.core.now.operands) self.old.core }) }
+        ensures { Becomes result self.old self.new (record self.old { core = over (Holds (part value) ∷ drop 1 self.old.core.now.operands) self.old.core }) }
     {
         put_operand(&mut self.environment, operand(value))?;
         Ok(())

@@ -1,73 +1,103 @@
 //! Operands that are taken off.
 
-ghost use Rattle.std.specs.Prelude.{◌≡◌, map, Some, IsSome, IfOk, OnOk};
+ghost use Rattle.std.specs.Prelude.{◌≡◌, ◌≤◌, [], map, drop, length, true, false, Some, IsSome, IfNone, IfOk, OnOk, OnErr};
 ghost use Rattle.std.specs.Option.{option_map};
+ghost use Rattle.setl_code.specs.CodeCore.{popped, Pops};
 ghost use Rattle.setl_value.specs.code.DatumOf.{part};
 ghost use Rattle.setl_store.specs.Operands.{TakesOff, DropsIterators};
-ghost use Rattle.setl_store.specs.Standing.{over, top_of};
+ghost use Rattle.setl_store.specs.Standing.{over, top_of, Becomes};
 ghost use Rattle.setl_store.specs.HasValues.{has_values};
 
+use crate::activations::members_of_lower;
 use crate::cells::Operand;
-use crate::changes::{drop_operand, take_collection, take_operand};
+use crate::changes::{cut_back, drop_operand, take_operand};
 use crate::store::{Store, lowest};
-use crate::values::{collection, is_value, value};
+use crate::values::{is_value, served, value};
 use setl_store_environment::Memory;
 use setl_value::Value;
 
 impl<'c> Store<'c> {
     /// Takes the top off: a result, or a collection as the set or tuple of its members.
     ///
-    /// The error is want of memory.
+    /// The error is want of memory, and then all is as before.
     #[inline(always)]
     pub fn pop(&mut self) -> Result<Option<Value>, Memory>
         requires { IsSome (top_of self.old.core.now.operands) }
         ensures value { IfOk result (λ value. top_of self.old.core.now.operands ≡ Some (part value, self.new.core.now.operands)) }
         ensures rest { OnOk result (self.new ≡ record self.old { core = over self.new.core.now.operands self.old.core }) }
+        ensures refused { OnErr result (self.new ≡ self.old) }
     {
         let last = self.environment.operands() - 1;
-        match self.environment.operand(last) {
-            Operand::Collection(what, lowest, _) => {
-                let (what, lowest) = (*what, *lowest);
-                let members = take_collection(&mut self.environment, lowest)?;
-                Ok(Some(collection(self.alloc, what, members)?))
+        let operand = self.environment.operand(last);
+        match operand {
+            Operand::Collection(_, lowest, _) => {
+                let lowest = *lowest;
+                let value = served(self.alloc, &self.environment, operand)?;
+                drop_operand(&mut self.environment, lowest)?;
+                Ok(value)
             }
             _ => Ok(value(take_operand(&mut self.environment)?)),
         }
     }
 
-    /// Takes so many results off, and gives them with the top last; or None where there are too few. Sets and tuples are
-    /// made of collections, as by `pop`.
+    /// Takes so many results off, and gives them with the top last; or None where there are too few, and then all is as
+    /// before. Sets and tuples are made of collections, as by `pop`.
     ///
-    /// The error is want of memory.
+    /// The error is want of memory, and then all is as before.
     pub fn pop_values(&mut self, count: usize) -> Result<Option<Vec<Option<Value>>>, Memory>
         ensures values { IfOk result (λ values. TakesOff count self.old.core.now.operands (option_map (λ all. map part all.items) values) self.new.core.now.operands) }
         ensures rest { OnOk result (self.new ≡ record self.old { core = over self.new.core.now.operands self.old.core }) }
+        ensures few { IfOk result (λ values. IfNone values (self.new ≡ self.old)) }
+        ensures refused { OnErr result (self.new ≡ self.old) }
     {
         if !self.has_values(count) {
             return Ok(None);
         }
-        let mut values = Vec::with_capacity(self.alloc, count)?;
-        for _i in 0..count {
-            values.push(self.pop()?)?;
-        }
-        values.reverse();
+        let values = self.top_values(count)?;
+        self.drop_top_ones(count)?;
         Ok(Some(values))
     }
 
-    /// Drops so many iterators. Its answer is whether so many are on top, and else some may be dropped.
+    /// Drops so many iterators. Its answer is whether so many are on top, and else all is as before.
     ///
-    /// The error is want of memory.
+    /// The error is want of memory, and then all is as before.
     pub fn drop_iterators(&mut self, count: usize) -> Result<bool, Memory>
         ensures dropped { IfOk result (λ all. DropsIterators count self.old.core.now.operands all self.new.core.now.operands) }
         ensures rest { OnOk result (self.new ≡ record self.old { core = over self.new.core.now.operands self.old.core }) }
+        ensures few { IfOk result (λ all. all ≡ false → self.new ≡ self.old) }
+        ensures refused { OnErr result (self.new ≡ self.old) }
     {
-        for _i in 0..count {
-            let is_dropped = self.drop_iterator()?;
-            if !is_dropped {
-                return Ok(false);
-            }
+        if !self.has_iterators(count) {
+            return Ok(false);
         }
+        self.drop_top_ones(count)?;
         Ok(true)
+    }
+
+    // Drops so many operands of the body at work.
+    fn drop_top_ones(&mut self, count: usize) -> Result<(), Memory>
+        requires { count ≤ length self.old.core.now.operands }
+        ensures { Becomes result self.old self.new (record self.old { core = over (drop count self.old.core.now.operands) self.old.core }) }
+    {
+        let lowest = self.environment.operands() - count;
+        let members = members_of_lower(&self.environment, lowest);
+        cut_back(&mut self.environment, lowest, members)?;
+        Ok(())
+    }
+
+    // Copies of so many results on top, the top last.
+    fn top_values(&self, count: usize) -> Result<Vec<Option<Value>>, Memory>
+        requires { has_values count self.now.core.now.operands ≡ true }
+        ensures { IfOk result (λ values. popped count [] self.now.core.now.operands ≡ Pops (map part values.items) (drop count self.now.core.now.operands)) }
+    {
+        let operands = self.environment.operands();
+        let mut values = Vec::with_capacity(self.alloc, count)?;
+        for k in 0..count {
+            let operand = self.environment.operand(operands - 1 - k);
+            values.push(served(self.alloc, &self.environment, operand)?)?;
+        }
+        values.reverse();
+        Ok(values)
     }
 
     // Whether so many results are on top. It takes no memory.
@@ -86,20 +116,19 @@ impl<'c> Store<'c> {
         true
     }
 
-    // Drops an iterator. Its answer is whether one is on top, and else all is as before.
-    fn drop_iterator(&mut self) -> Result<bool, Memory>
-        ensures dropped { IfOk result (λ done. DropsIterators 1 self.old.core.now.operands done self.new.core.now.operands) }
-        ensures rest { OnOk result (self.new ≡ record self.old { core = over self.new.core.now.operands self.old.core }) }
+    // Whether so many iterators are on top. It takes no memory.
+    fn has_iterators(&self, count: usize) -> bool
+        ensures { DropsIterators count self.now.core.now.operands result (drop count self.now.core.now.operands) }
     {
         let operands = self.environment.operands();
-        if operands == lowest(&self.environment) {
-            return Ok(false);
+        if operands - lowest(&self.environment) < count {
+            return false;
         }
-        if is_value(self.environment.operand(operands - 1)) {
-            return Ok(false);
+        for k in 0..count {
+            if is_value(self.environment.operand(operands - 1 - k)) {
+                return false;
+            }
         }
-        let members = self.environment.members();
-        drop_operand(&mut self.environment, members)?;
-        Ok(true)
+        true
     }
 }

@@ -1,6 +1,6 @@
 //! What `fail` brings back.
 
-ghost use Rattle.std.specs.Prelude.{◌≡◌, ◌<◌, ◌≤◌, ◌-◌, ◌+◌, [], ◌∷◌, length, reverse, IfOk, OnOk};
+ghost use Rattle.std.specs.Prelude.{◌≡◌, ◌<◌, ◌≤◌, ◌-◌, ◌+◌, [], ◌∷◌, length, reverse, IfOk, OnOk, OnErr};
 ghost use Rattle.setl_code.specs.CodeCore.{Result as Holds, Collecting, There, Gone, held, write};
 ghost use Rattle.setl_code.specs.MayRun.{HasSlot};
 ghost use Rattle.setl_code.specs.Plain.{plain_slot};
@@ -8,7 +8,7 @@ ghost use Rattle.setl_value.specs.code.DatumOf.{part};
 ghost use Rattle.setl_store.specs.Flat.{operand_of, held_of, lowest_in, slots_in, place_in, HasMembers};
 ghost use Rattle.setl_store.specs.Operands.{IsThere};
 ghost use Rattle.setl_store.specs.Returning.{operand_by};
-ghost use Rattle.setl_store.specs.Standing.{over, at_place, iterator_by, variables, Shows, IsHeld};
+ghost use Rattle.setl_store.specs.Standing.{over, at_place, iterator_by, variables, Shows, IsHeld, Becomes};
 
 use crate::cells::{Contents, Operand};
 use crate::changes::{add_operand, take_slot, write_slot};
@@ -96,11 +96,11 @@ impl<'c> Store<'c> {
 
     /// Stores a value, or `om`, in a variable's slot.
     ///
-    /// The error is want of memory.
+    /// The error is want of memory, and then all is as before.
     #[inline(always)]
     pub fn set_slot(&mut self, slot: Slot, value: Option<Value>) -> Result<(), Memory>
         requires { HasSlot (length self.old.core.globals) (length self.old.core.now.own) slot }
-        ensures { OnOk result (self.new ≡ record self.old { core = write (plain_slot (variables self.old.core) slot) (There (part value)) self.old.core }) }
+        ensures { Becomes result self.old self.new (record self.old { core = write (plain_slot (variables self.old.core) slot) (There (part value)) self.old.core }) }
     {
         let at = place(&self.environment, slot);
         write_slot(&mut self.environment, at, held(value))?;
@@ -109,7 +109,7 @@ impl<'c> Store<'c> {
 
     /// Takes what a variable's slot holds, and leaves nothing there. Stored again it leaves all as before.
     ///
-    /// The error is want of memory.
+    /// The error is want of memory, and then all is as before.
     #[inline(always)]
     pub fn take_slot(&mut self, slot: Slot) -> Result<Option<Value>, Memory>
         requires slot { HasSlot (length self.old.core.globals) (length self.old.core.now.own) slot }
@@ -117,6 +117,7 @@ impl<'c> Store<'c> {
         ensures value { IfOk result (λ value. held (plain_slot (variables self.old.core) slot) self.old.core ≡ There (part value)) }
         ensures again { IfOk result (λ value. write (plain_slot (variables self.old.core) slot) (There (part value)) self.old.core ≡ self.old.core) }
         ensures taken { OnOk result (self.new ≡ record self.old { core = write (plain_slot (variables self.old.core) slot) Gone self.old.core }) }
+        ensures refused { OnErr result (self.new ≡ self.old) }
     {
         let at = place(&self.environment, slot);
         let before = take_slot(&mut self.environment, at)?;
@@ -142,10 +143,10 @@ impl<'c> Store<'c> {
 
     /// Pushes a value, or `om`.
     ///
-    /// The error is want of memory.
+    /// The error is want of memory, and then all is as before.
     #[inline(always)]
     pub fn push(&mut self, value: Option<Value>) -> Result<(), Memory>
-        ensures { OnOk result (self.new ≡ record self.old { core = over (Holds (part value) ∷ self.old.core.now.operands) self.old.core }) }
+        ensures { Becomes result self.old self.new (record self.old { core = over (Holds (part value) ∷ self.old.core.now.operands) self.old.core }) }
     {
         add_operand(&mut self.environment, operand(value))?;
         Ok(())
@@ -153,9 +154,9 @@ impl<'c> Store<'c> {
 
     /// Pushes an iterator.
     ///
-    /// The error is want of memory.
+    /// The error is want of memory, and then all is as before.
     pub fn push_iterator(&mut self, iterator: Iterator) -> Result<(), Memory>
-        ensures { OnOk result (self.new ≡ record self.old { core = over (iterator_by iterator.pairs iterator.left ∷ self.old.core.now.operands) self.old.core }) }
+        ensures { Becomes result self.old self.new (record self.old { core = over (iterator_by iterator.pairs iterator.left ∷ self.old.core.now.operands) self.old.core }) }
     {
         add_operand(&mut self.environment, Operand::Iterator(iterator))?;
         Ok(())
@@ -163,9 +164,9 @@ impl<'c> Store<'c> {
 
     /// Pushes an empty collection.
     ///
-    /// The error is want of memory.
+    /// The error is want of memory, and then all is as before.
     pub fn push_collection(&mut self, what: Collection) -> Result<(), Memory>
-        ensures { OnOk result (self.new ≡ record self.old { core = over (Collecting what [] ∷ self.old.core.now.operands) self.old.core }) }
+        ensures { Becomes result self.old self.new (record self.old { core = over (Collecting what [] ∷ self.old.core.now.operands) self.old.core }) }
     {
         let lowest = self.environment.members();
         add_operand(&mut self.environment, Operand::Collection(what, lowest, 0))?;

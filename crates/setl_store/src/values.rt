@@ -1,15 +1,15 @@
 //! Operands, and members of collections, as values.
 
-ghost use Rattle.std.specs.Prelude.{◌≡◌, ◌∷◌, ◌++◌, [], map, reverse, is_some, IfOk, OnOk};
+ghost use Rattle.std.specs.Prelude.{◌≡◌, ◌∷◌, ◌++◌, [], map, reverse, is_some, Some, IfOk, OnOk};
 ghost use Rattle.setl_value.specs.code.Body.{Members};
 ghost use Rattle.setl_value.specs.Datum.{set_of, tuple_of};
 ghost use Rattle.setl_value.specs.code.DatumOf.{datum, part};
 ghost use Rattle.setl_model.specs.Collections.{collection};
 ghost use Rattle.setl_code.specs.CodeCore.{Result as Holds, value_of};
 ghost use Rattle.setl_program.specs.declared.kinds.Collection.TheVariants as kind;
-ghost use Rattle.setl_store.specs.Flat.{operand_of, member_of, present, IsPlain, GotAll};
+ghost use Rattle.setl_store.specs.Flat.{operand_of, member_of, present, IsPlain, GotAll, Serves};
 
-use crate::cells::{Member, Operand};
+use crate::cells::{Contents, Member, Operand};
 use setl_map::gathered;
 use setl_program::Collection;
 use setl_store_environment::Memory;
@@ -35,12 +35,29 @@ pub(crate) fn value(operand: Operand) -> Option<Value>
     }
 }
 
-/// The set or tuple of members of which it refuses none.
-pub(crate) fn collection(
+/// A copy of the result that an operand is, or the set or tuple of a collection's members.
+///
+/// The error is want of memory.
+pub(crate) fn served(
     alloc: Global,
-    what: Collection,
-    members: Vec<Member>,
-) -> Result<Value, Memory>
+    environment: &Contents,
+    operand: &Operand,
+) -> Result<Option<Value>, Memory>
+    requires { Serves environment.now.now.members operand.now }
+    ensures { IfOk result (λ value. value_of (operand_of environment.now.now.members operand.now) ≡ Some (part value)) }
+{
+    match operand {
+        Operand::Value(value) => Ok(Some(value.copy()?)),
+        Operand::Collection(what, lowest, count) => {
+            let members = environment.copied_members(*lowest, *count)?;
+            Ok(Some(collection(alloc, *what, members)?))
+        }
+        Operand::Om | Operand::Iterator(_) => Ok(None),
+    }
+}
+
+/// The set or tuple of members of which it refuses none.
+fn collection(alloc: Global, what: Collection, members: Vec<Member>) -> Result<Value, Memory>
     requires { GotAll what (reverse (map member_of members.items)) }
     ensures { IfOk result (λ value. datum value ≡ collection what (reverse (map member_of members.items))) }
 {

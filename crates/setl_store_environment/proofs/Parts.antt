@@ -1,17 +1,23 @@
 -- A change of one part of an environment.
 use Rattle.std.proofs.Common.{◌≡◌, ℕ, zero, suc, ◌+◌, ◌-◌, ◌<◌, ◌≤◌, List, [], ◌∷◌, ◌++◌, length, set, drop, refl, ap, sym, subst, ◌∙◌, arith, take, Option, Some, None, Ok, Err}
 use Rattle.std.proofs.lemmas.List.{length-set, length_push, length-take-le, take-append-le, take-set-le, take-take, take_all}
-use Rattle.std.specs.Prelude.{Result, OnOk, OnErr}
+use Rattle.std.specs.Prelude.{Result, OnOk, OnErr, IsTrue}
 use Rattle.setl_trail.specs.Trail.{Item, entry, mark, mark_count, latest, without_latest}
 use Rattle.setl_store_environment.specs.declared.environment.Old.{Old}
-use Rattle.setl_store_environment.specs.declared.environment.Old.TheVariants.{Slot, Operand, Activation, Member}
+use Rattle.setl_store_environment.specs.declared.environment.Old.TheVariants as old
 use Rattle.setl_store_environment.specs.declared.stack.Place.{Place}
 use Rattle.setl_store_environment.specs.Stack.{StackState, LeadsBack, Fits, IsNear, placed, placed_at}
+use Rattle.setl_local.specs.FieldState.{FieldState}
+use Rattle.std.specs.FinSet as set
+use Rattle.std.specs.FinMap as map
+use Rattle.setl_local.specs.Place.{place_cmp}
+use Rattle.setl_store_environment.specs.declared.fields.Field.{Field}
+use Rattle.setl_store_environment.specs.Places.{FieldsNow, fields_now, LeadsFieldsBack}
 use Rattle.setl_store_environment.specs.Environment.{Contents, Room, EnvironmentState}
 use Rattle.setl_store_environment.specs.Kept.{base_of, nowhere, noted, IsUndoable, kept_of}
 use Rattle.setl_store_environment.specs.declared.environment.Base.{Base}
 use Rattle.setl_store_environment.specs.Undo.{Parts, contents_of, undone, cut, Reaches, FitsIn, IsTrailOf, kept_contents, HasMore}
-use Rattle.setl_store_environment.proofs.Undoing.{IsBelow, changed, undoable_still, unmarked, unmarked_base, kept_counted, mark_latest}
+use Rattle.setl_store_environment.proofs.Undoing.{IsBelow, changed, undoable_still, unmarked_base, kept_counted, mark_latest}
 
 -- the lowest n with one of them put back
 cut_placed : {T : Type 0} (n at : ℕ) (o : Option T) (xs : List T) → at < n → at < length xs → placed_at (take n xs) at o ≡ take n (placed_at xs at o)
@@ -26,30 +32,41 @@ cut_near : {T : Type 0} (n at : ℕ) (o : Option T) (xs : List T) → at < n →
 cut_near n at None xs low there near = omega (arith, low, there, near, length-take-le n xs there)
 cut_near n at (Some x) xs low there near = omega (arith, low, there, length-take-le n xs there)
 
-module _ {S O A M : Type 0} where
-  still_fits : (q r : Parts S O A M) → HasMore q r → (c : Contents S O A M) (e : Old S O A M) → FitsIn q c e → FitsIn r c e
-  still_fits q r m c (Slot p) h = record { inside = omega (arith, h.inside, m.slots); near = h.near }
-  still_fits q r m c (Operand p) h = record { inside = omega (arith, h.inside, m.operands); near = h.near }
-  still_fits q r m c (Activation p) h = record { inside = omega (arith, h.inside, m.activations); near = h.near }
-  still_fits q r m c (Member p) h = record { inside = omega (arith, h.inside, m.members); near = h.near }
+abbrev pub pair_of : {F : Type 0} → set.FinSet place_cmp → map.FinMap place_cmp F → FieldsNow F
+pair_of a c = record { bits = a; contents = c }
 
-  abbrev contents : List S → List O → List A → List M → Contents S O A M
-  contents xs ys zs ms = record { slots = xs; operands = ys; activations = zs; members = ms }
+-- the same bits and contents
+pub fields_of : {F : Type 0} (a b : set.FinSet place_cmp) (c d : map.FinMap place_cmp F) → a ≡ b → c ≡ d → pair_of a c ≡ pair_of b d
+fields_of a b c d x y = ap (λ l. pair_of l c) x ∙ ap (pair_of b) y
 
-  abbrev pub with_slots : Contents S O A M → List S → Contents S O A M
+module _ {S O A M F : Type 0} where
+  still_fits : (q r : Parts S O A M F) → HasMore q r → (c : Contents S O A M F) (e : Old S O A M F) → FitsIn q c e → FitsIn r c e
+  still_fits q r m c (old.Slot p) h = record { inside = omega (arith, h.inside, m.slots); near = h.near }
+  still_fits q r m c (old.Operand p) h = record { inside = omega (arith, h.inside, m.operands); near = h.near }
+  still_fits q r m c (old.Activation p) h = record { inside = omega (arith, h.inside, m.activations); near = h.near }
+  still_fits q r m c (old.Member p) h = record { inside = omega (arith, h.inside, m.members); near = h.near }
+  still_fits q r m c (old.Field p) h = m.fields (p.object, p.block) h
+
+  abbrev contents : List S → List O → List A → List M → FieldsNow F → Contents S O A M F
+  contents xs ys zs ms fs = record { slots = xs; operands = ys; activations = zs; members = ms; fields = fs }
+
+  abbrev pub with_slots : Contents S O A M F → List S → Contents S O A M F
   with_slots c xs = record c { slots = xs }
 
-  abbrev pub with_operands : Contents S O A M → List O → Contents S O A M
+  abbrev pub with_operands : Contents S O A M F → List O → Contents S O A M F
   with_operands c xs = record c { operands = xs }
 
-  abbrev pub with_activations : Contents S O A M → List A → Contents S O A M
+  abbrev pub with_activations : Contents S O A M F → List A → Contents S O A M F
   with_activations c xs = record c { activations = xs }
 
-  abbrev pub with_members : Contents S O A M → List M → Contents S O A M
+  abbrev pub with_fields : Contents S O A M F → FieldsNow F → Contents S O A M F
+  with_fields c fs = record c { fields = fs }
+
+  abbrev pub with_members : Contents S O A M F → List M → Contents S O A M F
   with_members c xs = record c { members = xs }
 
   -- the trail after more memory was reserved
-  pub roomier : (q r : Parts S O A M) (n : Base) (ns : List Base) (items : List (Item (Old S O A M))) → HasMore q r → contents_of r ≡ contents_of q → IsTrailOf q n ns items → IsTrailOf r n ns items
+  pub roomier : (q r : Parts S O A M F) (n : Base) (ns : List Base) (items : List (Item (Old S O A M F))) → HasMore q r → contents_of r ≡ contents_of q → IsTrailOf q n ns items → IsTrailOf r n ns items
   roomier q r n ns items more same h = (
     subst (Reaches n) (sym same) h.0,
     subst (λ c. IsUndoable undone cut Reaches (FitsIn r) n (cut n c) items ns) (sym same) (undoable_still undone cut Reaches (FitsIn q) (FitsIn r) n (cut n (contents_of q)) items ns (still_fits q r more) h.1),
@@ -63,6 +80,9 @@ room_of_operands r n = record r { operands = n }
 
 abbrev pub room_of_activations : Room → ℕ → Room
 room_of_activations r n = record r { activations = n }
+
+abbrev pub room_of_fields : Room → set.FinSet place_cmp → Room
+room_of_fields r f = record r { fields = f }
 
 abbrev pub room_of_members : Room → ℕ → Room
 room_of_members r n = record r { members = n }
@@ -135,18 +155,18 @@ module _ {T : Type 0} where
         undone = ap (λ l. placed l p) whole ∙ back.undone ∙ sym all;
       }
 
-module _ {S O A M K : Type 0} where
-  abbrev pub state : Contents S O A M → List (Contents S O A M × K) → ℕ → Room → EnvironmentState S O A M K
+module _ {S O A M F K : Type 0} where
+  abbrev pub state : Contents S O A M F → List (Contents S O A M F × K) → ℕ → Room → EnvironmentState S O A M F K
   state c kept ready room = record { now = c; kept = kept; ready = ready; room = room }
 
   -- the trail, what was kept and the number of marks after a change of q to r, where all up to the base n, and then m, is as
   -- it was kept or noted
-  pub record IsNoted (q r : Parts S O A M) (n m : Base) (ns : List Base) (items now : List (Item (Old S O A M))) (ks : List K) : Type 0 where
+  pub record IsNoted (q r : Parts S O A M F) (n m : Base) (ns : List Base) (items now : List (Item (Old S O A M F))) (ks : List K) : Type 0 where
     pub undoable : IsTrailOf r m ns now
     pub kept : kept_contents r m ns now ks ≡ kept_contents q n ns items ks
     pub marks : mark_count now ≡ mark_count items
 
-  part_changed : (q r : Parts S O A M) (n m : Base) (ns : List Base) (e : Old S O A M) (items now : List (Item (Old S O A M))) (ks : List K) → HasMore q r → IsBelow m n → Reaches m (contents_of r) →
+  part_changed : (q r : Parts S O A M F) (n m : Base) (ns : List Base) (e : Old S O A M F) (items now : List (Item (Old S O A M F))) (ks : List K) → HasMore q r → IsBelow m n → Reaches m (contents_of r) →
       FitsIn r (cut m (contents_of r)) e → undone (cut m (contents_of r)) e ≡ cut n (contents_of q) → now ≡ noted e items → IsTrailOf q n ns items → IsNoted q r n m ns items now ks
   part_changed q r n m ns e items now ks more less there fits back is h =
       let done = changed undone cut Reaches (FitsIn r) n m (cut n (contents_of q)) (cut m (contents_of r)) e items now ns ks less fits back is
@@ -154,79 +174,76 @@ module _ {S O A M K : Type 0} where
       record { undoable = (there, done.undoable); kept = done.kept; marks = done.marks }
 
   -- a change above the base
-  part_unseen : (q r : Parts S O A M) (n : Base) (ns : List Base) (items : List (Item (Old S O A M))) (ks : List K) → HasMore q r → Reaches n (contents_of r) → cut n (contents_of r) ≡ cut n (contents_of q) → IsTrailOf q n ns items → IsNoted q r n n ns items items ks
+  part_unseen : (q r : Parts S O A M F) (n : Base) (ns : List Base) (items : List (Item (Old S O A M F))) (ks : List K) → HasMore q r → Reaches n (contents_of r) → cut n (contents_of r) ≡ cut n (contents_of q) → IsTrailOf q n ns items → IsNoted q r n n ns items items ks
   part_unseen q r n ns items ks more there same h = record {
     undoable = (there, subst (λ c. IsUndoable undone cut Reaches (FitsIn r) n c items ns) (sym same) (undoable_still undone cut Reaches (FitsIn q) (FitsIn r) n (cut n (contents_of q)) items ns (still_fits q r more) h.1));
     kept = ap (λ c. kept_of undone cut c items ns ks) same;
     marks = refl;
   }
 
-  pub slots_unseen : (q : Parts S O A M) (n : Base) (ns : List Base) (new : StackState S) (items : List (Item (Old S O A M))) (ks : List K) → Unseen n.slots q.slots new → IsTrailOf q n ns items → IsNoted q (record q { slots = new }) n n ns items items ks
+  pub slots_unseen : (q : Parts S O A M F) (n : Base) (ns : List Base) (new : StackState S) (items : List (Item (Old S O A M F))) (ks : List K) → Unseen n.slots q.slots new → IsTrailOf q n ns items → IsNoted q (record q { slots = new }) n n ns items items ks
   slots_unseen q n ns new items ks u h =
-      part_unseen q (record q { slots = new }) n ns items ks (record { slots = omega (arith, u.room); operands = omega arith; activations = omega arith; members = omega arith }) (u.there, h.0.1)
-      (ap (λ l. contents l (take n.operands q.operands.items) q.activations.items q.members.items) u.same) h
+      part_unseen q (record q { slots = new }) n ns items ks (record { slots = omega (arith, u.room); operands = omega arith; activations = omega arith; members = omega arith; fields = λ k there. there }) (u.there, h.0.1)
+      (ap (λ l. contents l (take n.operands q.operands.items) q.activations.items q.members.items (fields_now q.fields)) u.same) h
 
-  pub operands_unseen : (q : Parts S O A M) (n : Base) (ns : List Base) (new : StackState O) (items : List (Item (Old S O A M))) (ks : List K) → Unseen n.operands q.operands new → IsTrailOf q n ns items → IsNoted q (record q { operands = new }) n n ns items items ks
+  pub operands_unseen : (q : Parts S O A M F) (n : Base) (ns : List Base) (new : StackState O) (items : List (Item (Old S O A M F))) (ks : List K) → Unseen n.operands q.operands new → IsTrailOf q n ns items → IsNoted q (record q { operands = new }) n n ns items items ks
   operands_unseen q n ns new items ks u h =
-      part_unseen q (record q { operands = new }) n ns items ks (record { slots = omega arith; operands = omega (arith, u.room); activations = omega arith; members = omega arith }) (h.0.0, u.there)
-      (ap (λ l. contents (take n.slots q.slots.items) l q.activations.items q.members.items) u.same) h
+      part_unseen q (record q { operands = new }) n ns items ks (record { slots = omega arith; operands = omega (arith, u.room); activations = omega arith; members = omega arith; fields = λ k there. there }) (h.0.0, u.there)
+      (ap (λ l. contents (take n.slots q.slots.items) l q.activations.items q.members.items (fields_now q.fields)) u.same) h
 
-  pub slot_noted : (q : Parts S O A M) (n : Base) (m : ℕ) (ns : List Base) (new : StackState S) (p : Place S) (items now : List (Item (Old S O A M))) (ks : List K) → Led n.slots m q.slots new p → now ≡ noted (Slot p) items → IsTrailOf q n ns items → IsNoted q (record q { slots = new }) n (record n { slots = m }) ns items now ks
+  pub slot_noted : (q : Parts S O A M F) (n : Base) (m : ℕ) (ns : List Base) (new : StackState S) (p : Place S) (items now : List (Item (Old S O A M F))) (ks : List K) → Led n.slots m q.slots new p → now ≡ noted (old.Slot p) items → IsTrailOf q n ns items → IsNoted q (record q { slots = new }) n (record n { slots = m }) ns items now ks
   slot_noted q n m ns new p items now ks l is h =
-      part_changed q (record q { slots = new }) n (record n { slots = m }) ns (Slot p) items now ks (record { slots = omega (arith, l.room); operands = omega arith; activations = omega arith; members = omega arith }) (l.less, omega arith) (l.there, h.0.1) l.fits
-      (ap (λ xs. contents xs (take n.operands q.operands.items) q.activations.items q.members.items) l.undone) is h
+      part_changed q (record q { slots = new }) n (record n { slots = m }) ns (old.Slot p) items now ks (record { slots = omega (arith, l.room); operands = omega arith; activations = omega arith; members = omega arith; fields = λ k there. there }) (l.less, omega arith) (l.there, h.0.1) l.fits
+      (ap (λ xs. contents xs (take n.operands q.operands.items) q.activations.items q.members.items (fields_now q.fields)) l.undone) is h
 
-  pub operand_noted : (q : Parts S O A M) (n : Base) (m : ℕ) (ns : List Base) (new : StackState O) (p : Place O) (items now : List (Item (Old S O A M))) (ks : List K) → Led n.operands m q.operands new p → now ≡ noted (Operand p) items → IsTrailOf q n ns items → IsNoted q (record q { operands = new }) n (record n { operands = m }) ns items now ks
+  pub operand_noted : (q : Parts S O A M F) (n : Base) (m : ℕ) (ns : List Base) (new : StackState O) (p : Place O) (items now : List (Item (Old S O A M F))) (ks : List K) → Led n.operands m q.operands new p → now ≡ noted (old.Operand p) items → IsTrailOf q n ns items → IsNoted q (record q { operands = new }) n (record n { operands = m }) ns items now ks
   operand_noted q n m ns new p items now ks l is h =
-      part_changed q (record q { operands = new }) n (record n { operands = m }) ns (Operand p) items now ks (record { slots = omega arith; operands = omega (arith, l.room); activations = omega arith; members = omega arith }) (omega arith, l.less) (h.0.0, l.there) l.fits
-      (ap (λ xs. contents (take n.slots q.slots.items) xs q.activations.items q.members.items) l.undone) is h
+      part_changed q (record q { operands = new }) n (record n { operands = m }) ns (old.Operand p) items now ks (record { slots = omega arith; operands = omega (arith, l.room); activations = omega arith; members = omega arith; fields = λ k there. there }) (omega arith, l.less) (h.0.0, l.there) l.fits
+      (ap (λ xs. contents (take n.slots q.slots.items) xs q.activations.items q.members.items (fields_now q.fields)) l.undone) is h
 
   -- where nothing is kept nothing needs a note
-  pub unkept_base : (q : Parts S O A M) (n : Base) (ns : List Base) (items : List (Item (Old S O A M))) (ks : List K) → length (kept_contents q n ns items ks) ≡ 0 → mark_count items ≡ length ks → IsTrailOf q n ns items → n ≡ nowhere
+  pub unkept_base : (q : Parts S O A M F) (n : Base) (ns : List Base) (items : List (Item (Old S O A M F))) (ks : List K) → length (kept_contents q n ns items ks) ≡ 0 → mark_count items ≡ length ks → IsTrailOf q n ns items → n ≡ nowhere
   unkept_base q n ns items ks none counted h =
       unmarked_base undone cut Reaches (FitsIn q) n (cut n (contents_of q)) items ns h.1 (sym (kept_counted undone cut (cut n (contents_of q)) items ns ks counted) ∙ none)
 
-  pub activation_changed : (q : Parts S O A M) (n : Base) (ns : List Base) (new : StackState A) (p : Place A) (items now : List (Item (Old S O A M))) (ks : List K) → LeadsBack A q.activations new p → now ≡ noted (Activation p) items → IsTrailOf q n ns items → IsNoted q (record q { activations = new }) n n ns items now ks
+  pub activation_changed : (q : Parts S O A M F) (n : Base) (ns : List Base) (new : StackState A) (p : Place A) (items now : List (Item (Old S O A M F))) (ks : List K) → LeadsBack A q.activations new p → now ≡ noted (old.Activation p) items → IsTrailOf q n ns items → IsNoted q (record q { activations = new }) n n ns items now ks
   activation_changed q n ns new p items now ks back is h =
-      part_changed q (record q { activations = new }) n n ns (Activation p) items now ks (record { slots = omega arith; operands = omega arith; activations = omega (arith, back.room); members = omega arith }) (omega arith, omega arith) h.0 back.fits
-      (ap (λ l. contents (take n.slots q.slots.items) (take n.operands q.operands.items) l q.members.items) back.undone) is h
+      part_changed q (record q { activations = new }) n n ns (old.Activation p) items now ks (record { slots = omega arith; operands = omega arith; activations = omega (arith, back.room); members = omega arith; fields = λ k there. there }) (omega arith, omega arith) h.0 back.fits
+      (ap (λ l. contents (take n.slots q.slots.items) (take n.operands q.operands.items) l q.members.items (fields_now q.fields)) back.undone) is h
 
-  pub member_changed : (q : Parts S O A M) (n : Base) (ns : List Base) (new : StackState M) (p : Place M) (items now : List (Item (Old S O A M))) (ks : List K) → LeadsBack M q.members new p → now ≡ noted (Member p) items → IsTrailOf q n ns items → IsNoted q (record q { members = new }) n n ns items now ks
+  pub member_changed : (q : Parts S O A M F) (n : Base) (ns : List Base) (new : StackState M) (p : Place M) (items now : List (Item (Old S O A M F))) (ks : List K) → LeadsBack M q.members new p → now ≡ noted (old.Member p) items → IsTrailOf q n ns items → IsNoted q (record q { members = new }) n n ns items now ks
   member_changed q n ns new p items now ks back is h =
-      part_changed q (record q { members = new }) n n ns (Member p) items now ks (record { slots = omega arith; operands = omega arith; activations = omega arith; members = omega (arith, back.room) }) (omega arith, omega arith) h.0 back.fits
-      (ap (λ l. contents (take n.slots q.slots.items) (take n.operands q.operands.items) q.activations.items l) back.undone) is h
+      part_changed q (record q { members = new }) n n ns (old.Member p) items now ks (record { slots = omega arith; operands = omega arith; activations = omega arith; members = omega (arith, back.room); fields = λ k there. there }) (omega arith, omega arith) h.0 back.fits
+      (ap (λ l. contents (take n.slots q.slots.items) (take n.operands q.operands.items) q.activations.items l (fields_now q.fields)) back.undone) is h
 
-  -- any change where nothing is kept, where the base is told
-  pub freely_changed : (q r : Parts S O A M) (n : Base) (ns : List Base) (items : List (Item (Old S O A M))) (ks : List K) → length (kept_contents q n ns items ks) ≡ 0 → mark_count items ≡ length ks → IsTrailOf q n ns items → IsNoted q r n n ns items items ks
-  freely_changed q r n ns items ks none counted h =
-      let bare : mark_count items ≡ 0 = sym (kept_counted undone cut (cut n (contents_of q)) items ns ks counted) ∙ none in
-      let base = unmarked_base undone cut Reaches (FitsIn q) n (cut n (contents_of q)) items ns h.1 bare in
-      let empty = unmarked undone cut Reaches (FitsIn q) n (cut n (contents_of q)) items ns h.1 bare in
-      subst (λ l. IsNoted q r n n ns l l ks) (sym empty) (record { undoable = ((omega (arith, ap (λ (b : Base). b.slots) base), omega (arith, ap (λ (b : Base). b.operands) base)), base); kept = refl; marks = refl })
+  pub field_changed : (q : Parts S O A M F) (n : Base) (ns : List Base) (new : FieldState F) (p : Field F) (items now : List (Item (Old S O A M F))) (ks : List K) → LeadsFieldsBack q.fields new p → now ≡ noted (old.Field p) items → IsTrailOf q n ns items → IsNoted q (record q { fields = new }) n n ns items now ks
+  field_changed q n ns new p items now ks back is h =
+      part_changed q (record q { fields = new }) n n ns (old.Field p) items now ks (record { slots = omega arith; operands = omega arith; activations = omega arith; members = omega arith; fields = λ k there. subst (λ r. IsTrue (set.contains r k)) (sym back.room) there }) (omega arith, omega arith) h.0 back.fits
+      (ap (λ l. contents (take n.slots q.slots.items) (take n.operands q.operands.items) q.activations.items q.members.items l) back.undone) is h
 
   -- after the latest entry was put back into q, which makes r, the rest of the trail leads on
-  pub record StepBack (q r : Parts S O A M) (n : Base) (ns : List Base) (items rest : List (Item (Old S O A M))) (ks : List K) : Type 0 where
+  pub record StepBack (q r : Parts S O A M F) (n : Base) (ns : List Base) (items rest : List (Item (Old S O A M F))) (ks : List K) : Type 0 where
     pub undoable : IsUndoable undone cut Reaches (FitsIn r) n (contents_of r) rest ns
     pub kept : kept_of undone cut (contents_of r) rest ns ks ≡ kept_of undone cut (contents_of q) items ns ks
     pub marks : mark_count rest ≡ mark_count items
 
   -- what was kept is what the entries lead to
-  pub record StepBegun (q r : Parts S O A M) (n : Base) (ns : List Base) (items : List (Item (Old S O A M))) (ks : List K) : Type 0 where
+  pub record StepBegun (q r : Parts S O A M F) (n : Base) (ns : List Base) (items : List (Item (Old S O A M F))) (ks : List K) : Type 0 where
     pub undoable : IsUndoable undone cut Reaches (FitsIn r) n (contents_of r) items ns
     pub kept : kept_of undone cut (contents_of r) items ns ks ≡ kept_contents q n ns items ks
 
   -- once the slots and operands of which nothing is noted were cut off
-  pub step_begun : (q : Parts S O A M) (n : Base) (ns : List Base) (slots : StackState S) (operands : StackState O) (items : List (Item (Old S O A M))) (ks : List K) → slots.items ≡ take n.slots q.slots.items → slots.room ≡ q.slots.room →
+  pub step_begun : (q : Parts S O A M F) (n : Base) (ns : List Base) (slots : StackState S) (operands : StackState O) (items : List (Item (Old S O A M F))) (ks : List K) → slots.items ≡ take n.slots q.slots.items → slots.room ≡ q.slots.room →
       operands.items ≡ take n.operands q.operands.items → operands.room ≡ q.operands.room → IsTrailOf q n ns items → StepBegun q (record q { slots = slots; operands = operands }) n ns items ks
   step_begun q n ns slots operands items ks s s_room o o_room h =
       let r = record q { slots = slots; operands = operands } in
-      let same : contents_of r ≡ cut n (contents_of q) = ap (λ l. contents l operands.items q.activations.items q.members.items) s ∙ ap (λ l. contents (take n.slots q.slots.items) l q.activations.items q.members.items) o in
+      let same : contents_of r ≡ cut n (contents_of q) = ap (λ l. contents l operands.items q.activations.items q.members.items (fields_now q.fields)) s ∙ ap (λ l. contents (take n.slots q.slots.items) l q.activations.items q.members.items (fields_now q.fields)) o in
       record {
-        undoable = subst (λ c. IsUndoable undone cut Reaches (FitsIn r) n c items ns) (sym same) (undoable_still undone cut Reaches (FitsIn q) (FitsIn r) n (cut n (contents_of q)) items ns (still_fits q r (record { slots = omega (arith, s_room); operands = omega (arith, o_room); activations = omega arith; members = omega arith })) h.1);
+        undoable = subst (λ c. IsUndoable undone cut Reaches (FitsIn r) n c items ns) (sym same) (undoable_still undone cut Reaches (FitsIn q) (FitsIn r) n (cut n (contents_of q)) items ns (still_fits q r (record { slots = omega (arith, s_room); operands = omega (arith, o_room); activations = omega arith; members = omega arith; fields = λ k there. there })) h.1);
         kept = ap (λ c. kept_of undone cut c items ns ks) same;
       }
 
-  pub step_back : (q r : Parts S O A M) (n : Base) (ns : List Base) (e : Old S O A M) (items rest : List (Item (Old S O A M))) (ks : List K) → items ≡ entry e ∷ rest → contents_of r ≡ undone (contents_of q) e → HasMore q r → IsUndoable undone cut Reaches (FitsIn q) n (contents_of q) items ns → StepBack q r n ns items rest ks
+  pub step_back : (q r : Parts S O A M F) (n : Base) (ns : List Base) (e : Old S O A M F) (items rest : List (Item (Old S O A M F))) (ks : List K) → items ≡ entry e ∷ rest → contents_of r ≡ undone (contents_of q) e → HasMore q r → IsUndoable undone cut Reaches (FitsIn q) n (contents_of q) items ns → StepBack q r n ns items rest ks
   step_back q r n ns e items rest ks is back more h =
       let below : IsUndoable undone cut Reaches (FitsIn q) n (contents_of q) (entry e ∷ rest) ns = subst (λ l. IsUndoable undone cut Reaches (FitsIn q) n (contents_of q) l ns) is h in
       record {
@@ -235,14 +252,14 @@ module _ {S O A M K : Type 0} where
         marks = sym (ap mark_count is);
       }
 
-module _ {S O A M K : Type 0} where
+module _ {S O A M F K : Type 0} where
   -- where no entry is latest, that is what was kept last
-  pub record AtMark (q : Parts S O A M) (m : Base) (ms ns : List Base) (items rest : List (Item (Old S O A M))) (k : K) (ks : List K) : Type 0 where
+  pub record AtMark (q : Parts S O A M F) (m : Base) (ms ns : List Base) (items rest : List (Item (Old S O A M F))) (k : K) (ks : List K) : Type 0 where
     pub undoable : IsTrailOf q m ms rest
     pub kept : kept_of undone cut (contents_of q) items ns (k ∷ ks) ≡ (contents_of q, k) ∷ kept_contents q m ms rest ks
     pub marks : mark_count items ≡ suc (mark_count rest)
 
-  pub at_mark : (q : Parts S O A M) (n m : Base) (ms ns : List Base) (items rest : List (Item (Old S O A M))) (k : K) (ks : List K) → latest items ≡ None → 0 < mark_count items → rest ≡ without_latest items → m ≡ base_of ns → ms ≡ drop 1 ns →
+  pub at_mark : (q : Parts S O A M F) (n m : Base) (ms ns : List Base) (items rest : List (Item (Old S O A M F))) (k : K) (ks : List K) → latest items ≡ None → 0 < mark_count items → rest ≡ without_latest items → m ≡ base_of ns → ms ≡ drop 1 ns →
       IsUndoable undone cut Reaches (FitsIn q) n (contents_of q) items ns → AtMark q m ms ns items rest k ks
   at_mark q n m ms ns items rest k ks none some left base bases h =
       let is : items ≡ mark ∷ rest = mark_latest items none some ∙ ap (λ l. mark ∷ l) (sym left) in

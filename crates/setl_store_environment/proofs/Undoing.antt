@@ -39,7 +39,7 @@ module _ {C E : Type 0} (undone : C → E → C) (cut : Base → C → C) where
       Leads n c items ns = IsUndoable undone cut reaches fits n c items ns
 
       -- where there is no mark there is no entry
-      pub unmarked : (n : Base) (c : C) (items : List (Item E)) (ns : List Base) → IsUndoable undone cut reaches fits n c items ns → mark_count items ≡ 0 → items ≡ []
+      unmarked : (n : Base) (c : C) (items : List (Item E)) (ns : List Base) → IsUndoable undone cut reaches fits n c items ns → mark_count items ≡ 0 → items ≡ []
       unmarked n c [] ns h none = refl
       unmarked n c (entry e ∷ items) ns h none = absurd (omega (arith, h.0, none))
       unmarked n c (mark ∷ items) ns h none = absurd (omega (arith, none))
@@ -83,12 +83,6 @@ module _ {C E : Type 0} (undone : C → E → C) (cut : Base → C → C) where
             kept = noted_kept (mark_count items) n c d e items ns ks refl back h;
             marks = marks_noted_by (mark_count items) e items;
           })
-
-      -- any change where nothing is kept
-      pub changed_freely : {K : Type 0} (n : Base) (c d : C) (items : List (Item E)) (ns : List Base) (ks : List K) → IsUndoable undone cut reaches fits n c items ns → mark_count items ≡ 0 → Changed n c d items items ns ks
-      changed_freely n c d items ns ks h none =
-          let empty : items ≡ [] = unmarked n c items ns h none in
-          subst (λ l. Changed n c d l l ns ks) (sym empty) (record { undoable = unmarked_base n c items ns h none; kept = refl; marks = refl })
 
     -- what fits less fits more
     pub undoable_still : (fits more : C → E → Type 0) (n : Base) (c : C) (items : List (Item E)) (ns : List Base) → ((d : C) (e : E) → fits d e → more d e) → IsUndoable undone cut reaches fits n c items ns → IsUndoable undone cut reaches more n c items ns

@@ -1,24 +1,31 @@
-//! Slots, operands, activations and members of collections, with a trail: to keep them puts a mark on it, and each
-//! later change of what was kept notes what it replaced.
+//! Slots, operands, activations, members of collections and fields of element blocks, with a trail: to keep them puts a
+//! mark on it, and each later change of what was kept notes what it replaced.
 
 ghost use Rattle.std.specs.Prelude.{◌≡◌, ◌+◌, ◌-◌, ◌<◌, ◌≤◌, [], ◌∷◌, ◌++◌, nat_lt, length, take, drop, reverse, Some, IfOk, IsOk, OnOk, OnErr, IfSome, IfNone, slice_get, slice_set};
 ghost use Rattle.setl_trail.specs.Trail.{mark_count};
+ghost use Rattle.std.specs.Prelude.{IsTrue, option_copied};
+ghost use Rattle.std.specs.FinSet as set;
+ghost use Rattle.std.specs.FinMap as map;
+ghost use Rattle.setl_store_environment.specs.Places.{with, no_fields, HasRoom};
 ghost use Rattle.setl_store_environment.specs.Kept.{base_of, noted};
 ghost use Rattle.setl_store_environment.specs.Undo.{undone, FitsIn, parts, contents_of, ready_of};
 
+use crate::fields::{Field, put_field};
 use crate::stack::{Place, Stack};
 use crate::{Copied, Memory};
+use setl_local::Fields;
 use setl_trail::Trail;
 use std::alloc::Global;
 use std::marker::Model;
 
-/// What a change replaced: one place of one of the four lists, with its old content.
+/// What a change replaced: one place of one of the four lists, or one field, with its old content.
 #[derive(Drop)]
-pub enum Old<S, O, A, M> {
+pub enum Old<S, O, A, M, F> {
     Slot(Place<S>),
     Operand(Place<O>),
     Activation(Place<A>),
     Member(Place<M>),
+    Field(Field<F>),
 }
 
 /// How many of the lowest slots, and of the lowest operands.
@@ -28,57 +35,58 @@ pub(crate) struct Base {
     pub(crate) operands: usize,
 }
 
-/// The slots, the operands, the activations and the members of collections that are being built, and what was kept
-/// of them.
+/// The slots, the operands, the activations, the members of collections that are being built and the fields of element
+/// blocks, and what was kept of them.
 ///
 /// `reserve` makes changes ready, and `reserve_slots` and the like make sure of memory for what they add; the changes
 /// then can't fail, so a caller that reserves first and then makes several changes leaves all as before where memory
 /// is refused. Where nothing is kept, a change notes nothing, and every number of changes is ready.
 #[derive(Drop)]
-pub struct Environment<S, O, A, M, K> {
+pub struct Environment<S, O, A, M, F, K> {
     slots: Stack<S>,
     operands: Stack<O>,
     activations: Stack<A>,
     members: Stack<M>,
-    trail: Trail<Old<S, O, A, M>>,
+    fields: Fields<F>,
+    trail: Trail<Old<S, O, A, M, F>>,
     // How many of the lowest slots and operands are as they were last kept, or have what they were in the trail. Those
     // above came later, so nothing of them is noted; where nothing is kept both are 0.
     base: Base,
     // The same numbers of each mark of the trail below the latest one, and below these 0.
     bases: Vec<Base>,
-    // What was kept beside the four lists, one record for each mark of the trail.
+    // What was kept beside them, one record for each mark of the trail.
     records: Vec<K>,
 }
 
-impl<S, O, A, M, K> Model for Environment<S, O, A, M, K> {
+impl<S, O, A, M, F, K> Model for Environment<S, O, A, M, F, K> {
     ghost use Rattle.setl_store_environment.specs.Environment.{EnvironmentState, environment_code};
 
-    ghost Value = { EnvironmentState S O A M K };
+    ghost Value = { EnvironmentState S O A M F K };
 
-    ghost coded = { environment_code S.code O.code A.code M.code K.code };
+    ghost coded = { environment_code S.code O.code A.code M.code F.code K.code };
 
     ghost use Rattle.std.specs.Prelude.{◌≡◌, reverse, length};
     ghost use Rattle.setl_trail.specs.Trail.{mark_count};
     ghost use Rattle.setl_store_environment.specs.Undo.{parts, contents_of, room_of, ready_of, kept_contents, IsTrailOf};
 
     ghost view = { λ e. record {
-      now = contents_of (parts e.slots e.operands e.activations e.members);
-      kept = kept_contents (parts e.slots e.operands e.activations e.members) e.base (reverse e.bases.items) e.trail.items (reverse e.records.items);
+      now = contents_of (parts e.slots e.operands e.activations e.members e.fields);
+      kept = kept_contents (parts e.slots e.operands e.activations e.members e.fields) e.base (reverse e.bases.items) e.trail.items (reverse e.records.items);
       ready = ready_of (mark_count e.trail.items) e.trail.spare;
-      room = room_of (parts e.slots e.operands e.activations e.members);
+      room = room_of (parts e.slots e.operands e.activations e.members e.fields);
     } };
 
     ghost invariant = { λ e.
-        IsTrailOf (parts e.slots e.operands e.activations e.members) e.base (reverse e.bases.items) e.trail.items
+        IsTrailOf (parts e.slots e.operands e.activations e.members e.fields) e.base (reverse e.bases.items) e.trail.items
         × (mark_count e.trail.items ≡ length e.records.items) };
 }
 
-impl<S: Drop, O: Drop, A: Drop, M: Drop, K: Drop> Environment<S, O, A, M, K> {
+impl<S: Drop, O: Drop, A: Drop, M: Drop, F: Drop, K: Drop> Environment<S, O, A, M, F, K> {
     /// Nothing is there, and nothing is kept.
     ///
     /// The error is want of memory.
-    pub fn new(alloc: Global) -> Result<Environment<S, O, A, M, K>, Memory>
-        ensures now { IfOk result (λ e. e.now ≡ record { slots = []; operands = []; activations = []; members = [] }) }
+    pub fn new(alloc: Global) -> Result<Environment<S, O, A, M, F, K>, Memory>
+        ensures now { IfOk result (λ e. e.now ≡ record { slots = []; operands = []; activations = []; members = []; fields = no_fields }) }
         ensures kept { IfOk result (λ e. e.kept ≡ []) }
     {
         Ok(Environment {
@@ -86,6 +94,7 @@ impl<S: Drop, O: Drop, A: Drop, M: Drop, K: Drop> Environment<S, O, A, M, K> {
             operands: Stack::new(alloc)?,
             activations: Stack::new(alloc)?,
             members: Stack::new(alloc)?,
+            fields: Fields::new(alloc)?,
             trail: Trail::new(alloc)?,
             base: Base {
                 slots: 0,
@@ -531,53 +540,16 @@ impl<S: Drop, O: Drop, A: Drop, M: Drop, K: Drop> Environment<S, O, A, M, K> {
         note(&mut self.trail, Old::Member(before));
     }
 
-    /// Takes off the members above the lowest `n`, and gives them, the lowest first: moved out where nothing is kept, else
-    /// copies.
+    /// Copies of `count` members from the place `lowest` on, in their order.
     ///
-    /// The error is want of memory, and then all is as before.
-    pub fn pop_members(&mut self, n: usize) -> Result<Vec<M>, Memory>
+    /// The error is want of memory.
+    pub fn copied_members(&self, lowest: usize, count: usize) -> Result<Vec<M>, Memory>
     where
         M: Copied,
-        requires fewer { n ≤ length self.old.now.members }
-        requires each { length self.old.now.members - n ≤ self.old.ready }
-        ensures values { IfOk result (λ values. values.items ≡ drop n self.old.now.members) }
-        ensures now { OnOk result (self.new.now ≡ record self.old.now { members = take n self.old.now.members }) }
-        ensures kept { self.new.kept ≡ self.old.kept }
-        ensures ready { self.old.ready ≤ self.new.ready + (length self.old.now.members - n) }
-        ensures room { OnOk result (self.new.room ≡ record self.old.room { members = self.old.room.members + (length self.old.now.members - n) }) }
-        ensures refused { OnErr result (self.new ≡ self.old) }
+        requires { lowest + count ≤ length self.now.now.members }
+        ensures { IfOk result (λ values. values.items ≡ take count (drop lowest self.now.now.members)) }
     {
-        if self.is_kept() {
-            let values = self.copied_members(n)?;
-            self.cut_members(n);
-            Ok(values)
-        } else {
-            self.split_members(n)
-        }
-    }
-
-    // Copies of the members above the lowest `n`.
-    fn copied_members(&self, n: usize) -> Result<Vec<M>, Memory>
-    where
-        M: Copied,
-        requires { n ≤ length self.now.now.members }
-        ensures { IfOk result (λ values. values.items ≡ drop n self.now.now.members) }
-    {
-        self.members.copied_from(n)
-    }
-
-    // Takes off the members above the lowest `n`, and gives them.
-    fn split_members(&mut self, n: usize) -> Result<Vec<M>, Memory>
-        requires fewer { n ≤ length self.old.now.members }
-        requires unkept { length self.old.kept ≡ 0 }
-        ensures values { IfOk result (λ values. values.items ≡ drop n self.old.now.members) }
-        ensures now { OnOk result (self.new.now ≡ record self.old.now { members = take n self.old.now.members }) }
-        ensures kept { self.new.kept ≡ self.old.kept }
-        ensures ready { self.new.ready ≡ self.old.ready }
-        ensures room { OnOk result (self.new.room ≡ record self.old.room { members = self.old.room.members + (length self.old.now.members - n) }) }
-        ensures refused { OnErr result (self.new ≡ self.old) }
-    {
-        self.members.split_off(n)
+        self.members.copied_between(lowest, count)
     }
 
     /// Drops the members above the lowest `n`, the last one first. It takes no memory.
@@ -608,6 +580,47 @@ impl<S: Drop, O: Drop, A: Drop, M: Drop, K: Drop> Environment<S, O, A, M, K> {
         note(&mut self.trail, Old::Member(before));
     }
 
+    /// Whether the bit of an object's field in a block is on. It takes no memory.
+    pub fn bit(&self, object: u32, block: u64) -> bool
+        ensures { result ≡ set.contains self.now.now.fields.bits (object, block) }
+    {
+        self.fields.test(object, block)
+    }
+
+    /// The content of an object's field in a block. It takes no memory.
+    pub fn content(&self, object: u32, block: u64) -> Option<&F>
+        ensures { option_copied result ≡ map.get self.now.now.fields.contents (object, block) }
+    {
+        self.fields.get(object, block)
+    }
+
+    /// Makes sure of memory for an object's field in a block.
+    ///
+    /// The error is want of memory, and then all is as before.
+    pub fn reserve_field(&mut self, object: u32, block: u64) -> Result<(), Memory>
+        ensures now { self.new.now ≡ self.old.now }
+        ensures kept { self.new.kept ≡ self.old.kept }
+        ensures ready { self.new.ready ≡ self.old.ready }
+        ensures place { OnOk result (IsTrue (set.contains self.new.room.fields (object, block))) }
+        ensures room { OnOk result (self.new.room ≡ record self.old.room { fields = set.insert self.old.room.fields (object, block) }) }
+        ensures refused { OnErr result (self.new ≡ self.old) }
+    {
+        self.fields.room(object, block)
+    }
+
+    /// Puts a bit and a content, or none, into an object's field in a block. It takes no memory.
+    pub fn set_field(&mut self, field: Field<F>)
+        requires place { HasRoom self.old.room.fields field }
+        requires one { 1 ≤ self.old.ready }
+        ensures now { self.new.now ≡ record self.old.now { fields = with self.old.now.fields field } }
+        ensures kept { self.new.kept ≡ self.old.kept }
+        ensures ready { self.old.ready ≤ self.new.ready + 1 }
+        ensures room { self.new.room ≡ self.old.room }
+    {
+        let before = put_field(&mut self.fields, field);
+        note(&mut self.trail, Old::Field(before));
+    }
+
     /// Whether something is kept. It takes no memory.
     #[inline(always)]
     pub fn is_kept(&self) -> bool
@@ -616,18 +629,21 @@ impl<S: Drop, O: Drop, A: Drop, M: Drop, K: Drop> Environment<S, O, A, M, K> {
         self.trail.marks() > 0
     }
 
-    /// Keeps what is there, with `beside` beside it. No value is copied. Changes that were ready need not be so any
-    /// more.
+    /// Keeps what is there, with `beside` beside it, and makes `n` changes ready. No value is copied. Other changes that
+    /// were ready need not be so any more.
     ///
-    /// The error is want of memory, and then all is as before.
-    pub fn keep(&mut self, beside: K) -> Result<(), Memory>
+    /// The error is want of memory, and then all is as before, but for more changes that may be ready.
+    pub fn keep(&mut self, beside: K, n: usize) -> Result<(), Memory>
         ensures now { self.new.now ≡ self.old.now }
         ensures kept { OnOk result (self.new.kept ≡ (self.old.now, beside) ∷ self.old.kept) }
+        ensures ready { OnOk result (n ≤ self.new.ready) }
         ensures room { self.new.room ≡ self.old.room }
-        ensures refused { OnErr result (self.new ≡ self.old) }
+        ensures refused { OnErr result (self.new ≡ record self.old { ready = self.new.ready }) }
+        ensures more { OnErr result (self.old.ready ≤ self.new.ready) }
     {
         self.records.reserve(1)?;
         self.bases.reserve(1)?;
+        self.trail.reserve(n)?;
         self.trail.mark()?;
         self.bases.push_reserved(self.base);
         self.base = Base {
@@ -655,6 +671,7 @@ impl<S: Drop, O: Drop, A: Drop, M: Drop, K: Drop> Environment<S, O, A, M, K> {
                 &mut self.operands,
                 &mut self.activations,
                 &mut self.members,
+                &mut self.fields,
                 old,
             );
         }
@@ -678,25 +695,30 @@ fn pop_base(bases: &mut Vec<Base>) -> Base
 }
 
 // Puts back what a change replaced.
-fn put_back<S: Drop, O: Drop, A: Drop, M: Drop>(
+fn put_back<S: Drop, O: Drop, A: Drop, M: Drop, F: Drop>(
     slots: &mut Stack<S>,
     operands: &mut Stack<O>,
     activations: &mut Stack<A>,
     members: &mut Stack<M>,
-    old: Old<S, O, A, M>,
+    fields: &mut Fields<F>,
+    old: Old<S, O, A, M, F>,
 )
-    requires { FitsIn (parts slots.old operands.old activations.old members.old) (contents_of (parts slots.old operands.old activations.old members.old)) old }
-    ensures undone { contents_of (parts slots.new operands.new activations.new members.new) ≡ undone (contents_of (parts slots.old operands.old activations.old members.old)) old }
+    requires { FitsIn (parts slots.old operands.old activations.old members.old fields.old) (contents_of (parts slots.old operands.old activations.old members.old fields.old)) old }
+    ensures undone { contents_of (parts slots.new operands.new activations.new members.new fields.new) ≡ undone (contents_of (parts slots.old operands.old activations.old members.old fields.old)) old }
     ensures slots { slots.new.room ≡ slots.old.room }
     ensures operands { operands.new.room ≡ operands.old.room }
     ensures activations { activations.new.room ≡ activations.old.room }
     ensures members { members.new.room ≡ members.old.room }
+    ensures fields { fields.new.room ≡ fields.old.room }
 {
     match old {
         Old::Slot(place) => slots.place(place),
         Old::Operand(place) => operands.place(place),
         Old::Activation(place) => activations.place(place),
         Old::Member(place) => members.place(place),
+        Old::Field(field) => {
+            put_field(fields, field);
+        }
     }
 }
 

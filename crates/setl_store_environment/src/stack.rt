@@ -241,6 +241,16 @@ impl<T: Copied> Stack<T> {
     {
         copied_all(*self.items.allocator(), &self.items[n..])
     }
+
+    /// Copies of `count` values from the place `lowest` on.
+    ///
+    /// The error is want of memory.
+    pub fn copied_between(&self, lowest: usize, count: usize) -> Result<Vec<T>, Memory>
+        requires { lowest + count ≤ length self.now.items }
+        ensures { IfOk result (λ copies. copies.items ≡ take count (drop lowest self.now.items)) }
+    {
+        copied_all(*self.items.allocator(), &self.items[lowest..][..count])
+    }
 }
 
 // Copies of all values of a list.

@@ -1,4 +1,4 @@
-use setl_store_environment::{Copied, Environment, Memory};
+use setl_store_environment::{Copied, Environment, Field, Memory};
 use std::alloc::Global;
 use std::process::Abort;
 use std::test::Fail;
@@ -13,7 +13,7 @@ impl Copied for Held {
     }
 }
 
-type Env = Environment<Held, Held, Held, Held, u64>;
+type Env = Environment<Held, Held, Held, Held, Held, u64>;
 
 // Steps, a line each: a call with its number, if it has one, then what it gives, and behind a bar each the slots, the
 // operands, the activations and how many members there are after it.
@@ -38,7 +38,16 @@ back: | 1 2 3 | 1 2 | 1 2 | 2";
 const TAKEN: &str = "replace: 1 1 | 11 2 3 | 12 2 | 1 2 | 2
 pop_operand: 2 | 11 2 3 | 12 | 1 2 | 2
 pop_operands: 12 | 11 2 3 | | 1 2 | 2
-pop_members: 1 2 | 11 2 3 | | 1 2 | 0";
+copied_members: 2 | 11 2 3 | | 1 2 | 2";
+
+const CHANGED: &str = "field: false | 1 2 3 | 1 2 | 1 2 | 2
+set_field 7: | 1 2 3 | 1 2 | 1 2 | 2
+keep 21: | 1 2 3 | 1 2 | 1 2 | 2
+set_field 8: | 1 2 3 | 1 2 | 1 2 | 2
+field: true 8 | 1 2 3 | 1 2 | 1 2 | 2";
+
+const BACK: &str = "back: 21 | 1 2 3 | 1 2 | 1 2 | 2
+field: true 7 | 1 2 3 | 1 2 | 1 2 | 2";
 
 // A slot, an operand, an activation and a member more, with this number.
 fn add(env: &mut Env, n: u64) -> Result<(), Memory> {
@@ -123,9 +132,34 @@ fn pop_operands(env: &mut Env, told: &mut String) -> Result<(), Memory> {
     tell(&env.pop_operands(0)?, told)
 }
 
-fn pop_members(env: &mut Env, told: &mut String) -> Result<(), Memory> {
-    env.reserve(env.members())?;
-    tell(&env.pop_members(0)?, told)
+// The member at place 1.
+fn copied_members(env: &Env, told: &mut String) -> Result<(), Memory> {
+    if env.members() > 1 {
+        tell(&env.copied_members(1, 1)?, told)?;
+    }
+    Ok(())
+}
+
+// The bit of object 3 in block 5 on, with this number as its content.
+fn set_field(env: &mut Env, n: u64) -> Result<(), Memory> {
+    env.reserve_field(3, 5)?;
+    env.reserve(1)?;
+    env.set_field(Field {
+        object: 3,
+        block: 5,
+        bit: true,
+        content: Some(Held(n)),
+    });
+    Ok(())
+}
+
+// The bit and the content there.
+fn field(env: &Env, told: &mut String) -> Result<(), Memory> {
+    write!(told, " {}", env.bit(3, 5))?;
+    match env.content(3, 5) {
+        Some(content) => write!(told, " {}", content.0),
+        None => Ok(()),
+    }
 }
 
 // Adds all numbers of these, in their order.
@@ -141,7 +175,7 @@ fn call(alloc: Global, env: &mut Env, name: &str, n: u64, told: &mut String) -> 
     match name {
         "add" => add(env, n),
         "push_slots" => push_slots(alloc, env, n),
-        "keep" => env.keep(n),
+        "keep" => env.keep(n, 0),
         "is_kept" => write!(told, " {}", env.is_kept()),
         "set" => set(env),
         "drop_last" => drop_last(env),
@@ -149,7 +183,9 @@ fn call(alloc: Global, env: &mut Env, name: &str, n: u64, told: &mut String) -> 
         "replace" => replace(env, told),
         "pop_operand" => pop_operand(env, told),
         "pop_operands" => pop_operands(env, told),
-        "pop_members" => pop_members(env, told),
+        "copied_members" => copied_members(env, told),
+        "set_field" => set_field(env, n),
+        "field" => field(env, told),
         _ => back(env, told),
     }
 }
@@ -258,4 +294,9 @@ fn what_is_taken_off_is_the_same_under_a_mark(rt: HostRuntime) -> Result<(), Fai
         run(&rt, rt.alloc(), [FILLED, start, TAKEN])?;
     }
     Ok(())
+}
+
+#[test]
+fn back_puts_a_field_back(rt: HostRuntime) -> Result<(), Fail> {
+    run(&rt, rt.alloc(), [FILLED, CHANGED, BACK])
 }

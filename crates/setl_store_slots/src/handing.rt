@@ -15,10 +15,10 @@ use std::alloc::Global;
 /// these was taken. The parameters have the slots from `lowest` on.
 ///
 /// The error is want of memory.
-pub fn handed_back<O: Drop, A: Drop, M: Drop, K: Drop>(
+pub fn handed_back<O: Drop, A: Drop, M: Drop, F: Drop, K: Drop>(
     alloc: Global,
     parameters: &[Param],
-    environment: &Environment<Held, O, A, M, K>,
+    environment: &Environment<Held, O, A, M, F, K>,
     lowest: usize,
     value: Option<Value>,
 ) -> Result<Option<Vec<Option<Value>>>, Memory>

@@ -7,6 +7,8 @@ pub enum Asked {
     Trace,
     /// It counts the stores at each line.
     Cover,
+    /// It counts the calls of each procedure.
+    Profile,
 }
 
 impl Asked {
@@ -20,6 +22,7 @@ impl Asked {
         match self {
             Asked::Trace => 1,
             Asked::Cover => 2,
+            Asked::Profile => 3,
         }
     }
 }

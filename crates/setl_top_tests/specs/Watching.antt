@@ -12,6 +12,10 @@ abbrev digit_line : List (ℕ × ℕ) → List ℕ
 digit_line [] = []
 digit_line (c ∷ cs) = (c.0 + 48) ∷ 10 ∷ []
 
+abbrev told_in : List (ℕ × ℕ) → ℕ
+told_in [] = 0
+told_in (c ∷ cs) = c.0
+
 -- it has the name 1, was told so many events, and reports their number
 abbrev pub at_once : ℕ → Watch
 at_once told = record {
@@ -19,4 +23,6 @@ at_once told = record {
   state = record { events = []; counts = (told, 0) ∷ [] };
   move = λ n e. (record { events = []; counts = more n.counts }, true);
   report = λ n. digit_line n.counts;
+  count = λ n. told_in n.counts;
+  aim = λ line. record { events = []; counts = (0, 0) ∷ [] };
 }

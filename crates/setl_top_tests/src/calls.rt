@@ -3,7 +3,7 @@
 use crate::rows::{BETWEEN, fields, text};
 use setl_io::{MemFiles, MemSink, MemSource, Memory};
 use setl_top::{Status, setl};
-use setl_watch::{Cover, Trace, Watcher};
+use setl_watch::{Cover, Profile, Trace, Watcher};
 use std::alloc::Global;
 use std::process::Abort;
 
@@ -145,6 +145,7 @@ pub fn call_with(
     let mut watchers: Vec<Box<dyn Watcher>> = Vec::new(alloc);
     watchers.push(Box::new(alloc, Trace::new(alloc)?)?)?;
     watchers.push(Box::new(alloc, Cover::new(alloc)?)?)?;
+    watchers.push(Box::new(alloc, Profile::new(alloc)?)?)?;
     let mut outside = outside_of(alloc, source, faults)?;
     called(alloc, line, watchers, &mut outside, input)
 }

@@ -82,6 +82,18 @@ store 2 f {[1 'a'] [2 'b']}
 store 2 f {[2 'b']}
 store 2 x [1 'a']
 ====
+run --watch profile a
+--
+program p;
+x := inc(1) + inc(2); y := dec(x);
+proc inc(n); return n + 1; end proc;
+proc dec(n); return inc(n) - 2; end proc;
+end program;
+--
+--
+proc inc: 3
+proc dec: 1
+====
 run --watch trace a
 --
 program p;
@@ -224,6 +236,14 @@ impl Watcher for AtOnce {
             Some(digit) => into.extend_from_slice(&[digit, b'\n']),
             None => Err(AllocError),
         }
+    }
+
+    fn count(&self) -> u64 {
+        u64::from(self.told)
+    }
+
+    fn aim(&mut self, _line: u32) {
+        self.told = 0;
     }
 }
 

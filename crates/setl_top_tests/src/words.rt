@@ -62,7 +62,7 @@ faulty: run --turns q.setl
 faulty: run --turns 5 --turns 5 q.setl
 faulty: run --unbased --unbased q.setl
 faulty: run --watch q.setl
-faulty: run --watch profile q.setl
+faulty: run --watch profiles q.setl
 faulty: run --watch Trace q.setl
 faulty: run --watch=trace q.setl
 faulty: run --watch trace --watch trace q.setl
@@ -113,7 +113,7 @@ not of the plain form
 run --turns=5 q
 not of the plain form
 ====
-run --watch profile q
+run --watch profiles q
 not of the plain form
 ====
 run --watch trace

@@ -9,7 +9,7 @@ use Rattle.setl_top_options.specs.declared.given.Given.{Given}
 use Rattle.setl_top_options.specs.declared.given.RunOption.{RunOption}
 use Rattle.setl_top_options.specs.declared.given.RunOption.TheVariants.{Unbased, Turns, Watch}
 use Rattle.setl_top_options.specs.declared.watching.Asked.{Asked}
-use Rattle.setl_top_options.specs.declared.watching.Asked.TheVariants.{Trace, Cover}
+use Rattle.setl_top_options.specs.declared.watching.Asked.TheVariants.{Trace, Cover, Profile}
 
 -- what holds holds also where something isn't there
 pub always : {T P : Type 0} → (r : Option T) → P → IfNone r P
@@ -48,11 +48,22 @@ turns_or_watch e = absurd (search (rules, e))
 trace_or_cover : codes "trace" ≢ codes "cover"
 trace_or_cover e = absurd (search (rules, e))
 
+trace_or_profile : codes "trace" ≢ codes "profile"
+trace_or_profile e = absurd (search (rules, e))
+
+cover_or_profile : codes "cover" ≢ codes "profile"
+cover_or_profile e = absurd (search (rules, e))
+
 one_watcher : (a b : Asked) → watcher_word a ≡ watcher_word b → a ≡ b
 one_watcher Trace Trace e = refl
 one_watcher Trace Cover e = absurd (trace_or_cover e)
 one_watcher Cover Trace e = absurd (trace_or_cover (sym e))
 one_watcher Cover Cover e = refl
+one_watcher Trace Profile e = absurd (trace_or_profile e)
+one_watcher Profile Trace e = absurd (trace_or_profile (sym e))
+one_watcher Cover Profile e = absurd (cover_or_profile e)
+one_watcher Profile Cover e = absurd (cover_or_profile (sym e))
+one_watcher Profile Profile e = refl
 
 pub one_option : (a b : RunOption) (xs ys : List (List ℕ)) → IsInRange a → IsInRange b → option_words a ++ xs ≡ option_words b ++ ys → (a ≡ b) × (xs ≡ ys)
 one_option Unbased Unbased xs ys i j e = (refl, tail_of _ _ xs ys e)

@@ -5,7 +5,7 @@ use Rattle.std.specs.List.{flat_map, fold}
 use Rattle.setl_top_options.specs.declared.given.RunOption.{RunOption}
 use Rattle.setl_top_options.specs.declared.given.RunOption.TheVariants.{Unbased, Turns, Watch}
 use Rattle.setl_top_options.specs.declared.watching.Asked.{Asked}
-use Rattle.setl_top_options.specs.declared.watching.Asked.TheVariants.{Trace, Cover}
+use Rattle.setl_top_options.specs.declared.watching.Asked.TheVariants.{Trace, Cover, Profile}
 
 -- a file's name isn't empty and doesn't begin with a dash
 abbrev pub IsFile : List ℕ → Type 0
@@ -18,6 +18,7 @@ IsFile (c ∷ name) = c ≢ 45
 abbrev pub watcher_word : Asked → List ℕ
 watcher_word Trace = codes "trace"
 watcher_word Cover = codes "cover"
+watcher_word Profile = codes "profile"
 
 -- ---- the options of a run
 

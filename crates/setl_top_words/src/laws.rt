@@ -1,7 +1,7 @@
 //! What follows from the definitions alone. The functions have no effect: each states a law.
 ghost use Rattle.std.specs.Prelude.{◌∷◌, ◌-◌, ◌^◌, [], codes, true, false, Some, None};
 ghost use Rattle.setl_top_words.specs.Words.{OneCommand, Run, Check, Trial, Spells, IsFaulty};
-ghost use Rattle.setl_top_options.specs.declared.watching.Asked.TheVariants.{Trace, Cover};
+ghost use Rattle.setl_top_options.specs.declared.watching.Asked.TheVariants.{Trace, Cover, Profile};
 
 /// Words spell at most one command.
 pub fn one_command()
@@ -14,6 +14,7 @@ pub fn plain_words()
     ensures both { Spells (codes "run" ∷ codes "--turns" ∷ codes "50" ∷ codes "--unbased" ∷ codes "q" ∷ []) (Run (record { turns = 50; based = false; watch = None }) (codes "q")) }
     ensures swapped { Spells (codes "run" ∷ codes "--unbased" ∷ codes "--turns" ∷ codes "0" ∷ codes "q" ∷ []) (Run (record { turns = 0; based = false; watch = None }) (codes "q")) }
     ensures trace { Spells (codes "run" ∷ codes "--watch" ∷ codes "trace" ∷ codes "q" ∷ []) (Run (record { turns = 2 ^ 63 - 1; based = true; watch = Some Trace }) (codes "q")) }
+    ensures profile { Spells (codes "run" ∷ codes "--watch" ∷ codes "profile" ∷ codes "q" ∷ []) (Run (record { turns = 2 ^ 63 - 1; based = true; watch = Some Profile }) (codes "q")) }
     ensures cover { Spells (codes "run" ∷ codes "--unbased" ∷ codes "--watch" ∷ codes "cover" ∷ codes "q" ∷ []) (Run (record { turns = 2 ^ 63 - 1; based = false; watch = Some Cover }) (codes "q")) }
     ensures check { Spells (codes "check" ∷ codes "q" ∷ []) (Check (codes "q")) }
     ensures trial { Spells (codes "trial" ∷ codes "7" ∷ codes "2000" ∷ []) (Trial 7 2000) }
@@ -27,7 +28,7 @@ pub fn faulty_words()
     ensures again { IsFaulty (codes "run" ∷ codes "--unbased" ∷ codes "--unbased" ∷ codes "q" ∷ []) }
     ensures no_value { IsFaulty (codes "run" ∷ codes "--turns" ∷ codes "q" ∷ []) }
     ensures no_watcher { IsFaulty (codes "run" ∷ codes "--watch" ∷ codes "q" ∷ []) }
-    ensures other_watcher { IsFaulty (codes "run" ∷ codes "--watch" ∷ codes "profile" ∷ codes "q" ∷ []) }
+    ensures other_watcher { IsFaulty (codes "run" ∷ codes "--watch" ∷ codes "profiles" ∷ codes "q" ∷ []) }
     ensures two_watchers { IsFaulty (codes "run" ∷ codes "--watch" ∷ codes "trace" ∷ codes "--watch" ∷ codes "cover" ∷ codes "q" ∷ []) }
     ensures leading_zero { IsFaulty (codes "run" ∷ codes "--turns" ∷ codes "07" ∷ codes "q" ∷ []) }
     ensures too_great { IsFaulty (codes "run" ∷ codes "--turns" ∷ codes "9223372036854775808" ∷ codes "q" ∷ []) }

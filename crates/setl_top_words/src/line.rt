@@ -38,7 +38,7 @@ fn watch<'a>(alloc: Global) -> Arg<'a>
     Arg::new(alloc, "watch")
         .long("watch")
         .value_name("NAME")
-        .help("Report what a watcher saw of the run: trace or cover")
+        .help("Report what a watcher saw of the run: trace, cover or profile")
 }
 
 /// The file that each command reads.

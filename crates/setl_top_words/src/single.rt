@@ -65,6 +65,13 @@ pub(crate) fn is_cover(word: &str) -> bool
     word == "cover"
 }
 
+/// Whether a word asks for a profile.
+pub(crate) fn is_profile(word: &str) -> bool
+    ensures { IsTrue result ↔ (word.now ≡ codes "profile") }
+{
+    word == "profile"
+}
+
 /// Whether a file may have that name in the words.
 pub(crate) fn is_file(word: &str) -> bool
     ensures { IsTrue result ↔ IsFile word.now }

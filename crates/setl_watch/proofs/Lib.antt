@@ -1,3 +1,4 @@
 mod Telling
 mod Counting
+mod Profiling
 mod Parts

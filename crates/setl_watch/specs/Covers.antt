@@ -1,7 +1,7 @@
 -- The cover: how many stores each line made.
-use Rattle.std.specs.Prelude.{◌≡◌, refl, ℕ, suc, Bool, List, [], ◌∷◌, ◌++◌, cond, nat_eq, nat_lt, false, codes, decimal}
+use Rattle.std.specs.Prelude.{◌≡◌, refl, ℕ, suc, ◌+◌, Bool, List, [], ◌∷◌, ◌++◌, cond, nat_eq, nat_lt, false, codes, decimal}
 use Rattle.setl_watch.specs.Notices.{Notice, Called, Returned, Stored, Printed, Kept, Back}
-use Rattle.setl_watch.specs.Watches.{Watch}
+use Rattle.setl_watch.specs.Watches.{Watch, no_notes}
 
 -- Lines with their counts, the lines rising.
 abbrev pub Counts : Type 0
@@ -26,6 +26,11 @@ abbrev pub cover_report : Counts → List ℕ
 cover_report [] = []
 cover_report (c ∷ cs) = codes "line " ++ decimal c.0 ++ codes ": " ++ decimal c.1 ++ 10 ∷ cover_report cs
 
+-- how many stores there were
+abbrev pub all_counted : Counts → ℕ
+all_counted [] = 0
+all_counted (c ∷ cs) = c.1 + all_counted cs
+
 -- the watcher with the name 2 that has these counts
 abbrev pub cover : Counts → Watch
 cover counts = record {
@@ -33,6 +38,8 @@ cover counts = record {
   state = record { events = []; counts = counts };
   move = λ n e. (record { events = n.events; counts = covered e n.counts }, false);
   report = λ n. cover_report n.counts;
+  count = λ n. all_counted n.counts;
+  aim = λ line. no_notes;
 }
 
 -- the lines rise, whatever the order of the stores

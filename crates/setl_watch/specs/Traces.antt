@@ -3,7 +3,7 @@ use Rattle.std.specs.Prelude.{◌≡◌, refl, ℕ, List, [], ◌∷◌, ◌++�
 use Rattle.setl_value.specs.Datum.{Datum}
 use Rattle.setl_text.specs.Texts.{inner_text}
 use Rattle.setl_watch.specs.Notices.{Notice, Called, Returned, Stored, Printed, Kept, Back}
-use Rattle.setl_watch.specs.Watches.{Watch}
+use Rattle.setl_watch.specs.Watches.{Watch, no_notes}
 
 -- how many events a trace keeps
 abbrev pub most_events : ℕ
@@ -39,6 +39,8 @@ trace events = record {
   state = record { events = events; counts = [] };
   move = λ n e. (record { events = traced n.events e; counts = n.counts }, nat_le most_events (length (traced n.events e)));
   report = λ n. trace_report n.events;
+  count = λ n. length n.events;
+  aim = λ line. no_notes;
 }
 
 -- a line for each event

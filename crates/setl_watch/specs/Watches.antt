@@ -11,17 +11,19 @@ pub record Notes : Type 0 where
 abbrev pub no_notes : Notes
 no_notes = record { events = []; counts = [] }
 
--- A watcher: its name, what it knows, what it knows after it is told an event and whether it has enough then, and what
--- it reports of what it knows.
+-- A watcher: its name, what it knows, what it knows after it is told an event and whether it has enough then, what it
+-- reports of what it knows, how much it has counted, and what it knows at first where it is aimed at a line.
 pub record Watch : Type 0 where
   pub name : ℕ
   pub state : Notes
   pub move : Notes → Notice → Notes × Bool
   pub report : Notes → List ℕ
+  pub count : Notes → ℕ
+  pub aim : ℕ → Notes
 
 -- the watcher after it is told an event; only its state changes
 abbrev pub after : Watch → Notice → Watch
-after w e = record { name = w.name; state = (w.move w.state e).0; move = w.move; report = w.report }
+after w e = record w { state = (w.move w.state e).0 }
 
 -- whether it has enough then
 abbrev pub has_enough : Watch → Notice → Bool
@@ -30,6 +32,14 @@ has_enough w e = (w.move w.state e).1
 -- its report
 abbrev pub reported : Watch → List ℕ
 reported w = w.report w.state
+
+-- how much it has counted
+abbrev pub counted_by : Watch → ℕ
+counted_by w = w.count w.state
+
+-- the watcher at first, aimed at a line
+abbrev pub aimed_at : ℕ → Watch → Watch
+aimed_at line w = record w { state = w.aim line }
 
 -- The watchers of a run in their order, and the reports of those that had enough, in the order in which they had.
 pub record Watched : Type 0 where
@@ -70,6 +80,8 @@ counting name most = record {
   state = no_notes;
   move = λ n e. (record { events = e ∷ n.events; counts = n.counts }, nat_le most (length (e ∷ n.events)));
   report = λ n. name ∷ length n.events ∷ [];
+  count = λ n. length n.events;
+  aim = λ line. no_notes;
 }
 
 abbrev ended : List run.Event → List Watch → List ℕ

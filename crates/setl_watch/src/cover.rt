@@ -1,7 +1,7 @@
 //! The cover of a run.
 
-ghost use Rattle.std.specs.Prelude.{◌≡◌, ◌≤◌, ◌<◌, ◌++◌, ◌∷◌, [], length, IsTrue, IfOk, OnOk, OnErr};
-ghost use Rattle.setl_watch.specs.Covers.{cover, counted, cover_report, has, place};
+ghost use Rattle.std.specs.Prelude.{◌≡◌, ◌≤◌, ◌<◌, ◌^◌, ◌-◌, min, ◌++◌, ◌∷◌, [], length, IsTrue, IfOk, OnOk, OnErr};
+ghost use Rattle.setl_watch.specs.Covers.{cover, all_counted, counted, cover_report, has, place};
 
 use crate::text::push_word;
 use crate::{Event, Memory, Wants, Watcher};
@@ -52,6 +52,17 @@ impl Cover {
         };
         self.counts[at].1 = count;
         Ok(())
+    }
+
+    /// How many stores there were, or 2^64 - 1 where there were more.
+    fn stores(&self) -> u64
+        ensures { result ≡ min (all_counted self.now) (2 ^ 64 - 1) }
+    {
+        let mut stores = 0_u64;
+        for (_, count) in &self.counts {
+            stores = stores.saturating_add(*count);
+        }
+        stores
     }
 
     /// The lines of the report.
@@ -119,5 +130,13 @@ impl Watcher for Cover {
     fn report(&self, into: &mut Vec<u8>) -> Result<(), Memory> {
         let lines = self.lines()?;
         into.extend_from_slice(&lines)
+    }
+
+    fn count(&self) -> u64 {
+        self.stores()
+    }
+
+    fn aim(&mut self, _line: u32) {
+        self.counts.clear();
     }
 }

@@ -35,12 +35,12 @@ impl Model for Trace {
 }
 
 impl Trace {
-    /// No event, and room for all that it keeps. The error is want of memory.
+    /// No event. The error is want of memory.
     pub fn new(alloc: Global) -> Result<Trace, Memory>
         ensures { IfOk result (λ t. t ≡ []) }
     {
         Ok(Trace {
-            events: Vec::with_capacity(alloc, MOST)?,
+            events: Vec::with_capacity(alloc, 1)?,
             alloc,
         })
     }
@@ -89,5 +89,13 @@ impl Watcher for Trace {
     fn report(&self, into: &mut Vec<u8>) -> Result<(), Memory> {
         let lines = self.lines()?;
         into.extend_from_slice(&lines)
+    }
+
+    fn count(&self) -> u64 {
+        self.events.len() as u64
+    }
+
+    fn aim(&mut self, _line: u32) {
+        self.events.clear();
     }
 }

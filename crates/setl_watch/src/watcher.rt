@@ -1,8 +1,8 @@
 //! Watchers, and telling them an event.
 
-ghost use Rattle.std.specs.Prelude.{◌≡◌, ◌≤◌, ◌<◌, ◌-◌, ◌++◌, length, map, take, drop, true, false, IfOk, OnOk, OnErr};
+ghost use Rattle.std.specs.Prelude.{◌≡◌, ◌≤◌, ◌<◌, ◌-◌, ◌^◌, min, ◌++◌, length, map, take, drop, true, false, IfOk, OnOk, OnErr};
 ghost use Rattle.setl_watch.specs.code.NoticeOf.{notice_of};
-ghost use Rattle.setl_watch.specs.Watches.{Watch, after, has_enough, reported, all_reported, watched, told, told_each};
+ghost use Rattle.setl_watch.specs.Watches.{Watch, counted_by, aimed_at, after, has_enough, reported, all_reported, watched, told, told_each};
 ghost use Rattle.setl_watch.specs.code.Telling.{told_from};
 
 use crate::{Event, Memory};
@@ -38,6 +38,14 @@ pub trait Watcher: Drop {
     fn report(&self, into: &mut Vec<u8>) -> Result<(), Memory>
         ensures added { OnOk result (into.new.items ≡ into.old.items ++ reported (watch self.now)) }
         ensures refused { OnErr result (into.new.items ≡ into.old.items) };
+
+    /// How much it has counted, or 2^64 - 1 where that is more. It takes no memory.
+    fn count(&self) -> u64
+        ensures { result ≡ min (counted_by (watch self.now)) (2 ^ 64 - 1) };
+
+    /// Is as at first, aimed at a line. It takes no memory.
+    fn aim(&mut self, line: u32)
+        ensures { watch self.new ≡ aimed_at line (watch self.old) };
 }
 
 /// Tells each watcher an event, in order. One that has enough is asked for its report at once, which is added to the

@@ -12,6 +12,10 @@ abbrev name_and_count : ℕ → List (ℕ × ℕ) → List ℕ
 name_and_count name [] = []
 name_and_count name (c ∷ cs) = name ∷ c.0 ∷ []
 
+abbrev count_in : List (ℕ × ℕ) → ℕ
+count_in [] = 0
+count_in (c ∷ cs) = c.0
+
 -- it was told so many events, has enough at so many, and reports its name and its count
 abbrev pub counting : ℕ → ℕ → ℕ → Watch
 counting name told most = record {
@@ -19,4 +23,6 @@ counting name told most = record {
   state = record { events = []; counts = (told, most) ∷ [] };
   move = λ n e. (record { events = []; counts = (told_once n.counts).0 }, (told_once n.counts).1);
   report = λ n. name_and_count name n.counts;
+  count = λ n. count_in n.counts;
+  aim = λ line. record { events = []; counts = (0, most) ∷ [] };
 }

@@ -1,11 +1,11 @@
-//! Tests of watchers: a trace, a cover, and a watcher of their own.
+//! Tests of watchers: a trace, a cover, a profile, hits, and a watcher of their own.
 #![tactic(auto)]
 
 ghost use Rattle.setl_watch_tests.specs.Counting.{counting};
 
 use setl_tree::Text;
 use setl_value::Value;
-use setl_watch::{Cover, Event, Memory, Trace, Wants, Watcher, report_all, tell};
+use setl_watch::{Cover, Event, Hits, Memory, Profile, Trace, Wants, Watcher, report_all, tell};
 use std::alloc::Global;
 use std::test::Fail;
 
@@ -39,6 +39,14 @@ impl Watcher for Counting {
 
     fn report(&self, into: &mut Vec<u8>) -> Result<(), Memory> {
         into.extend_from_slice(&[self.name, self.told])
+    }
+
+    fn count(&self) -> u64 {
+        u64::from(self.told)
+    }
+
+    fn aim(&mut self, _line: u32) {
+        self.told = 0;
     }
 }
 
@@ -214,5 +222,60 @@ fn a_cover_counts_the_stores_of_each_line(rt: HostRuntime) -> Result<(), Fail> {
         b"line 2: 2\nline 7: 3\nline 12: 1\n".as_slice()
     );
     assert_eq!(rt; cover.name(), 2);
+    Ok(())
+}
+
+fn other_called(alloc: Global) -> Result<Event, Fail> {
+    let name = Text::of(alloc, b"inc")?;
+    Ok(Event::Called { line: 3, name })
+}
+
+#[test]
+fn a_profile_counts_the_calls_of_each_procedure(rt: HostRuntime) -> Result<(), Fail> {
+    let alloc = rt.alloc();
+    let mut profile = Profile::new(alloc)?;
+    let other = other_called(alloc)?;
+    for e in [&other, &called(alloc)?, &other, &stored(alloc, None)?] {
+        assert_eq!(rt; profile.event(e), Wants::More);
+    }
+    assert_eq!(rt; (profile.name(), profile.count()), (3, 3));
+    let mut report = Vec::new(alloc);
+    profile.report(&mut report)?;
+    assert_eq!(rt; report.as_slice(), b"proc inc: 2\nproc p: 1\n".as_slice());
+    profile.aim(12);
+    profile.report(&mut report)?;
+    assert_eq!(rt; (profile.count(), report.len()), (0, 22));
+    Ok(())
+}
+
+#[test]
+fn hits_are_the_stores_at_one_line(rt: HostRuntime) -> Result<(), Fail> {
+    let alloc = rt.alloc();
+    let mut hits = Hits::new();
+    hits.event(&stored(alloc, None)?);
+    assert_eq!(rt; (hits.name(), hits.count()), (4, 0));
+    hits.aim(12);
+    for line in [11, 12, 13, 12] {
+        hits.event(&store(alloc, line, 1)?);
+    }
+    let mut report = Vec::new(alloc);
+    hits.report(&mut report)?;
+    assert_eq!(rt; (hits.count(), report.len()), (2, 0));
+    Ok(())
+}
+
+#[test]
+fn a_trace_and_a_cover_count_and_begin_again(rt: HostRuntime) -> Result<(), Fail> {
+    let alloc = rt.alloc();
+    let mut trace = Trace::new(alloc)?;
+    let mut cover = Cover::new(alloc)?;
+    for e in &first_events(alloc)? {
+        trace.event(e);
+        cover.event(e);
+    }
+    assert_eq!(rt; (trace.count(), cover.count()), (4, 1));
+    trace.aim(1);
+    cover.aim(1);
+    assert_eq!(rt; (trace.count(), cover.count()), (0, 0));
     Ok(())
 }

@@ -1,6 +1,6 @@
 use Rattle.std.proofs.Common.{Ok, sym, subst}
 use Rattle.setl_code.specs.declared.code.Instr.{Instr}
-use Rattle.setl_code.specs.declared.code.Instr.TheVariants.{Integer, Load, Store, Decide, TestTruth, Unless, Jump, Round}
+use Rattle.setl_code.specs.declared.code.Instr.TheVariants.{Integer, Load, Take, Store, Decide, TestTruth, Unless, Jump, Round}
 use Rattle.setl_code.specs.Plain.{plain_instr}
 use Rattle.setl_store.specs.Standing.{variables}
 use Rattle.setl_machine_control.specs.Declaring.{modes_of}
@@ -24,6 +24,14 @@ returns-in-Load-clause-did c =
     let k = c.args.control.now in
     subst (λ (what : Instr). DoesOrLeaves modes s k c.args.line (plain_instr (variables s.core) what) c.load.new.store k c.went_on-in-Load.result) (sym c.in-Load.is)
     (went_alone modes s c.load.new.store k c.args.line (plain_instr (variables s.core) (Load c.in-Load.slot)) c.load.result c.went_on-in-Load.result c.went_on-in-Load.ensures (c.load.ensures c.args.line))
+
+pub returns-in-Take-clause-did : goal.returns-in-Take-clause-did
+returns-in-Take-clause-did c =
+    let s = c.args.store.now in
+    let modes = modes_of c.args.declarations.now in
+    let k = c.args.control.now in
+    subst (λ (what : Instr). DoesOrLeaves modes s k c.args.line (plain_instr (variables s.core) what) c.take.new.store k c.went_on-in-Take.result) (sym c.in-Take.is)
+    (went_alone modes s c.take.new.store k c.args.line (plain_instr (variables s.core) (Take c.in-Take.slot)) c.take.result c.went_on-in-Take.result c.went_on-in-Take.ensures (c.take.ensures c.args.line))
 
 pub returns-in_ok-store_at_once-in-Store-clause-did : goal.returns-in_ok-store_at_once-in-Store-clause-did
 returns-in_ok-store_at_once-in-Store-clause-did c =

@@ -7,7 +7,7 @@ use Rattle.setl_top_options.specs.code.Given.{with_given, is_nothing}
 use Rattle.setl_top_options.specs.declared.given.RunOption.{RunOption}
 use Rattle.setl_top_options.specs.declared.given.RunOption.TheVariants.{Unbased, Turns, Watch}
 use Rattle.setl_top_options.specs.declared.watching.Asked.{Asked}
-use Rattle.setl_top_options.specs.declared.watching.Asked.TheVariants.{Trace, Cover}
+use Rattle.setl_top_options.specs.declared.watching.Asked.TheVariants.{Trace, Cover, Profile}
 use Rattle.setl_top_words.specs.code.Reading.{LeadsNowhere}
 use Rattle.setl_top_words.proofs.Order.{turns_or_watch, head_of, tail_of, nowhere_on, nowhere_again, nowhere_else}
 use Rattle.setl_top_words.proofs.Commands.{no_end, few_are_faulty, run_is_faulty, dash_is_faulty, run_or_trial, trial_is_faulty, two_numbers}
@@ -44,9 +44,10 @@ no_watcher behind none = nowhere_else is_nothing _ (λ e. absurd (omega (arith, 
     no_option (Turns n) rest e = turns_or_watch (sym (head_of _ _ _ _ e))
     no_option (Watch a) rest e = none a rest (tail_of _ _ _ _ e)
 
-profile : (a : Asked) (rest : List (List ℕ)) → codes "profile" ∷ [] ≢ watcher_word a ∷ rest
-profile Trace rest e = let same = head_of _ _ _ _ e in absurd (search (rules, same))
-profile Cover rest e = let same = head_of _ _ _ _ e in absurd (search (rules, same))
+profiles : (a : Asked) (rest : List (List ℕ)) → codes "profiles" ∷ [] ≢ watcher_word a ∷ rest
+profiles Trace rest e = let same = head_of _ _ _ _ e in absurd (search (rules, same))
+profiles Cover rest e = let same = head_of _ _ _ _ e in absurd (search (rules, same))
+profiles Profile rest e = let same = head_of _ _ _ _ e in absurd (search (rules, same))
 
 two_watchers : LeadsNowhere is_nothing (codes "--watch" ∷ codes "trace" ∷ codes "--watch" ∷ codes "cover" ∷ [])
 two_watchers = nowhere_on is_nothing (with_given is_nothing (Watch Trace)) _ (codes "--watch" ∷ codes "cover" ∷ []) (Watch Trace) refl tt refl
@@ -108,7 +109,7 @@ returns c = record {
   again = run_with _ again;
   no_value = run_with _ (no_turns [] (λ n rest small e. absurd (omega (arith, ap length e))));
   no_watcher = run_with _ (no_watcher [] (λ a rest e. absurd (omega (arith, ap length e))));
-  other_watcher = run_with _ (no_watcher _ profile);
+  other_watcher = run_with _ (no_watcher _ profiles);
   two_watchers = run_with _ two_watchers;
   leading_zero = run_with _ (no_turns _ leading_zero);
   too_great = run_with _ (no_turns _ too_great);

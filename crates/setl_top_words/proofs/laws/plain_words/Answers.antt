@@ -3,7 +3,7 @@ use Rattle.std.specs.Fmt.{digits}
 use Rattle.std.specs.List.{flat_map}
 use Rattle.setl_top_words.specs.Words.{IsFile, option_words}
 use Rattle.setl_top_options.specs.declared.given.RunOption.TheVariants.{Unbased, Turns, Watch}
-use Rattle.setl_top_options.specs.declared.watching.Asked.TheVariants.{Trace, Cover}
+use Rattle.setl_top_options.specs.declared.watching.Asked.TheVariants.{Trace, Cover, Profile}
 use Rattle.setl_top_words.proofs.laws.plain_words.Goals as goal
 
 is_file : IsFile (codes "q")
@@ -27,6 +27,7 @@ returns c = record {
   both = record { given = Turns 50 ∷ Unbased ∷ []; spelled = both; valid = (omega arith, (λ x. x, tt), (tt, tt, tt)); file = is_file; means = refl };
   swapped = record { given = Unbased ∷ Turns 0 ∷ []; spelled = swapped; valid = (tt, (λ x. x, tt), (omega arith, tt, tt)); file = is_file; means = refl };
   trace = record { given = Watch Trace ∷ []; spelled = refl; valid = (tt, tt, tt); file = is_file; means = refl };
+  profile = record { given = Watch Profile ∷ []; spelled = refl; valid = (tt, tt, tt); file = is_file; means = refl };
   cover = record { given = Unbased ∷ Watch Cover ∷ []; spelled = refl; valid = (tt, (λ x. x, tt), (tt, tt, tt)); file = is_file; means = refl };
   check = (refl, is_file);
   trial = record { spelled = trial; seed_in_range = omega arith; some_nodes = omega arith; few_nodes = omega arith };

@@ -14,6 +14,8 @@ returns-in_default-operand c = record {
       no_collection c.self.inside.code.now c.self.inside.at c.self.inside.environment.now c.self.inside.environment.kept c.args.self.now c.in-Some.at c.args.count c.operand.result.now (part c.args.value)
       c.self.invariant.1 c.self.view_is c.in-Some.ensures.place.1 c.in-Some.ensures.place.0 c.operand.ensures c.in-Some.ensures.above c.in_default-operand.not-Collection;
   rest = refl;
+  nowhere = λ e. refl;
+  refused = tt;
 }
 
 pub returns-in_err-check_member-clause-told : goal.returns-in_err-check_member-clause-told

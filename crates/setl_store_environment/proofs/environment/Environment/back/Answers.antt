@@ -1,4 +1,6 @@
-use Rattle.std.proofs.Common.{◌≡◌, ◌∙◌, [], ◌∷◌, ◌++◌, sym, ap, length, reverse, arith}
+use Rattle.std.specs.Prelude.{IsTrue}
+use Rattle.std.specs.FinSet as set
+use Rattle.std.proofs.Common.{subst, ◌≡◌, ◌∙◌, [], ◌∷◌, ◌++◌, sym, ap, length, reverse, arith}
 use Rattle.std.proofs.lemmas.List.{length_push, reverse-append}
 use Rattle.setl_trail.specs.Trail.{entry, mark_count}
 use Rattle.setl_store_environment.specs.Undo.{parts, contents_of, kept_contents, undone, cut, ready_of, room_of}
@@ -11,7 +13,7 @@ returns-in_default-clause-nothing g c =
     let t = c.self.inside in
     let before = no_items t.records.items _ t.records.ok.0 c.in_default.ensures.cases.0 in
     let after = no_items c.pop.new.self.items _ c.pop.new.self.ok.0 c.in_default.ensures.cases.1 in
-    let q = parts t.slots t.operands t.activations t.members in (
+    let q = parts t.slots t.operands t.activations t.members t.fields in (
       sym (ap (λ e. e.kept) c.self.view_is) ∙ ap (λ ks. kept_contents q t.base (reverse t.bases.items) t.trail.items (reverse ks)) before ∙ none_kept undone cut _ (cut t.base (contents_of q)) t.trail.items (reverse t.bases.items),
       ap (λ ks. state (contents_of q) (kept_contents q t.base (reverse t.bases.items) t.trail.items (reverse ks)) (ready_of (mark_count t.trail.items) t.trail.spare) (room_of q)) (after ∙ sym before) ∙ c.self.view_is,
     )
@@ -22,15 +24,15 @@ loop-old-preserved g c =
     let i = c.loop-old.invariant in
     let p = c.put_back in
     let is = entry_latest t.trail.items c.in-Some-pop.old (sym c.pop-in-loop-old.ensures.entry ∙ c.in-Some-pop.is) in
-    let h = step_back (parts t.slots t.operands t.activations t.members) (parts p.new.slots p.new.operands p.new.activations p.new.members) t.base (reverse t.bases.items) c.in-Some-pop.old t.trail.items c.pop-in-loop-old.new.self.items (c.in-Some.beside ∷ reverse t.records.items)
+    let h = step_back (parts t.slots t.operands t.activations t.members t.fields) (parts p.new.slots p.new.operands p.new.activations p.new.members p.new.fields) t.base (reverse t.bases.items) c.in-Some-pop.old t.trail.items c.pop-in-loop-old.new.self.items (c.in-Some.beside ∷ reverse t.records.items)
     (is ∙ ap (λ l. entry c.in-Some-pop.old ∷ l) (sym c.pop-in-loop-old.ensures.rest)) p.ensures.undone
-    (record { slots = omega (arith, p.ensures.slots); operands = omega (arith, p.ensures.operands); activations = omega (arith, p.ensures.activations); members = omega (arith, p.ensures.members) }) i.undoable in
+    (record { slots = omega (arith, p.ensures.slots); operands = omega (arith, p.ensures.operands); activations = omega (arith, p.ensures.activations); members = omega (arith, p.ensures.members); fields = λ k there. subst (λ r. IsTrue (set.contains r k)) (sym p.ensures.fields) there }) i.undoable in
     record { undoable = h.undoable; marks = h.marks ∙ i.marks; kept = h.kept ∙ i.kept }
 
 pub loop-old-init : goal.loop-old-init
 loop-old-init g c =
     let t = c.self.inside in
-    let q = parts t.slots t.operands t.activations t.members in
+    let q = parts t.slots t.operands t.activations t.members t.fields in
     let left = c.pop.new.self.items in
     let records : t.records.items ≡ left ++ c.in-Some.beside ∷ [] = c.in-Some.ensures.items in
     let begun = step_begun q t.base (reverse t.bases.items) c.cut.new.self c.cut-2.new.self t.trail.items (c.in-Some.beside ∷ reverse left) c.cut.ensures.cut c.cut.ensures.room c.cut-2.ensures.cut c.cut-2.ensures.room c.self.invariant.0 in
@@ -44,7 +46,7 @@ pub invariant_of-self-2 : goal.invariant_of-self-2
 invariant_of-self-2 g c =
     let t = c.loop-old.self-inside in
     let i = c.loop-old.invariant in
-    let kept_last = at_mark (parts t.slots t.operands t.activations t.members) t.base c.pop_base-self-inside.result (reverse c.pop_base-self-inside.new.bases.items) (reverse t.bases.items) t.trail.items c.pop-in-loop-old.new.self.items c.in-Some.beside (reverse t.records.items)
+    let kept_last = at_mark (parts t.slots t.operands t.activations t.members t.fields) t.base c.pop_base-self-inside.result (reverse c.pop_base-self-inside.new.bases.items) (reverse t.bases.items) t.trail.items c.pop-in-loop-old.new.self.items c.in-Some.beside (reverse t.records.items)
     (sym c.pop-in-loop-old.ensures.entry ∙ c.in_default-pop.is) (omega (arith, i.marks)) c.pop-in-loop-old.ensures.rest c.pop_base-self-inside.ensures.base c.pop_base-self-inside.ensures.rest i.undoable in
     (kept_last.undoable, omega (arith, kept_last.marks, i.marks))
 
@@ -52,6 +54,6 @@ pub returns-clause-back : goal.returns-clause-back
 returns-clause-back g c =
     let t = c.loop-old.self-inside in
     let i = c.loop-old.invariant in
-    let kept_last = at_mark (parts t.slots t.operands t.activations t.members) t.base c.pop_base-self-inside.result (reverse c.pop_base-self-inside.new.bases.items) (reverse t.bases.items) t.trail.items c.pop-in-loop-old.new.self.items c.in-Some.beside (reverse t.records.items)
+    let kept_last = at_mark (parts t.slots t.operands t.activations t.members t.fields) t.base c.pop_base-self-inside.result (reverse c.pop_base-self-inside.new.bases.items) (reverse t.bases.items) t.trail.items c.pop-in-loop-old.new.self.items c.in-Some.beside (reverse t.records.items)
     (sym c.pop-in-loop-old.ensures.entry ∙ c.in_default-pop.is) (omega (arith, i.marks)) c.pop-in-loop-old.ensures.rest c.pop_base-self-inside.ensures.base c.pop_base-self-inside.ensures.rest i.undoable in
     sym i.kept ∙ kept_last.kept

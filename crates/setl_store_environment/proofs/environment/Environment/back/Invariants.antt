@@ -8,7 +8,7 @@ use Rattle.setl_store_environment.proofs.environment.Environment.back.Given as g
 abbrev pub invariant-loop-old : goal.invariant-loop-old
 invariant-loop-old g l =
     let e = l.self-inside in
-    let q = parts e.slots e.operands e.activations e.members in
+    let q = parts e.slots e.operands e.activations e.members e.fields in
     record {
       undoable : IsUndoable undone cut Reaches (FitsIn q) e.base (contents_of q) e.trail.items (reverse e.bases.items);
       marks : mark_count e.trail.items ≡ suc (length e.records.items);

@@ -6,22 +6,22 @@ use Rattle.setl_store_environment.proofs.environment.Environment.drop_slot.Goals
 use Rattle.setl_store_environment.proofs.environment.Environment.drop_slot.Goals.{After-note, After-drop_last}
 
 -- the change is noted
-here : (g : _) (c : After-note g) → IsNoted (parts c.self.inside.slots c.self.inside.operands c.self.inside.activations c.self.inside.members) (parts c.pop-before.new.self c.self.inside.operands c.self.inside.activations c.self.inside.members) c.self.inside.base (record c.self.inside.base { slots = c.len-last.result - 1 }) (reverse c.self.inside.bases.items) c.self.inside.trail.items c.note.new.trail.items (reverse c.self.inside.records.items)
+here : (g : _) (c : After-note g) → IsNoted (parts c.self.inside.slots c.self.inside.operands c.self.inside.activations c.self.inside.members c.self.inside.fields) (parts c.pop-before.new.self c.self.inside.operands c.self.inside.activations c.self.inside.members c.self.inside.fields) c.self.inside.base (record c.self.inside.base { slots = c.len-last.result - 1 }) (reverse c.self.inside.bases.items) c.self.inside.trail.items c.note.new.trail.items (reverse c.self.inside.records.items)
 here g c =
     let t = c.self.inside in
     let left = ap length c.pop-before.ensures.popped ∙ length-take-le (length t.slots.items - 1) t.slots.items (omega arith) in
     let at : length t.slots.items - 1 ≡ c.pop-before.result.at = omega (arith, left, c.pop-before.ensures.at) in
-    let now = slot_noted (parts t.slots t.operands t.activations t.members) t.base c.pop-before.result.at (reverse t.bases.items) c.pop-before.new.self c.pop-before.result t.trail.items c.note.new.trail.items (reverse t.records.items)
+    let now = slot_noted (parts t.slots t.operands t.activations t.members t.fields) t.base c.pop-before.result.at (reverse t.bases.items) c.pop-before.new.self c.pop-before.result t.trail.items c.note.new.trail.items (reverse t.records.items)
     (popped_led t.base.slots t.slots c.pop-before.new.self c.pop-before.result c.pop-before.ensures.back (omega (arith, at, c.len-last.ensures, c.if-last-self.true)) c.pop-before.ensures.at (omega (arith, at, c.self.invariant.0.0.0, c.len-last.ensures, c.if-last-self.true)))
     c.note.ensures.noted c.self.invariant.0 in
     let same : c.pop-before.result.at ≡ c.len-last.result - 1 = omega (arith, at, c.len-last.ensures) in
-    subst (λ m. IsNoted (parts t.slots t.operands t.activations t.members) (parts c.pop-before.new.self t.operands t.activations t.members) t.base (record t.base { slots = m }) (reverse t.bases.items) t.trail.items c.note.new.trail.items (reverse t.records.items)) same now
+    subst (λ m. IsNoted (parts t.slots t.operands t.activations t.members t.fields) (parts c.pop-before.new.self t.operands t.activations t.members t.fields) t.base (record t.base { slots = m }) (reverse t.bases.items) t.trail.items c.note.new.trail.items (reverse t.records.items)) same now
 
 -- or the slot came later than what was kept
-above : (g : _) (c : After-drop_last g) → IsNoted (parts c.self.inside.slots c.self.inside.operands c.self.inside.activations c.self.inside.members) (parts c.drop_last.new.self c.self.inside.operands c.self.inside.activations c.self.inside.members) c.self.inside.base c.self.inside.base (reverse c.self.inside.bases.items) c.self.inside.trail.items c.self.inside.trail.items (reverse c.self.inside.records.items)
+above : (g : _) (c : After-drop_last g) → IsNoted (parts c.self.inside.slots c.self.inside.operands c.self.inside.activations c.self.inside.members c.self.inside.fields) (parts c.drop_last.new.self c.self.inside.operands c.self.inside.activations c.self.inside.members c.self.inside.fields) c.self.inside.base c.self.inside.base (reverse c.self.inside.bases.items) c.self.inside.trail.items c.self.inside.trail.items (reverse c.self.inside.records.items)
 above g c =
     let t = c.self.inside in
-    slots_unseen (parts t.slots t.operands t.activations t.members) t.base (reverse t.bases.items) c.drop_last.new.self t.trail.items (reverse t.records.items)
+    slots_unseen (parts t.slots t.operands t.activations t.members t.fields) t.base (reverse t.bases.items) c.drop_last.new.self t.trail.items (reverse t.records.items)
     (cut_unseen t.base.slots (length t.slots.items - 1) t.slots c.drop_last.new.self c.drop_last.ensures.dropped c.drop_last.ensures.room (omega (arith, c.len-last.ensures, c.if-last-self.false)) (omega arith)) c.self.invariant.0
 
 pub invariant_of-self : goal.invariant_of-self

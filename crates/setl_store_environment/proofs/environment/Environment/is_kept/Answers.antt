@@ -8,4 +8,4 @@ use Rattle.setl_store_environment.proofs.environment.Environment.is_kept.Goals a
 pub returns : goal.returns
 returns g c =
     let t = c.self.inside in
-    ap (nat_lt 0) (c.marks.ensures ∙ sym (kept_counted undone cut (cut t.base (contents_of (parts t.slots t.operands t.activations t.members))) t.trail.items (reverse t.bases.items) (reverse t.records.items) (c.self.invariant.1 ∙ sym (length-reverse t.records.items))) ∙ ap (λ e. length e.kept) c.self.view_is)
+    ap (nat_lt 0) (c.marks.ensures ∙ sym (kept_counted undone cut (cut t.base (contents_of (parts t.slots t.operands t.activations t.members t.fields))) t.trail.items (reverse t.bases.items) (reverse t.records.items) (c.self.invariant.1 ∙ sym (length-reverse t.records.items))) ∙ ap (λ e. length e.kept) c.self.view_is)

@@ -9,14 +9,14 @@ use Rattle.setl_store_environment.proofs.environment.Environment.pop_operand.Goa
 pub returns-in_err-value-clause-unkept : goal.returns-in_err-value-clause-unkept
 returns-in_err-value-clause-unkept g c unkept =
     let t = c.self.inside in
-    absurd (omega (arith, c.if-last-self.true, ap (λ b. b.operands) (unkept_base (parts t.slots t.operands t.activations t.members) t.base (reverse t.bases.items) t.trail.items (reverse t.records.items) (ap (λ e. length e.kept) c.self.view_is ∙ unkept) (c.self.invariant.1 ∙ sym (length-reverse t.records.items)) c.self.invariant.0)))
+    absurd (omega (arith, c.if-last-self.true, ap (λ b. b.operands) (unkept_base (parts t.slots t.operands t.activations t.members t.fields) t.base (reverse t.bases.items) t.trail.items (reverse t.records.items) (ap (λ e. length e.kept) c.self.view_is ∙ unkept) (c.self.invariant.1 ∙ sym (length-reverse t.records.items)) c.self.invariant.0)))
 
 -- the operand came later than what was kept
-here : (g : _) (c : After-take_last g) → IsNoted (parts c.self.inside.slots c.self.inside.operands c.self.inside.activations c.self.inside.members) (parts c.self.inside.slots c.take_last.new.self c.self.inside.activations c.self.inside.members) c.self.inside.base c.self.inside.base (reverse c.self.inside.bases.items) c.self.inside.trail.items c.self.inside.trail.items (reverse c.self.inside.records.items)
+here : (g : _) (c : After-take_last g) → IsNoted (parts c.self.inside.slots c.self.inside.operands c.self.inside.activations c.self.inside.members c.self.inside.fields) (parts c.self.inside.slots c.take_last.new.self c.self.inside.activations c.self.inside.members c.self.inside.fields) c.self.inside.base c.self.inside.base (reverse c.self.inside.bases.items) c.self.inside.trail.items c.self.inside.trail.items (reverse c.self.inside.records.items)
 here g c =
     let t = c.self.inside in
     let count = ap (λ e. length e.now.operands) c.self.view_is in
-    operands_unseen (parts t.slots t.operands t.activations t.members) t.base (reverse t.bases.items) c.take_last.new.self t.trail.items (reverse t.records.items)
+    operands_unseen (parts t.slots t.operands t.activations t.members t.fields) t.base (reverse t.bases.items) c.take_last.new.self t.trail.items (reverse t.records.items)
     (cut_unseen t.base.operands (length t.operands.items - 1) t.operands c.take_last.new.self c.take_last.ensures.taken c.take_last.ensures.room (omega (arith, count, c.operands-last.ensures, c.if-last-self.false)) (omega arith)) c.self.invariant.0
 
 pub invariant_of-self : goal.invariant_of-self

@@ -5,11 +5,11 @@ use Rattle.setl_store_environment.proofs.environment.Environment.pop_operands.Go
 use Rattle.setl_store_environment.proofs.environment.Environment.pop_operands.Goals.{After-split_off}
 
 -- the operands came later than what was kept
-here : (g : _) (c : After-split_off g) → IsNoted (parts c.self.inside.slots c.self.inside.operands c.self.inside.activations c.self.inside.members) (parts c.self.inside.slots c.split_off.new.self c.self.inside.activations c.self.inside.members) c.self.inside.base c.self.inside.base (reverse c.self.inside.bases.items) c.self.inside.trail.items c.self.inside.trail.items (reverse c.self.inside.records.items)
+here : (g : _) (c : After-split_off g) → IsNoted (parts c.self.inside.slots c.self.inside.operands c.self.inside.activations c.self.inside.members c.self.inside.fields) (parts c.self.inside.slots c.split_off.new.self c.self.inside.activations c.self.inside.members c.self.inside.fields) c.self.inside.base c.self.inside.base (reverse c.self.inside.bases.items) c.self.inside.trail.items c.self.inside.trail.items (reverse c.self.inside.records.items)
 here g c =
     let t = c.self.inside in
     let count = ap (λ e. length e.now.operands) c.self.view_is in
-    operands_unseen (parts t.slots t.operands t.activations t.members) t.base (reverse t.bases.items) c.split_off.new.self t.trail.items (reverse t.records.items)
+    operands_unseen (parts t.slots t.operands t.activations t.members t.fields) t.base (reverse t.bases.items) c.split_off.new.self t.trail.items (reverse t.records.items)
     (left_unseen t.base.operands c.args.n t.operands c.split_off.new.self c.split_off.result c.split_off.ensures.taken c.split_off.ensures.refused c.split_off.ensures.room (omega (arith, c.if-n-self.false)) (omega (arith, count, c.requires.fewer))) c.self.invariant.0
 
 pub invariant_of-self : goal.invariant_of-self

@@ -5,10 +5,10 @@ use Rattle.setl_store_environment.proofs.environment.Environment.push_member.Goa
 use Rattle.setl_store_environment.proofs.environment.Environment.push_member.Goals.{After-note}
 
 -- the change is noted
-here : (g : _) (c : After-note g) → IsNoted (parts c.self.inside.slots c.self.inside.operands c.self.inside.activations c.self.inside.members) (parts c.self.inside.slots c.self.inside.operands c.self.inside.activations c.push-before.new.self) c.self.inside.base c.self.inside.base (reverse c.self.inside.bases.items) c.self.inside.trail.items c.note.new.trail.items (reverse c.self.inside.records.items)
+here : (g : _) (c : After-note g) → IsNoted (parts c.self.inside.slots c.self.inside.operands c.self.inside.activations c.self.inside.members c.self.inside.fields) (parts c.self.inside.slots c.self.inside.operands c.self.inside.activations c.push-before.new.self c.self.inside.fields) c.self.inside.base c.self.inside.base (reverse c.self.inside.bases.items) c.self.inside.trail.items c.note.new.trail.items (reverse c.self.inside.records.items)
 here g c =
     let t = c.self.inside in
-    member_changed (parts t.slots t.operands t.activations t.members) t.base (reverse t.bases.items) c.push-before.new.self c.push-before.result t.trail.items c.note.new.trail.items (reverse t.records.items) c.push-before.ensures.back c.note.ensures.noted c.self.invariant.0
+    member_changed (parts t.slots t.operands t.activations t.members t.fields) t.base (reverse t.bases.items) c.push-before.new.self c.push-before.result t.trail.items c.note.new.trail.items (reverse t.records.items) c.push-before.ensures.back c.note.ensures.noted c.self.invariant.0
 
 pub invariant_of-self : goal.invariant_of-self
 invariant_of-self g c = ((here g c).undoable, (here g c).marks ∙ c.self.invariant.1)

@@ -9,13 +9,13 @@ use Rattle.setl_store_environment.proofs.environment.Environment.replace_operand
 pub returns-in_err-before-clause-unkept : goal.returns-in_err-before-clause-unkept
 returns-in_err-before-clause-unkept g c unkept =
     let t = c.self.inside in
-    absurd (omega (arith, c.if-at-self.true, ap (λ b. b.operands) (unkept_base (parts t.slots t.operands t.activations t.members) t.base (reverse t.bases.items) t.trail.items (reverse t.records.items) (ap (λ e. length e.kept) c.self.view_is ∙ unkept) (c.self.invariant.1 ∙ sym (length-reverse t.records.items)) c.self.invariant.0)))
+    absurd (omega (arith, c.if-at-self.true, ap (λ b. b.operands) (unkept_base (parts t.slots t.operands t.activations t.members t.fields) t.base (reverse t.bases.items) t.trail.items (reverse t.records.items) (ap (λ e. length e.kept) c.self.view_is ∙ unkept) (c.self.invariant.1 ∙ sym (length-reverse t.records.items)) c.self.invariant.0)))
 
 -- the old one came later than what was kept
-here : (g : _) (c : After-replace g) → IsNoted (parts c.self.inside.slots c.self.inside.operands c.self.inside.activations c.self.inside.members) (parts c.self.inside.slots c.replace.new.self c.self.inside.activations c.self.inside.members) c.self.inside.base c.self.inside.base (reverse c.self.inside.bases.items) c.self.inside.trail.items c.self.inside.trail.items (reverse c.self.inside.records.items)
+here : (g : _) (c : After-replace g) → IsNoted (parts c.self.inside.slots c.self.inside.operands c.self.inside.activations c.self.inside.members c.self.inside.fields) (parts c.self.inside.slots c.replace.new.self c.self.inside.activations c.self.inside.members c.self.inside.fields) c.self.inside.base c.self.inside.base (reverse c.self.inside.bases.items) c.self.inside.trail.items c.self.inside.trail.items (reverse c.self.inside.records.items)
 here g c =
     let t = c.self.inside in
-    operands_unseen (parts t.slots t.operands t.activations t.members) t.base (reverse t.bases.items) c.replace.new.self t.trail.items (reverse t.records.items)
+    operands_unseen (parts t.slots t.operands t.activations t.members t.fields) t.base (reverse t.bases.items) c.replace.new.self t.trail.items (reverse t.records.items)
     (set_unseen t.base.operands c.args.at c.args.value t.operands c.replace.new.self c.replace.ensures.set c.replace.ensures.room (omega (arith, c.if-at-self.false)) c.self.invariant.0.0.1) c.self.invariant.0
 
 pub invariant_of-self : goal.invariant_of-self

@@ -7,4 +7,4 @@ use Rattle.setl_store_environment.proofs.environment.Environment.reserve.Goals a
 pub returns-clause-unkept : goal.returns-clause-unkept
 returns-clause-unkept g c unkept =
     let t = c.self.inside in
-    c.reserve_entries.ensures.unkept (sym (kept_counted undone cut (cut t.base (contents_of (parts t.slots t.operands t.activations t.members))) t.trail.items (reverse t.bases.items) (reverse t.records.items) (c.self.invariant.1 ∙ sym (length-reverse t.records.items))) ∙ ap (λ e. length e.kept) c.self.view_is ∙ unkept)
+    c.reserve_entries.ensures.unkept (sym (kept_counted undone cut (cut t.base (contents_of (parts t.slots t.operands t.activations t.members t.fields))) t.trail.items (reverse t.bases.items) (reverse t.records.items) (c.self.invariant.1 ∙ sym (length-reverse t.records.items))) ∙ ap (λ e. length e.kept) c.self.view_is ∙ unkept)

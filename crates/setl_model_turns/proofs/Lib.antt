@@ -1,0 +1,9 @@
+mod Outcomes
+mod Operators
+mod Moves
+mod Iterations
+mod Expressions
+mod Places
+mod Statements
+mod Steps
+mod Laws

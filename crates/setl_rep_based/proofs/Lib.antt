@@ -1,0 +1,5 @@
+pub mod Building
+pub mod Numbering
+pub mod Handling
+pub mod Changing
+pub mod Walking

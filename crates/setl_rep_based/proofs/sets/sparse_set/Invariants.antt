@@ -1,0 +1,6 @@
+use Rattle.setl_value.specs.code.Body.{Members}
+use Rattle.setl_rep_based.proofs.Building.{IsBuilt}
+use Rattle.setl_rep_based.proofs.sets.sparse_set.Given as goal
+
+abbrev pub invariant-loop-v : goal.invariant-loop-v
+invariant-loop-v l = IsBuilt l.base l.numbers l.v-iterator (Members l.s)

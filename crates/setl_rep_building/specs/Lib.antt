@@ -1,0 +1,3 @@
+pub mod HasForm
+pub mod Places
+pub mod Contents

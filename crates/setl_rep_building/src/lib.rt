@@ -1,0 +1,8 @@
+//! Values go into the forms of modes, over bases that don't change.
+#![tactic(auto)]
+
+mod build;
+mod table;
+
+pub use build::in_form;
+pub use std::alloc::AllocError as Memory;

@@ -1,0 +1,4 @@
+pub mod Marks
+pub mod Kept
+pub mod Laws
+pub mod Keeping
