@@ -1,7 +1,7 @@
 -- Steps of the functions that read and write images.
-use Rattle.std.proofs.Common.{◌≡◌, ℕ, List, [], ◌∷◌, ◌++◌, length, map, Bool, true, Some, None, refl, sym, ap, ◌∙◌}
+use Rattle.std.proofs.Common.{◌≡◌, ℕ, List, [], ◌∷◌, ◌++◌, length, map, Bool, true, Some, None, refl, sym, ap, ◌∙◌, eqb-true}
 use Rattle.std.specs.Prelude.{codes, ◌==◌}
-use Rattle.std.proofs.lemmas.Bool.{false≢true}
+use Rattle.std.proofs.lemmas.List.{nil_from_length}
 use Rattle.setl_image_codec.specs.Given.{Fails}
 use Rattle.setl_image_codec.specs.declared.fault.ImageFault.{ImageFault}
 use Rattle.setl_image_codec.specs.declared.fault.ImageFault.TheVariants.{Bad, NoMemory}
@@ -41,8 +41,7 @@ image_fails vars modes bytes b c d NoMemory mark first second third = tt
 
 -- nothing is left
 pub ended : (xs : List ℕ) (t : Bool) → t ≡ (length xs == 0) → t ≡ true → xs ≡ []
-ended [] t is so = refl
-ended (x ∷ xs) t is so = absurd (false≢true (sym is ∙ so))
+ended xs t is so = nil_from_length xs (eqb-true (length xs) 0 (sym is ∙ so))
 
 -- ---- all of the bytes
 

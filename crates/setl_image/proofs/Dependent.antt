@@ -1,22 +1,18 @@
 -- Lists whose codec rests on what was read before.
-use Rattle.std.proofs.Common.{◌≡◌, ℕ, List, [], ◌∷◌, ◌+◌, length, map, Option, Some, refl, sym, ap, ◌∙◌, subst}
+use Rattle.std.proofs.Common.{◌≡◌, ℕ, List, map, Option, Some, sym, ap, ◌∙◌, subst}
 use Rattle.std.specs.Prelude.{Result, Ok, Err}
 use Rattle.std.specs.Borrow.{Bor}
 use Rattle.setl_modes.specs.declared.mode.NamedMode.{NamedMode}
 use Rattle.setl_code.specs.declared.code.Step.{Step}
 use Rattle.setl_code.specs.declared.code.Body.{Body}
-use Rattle.setl_image_codec.specs.Codec.{never, pair}
-use Rattle.setl_image_codec.specs.Given.{Fails, Gives}
+use Rattle.setl_image_codec.specs.Codec.{pair}
+use Rattle.setl_image_codec.specs.Given.{Gives}
 use Rattle.setl_image_codec.specs.Numbers.{listed}
 use Rattle.setl_image_codec.specs.Texts.{name}
 use Rattle.setl_image_codec.specs.declared.fault.ImageFault.{ImageFault}
-use Rattle.setl_image_codec.specs.declared.fault.ImageFault.TheVariants.{Bad, NoMemory}
-use Rattle.setl_tree.specs.declared.tree.Param.{Param}
-use Rattle.setl_code.specs.declared.code.OwnName.{OwnName}
-use Rattle.setl_image_format.specs.OwnNames.{own_name}
 use Rattle.setl_image_format.specs.Steps.{step}
 use Rattle.setl_image_format.specs.ModeCodec.{mode}
-use Rattle.setl_image_format.specs.ImageCodec.{body, param}
+use Rattle.setl_image_format.specs.ImageCodec.{body}
 use Rattle.setl_image.specs.Views.{modes_of, named_of}
 use Rattle.setl_image.proofs.Decoding.{same_items}
 
@@ -36,15 +32,6 @@ steps_fit globals o p xs ys same are fits = subst (λ n. (listed (step globals n
 
 pub steps_written : (globals o p : ℕ) (xs ys : List Step) → o ≡ p → ys ≡ xs → (listed (step globals o)).write (map (λ y. y) ys) ≡ (listed (step globals p)).write xs
 steps_written globals o p xs ys same are = ap (λ n. (listed (step globals n)).write (map (λ y. y) ys)) same ∙ ap (listed (step globals p)).write (same_items ys ∙ are)
-
--- ---- a body, of its parts
-
-pub body_read : (globals : ℕ) (n : List ℕ) (ps : List Param) (names : List OwnName) (steps : List Step) (b0 b1 b2 b3 b4 b5 b6 : List ℕ) → name.read b0 ≡ Some (n, b1) → (listed param).read b1 ≡ Some (ps, b2) → (listed never).read b2 ≡ Some ([], b3) → (listed never).read b3 ≡ Some ([], b4) → (listed own_name).read b4 ≡ Some (names, b5) → (listed (step globals (length ps + length names))).read b5 ≡ Some (steps, b6) → (body globals).read b0 ≡ Some (record { name = n; parameters = ps; names = names; steps = steps }, b6)
-body_read globals n ps names steps b0 b1 b2 b3 b4 b5 b6 e0 e1 e2 e3 e4 e5 = rw e0 (rw e1 (rw e2 (rw e3 (rw e4 (rw e5 refl)))))
-
-pub body_fails : (globals : ℕ) (n : List ℕ) (ps : List Param) (names : List OwnName) (b0 b1 b2 b3 b4 b5 : List ℕ) (e : ImageFault) → name.read b0 ≡ Some (n, b1) → (listed param).read b1 ≡ Some (ps, b2) → (listed never).read b2 ≡ Some ([], b3) → (listed never).read b3 ≡ Some ([], b4) → (listed own_name).read b4 ≡ Some (names, b5) → Fails e ((listed (step globals (length ps + length names))).read b5) → Fails e ((body globals).read b0)
-body_fails globals n ps names b0 b1 b2 b3 b4 b5 Bad e0 e1 e2 e3 e4 e5 = rw e0 (rw e1 (rw e2 (rw e3 (rw e4 (rw e5 refl)))))
-body_fails globals n ps names b0 b1 b2 b3 b4 b5 NoMemory e0 e1 e2 e3 e4 e5 = tt
 
 -- ---- bodies
 

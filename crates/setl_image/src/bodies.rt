@@ -38,7 +38,6 @@ impl Coder for BodyCoder {
 
     ghost codec = { λ c. body c.globals };
 
-    #[tactic(auto, using(crate::proofs::Dependent::body_read, crate::proofs::Dependent::body_fails))]
     fn read<'a>(&self, alloc: Global, bytes: &'a [u8]) -> Result<(Body, &'a [u8]), ImageFault> {
         let (name, rest) = read_name(alloc, bytes)?;
         let (parameters, rest) = read_params(alloc, rest)?;
