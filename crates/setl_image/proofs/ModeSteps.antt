@@ -9,7 +9,7 @@ use Rattle.setl_modes.specs.declared.mode.Mode.TheVariants as code
 use Rattle.setl_modes.specs.Modes.{Mode, General, Integers, Strings, Booleans, Atoms, Elements, Sets, Tuples, SingleMaps, MultiMaps, mode_of}
 use Rattle.std.proofs.lemmas.List.{append_assoc}
 use Rattle.setl_modes.specs.declared.mode.ModeTable.{ModeTable}
-use Rattle.setl_image_codec.specs.Codec.{Codec, never, pair}
+use Rattle.setl_image_codec.specs.Codec.{never, pair}
 use Rattle.setl_image_codec.specs.Numbers.{listed, number}
 use Rattle.setl_image_codec.specs.Texts.{name, text}
 use Rattle.setl_image_format.specs.declared.kinds.Kind.TheVariants as Kind

@@ -1,5 +1,5 @@
 -- What images stand for, as plain data.
-use Rattle.std.specs.Prelude.{ℕ, ⊤, List, map, Result, Ok, Err}
+use Rattle.std.specs.Prelude.{⊤, List, map, Result, Ok, Err}
 use Rattle.setl_modes.specs.declared.mode.NamedMode.{NamedMode}
 use Rattle.setl_modes.specs.declared.mode.ModeTable.{ModeTable}
 use Rattle.setl_modes.specs.Modes.{Mode, mode_of}
