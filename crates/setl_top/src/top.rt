@@ -9,6 +9,7 @@ ghost use Rattle.setl_top_words.specs.code.Commands.{options_now};
 ghost use Rattle.setl_top_words.specs.Words.{Run, Spells};
 
 use crate::Status;
+use crate::explaining::{explain_file, tell_stop};
 use crate::listing::list_file;
 use crate::load::{check_file, load_resolved};
 use crate::run::{counted, run_program};
@@ -29,6 +30,9 @@ use std::alloc::Global;
 /// bounds its turns, which are 2^63 - 1 otherwise. `--watch trace` asks for the watchers with the name 1 and `--watch
 /// cover` for those with the name 2; the others are dropped, and where none has that name the words are refused before
 /// the file is read. `files` has the sources by name, and `input` is what a program reads.
+///
+/// An explanation of a file writes to `out` the line that a check tells, and below it the place and what it means, and
+/// ends refused; of a program it writes nothing. `explain --stop NAME` writes what a stop means.
 ///
 /// A trial draws an input from SEED, which is from 0 to 2^63 - 1, with N nodes, which are from 1 to 2000, and runs one fixed
 /// program on it twice, each time with 2^63 - 1 turns: with its declarations, and without. `out` gains one line with what
@@ -77,6 +81,8 @@ pub fn setl<F: Files, I: Source, O: Sink, E: Sink>(
         }
         Some(Command::Check(name)) => check_file(alloc, name, files, err),
         Some(Command::Code(name)) => list_file(alloc, name, files, out, err),
+        Some(Command::Explain(name)) => explain_file(alloc, name, files, out, err),
+        Some(Command::TellStop(stop)) => tell_stop(stop, out, err),
         Some(Command::Trial(seed, nodes)) => run_trial(alloc, seed, nodes, out, err),
         None => tell_faulty(alloc, words, err),
     }

@@ -1,0 +1,43 @@
+-- The constructs that are open at a place.
+use Rattle.std.specs.Prelude.{ℕ, ◌-◌, Bool, false, nat_lt, if◌then◌else◌, List, [], ◌∷◌, ◌++◌, length, take, fold, insert}
+use Rattle.setl_tree.specs.declared.kind.Kind.TheVariants as k
+use Rattle.setl_tree.specs.Tokens.{Token}
+use Rattle.setl_token.specs.Text.{Lexed}
+use Rattle.setl_token.specs.declared.Token.{Token as Lexeme}
+use Rattle.setl_parse_reading.specs.code.Reading.{same_kind}
+use Rattle.setl_parse_cursor.specs.Plain.{plain_token}
+use Rattle.setl_explain_open.specs.Effects.{effect}
+use Rattle.setl_explain_open.specs.declared.effect.Effect.{Effect}
+use Rattle.setl_explain_open.specs.declared.effect.Effect.TheVariants as does
+use Rattle.setl_explain_open.specs.declared.reached.Opening.{Opening}
+
+-- open constructs, the outermost first, and what a token does to them
+abbrev pub noted : List Opening → Effect → Opening → List Opening
+noted open does.Opens opening = open ++ opening ∷ []
+noted open does.OpensAround opening = insert open (length open - 1) opening
+noted open does.Closes opening = take (length open - 1) open
+noted open does.None opening = open
+
+-- the constructs that are open behind some tokens, and whether the last of these is `end`
+pub record Reached : Type 0 where
+  pub open : List Opening
+  pub ended : Bool
+
+abbrev pub at_start : Reached
+at_start = record { open = []; ended = false }
+
+-- what an `end` that stands last closes, it closes at the token behind it
+abbrev pub ended_at : Reached → List Opening
+ended_at r = if r.ended then take (length r.open - 1) r.open else r.open
+
+-- one token further
+abbrev pub behind : Reached → Token → Reached
+behind r t = record { open = noted (ended_at r) (effect r.ended t.kind) (record { kind = t.kind; line = t.line }); ended = same_kind t.kind k.End }
+
+-- one token further, if it begins before a place
+abbrev pub behind_before : List ℕ → ℕ → Reached → Lexeme → Reached
+behind_before source at r t = if nat_lt t.from at then behind r (plain_token source t) else r
+
+-- the constructs that are open behind the tokens before a place
+abbrev pub open_at : Lexed → ℕ → List Opening
+open_at l at = (fold (behind_before l.source at) at_start l.tokens).open
