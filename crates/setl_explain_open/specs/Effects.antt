@@ -35,5 +35,5 @@ names_end k.While = true
 names_end _ = false
 
 -- what a token does, behind `end` or not
-abbrev pub effect : Bool → Kind → Effect
-effect ended kind = if ended && names_end kind then does.None else effect_of kind
+abbrev pub effect_behind : Bool → Kind → Effect
+effect_behind ended kind = if ended && names_end kind then does.None else effect_of kind

@@ -6,7 +6,7 @@ use Rattle.setl_token.specs.Text.{Lexed}
 use Rattle.setl_token.specs.declared.Token.{Token as Lexeme}
 use Rattle.setl_parse_reading.specs.code.Reading.{same_kind}
 use Rattle.setl_parse_cursor.specs.Plain.{plain_token}
-use Rattle.setl_explain_open.specs.Effects.{effect}
+use Rattle.setl_explain_open.specs.Effects.{effect_behind}
 use Rattle.setl_explain_open.specs.declared.effect.Effect.{Effect}
 use Rattle.setl_explain_open.specs.declared.effect.Effect.TheVariants as does
 use Rattle.setl_explain_open.specs.declared.reached.Opening.{Opening}
@@ -32,7 +32,7 @@ ended_at r = if r.ended then take (length r.open - 1) r.open else r.open
 
 -- one token further
 abbrev pub behind : Reached → Token → Reached
-behind r t = record { open = noted (ended_at r) (effect r.ended t.kind) (record { kind = t.kind; line = t.line }); ended = same_kind t.kind k.End }
+behind r t = record { open = noted (ended_at r) (effect_behind r.ended t.kind) (record { kind = t.kind; line = t.line }); ended = same_kind t.kind k.End }
 
 -- one token further, if it begins before a place
 abbrev pub behind_before : List ℕ → ℕ → Reached → Lexeme → Reached

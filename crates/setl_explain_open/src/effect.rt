@@ -47,8 +47,8 @@ fn names_end(kind: Kind) -> bool
 }
 
 /// What a token of a kind does, behind `end` or not.
-pub fn effect(ended: bool, kind: Kind) -> Effect
-    ensures { result ≡ spec.effect ended kind }
+pub fn effect_behind(ended: bool, kind: Kind) -> Effect
+    ensures { result ≡ spec.effect_behind ended kind }
 {
     if ended && names_end(kind) {
         Effect::None

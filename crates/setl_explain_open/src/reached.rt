@@ -2,7 +2,7 @@
 ghost use Rattle.std.specs.Prelude.{◌≡◌, IfOk, OnOk};
 ghost use Rattle.setl_explain_open.specs.Opens as spec;
 
-use crate::effect::{Effect, effect};
+use crate::effect::{Effect, effect_behind};
 use setl_parse_cursor::{Cursor, same_kind};
 use setl_token::TokenList;
 use setl_tree::Kind;
@@ -52,7 +52,7 @@ pub fn open_at(alloc: Global, list: &TokenList, at: usize) -> Result<Vec<Opening
             let kind = cursor.kind_behind(i);
             let line = token.line;
             close(&mut open, ended);
-            note(&mut open, effect(ended, kind), Opening { kind, line })?;
+            note(&mut open, effect_behind(ended, kind), Opening { kind, line })?;
             ended = same_kind(kind, Kind::End);
         }
     }

@@ -60,7 +60,7 @@ fn explain_text<O: Sink, E: Sink>(alloc: Global, source: &[u8], out: &mut O, err
     ensures { ExplainsText source.now (seen O.held O.faults out.old) (seen O.held O.faults out.new) (seen E.held E.faults err.old) (seen E.held E.faults err.new) result }
 {
     match read_program(alloc, source) {
-        Ok(_) => Status::Done,
+        Ok(_program) => Status::Done,
         Err(Unread::Refused(reason)) => write_explanation(alloc, source, reason, out, err),
         Err(Unread::NoMemory) => break_off(err, Fault::NoMemory),
     }

@@ -21,12 +21,12 @@ refused_if_done ends = ends
 
 -- the explanation was to be written to the output, or memory for it was refused
 pub data WritesExplanation (source : List ℕ) (why : Reason) (out out' err err' : Seen (List ℕ)) : Status → Type 0 where
-  explained_so : (text : List ℕ) (ends : Status) → IsExplained source why text → Written text out out' err err' ends → WritesExplanation source why out out' err err' (refused_if_done ends)
-  starved : out' ≡ out → AppendsFront err.held err'.held (fault_line fault.NoMemory) → WritesExplanation source why out out' err err' status.NoMemory
+  explained_so : (text : List ℕ) (ends shown : Status) → IsExplained source why text → Written text out out' err err' ends → shown ≡ refused_if_done ends → WritesExplanation source why out out' err err' shown
+  starved_of : out' ≡ out → AppendsFront err.held err'.held (fault_line fault.NoMemory) → WritesExplanation source why out out' err err' status.NoMemory
 
 -- what an explanation of a source does
 pub data ExplainsText (source : List ℕ) (out out' err err' : Seen (List ℕ)) : Status → Type 0 where
-  no_fault : (tree : Tree) → IsProgram source tree → out' ≡ out → err' ≡ err → ExplainsText source out out' err err' status.Done
+  no_fault_in : (tree : Tree) → IsProgram source tree → out' ≡ out → err' ≡ err → ExplainsText source out out' err err' status.Done
   refused_for : (why : Reason) (ends : Status) → IsRefusedFor source why → WritesExplanation source why out out' err err' ends → ExplainsText source out out' err err' ends
   not_known : out' ≡ out → AppendsFront err.held err'.held (fault_line fault.NoMemory) → ExplainsText source out out' err err' status.NoMemory
 
@@ -34,5 +34,5 @@ pub data ExplainsText (source : List ℕ) (out out' err err' : Seen (List ℕ)) 
 -- before and after
 pub data Explains (name : List ℕ) (files files' : SeenFiles) (out out' err err' : Seen (List ℕ)) : Status → Type 0 where
   of_text : (source : List ℕ) (ends : Status) → IsText files.held name source → CountStays files files' → ExplainsText source out out' err err' ends → Explains name files files' out out' err err' ends
-  of_long : (source : List ℕ) (ends : Status) → IsText files.held name source → 2 ^ 24 < length source → CountStays files files' → WritesExplanation [] reason.TooLong out out' err err' ends → Explains name files files' out out' err err' ends
-  no_text : (ends : Status) → NotRead files files' err err' ends → out' ≡ out → Explains name files files' out out' err err' ends
+  of_long : (source : List ℕ) (ends : Status) → IsText files.held name source → 2 ^ 24 < length source → CountStays files files' → WritesExplanation source reason.TooLong out out' err err' ends → Explains name files files' out out' err err' ends
+  not_there : {ends : Status} → NotRead files files' err err' ends → out' ≡ out → Explains name files files' out out' err err' ends

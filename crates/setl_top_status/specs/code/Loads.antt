@@ -31,8 +31,8 @@ FoundText texts name None = (source : List ℕ) × IsText texts name source × (
 
 -- why a text wasn't read, and what was told of it
 pub data NotRead (files files' : SeenFiles) (err err' : Seen (List ℕ)) : Status → Type 0 where
-  failed : CountRose files files' → AppendsFront err.held err'.held (fault_line fault.Read) → NotRead files files' err err' status.ReadFault
-  starved : CountStays files files' → AppendsFront err.held err'.held (fault_line fault.NoMemory) → NotRead files files' err err' status.NoMemory
+  failed_read : CountRose files files' → AppendsFront err.held err'.held (fault_line fault.Read) → NotRead files files' err err' status.ReadFault
+  starved_read : CountStays files files' → AppendsFront err.held err'.held (fault_line fault.NoMemory) → NotRead files files' err err' status.NoMemory
 
 -- why there is no text, and what was told of it
 pub data NoText (name : List ℕ) (files files' : SeenFiles) (err err' : Seen (List ℕ)) : Status → Type 0 where
