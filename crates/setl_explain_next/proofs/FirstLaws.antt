@@ -18,10 +18,6 @@ one_list P (suc n) (x ∷ xs) one two (inr a) (inr b) = one_list P (suc n) xs on
 abbrev pub Continues : {A : Type 0} (P : A → Type 0) (most : ℕ) (xs found : List A) (i : ℕ) → Type 0
 Continues {A} P most xs found i = (length found ≤ most) × ((others : List A) → AreFirst P (most - length found) (drop i xs) others → AreFirst P most xs (found ++ others))
 
--- nothing is found before the first
-pub at_start : {A : Type 0} (P : A → Type 0) (most : ℕ) (xs : List A) → Continues P most xs [] 0
-at_start P most xs = (omega arith, λ others h. h)
-
 -- enough is found
 pub at_most : {A : Type 0} (P : A → Type 0) (most : ℕ) (xs found : List A) (i : ℕ) → length found ≡ most → Continues P most xs found i → AreFirst P most xs found
 at_most {A} P most xs found i e h = subst (λ l. AreFirst P most xs l) (append-nil found) (h.1 [] (subst (λ n. AreFirst {A = A} P n (drop i xs) []) {x = 0} {y = most - length found} (omega (arith, e)) refl))

@@ -16,15 +16,15 @@ fn add_if_next(
     alloc: Global,
     source: &[u8],
     at: usize,
-    kind: Kind,
+    kind: &Kind,
     found: &mut Vec<Kind>,
 ) -> Result<(), AllocError>
     requires within { at ≤ length source.now }
     requires short { length source.now ≤ 2 ^ 20 }
-    ensures { OnOk result (Adds (GoesOn source.now at) kind found.old.items found.new.items) }
+    ensures { OnOk result (Adds (GoesOn source.now at) kind.now found.old.items found.new.items) }
 {
-    if goes_on(alloc, source, at, kind)? {
-        found.push(kind)?;
+    if goes_on(alloc, source, at, *kind)? {
+        found.push(*kind)?;
         return Ok(());
     }
     Ok(())
@@ -40,10 +40,10 @@ pub fn next_kinds(alloc: Global, source: &[u8], at: usize) -> Result<Vec<Kind>, 
     let all = candidates();
     let mut found = Vec::new(alloc);
     for i in 0..all.len() {
-        if found.len() == MOST {
+        if found.len() >= MOST {
             return Ok(found);
         }
-        add_if_next(alloc, source, at, all[i], &mut found)?;
+        add_if_next(alloc, source, at, &all[i], &mut found)?;
     }
     Ok(found)
 }

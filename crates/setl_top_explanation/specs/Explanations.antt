@@ -30,14 +30,15 @@ nesting_explained l at = shown_text l.source at ++ open_text (open_at l at) ++ f
 abbrev pub rule_explained : Lexed → ℕ → ℕ → List ℕ
 rule_explained l rule line = place_text l.source (first_on_line l line) ++ rule_text rule
 
--- the place of a fault of syntax, what can stand there, what is open there, and what such a fault means
+-- a place, what can stand there, what is open there, and what a fault of syntax means
 unfoldable pub syntax_text : Lexed → ℕ → List Kind → List ℕ
 syntax_text l place kinds = place_text l.source place ++ next_text kinds ++ open_text (open_at l place) ++ fault_text fault.Syntax
 
-pub record ExplainsSyntax (l : Lexed) (at : ℕ) (text : List ℕ) : Type 0 where
+-- this is told of a fault of syntax at a place
+pub record ExplainsSyntax (l : Lexed) (place : ℕ) (text : List ℕ) : Type 0 where
   pub kinds : List Kind
-  pub told : AreTold l.source (min at (length l.source)) kinds
-  pub text_is : text ≡ syntax_text l (min at (length l.source)) kinds
+  pub told : AreTold l.source place kinds
+  pub text_is : text ≡ syntax_text l place kinds
 
 -- a source with its tokens
 abbrev pub lexed : List ℕ → List Token → Lexed
@@ -49,7 +50,7 @@ Explains source reason.TooLong text = text ≡ fault_text fault.TooLong
 Explains source (reason.Byte at) text = text ≡ fault_explained source at fault.Byte
 Explains source (reason.OpenString at) text = text ≡ fault_explained source at fault.OpenString
 Explains source (reason.WideNumber at) text = text ≡ fault_explained source at fault.WideNumber
-Explains source (reason.Syntax at) text = (tokens : List Token) × Spelled source tokens × ExplainsSyntax (lexed source tokens) at text
+Explains source (reason.Syntax at) text = (tokens : List Token) × Spelled source tokens × ExplainsSyntax (lexed source tokens) (min at (length source)) text
 Explains source (reason.Nesting at) text = (tokens : List Token) × Spelled source tokens × (text ≡ nesting_explained (lexed source tokens) at)
 Explains source (reason.Broken rule line) text = (tokens : List Token) × Spelled source tokens × (text ≡ rule_explained (lexed source tokens) rule line)
 

@@ -1,5 +1,5 @@
 //! The explanation of a reason for which a source is refused.
-ghost use Rattle.std.specs.Prelude.{◌≡◌, ◌≤◌, ◌^◌, ◌++◌, List, ℕ, length, IfOk, OnOk};
+ghost use Rattle.std.specs.Prelude.{◌≡◌, ◌≤◌, ◌^◌, ◌++◌, length, min, IfOk, OnOk};
 ghost use Rattle.setl_token.specs.Lex.{Spelled};
 ghost use Rattle.setl_top_explanation.specs.Explanations as spec;
 ghost use Rattle.setl_top_explanation.specs.Explanations.{Explains, ExplainsSyntax};
@@ -10,6 +10,7 @@ use setl_explain_places::{first_on_line, push_place};
 use setl_explain_words::{SourceFault, fault_text, rule_text};
 use setl_token::{LexFault, TokenList, tokens};
 use setl_top_status::Reason;
+use setl_tree::Kind;
 use std::alloc::{AllocError, Global};
 
 /// The tokens of a source. The error is want of memory, or that it has none.
@@ -48,21 +49,42 @@ fn of_fault(
     Ok(text)
 }
 
-/// The place of a fault of syntax, what can stand there, what is open there, and what such a fault means.
+/// A place, what can stand there, what is open there, and what a fault of syntax means.
 #[tactic(auto, unfolding(crate::specs::Explanations::syntax_text))]
-fn of_syntax(alloc: Global, list: &TokenList, at: u32) -> Result<Vec<u8>, AllocError>
-    ensures { IfOk result (λ text. ExplainsSyntax list.now at text.items) }
+fn syntax_text(
+    alloc: Global,
+    list: &TokenList,
+    place: usize,
+    kinds: &[Kind],
+) -> Result<Vec<u8>, AllocError>
+    requires { place ≤ length list.now.source }
+    ensures { IfOk result (λ text. text.items ≡ spec.syntax_text list.now place kinds.now) }
 {
-    let source = list.source();
-    let place = (at as usize).min(source.len());
-    let kinds = told_kinds(alloc, source, place)?;
     let open = open_at(alloc, list, place)?;
     let mut text = Vec::new(alloc);
-    push_place(&mut text, source, place)?;
-    push_next(&mut text, &kinds)?;
+    push_place(&mut text, list.source(), place)?;
+    push_next(&mut text, kinds)?;
     push_open(&mut text, &open)?;
     text.extend_from_slice(fault_text(SourceFault::Syntax))?;
     Ok(text)
+}
+
+/// What is told of a fault of syntax at a place.
+fn of_syntax_at(alloc: Global, list: &TokenList, place: usize) -> Result<Vec<u8>, AllocError>
+    requires { place ≤ length list.now.source }
+    ensures { IfOk result (λ text. ExplainsSyntax list.now place text.items) }
+{
+    let source = list.source();
+    let kinds = told_kinds(alloc, source, place)?;
+    syntax_text(alloc, list, place, &kinds)
+}
+
+/// What is told of a fault of syntax at a place, or at the end of the source where the place is past it.
+fn of_syntax(alloc: Global, list: &TokenList, at: u32) -> Result<Vec<u8>, AllocError>
+    ensures { IfOk result (λ text. ExplainsSyntax list.now (min at (length list.now.source)) text.items) }
+{
+    let end = list.source().len();
+    of_syntax_at(alloc, list, (at as usize).min(end))
 }
 
 /// The place of a nesting that is one too many, what is open there, and what such a fault means.
