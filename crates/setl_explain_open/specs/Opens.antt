@@ -13,26 +13,26 @@ use Rattle.setl_explain_open.specs.declared.reached.Opening.{Opening}
 
 -- open constructs, the outermost first, and what a token does to them
 abbrev pub noted : List Opening → Effect → Opening → List Opening
-noted open does.Opens opening = open ++ opening ∷ []
-noted open does.OpensAround opening = insert open (length open - 1) opening
-noted open does.Closes opening = take (length open - 1) open
-noted open does.None opening = open
+noted stack does.Opens opening = stack ++ opening ∷ []
+noted stack does.OpensAround opening = insert stack (length stack - 1) opening
+noted stack does.Closes opening = take (length stack - 1) stack
+noted stack does.None opening = stack
 
 -- the constructs that are open behind some tokens, and whether the last of these is `end`
 pub record Reached : Type 0 where
-  pub open : List Opening
+  pub stack : List Opening
   pub ended : Bool
 
 abbrev pub at_start : Reached
-at_start = record { open = []; ended = false }
+at_start = record { stack = []; ended = false }
 
 -- what an `end` that stands last closes, it closes at the token behind it
 abbrev pub ended_at : Reached → List Opening
-ended_at r = if r.ended then take (length r.open - 1) r.open else r.open
+ended_at r = if r.ended then take (length r.stack - 1) r.stack else r.stack
 
 -- one token further
 abbrev pub behind : Reached → Token → Reached
-behind r t = record { open = noted (ended_at r) (effect_behind r.ended t.kind) (record { kind = t.kind; line = t.line }); ended = same_kind t.kind k.End }
+behind r t = record { stack = noted (ended_at r) (effect_behind r.ended t.kind) (record { kind = t.kind; line = t.line }); ended = same_kind t.kind k.End }
 
 -- one token further, if it begins before a place
 abbrev pub behind_before : List ℕ → ℕ → Reached → Lexeme → Reached
@@ -40,4 +40,4 @@ behind_before source at r t = if nat_lt t.from at then behind r (plain_token sou
 
 -- the constructs that are open behind the tokens before a place
 abbrev pub open_at : Lexed → ℕ → List Opening
-open_at l at = (fold (behind_before l.source at) at_start l.tokens).open
+open_at l at = (fold (behind_before l.source at) at_start l.tokens).stack

@@ -21,22 +21,22 @@ fn push_opening(into: &mut Vec<u8>, opening: Opening) -> Result<(), AllocError>
 }
 
 /// Adds a line for each construct.
-fn push_openings(into: &mut Vec<u8>, open: &[Opening]) -> Result<(), AllocError>
-    ensures { OnOk result (into.new.items ≡ into.old.items ++ flat_map spec.opening_text open.now) }
+fn push_openings(into: &mut Vec<u8>, openings: &[Opening]) -> Result<(), AllocError>
+    ensures { OnOk result (into.new.items ≡ into.old.items ++ flat_map spec.opening_text openings.now) }
 {
-    for opening in open {
+    for opening in openings {
         push_opening(into, *opening)?;
     }
     Ok(())
 }
 
 /// Adds a line for each construct that is open, below one that says so; nothing where none is. The error is want of memory.
-pub fn push_open(into: &mut Vec<u8>, open: &[Opening]) -> Result<(), AllocError>
-    ensures { OnOk result (into.new.items ≡ into.old.items ++ spec.open_text open.now) }
+pub fn push_open(into: &mut Vec<u8>, openings: &[Opening]) -> Result<(), AllocError>
+    ensures { OnOk result (into.new.items ≡ into.old.items ++ spec.open_text openings.now) }
 {
-    if open.is_empty() {
+    if openings.is_empty() {
         return Ok(());
     }
     into.extend_from_slice(b"Still open at this place:\n")?;
-    push_openings(into, open)
+    push_openings(into, openings)
 }

@@ -60,11 +60,11 @@ fn syntax_text(
     requires { place ≤ length list.now.source }
     ensures { IfOk result (λ text. text.items ≡ spec.syntax_text list.now place kinds.now) }
 {
-    let open = open_at(alloc, list, place)?;
+    let openings = open_at(alloc, list, place)?;
     let mut text = Vec::new(alloc);
     push_place(&mut text, list.source(), place)?;
     push_next(&mut text, kinds)?;
-    push_open(&mut text, &open)?;
+    push_open(&mut text, &openings)?;
     text.extend_from_slice(fault_text(SourceFault::Syntax))?;
     Ok(text)
 }
@@ -91,10 +91,10 @@ fn of_syntax(alloc: Global, list: &TokenList, at: u32) -> Result<Vec<u8>, AllocE
 fn of_nesting(alloc: Global, list: &TokenList, at: u32) -> Result<Vec<u8>, AllocError>
     ensures { IfOk result (λ text. text.items ≡ spec.nesting_explained list.now at) }
 {
-    let open = open_at(alloc, list, at as usize)?;
+    let openings = open_at(alloc, list, at as usize)?;
     let mut text = Vec::new(alloc);
     push_shown(&mut text, list.source(), at as usize)?;
-    push_open(&mut text, &open)?;
+    push_open(&mut text, &openings)?;
     text.extend_from_slice(fault_text(SourceFault::Nesting))?;
     Ok(text)
 }
