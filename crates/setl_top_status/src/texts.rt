@@ -1,5 +1,5 @@
 //! The text of a source that is loaded, and a text that is written.
-ghost use Rattle.std.specs.Prelude.{IfOk, IfErr, OnOk};
+ghost use Rattle.std.specs.Prelude.{vec_items, IfOk, IfErr, OnOk};
 ghost use Rattle.setl_top_status.specs.Seen.{seen};
 ghost use Rattle.setl_top_status.specs.code.Loads.{FoundText, HasText, IsStill, NotRead, NoText};
 ghost use Rattle.setl_top_status.specs.code.Writes.{Written};
@@ -41,7 +41,7 @@ pub fn load_text<F: Files, E: Sink>(
     files: &mut F,
     err: &mut E,
 ) -> Result<Option<Vec<u8>>, Status>
-    ensures loaded { IfOk result (λ text. FoundText (F.texts files.old) name.now text) }
+    ensures loaded { IfOk result (λ text. FoundText vec_items (F.texts files.old) name.now text) }
     ensures still { OnOk result (IsStill (seen F.texts F.faults files.old) (seen F.texts F.faults files.new) (seen E.held E.faults err.old) (seen E.held E.faults err.new)) }
     ensures not_read { IfErr result (NotRead (seen F.texts F.faults files.old) (seen F.texts F.faults files.new) (seen E.held E.faults err.old) (seen E.held E.faults err.new)) }
 {

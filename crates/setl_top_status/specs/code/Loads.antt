@@ -1,5 +1,5 @@
 -- What becomes of a text that is to be loaded, by what is seen of the files and of the error output before and after.
-use Rattle.std.specs.Prelude.{◌≡◌, ◌<◌, ◌≤◌, ◌^◌, ℕ, List, length, [], ◌∷◌, ◌++◌, Option, Some, None, Vec, vec_items}
+use Rattle.std.specs.Prelude.{◌≡◌, ◌<◌, ◌≤◌, ◌^◌, ℕ, List, length, [], ◌∷◌, ◌++◌, Option, Some, None}
 use Rattle.setl_io.specs.Files.{Texts, IsText}
 use Rattle.setl_top_status.specs.Lines.{AppendsFront, fault_line}
 use Rattle.setl_top_status.specs.Reasons.{reason_line}
@@ -25,9 +25,9 @@ pub record IsStill (files files' : SeenFiles) (err err' : Seen (List ℕ)) : Typ
   pub same : err' ≡ err
 
 -- the text of a file that was loaded, or that it is too long
-abbrev pub FoundText : Texts → (name : List ℕ) → Option (Vec ℕ) → Type 0
-FoundText texts name (Some source) = HasText texts name (vec_items source)
-FoundText texts name None = (source : List ℕ) × IsText texts name source × (2 ^ 24 < length source)
+abbrev pub FoundText : {T : Type 0} → (T → List ℕ) → Texts → (name : List ℕ) → Option T → Type 0
+FoundText items texts name (Some source) = HasText texts name (items source)
+FoundText items texts name None = (source : List ℕ) × IsText texts name source × (2 ^ 24 < length source)
 
 -- why a text wasn't read, and what was told of it
 pub data NotRead (files files' : SeenFiles) (err err' : Seen (List ℕ)) : Status → Type 0 where
