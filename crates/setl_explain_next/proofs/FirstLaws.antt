@@ -1,7 +1,8 @@
 -- Laws of the first items of a list.
-use Rattle.std.proofs.Common.{◌≡◌, ◌∙◌, ◌⊎◌, inl, inr, ℕ, zero, suc, ◌-◌, ◌+◌, ◌<◌, ◌≤◌, List, [], ◌∷◌, ◌++◌, length, drop, refl, sym, ap, subst, arith}
+use Rattle.std.proofs.Common.{◌≡◌, ◌∙◌, inl, inr, ℕ, zero, suc, ◌-◌, ◌+◌, ◌<◌, ◌≤◌, List, [], ◌∷◌, ◌++◌, length, drop, refl, sym, ap, subst, arith}
 use Rattle.std.proofs.lemmas.List.{append-nil, append_assoc, length-append}
-use Rattle.std.specs.Prelude.{slice_get, Some}
+use Rattle.std.proofs.lemmas.Option.{slice_get-get_or}
+use Rattle.std.specs.Prelude.{slice_get, Some, get_or}
 use Rattle.setl_value_pages.specs.ListLaws.{front_there}
 use Rattle.setl_explain_next.specs.Firsts.{AreFirst, Adds}
 
@@ -36,6 +37,7 @@ at_found {A} P most xs found i x at holds few h = (longer, λ others more. subst
   where
     longer : length (found ++ x ∷ []) ≤ most
     longer = omega (arith, few, length-append found (x ∷ []))
+
     here : (others : List A) → AreFirst P (most - length (found ++ x ∷ [])) (drop (i + 1) xs) others → AreFirst P (most - length found) (drop i xs) (x ∷ others)
     here others more = subst (λ l. AreFirst P (most - length found) l (x ∷ others)) (sym (front_there i xs x at)) (subst (λ n. AreFirst P n (x ∷ drop (i + 1) xs) (x ∷ others)) {x = suc (most - length (found ++ x ∷ []))} (omega (arith, few, length-append found (x ∷ []))) (inl (holds, others, refl, more)))
 
@@ -50,3 +52,7 @@ at_passed {A} P most xs found i x at fails few h = (h.0, λ others more. h.1 oth
 pub at_next : {A : Type 0} (P : A → Type 0) (most : ℕ) (xs found now : List A) (i : ℕ) (x : A) → slice_get xs i ≡ Some x → length found < most → Adds P x found now → Continues P most xs found i → Continues P most xs now (i + 1)
 at_next {A} P most xs found now i x at few (inl added) h = subst (λ l. Continues P most xs l (i + 1)) (sym added.1) (at_found P most xs found i x at added.0 few h)
 at_next {A} P most xs found now i x at few (inr left) h = subst (λ l. Continues P most xs l (i + 1)) (sym left.1) (at_passed P most xs found i x at left.0 few h)
+
+-- the same by the item's index in a list that is this one
+pub at_index : {A : Type 0} (P : A → Type 0) (most : ℕ) (xs all found now : List A) (i : ℕ) (d : A) → all ≡ xs → i < length all → length found < most → Adds P (get_or all i d) found now → Continues P most xs found i → Continues P most xs now (i + 1)
+at_index {A} P most xs all found now i d e within few adds h = at_next P most xs found now i (get_or all i d) (subst (λ (l : List A). slice_get l i ≡ Some (get_or all i d)) e (slice_get-get_or all i d within)) few adds h

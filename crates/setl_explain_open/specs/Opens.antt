@@ -1,11 +1,11 @@
 -- The constructs that are open at a place.
 use Rattle.std.specs.Prelude.{ℕ, ◌-◌, Bool, false, nat_lt, if◌then◌else◌, List, [], ◌∷◌, ◌++◌, length, take, fold, insert}
+use Rattle.setl_tree.specs.declared.kind.Kind.{Kind}
 use Rattle.setl_tree.specs.declared.kind.Kind.TheVariants as k
-use Rattle.setl_tree.specs.Tokens.{Token}
-use Rattle.setl_token.specs.Text.{Lexed}
+use Rattle.setl_token.specs.Text.{Lexed, token_text}
 use Rattle.setl_token.specs.declared.Token.{Token as Lexeme}
 use Rattle.setl_parse_reading.specs.code.Reading.{same_kind}
-use Rattle.setl_parse_cursor.specs.Plain.{plain_token}
+use Rattle.setl_parse_cursor.specs.Plain.{kind_of}
 use Rattle.setl_explain_open.specs.Effects.{effect_behind}
 use Rattle.setl_explain_open.specs.declared.effect.Effect.{Effect}
 use Rattle.setl_explain_open.specs.declared.effect.Effect.TheVariants as does
@@ -30,13 +30,13 @@ at_start = record { stack = []; ended = false }
 abbrev pub ended_at : Reached → List Opening
 ended_at r = if r.ended then take (length r.stack - 1) r.stack else r.stack
 
--- one token further
-abbrev pub behind : Reached → Token → Reached
-behind r t = record { stack = noted (ended_at r) (effect_behind r.ended t.kind) (record { kind = t.kind; line = t.line }); ended = same_kind t.kind k.End }
+-- one token further, of a kind and on a line
+abbrev pub behind : Reached → Kind → ℕ → Reached
+behind r kind line = record { stack = noted (ended_at r) (effect_behind r.ended kind) (record { kind = kind; line = line }); ended = same_kind kind k.End }
 
 -- one token further, if it begins before a place
 abbrev pub behind_before : List ℕ → ℕ → Reached → Lexeme → Reached
-behind_before source at r t = if nat_lt t.from at then behind r (plain_token source t) else r
+behind_before source at r t = if nat_lt t.from at then behind r (kind_of t.kind (token_text source t)) t.line else r
 
 -- the constructs that are open behind the tokens before a place
 abbrev pub open_at : Lexed → ℕ → List Opening

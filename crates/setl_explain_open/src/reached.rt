@@ -1,6 +1,8 @@
 //! The constructs that are open.
-ghost use Rattle.std.specs.Prelude.{◌≡◌, IfOk, OnOk};
+ghost use Rattle.std.specs.Prelude.{◌≡◌, ◌<◌, length, IfOk, OnOk};
+ghost use Rattle.setl_parse_cursor.specs.Plain.{plain_tokens};
 ghost use Rattle.setl_explain_open.specs.Opens as spec;
+ghost use Rattle.setl_explain_open.specs.code.Steps.{IsStep};
 
 use crate::effect::{Effect, effect_behind};
 use setl_parse_cursor::{Cursor, same_kind};
@@ -38,6 +40,37 @@ fn note(stack: &mut Vec<Opening>, effect: Effect, opening: Opening) -> Result<()
     Ok(())
 }
 
+/// Adds to the open constructs what a token of a kind does to them, behind `end` or not, and gives whether it is `end`. The
+/// error is want of memory.
+fn step(stack: &mut Vec<Opening>, ended: bool, kind: Kind, line: u32) -> Result<bool, AllocError>
+    ensures { IfOk result (λ now. record { stack = stack.new.items; ended = now } ≡ spec.behind (record { stack = stack.old.items; ended = ended }) kind line) }
+{
+    close(stack, ended);
+    note(stack, effect_behind(ended, kind), Opening { kind, line })?;
+    Ok(same_kind(kind, Kind::End))
+}
+
+/// Adds to the open constructs what the token with this index does to them, if it begins before a place, and gives whether
+/// the last token so far is `end`. The error is want of memory.
+fn step_before(
+    stack: &mut Vec<Opening>,
+    ended: bool,
+    cursor: &Cursor<'_>,
+    list: &TokenList,
+    i: usize,
+    at: usize,
+) -> Result<bool, AllocError>
+    requires within { i < length list.now.tokens }
+    requires whole { cursor.now ≡ plain_tokens list.now }
+    ensures { IfOk result (λ now. IsStep list.now at i (record { stack = stack.old.items; ended = ended }) (record { stack = stack.new.items; ended = now })) }
+{
+    let token = list.at(i);
+    if token.from as usize >= at {
+        return Ok(ended);
+    }
+    step(stack, ended, cursor.kind_behind(i), token.line)
+}
+
 /// The constructs that are open behind the tokens before a place, the outermost first; what `end` closes is open up to the
 /// token behind it. The error is want of memory.
 pub fn open_at(alloc: Global, list: &TokenList, at: usize) -> Result<Vec<Opening>, AllocError>
@@ -47,14 +80,7 @@ pub fn open_at(alloc: Global, list: &TokenList, at: usize) -> Result<Vec<Opening
     let mut stack = Vec::new(alloc);
     let mut ended = false;
     for i in 0..list.len() {
-        let token = list.at(i);
-        if (token.from as usize) < at {
-            let kind = cursor.kind_behind(i);
-            let line = token.line;
-            close(&mut stack, ended);
-            note(&mut stack, effect_behind(ended, kind), Opening { kind, line })?;
-            ended = same_kind(kind, Kind::End);
-        }
+        ended = step_before(&mut stack, ended, &cursor, list, i, at)?;
     }
     Ok(stack)
 }

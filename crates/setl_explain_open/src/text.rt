@@ -30,13 +30,21 @@ fn push_openings(into: &mut Vec<u8>, openings: &[Opening]) -> Result<(), AllocEr
     Ok(())
 }
 
+/// Adds a line that says that so many constructs are open; nothing where none is.
+#[tactic(auto, unfolding(crate::specs::Texts::heading))]
+fn push_heading(into: &mut Vec<u8>, count: usize) -> Result<(), AllocError>
+    ensures { OnOk result (into.new.items ≡ into.old.items ++ spec.heading count) }
+{
+    if count > 0 {
+        into.extend_from_slice(b"Still open at this place:\n")?;
+    }
+    Ok(())
+}
+
 /// Adds a line for each construct that is open, below one that says so; nothing where none is. The error is want of memory.
 pub fn push_open(into: &mut Vec<u8>, openings: &[Opening]) -> Result<(), AllocError>
     ensures { OnOk result (into.new.items ≡ into.old.items ++ spec.open_text openings.now) }
 {
-    if openings.is_empty() {
-        return Ok(());
-    }
-    into.extend_from_slice(b"Still open at this place:\n")?;
+    push_heading(into, openings.len())?;
     push_openings(into, openings)
 }

@@ -1,5 +1,5 @@
 -- The first token on a line.
-use Rattle.std.proofs.Common.{◌≡◌, ◌≢◌, ◌∙◌, ◌+◌, ◌==◌, ℕ, zero, suc, List, [], ◌∷◌, drop, slice_get, Some, refl, ap, cond, true, false, arith}
+use Rattle.std.proofs.Common.{◌≡◌, ◌≢◌, ◌+◌, ℕ, List, drop, slice_get, Some, arith}
 use Rattle.std.proofs.lemmas.Bool.Decides.{nat_tests}
 use Rattle.setl_value_pages.specs.ListLaws.{front_there}
 use Rattle.setl_token.specs.declared.Token.{Token}

@@ -93,12 +93,7 @@ fn push_marked(into: &mut Vec<u8>, line: &[u8], before: &[u8]) -> Result<(), All
 
 /// Adds the three lines of a place whose line begins at `start`.
 #[tactic(auto, unfolding(crate::specs::Places::place_from))]
-fn push_from(
-    into: &mut Vec<u8>,
-    source: &[u8],
-    start: usize,
-    at: usize,
-) -> Result<(), AllocError>
+fn push_from(into: &mut Vec<u8>, source: &[u8], start: usize, at: usize) -> Result<(), AllocError>
     requires before { start ≤ at }
     requires within { at ≤ length source.now }
     requires short { length source.now ≤ 2 ^ 24 }

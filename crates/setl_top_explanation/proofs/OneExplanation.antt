@@ -1,14 +1,12 @@
 -- A source has one explanation of a reason.
-use Rattle.std.proofs.Common.{◌≡◌, ◌∙◌, ◌^◌, ℕ, Bool, true, false, List, [], nat_lt, length, if◌then◌else◌, min, refl, sym, ap, subst}
+use Rattle.std.proofs.Common.{◌≡◌, ◌∙◌, ◌^◌, ℕ, Bool, true, false, List, [], nat_lt, length, if◌then◌else◌, min, sym, ap, subst}
 use Rattle.setl_tree.specs.declared.kind.Kind.{Kind}
 use Rattle.setl_token.specs.Lex.{Spelled}
 use Rattle.setl_token.specs.Text.{Lexed}
 use Rattle.setl_token.specs.declared.Token.{Token}
 use Rattle.setl_explain_next.specs.Next.{IsNext, OneList}
-use Rattle.setl_top_status.specs.declared.reason.Reason.{Reason}
 use Rattle.setl_top_status.specs.declared.reason.Reason.TheVariants as reason
-use Rattle.setl_top_explanation.specs.Next.{AreTold}
-use Rattle.setl_top_explanation.specs.Explanations.{ExplainsSyntax, Explains, OneExplanation, lexed, syntax_text, nesting_explained, rule_explained}
+use Rattle.setl_top_explanation.specs.Explanations.{ExplainsSyntax, OneExplanation, lexed, syntax_text, nesting_explained, rule_explained}
 
 -- a source is spelled of one list of tokens
 abbrev OneSpelling : Type 0

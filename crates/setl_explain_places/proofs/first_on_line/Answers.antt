@@ -1,4 +1,4 @@
-use Rattle.std.proofs.Common.{◌≡◌, ◌∙◌, sym}
+use Rattle.std.proofs.Common.{◌∙◌, sym}
 use Rattle.setl_explain_places.proofs.Firsts.{first_later}
 use Rattle.setl_explain_places.proofs.first_on_line.Goals as goal
 

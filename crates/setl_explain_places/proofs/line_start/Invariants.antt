@@ -1,4 +1,4 @@
-use Rattle.std.proofs.Common.{◌≡◌, ◌≤◌, length}
+use Rattle.std.proofs.Common.{◌≡◌, ◌≤◌}
 use Rattle.setl_explain_places.specs.Places as spec
 use Rattle.setl_explain_places.proofs.line_start.Given as goal
 

@@ -1,9 +1,8 @@
-use Rattle.std.proofs.Common.{◌≡◌, slice_get, Some, refl, arith}
-use Rattle.std.proofs.lemmas.Option.{slice_get_read}
+use Rattle.std.proofs.Common.{arith}
 use Rattle.std.proofs.Math.ListN.{drop_of_length-le}
 use Rattle.setl_explain_next.specs.Candidates.{candidates}
 use Rattle.setl_explain_next.specs.Next.{GoesOn}
-use Rattle.setl_explain_next.proofs.FirstLaws.{at_most, at_end, at_next}
+use Rattle.setl_explain_next.proofs.FirstLaws.{at_most, at_end, at_index}
 use Rattle.setl_explain_next.proofs.kinds.next_kinds.Goals as goal
 
 pub returns-then-len-ge-MOST : goal.returns-then-len-ge-MOST
@@ -12,9 +11,7 @@ returns-then-len-ge-MOST c =
 
 pub loop-i-preserved : goal.loop-i-preserved
 loop-i-preserved c =
-    let k = c.index-all-i.result in
-    let at : slice_get candidates c.loop-i.i ≡ Some k = rw c.candidates-all.ensures at (slice_get_read c.candidates-all.result.now _ c.loop-i.i k refl c.loop-i-test.true c.index-all-i.is) in
-    at_next (GoesOn c.args.source.now c.args.at) 10 candidates c.loop-i.found.items _ c.loop-i.i k at (omega (arith, c.if-len-ge-MOST.false, c.len.ensures)) c.in_ok-add_if_next.ensures c.loop-i.invariant
+    at_index (GoesOn c.args.source.now c.args.at) 10 candidates c.candidates-all.result.now c.loop-i.found.items _ c.loop-i.i _ c.candidates-all.ensures c.loop-i-test.true (omega (arith, c.if-len-ge-MOST.false, c.len.ensures)) c.in_ok-add_if_next.ensures c.loop-i.invariant
 
 pub returns : goal.returns
 returns c =
