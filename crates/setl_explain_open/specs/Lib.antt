@@ -1,0 +1,4 @@
+pub mod Effects
+pub mod Opens
+pub mod Texts
+pub mod code

@@ -1,0 +1,139 @@
+//! The explanation of a reason for which a source is refused.
+ghost use Rattle.std.specs.Prelude.{◌≡◌, ◌≤◌, ◌^◌, ◌++◌, length, min, IfOk, OnOk};
+ghost use Rattle.setl_token.specs.Lex.{Spelled};
+ghost use Rattle.setl_top_explanation.specs.Explanations as spec;
+ghost use Rattle.setl_top_explanation.specs.Explanations.{Explains, ExplainsSyntax};
+
+use crate::next::{push_next, told_kinds};
+use setl_explain_open::{open_at, push_open};
+use setl_explain_places::{first_on_line, push_place};
+use setl_explain_words::{SourceFault, fault_text, rule_text};
+use setl_token::{LexFault, TokenList, tokens};
+use setl_top_status::Reason;
+use setl_tree::Kind;
+use std::alloc::{AllocError, Global};
+
+/// The tokens of a source. The error is want of memory, or that it has none.
+fn tokens_of(alloc: Global, source: &[u8]) -> Result<TokenList, AllocError>
+    requires { length source.now ≤ 2 ^ 24 }
+    ensures source { IfOk result (λ list. list.source ≡ source.now) }
+    ensures spelled { IfOk result (λ list. Spelled source.now list.tokens) }
+{
+    match tokens(alloc, source) {
+        Ok(list) => Ok(list),
+        Err(_) => Err(AllocError),
+    }
+}
+
+/// Adds a place, or the end of the source where the place is past it.
+fn push_shown(into: &mut Vec<u8>, source: &[u8], at: usize) -> Result<(), AllocError>
+    requires { length source.now ≤ 2 ^ 24 }
+    ensures { OnOk result (into.new.items ≡ into.old.items ++ spec.shown_text source.now at) }
+{
+    push_place(into, source, at.min(source.len()))
+}
+
+/// A place and what a fault there means.
+fn of_fault(
+    alloc: Global,
+    source: &[u8],
+    at: u32,
+    fault: SourceFault,
+) -> Result<Vec<u8>, AllocError>
+    requires { length source.now ≤ 2 ^ 24 }
+    ensures { IfOk result (λ text. text.items ≡ spec.fault_explained source.now at fault) }
+{
+    let mut text = Vec::new(alloc);
+    push_shown(&mut text, source, at as usize)?;
+    text.extend_from_slice(fault_text(fault))?;
+    Ok(text)
+}
+
+/// A place, what can stand there, what is open there, and what a fault of syntax means.
+#[tactic(auto, unfolding(crate::specs::Explanations::syntax_text))]
+fn syntax_text(
+    alloc: Global,
+    list: &TokenList,
+    place: usize,
+    kinds: &[Kind],
+) -> Result<Vec<u8>, AllocError>
+    requires { place ≤ length list.now.source }
+    ensures { IfOk result (λ text. text.items ≡ spec.syntax_text list.now place kinds.now) }
+{
+    let openings = open_at(alloc, list, place)?;
+    let mut text = Vec::new(alloc);
+    push_place(&mut text, list.source(), place)?;
+    push_next(&mut text, kinds)?;
+    push_open(&mut text, &openings)?;
+    text.extend_from_slice(fault_text(SourceFault::Syntax))?;
+    Ok(text)
+}
+
+/// What is told of a fault of syntax at a place.
+fn of_syntax_at(alloc: Global, list: &TokenList, place: usize) -> Result<Vec<u8>, AllocError>
+    requires { place ≤ length list.now.source }
+    ensures { IfOk result (λ text. ExplainsSyntax list.now place text.items) }
+{
+    let source = list.source();
+    let kinds = told_kinds(alloc, source, place)?;
+    syntax_text(alloc, list, place, &kinds)
+}
+
+/// What is told of a fault of syntax at a place, or at the end of the source where the place is past it.
+fn of_syntax(alloc: Global, list: &TokenList, at: u32) -> Result<Vec<u8>, AllocError>
+    ensures { IfOk result (λ text. ExplainsSyntax list.now (min at (length list.now.source)) text.items) }
+{
+    let end = list.source().len();
+    of_syntax_at(alloc, list, (at as usize).min(end))
+}
+
+/// The place of a nesting that is one too many, what is open there, and what such a fault means.
+fn of_nesting(alloc: Global, list: &TokenList, at: u32) -> Result<Vec<u8>, AllocError>
+    ensures { IfOk result (λ text. text.items ≡ spec.nesting_explained list.now at) }
+{
+    let openings = open_at(alloc, list, at as usize)?;
+    let mut text = Vec::new(alloc);
+    push_shown(&mut text, list.source(), at as usize)?;
+    push_open(&mut text, &openings)?;
+    text.extend_from_slice(fault_text(SourceFault::Nesting))?;
+    Ok(text)
+}
+
+/// The first token on the line of a broken rule, and what the rule asks for.
+fn of_rule(alloc: Global, list: &TokenList, rule: u8, line: u32) -> Result<Vec<u8>, AllocError>
+    ensures { IfOk result (λ text. text.items ≡ spec.rule_explained list.now rule line) }
+{
+    let mut text = Vec::new(alloc);
+    push_place(&mut text, list.source(), first_on_line(list, line))?;
+    text.extend_from_slice(rule_text(rule))?;
+    Ok(text)
+}
+
+/// What is told below the line of a reason for which the source is refused: of a fault at a place the line and the column,
+/// the source's line with a mark below the place, and what it means; of a fault of syntax also the kinds of tokens that can
+/// stand there, up to ten, and of it and of a nesting the constructs that are open, with their lines; of a broken rule the
+/// first token on its line and the rule's words. The error is want of memory, or that the source has no tokens, which isn't
+/// so where it is refused for syntax, for a nesting or for a rule.
+pub fn explanation(alloc: Global, source: &[u8], reason: Reason) -> Result<Vec<u8>, AllocError>
+    requires { length source.now ≤ 2 ^ 24 }
+    ensures { IfOk result (λ text. Explains source.now reason text.items) }
+{
+    match reason {
+        Reason::TooLong => Vec::from_slice(alloc, fault_text(SourceFault::TooLong)),
+        Reason::Byte { at } => of_fault(alloc, source, at, SourceFault::Byte),
+        Reason::OpenString { at } => of_fault(alloc, source, at, SourceFault::OpenString),
+        Reason::WideNumber { at } => of_fault(alloc, source, at, SourceFault::WideNumber),
+        Reason::Syntax { at } => {
+            let list = tokens_of(alloc, source)?;
+            of_syntax(alloc, &list, at)
+        }
+        Reason::Nesting { at } => {
+            let list = tokens_of(alloc, source)?;
+            of_nesting(alloc, &list, at)
+        }
+        Reason::Broken { rule, line } => {
+            let list = tokens_of(alloc, source)?;
+            of_rule(alloc, &list, rule, line)
+        }
+    }
+}
