@@ -1,0 +1,44 @@
+-- What is so of bases that were lengthened by the places of a value.
+use Rattle.std.specs.Prelude.{◌≡◌, ℕ, true, false, IsSome}
+use Rattle.setl_value.specs.Datum.{Datum}
+use Rattle.setl_set.specs.Sets.{has_datum}
+use Rattle.setl_modes.specs.Modes.{Mode}
+use Rattle.setl_modes_places.specs.Places.{elements_at, names, places_of, lengthened}
+use Rattle.setl_base.specs.Base.{find}
+use Rattle.setl_rep_bases.specs.declared.BaseId.{BaseId}
+use Rattle.setl_rep_bases.specs.Bases.{BasesState, base_at, instance_at, named}
+use Rattle.setl_rep_bases.specs.Keeping.{AreKept}
+use Rattle.setl_rep_entering.specs.Entering.{values_in, is_named, AreLengthened, BasesAreThere}
+
+-- the members of a base that is there are lengthened by the values at its places
+abbrev pub MembersAreLengthened : Type 0
+MembersAreLengthened =
+    (m : Mode) (d : Datum) (n : ℕ) (bs cs : BasesState) → BasesAreThere bs n m → AreLengthened m d n bs cs
+    → (b : ℕ) → values_in (base_at cs (named bs n b)) ≡ lengthened (values_in (base_at bs (named bs n b))) (places_of b m d)
+
+-- an instance of a base that the mode doesn't name, or that the base doesn't name in the activation, is as before
+abbrev pub OthersStay : Type 0
+OthersStay =
+    (m : Mode) (d : Datum) (n : ℕ) (bs cs : BasesState) → AreLengthened m d n bs cs
+    → (i : BaseId) → (names i.base m ≡ false → instance_at cs i ≡ instance_at bs i) × (is_named bs n i ≡ false → instance_at cs i ≡ instance_at bs i)
+
+-- the numbers of bases name the same instances as before
+abbrev pub NamesStay : Type 0
+NamesStay = (m : Mode) (d : Datum) (n : ℕ) (bs cs : BasesState) → AreLengthened m d n bs cs → (k b : ℕ) → named cs k b ≡ named bs k b
+
+-- each value at a place is a member of its base in the activation n
+abbrev pub PlacesAreFound : BasesState → (n : ℕ) → Mode → Datum → Type 0
+PlacesAreFound bs n m d = (b : ℕ) (x : Datum) → has_datum x (elements_at b m d) ≡ true → IsSome (find (base_at bs (named bs n b)) x)
+
+-- and so it is once they were lengthened
+abbrev pub PlacesAreMembers : Type 0
+PlacesAreMembers =
+    (m : Mode) (d : Datum) (n : ℕ) (bs cs : BasesState) → BasesAreThere bs n m → AreLengthened m d n bs cs → BasesAreThere cs n m × PlacesAreFound cs n m d
+
+-- all instances are there, and all blocks live
+abbrev pub BlocksAreKept : Type 0
+BlocksAreKept = (m : Mode) (d : Datum) (n : ℕ) (bs cs : BasesState) → AreLengthened m d n bs cs → AreKept bs cs
+
+-- where each value at a place was a member, nothing changes
+abbrev pub MembersChangeNothing : Type 0
+MembersChangeNothing = (m : Mode) (d : Datum) (n : ℕ) (bs cs : BasesState) → PlacesAreFound bs n m d → AreLengthened m d n bs cs → cs ≡ bs

@@ -1,0 +1,26 @@
+//! Laws of bases that were lengthened by the places of a value. The functions have no effect: each hands a proof the laws
+//! that it is named for.
+
+ghost use Rattle.setl_rep_entering.specs.Laws.{MembersAreLengthened, OthersStay, NamesStay, PlacesAreMembers, BlocksAreKept, MembersChangeNothing};
+
+/// Each base that the mode names has the values at its places behind its members, and all others are as before.
+pub fn bases_are_lengthened()
+    ensures members { MembersAreLengthened }
+    ensures others { OthersStay }
+    ensures names { NamesStay }
+{
+    setl_modes_places::places_are_named();
+    setl_rep_bases::laws::instances_are_read();
+}
+
+/// Each value at a place is a member of its base, all blocks live on, and where all were members nothing changes.
+pub fn places_are_members()
+    ensures found { PlacesAreMembers }
+    ensures kept { BlocksAreKept }
+    ensures nothing { MembersChangeNothing }
+{
+    setl_set::laws::tests_are_exact();
+    setl_set::laws::operations_have_their_members();
+    setl_modes_places::places_are_named();
+    setl_rep_bases::laws::instances_are_read();
+}

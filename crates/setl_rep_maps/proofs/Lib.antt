@@ -1,0 +1,5 @@
+pub mod Members
+pub mod Entries
+pub mod Tabled
+pub mod Puts
+pub mod Domains
