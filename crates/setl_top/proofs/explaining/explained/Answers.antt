@@ -1,5 +1,5 @@
 use Rattle.std.proofs.Common.{rules}
-use Rattle.setl_top.proofs.Explaining.{is_explained}
+use Rattle.setl_top.proofs.ExplainedFiles.{is_explained}
 use Rattle.setl_top.proofs.explaining.explained.Goals as goal
 
 pub returns : goal.returns
