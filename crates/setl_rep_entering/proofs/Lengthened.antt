@@ -1,6 +1,6 @@
 -- Laws of bases that were lengthened.
 use Rattle.std.proofs.Common.{◌≡◌, ◌∙◌, ℕ, zero, suc, Bool, true, false, not, cond, ◌&&◌, ◌||◌, List, [], ◌∷◌, ◌++◌, map, slice_get, Option, None, Some, IsSome, refl, sym, ap, subst}
-use Rattle.std.proofs.lemmas.Bool.{false≢true, or_left, or_right, or_cases, and_parts}
+use Rattle.std.proofs.lemmas.Bool.{false≢true, or_left, or_right, and_parts}
 use Rattle.std.proofs.lemmas.List.Folds.{list_any-append}
 use Rattle.std.specs.Bool.{if◌then◌else◌}
 use Rattle.std.specs.List.{filter}
@@ -16,12 +16,12 @@ use Rattle.setl_modes_places.specs.Places.{elements_at, names, places_of, length
 use Rattle.setl_base.specs.Base.{BaseState, Member, empty, member_at, find}
 use Rattle.setl_rep_bases.specs.declared.BaseId.{BaseId}
 use Rattle.setl_rep_bases.specs.declared.tables.Instance.{Instance}
-use Rattle.setl_rep_bases.specs.BaseId.{is_id, id, main}
+use Rattle.setl_rep_bases.specs.BaseId.{id, main}
 use Rattle.setl_rep_bases.specs.Bases.{BasesState, instance_at, base_at, is_there, named, IsThere}
 use Rattle.setl_rep_bases.specs.Keeping.{AreKept}
 use Rattle.setl_rep_bases.specs.Reading.{NamesAreExact, BasesAgree}
-use Rattle.setl_rep_entering.specs.Entering.{values_in, with_values, lengthened_by, is_named, places_in, AreLengthened, BasesAreThere}
-use Rattle.setl_rep_entering.specs.Laws.{MembersAreLengthened, OthersStay, NamesStay, PlacesAreMembers, PlacesAreFound, BlocksAreKept, MembersChangeNothing}
+use Rattle.setl_rep_entering.specs.Entering.{values_in, with_values, lengthened_by, is_named, places_in, AreLengthened}
+use Rattle.setl_rep_entering.specs.Laws.{MembersAreLengthened, OthersStay, NamesStay, PlacesAreMembers, BlocksAreKept, MembersChangeNothing}
 use Rattle.setl_rep_entering.proofs.Entered.{found}
 use Rattle.setl_rep_entering.proofs.Appended.{has_left, has_set, has_places_in}
 

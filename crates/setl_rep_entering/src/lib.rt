@@ -1,11 +1,14 @@
-//! What a store of a value adds to the bases that its mode names, and whether these are there.
+//! The bases that a mode names are lengthened by the values at their places in a value of that mode.
 //!
-//! Each store of a value in a declared variable adds the values at its places `elmt b` to the instance that the base `b` has
-//! in the activation: in canonical order, and only those that aren't members yet. Here stand the definition of that and its
-//! laws; no code enters values yet.
+//! Each store of a value in a declared variable enters the values at its places `elmt b` into the instance that the base
+//! `b` has in the activation: in canonical order, and only those that aren't members yet. There are no forms here.
 #![tactic(auto)]
 
+mod enter;
 pub mod laws;
+mod places;
 mod there;
 
+pub use enter::{Mark, base_marks, enter_places, take_back};
+pub use std::alloc::AllocError as Memory;
 pub use there::bases_are_there;

@@ -49,9 +49,6 @@ gathered_depth tests gathers ds =
 pub first_depth : (d : Datum) (ds : List Datum) → depth (set_of (d ∷ ds)) ≤ 500 → depth d ≤ 500
 first_depth d ds h = omega arith
 
-pub rest_depth : (d : Datum) (ds : List Datum) → depth (set_of (d ∷ ds)) ≤ 500 → depth (set_of ds) ≤ 500
-rest_depth d ds h = omega arith
-
 images_depth : (x : Datum) (ms : Elements) → elements_depth ms ≤ elements_depth (elements_of (map (pair x) (element_list ms)))
 images_depth x no_element = omega arith
 images_depth x (element_then y ms) = omega (arith, images_depth x ms)

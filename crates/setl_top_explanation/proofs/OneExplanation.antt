@@ -1,5 +1,5 @@
 -- A source has one explanation of a reason.
-use Rattle.std.proofs.Common.{◌≡◌, ◌∙◌, ◌^◌, ℕ, Bool, true, false, List, [], nat_lt, length, if◌then◌else◌, min, sym, ap, subst}
+use Rattle.std.proofs.Common.{◌≡◌, ◌∙◌, ◌^◌, ℕ, Bool, true, false, List, [], nat_lt, length, MatchBool, min, sym, ap, subst}
 use Rattle.setl_tree.specs.declared.kind.Kind.{Kind}
 use Rattle.setl_token.specs.Lex.{Spelled}
 use Rattle.setl_token.specs.Text.{Lexed}
@@ -13,7 +13,7 @@ abbrev OneSpelling : Type 0
 OneSpelling = (source : List ℕ) (ts us : List Token) → Spelled source ts → Spelled source us → ts ≡ us
 
 module _ (lists : OneList) where
-  told_once : (source : List ℕ) (at : ℕ) (long : Bool) (one two : List Kind) → (if long then one ≡ [] else IsNext source at one) → (if long then two ≡ [] else IsNext source at two) → one ≡ two
+  told_once : (source : List ℕ) (at : ℕ) (long : Bool) (one two : List Kind) → MatchBool long (one ≡ []) (IsNext source at one) → MatchBool long (two ≡ []) (IsNext source at two) → one ≡ two
   told_once source at true one two a b = a ∙ sym b
   told_once source at false one two a b = lists source at one two a b
 

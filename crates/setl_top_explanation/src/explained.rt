@@ -79,16 +79,24 @@ fn of_syntax_at(alloc: Global, list: &TokenList, place: usize) -> Result<Vec<u8>
     syntax_text(alloc, list, place, &kinds)
 }
 
-/// What is told of a fault of syntax at a place, or at the end of the source where the place is past it.
-fn of_syntax(alloc: Global, list: &TokenList, at: u32) -> Result<Vec<u8>, AllocError>
-    ensures { IfOk result (λ text. ExplainsSyntax list.now (min at (length list.now.source)) text.items) }
+/// A place, or the end of the source where the place is past it.
+fn place_within(list: &TokenList, at: u32) -> usize
+    ensures value { result ≡ min at (length list.now.source) }
+    ensures within { result ≤ length list.now.source }
 {
-    let end = list.source().len();
-    of_syntax_at(alloc, list, (at as usize).min(end))
+    (at as usize).min(list.source().len())
+}
+
+/// What is told of a fault of syntax.
+fn of_syntax(alloc: Global, list: &TokenList, at: u32) -> Result<Vec<u8>, AllocError>
+    requires { Spelled list.now.source list.now.tokens }
+    ensures { IfOk result (λ text. Explains list.now.source (Reason.Syntax at) text.items) }
+{
+    of_syntax_at(alloc, list, place_within(list, at))
 }
 
 /// The place of a nesting that is one too many, what is open there, and what such a fault means.
-fn of_nesting(alloc: Global, list: &TokenList, at: u32) -> Result<Vec<u8>, AllocError>
+fn nesting_text(alloc: Global, list: &TokenList, at: u32) -> Result<Vec<u8>, AllocError>
     ensures { IfOk result (λ text. text.items ≡ spec.nesting_explained list.now at) }
 {
     let openings = open_at(alloc, list, at as usize)?;
@@ -99,14 +107,35 @@ fn of_nesting(alloc: Global, list: &TokenList, at: u32) -> Result<Vec<u8>, Alloc
     Ok(text)
 }
 
+/// What is told of a nesting that is one too many.
+fn of_nesting(alloc: Global, list: &TokenList, at: u32) -> Result<Vec<u8>, AllocError>
+    requires { Spelled list.now.source list.now.tokens }
+    ensures { IfOk result (λ text. Explains list.now.source (Reason.Nesting at) text.items) }
+{
+    nesting_text(alloc, list, at)
+}
+
 /// The first token on the line of a broken rule, and what the rule asks for.
-fn of_rule(alloc: Global, list: &TokenList, rule: u8, line: u32) -> Result<Vec<u8>, AllocError>
+fn rule_explained(
+    alloc: Global,
+    list: &TokenList,
+    rule: u8,
+    line: u32,
+) -> Result<Vec<u8>, AllocError>
     ensures { IfOk result (λ text. text.items ≡ spec.rule_explained list.now rule line) }
 {
     let mut text = Vec::new(alloc);
     push_place(&mut text, list.source(), first_on_line(list, line))?;
     text.extend_from_slice(rule_text(rule))?;
     Ok(text)
+}
+
+/// What is told of a broken rule.
+fn of_rule(alloc: Global, list: &TokenList, rule: u8, line: u32) -> Result<Vec<u8>, AllocError>
+    requires { Spelled list.now.source list.now.tokens }
+    ensures { IfOk result (λ text. Explains list.now.source (Reason.Broken rule line) text.items) }
+{
+    rule_explained(alloc, list, rule, line)
 }
 
 /// What is told below the line of a reason for which the source is refused: of a fault at a place the line and the column,

@@ -1,5 +1,5 @@
 //! What is told of the kinds of tokens that can stand at a place.
-ghost use Rattle.std.specs.Prelude.{◌≡◌, ◌≤◌, ◌++◌, flat_map, length, IfOk, OnOk};
+ghost use Rattle.std.specs.Prelude.{◌≡◌, ◌≤◌, ◌∷◌, ◌++◌, flat_map, length, IfOk, OnOk};
 ghost use Rattle.setl_top_explanation.specs.Next as spec;
 ghost use Rattle.setl_top_explanation.specs.Next.{AreTold};
 
@@ -23,6 +23,7 @@ pub fn told_kinds(alloc: Global, source: &[u8], at: usize) -> Result<Vec<Kind>, 
 }
 
 /// Adds a kind behind a comma.
+#[tactic(auto, unfolding(crate::specs::Next::further_text))]
 fn push_further(into: &mut Vec<u8>, kind: Kind) -> Result<(), AllocError>
     ensures { OnOk result (into.new.items ≡ into.old.items ++ spec.further_text kind) }
 {
@@ -40,6 +41,25 @@ fn push_all_further(into: &mut Vec<u8>, kinds: &[Kind]) -> Result<(), AllocError
     Ok(())
 }
 
+/// Adds the words before the kinds.
+#[tactic(auto, unfolding(crate::specs::Next::words_before))]
+fn push_words(into: &mut Vec<u8>) -> Result<(), AllocError>
+    ensures { OnOk result (into.new.items ≡ into.old.items ++ spec.words_before) }
+{
+    into.extend_from_slice(b"Here can stand (at most ten are told): ")
+}
+
+/// Adds the line of a first kind and of others.
+fn push_line(into: &mut Vec<u8>, first: Kind, others: &[Kind]) -> Result<(), AllocError>
+    ensures { OnOk result (into.new.items ≡ into.old.items ++ spec.next_text (first ∷ others.now)) }
+{
+    push_words(into)?;
+    push_kind(into, first)?;
+    push_all_further(into, others)?;
+    into.push(b'\n')?;
+    Ok(())
+}
+
 /// Adds a line with the kinds of tokens that can stand at a place; nothing where there are none. The error is want of memory.
 pub fn push_next(into: &mut Vec<u8>, kinds: &[Kind]) -> Result<(), AllocError>
     ensures { OnOk result (into.new.items ≡ into.old.items ++ spec.next_text kinds.now) }
@@ -47,9 +67,5 @@ pub fn push_next(into: &mut Vec<u8>, kinds: &[Kind]) -> Result<(), AllocError>
     let Some((first, others)) = kinds.split_first() else {
         return Ok(());
     };
-    into.extend_from_slice(b"Here can stand (at most ten are told): ")?;
-    push_kind(into, *first)?;
-    push_all_further(into, others)?;
-    into.push(b'\n')?;
-    Ok(())
+    push_line(into, *first, others)
 }

@@ -1,0 +1,13 @@
+//! The text of a `repr` section, by the flows of the variables that it declares.
+#![tactic(auto)]
+
+mod lines;
+mod plain;
+mod sections;
+
+pub use lines::{Numbers, push_base, push_line};
+pub use plain::Written;
+pub use sections::{Variable, section};
+
+/// Want of memory.
+pub use std::alloc::AllocError as Memory;

@@ -1,0 +1,4 @@
+pub mod ModeSteps
+pub mod Marking
+pub mod Decoding
+pub mod Dependent

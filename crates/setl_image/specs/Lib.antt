@@ -1,0 +1,3 @@
+pub mod Views
+pub mod ModeText
+pub mod Marks

@@ -1,0 +1,10 @@
+//! Whether the ways of steps come back to the step where they began: heights that fall along each way, found by one
+//! depth-first search.
+#![tactic(auto)]
+
+mod search;
+
+pub use search::heights;
+
+/// Want of memory.
+pub use std::alloc::AllocError as Memory;

@@ -1,0 +1,85 @@
+//! Operators on forms.
+
+ghost use Rattle.std.specs.Prelude.{◌≡◌, length, map, IfOk};
+ghost use Rattle.setl_value.specs.code.DatumOf.{part};
+ghost use Rattle.setl_operators_table.specs.Operators.{op_of, TakesOperands};
+ghost use Rattle.setl_rep.specs.Standing.{held_value, AreHeldOver, IsHeldOver};
+ghost use Rattle.setl_rep.specs.Telling.{TellsHeld};
+ghost use Rattle.setl_rep_forms.specs.FormOf.{form};
+ghost use Rattle.setl_rep_bases.specs.Bases.{BasesState};
+ghost use Rattle.setl_rep_forms.specs.Stands.{IsOver};
+
+use crate::Memory;
+use setl_operators::{Answer, OpFault, Operator, op};
+use setl_rep_bases::Bases;
+use setl_rep_forms::Held;
+use setl_rep_plain::plain;
+use setl_value::Value;
+use std::alloc::Global;
+
+/// What an operator gave, in a form, and the turns that it charges.
+#[derive(Drop)]
+pub struct Applied {
+    pub held: Held,
+    pub charged: u64,
+}
+
+/// What an operator makes of operands in forms, with these turns left: what `op` makes of the values that they stand for.
+/// The result stands for the value, or `om`, that `op` gives, with its charge, and the faults are those of `op`, where
+/// NoMemory may come at any point.
+///
+/// The operands stand over the bases for values at most 500 deep, or for `om`, and are as many as the operator takes. What is
+/// held plain goes to `op` as it is.
+pub fn apply(
+    alloc: Global,
+    what: Operator,
+    args: Vec<Held>,
+    bases: &Bases,
+    turns: u64,
+) -> Result<Applied, OpFault>
+    requires count { TakesOperands what (length args.items) }
+    requires over { AreHeldOver bases.now args.items }
+    ensures told { TellsHeld bases.now result (op_of what (map (held_value bases.now) args.items) turns) }
+    ensures over { IfOk result (λ a. IsOver bases.now (form a.held)) }
+{
+    let values = values(alloc, args, bases)?;
+    let answer = op(alloc, what, values, turns)?;
+    Ok(in_a_form(answer))
+}
+
+// The values of operands.
+fn values(alloc: Global, args: Vec<Held>, bases: &Bases) -> Result<Vec<Option<Value>>, Memory>
+    requires { AreHeldOver bases.now args.items }
+    ensures { IfOk result (λ vs. map part vs.items ≡ map (held_value bases.now) args.items) }
+{
+    let mut values = Vec::with_capacity(alloc, args.len())?;
+    for h in args {
+        values.push(value(alloc, h, bases)?)?;
+    }
+    Ok(values)
+}
+
+// The value of an operand.
+fn value(alloc: Global, h: Held, bases: &Bases) -> Result<Option<Value>, Memory>
+    requires { IsHeldOver bases.now h }
+    ensures { IfOk result (λ v. part v ≡ held_value bases.now h) }
+{
+    match h {
+        Held::Plain(v) => Ok(Some(v)),
+        h => plain(alloc, &h, bases),
+    }
+}
+
+// An answer in the plain form.
+fn in_a_form(a: Answer) -> Applied
+    ensures value { (bs : BasesState) → held_value bs result.held ≡ part a.value }
+    ensures over { (bs : BasesState) → IsOver bs (form result.held) }
+    ensures charge { result.charged ≡ a.charged }
+{
+    let Answer { value, charged } = a;
+    let held = match value {
+        None => Held::Om,
+        Some(v) => Held::Plain(v),
+    };
+    Applied { held, charged }
+}

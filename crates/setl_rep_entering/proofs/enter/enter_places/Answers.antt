@@ -1,0 +1,41 @@
+use Rattle.std.proofs.Common.{◌∙◌, sym, subst}
+use Rattle.std.proofs.lemmas.Result.{on_ok_weaker}
+use Rattle.setl_value.specs.code.DatumOf.{datum}
+use Rattle.setl_modes.specs.Modes.{mode_of}
+use Rattle.setl_rep_entering.specs.Entering.{AreLengthened}
+use Rattle.setl_rep_entering.specs.code.Finding.{place_cmp}
+use Rattle.setl_rep_entering.proofs.Appended.{are_lengthened, places_there, places_marked, values_rise}
+use Rattle.setl_rep_entering.proofs.Sorting.{goes_by_value}
+use Rattle.setl_rep_entering.proofs.enter.enter_places.Goals as goal
+
+pub enter_or_undo-requires-clause-there : goal.enter_or_undo-requires-clause-there
+enter_or_undo-requires-clause-there c =
+    places_there c.rising_lists_agree.ensures c.tests_are_exact.ensures.membership c.operations_have_their_members.ensures.gather (mode_of c.args.mode.now) (datum c.args.v.now) c.args.instance c.args.bases.now c.in_ok-places.places.items
+    c.in_ok-places.ensures.found c.places_are_named.ensures c.instances_are_read.ensures.names c.requires.there
+
+pub enter_or_undo-requires-clause-marked : goal.enter_or_undo-requires-clause-marked
+enter_or_undo-requires-clause-marked c =
+    λ i h. c.in_ok-marks.ensures.all i
+    ∙ places_marked c.rising_lists_agree.ensures c.tests_are_exact.ensures.membership c.operations_have_their_members.ensures.gather (mode_of c.args.mode.now) (datum c.args.v.now) c.args.instance c.args.bases.now c.in_ok-places.places.items
+    c.in_ok-places.ensures.found c.places_are_named.ensures i h
+
+pub enter_or_undo-requires-clause-marks : goal.enter_or_undo-requires-clause-marks
+enter_or_undo-requires-clause-marks c = c.in_ok-marks.ensures.marks
+
+pub returns-clause-lengthened : goal.returns-clause-lengthened
+returns-clause-lengthened c =
+    let bs = c.args.bases.now in
+    let n = c.args.instance in
+    let m = mode_of c.args.mode.now in
+    let d = datum c.args.v.now in
+    let ps = c.in_ok-places.places.items in
+    let agree = c.rising_lists_agree.ensures in
+    let tests = c.tests_are_exact.ensures.membership in
+    let gathers = c.operations_have_their_members.ensures.gather in
+    let put = c.instances_are_read.ensures.put in
+    let exact = c.instances_are_read.ensures.names in
+    let found = c.in_ok-places.ensures.found in
+    on_ok_weaker c.enter_or_undo.result
+    (λ e. subst (AreLengthened m d n bs) (sym e) (are_lengthened agree tests gathers m d n bs ps found put exact (λ i. values_rise exact place_cmp goes_by_value i ps c.in_ok-places.ensures.rising)
+    (places_there agree tests gathers m d n bs ps found c.places_are_named.ensures exact c.requires.there)))
+    c.enter_or_undo.ensures.entered
