@@ -1,6 +1,7 @@
 -- How the parts of a call make its headline.
 use Rattle.std.proofs.Common.{◌≡◌, ◌⊎◌, inl, inr, ◌<◌, ℕ, List, [], ◌∷◌, ◌++◌, length, take, Some, refl, sym, ap, subst}
 use Rattle.std.specs.Io.KnownBytes.{Appends}
+use Rattle.setl_io.specs.Files.{IsText}
 use Rattle.setl_model_runs.specs.Events as run
 use Rattle.setl_program.specs.ProgramOf.{program_of}
 use Rattle.setl_tree.specs.declared.tree.Tree.{Tree}
