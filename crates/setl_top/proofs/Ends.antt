@@ -33,7 +33,7 @@ use Rattle.setl_top.specs.code.Lists.{Lists, listed_so, not_listed}
 use Rattle.setl_top.specs.code.Loads.{Loaded, NotLoaded, not_accepted, not_read, no_room, Checks, checked_so, not_checked}
 use Rattle.setl_top.specs.code.Runs.{Streams, streams, counted, RunsTo, RunsInto, WritesInto, RunsToRead, RunsUpTo, Runs, TakesInput}
 use Rattle.setl_top.specs.code.Tells.{TellsEnd}
-use Rattle.setl_top.specs.Headline.{Job, IsInput, IsToLoad, IsToRun, IsToList, IsToExplain, TellsRefusal, Answers, faulty_words, refused, checked, listed, explained, no_fault, stop_told, run_ended, UpToWrite, UpToAny, no_program, at_state, in_print, in_write, in_listing, in_explanation, in_stop, load_failed, read_failed, no_such_watcher, TellsFault, LeavesRest, IsQuiet, at_work, at_end, Ended, ReadFailed, WriteFailed, MemoryFailed, print_failed, out_failed, err_failed, InputLeft, untouched, read_from, Headline}
+use Rattle.setl_top.specs.Headline.{Job, IsInput, IsToLoad, IsToRun, IsToList, IsToExplain, TellsRefusal, Answers, faulty_words, refused, checked, listed, explained, no_fault, stop_told, run_ended, UpToWrite, no_program, at_state, in_print, in_write, in_listing, in_explanation, in_stop, load_failed, read_failed, no_such_watcher, TellsFault, LeavesRest, IsQuiet, at_work, at_end, Ended, ReadFailed, WriteFailed, MemoryFailed, print_failed, out_failed, err_failed, InputLeft, untouched, read_from, Headline}
 use Rattle.setl_top.specs.Outside.{Outside}
 use Rattle.setl_top.specs.Watching.{asked_for, IsThere, no_watcher_line, all_told, reports_of}
 use Rattle.setl_watch.specs.Watches.{Watched, watched}

@@ -1,5 +1,5 @@
 -- What becomes of an explanation.
-use Rattle.std.proofs.Common.{◌≡◌, ◌∙◌, ◌<◌, ◌^◌, ℕ, List, [], ◌∷◌, ◌++◌, length, ap, refl, subst}
+use Rattle.std.proofs.Common.{◌≡◌, ◌∙◌, ◌<◌, ◌^◌, ℕ, List, [], ◌∷◌, ◌++◌, length, ap, subst}
 use Rattle.setl_io.specs.Files.{IsText}
 use Rattle.setl_top_explanation.specs.Explanations as below
 use Rattle.setl_top_status.specs.Reasons.{reason_line}

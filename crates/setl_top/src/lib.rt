@@ -23,8 +23,9 @@ mod watching;
 
 pub use laws::{
     checks_exactly, completeness, each_program_has_one_listing, ends_exactly,
-    every_accepted_run_ends, explains_exactly, faulty_words_read_nothing, first_fault_ends, lists_exactly,
-    program_or_refusal, refused_exactly, trials_read_nothing, tries_exactly, words_exactly,
+    every_accepted_run_ends, explains_exactly, faulty_words_read_nothing, first_fault_ends,
+    lists_exactly, program_or_refusal, refused_exactly, trials_read_nothing, tries_exactly,
+    words_exactly,
 };
 pub use setl_top_status::Status;
 pub use top::setl;

@@ -14,7 +14,11 @@ pub(crate) fn read_explain<'a>(between: &[String], last: &'a str) -> Option<Comm
     ensures faulty { IfNone result (IsFaulty (codes "explain" ∷ map string_bytes between.now ++ last.now ∷ [])) }
 {
     let Some((option, others)) = between.split_first() else {
-        return if is_file(last) { Some(Command::Explain(last)) } else { None };
+        return if is_file(last) {
+            Some(Command::Explain(last))
+        } else {
+            None
+        };
     };
     if !others.is_empty() || !is_stop(option.as_str()) {
         return None;

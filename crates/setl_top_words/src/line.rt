@@ -57,10 +57,9 @@ fn stop<'a>(alloc: Global) -> Arg<'a>
     ensures rule { rule_of result ≡ stop_rule }
     ensures local { result.global ≡ false }
 {
-    Arg::new(alloc, "stop")
-        .long("stop")
-        .value_name("NAME")
-        .help("Tell what a stop of a run means: om, kind, zero, range, wide, deep, form, nothing or value")
+    Arg::new(alloc, "stop").long("stop").value_name("NAME").help(
+        "Tell what a stop of a run means: om, kind, zero, range, wide, deep, form, nothing or value",
+    )
 }
 
 /// The file of an explanation.
@@ -68,7 +67,9 @@ fn explained<'a>(alloc: Global) -> Arg<'a>
     ensures rule { rule_of result ≡ explained_rule }
     ensures local { result.global ≡ false }
 {
-    Arg::new(alloc, "file").value_name("FILE").help("The source")
+    Arg::new(alloc, "file")
+        .value_name("FILE")
+        .help("The source")
 }
 
 /// The seed of a trial.

@@ -1,9 +1,9 @@
 -- What becomes of an explanation that is to be written.
-use Rattle.std.specs.Prelude.{◌≡◌, ◌<◌, ◌^◌, ℕ, List, [], length}
-use Rattle.setl_io.specs.Files.{Texts, IsText}
+use Rattle.std.specs.Prelude.{◌≡◌, ◌<◌, ◌^◌, ℕ, List, length}
+use Rattle.setl_io.specs.Files.{IsText}
 use Rattle.setl_tree.specs.declared.tree.Tree.{Tree}
 use Rattle.setl_top_status.specs.Lines.{AppendsFront, fault_line}
-use Rattle.setl_top_status.specs.Seen.{Seen, CountRose, CountStays}
+use Rattle.setl_top_status.specs.Seen.{Seen, CountStays}
 use Rattle.setl_top_status.specs.code.Loads.{SeenFiles, NotRead}
 use Rattle.setl_top_status.specs.code.Writes.{Written}
 use Rattle.setl_top_status.specs.declared.fault.Fault.TheVariants as fault
