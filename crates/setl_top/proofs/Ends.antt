@@ -1,6 +1,7 @@
 -- How the parts of a call make its headline.
 use Rattle.std.proofs.Common.{◌≡◌, ◌⊎◌, inl, inr, ◌<◌, ℕ, List, [], ◌∷◌, ◌++◌, length, take, Some, refl, sym, ap, subst}
 use Rattle.std.specs.Io.KnownBytes.{Appends}
+use Rattle.setl_io.specs.Files.{IsText}
 use Rattle.setl_model_runs.specs.Events as run
 use Rattle.setl_program.specs.ProgramOf.{program_of}
 use Rattle.setl_tree.specs.declared.tree.Tree.{Tree}
@@ -19,16 +20,24 @@ use Rattle.setl_top_status.specs.declared.fault.Fault.TheVariants as fault
 use Rattle.setl_top_status.specs.declared.status.Status.{Status}
 use Rattle.setl_top_status.specs.declared.status.Status.TheVariants.{Done, Refused, Words, Stopped, Spent}
 use Rattle.setl_top_status.specs.FrontLaws.{appends_none, front_alone}
+use Rattle.setl_explain_words.specs.Texts.{stop_text}
+use Rattle.setl_explain_words.specs.declared.stop.Stop.{Stop}
+use Rattle.setl_top_status.specs.code.Loads.{failed_read, starved_read}
+use Rattle.setl_top_status.specs.declared.reason.Reason.{Reason}
+use Rattle.setl_top_status.specs.declared.reason.Reason.TheVariants as reason
+use Rattle.setl_top.specs.Accepted.{IsRefusedFor}
+use Rattle.setl_top.specs.Explained.{IsExplained}
 use Rattle.setl_top.specs.Listings.{IsListing}
+use Rattle.setl_top.specs.code.Explains.{WritesExplanation, explained_so, starved_of, ExplainsText, no_fault_in, refused_for, not_known, Explains, of_text, of_long, not_there, refused_if_done}
 use Rattle.setl_top.specs.code.Lists.{Lists, listed_so, not_listed}
 use Rattle.setl_top.specs.code.Loads.{Loaded, NotLoaded, not_accepted, not_read, no_room, Checks, checked_so, not_checked}
 use Rattle.setl_top.specs.code.Runs.{Streams, streams, counted, RunsTo, RunsInto, WritesInto, RunsToRead, RunsUpTo, Runs, TakesInput}
 use Rattle.setl_top.specs.code.Tells.{TellsEnd}
-use Rattle.setl_top.specs.Headline.{Job, IsInput, IsToLoad, IsToRun, IsToList, Answers, faulty_words, refused, checked, listed, run_ended, UpToWrite, UpToAny, no_program, at_state, in_print, in_write, in_listing, load_failed, read_failed, no_such_watcher, TellsFault, LeavesRest, IsQuiet, at_work, at_end, Ended, ReadFailed, WriteFailed, MemoryFailed, print_failed, out_failed, err_failed, InputLeft, untouched, read_from, Headline}
+use Rattle.setl_top.specs.Headline.{Job, IsInput, IsToLoad, IsToRun, IsToList, IsToExplain, TellsRefusal, Answers, faulty_words, refused, checked, listed, explained, no_fault, stop_told, run_ended, UpToWrite, no_program, at_state, in_print, in_write, in_listing, in_explanation, in_stop, load_failed, read_failed, no_such_watcher, TellsFault, LeavesRest, IsQuiet, at_work, at_end, Ended, ReadFailed, WriteFailed, MemoryFailed, print_failed, out_failed, err_failed, InputLeft, untouched, read_from, Headline}
 use Rattle.setl_top.specs.Outside.{Outside}
 use Rattle.setl_top.specs.Watching.{asked_for, IsThere, no_watcher_line, all_told, reports_of}
 use Rattle.setl_watch.specs.Watches.{Watched, watched}
-use Rattle.setl_top_words.specs.Words.{Options, IsFaulty, Spells, HasFile, watched_by, Command, Run, Check, Code}
+use Rattle.setl_top_words.specs.Words.{Options, IsFaulty, Spells, HasFile, watched_by, Command, Run, Check, Code, Explain, TellStop}
 use Rattle.setl_top_words.specs.Told.{TellsFaulty}
 
 -- a fault's own line, and nothing before it
@@ -99,18 +108,18 @@ pub no_watcher_ends : (words : List (List ℕ)) (before after : Outside) (comman
 no_watcher_ends words before after command s none f rest r t = told_alone words before after Words no_watcher_line (λ e. e) (no_such_watcher command s none) f rest r t
 
 -- a source wasn't loaded
-pub not_loaded : (words : List (List ℕ)) (before after : Outside) (command : Command) (name : List ℕ) → Spells words command → HasFile command name → IsThere (watched_by command) before.watchers → LeavesRest before after → (r : Status) → NotLoaded name before.files after.files before.error_output after.error_output r → Headline words before after r
-not_loaded words before after command name s f there rest _ (not_accepted source reason r t why e h) =
+pub not_loaded : (words : List (List ℕ)) (before after : Outside) (command : Command) (name : List ℕ) → Spells words command → HasFile command name → TellsRefusal command → IsThere (watched_by command) before.watchers → LeavesRest before after → (r : Status) → NotLoaded name before.files after.files before.error_output after.error_output r → Headline words before after r
+not_loaded words before after command name s f told_there there rest _ (not_accepted source reason r t why e h) =
     let line : List ℕ = reason_line reason in
     let load : IsToLoad words before name = record { command = command; spelled = s; file = f; there = there } in
-    told_alone words before after Refused (line ++ 10 ∷ []) (λ e. e) (refused name source line load t (record { reason = reason; refused = why; tells = refl })) e rest r h
-not_loaded words before after command name s f there rest _ (not_read rose h) = record {
+    told_alone words before after Refused (line ++ 10 ∷ []) (λ e. e) (refused name source line load told_there t (record { reason = reason; refused = why; tells = refl })) e rest r h
+not_loaded words before after command name s f told_there there rest _ (not_read rose h) = record {
   out = [];
   cause = load_failed (record { name = name; asked = record { command = command; spelled = s; file = f; there = there }; rose = rose; input = rest.input; output = rest.output });
   out_gained = appends_same before.output after.output rest.output;
   err_gained = fault_alone before after fault.Read h;
 }
-not_loaded words before after command name s f there rest _ (no_room e h) = starved words before after e rest h
+not_loaded words before after command name s f told_there there rest _ (no_room e h) = starved words before after e rest h
 
 -- ---- runs
 
@@ -228,7 +237,7 @@ check_ends words before after name s rest _ (checked_so tree l still) = record {
   quiet = quiet_where before after still.count rest;
   told = count_same before.error_output after.error_output still.same;
 }
-check_ends words before after name s rest r (not_checked _ h) = not_loaded words before after (Check name) name s refl tt rest r h
+check_ends words before after name s rest r (not_checked _ h) = not_loaded words before after (Check name) name s refl tt tt rest r h
 
 -- the program of a file is to be listed
 to_list : (words : List (List ℕ)) (before : Outside) (name : List ℕ) (tree : Tree) (text : List ℕ) → Spells words (Code name) → Loaded before.files.held name tree → IsListing tree text → IsToList words before text
@@ -267,4 +276,73 @@ pub list_ends : (words : List (List ℕ)) (before after : Outside) (name : List 
 list_ends words before after name s same r (listed_so tree _ l files w) =
     let a = to_list words before name tree w.text s l w.is_listing in
     written_ends words before after w.text (listed w.text a) (λ n. in_listing w.text n a) same files r w.written
-list_ends words before after name s same r (not_listed _ h still) = not_loaded words before after (Code name) name s refl tt (record { input = same; output = still }) r h
+list_ends words before after name s same r (not_listed _ h still) = not_loaded words before after (Code name) name s refl tt tt (record { input = same; output = still }) r h
+
+-- ---- explanations
+
+-- an explanation that was to be written, of a source that is refused
+explanation_ends : (words : List (List ℕ)) (before after : Outside) (text : List ℕ) → IsToExplain words before text → after.input ≡ before.input → CountStays before.files after.files → (w : Status) → Written text before.output after.output before.error_output after.error_output w → (r : Status) → r ≡ refused_if_done w → Headline words before after r
+explanation_ends words before after text a same files _ (all_written gained count still) r e = subst (Headline words before after) (sym e) (record {
+  out = text;
+  err = [];
+  answer = subst (Answers words before Refused text []) (sym (held_same before.input after.input same)) (explained text a);
+  out_gained = gained;
+  err_gained = appends_same before.error_output after.error_output still;
+  quiet = record { files = files; input = count_same before.input after.input same; output = count };
+  told = count_same before.error_output after.error_output still;
+})
+explanation_ends words before after text a same files _ (write_failed part rose h) r e = subst (Headline words before after) (sym e) (record {
+  out = take part.0 text;
+  telling = [];
+  cause = out_failed (take part.0 text) (record { rose = rose; writing = in_explanation text part.0 a part.1; files = files; input = same });
+  out_gained = part.2;
+  err_gained = fault_alone before after fault.Write h;
+})
+explanation_ends words before after text a same files _ (write_starved part count h) r e = subst (Headline words before after) (sym e) (record {
+  out = take part.0 text;
+  telling = [];
+  cause = at_work (take part.0 text) (in_write (take part.0 text) (in_explanation text part.0 a part.1));
+  out_gained = part.2;
+  err_gained = fault_alone before after fault.NoMemory h;
+  quiet = record { files = files; input = count_same before.input after.input same; output = count };
+})
+explanation_ends words before after text a same files _ (no_text none h) r e = subst (Headline words before after) (sym e) (starved words before after files (record { input = same; output = none }) h)
+
+module _ (words : List (List ℕ)) (before after : Outside) (name : List ℕ) (s : Spells words (Explain name)) (same : after.input ≡ before.input) where
+  -- why a source is refused was to be written
+  reason_ends : (source : List ℕ) (why : Reason) → IsText before.files.held name source → IsRefusedFor source why → ((text : List ℕ) → IsExplained source why text → IsToExplain words before text) → CountStays before.files after.files → (r : Status) → WritesExplanation source why before.output after.output before.error_output after.error_output r → Headline words before after r
+  reason_ends source why t refused_so makes files r (explained_so text w _ is written e) = explanation_ends words before after text (makes text is) same files w written r e
+  reason_ends source why t refused_so makes files _ (starved_of none h) = starved words before after files (record { input = same; output = none }) h
+
+  to_explain : (source : List ℕ) (why : Reason) → IsText before.files.held name source → IsRefusedFor source why → (text : List ℕ) → IsExplained source why text → IsToExplain words before text
+  to_explain source why t refused_so text is = record { name = name; source = source; reason = why; spelled = s; text_of = t; refused_for = refused_so; is_explained = is }
+
+  -- a source was to be explained
+  text_ends : (source : List ℕ) → IsText before.files.held name source → CountStays before.files after.files → (r : Status) → ExplainsText source before.output after.output before.error_output after.error_output r → Headline words before after r
+  text_ends source t files _ (no_fault_in tree p none still) = record {
+    out = [];
+    err = [];
+    answer = subst (Answers words before Done [] []) (sym (held_same before.input after.input same)) (no_fault name source tree s t p);
+    out_gained = appends_same before.output after.output none;
+    err_gained = appends_same before.error_output after.error_output still;
+    quiet = quiet_where before after files (record { input = same; output = none });
+    told = count_same before.error_output after.error_output still;
+  }
+  text_ends source t files r (refused_for why _ refused_so w) = reason_ends source why t refused_so (to_explain source why t refused_so) files r w
+  text_ends source t files _ (not_known none h) = starved words before after files (record { input = same; output = none }) h
+
+  -- an explanation of a file, which leaves the input alone
+  pub explain_ends : (r : Status) → Explains name before.files after.files before.output after.output before.error_output after.error_output r → Headline words before after r
+  explain_ends r (of_text source _ t files w) = text_ends source t files r w
+  explain_ends r (of_long source _ t long files w) = reason_ends source reason.TooLong t long (to_explain source reason.TooLong t long) files r w
+  explain_ends _ (not_there (failed_read rose h) none) = record {
+    out = [];
+    cause = load_failed (record { name = name; asked = record { command = Explain name; spelled = s; file = refl; there = tt }; rose = rose; input = same; output = none });
+    out_gained = appends_same before.output after.output none;
+    err_gained = fault_alone before after fault.Read h;
+  }
+  explain_ends _ (not_there (starved_read files h) none) = starved words before after files (record { input = same; output = none }) h
+
+-- what a stop means was to be told
+pub stop_ends : (words : List (List ℕ)) (before after : Outside) (stop : Stop) → Spells words (TellStop stop) → after.input ≡ before.input → CountStays before.files after.files → (r : Status) → Written (stop_text stop) before.output after.output before.error_output after.error_output r → Headline words before after r
+stop_ends words before after stop s same files r w = written_ends words before after (stop_text stop) (stop_told stop s) (λ n. in_stop stop n s) same files r w

@@ -1,5 +1,5 @@
 -- Which answers exclude which.
-use Rattle.std.proofs.Common.{◌≡◌, ◌↔◌, ◌∙◌, ◌==◌, ◌^◌, ◌-◌, inl, inr, ℕ, zero, suc, Bool, true, cond, List, [], ◌∷◌, ◌++◌, Option, None, Some, refl, sym, ap, ap₂, subst, arith}
+use Rattle.std.proofs.Common.{◌≡◌, ◌↔◌, ◌∙◌, ◌^◌, ◌-◌, inl, inr, ℕ, zero, suc, Bool, true, List, [], ◌∷◌, ◌++◌, Option, Some, refl, sym, ap, ap₂, subst}
 use Rattle.setl_io.specs.Files.{IsText}
 use Rattle.setl_model_runs.specs.Events.{Event, End}
 use Rattle.setl_model_runs.specs.Events as events
@@ -11,8 +11,9 @@ use Rattle.setl_model.specs.Step.{language, test_of}
 use Rattle.setl_program.specs.Program.{Program}
 use Rattle.setl_program.specs.ProgramOf.{program_of}
 use Rattle.setl_top.specs.Accepted.{IsProgram, Accepted, Refusal, IsRefusedFor}
-use Rattle.setl_top.specs.Headline.{AnyRose, ReadCause, load_failed, read_failed, InputLeft, untouched, read_from, WriteCause, print_failed, out_failed, err_failed, faulty_words, no_such_watcher, refused, checked, listed, run_ended, trial_refused, trial_ended, Job, IsInput, IsToRun, IsRun, IsTried, trial_output}
-use Rattle.setl_top.specs.Laws.{IsComplete, FaultyWordsReadNothing, WordsExactly, RefusesExactly, ChecksExactly, ListsExactly, TrialsReadNothing, TriesExactly, EndsExactly, TellsTexts}
+use Rattle.setl_top.specs.Headline.{AnyRose, ReadCause, load_failed, read_failed, InputLeft, untouched, read_from, WriteCause, print_failed, out_failed, err_failed, faulty_words, no_such_watcher, refused, checked, listed, explained, no_fault, stop_told, run_ended, trial_refused, trial_ended, Job, IsInput, IsToRun, IsTried, TellsRefusal, trial_output}
+use Rattle.setl_top.specs.Laws.{IsComplete, FaultyWordsReadNothing, WordsExactly, RefusesExactly, ChecksExactly, ListsExactly, ExplainsExactly, TrialsReadNothing, TriesExactly, EndsExactly, TellsTexts}
+use Rattle.setl_top.specs.Explained.{IsExplained}
 use Rattle.setl_top.specs.Listings.{IsListing}
 use Rattle.setl_top.specs.Outside.{Outside}
 use Rattle.setl_top.specs.Trials.{trial_source, trial_input, trial_line}
@@ -21,7 +22,7 @@ use Rattle.setl_top_status.specs.Ends.{status_of, error_line}
 use Rattle.setl_top_status.specs.Reasons.{reason_line}
 use Rattle.setl_top_status.specs.declared.status.Status.{Status}
 use Rattle.setl_top_status.specs.declared.status.Status.TheVariants.{Done, Refused, Words, Stopped, Spent, ReadFault, WriteFault, NoMemory}
-use Rattle.setl_top_words.specs.Words.{Command, Run, Check, Code, Trial, Spells, HasFile, RunsFile, watched_by, OneCommand}
+use Rattle.setl_top_words.specs.Words.{Command, Run, Check, Code, Explain, TellStop, Trial, Spells, HasFile, RunsFile, watched_by, OneCommand}
 use Rattle.setl_top.proofs.OneReason.{FrontLaws, one_reason, one_program_tree, not_refused}
 
 write_rose : (words : List (List ℕ)) (before after : Outside) (out telling : List ℕ) → WriteCause words before after out telling → AnyRose before after
@@ -82,12 +83,16 @@ abbrev input_for : Command → List ℕ
 input_for (Run o n) = []
 input_for (Check n) = []
 input_for (Code n) = []
+input_for (Explain n) = []
+input_for (TellStop k) = []
 input_for (Trial a b) = trial_input a b
 
 abbrev line_for : Command → List ℕ → List ℕ
 line_for (Run o n) printed = []
 line_for (Check n) printed = []
 line_for (Code n) printed = []
+line_for (Explain n) printed = []
+line_for (TellStop k) printed = []
 line_for (Trial a b) printed = trial_line a b printed
 
 module _ (one_command : OneCommand) where
@@ -95,6 +100,8 @@ module _ (one_command : OneCommand) where
   one_file (Run o a) n m f g = f ∙ sym g
   one_file (Check a) n m f g = f ∙ sym g
   one_file (Code a) n m f g = f ∙ sym g
+  one_file (Explain a) n m f g = f ∙ sym g
+  one_file (TellStop k) n m f g = absurd f
   one_file (Trial a b) n m f g = absurd f
 
   -- a run's file is its command's
@@ -102,6 +109,8 @@ module _ (one_command : OneCommand) where
   run_file (Run o a) n turns based h = h.0
   run_file (Check a) n turns based h = absurd h
   run_file (Code a) n turns based h = absurd h
+  run_file (Explain a) n turns based h = absurd h
+  run_file (TellStop k) n turns based h = absurd h
   run_file (Trial a b) n turns based h = absurd h
 
   -- what is to be run is what the command runs
@@ -148,9 +157,12 @@ module _ (one_command : OneCommand) where
   pub words_only : WordsExactly
   words_only words before _ _ _ _ (faulty_words told n tells) = ((λ _ c s t. n c s), λ _. refl)
   words_only words before _ _ _ _ (no_such_watcher c s none) = ((λ _ d s' there. not_there words before c d s s' none there), λ _. refl)
-  words_only words before _ _ _ _ (refused n x l q t r) = is_words Refused (λ e. absurd (cc)) (λ no. no q.command q.spelled q.there)
+  words_only words before _ _ _ _ (refused n x l q tells t r) = is_words Refused (λ e. absurd (cc)) (λ no. no q.command q.spelled q.there)
   words_only words before _ _ _ _ (checked n x tree s t p) = is_words Done (λ e. absurd (cc)) (λ no. no (Check n) s tt)
   words_only words before _ _ _ _ (listed text a) = is_words Done (λ e. absurd (cc)) (λ no. no (Code a.name) a.spelled tt)
+  words_only words before _ _ _ _ (explained text a) = is_words Refused (λ e. absurd (cc)) (λ no. no (Explain a.name) a.spelled tt)
+  words_only words before _ _ _ _ (no_fault n x tree s t p) = is_words Done (λ e. absurd (cc)) (λ no. no (Explain n) s tt)
+  words_only words before _ _ _ _ (stop_told k s) = is_words Done (λ e. absurd (cc)) (λ no. no (TellStop k) s tt)
   words_only words before _ _ _ _ (run_ended out err end status left r how) = is_words status (not_words end status how) (λ no. no r.asked.command r.asked.spelled r.asked.there)
   words_only words before _ _ _ _ (trial_refused a b line s r) = is_words Refused (λ e. absurd (cc)) (λ no. no (Trial a b) s tt)
   words_only words before _ _ _ _ (trial_ended line end status a how) = is_words status (not_words end status how) (λ no. no (Trial a.seed a.nodes) a.spelled tt)
@@ -170,28 +182,31 @@ module _ (one_command : OneCommand) where
       r.tells ∙ ap reason_line same ∙ sym q.tells
 
   pub refused_only : FrontLaws → RefusesExactly
-  refused_only laws words before texts c name source line _ _ _ _ t s f w h r (faulty_words told n tells) = absurd (n c s)
-  refused_only laws words before texts c name source line _ _ _ _ t s f w h r (no_such_watcher d s' none) = absurd (not_there words before d c s' s none w)
-  refused_only laws words before texts c name source line _ _ _ _ t s f w h r (refused n x l q t' r') =
+  refused_only laws words before texts c name source line _ _ _ _ t s f w y h r (faulty_words told n tells) = absurd (n c s)
+  refused_only laws words before texts c name source line _ _ _ _ t s f w y h r (no_such_watcher d s' none) = absurd (not_there words before d c s' s none w)
+  refused_only laws words before texts c name source line _ _ _ _ t s f w y h r (refused n x l q tells t' r') =
       let sources = one_source words before texts t q.command c n name x source q.spelled q.file t' s f (told_text before texts t name source h) in
-      (refl, refl, ap (λ y. y ++ 10 ∷ []) (one_line laws x source l line sources r' r), refl)
-  refused_only laws words before texts c name source line _ _ _ _ t s f w h r (checked n x tree s' t' p) =
+      (refl, refl, ap (λ z. z ++ 10 ∷ []) (one_line laws x source l line sources r' r), refl)
+  refused_only laws words before texts c name source line _ _ _ _ t s f w y h r (checked n x tree s' t' p) =
       let sources = one_source words before texts t (Check n) c n name x source s' refl t' s f (told_text before texts t name source h) in
-      absurd (not_refused laws source r.reason r.refused tree (subst (λ y. IsProgram y tree) sources p))
-  refused_only laws words before texts c name source line _ _ _ _ t s f w h r (listed text a) =
+      absurd (not_refused laws source r.reason r.refused tree (subst (λ z. IsProgram z tree) sources p))
+  refused_only laws words before texts c name source line _ _ _ _ t s f w y h r (listed text a) =
       let sources = one_source words before texts t (Code a.name) c a.name name a.source source a.spelled refl a.text s f (told_text before texts t name source h) in
       absurd (not_refused laws source r.reason r.refused a.tree (subst (λ y. IsProgram y a.tree) sources a.is_program))
-  refused_only laws words before texts c name source line _ _ _ _ t s f w h r (run_ended out err end status left q how) =
+  refused_only laws words before texts c name source line _ _ _ _ t s f w y h r (explained text a) = absurd (subst TellsRefusal (one_command words c (Explain a.name) s a.spelled) y)
+  refused_only laws words before texts c name source line _ _ _ _ t s f w y h r (no_fault n x tree s' t' p) = absurd (subst TellsRefusal (one_command words c (Explain n) s s') y)
+  refused_only laws words before texts c name source line _ _ _ _ t s f w y h r (stop_told k s') = absurd (subst TellsRefusal (one_command words c (TellStop k) s s') y)
+  refused_only laws words before texts c name source line _ _ _ _ t s f w y h r (run_ended out err end status left q how) =
       absurd (refused_not_run laws words before texts t q.job q.asked c name source line s f (told_text before texts t name source h) r)
-  refused_only laws words before texts c name source line _ _ _ _ t s f w h r (trial_refused a b l q x) = absurd (no_file words c name a b q s f)
-  refused_only laws words before texts c name source line _ _ _ _ t s f w h r (trial_ended l end status a x) = absurd (no_file words c name a.seed a.nodes a.spelled s f)
+  refused_only laws words before texts c name source line _ _ _ _ t s f w y h r (trial_refused a b l q x) = absurd (no_file words c name a b q s f)
+  refused_only laws words before texts c name source line _ _ _ _ t s f w y h r (trial_ended l end status a x) = absurd (no_file words c name a.seed a.nodes a.spelled s f)
 
   -- ---- checks
 
   pub checks_only : FrontLaws → ChecksExactly
   checks_only laws words before texts name source _ _ _ _ t s h (faulty_words told n tells) = absurd (n (Check name) s)
   checks_only laws words before texts name source _ _ _ _ t s h (no_such_watcher d s' none) = absurd (not_there words before d (Check name) s' s none tt)
-  checks_only laws words before texts name source _ _ _ _ t s h (refused n x l q t' r) =
+  checks_only laws words before texts name source _ _ _ _ t s h (refused n x l q tells t' r) =
       let sources = one_source words before texts t q.command (Check name) n name x source q.spelled q.file t' s refl (told_text before texts t name source h) in
       let moved = subst (λ y. IsRefusedFor y r.reason) sources r.refused in
       (((λ (e : Refused ≡ Done). absurd (cc)), λ p. absurd (not_refused laws source r.reason moved p.0 p.1)), refl, (λ (e : Refused ≡ Done). absurd (cc)), refl)
@@ -199,6 +214,9 @@ module _ (one_command : OneCommand) where
       let sources = one_source words before texts t (Check n) (Check name) n name x source s' refl t' s refl (told_text before texts t name source h) in
       (((λ _. (tree, subst (λ y. IsProgram y tree) sources p)), (λ _. refl)), refl, (λ _. refl), refl)
   checks_only laws words before texts name source _ _ _ _ t s h (listed text a) = let same = one_command words (Code a.name) (Check name) a.spelled s in absurd (cc)
+  checks_only laws words before texts name source _ _ _ _ t s h (explained text a) = let same = one_command words (Explain a.name) (Check name) a.spelled s in absurd (cc)
+  checks_only laws words before texts name source _ _ _ _ t s h (no_fault n x tree s' t' p) = let same = one_command words (Explain n) (Check name) s' s in absurd (cc)
+  checks_only laws words before texts name source _ _ _ _ t s h (stop_told k s') = let same = one_command words (TellStop k) (Check name) s' s in absurd (cc)
   checks_only laws words before texts name source _ _ _ _ t s h (run_ended out err end status left q how) = absurd (runs_so words before q.job (Check name) q.asked s)
   checks_only laws words before texts name source _ _ _ _ t s h (trial_refused a b l q r) = absurd (no_file words (Check name) name a b q s refl)
   checks_only laws words before texts name source _ _ _ _ t s h (trial_ended l end status a e) = absurd (no_file words (Check name) name a.seed a.nodes a.spelled s refl)
@@ -208,7 +226,7 @@ module _ (one_command : OneCommand) where
   pub lists_only : FrontLaws → ListsExactly
   lists_only laws words before texts name source _ _ _ _ t s h (faulty_words told n tells) = absurd (n (Code name) s)
   lists_only laws words before texts name source _ _ _ _ t s h (no_such_watcher d s' none) = absurd (not_there words before d (Code name) s' s none tt)
-  lists_only laws words before texts name source _ _ _ _ t s h (refused n x l q t' r) =
+  lists_only laws words before texts name source _ _ _ _ t s h (refused n x l q tells t' r) =
       let sources = one_source words before texts t q.command (Code name) n name x source q.spelled q.file t' s refl (told_text before texts t name source h) in
       let moved = subst (λ y. IsRefusedFor y r.reason) sources r.refused in
       (((λ (e : Refused ≡ Done). absurd (cc)), λ p. absurd (not_refused laws source r.reason moved p.0 p.1)), (λ tree p. absurd (not_refused laws source r.reason moved tree p)), inr (refl, refl), refl)
@@ -217,9 +235,34 @@ module _ (one_command : OneCommand) where
       let sources = one_source words before texts t (Code a.name) (Code name) a.name name a.source source a.spelled refl a.text s refl (told_text before texts t name source h) in
       let program = subst (λ y. IsProgram y a.tree) sources a.is_program in
       (((λ _. (a.tree, program)), (λ _. refl)), (λ tree p. (subst (λ y. IsListing y text) (one_program_tree laws source a.tree tree program p) a.is_listing, refl)), inl refl, refl)
+  lists_only laws words before texts name source _ _ _ _ t s h (explained text a) = let same = one_command words (Explain a.name) (Code name) a.spelled s in absurd (cc)
+  lists_only laws words before texts name source _ _ _ _ t s h (no_fault n x tree s' t' p) = let same = one_command words (Explain n) (Code name) s' s in absurd (cc)
+  lists_only laws words before texts name source _ _ _ _ t s h (stop_told k s') = let same = one_command words (TellStop k) (Code name) s' s in absurd (cc)
   lists_only laws words before texts name source _ _ _ _ t s h (run_ended out err end status left q how) = absurd (runs_so words before q.job (Code name) q.asked s)
   lists_only laws words before texts name source _ _ _ _ t s h (trial_refused a b l q r) = absurd (no_file words (Code name) name a b q s refl)
   lists_only laws words before texts name source _ _ _ _ t s h (trial_ended l end status a e) = absurd (no_file words (Code name) name a.seed a.nodes a.spelled s refl)
+
+  -- ---- explanations
+
+  pub explains_only : FrontLaws → ExplainsExactly
+  explains_only laws words before texts name source _ _ _ _ t s h (faulty_words told n tells) = absurd (n (Explain name) s)
+  explains_only laws words before texts name source _ _ _ _ t s h (no_such_watcher d s' none) = absurd (not_there words before d (Explain name) s' s none tt)
+  explains_only laws words before texts name source _ _ _ _ t s h (refused n x l q tells t' r) = absurd (subst TellsRefusal (one_command words q.command (Explain name) q.spelled s) tells)
+  explains_only laws words before texts name source _ _ _ _ t s h (checked n x tree s' t' p) = let same = one_command words (Check n) (Explain name) s' s in absurd (cc)
+  explains_only laws words before texts name source _ _ _ _ t s h (listed text a) = let same = one_command words (Code a.name) (Explain name) a.spelled s in absurd (cc)
+  explains_only laws words before texts name source _ _ _ _ t s h (explained text a) =
+      let sources = one_source words before texts t (Explain a.name) (Explain name) a.name name a.source source a.spelled refl a.text_of s refl (told_text before texts t name source h) in
+      let refused_so = subst (λ z. IsRefusedFor z a.reason) sources a.refused_for in
+      let is = subst (λ z. IsExplained z a.reason text) sources a.is_explained in
+      ((λ tree p. absurd (not_refused laws source a.reason refused_so tree p)), (λ why q. (refl, subst (λ z. IsExplained source z text) (one_reason laws source a.reason why refused_so q) is)), refl, refl)
+  explains_only laws words before texts name source _ _ _ _ t s h (no_fault n x tree s' t' p) =
+      let sources = one_source words before texts t (Explain n) (Explain name) n name x source s' refl t' s refl (told_text before texts t name source h) in
+      let program = subst (λ z. IsProgram z tree) sources p in
+      ((λ _ _. (refl, refl)), (λ why q. absurd (not_refused laws source why q tree program)), refl, refl)
+  explains_only laws words before texts name source _ _ _ _ t s h (stop_told k s') = let same = one_command words (TellStop k) (Explain name) s' s in absurd (cc)
+  explains_only laws words before texts name source _ _ _ _ t s h (run_ended out err end status left q how) = absurd (runs_so words before q.job (Explain name) q.asked s)
+  explains_only laws words before texts name source _ _ _ _ t s h (trial_refused a b l q r) = absurd (no_file words (Explain name) name a b q s refl)
+  explains_only laws words before texts name source _ _ _ _ t s h (trial_ended l end status a e) = absurd (no_file words (Explain name) name a.seed a.nodes a.spelled s refl)
 
   -- ---- runs
 
@@ -238,6 +281,8 @@ module _ (one_command : OneCommand) where
   one_turns (Run o x) n m s t a b h k = (h.1 ∙ sym k.1, h.2 ∙ sym k.2)
   one_turns (Check x) n m s t a b h k = absurd h
   one_turns (Code x) n m s t a b h k = absurd h
+  one_turns (Explain x) n m s t a b h k = absurd h
+  one_turns (TellStop x) n m s t a b h k = absurd h
   one_turns (Trial x y) n m s t a b h k = absurd h
 
   -- the words ask for one run
@@ -261,9 +306,12 @@ module _ (one_command : OneCommand) where
   pub ends_only : FrontLaws → OneMeaning → EndsExactly
   ends_only laws meaning words before texts input job said end _ _ _ _ t i a m (faulty_words told n tells) = absurd (n a.command a.spelled)
   ends_only laws meaning words before texts input job said end _ _ _ _ t i a m (no_such_watcher d s' none) = absurd (not_there words before d a.command s' a.spelled none a.there)
-  ends_only laws meaning words before texts input job said end _ _ _ _ t i a m (refused name source line q h r) = absurd (refused_not_run laws words before texts t job a q.command name source line q.spelled q.file h r)
+  ends_only laws meaning words before texts input job said end _ _ _ _ t i a m (refused name source line q tells h r) = absurd (refused_not_run laws words before texts t job a q.command name source line q.spelled q.file h r)
   ends_only laws meaning words before texts input job said end _ _ _ _ t i a m (checked n x tree s' t' p) = absurd (runs_so words before job (Check n) a s')
   ends_only laws meaning words before texts input job said end _ _ _ _ t i a m (listed text l) = absurd (runs_so words before job (Code l.name) a l.spelled)
+  ends_only laws meaning words before texts input job said end _ _ _ _ t i a m (explained text l) = absurd (runs_so words before job (Explain l.name) a l.spelled)
+  ends_only laws meaning words before texts input job said end _ _ _ _ t i a m (no_fault n x tree s' t' p) = absurd (runs_so words before job (Explain n) a s')
+  ends_only laws meaning words before texts input job said end _ _ _ _ t i a m (stop_told k s') = absurd (runs_so words before job (TellStop k) a s')
   ends_only laws meaning words before texts input job said end _ _ _ _ t i a m (trial_refused n k l q r) = absurd (runs_so words before job (Trial n k) a q)
   ends_only laws meaning words before texts input job said end _ _ _ _ t i a m (trial_ended l last how b e) = absurd (runs_so words before job (Trial b.seed b.nodes) a b.spelled)
   ends_only laws meaning words before texts input job said end _ _ _ _ t i a m (run_ended out err last status left r how) =
@@ -298,9 +346,12 @@ module _ (one_command : OneCommand) where
   pub tries_only : FrontLaws → OneMeaning → TriesExactly
   tries_only laws meaning words before line end _ _ _ _ a (faulty_words told n tells) = absurd (n (Trial a.seed a.nodes) a.spelled)
   tries_only laws meaning words before line end _ _ _ _ a (no_such_watcher d s none) = absurd (not_there words before d (Trial a.seed a.nodes) s a.spelled none tt)
-  tries_only laws meaning words before line end _ _ _ _ a (refused name source l q t r) = absurd (no_file words q.command name a.seed a.nodes a.spelled q.spelled q.file)
+  tries_only laws meaning words before line end _ _ _ _ a (refused name source l q tells t r) = absurd (no_file words q.command name a.seed a.nodes a.spelled q.spelled q.file)
   tries_only laws meaning words before line end _ _ _ _ a (checked name source tree s t p) = absurd (no_file words (Check name) name a.seed a.nodes a.spelled s refl)
   tries_only laws meaning words before line end _ _ _ _ a (listed text l) = absurd (no_file words (Code l.name) l.name a.seed a.nodes a.spelled l.spelled refl)
+  tries_only laws meaning words before line end _ _ _ _ a (explained text l) = absurd (no_file words (Explain l.name) l.name a.seed a.nodes a.spelled l.spelled refl)
+  tries_only laws meaning words before line end _ _ _ _ a (no_fault n x tree s t p) = absurd (no_file words (Explain n) n a.seed a.nodes a.spelled s refl)
+  tries_only laws meaning words before line end _ _ _ _ a (stop_told k s) = let same = one_command words (TellStop k) (Trial a.seed a.nodes) s a.spelled in absurd (cc)
   tries_only laws meaning words before line end _ _ _ _ a (run_ended out err last status left q how) = absurd (runs_so words before q.job (Trial a.seed a.nodes) q.asked a.spelled)
   tries_only laws meaning words before line end _ _ _ _ a (trial_refused n k l s r) = absurd (not_refused laws trial_source r.reason r.refused a.accepted.tree a.accepted.is_program)
   tries_only laws meaning words before line end _ _ _ _ a (trial_ended l last status b how) =

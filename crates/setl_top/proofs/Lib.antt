@@ -14,3 +14,4 @@ pub mod Reaching
 pub mod Running
 pub mod Trying
 pub mod Drawing
+pub mod ExplainedFiles

@@ -35,7 +35,7 @@ use Rattle.setl_top.specs.Moments as moments
 use Rattle.setl_top.specs.Moments.{AtState}
 use Rattle.setl_top.specs.code.Runs.{Streams, streams, counted, RunsTo, RunsInto, WritesInto, RunsToRead, RunsUpTo, Runs, TakesInput}
 use Rattle.setl_code_simulation.specs.Claims.{Ended}
-use Rattle.setl_watch.specs.Watches.{Watch, Watched, watched, told_all}
+use Rattle.setl_watch.specs.Watches.{Watch, watched, told_all}
 use Rattle.setl_top_words.specs.Words.{Options}
 use Rattle.setl_top_status.specs.FrontLaws.{appends_none}
 use Rattle.setl_top_status.specs.Seen.{Seen}

@@ -1,5 +1,5 @@
 -- What a call of the program answers, and what it does to the outside.
-use Rattle.std.specs.Prelude.{◌≡◌, ◌⊎◌, ◌<◌, ◌-◌, ◌^◌, ℕ, Bool, true, List, [], ◌∷◌, ◌++◌, length, take, Option, None, Some, ⊤, codes}
+use Rattle.std.specs.Prelude.{◌≡◌, ◌⊎◌, ◌<◌, ◌-◌, ◌^◌, ℕ, Bool, true, List, [], ◌∷◌, ◌++◌, length, take, Option, None, Some, ⊤}
 use Rattle.std.specs.Io.KnownBytes.{Appends, Consumes, prepend_known}
 use Rattle.setl_io.specs.Files.{IsText}
 use Rattle.setl_model_runs.specs.Events.{End}
@@ -7,7 +7,10 @@ use Rattle.setl_model_runs.specs.Events as run
 use Rattle.setl_model.specs.Means.{Means}
 use Rattle.setl_program.specs.Program.{Program}
 use Rattle.setl_tree.specs.declared.tree.Tree.{Tree}
-use Rattle.setl_top.specs.Accepted.{IsProgram, Accepted, Refusal}
+use Rattle.setl_explain_words.specs.Texts.{stop_text}
+use Rattle.setl_explain_words.specs.declared.stop.Stop.{Stop}
+use Rattle.setl_top.specs.Accepted.{IsProgram, Accepted, Refusal, IsRefusedFor}
+use Rattle.setl_top.specs.Explained.{IsExplained}
 use Rattle.setl_top.specs.Listings.{IsListing}
 use Rattle.setl_top.specs.Moments.{AtState, AtPrint, AtRead}
 use Rattle.setl_top.specs.Outside.{Outside}
@@ -18,10 +21,11 @@ use Rattle.setl_top_status.specs.Lines.{AppendsFronts, fault_line}
 use Rattle.setl_top_status.specs.Seen.{CountRose, CountStays}
 use Rattle.setl_top_status.specs.declared.fault.Fault.{Fault}
 use Rattle.setl_top_status.specs.declared.fault.Fault.TheVariants as fault
+use Rattle.setl_top_status.specs.declared.reason.Reason.{Reason}
 use Rattle.setl_top_status.specs.declared.status.Status.{Status}
 use Rattle.setl_top_status.specs.declared.status.Status.TheVariants.{Done, Refused, Words, Stopped, Spent, ReadFault, WriteFault, NoMemory}
 use Rattle.setl_watch.specs.Watches.{Watch}
-use Rattle.setl_top_words.specs.Words.{Command, Check, Code, Trial, Spells, HasFile, RunsFile, watched_by, IsFaulty}
+use Rattle.setl_top_words.specs.Words.{Command, Run, Check, Code, Explain, TellStop, Trial, Spells, HasFile, RunsFile, watched_by, IsFaulty}
 use Rattle.setl_top_words.specs.Told.{TellsFaulty}
 
 -- ---- what the words ask for
@@ -69,6 +73,25 @@ pub record IsToList (words : List (List ℕ)) (before : Outside) (listed : List 
   pub text : IsText before.files.held name source
   pub is_program : IsProgram source tree
   pub is_listing : IsListing tree listed
+
+-- a command that tells on the error output why a source is refused; an explanation writes it to the output
+abbrev pub TellsRefusal : Command → Type 0
+TellsRefusal (Run options name) = ⊤
+TellsRefusal (Check name) = ⊤
+TellsRefusal (Code name) = ⊤
+TellsRefusal (Explain name) = ⊥
+TellsRefusal (TellStop stop) = ⊥
+TellsRefusal (Trial seed nodes) = ⊤
+
+-- the words ask for the explanation of a source that is refused, and this is it
+pub record IsToExplain (words : List (List ℕ)) (before : Outside) (text : List ℕ) : Type 0 where
+  pub name : List ℕ
+  pub source : List ℕ
+  pub reason : Reason
+  pub spelled : Spells words (Explain name)
+  pub text_of : IsText before.files.held name source
+  pub refused_for : IsRefusedFor source reason
+  pub is_explained : IsExplained source reason text
 
 -- the words ask for a trial, the run of its program on its input ends so with its declarations, and this is the trial's line
 pub record IsTried (words : List (List ℕ)) (line : List ℕ) (end : End) : Type 0 where
@@ -128,9 +151,12 @@ trial_output run.Stuck line = []
 pub data Answers (words : List (List ℕ)) (before : Outside) : Status → List ℕ → List ℕ → Option (List ℕ) → Type 0 where
   faulty_words : (told : List ℕ) → IsFaulty words → TellsFaulty words told → Answers words before Words [] told before.input.held
   no_such_watcher : (command : Command) → Spells words command → (IsThere (watched_by command) before.watchers → ⊥) → Answers words before Words [] no_watcher_line before.input.held
-  refused : (name source line : List ℕ) → IsToLoad words before name → IsText before.files.held name source → Refusal source line → Answers words before Refused [] (line ++ 10 ∷ []) before.input.held
+  refused : (name source line : List ℕ) → (asked : IsToLoad words before name) → TellsRefusal asked.command → IsText before.files.held name source → Refusal source line → Answers words before Refused [] (line ++ 10 ∷ []) before.input.held
   checked : (name source : List ℕ) (tree : Tree) → Spells words (Check name) → IsText before.files.held name source → IsProgram source tree → Answers words before Done [] [] before.input.held
   listed : (text : List ℕ) → IsToList words before text → Answers words before Done text [] before.input.held
+  explained : (text : List ℕ) → IsToExplain words before text → Answers words before Refused text [] before.input.held
+  no_fault : (name source : List ℕ) (tree : Tree) → Spells words (Explain name) → IsText before.files.held name source → IsProgram source tree → Answers words before Done [] [] before.input.held
+  stop_told : (stop : Stop) → Spells words (TellStop stop) → Answers words before Done (stop_text stop) [] before.input.held
   run_ended : (out err : List ℕ) (end : End) (status : Status) (left : Option (List ℕ)) → IsRun words before out err end left → status_of end ≡ Some status → Answers words before status out err left
   trial_refused : (seed nodes : ℕ) (line : List ℕ) → Spells words (Trial seed nodes) → Refusal trial_source line → Answers words before Refused [] (line ++ 10 ∷ []) before.input.held
   trial_ended : (line : List ℕ) (end : End) (status : Status) → IsTried words line end → status_of end ≡ Some status → Answers words before status (trial_output end line) (error_line end) before.input.held
@@ -153,13 +179,15 @@ pub record Ended (words : List (List ℕ)) (before after : Outside) (status : St
 
 -- ---- a call that is broken off
 
--- some of a listing or of a trial's line, and not all of it
+-- some of a listing, of an explanation, of the text of a stop or of a trial's line, and not all of it
 pub data UpToWrite (words : List (List ℕ)) (before : Outside) : List ℕ → Type 0 where
   in_listing : (text : List ℕ) (n : ℕ) → IsToList words before text → n < length text → UpToWrite words before (take n text)
+  in_explanation : (text : List ℕ) (n : ℕ) → IsToExplain words before text → n < length text → UpToWrite words before (take n text)
+  in_stop : (stop : Stop) (n : ℕ) → Spells words (TellStop stop) → n < length (stop_text stop) → UpToWrite words before (take n (stop_text stop))
   in_trial : (line : List ℕ) (n : ℕ) → IsTried words line run.Done → n < length line → UpToWrite words before (take n line)
 
 -- anywhere: nothing, the output of a state, the output up to a print with some of its line, and not all of it, or what
--- stands where a listing or a trial's line is being written
+-- stands where a text is being written
 pub data UpToAny (words : List (List ℕ)) (before : Outside) : List ℕ → Type 0 where
   no_program : UpToAny words before []
   at_state : (out : List ℕ) → IsAtState words before out → UpToAny words before out
@@ -208,7 +236,7 @@ pub record PrintFailed (words : List (List ℕ)) (before after : Outside) (out l
   pub files : CountStays before.files after.files
   pub input : CountStays before.input after.input
 
--- the output failed in a listing or in a trial's line, nothing else did, and the input is as before
+-- the output failed in a text that was being written, nothing else did, and the input is as before
 pub record TextFailed (words : List (List ℕ)) (before after : Outside) (out : List ℕ) : Type 0 where
   pub rose : CountRose before.output after.output
   pub writing : UpToWrite words before out
@@ -279,6 +307,10 @@ CheckLeavesRest words before after = (name : List ℕ) → Spells words (Check n
 -- a listing leaves the input as it was, however it ends
 abbrev pub ListingLeavesInput : List (List ℕ) → Outside → Outside → Type 0
 ListingLeavesInput words before after = (name : List ℕ) → Spells words (Code name) → after.input ≡ before.input
+
+-- an explanation leaves the input as it was, however it ends
+abbrev pub ExplanationLeavesInput : List (List ℕ) → Outside → Outside → Type 0
+ExplanationLeavesInput words before after = (name : List ℕ) → Spells words (Explain name) → after.input ≡ before.input
 
 -- a trial leaves the files and the input as they were, however it ends
 pub record LeavesFilesAndInput (before after : Outside) : Type 0 where

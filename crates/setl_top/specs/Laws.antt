@@ -6,7 +6,8 @@ use Rattle.setl_model.specs.Means.{Means}
 use Rattle.setl_program.specs.Program.{Program}
 use Rattle.setl_tree.specs.declared.tree.Tree.{Tree}
 use Rattle.setl_top.specs.Accepted.{IsProgram, Accepted, IsRefusedFor, Refusal}
-use Rattle.setl_top.specs.Headline.{Headline, InputLeft, Ended, AnyRose, Answers, Job, IsToLoad, IsToRun, IsTried, trial_output}
+use Rattle.setl_top.specs.Headline.{Headline, InputLeft, Ended, AnyRose, Answers, Job, IsToRun, IsTried, TellsRefusal, trial_output}
+use Rattle.setl_top.specs.Explained.{IsExplained}
 use Rattle.setl_top.specs.Listings.{IsListing}
 use Rattle.setl_top.specs.Outside.{Outside}
 use Rattle.setl_top.specs.Watching.{IsThere, IsNoRequest, reports_of}
@@ -16,7 +17,7 @@ use Rattle.setl_top_status.specs.declared.reason.Reason.{Reason}
 use Rattle.setl_top_status.specs.declared.status.Status.{Status}
 use Rattle.setl_top_status.specs.declared.status.Status.TheVariants.{NoMemory, ReadFault, Refused, WriteFault}
 use Rattle.setl_top_status.specs.declared.status.Status.TheVariants as ended
-use Rattle.setl_top_words.specs.Words.{Command, Check, Code, Trial, Spells, HasFile, watched_by}
+use Rattle.setl_top_words.specs.Words.{Command, Check, Code, Explain, Trial, Spells, HasFile, watched_by}
 
 -- ---- sources
 
@@ -78,7 +79,7 @@ TellsTexts before texts = before.files.held ≡ Some texts
 
 abbrev pub RefusesExactly : Type 0
 RefusesExactly = (words : List (List ℕ)) (before : Outside) (texts : List ℕ → Option (List ℕ)) (command : Command) (name source line : List ℕ) (status : Status) (out err : List ℕ) (left : Option (List ℕ)) →
-    TellsTexts before texts → Spells words command → HasFile command name → IsThere (watched_by command) before.watchers → texts name ≡ Some source → Refusal source line → Answers words before status out err left →
+    TellsTexts before texts → Spells words command → HasFile command name → IsThere (watched_by command) before.watchers → TellsRefusal command → texts name ≡ Some source → Refusal source line → Answers words before status out err left →
     (status ≡ Refused) × (out ≡ []) × (err ≡ line ++ 10 ∷ []) × (left ≡ before.input.held)
 
 -- a check is done exactly where the source is a program, and then nothing is told
@@ -97,6 +98,13 @@ ListsExactly = (words : List (List ℕ)) (before : Outside) (texts : List ℕ �
 -- each program has a listing, and only one
 abbrev pub OneListing : Type 0
 OneListing = (tree : Tree) → (text : List ℕ) × IsListing tree text × ((other : List ℕ) → IsListing tree other → other ≡ text)
+
+-- An explanation is done exactly where the source is a program, and then writes nothing; otherwise the source is refused, and
+-- what is written is the explanation of its reason. Nothing is told on the error output.
+abbrev pub ExplainsExactly : Type 0
+ExplainsExactly = (words : List (List ℕ)) (before : Outside) (texts : List ℕ → Option (List ℕ)) (name source : List ℕ) (status : Status) (out err : List ℕ) (left : Option (List ℕ)) →
+    TellsTexts before texts → Spells words (Explain name) → texts name ≡ Some source → Answers words before status out err left →
+    ((tree : Tree) → IsProgram source tree → (status ≡ ended.Done) × (out ≡ [])) × ((reason : Reason) → IsRefusedFor source reason → (status ≡ Refused) × IsExplained source reason out) × (err ≡ []) × (left ≡ before.input.held)
 
 -- a trial never answers a read fault
 abbrev pub TrialsReadNothing : Type 0

@@ -1,6 +1,7 @@
 pub mod Accepted
 pub mod Moments
 pub mod Listings
+pub mod Explained
 pub mod Trials
 pub mod Watching
 pub mod Outside

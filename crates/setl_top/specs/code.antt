@@ -3,4 +3,5 @@ pub mod CodeRuns
 pub mod Tells
 pub mod Loads
 pub mod Lists
+pub mod Explains
 pub mod Tries

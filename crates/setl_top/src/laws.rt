@@ -1,5 +1,5 @@
 //! What follows from the headline and the definitions alone. The functions have no effect: each states a law.
-ghost use Rattle.setl_top.specs.Laws.{IsComplete, FaultyWordsReadNothing, WordsExactly, RefusesExactly, ChecksExactly, ListsExactly, OneListing, TrialsReadNothing, TriesExactly, EndsExactly, AcceptedRunsEnd, NoAcceptedRunIsStuck, EitherProgramOrRefused, NotProgramAndRefused, OneTree, OneReason, FailedLoadEnds, FailedReadEnds, FailedWriteEnds};
+ghost use Rattle.setl_top.specs.Laws.{IsComplete, FaultyWordsReadNothing, WordsExactly, RefusesExactly, ChecksExactly, ListsExactly, OneListing, ExplainsExactly, TrialsReadNothing, TriesExactly, EndsExactly, AcceptedRunsEnd, NoAcceptedRunIsStuck, EitherProgramOrRefused, NotProgramAndRefused, OneTree, OneReason, FailedLoadEnds, FailedReadEnds, FailedWriteEnds};
 
 /// Each source, whatever its bytes, is a program with one tree or is refused for one reason, and not both.
 pub fn program_or_refusal()
@@ -79,6 +79,18 @@ pub fn each_program_has_one_listing()
     ensures { OneListing }
 {
     setl_code_marked::each_code_has_one_marked_code();
+}
+
+/// Where the texts are told, an explanation that came to its end is done exactly where the source is a program, and the output
+/// has then gained nothing; otherwise the source is refused, and the output has gained the explanation of the reason. The
+/// error output gains nothing, and the input is left as it was.
+pub fn explains_exactly()
+    ensures { ExplainsExactly }
+{
+    setl_top_words::one_command();
+    setl_token::lexing_is_determined();
+    setl_parse_reading::tree_is_unique();
+    setl_parse::one_fault();
 }
 
 /// A trial never answers that a read failed.

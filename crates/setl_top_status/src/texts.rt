@@ -1,7 +1,7 @@
 //! The text of a source that is loaded, and a text that is written.
-ghost use Rattle.std.specs.Prelude.{IfOk, IfErr, OnOk};
+ghost use Rattle.std.specs.Prelude.{vec_items, IfOk, IfErr, OnOk};
 ghost use Rattle.setl_top_status.specs.Seen.{seen};
-ghost use Rattle.setl_top_status.specs.code.Loads.{HasText, IsStill, NoText};
+ghost use Rattle.setl_top_status.specs.code.Loads.{FoundText, HasText, IsStill, NotRead, NoText};
 ghost use Rattle.setl_top_status.specs.code.Writes.{Written};
 
 use crate::lines::break_off;
@@ -29,6 +29,26 @@ pub fn load_source<F: Files, E: Sink>(
     match files.load(name, MAX_SOURCE, &mut source) {
         Load::Loaded => Ok(source),
         Load::TooLong => Err(refuse(alloc, err, Reason::TooLong)),
+        Load::Failed => Err(break_off(err, Fault::Read)),
+        Load::NoMemory => Err(break_off(err, Fault::NoMemory)),
+    }
+}
+
+/// Loads the text of a file; none where it is too long, which isn't told. At `Err` the fault's line was tried.
+pub fn load_text<F: Files, E: Sink>(
+    alloc: Global,
+    name: &str,
+    files: &mut F,
+    err: &mut E,
+) -> Result<Option<Vec<u8>>, Status>
+    ensures loaded { IfOk result (λ text. FoundText vec_items (F.texts files.old) name.now text) }
+    ensures still { OnOk result (IsStill (seen F.texts F.faults files.old) (seen F.texts F.faults files.new) (seen E.held E.faults err.old) (seen E.held E.faults err.new)) }
+    ensures not_read { IfErr result (NotRead (seen F.texts F.faults files.old) (seen F.texts F.faults files.new) (seen E.held E.faults err.old) (seen E.held E.faults err.new)) }
+{
+    let mut source = Vec::new(alloc);
+    match files.load(name, MAX_SOURCE, &mut source) {
+        Load::Loaded => Ok(Some(source)),
+        Load::TooLong => Ok(None),
         Load::Failed => Err(break_off(err, Fault::Read)),
         Load::NoMemory => Err(break_off(err, Fault::NoMemory)),
     }

@@ -10,6 +10,8 @@ mod calls;
 #[cfg(test)]
 mod declarations;
 #[cfg(test)]
+mod explanations;
+#[cfg(test)]
 mod faults;
 #[cfg(test)]
 mod inputs;

@@ -28,6 +28,15 @@ run_app = with_rule (with_rule (with_rule (with_rule (new_app (codes "run")) unb
 abbrev pub file_app : List ℕ → App
 file_app name = with_rule (new_app name) file_rule
 
+abbrev pub stop_rule : Rule
+stop_rule = record (new_rule (codes "stop")) { long = Some (codes "stop"); value_names = 1 }
+
+abbrev pub explained_rule : Rule
+explained_rule = record (new_rule (codes "file")) { value_names = 1 }
+
+abbrev pub explain_app : App
+explain_app = with_rule (with_rule (new_app (codes "explain")) stop_rule) explained_rule
+
 abbrev pub trial_app : App
 trial_app = with_rule (with_rule (new_app (codes "trial")) seed_rule) nodes_rule
 
@@ -36,4 +45,4 @@ abbrev pub empty_app : App
 empty_app = let a = new_app (codes "setl") in record a { top = record a.top { no_binary_name = true; subcommand_required = true } }
 
 abbrev pub setl_app : App
-setl_app = with_subcommand (with_subcommand (with_subcommand (with_subcommand empty_app run_app.top) (file_app (codes "check")).top) (file_app (codes "code")).top) trial_app.top
+setl_app = with_subcommand (with_subcommand (with_subcommand (with_subcommand (with_subcommand empty_app run_app.top) (file_app (codes "check")).top) (file_app (codes "code")).top) explain_app.top) trial_app.top

@@ -6,6 +6,8 @@ use Rattle.setl_top_options.specs.declared.given.RunOption.{RunOption}
 use Rattle.setl_top_options.specs.declared.given.RunOption.TheVariants.{Unbased, Turns, Watch}
 use Rattle.setl_top_options.specs.declared.watching.Asked.{Asked}
 use Rattle.setl_top_options.specs.declared.watching.Asked.TheVariants.{Trace, Cover, Profile}
+use Rattle.setl_explain_words.specs.Stops.{stop_name}
+use Rattle.setl_explain_words.specs.declared.stop.Stop.{Stop}
 
 -- a file's name isn't empty and doesn't begin with a dash
 abbrev pub IsFile : List ℕ → Type 0
@@ -69,12 +71,14 @@ options_of given = fold with_option default_options given
 
 -- ---- the commands
 
--- what the words ask for: to run a source, to check it, to list its code, or to try the program of a trial on an input
--- that is drawn from a seed, with so many nodes
+-- what the words ask for: to run a source, to check it, to list its code, to explain why it is refused, to tell what a
+-- stop means, or to try the program of a trial on an input that is drawn from a seed, with so many nodes
 pub data Command : Type 0 where
   Run : (options : Options) → (name : List ℕ) → Command
   Check : (name : List ℕ) → Command
   Code : (name : List ℕ) → Command
+  Explain : (name : List ℕ) → Command
+  TellStop : (stop : Stop) → Command
   Trial : (seed nodes : ℕ) → Command
 
 -- the words of a run: its options in any order, and last the file
@@ -97,6 +101,8 @@ abbrev pub Spells : List (List ℕ) → Command → Type 0
 Spells words (Run options name) = SpellsRun words options name
 Spells words (Check name) = (words ≡ codes "check" ∷ name ∷ []) × IsFile name
 Spells words (Code name) = (words ≡ codes "code" ∷ name ∷ []) × IsFile name
+Spells words (Explain name) = (words ≡ codes "explain" ∷ name ∷ []) × IsFile name
+Spells words (TellStop stop) = words ≡ codes "explain" ∷ codes "--stop" ∷ stop_name stop ∷ []
 Spells words (Trial seed nodes) = SpellsTrial words seed nodes
 
 -- the file whose text a command reads, if it reads one
@@ -104,6 +110,8 @@ abbrev pub HasFile : Command → List ℕ → Type 0
 HasFile (Run options name) file = file ≡ name
 HasFile (Check name) file = file ≡ name
 HasFile (Code name) file = file ≡ name
+HasFile (Explain name) file = file ≡ name
+HasFile (TellStop stop) file = ⊥
 HasFile (Trial seed nodes) file = ⊥
 
 -- A command runs the program of this file. `turns` bounds the turns of the run, and `based` says whether the
@@ -112,6 +120,8 @@ abbrev pub RunsFile : Command → List ℕ → ℕ → Bool → Type 0
 RunsFile (Run options name) file turns based = (file ≡ name) × (turns ≡ options.turns) × (based ≡ options.based)
 RunsFile (Check name) file turns based = ⊥
 RunsFile (Code name) file turns based = ⊥
+RunsFile (Explain name) file turns based = ⊥
+RunsFile (TellStop stop) file turns based = ⊥
 RunsFile (Trial seed nodes) file turns based = ⊥
 
 -- the watcher that a command asks for, if it asks for one
@@ -119,6 +129,8 @@ abbrev pub watched_by : Command → Option Asked
 watched_by (Run options name) = options.watch
 watched_by (Check name) = None
 watched_by (Code name) = None
+watched_by (Explain name) = None
+watched_by (TellStop stop) = None
 watched_by (Trial seed nodes) = None
 
 -- the words are of no plain form

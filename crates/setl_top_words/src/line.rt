@@ -1,7 +1,7 @@
 //! The command line as `clap` is told of it.
 ghost use Rattle.std.specs.Prelude.{◌≡◌, false, IfOk};
 ghost use Rattle.clap.specs.Words.{App, Rule, app_of, rule_of, with_rule, with_subcommand};
-ghost use Rattle.setl_top_words.specs.Line.{unbased_rule, turns_rule, watch_rule, file_rule, seed_rule, nodes_rule, run_app, file_app, trial_app, empty_app, setl_app};
+ghost use Rattle.setl_top_words.specs.Line.{unbased_rule, turns_rule, watch_rule, file_rule, seed_rule, nodes_rule, stop_rule, explained_rule, run_app, file_app, explain_app, trial_app, empty_app, setl_app};
 ghost use Rattle.setl_top_words.specs.code.Builds.{Builds};
 
 use clap::{Arg, ArgAction, Command, value_parser};
@@ -49,6 +49,26 @@ fn file<'a>(alloc: Global) -> Arg<'a>
     Arg::new(alloc, "file")
         .value_name("FILE")
         .required(true)
+        .help("The source")
+}
+
+/// The option `--stop`.
+fn stop<'a>(alloc: Global) -> Arg<'a>
+    ensures rule { rule_of result ≡ stop_rule }
+    ensures local { result.global ≡ false }
+{
+    Arg::new(alloc, "stop").long("stop").value_name("NAME").help(
+        "Tell what a stop of a run means: om, kind, zero, range, wide, deep, form, nothing or value",
+    )
+}
+
+/// The file of an explanation.
+fn explained<'a>(alloc: Global) -> Arg<'a>
+    ensures rule { rule_of result ≡ explained_rule }
+    ensures local { result.global ≡ false }
+{
+    Arg::new(alloc, "file")
+        .value_name("FILE")
         .help("The source")
 }
 
@@ -121,6 +141,17 @@ fn with_file<'a>(alloc: Global, name: &'a str, about: &'a str) -> Result<Command
     with_arg(Ok(command), file(alloc))
 }
 
+/// The command `explain`.
+fn explain<'a>(alloc: Global) -> Result<Command<'a>, AllocError>
+    ensures { Builds explain_app result }
+{
+    let command = Command::new(alloc, "explain").about(
+        "Explain why a source is refused, or what a stop means",
+    );
+    let command = with_arg(Ok(command), stop(alloc));
+    with_arg(command, explained(alloc))
+}
+
 /// The command `trial`.
 fn trial<'a>(alloc: Global) -> Result<Command<'a>, AllocError>
     ensures { Builds trial_app result }
@@ -150,5 +181,6 @@ pub(crate) fn commands<'a>(alloc: Global) -> Result<Command<'a>, AllocError>
         command,
         with_file(alloc, "code", "List the code of a program"),
     );
+    let command = with_command(command, explain(alloc));
     with_command(command, trial(alloc))
 }

@@ -3,12 +3,14 @@ ghost use Rattle.std.specs.Prelude.{◌≡◌, ◌≢◌, ◌∷◌, ◌++◌, [
 ghost use Rattle.setl_top_words.specs.code.Commands.{command_of};
 ghost use Rattle.setl_top_words.specs.Words.{Spells, IsFaulty};
 
+use crate::explain::read_explain;
 use crate::given::read_options;
-use crate::single::{is_check, is_code, is_file, is_run, is_trial};
+use crate::single::{is_check, is_code, is_explain, is_file, is_run, is_trial};
 use crate::trial::read_trial;
+use setl_explain_words::Stop;
 use setl_top_options::{Given, Options};
 
-/// What the words ask for, with the name of the file, or with the numbers of a trial.
+/// What the words ask for, with the name of the file, with a stop, or with the numbers of a trial.
 #[derive(Clone, Copy, Debug, PartialEq, Eq)]
 pub enum Command<'a> {
     /// The program of the file is to be run.
@@ -17,6 +19,10 @@ pub enum Command<'a> {
     Check(&'a str),
     /// The code of the program of the file is to be listed.
     Code(&'a str),
+    /// Why the source in the file is refused is to be explained.
+    Explain(&'a str),
+    /// What a stop means is to be told.
+    TellStop(Stop),
     /// The program of a trial is to be run on an input that is drawn from a seed below 2^63, with 1 to 2000 nodes.
     Trial(u64, u64),
 }
@@ -40,6 +46,9 @@ pub fn read_words(words: &[String]) -> Option<Command<'_>>
     if is_trial(word) {
         let (seed, nodes) = read_trial(between, name)?;
         return Some(Command::Trial(seed, nodes));
+    }
+    if is_explain(word) {
+        return read_explain(between, name);
     }
     if !is_file(name) {
         return None;

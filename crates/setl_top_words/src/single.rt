@@ -23,6 +23,20 @@ pub(crate) fn is_code(word: &str) -> bool
     word == "code"
 }
 
+/// Whether a word is that of an explanation.
+pub(crate) fn is_explain(word: &str) -> bool
+    ensures { IsTrue result ↔ (word.now ≡ codes "explain") }
+{
+    word == "explain"
+}
+
+/// Whether a word is the option whose value is a stop.
+pub(crate) fn is_stop(word: &str) -> bool
+    ensures { IsTrue result ↔ (word.now ≡ codes "--stop") }
+{
+    word == "--stop"
+}
+
 /// Whether a word is that of a trial.
 pub(crate) fn is_trial(word: &str) -> bool
     ensures { IsTrue result ↔ (word.now ≡ codes "trial") }

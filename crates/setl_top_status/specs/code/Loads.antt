@@ -1,5 +1,5 @@
 -- What becomes of a text that is to be loaded, by what is seen of the files and of the error output before and after.
-use Rattle.std.specs.Prelude.{◌≡◌, ◌<◌, ◌≤◌, ◌^◌, ℕ, List, length, [], ◌∷◌, ◌++◌, Option}
+use Rattle.std.specs.Prelude.{◌≡◌, ◌<◌, ◌≤◌, ◌^◌, ℕ, List, length, [], ◌∷◌, ◌++◌, Option, Some, None}
 use Rattle.setl_io.specs.Files.{Texts, IsText}
 use Rattle.setl_top_status.specs.Lines.{AppendsFront, fault_line}
 use Rattle.setl_top_status.specs.Reasons.{reason_line}
@@ -23,6 +23,16 @@ pub record HasText (texts : Texts) (name source : List ℕ) : Type 0 where
 pub record IsStill (files files' : SeenFiles) (err err' : Seen (List ℕ)) : Type 0 where
   pub count : CountStays files files'
   pub same : err' ≡ err
+
+-- the text of a file that was loaded, or that it is too long
+abbrev pub FoundText : {T : Type 0} → (T → List ℕ) → Texts → (name : List ℕ) → Option T → Type 0
+FoundText items texts name (Some source) = HasText texts name (items source)
+FoundText items texts name None = (source : List ℕ) × IsText texts name source × (2 ^ 24 < length source)
+
+-- why a text wasn't read, and what was told of it
+pub data NotRead (files files' : SeenFiles) (err err' : Seen (List ℕ)) : Status → Type 0 where
+  failed_read : CountRose files files' → AppendsFront err.held err'.held (fault_line fault.Read) → NotRead files files' err err' status.ReadFault
+  starved_read : CountStays files files' → AppendsFront err.held err'.held (fault_line fault.NoMemory) → NotRead files files' err err' status.NoMemory
 
 -- why there is no text, and what was told of it
 pub data NoText (name : List ℕ) (files files' : SeenFiles) (err err' : Seen (List ℕ)) : Status → Type 0 where

@@ -1,4 +1,4 @@
-use Rattle.std.proofs.Common.{◌≡◌, refl, arith}
+use Rattle.std.proofs.Common.{refl, arith}
 use Rattle.setl_top.specs.Trials.{trial_lines, trial_source}
 use Rattle.setl_top.proofs.generated.trial_source.Goals as goal
 

@@ -13,7 +13,7 @@ use Rattle.setl_top.proofs.Running.{runs_or, runs_as, takes_as, not_paused, not_
 use Rattle.setl_top.proofs.top.run_file.Goals as goal
 
 pub returns-in-Err : goal.returns-in-Err
-returns-in-Err g c = record { headline = λ words handed s there kept. not_loaded words _ _ (Run (options_now c.args.asked) c.args.name.now) c.args.name.now s refl there (record { input = refl; output = refl }) _ c.in-Err.ensures.not_loaded; input = λ words handed s there kept. untouched refl }
+returns-in-Err g c = record { headline = λ words handed s there kept. not_loaded words _ _ (Run (options_now c.args.asked) c.args.name.now) c.args.name.now s refl tt there (record { input = refl; output = refl }) _ c.in-Err.ensures.not_loaded; input = λ words handed s there kept. untouched refl }
 
 pub run_program-requires : goal.run_program-requires
 run_program-requires g c =

@@ -1,6 +1,6 @@
 use Rattle.std.proofs.Common.{refl}
 use Rattle.setl_top.specs.Headline.{untouched}
-use Rattle.setl_top.proofs.Ends.{faulty_ends, check_ends, list_ends}
+use Rattle.setl_top.proofs.Ends.{faulty_ends, check_ends, list_ends, explain_ends, stop_ends}
 use Rattle.setl_top.proofs.Asked.{turns_asked}
 use Rattle.setl_top.proofs.Trying.{trial_ends}
 use Rattle.setl_top.proofs.top.setl.Goals as goal
@@ -29,6 +29,14 @@ pub returns-in-Some-Code-clause-headline : goal.returns-in-Some-Code-clause-head
 returns-in-Some-Code-clause-headline g c =
     list_ends _ _ _ _ (rw c.in-Some-Code.field-0-is at c.in-Some-Code.ensures.plain) refl _ c.list_file.ensures
 
+pub returns-in-Some-Explain-clause-headline : goal.returns-in-Some-Explain-clause-headline
+returns-in-Some-Explain-clause-headline g c =
+    explain_ends _ _ _ _ (rw c.in-Some-Explain.field-0-is at c.in-Some-Explain.ensures.plain) refl _ c.explain_file.ensures
+
+pub returns-in-Some-TellStop-clause-headline : goal.returns-in-Some-TellStop-clause-headline
+returns-in-Some-TellStop-clause-headline g c =
+    stop_ends _ _ _ _ (rw c.in-Some-TellStop.field-0-is at c.in-Some-TellStop.ensures.plain) refl refl _ c.tell_stop.ensures
+
 pub returns-in-Some-Trial-clause-headline : goal.returns-in-Some-Trial-clause-headline
 returns-in-Some-Trial-clause-headline g c =
     trial_ends _ _ _ _ _ (rw c.in-Some-Trial.field-0-is at c.in-Some-Trial.ensures.plain) (record { files = refl; input = refl }) _ c.run_trial.ensures
@@ -44,6 +52,12 @@ returns-in-Some-Check-clause-input g c = untouched refl
 
 pub returns-in-Some-Code-clause-input : goal.returns-in-Some-Code-clause-input
 returns-in-Some-Code-clause-input g c = untouched refl
+
+pub returns-in-Some-Explain-clause-input : goal.returns-in-Some-Explain-clause-input
+returns-in-Some-Explain-clause-input g c = untouched refl
+
+pub returns-in-Some-TellStop-clause-input : goal.returns-in-Some-TellStop-clause-input
+returns-in-Some-TellStop-clause-input g c = untouched refl
 
 pub returns-in-Some-Trial-clause-input : goal.returns-in-Some-Trial-clause-input
 returns-in-Some-Trial-clause-input g c = untouched refl

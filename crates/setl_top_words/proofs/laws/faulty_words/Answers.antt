@@ -10,7 +10,7 @@ use Rattle.setl_top_options.specs.declared.watching.Asked.{Asked}
 use Rattle.setl_top_options.specs.declared.watching.Asked.TheVariants.{Trace, Cover, Profile}
 use Rattle.setl_top_words.specs.code.Reading.{LeadsNowhere}
 use Rattle.setl_top_words.proofs.Order.{turns_or_watch, head_of, tail_of, nowhere_on, nowhere_again, nowhere_else}
-use Rattle.setl_top_words.proofs.Commands.{no_end, few_are_faulty, run_is_faulty, dash_is_faulty, run_or_trial, trial_is_faulty, two_numbers}
+use Rattle.setl_top_words.proofs.Commands.{no_end, few_are_faulty, run_is_faulty, dash_is_faulty, run_or_trial, run_or_explain, trial_is_faulty, two_numbers}
 use Rattle.setl_top_words.proofs.laws.faulty_words.Goals as goal
 
 run_with : (between : List (List ℕ)) → LeadsNowhere is_nothing between → IsFaulty (codes "run" ∷ between ++ codes "q" ∷ [])
@@ -105,7 +105,7 @@ pub returns : goal.returns
 returns c = record {
   nothing = few_are_faulty [] (λ w b n e. absurd (omega (arith, ap length e)));
   no_file = few_are_faulty _ (λ w b n e. no_end b n (tail_of (codes "run") w [] _ e));
-  dash = dash_is_faulty _ (codes "run") (codes "q" ∷ []) (codes "--unbased") refl run_or_trial (λ f. f refl);
+  dash = dash_is_faulty _ (codes "run") (codes "q" ∷ []) (codes "--unbased") refl run_or_trial run_or_explain (λ f. f refl);
   again = run_with _ again;
   no_value = run_with _ (no_turns [] (λ n rest small e. absurd (omega (arith, ap length e))));
   no_watcher = run_with _ (no_watcher [] (λ a rest e. absurd (omega (arith, ap length e))));
