@@ -1,7 +1,9 @@
-//! Operators on values that are held in the forms of their declarations.
+//! Values held in the forms of their declarations: how a value goes into the form of a mode, and operators on forms.
 #![tactic(auto)]
 
 mod applied;
+mod conversion;
 
 pub use applied::{Applied, apply};
+pub use conversion::{ConvertFault, convert};
 pub use std::alloc::AllocError as Memory;

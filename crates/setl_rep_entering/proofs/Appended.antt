@@ -1,5 +1,6 @@
 -- Each base gains the values at its places.
 use Rattle.std.proofs.Common.{◌≡◌, ◌∙◌, ℕ, Bool, true, false, not, cond, ◌&&◌, ◌||◌, List, [], ◌∷◌, ◌++◌, map, Option, None, Some, refl, sym, ap, subst}
+use Rattle.std.proofs.Math.Bool.{and-false}
 use Rattle.std.proofs.lemmas.Bool.{false≢true, or_left, or_right, and_parts}
 use Rattle.std.proofs.lemmas.List.Kept.{IsStrictlySortedBy-filter}
 use Rattle.std.specs.Bool.{if◌then◌else◌}
@@ -12,7 +13,7 @@ use Rattle.std.specs.Ordering.{is_eq}
 use Rattle.setl_value.specs.Datum.{Datum}
 use Rattle.setl_value.specs.code.DatumOf.{datum}
 use Rattle.setl_value.specs.Order.{datum_cmp, IsRising}
-use Rattle.setl_value.specs.OrderLaws.{same_if_eq, eq_iff_same}
+use Rattle.setl_value.specs.OrderLaws.{same_if_eq}
 use Rattle.setl_set.specs.Sets.{has_datum, set_from}
 use Rattle.setl_set.specs.Laws.{RisingListsAgree, TestsMembership, Gathers}
 use Rattle.setl_modes.specs.Modes.{Mode}
@@ -27,10 +28,7 @@ use Rattle.setl_rep_entering.specs.declared.places.Place.{Place}
 use Rattle.setl_rep_entering.specs.Entering.{values_in, with_values, lengthened_by, is_named, places_in, AreLengthened, BasesAreThere}
 use Rattle.setl_rep_entering.specs.code.Finding.{has_place, is_new, Gains}
 use Rattle.setl_rep_entering.specs.code.Growing.{all_placed, is_placed, ArePlacesThere}
-use Rattle.setl_rep_entering.proofs.Entered.{entering_appends, values_at, grown_by, placed_instance, placed_count}
-
-itself : (d : Datum) → is_eq (datum_cmp d d) ≡ true
-itself d = (eq_iff_same d d).1 refl
+use Rattle.setl_rep_entering.proofs.Entered.{itself, entering_appends, values_at, grown_by, placed_instance, placed_count}
 
 -- ---- the values of one instance
 
@@ -72,10 +70,6 @@ same_truth true b f g = sym (f refl)
 same_truth false true f g = g refl
 same_truth false false f g = refl
 
-and_false : (a : Bool) → (a && false) ≡ false
-and_false true = refl
-and_false false = refl
-
 pub has_left : (x : Datum) (vs ds : List Datum) → has_datum x (filter (λ d. not (has_datum d vs)) ds) ≡ (has_datum x ds && not (has_datum x vs))
 has_left x vs [] = refl
 has_left x vs (d ∷ ds) = by (has_datum d vs) (is_eq (datum_cmp x d)) refl refl (has_left x vs ds)
@@ -86,7 +80,7 @@ has_left x vs (d ∷ ds) = by (has_datum d vs) (is_eq (datum_cmp x d)) refl refl
     by : (t u : Bool) → has_datum d vs ≡ t → is_eq (datum_cmp x d) ≡ u → has_datum x rest ≡ (has_datum x ds && not (has_datum x vs)) → has_datum x (cond (not t) (d ∷ rest) rest) ≡ ((u || has_datum x ds) && not (has_datum x vs))
     by true true e f h =
         let in_it : has_datum x vs ≡ true = ap (λ z. has_datum z vs) (same_if_eq x d f) ∙ e in
-        h ∙ ap (λ a. has_datum x ds && not a) in_it ∙ and_false (has_datum x ds) ∙ ap not (sym in_it)
+        h ∙ ap (λ a. has_datum x ds && not a) in_it ∙ and-false (has_datum x ds) ∙ ap not (sym in_it)
     by true false e f h = h
     by false true e f h =
         let out : has_datum x vs ≡ false = ap (λ z. has_datum z vs) (same_if_eq x d f) ∙ e in
@@ -116,7 +110,7 @@ places_rise gathers bs n m d i = by (is_named bs n i)
     by false = tt
 
 without : (a v e : Bool) → (((a && not v) && e) && not v) ≡ ((a && e) && not v)
-without true true e = sym (and_false e)
+without true true e = sym (and-false e)
 without true false e = refl
 without false v e = refl
 

@@ -1,5 +1,6 @@
 -- Bases into which places were entered one after the other.
-use Rattle.std.proofs.Common.{◌≡◌, ◌∙◌, ℕ, ◌+◌, Bool, true, false, not, cond, ◌||◌, List, [], ◌∷◌, ◌++◌, map, Option, None, Some, IsSome, refl, sym, ap, subst}
+use Rattle.std.proofs.Common.{append-nil, ◌≡◌, ◌∙◌, ℕ, ◌+◌, Bool, true, false, not, cond, ◌||◌, List, [], ◌∷◌, ◌++◌, map, Option, None, Some, IsSome, refl, sym, ap, subst}
+use Rattle.std.proofs.Math.Bool.{or-false}
 use Rattle.std.proofs.lemmas.Bool.{false≢true}
 use Rattle.std.proofs.lemmas.List.Folds.{list_any-append}
 use Rattle.std.specs.Bool.{if◌then◌else◌}
@@ -16,18 +17,25 @@ use Rattle.setl_set.specs.Sets.{has_datum}
 use Rattle.setl_base.specs.Base.{BaseState, Member, empty, handle, find_from, find, entered, with_member}
 use Rattle.setl_rep_bases.specs.declared.BaseId.{BaseId}
 use Rattle.setl_rep_bases.specs.declared.tables.Instance.{Instance}
-use Rattle.setl_rep_bases.specs.BaseId.{is_id}
-use Rattle.setl_rep_bases.specs.Bases.{BasesState, instance_at, base_at, is_gone, IsThere, with_entered}
+use Rattle.setl_rep_bases.specs.BaseId.{is_id, id, main}
+use Rattle.setl_rep_bases.specs.Bases.{BasesState, instance_at, base_at, is_gone, IsThere, is_there, named, with_entered}
 use Rattle.setl_rep_bases.specs.Reading.{InstancesArePut, NamesAreExact}
 use Rattle.setl_rep_entering.specs.declared.places.Place.{Place}
 use Rattle.setl_rep_entering.specs.Entering.{values_in, with_values}
 use Rattle.setl_rep_entering.specs.code.Growing.{all_placed, ArePlacesThere}
 
-itself : (d : Datum) → is_eq (datum_cmp d d) ≡ true
+pub itself : (d : Datum) → is_eq (datum_cmp d d) ≡ true
 itself d = (eq_iff_same d d).1 refl
 
-has_append : (x : Datum) (xs ys : List Datum) → has_datum x (xs ++ ys) ≡ (has_datum x xs || has_datum x ys)
+pub has_append : (x : Datum) (xs ys : List Datum) → has_datum x (xs ++ ys) ≡ (has_datum x xs || has_datum x ys)
 has_append x xs ys = list_any-append (λ e. is_eq (datum_cmp x e)) xs ys
+
+pub named_base : (bs : BasesState) (n b : ℕ) → (named bs n b).base ≡ b
+named_base bs n b = by (is_there bs (main b))
+  where
+    by : (t : Bool) → (if t then main b else id b n).base ≡ b
+    by true = refl
+    by false = refl
 
 -- ---- one base
 
@@ -52,10 +60,6 @@ all_entered b (d ∷ ds) = all_entered (entered b d) ds
 abbrev pub fresh : BaseState → List Datum → List Member
 fresh b ds = map (λ d. record { value = d; generation = b.cuts }) (filter (λ d. not (has_datum d (values_in b))) ds)
 
-put_none : {A : Type 0} (xs : List A) → xs ++ [] ≡ xs
-put_none [] = refl
-put_none (x ∷ xs) = ap (λ l. x ∷ l) (put_none xs)
-
 joined : {A : Type 0} (xs ys zs : List A) → (xs ++ ys) ++ zs ≡ xs ++ (ys ++ zs)
 joined [] ys zs = refl
 joined (x ∷ xs) ys zs = ap (λ l. x ∷ l) (joined xs ys zs)
@@ -72,12 +76,8 @@ filter_same p q (d ∷ ds) h = λ i. cond (h.0 i) (d ∷ filter_same p q ds h.1 
 others : (vs : List Datum) (d : Datum) (ds : List Datum) → AllByRecursion (λ e. datum_cmp d e ≡ Less) ds → AllByRecursion (λ e. not (has_datum e (vs ++ d ∷ [])) ≡ not (has_datum e vs)) ds
 others vs d [] h = tt
 others vs d (e ∷ es) h =
-    (ap not (has_append e vs (d ∷ []) ∙ ap (λ t. has_datum e vs || (t || false)) (isnt e d h.0) ∙ or_none (has_datum e vs)), others vs d es h.1)
+    (ap not (has_append e vs (d ∷ []) ∙ ap (λ t. has_datum e vs || (t || false)) (isnt e d h.0) ∙ or-false (has_datum e vs)), others vs d es h.1)
   where
-    or_none : (t : Bool) → (t || false) ≡ t
-    or_none true = refl
-    or_none false = refl
-
     isnt : (e d : Datum) → datum_cmp d e ≡ Less → is_eq (datum_cmp e d) ≡ false
     isnt e d p = by (is_eq (datum_cmp e d)) refl
       where
@@ -95,7 +95,7 @@ comes b d h = ap (λ t. record b { members = if t then b.members else with_membe
 -- values in rising order are put behind the members, without those that are members
 pub entering_appends : (b : BaseState) (ds : List Datum) → IsRising ds → all_entered b ds ≡ with_values b ds
 unfolding IsStrictlySortedBy
-entering_appends b [] r = ap (λ l. record b { members = l }) (sym (put_none b.members))
+entering_appends b [] r = ap (λ l. record b { members = l }) (sym (append-nil b.members))
 entering_appends b (d ∷ ds) r = entering_appends (entered b d) ds r.1 ∙ by (has_datum d (values_in b)) refl
   where
     by : (t : Bool) → has_datum d (values_in b) ≡ t → with_values (entered b d) ds ≡ with_values b (d ∷ ds)

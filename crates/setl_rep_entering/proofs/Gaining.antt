@@ -1,8 +1,8 @@
 -- What a walk over a value finds.
 use Rattle.std.proofs.Common.{◌≡◌, ◌∙◌, ℕ, zero, suc, ◌+◌, ◌<◌, ◌≤◌, ◌==◌, Bool, true, false, not, cond, ◌&&◌, ◌||◌, List, [], ◌∷◌, ◌++◌, length, drop, slice_get, unwrap_or, Option, None, Some, refl, sym, ap, arith, eqb-true, eq-eqb}
+use Rattle.std.proofs.Math.Bool.{and-false, and-or_distrib_left, and-true, or-false, or_assoc}
 use Rattle.std.proofs.lemmas.Bool.{false≢true}
 use Rattle.std.proofs.lemmas.List.Folds.{list_any-append}
-use Rattle.std.specs.Bool.{if◌then◌else◌}
 use Rattle.std.specs.List.{flat_map}
 use Rattle.std.specs.Option.{is_some, is_none}
 use Rattle.std.specs.Ordering.{is_eq}
@@ -19,54 +19,35 @@ use Rattle.setl_modes.specs.Modes.{Mode, SingleMaps, MultiMaps}
 use Rattle.setl_modes_places.specs.Places.{at_part, at_pair, at_point, elements_at}
 use Rattle.setl_rep_bases.specs.declared.BaseId.{BaseId}
 use Rattle.setl_base.specs.Base.{find}
-use Rattle.setl_rep_bases.specs.BaseId.{is_id, id, main}
-use Rattle.setl_rep_bases.specs.Bases.{BasesState, base_at, is_there, named}
+use Rattle.setl_rep_bases.specs.BaseId.{is_id}
+use Rattle.setl_rep_bases.specs.Bases.{BasesState, base_at, named}
 use Rattle.setl_rep_bases.specs.Reading.{NamesAreExact}
 use Rattle.setl_rep_entering.specs.declared.places.Place.{Place}
 use Rattle.setl_rep_entering.specs.Entering.{values_in, is_named}
-use Rattle.setl_rep_entering.proofs.Entered.{found}
+use Rattle.setl_rep_entering.proofs.Entered.{found, has_append, named_base}
 use Rattle.setl_rep_entering.specs.code.Finding.{has_place, is_new, Gains, same_point, is_at_point, at_images, at_map, at_neighbour}
 
 -- ---- truth values
-
-and_or : (a b c : Bool) → (a && (b || c)) ≡ ((a && b) || (a && c))
-and_or true b c = refl
-and_or false b c = refl
-
-and_none : (a : Bool) → (a && false) ≡ false
-and_none true = refl
-and_none false = refl
-
-or_none : (a : Bool) → (a || false) ≡ a
-or_none true = refl
-or_none false = refl
-
-or_join : (a b c : Bool) → ((a || b) || c) ≡ (a || (b || c))
-or_join true b c = refl
-or_join false b c = refl
 
 or_again : (a b : Bool) → (a || b) ≡ ((a || b) || b)
 or_again true b = refl
 or_again false true = refl
 or_again false false = refl
 
-pub has_append : (x : Datum) (xs ys : List Datum) → has_datum x (xs ++ ys) ≡ (has_datum x xs || has_datum x ys)
-has_append x xs ys = list_any-append (λ e. is_eq (datum_cmp x e)) xs ys
-
 module _ (bs : BasesState) (n : ℕ) where
   -- ---- one step after the other
 
   pub gains_none : (es : ℕ → List Datum) (ps : List Place) → ((b : ℕ) → es b ≡ []) → Gains bs n es ps ps
   gains_none es ps h i x =
-      sym (ap (λ l. has_place i x ps || (is_new bs n i x && has_datum x l)) (h i.base) ∙ ap (λ t. has_place i x ps || t) (and_none (is_new bs n i x)) ∙ or_none (has_place i x ps))
+      sym (ap (λ l. has_place i x ps || (is_new bs n i x && has_datum x l)) (h i.base) ∙ ap (λ t. has_place i x ps || t) (and-false (is_new bs n i x)) ∙ or-false (has_place i x ps))
 
   pub gains_then : (es fs : ℕ → List Datum) (old mid new : List Place) → Gains bs n es old mid → Gains bs n fs mid new → Gains bs n (λ b. es b ++ fs b) old new
   gains_then es fs old mid new g h i x =
       let t = is_new bs n i x in
       h i x
       ∙ ap (λ a. a || (t && has_datum x (fs i.base))) (g i x)
-      ∙ or_join (has_place i x old) (t && has_datum x (es i.base)) (t && has_datum x (fs i.base))
-      ∙ ap (λ a. has_place i x old || a) (sym (and_or t (has_datum x (es i.base)) (has_datum x (fs i.base))))
+      ∙ or_assoc (has_place i x old) (t && has_datum x (es i.base)) (t && has_datum x (fs i.base))
+      ∙ ap (λ a. has_place i x old || a) (sym (and-or_distrib_left t (has_datum x (es i.base)) (has_datum x (fs i.base))))
       ∙ ap (λ a. has_place i x old || (t && a)) (sym (has_append x (es i.base) (fs i.base)))
 
   pub gains_as : (es fs : ℕ → List Datum) (old new : List Place) → ((b : ℕ) → es b ≡ fs b) → Gains bs n es old new → Gains bs n fs old new
@@ -174,17 +155,6 @@ gains_like bs n es fs old new h g i x = g i x ∙ ap (λ t. has_place i x old ||
 
 -- ---- one value
 
-base_named : (bs : BasesState) (n b : ℕ) → (named bs n b).base ≡ b
-base_named bs n b = by (is_there bs (main b))
-  where
-    by : (t : Bool) → (if t then main b else id b n).base ≡ b
-    by true = refl
-    by false = refl
-
-and_true : (a : Bool) → (a && true) ≡ a
-and_true true = refl
-and_true false = refl
-
 module _ (exact : NamesAreExact) (bs : BasesState) (n b : ℕ) (d : Datum) where
   abbrev members : List Datum
   members = values_in (base_at bs (named bs n b))
@@ -196,15 +166,15 @@ module _ (exact : NamesAreExact) (bs : BasesState) (n b : ℕ) (d : Datum) where
       by : (t : Bool) → is_id i (named bs n b) ≡ t → (is_new bs n i x && has_datum x (cond (b == i.base) (d ∷ []) [])) ≡ (t && (is_eq (datum_cmp x d) && not (has_datum d members)))
       by true e =
           let same : i ≡ named bs n b = (exact i (named bs n b)).0 e in
-          let base : i.base ≡ b = ap (λ (j : BaseId). j.base) same ∙ base_named bs n b in
+          let base : i.base ≡ b = ap (λ (j : BaseId). j.base) same ∙ named_base bs n b in
           let is : is_named bs n i ≡ true = (exact i (named bs n i.base)).1 (same ∙ ap (named bs n) (sym base)) in
           let at : (b == i.base) ≡ true = eq-eqb b i.base (sym base) in
           (λ k. ((is k) && not (has_datum x (values_in (base_at bs (same k))))) && has_datum x (cond (at k) (d ∷ []) [])) ∙ only (is_eq (datum_cmp x d)) refl
         where
           only : (u : Bool) → is_eq (datum_cmp x d) ≡ u → ((true && not (has_datum x members)) && (is_eq (datum_cmp x d) || false)) ≡ (is_eq (datum_cmp x d) && not (has_datum d members))
           only true f =
-              (λ k. not (has_datum x members) && (f k || false)) ∙ and_true (not (has_datum x members)) ∙ ap (λ z. not (has_datum z members)) (same_if_eq x d f) ∙ ap (λ t. t && not (has_datum d members)) (sym f)
-          only false f = (λ k. not (has_datum x members) && (f k || false)) ∙ and_none (not (has_datum x members)) ∙ ap (λ t. t && not (has_datum d members)) (sym f)
+              (λ k. not (has_datum x members) && (f k || false)) ∙ and-true (not (has_datum x members)) ∙ ap (λ z. not (has_datum z members)) (same_if_eq x d f) ∙ ap (λ t. t && not (has_datum d members)) (sym f)
+          only false f = (λ k. not (has_datum x members) && (f k || false)) ∙ and-false (not (has_datum x members)) ∙ ap (λ t. t && not (has_datum d members)) (sym f)
       by false e = apart (b == i.base) refl
         where
           apart : (u : Bool) → (b == i.base) ≡ u → (is_new bs n i x && has_datum x (cond (b == i.base) (d ∷ []) [])) ≡ false
@@ -212,7 +182,7 @@ module _ (exact : NamesAreExact) (bs : BasesState) (n b : ℕ) (d : Datum) where
               let base : b ≡ i.base = eqb-true b i.base g in
               let is : is_named bs n i ≡ false = ap (λ c. is_id i (named bs n c)) (sym base) ∙ e in
               λ k. (is k && not (has_datum x (values_in (base_at bs i)))) && has_datum x (cond (b == i.base) (d ∷ []) [])
-          apart false g = ap (λ t. is_new bs n i x && has_datum x (cond t (d ∷ []) [])) g ∙ and_none (is_new bs n i x)
+          apart false g = ap (λ t. is_new bs n i x && has_datum x (cond t (d ∷ []) [])) g ∙ and-false (is_new bs n i x)
 
   -- a value is put at the end where it is no member
   pub gains_new : (v : Value) (old new : List Place) → datum v ≡ d → find (base_at bs (named bs n b)) d ≡ None → new ≡ old ++ record { base = named bs n b; value = v } ∷ [] → Gains bs n (λ c. cond (b == c) (d ∷ []) []) old new
@@ -220,9 +190,9 @@ module _ (exact : NamesAreExact) (bs : BasesState) (n b : ℕ) (d : Datum) where
       let out : has_datum d members ≡ false = sym (found (base_at bs (named bs n b)) d) ∙ ap is_some none in
       ap (has_place i x) is
       ∙ list_any-append (λ p. is_id i p.base && is_eq (datum_cmp x (datum p.value))) old (record { base = named bs n b; value = v } ∷ [])
-      ∙ ap (λ t. has_place i x old || t) (or_none (is_id i (named bs n b) && is_eq (datum_cmp x (datum v)))
+      ∙ ap (λ t. has_place i x old || t) (or-false (is_id i (named bs n b) && is_eq (datum_cmp x (datum v)))
       ∙ ap (λ e. is_id i (named bs n b) && is_eq (datum_cmp x e)) same
-      ∙ ap (λ t. is_id i (named bs n b) && t) (sym (and_true (is_eq (datum_cmp x d))))
+      ∙ ap (λ t. is_id i (named bs n b) && t) (sym (and-true (is_eq (datum_cmp x d))))
       ∙ ap (λ t. is_id i (named bs n b) && (is_eq (datum_cmp x d) && not t)) (sym out)
       ∙ sym (one_new i x))
 
@@ -232,9 +202,9 @@ module _ (exact : NamesAreExact) (bs : BasesState) (n b : ℕ) (d : Datum) where
       let out : has_datum d members ≡ true = sym (found (base_at bs (named bs n b)) d) ∙ some in
       sym (ap (λ t. has_place i x ps || t) (one_new i x
       ∙ ap (λ t. is_id i (named bs n b) && (is_eq (datum_cmp x d) && not t)) out
-      ∙ ap (λ t. is_id i (named bs n b) && t) (and_none (is_eq (datum_cmp x d)))
-      ∙ and_none (is_id i (named bs n b)))
-      ∙ or_none (has_place i x ps))
+      ∙ ap (λ t. is_id i (named bs n b) && t) (and-false (is_eq (datum_cmp x d)))
+      ∙ and-false (is_id i (named bs n b)))
+      ∙ or-false (has_place i x ps))
 
 pub none_if : {A : Type 0} (o : Option A) → is_none o ≡ true → o ≡ None
 none_if None h = refl

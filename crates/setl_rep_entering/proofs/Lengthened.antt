@@ -1,14 +1,13 @@
 -- Laws of bases that were lengthened.
-use Rattle.std.proofs.Common.{◌≡◌, ◌∙◌, ℕ, zero, suc, Bool, true, false, not, cond, ◌&&◌, ◌||◌, List, [], ◌∷◌, ◌++◌, map, slice_get, Option, None, Some, IsSome, refl, sym, ap, subst}
+use Rattle.std.proofs.Common.{append-nil, ◌≡◌, ◌∙◌, ℕ, zero, suc, Bool, true, false, not, cond, ◌&&◌, ◌||◌, List, [], ◌∷◌, ◌++◌, map, slice_get, Option, None, Some, IsSome, refl, sym, ap, subst}
+use Rattle.std.proofs.Math.Bool.{and-true}
 use Rattle.std.proofs.lemmas.Bool.{false≢true, or_left, or_right, and_parts}
-use Rattle.std.proofs.lemmas.List.Folds.{list_any-append}
 use Rattle.std.specs.Bool.{if◌then◌else◌}
 use Rattle.std.specs.List.{filter}
 use Rattle.std.specs.Option.{option_map, option_map_or, is_some}
 use Rattle.std.specs.Ordering.{is_eq}
 use Rattle.setl_value.specs.Datum.{Datum}
 use Rattle.setl_value.specs.Order.{datum_cmp}
-use Rattle.setl_value.specs.OrderLaws.{eq_iff_same}
 use Rattle.setl_set.specs.Sets.{has_datum, set_from}
 use Rattle.setl_set.specs.Laws.{TestsMembership, Gathers}
 use Rattle.setl_modes.specs.Modes.{Mode}
@@ -22,17 +21,13 @@ use Rattle.setl_rep_bases.specs.Keeping.{AreKept}
 use Rattle.setl_rep_bases.specs.Reading.{NamesAreExact, BasesAgree}
 use Rattle.setl_rep_entering.specs.Entering.{values_in, with_values, lengthened_by, is_named, places_in, AreLengthened}
 use Rattle.setl_rep_entering.specs.Laws.{MembersAreLengthened, OthersStay, NamesStay, PlacesAreMembers, BlocksAreKept, MembersChangeNothing}
-use Rattle.setl_rep_entering.proofs.Entered.{found}
+use Rattle.setl_rep_entering.proofs.Entered.{has_append, itself, named_base, found}
 use Rattle.setl_rep_entering.proofs.Appended.{has_left, has_set, has_places_in}
 
 -- ---- one base
 
-put_none : {A : Type 0} (xs : List A) → xs ++ [] ≡ xs
-put_none [] = refl
-put_none (x ∷ xs) = ap (λ l. x ∷ l) (put_none xs)
-
 nothing_more : (b : BaseState) → with_values b [] ≡ b
-nothing_more b = ap (λ l. record b { members = l }) (put_none b.members)
+nothing_more b = ap (λ l. record b { members = l }) (append-nil b.members)
 
 values_of_new : (ms : List Member) (g : ℕ) (ds : List Datum) → map (λ (m : Member). m.value) (ms ++ map (λ d. record { value = d; generation = g }) ds) ≡ map (λ (m : Member). m.value) ms ++ ds
 values_of_new [] g [] = refl
@@ -51,23 +46,13 @@ member_stays : (b : BaseState) (ds : List Datum) (n : ℕ) (m : Member) → memb
 member_stays b ds zero m p = p
 member_stays b ds (suc i) m p = get_before b.members _ i m p
 
-has_append : (x : Datum) (xs ys : List Datum) → has_datum x (xs ++ ys) ≡ (has_datum x xs || has_datum x ys)
-has_append x xs ys = list_any-append (λ e. is_eq (datum_cmp x e)) xs ys
-
-and_true : (a : Bool) → (a && true) ≡ a
-and_true true = refl
-and_true false = refl
-
 -- what is among the new values is a member then
 is_member : (x : Datum) (vs ds : List Datum) → has_datum x ds ≡ true → has_datum x (lengthened vs ds) ≡ true
 is_member x vs ds h = has_append x vs (filter (λ d. not (has_datum d vs)) ds) ∙ by (has_datum x vs) refl
   where
     by : (t : Bool) → has_datum x vs ≡ t → (has_datum x vs || has_datum x (filter (λ d. not (has_datum d vs)) ds)) ≡ true
     by true e = or_left (has_datum x vs) _ e
-    by false e = or_right (has_datum x vs) _ (has_left x vs ds ∙ ap (λ t. has_datum x ds && not t) e ∙ and_true (has_datum x ds) ∙ h)
-
-itself : (d : Datum) → is_eq (datum_cmp d d) ≡ true
-itself d = (eq_iff_same d d).1 refl
+    by false e = or_right (has_datum x vs) _ (has_left x vs ds ∙ ap (λ t. has_datum x ds && not t) e ∙ and-true (has_datum x ds) ∙ h)
 
 -- where all are members there is no new one
 none_new : (vs ds : List Datum) → ((x : Datum) → has_datum x ds ≡ true → has_datum x vs ≡ true) → filter (λ d. not (has_datum d vs)) ds ≡ []
@@ -80,13 +65,6 @@ all_members : (b : BaseState) (ds : List Datum) → ((x : Datum) → has_datum x
 all_members b ds h = ap (λ l. record b { members = b.members ++ map (λ d. record { value = d; generation = b.cuts }) l }) (none_new (values_in b) ds h) ∙ nothing_more b
 
 -- ---- names
-
-named_base : (bs : BasesState) (n b : ℕ) → (named bs n b).base ≡ b
-named_base bs n b = by (is_there bs (main b))
-  where
-    by : (t : Bool) → (if t then main b else id b n).base ≡ b
-    by true = refl
-    by false = refl
 
 names_itself : NamesAreExact → (bs : BasesState) (n b : ℕ) → is_named bs n (named bs n b) ≡ true
 names_itself exact bs n b = (exact (named bs n b) (named bs n (named bs n b).base)).1 (ap (named bs n) (sym (named_base bs n b)))

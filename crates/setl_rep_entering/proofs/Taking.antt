@@ -1,5 +1,5 @@
 -- What was entered is taken back.
-use Rattle.std.proofs.Common.{◌≡◌, ◌∙◌, ◌⊎◌, inl, inr, ℕ, ◌≤◌, arith, Bool, true, false, not, ◌&&◌, List, [], ◌∷◌, ◌++◌, map, length, take, Option, None, Some, refl, sym, ap, subst}
+use Rattle.std.proofs.Common.{◌≡◌, ◌∙◌, ◌⊎◌, inl, inr, ℕ, Bool, true, false, not, ◌&&◌, List, [], ◌∷◌, ◌++◌, map, length, take, Option, None, Some, refl, sym, ap, subst}
 use Rattle.std.specs.List.{filter}
 use Rattle.std.specs.Option.{option_map}
 use Rattle.setl_value.specs.Datum.{Datum}
@@ -15,21 +15,17 @@ use Rattle.setl_rep_entering.specs.declared.enter.Mark.{Mark}
 use Rattle.setl_rep_entering.specs.Entering.{values_in, lengthened_by, is_named, places_in, AreLengthened}
 use Rattle.setl_rep_entering.specs.code.Growing.{is_marked, AreMarksOf, all_undone, IsGrown, AreGrown}
 use Rattle.setl_rep_entering.proofs.Lengthened.{others_stay}
-use Rattle.setl_rep_entering.proofs.Undoing.{restored}
+use Rattle.setl_rep_entering.proofs.Undoing.{front_length, restored}
 
-take_front : (ms ns : List Member) → take (length ms) (ms ++ ns) ≡ ms
-take_front [] ns = refl
-take_front (m ∷ ms) ns = ap (λ l. m ∷ l) (take_front ms ns)
-
-front_length : (ms ns : List Member) → length ms ≤ length (ms ++ ns)
-front_length [] ns = omega arith
-front_length (m ∷ ms) ns = omega (arith, front_length ms ns)
+take_own : (ms ns : List Member) → take (length ms) (ms ++ ns) ≡ ms
+take_own [] ns = refl
+take_own (m ∷ ms) ns = ap (λ l. m ∷ l) (take_own ms ns)
 
 grown_by_values : (o : Option Instance) (ds : List Datum) → IsGrown o (option_map (lengthened_by ds) o)
 grown_by_values None ds = tt
 grown_by_values (Some x) ds =
     let more : List Member = map (λ d. record { value = d; generation = x.base.cuts }) (filter (λ d. not (has_datum d (values_in x.base))) ds) in
-    (refl, front_length x.base.members more, ap (λ l. record x.base { members = l }) (take_front x.base.members more))
+    (refl, front_length x.base.members more, ap (λ l. record x.base { members = l }) (take_own x.base.members more))
 
 pub are_grown : (m : Mode) (d : Datum) (n : ℕ) (bs cs : BasesState) → AreLengthened m d n bs cs → AreGrown bs cs
 are_grown m d n bs cs l = record {

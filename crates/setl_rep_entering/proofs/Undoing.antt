@@ -26,9 +26,9 @@ take_front zero ms m h = refl
 take_front (suc n) [] m h = absurd (omega arith)
 take_front (suc n) (x ∷ xs) m h = ap (λ l. x ∷ l) (take_front n xs m (omega arith))
 
-put_length : (ms : List Member) (m : Member) → length ms ≤ length (ms ++ m ∷ [])
-put_length [] m = omega arith
-put_length (x ∷ xs) m = omega (arith, put_length xs m)
+pub front_length : (ms ns : List Member) → length ms ≤ length (ms ++ ns)
+front_length [] ns = omega arith
+front_length (x ∷ xs) ns = omega (arith, front_length xs ns)
 
 -- ---- one instance
 
@@ -51,7 +51,7 @@ grown_more (Some x) y d g = let p = by (is_some (find y.base d)) in (g.0, p.0, p
         → (n ≤ length (if t then y.base.members else with_member y.base d)) × (undone (record y.base { members = if t then y.base.members else with_member y.base d }) n ≡ x.base)
     by true = (g.1, g.2)
     by false = (
-      omega (arith, g.1, put_length y.base.members m),
+      omega (arith, g.1, front_length y.base.members (m ∷ [])),
       ap (λ l. record y.base { members = l }) (take_front n y.base.members m g.1) ∙ g.2,
     )
 

@@ -1,0 +1,7 @@
+//! Tests of code files. Nothing stands on this crate.
+#![tactic(auto)]
+
+#[cfg(test)]
+mod images;
+#[cfg(test)]
+mod turns;
