@@ -21,7 +21,7 @@ fn watcher(options: Options) -> u8 {
 }
 
 /// The command of a line as a text: of a run its bound on turns, whether declarations count, the name of the watcher that is
-/// asked for, and its file; of a trial its numbers.
+/// asked for, and its file; of a stop and of a trial the numbers.
 fn asked(alloc: Global, line: &str) -> Result<String, Fail> {
     let words = words_of(alloc, line)?;
     let text = match read_words(words.as_slice()) {
@@ -31,6 +31,8 @@ fn asked(alloc: Global, line: &str) -> Result<String, Fail> {
         }
         Some(Command::Check(file)) => format!(in alloc; "check {file}")?,
         Some(Command::Code(file)) => format!(in alloc; "code {file}")?,
+        Some(Command::Explain(file)) => format!(in alloc; "explain {file}")?,
+        Some(Command::TellStop(stop)) => format!(in alloc; "stop {}", stop as u8)?,
         Some(Command::Trial(seed, nodes)) => format!(in alloc; "trial {seed} {nodes}")?,
         None => String::from_str(alloc, "faulty")?,
     };
@@ -48,6 +50,10 @@ run 5 false 2 q.setl: run --turns 5 --watch cover --unbased q.setl
 run 9223372036854775807 false 0 q.setl: run --unbased --turns 9223372036854775807 q.setl
 check q.setl: check q.setl
 code q.setl: code q.setl
+explain q.setl: explain q.setl
+stop 0: explain --stop om
+stop 1: explain --stop kind
+stop 8: explain --stop value
 trial 0 1: trial 0 1
 trial 9223372036854775807 2000: trial 9223372036854775807 2000
 faulty: run --turns 9223372036854775808 q.setl
@@ -75,6 +81,14 @@ faulty: run\x20
 faulty: run
 faulty: Run q.setl
 faulty: check --unbased q.setl
+faulty: explain
+faulty: explain --stop
+faulty: explain --stop done
+faulty: explain --stop Om
+faulty: explain --stop om q.setl
+faulty: explain --stop om --stop om
+faulty: explain --stop=om
+faulty: explain q.setl q.setl
 faulty: trial
 faulty: trial 7
 faulty: trial 7 0
