@@ -1,8 +1,9 @@
 -- A change of one part of an environment.
-use Rattle.std.proofs.Common.{◌≡◌, ℕ, zero, suc, ◌+◌, ◌-◌, ◌<◌, ◌≤◌, List, [], ◌∷◌, ◌++◌, length, set, drop, refl, ap, sym, subst, ◌∙◌, arith, take, Option, Some, None, Ok, Err}
-use Rattle.std.proofs.lemmas.List.{length-set, length_push, length-take-le, take-append-le, take-set-le, take-take, take_all}
+use Rattle.std.proofs.Common.{◌≡◌, ℕ, zero, suc, ◌+◌, ◌-◌, ◌<◌, ◌≤◌, List, [], ◌∷◌, ◌++◌, length, set, drop, refl, ap, sym, subst, ◌∙◌, arith, take, min, ltb, Bool, true, false, Option, Some, None, Ok, Err}
+use Rattle.std.proofs.lemmas.Bool.{ltb-true, ltb-false, true≢false}
+use Rattle.std.proofs.lemmas.List.{length-set, length_push, length-take, length-take-le, take-append-le, take-set-le, take-take, take_all}
 use Rattle.std.specs.Prelude.{Result, OnOk, OnErr, IsTrue}
-use Rattle.setl_trail.specs.Trail.{Item, entry, mark, mark_count, latest, without_latest}
+use Rattle.setl_trail.specs.Trail.{Item, entry, mark, mark_count, latest, without_latest, forgotten}
 use Rattle.setl_store_environment.specs.declared.environment.Old.{Old}
 use Rattle.setl_store_environment.specs.declared.environment.Old.TheVariants as old
 use Rattle.setl_store_environment.specs.declared.stack.Place.{Place}
@@ -16,8 +17,8 @@ use Rattle.setl_store_environment.specs.Places.{FieldsNow, fields_now, LeadsFiel
 use Rattle.setl_store_environment.specs.Environment.{Contents, Room, EnvironmentState}
 use Rattle.setl_store_environment.specs.Kept.{base_of, nowhere, noted, IsUndoable, kept_of}
 use Rattle.setl_store_environment.specs.declared.environment.Base.{Base}
-use Rattle.setl_store_environment.specs.Undo.{Parts, contents_of, undone, cut, Reaches, FitsIn, IsTrailOf, kept_contents, HasMore}
-use Rattle.setl_store_environment.proofs.Undoing.{IsBelow, changed, undoable_still, unmarked_base, kept_counted, mark_latest}
+use Rattle.setl_store_environment.specs.Undo.{Parts, contents_of, undone, cut, Reaches, FitsIn, IsTrailOf, kept_contents, HasMore, lower, needed}
+use Rattle.setl_store_environment.proofs.Undoing.{IsBelow, changed, undoable_still, unmarked_base, kept_counted, mark_latest, Serves, forgot}
 
 -- the lowest n with one of them put back
 cut_placed : {T : Type 0} (n at : ℕ) (o : Option T) (xs : List T) → at < n → at < length xs → placed_at (take n xs) at o ≡ take n (placed_at xs at o)
@@ -31,6 +32,39 @@ cut_placed (suc n) (suc at) (Some x) (y ∷ xs) low there = ap (λ l. y ∷ l) (
 cut_near : {T : Type 0} (n at : ℕ) (o : Option T) (xs : List T) → at < n → n ≤ length xs → IsNear xs at o → IsNear (take n xs) at o
 cut_near n at None xs low there near = omega (arith, low, there, near, length-take-le n xs there)
 cut_near n at (Some x) xs low there near = omega (arith, low, there, length-take-le n xs there)
+
+-- the lowest n and k with one of the lowest k put back, and with another
+over_placed : {T : Type 0} (k at : ℕ) (o : Option T) (xs : List T) → at < k → IsNear xs at o → placed_at (take k xs) at o ≡ take k (placed_at xs at o)
+over_placed k at None xs low near = cut_placed k at None xs low (omega (arith, near))
+over_placed zero at (Some x) xs low near = absurd (omega (arith, low))
+over_placed (suc k) zero (Some x) [] low near = ap (λ l. x ∷ l) (sym (take_all k [] (omega arith)))
+over_placed (suc k) zero (Some x) (y ∷ xs) low near = refl
+over_placed (suc k) (suc at) (Some x) [] low near = absurd (omega (arith, near))
+over_placed (suc k) (suc at) (Some x) (y ∷ xs) low near = ap (λ l. y ∷ l) (over_placed k at (Some x) xs (omega (arith, low)) (omega (arith, near)))
+
+over_near : {T : Type 0} (k at : ℕ) (o : Option T) (xs : List T) → at < k → IsNear xs at o → IsNear (take k xs) at o
+over_near k at None xs low near = near ∙ ap length (sym (take_all k xs (omega (arith, low, near))))
+over_near zero at (Some x) xs low near = absurd (omega (arith, low))
+over_near (suc k) at (Some x) [] low near = near
+over_near (suc k) zero (Some x) (y ∷ xs) low near = omega arith
+over_near (suc k) (suc at) (Some x) (y ∷ xs) low near = omega (arith, over_near k at (Some x) xs (omega (arith, low)) (omega (arith, near)))
+
+past_placed : {T : Type 0} (k at : ℕ) (o : Option T) (xs : List T) → k ≤ at → IsNear xs at o → take k (placed_at xs at o) ≡ take k xs
+past_placed k at None xs past near = take-take k at xs past
+past_placed zero at (Some x) xs past near = refl
+past_placed (suc k) zero (Some x) xs past near = absurd (omega (arith, past))
+past_placed (suc k) (suc at) (Some x) [] past near = absurd (omega (arith, near))
+past_placed (suc k) (suc at) (Some x) (y ∷ xs) past near = ap (λ l. y ∷ l) (past_placed k at (Some x) xs (omega (arith, past)) (omega (arith, near)))
+
+-- the lowest values up to the lower of two numbers
+take_lower_by : {T : Type 0} (b : Bool) (n k : ℕ) (xs : List T) → ltb n k ≡ b → take (min n k) xs ≡ take k (take n xs)
+take_lower_by true n k xs is =
+    let lower : min n k ≡ n = omega (arith, ltb-true n k is) in
+    let few : length (take n xs) ≤ k = omega (arith, ltb-true n k is, length-take n xs) in
+    ap (λ m. take m xs) lower ∙ sym (take_all k (take n xs) few)
+take_lower_by false n k xs is =
+    let lower : min n k ≡ k = omega (arith, ltb-false n k is) in
+    ap (λ m. take m xs) lower ∙ sym (take-take k n xs (omega (arith, ltb-false n k is)))
 
 abbrev pub pair_of : {F : Type 0} → set.FinSet place_cmp → map.FinMap place_cmp F → FieldsNow F
 pair_of a c = record { bits = a; contents = c }
@@ -272,3 +306,53 @@ pub one_less : {T : Type 0} (xs : List T) (n m : ℕ) → n ≤ length xs → m 
 one_less xs n m h less =
     let long : length (take n xs) - 1 ≡ m = omega (arith, length-take-le n xs h, less) in
     ap (λ k. take k (take n xs)) long ∙ take-take m n xs (omega (arith, less))
+
+module _ {S O A M F : Type 0} where
+  passes : (q : Parts S O A M F) (k : Base) (d : Contents S O A M F) (e : Old S O A M F) → needed k e ≡ true → FitsIn q d e → FitsIn q (cut k d) e × (undone (cut k d) e ≡ cut k (undone d e))
+  passes q k d (old.Slot p) is h =
+      let low : p.at < k.slots = ltb-true p.at k.slots is in
+      (record { inside = h.inside; near = over_near k.slots p.at p.content d.slots low h.near }, ap (λ l. contents l (take k.operands d.operands) d.activations d.members d.fields) (over_placed k.slots p.at p.content d.slots low h.near))
+  passes q k d (old.Operand p) is h =
+      let low : p.at < k.operands = ltb-true p.at k.operands is in
+      (record { inside = h.inside; near = over_near k.operands p.at p.content d.operands low h.near }, ap (λ l. contents (take k.slots d.slots) l d.activations d.members d.fields) (over_placed k.operands p.at p.content d.operands low h.near))
+  passes q k d (old.Activation p) is h = (h, refl)
+  passes q k d (old.Member p) is h = (h, refl)
+  passes q k d (old.Field p) is h = (h, refl)
+
+  others : (q : Parts S O A M F) (k : Base) (d : Contents S O A M F) (e : Old S O A M F) → needed k e ≡ false → FitsIn q d e → cut k (undone d e) ≡ cut k d
+  others q k d (old.Slot p) is h = ap (λ l. contents l (take k.operands d.operands) d.activations d.members d.fields) (past_placed k.slots p.at p.content d.slots (ltb-false p.at k.slots is) h.near)
+  others q k d (old.Operand p) is h = ap (λ l. contents (take k.slots d.slots) l d.activations d.members d.fields) (past_placed k.operands p.at p.content d.operands (ltb-false p.at k.operands is) h.near)
+  others q k d (old.Activation p) is h = absurd (true≢false is)
+  others q k d (old.Member p) is h = absurd (true≢false is)
+  others q k d (old.Field p) is h = absurd (true≢false is)
+
+  serves : (q : Parts S O A M F) (k : Base) → Serves undone cut Reaches (FitsIn q) k (needed k)
+  serves q k = record {
+    passed = passes q k;
+    other = others q k;
+  }
+
+module _ {S O A M F K : Type 0} where
+  -- after the latest mark was forgotten, over the lower of its base and the older one
+  pub record IsForgotten (q : Parts S O A M F) (n m : Base) (ms ns : List Base) (items now : List (Item (Old S O A M F))) (k : K) (ks : List K) : Type 0 where
+    pub undoable : IsTrailOf q m ms now
+    pub kept : kept_contents q m ms now ks ≡ drop 1 (kept_contents q n ns items (k ∷ ks))
+    pub marks : suc (mark_count now) ≡ mark_count items
+
+  forgotten_there : (q : Parts S O A M F) (n : Base) (ns : List Base) (items now : List (Item (Old S O A M F))) (k : K) (ks : List K) → 0 < mark_count items → now ≡ forgotten (needed (base_of ns)) items → IsTrailOf q n ns items →
+      IsForgotten q n (lower n (base_of ns)) (drop 1 ns) ns items now k ks
+  forgotten_there q n ns items now k ks some is h =
+      let older = base_of ns in
+      let m = lower n older in
+      let c = contents_of q in
+      let same : cut m c ≡ cut older (cut n c) =
+      ap (λ l. contents l (take m.operands c.operands) c.activations c.members c.fields) (take_lower_by (ltb n.slots older.slots) n.slots older.slots c.slots refl)
+      ∙ ap (λ l. contents (take older.slots (take n.slots c.slots)) l c.activations c.members c.fields) (take_lower_by (ltb n.operands older.operands) n.operands older.operands c.operands refl) in
+      let done = forgot undone cut Reaches (FitsIn q) n m (cut n c) (cut m c) items now ns (needed older) k ks some (omega arith, omega arith) (serves q older) same is h.1 in
+      record { undoable = ((omega (arith, h.0.0), omega (arith, h.0.1)), done.undoable); kept = done.kept; marks = done.marks }
+
+  pub forgotten_part : (q : Parts S O A M F) (n m older : Base) (ms ns : List Base) (items now : List (Item (Old S O A M F))) (k : K) (ks : List K) → 0 < mark_count items → now ≡ forgotten (needed older) items → older ≡ base_of ns → ms ≡ drop 1 ns → m ≡ lower n older →
+      IsTrailOf q n ns items → IsForgotten q n m ms ns items now k ks
+  forgotten_part q n m older ms ns items now k ks some is base bases low h =
+      let there = forgotten_there q n ns items now k ks some (is ∙ ap (λ b. forgotten (needed b) items) base) h in
+      subst (λ b. IsForgotten q n b ms ns items now k ks) (sym (low ∙ ap (lower n) base)) (subst (λ b. IsForgotten q n (lower n (base_of ns)) b ns items now k ks) (sym bases) there)

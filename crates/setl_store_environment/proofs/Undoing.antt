@@ -1,7 +1,7 @@
 -- What a change that is noted leaves of what was kept.
-use Rattle.std.proofs.Common.{◌≡◌, ℕ, zero, suc, ◌<◌, ◌≤◌, List, [], ◌∷◌, length, drop, refl, ap, sym, ◌∙◌, subst, arith, Some, None}
+use Rattle.std.proofs.Common.{◌≡◌, ℕ, zero, suc, ◌<◌, ◌≤◌, Bool, true, false, cond, List, [], ◌∷◌, length, drop, refl, ap, sym, ◌∙◌, subst, arith, Some, None}
 use Rattle.std.proofs.lemmas.Option.{none-some}
-use Rattle.setl_trail.specs.Trail.{Item, entry, mark, mark_count, latest, without_latest}
+use Rattle.setl_trail.specs.Trail.{Item, entry, mark, mark_count, latest, without_latest, without_mark, forgotten, forgotten_by}
 use Rattle.setl_store_environment.proofs.Places.{some_same}
 use Rattle.setl_store_environment.specs.Kept.{base_of, nowhere, IsUndoable, noted, noted_by, kept_of}
 use Rattle.setl_store_environment.specs.declared.environment.Base.{Base}
@@ -83,6 +83,74 @@ module _ {C E : Type 0} (undone : C → E → C) (cut : Base → C → C) where
             kept = noted_kept (mark_count items) n c d e items ns ks refl back h;
             marks = marks_noted_by (mark_count items) e items;
           })
+
+      -- What serves over the base of an older mark: an entry that passes the test does there what it does over more, and one
+      -- that doesn't changes nothing of what is up to that base.
+      pub record Serves (k : Base) (test : E → Bool) : Type 0 where
+        pub passed : (d : C) (e : E) → test e ≡ true → fits d e → fits (cut k d) e × (undone (cut k d) e ≡ cut k (undone d e))
+        pub other : (d : C) (e : E) → test e ≡ false → fits d e → cut k (undone d e) ≡ cut k d
+
+      -- after the latest mark was forgotten: each entry that is left can be put back over the older base, and what was kept
+      -- before is kept
+      pub record Forgot {K : Type 0} (m : Base) (c d : C) (items now : List (Item E)) (ns : List Base) (k : K) (ks : List K) : Type 0 where
+        pub undoable : IsUndoable undone cut reaches fits m d now (drop 1 ns)
+        pub kept : kept_of undone cut d now (drop 1 ns) ks ≡ drop 1 (kept_of undone cut c items ns (k ∷ ks))
+        pub marks : suc (mark_count now) ≡ mark_count items
+
+      forgot_entry : {K : Type 0} (b : Bool) (m : Base) (c : C) (e : E) (items rest : List (Item E)) (ns : List Base) (test : E → Bool) (k : K) (ks : List K) → test e ≡ b → Serves (base_of ns) test → fits c e → 1 < mark_count items →
+          Forgot m (undone c e) (cut (base_of ns) (undone c e)) items rest ns k ks → Forgot m c (cut (base_of ns) c) (entry e ∷ items) (cond b (entry e ∷ rest) rest) ns k ks
+      forgot_entry true m c e items rest ns test k ks is serves there some h =
+          let over = serves.passed c e is there in
+          record {
+            undoable = (omega (arith, some, h.marks), over.0, subst (λ d. Leads m d rest (drop 1 ns)) (sym over.1) h.undoable);
+            kept = ap (λ d. kept_of undone cut d rest (drop 1 ns) ks) over.1 ∙ h.kept;
+            marks = h.marks;
+          }
+      forgot_entry false m c e items rest ns test k ks is serves there some h =
+          let same = serves.other c e is there in
+          record {
+            undoable = subst (λ d. Leads m d rest (drop 1 ns)) same h.undoable;
+            kept = ap (λ d. kept_of undone cut d rest (drop 1 ns) ks) (sym same) ∙ h.kept;
+            marks = h.marks;
+          }
+
+      -- where an older mark is left
+      forgot_among : {K : Type 0} (n m : Base) (c : C) (items : List (Item E)) (ns : List Base) (test : E → Bool) (k : K) (ks : List K) → Serves (base_of ns) test → 1 < mark_count items → Leads n c items ns → Forgot m c (cut (base_of ns) c) items (without_mark test items) ns k ks
+      forgot_among n m c [] ns test k ks serves some h = absurd (omega (arith, some))
+      forgot_among n m c (entry e ∷ items) ns test k ks serves some h =
+          forgot_entry (test e) m c e items (without_mark test items) ns test k ks refl serves h.1 some (forgot_among n m (undone c e) items ns test k ks serves some h.2)
+      forgot_among n m c (mark ∷ items) ns test k ks serves some h = record {
+        undoable = rebased (base_of ns) m (cut (base_of ns) c) items (drop 1 ns) (omega (arith, some)) h.1;
+        kept = refl;
+        marks = refl;
+      }
+
+      -- where none is left, nothing is kept and nothing needs a note
+      last_base : (n : Base) (c : C) (items : List (Item E)) (ns : List Base) → mark_count items ≡ 1 → Leads n c items ns → base_of ns ≡ nowhere
+      last_base n c [] ns one h = absurd (omega (arith, one))
+      last_base n c (entry e ∷ items) ns one h = last_base n (undone c e) items ns one h.2
+      last_base n c (mark ∷ items) ns one h = unmarked_base (base_of ns) (cut (base_of ns) c) items (drop 1 ns) h.1 (omega (arith, one))
+
+      last_kept : {K : Type 0} (n : Base) (c : C) (items : List (Item E)) (ns : List Base) (k : K) (ks : List K) → mark_count items ≡ 1 → Leads n c items ns → [] ≡ drop 1 (kept_of undone cut c items ns (k ∷ ks))
+      last_kept n c [] ns k ks one h = absurd (omega (arith, one))
+      last_kept n c (entry e ∷ items) ns k ks one h = last_kept n (undone c e) items ns k ks one h.2
+      last_kept n c (mark ∷ items) ns k ks one h =
+          sym (ap (λ l. kept_of undone cut (cut (base_of ns) c) l (drop 1 ns) ks) (unmarked (base_of ns) (cut (base_of ns) c) items (drop 1 ns) h.1 (omega (arith, one))))
+
+      forgot_by : {K : Type 0} (x : ℕ) (n m : Base) (c : C) (items : List (Item E)) (ns : List Base) (test : E → Bool) (k : K) (ks : List K) → mark_count items ≡ x → 0 < x → IsBelow m (base_of ns) → Serves (base_of ns) test → Leads n c items ns →
+          Forgot m c (cut (base_of ns) c) items (forgotten_by x test items) ns k ks
+      forgot_by zero n m c items ns test k ks count some less serves h = absurd (omega (arith, some))
+      forgot_by (suc zero) n m c items ns test k ks count some less serves h = record {
+        undoable = below_nowhere m (base_of ns) less (last_base n c items ns count h);
+        kept = last_kept n c items ns k ks count h;
+        marks = sym count;
+      }
+      forgot_by (suc (suc x)) n m c items ns test k ks count some less serves h = forgot_among n m c items ns test k ks serves (omega (arith, count)) h
+
+      pub forgot : {K : Type 0} (n m : Base) (c d : C) (items now : List (Item E)) (ns : List Base) (test : E → Bool) (k : K) (ks : List K) → 0 < mark_count items → IsBelow m (base_of ns) → Serves (base_of ns) test → d ≡ cut (base_of ns) c → now ≡ forgotten test items → IsUndoable undone cut reaches fits n c items ns →
+          Forgot m c d items now ns k ks
+      forgot n m c d items now ns test k ks some less serves same is h =
+          subst (λ l. Forgot m c d items l ns k ks) (sym is) (subst (λ b. Forgot m c b items (forgotten test items) ns k ks) (sym same) (forgot_by (mark_count items) n m c items ns test k ks refl some less serves h))
 
     -- what fits less fits more
     pub undoable_still : (fits more : C → E → Type 0) (n : Base) (c : C) (items : List (Item E)) (ns : List Base) → ((d : C) (e : E) → fits d e → more d e) → IsUndoable undone cut reaches fits n c items ns → IsUndoable undone cut reaches more n c items ns

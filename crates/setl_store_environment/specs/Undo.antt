@@ -1,5 +1,5 @@
 -- What the entries of an environment's trail put back. No public clause cites this module.
-use Rattle.std.specs.Prelude.{ℕ, zero, suc, ◌-◌, ◌≤◌, ◌^◌, length, take, List}
+use Rattle.std.specs.Prelude.{ℕ, zero, suc, ◌-◌, ◌≤◌, ◌^◌, Bool, true, nat_lt, min, length, take, List}
 use Rattle.std.specs.FinSet as set
 use Rattle.std.specs.Prelude.{IsTrue}
 use Rattle.setl_local.specs.Place as place
@@ -26,6 +26,10 @@ pub record Parts (S O A M F : Type 0) : Type 0 where
 abbrev pub ready_of : ℕ → ℕ → ℕ
 ready_of zero spare = 2 ^ 64
 ready_of (suc n) spare = spare
+
+-- the lower of two bases, slots and operands each
+abbrev pub lower : Base → Base → Base
+lower m n = record { slots = min m.slots n.slots; operands = min m.operands n.operands }
 
 module _ {S O A M F : Type 0} where
   abbrev pub parts : StackState S → StackState O → StackState A → StackState M → FieldState F → Parts S O A M F
@@ -60,6 +64,14 @@ module _ {S O A M F : Type 0} where
   FitsIn q c (old.Activation p) = Fits A c.activations q.activations.room p
   FitsIn q c (old.Member p) = Fits M c.members q.members.room p
   FitsIn q c (old.Field p) = HasRoom q.fields.room p
+
+  -- an older copy with this base needs the entry too: its place isn't among the slots or operands that came later
+  abbrev pub needed : Base → Old S O A M F → Bool
+  needed n (old.Slot p) = nat_lt p.at n.slots
+  needed n (old.Operand p) = nat_lt p.at n.operands
+  needed n (old.Activation p) = true
+  needed n (old.Member p) = true
+  needed n (old.Field p) = true
 
   -- the lowest slots and operands, with all else
   abbrev pub cut : Base → Contents S O A M F → Contents S O A M F

@@ -1,20 +1,20 @@
 //! Slots, operands, activations, members of collections and fields of element blocks, with a trail: to keep them puts a
 //! mark on it, and each later change of what was kept notes what it replaced.
 
-ghost use Rattle.std.specs.Prelude.{◌≡◌, ◌+◌, ◌-◌, ◌<◌, ◌≤◌, [], ◌∷◌, ◌++◌, nat_lt, length, take, drop, reverse, Some, IfOk, IsOk, OnOk, OnErr, IfSome, IfNone, slice_get, slice_set};
+ghost use Rattle.std.specs.Prelude.{◌≡◌, ◌+◌, ◌-◌, false, ◌<◌, ◌≤◌, [], ◌∷◌, ◌++◌, nat_lt, length, take, drop, reverse, Some, IfOk, IsOk, OnOk, OnErr, IfSome, IfNone, slice_get, slice_set};
 ghost use Rattle.setl_trail.specs.Trail.{mark_count};
 ghost use Rattle.std.specs.Prelude.{IsTrue, option_copied};
 ghost use Rattle.std.specs.FinSet as set;
 ghost use Rattle.std.specs.FinMap as map;
 ghost use Rattle.setl_store_environment.specs.Places.{with, no_fields, HasRoom};
 ghost use Rattle.setl_store_environment.specs.Kept.{base_of, noted};
-ghost use Rattle.setl_store_environment.specs.Undo.{undone, FitsIn, parts, contents_of, ready_of};
+ghost use Rattle.setl_store_environment.specs.Undo.{undone, FitsIn, parts, contents_of, ready_of, lower, needed};
 
 use crate::fields::{Field, put_field};
 use crate::stack::{Place, Stack};
 use crate::{Copied, Memory};
 use setl_local::Fields;
-use setl_trail::Trail;
+use setl_trail::{Needed, Trail};
 use std::alloc::Global;
 use std::marker::Model;
 
@@ -33,6 +33,20 @@ pub enum Old<S, O, A, M, F> {
 pub(crate) struct Base {
     pub(crate) slots: usize,
     pub(crate) operands: usize,
+}
+
+impl<S, O, A, M, F> Needed<Base> for Old<S, O, A, M, F> {
+    ghost needed = { needed };
+
+    fn is_needed(&self, base: &Base) -> bool {
+        match self {
+            Old::Slot(place) => place.at < base.slots,
+            Old::Operand(place) => place.at < base.operands,
+            Old::Activation(_) => true,
+            Old::Member(_) => true,
+            Old::Field(_) => true,
+        }
+    }
 }
 
 /// The slots, the operands, the activations, the members of collections that are being built and the fields of element
@@ -677,6 +691,37 @@ impl<S: Drop, O: Drop, A: Drop, M: Drop, F: Drop, K: Drop> Environment<S, O, A, 
         }
         self.base = pop_base(&mut self.bases);
         Some(beside)
+    }
+
+    /// Forgets what was kept last, and keeps all changes: it is as though that copy hadn't been kept. Its answer is
+    /// whether something was kept, and else all is as before.
+    ///
+    /// It takes no memory, and its work is in proportion to the notes since that copy. Of them, those stay on the trail
+    /// that the copy before needs, which are those that it would have if the forgotten one hadn't been kept.
+    pub fn forget(&mut self) -> bool
+        ensures now { self.new.now ≡ self.old.now }
+        ensures kept { self.new.kept ≡ drop 1 self.old.kept }
+        ensures some { result ≡ nat_lt 0 (length self.old.kept) }
+        ensures room { self.new.room ≡ self.old.room }
+        ensures nothing { result ≡ false → self.new ≡ self.old }
+    {
+        let Some(_beside) = self.records.pop() else {
+            return false;
+        };
+        let older = pop_base(&mut self.bases);
+        self.trail.forget(&older);
+        self.base = lower(self.base, older);
+        true
+    }
+}
+
+// The lower of two bases, slots and operands each.
+fn lower(m: Base, n: Base) -> Base
+    ensures { result ≡ lower m n }
+{
+    Base {
+        slots: m.slots.min(n.slots),
+        operands: m.operands.min(n.operands),
     }
 }
 

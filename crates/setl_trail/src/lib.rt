@@ -5,13 +5,23 @@
 //! entries and marks, the latest first, and the number `spare` of entries for which memory is reserved beside those.
 #![tactic(auto)]
 
-ghost use Rattle.std.specs.Prelude.{◌≡◌, ◌≤◌, ◌-◌, [], ◌∷◌, reverse, IfOk, OnOk, OnErr};
-ghost use Rattle.setl_trail.specs.Trail.{entry, mark, latest, without_latest, mark_count};
+ghost use Rattle.std.specs.Prelude.{◌≡◌, ◌≤◌, ◌-◌, [], ◌∷◌, Bool, false, nat_lt, reverse, length, filter, take, drop, ◌++◌, vec_len, vec_capacity, IfOk, OnOk, OnErr};
+ghost use Rattle.setl_trail.specs.Trail.{entry, mark, latest, without_latest, mark_count, forgotten};
 ghost use Rattle.setl_trail.specs.Merged.{is_at_mark};
 
 pub use std::alloc::AllocError as Memory;
 use std::alloc::Global;
 use std::marker::Model;
+
+/// What serves an older mark only by a test, once the latest mark is forgotten.
+pub trait Needed<B> {
+    /// Whether it is needed over this base.
+    ghost needed: { B → Self → Bool };
+
+    /// Whether it is needed over this base. It takes no memory.
+    fn is_needed(&self, base: &B) -> bool
+        ensures { result ≡ needed base.now self.now };
+}
 
 /// A stack of entries and marks.
 #[derive(Drop)]
@@ -96,12 +106,63 @@ impl<E> Trail<E> {
         self.entries.pop()
     }
 
+    /// Forgets the latest mark. Of the entries above it, those that are needed over `base` stay, for the mark before;
+    /// where no mark is left, no entry stays. Its answer is whether there was a mark, and else all is as before.
+    ///
+    /// It takes no memory, and its work is in proportion to the entries above the mark.
+    pub fn forget<B>(&mut self, base: &B) -> bool
+    where
+        E: Needed<B> + Drop,
+        ensures forgotten { self.new.items ≡ forgotten (E.needed base.now) self.old.items }
+        ensures some { result ≡ nat_lt 0 (mark_count self.old.items) }
+        ensures room { self.old.spare ≤ self.new.spare }
+        ensures nothing { result ≡ false → self.new ≡ self.old }
+    {
+        let Some(below) = self.marks.pop() else {
+            return false;
+        };
+        if self.marks.is_empty() {
+            self.entries.clear();
+        } else {
+            leave_needed(&mut self.entries, below, base);
+        }
+        true
+    }
+
     /// The number of marks. It takes no memory.
     pub fn marks(&self) -> usize
         ensures { result ≡ mark_count self.now.items }
     {
         self.marks.len()
     }
+}
+
+// Of the entries above the lowest `below`, leaves those that are needed.
+fn leave_needed<B, E: Needed<B> + Drop>(entries: &mut Vec<E>, below: usize, base: &B)
+    requires { below ≤ vec_len entries.old }
+    ensures left { entries.new.items ≡ take below entries.old.items ++ filter (E.needed base.now) (drop below entries.old.items) }
+    ensures more { below ≤ vec_len entries.new }
+    ensures fewer { vec_len entries.new ≤ vec_len entries.old }
+    ensures room { vec_capacity entries.new ≡ vec_capacity entries.old }
+{
+    let count = gather(&mut entries[below..], base);
+    entries.truncate(below + count);
+}
+
+// Moves the entries that are needed to the front, in their order, and counts them.
+fn gather<B, E: Needed<B>>(entries: &mut [E], base: &B) -> usize
+    ensures front { take result entries.new ≡ filter (E.needed base.now) entries.old }
+    ensures within { result ≤ length entries.new }
+    ensures len { length entries.new ≡ length entries.old }
+{
+    let mut count = 0;
+    for at in 0..entries.len() {
+        if entries[at].is_needed(base) {
+            entries.swap(count, at);
+            count += 1;
+        }
+    }
+    count
 }
 
 // Whether the latest mark stands above all of these entries.
