@@ -49,6 +49,21 @@ field: true 8 | 1 2 3 | 1 2 | 1 2 | 2";
 const BACK: &str = "back: 21 | 1 2 3 | 1 2 | 1 2 | 2
 field: true 7 | 1 2 3 | 1 2 | 1 2 | 2";
 
+const FORGOTTEN: &str = "forget: false | 1 2 3 | 1 2 | 1 2 | 2
+keep 21: | 1 2 3 | 1 2 | 1 2 | 2
+drop_last: | 1 2 3 | 1 | 1 | 2
+add 4: | 1 2 3 4 | 1 4 | 1 4 | 3
+keep 22: | 1 2 3 4 | 1 4 | 1 4 | 3
+set: | 11 2 3 4 | 12 4 | 1 4 | 3
+set_field 8: | 11 2 3 4 | 12 4 | 1 4 | 3
+cut: | | | 1 4 | 0
+add 5: | 5 | 5 | 1 4 5 | 1
+forget: true | 5 | 5 | 1 4 5 | 1
+field: true 8 | 5 | 5 | 1 4 5 | 1
+back: 21 | 1 2 3 | 1 2 | 1 2 | 2
+field: false | 1 2 3 | 1 2 | 1 2 | 2
+forget: false | 1 2 3 | 1 2 | 1 2 | 2";
+
 // A slot, an operand, an activation and a member more, with this number.
 fn add(env: &mut Env, n: u64) -> Result<(), Memory> {
     env.reserve(4)?;
@@ -186,6 +201,7 @@ fn call(alloc: Global, env: &mut Env, name: &str, n: u64, told: &mut String) -> 
         "copied_members" => copied_members(env, told),
         "set_field" => set_field(env, n),
         "field" => field(env, told),
+        "forget" => write!(told, " {}", env.forget()),
         _ => back(env, told),
     }
 }
@@ -299,4 +315,9 @@ fn what_is_taken_off_is_the_same_under_a_mark(rt: HostRuntime) -> Result<(), Fai
 #[test]
 fn back_puts_a_field_back(rt: HostRuntime) -> Result<(), Fail> {
     run(&rt, rt.alloc(), [FILLED, CHANGED, BACK])
+}
+
+#[test]
+fn back_goes_past_what_was_forgotten(rt: HostRuntime) -> Result<(), Fail> {
+    run(&rt, rt.alloc(), [FILLED, FORGOTTEN, UNKEPT])
 }
