@@ -1,5 +1,5 @@
 -- A table whose instances are brought back to marks.
-use Rattle.std.proofs.Common.{◌≡◌, ◌∙◌, ℕ, ◌<◌, ◌≤◌, ◌^◌, Bool, true, false, cond, List, [], ◌∷◌, ◌++◌, length, slice_get, Option, None, Some, refl, sym, ap, subst}
+use Rattle.std.proofs.Common.{◌≡◌, ◌∙◌, ℕ, ◌<◌, ◌≤◌, ◌^◌, Bool, true, false, cond, List, [], ◌∷◌, ◌++◌, map, length, slice_get, Option, None, Some, refl, sym, ap, subst}
 use Rattle.std.proofs.lemmas.Bool.{false≢true, true≢false}
 use Rattle.std.specs.BTreeMap.{is_at}
 use Rattle.std.specs.Cmp.{Equal-is, eq_by_cmp_equiv}
@@ -7,7 +7,10 @@ use Rattle.std.specs.List.{FoldsTo}
 use Rattle.std.specs.Option.{option_map, option_map_or}
 use Rattle.std.specs.FinMap as finmap
 use Rattle.std.specs.List.Sorted.{IsStrictlySortedBy}
-use Rattle.std.specs.Map.{keys_of}
+use Rattle.std.specs.List.{IsDistinct}
+use Rattle.std.specs.Map.{keys_of, update_all}
+use Rattle.std.specs.Ordering.{eq_by_cmp}
+use Rattle.std.proofs.lemmas.Map.Made.{update_all_none, lookup-map_values}
 use Rattle.std.proofs.lemmas.Map.Entries.{lookup_from_place}
 use Rattle.std.proofs.lemmas.Map.Keys.{IsDistinct-from_sorted}
 use Rattle.std.specs.Map.Calls.{RetainsPairs, SomeCallAtPair}
@@ -113,3 +116,16 @@ brought_back count old new ms s is h =
     ∙ sym (counted_cuts_are_read t marks q))
     in
     (λ k. record { count = count; instances = same k }) ∙ ap (λ u. back_all u marks) is
+
+-- ---- a table of marks that is made of a table of instances
+
+keys_stay : (es : List (BaseId × Instance)) → keys_of (map (λ e. (e.0, mark_of e.1)) es) ≡ keys_of es
+keys_stay [] = refl
+keys_stay (e ∷ es) = ap (λ l. e.0 ∷ l) (keys_stay es)
+
+pub made : (es : List (BaseId × Instance)) (ms : List (BaseId × Mark)) → IsStrictlySortedBy id_cmp (keys_of es) → ((q : BaseId) → marked_at ms q ≡ update_all (eq_by_cmp id_cmp) (λ _. None) (map (λ e. (e.0, mark_of e.1)) es) q) →
+    (i : BaseId) → marked_at ms i ≡ option_map mark_of (found es i)
+made es ms sorted h i =
+    h i
+    ∙ update_all_none (eq_by_cmp_equiv id_total) (eq_by_cmp id_cmp) (λ x y. refl) (map (λ e. (e.0, mark_of e.1)) es) i (subst (λ ks. IsDistinct (eq_by_cmp id_cmp) ks) (sym (keys_stay es)) (IsDistinct-from_sorted id_cmp (keys_of es) sorted))
+    ∙ lookup-map_values mark_of (is_at (id_cmp i)) es

@@ -184,9 +184,9 @@ members_both (Some m) (Some x) = refl
 pub counted_cuts_leave_the_same : CountedCutsLeaveTheSame
 counted_cuts_leave_the_same bs ms =
     let same : (i : BaseId) → (base_at (cut_all bs ms) i).members ≡ (base_at (back_all bs ms) i).members = λ i.
-        ap (λ o. (base_of o).members) (cuts_are_read bs ms i)
-        ∙ members_both (finmap.get ms i) (instance_at bs i)
-        ∙ sym (ap (λ o. (base_of o).members) (counted_cuts_are_read bs ms i))
+    ap (λ o. (base_of o).members) (cuts_are_read bs ms i)
+    ∙ members_both (finmap.get ms i) (instance_at bs i)
+    ∙ sym (ap (λ o. (base_of o).members) (counted_cuts_are_read bs ms i))
     in (
       record {
         there = λ i t.
