@@ -3,3 +3,5 @@ pub mod Bases
 pub mod Tables
 pub mod Keeping
 pub mod Reading
+pub mod Marks
+pub mod Cutting

@@ -1,5 +1,5 @@
 -- How a table stands for the instances of bases.
-use Rattle.std.specs.Prelude.{◌≡◌, ℕ, Bool, List, cond, Option, Some, None, option_and_then}
+use Rattle.std.specs.Prelude.{◌≡◌, ◌<◌, ◌≤◌, ◌^◌, length, ℕ, Bool, List, cond, Option, Some, None, option_and_then}
 use Rattle.std.specs.Option.{option_map, option_map_or}
 use Rattle.std.specs.Map.{lookup}
 use Rattle.std.specs.BTreeMap.{is_at}
@@ -7,9 +7,11 @@ use Rattle.std.specs.FinMap as map
 use Rattle.setl_value.specs.Datum.{Datum}
 use Rattle.setl_base.specs.Base.{BaseState, empty, entered, cut_back, undone}
 use Rattle.setl_rep_bases.specs.declared.BaseId.{BaseId}
+use Rattle.setl_rep_bases.specs.declared.marks.Mark.{Mark}
 use Rattle.setl_rep_bases.specs.declared.tables.Instance.{Instance}
 use Rattle.setl_rep_bases.specs.BaseId.{id_cmp}
 use Rattle.setl_rep_bases.specs.Bases.{BasesState}
+use Rattle.setl_rep_bases.specs.Marks.{as_cut}
 
 -- what a table has at a name
 abbrev pub found : List (BaseId × Instance) → BaseId → Option Instance
@@ -49,3 +51,19 @@ gone_as gone x = record x { gone = gone }
 -- what is there and isn't gone
 abbrev pub not_gone : Option Instance → Option Instance
 not_gone x = option_and_then (λ y. cond y.gone None (Some y)) x
+
+-- what a table of marks has at a name
+abbrev pub marked_at : List (BaseId × Mark) → BaseId → Option Mark
+marked_at ms i = lookup (is_at (id_cmp i)) ms
+
+-- the instance of a mark, where it has one, as f makes it
+abbrev pub brought : (Instance → Mark → Instance) → Option Mark → Option Instance → Option Instance
+brought f w o = option_and_then (λ x. option_map (f x) w) o
+
+-- each marked instance is cut to its mark, and the others are gone from the table
+abbrev pub Brings : List (BaseId × Mark) → List (BaseId × Instance) → List (BaseId × Instance) → Type 0
+Brings ms old new = (i : BaseId) → found new i ≡ brought as_cut (marked_at ms i) (found old i)
+
+-- an instance may be cut to its mark, where it has one
+abbrev pub MayBeCut : Option Mark → Instance → Type 0
+MayBeCut w x = (x.base.cuts < 2 ^ 63) × ((m : Mark) → w ≡ Some m → m.count ≤ length x.base.members)

@@ -3,10 +3,11 @@
 ghost use Rattle.std.specs.Prelude.{◌≡◌, ◌<◌, ◌≤◌, ◌^◌, length, if◌then◌else◌, true, false, IfOk, OnOk, OnErr, None, Some};
 ghost use Rattle.setl_value.specs.code.DatumOf.{datum};
 ghost use Rattle.setl_base.specs.Base.{find, IsBase};
+ghost use Rattle.setl_rep_bases.specs.Marks.{marks_of, back_all, AreWithin, HaveFewCuts};
 ghost use Rattle.setl_rep_bases.specs.Bases.{base_at, instance_at, is_gone, is_there, IsThere, main_bases, named, with_added, with_cut, with_entered, with_gone, with_undone, without, without_gone};
 
 use crate::tables::{self, Table};
-use crate::{BaseId, Memory};
+use crate::{BaseId, BaseMarks, Memory};
 use setl_base::{Base, BaseMark, Elt};
 use setl_value::Value;
 use std::alloc::Global;
@@ -149,5 +150,23 @@ impl Bases {
         ensures { self.new ≡ without_gone self.old }
     {
         tables::drop_gone(&mut self.instances);
+    }
+
+    /// What each instance has now: how many members, and whether it is gone. An error is want of memory.
+    pub fn marks(&self, alloc: Global) -> Result<BaseMarks, Memory>
+        ensures { IfOk result (λ ms. ms ≡ marks_of self.now) }
+    {
+        let table = tables::marks(alloc, &self.instances)?;
+        Ok(BaseMarks { table })
+    }
+
+    /// Brings all instances back to what they had: those that have no mark go, and each other one is cut as `Base::back`
+    /// does, and is gone or not as it was then. It takes no memory.
+    pub fn back_to(&mut self, marks: &BaseMarks)
+        requires within { AreWithin marks.now self.old }
+        requires few_cuts { HaveFewCuts self.old }
+        ensures { self.new ≡ back_all self.old marks.now }
+    {
+        tables::back_to(&mut self.instances, &marks.table);
     }
 }

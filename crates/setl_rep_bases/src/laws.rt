@@ -1,5 +1,6 @@
 //! Laws of bases that change. The functions have no effect: each hands a proof the laws that it is named for.
 
+ghost use Rattle.setl_rep_bases.specs.Cutting.{MarksAreRead, CutsAreRead, CountedCutsAreRead, NothingIsCut, GrownBasesAreCutAlike, CountedCutsLeaveTheSame};
 ghost use Rattle.setl_rep_bases.specs.Keeping.{EnteringKeepsMembers, EnteringKeepsBlocks, CutsKeepBlocks, InstancesKeepBlocks, RemovalsKeepBlocks};
 ghost use Rattle.setl_rep_bases.specs.Reading.{InstancesArePut, InstancesAreTaken, GoneAreTaken, MainInstancesAreFresh, NamesAreExact, BasesAgree};
 
@@ -20,4 +21,15 @@ pub fn instances_are_read()
     ensures main { MainInstancesAreFresh }
     ensures names { NamesAreExact }
     ensures agree { BasesAgree }
+{}
+
+/// What marks tell, and what is there after a cut to them: of bases as they are nothing is cut, bases that grew are cut to
+/// the same blocks, and cuts that count leave the same blocks.
+pub fn cuts_are_exact()
+    ensures marks { MarksAreRead }
+    ensures cuts { CutsAreRead }
+    ensures counted { CountedCutsAreRead }
+    ensures whole { NothingIsCut }
+    ensures grown { GrownBasesAreCutAlike }
+    ensures same { CountedCutsLeaveTheSame }
 {}

@@ -6,13 +6,16 @@
 //! again.
 //!
 //! Contracts see `Bases` as a `BasesState`: how many bases the main program has, and a finite map from names to instances.
+//! `Bases::marks` tells what all of them have, and `Bases::back_to` brings them back to that.
 #![tactic(auto)]
 
 mod bases;
 pub mod laws;
+mod marks;
 mod tables;
 
 pub use bases::Bases;
+pub use marks::{BaseMarks, Mark};
 pub use std::alloc::AllocError as Memory;
 
 /// The name of an instance of a base: the number of the base, and that of the activation, 0 for the main program.

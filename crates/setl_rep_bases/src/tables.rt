@@ -1,11 +1,15 @@
 //! A table of instances.
 
-ghost use Rattle.std.specs.Prelude.{◌≡◌, ◌<◌, ◌≤◌, ◌^◌, length, IsSome, IfOk, OnOk, OnErr, None, Some};
+ghost use Rattle.std.specs.Prelude.{◌≡◌, ◌<◌, ◌≤◌, ◌^◌, cond, length, IsSome, IfOk, OnOk, OnErr, None, Some};
 ghost use Rattle.setl_value.specs.code.DatumOf.{datum};
 ghost use Rattle.setl_base.specs.Base.{find};
+ghost use Rattle.std.specs.Option.{option_map};
+ghost use Rattle.std.specs.List.{All};
 ghost use Rattle.setl_rep_bases.specs.Bases.{fresh};
-ghost use Rattle.setl_rep_bases.specs.Tables.{found, base_in, Alters, Puts, Stays, with_value, cut_to, undone_to, gone_as, not_gone};
+ghost use Rattle.setl_rep_bases.specs.Marks.{mark_of, as_cut};
+ghost use Rattle.setl_rep_bases.specs.Tables.{found, base_in, Alters, Puts, Stays, with_value, cut_to, undone_to, gone_as, not_gone, marked_at, Brings, MayBeCut};
 
+use crate::marks::{Mark, MarkTable};
 use crate::{BaseId, Memory};
 use setl_base::{Base, BaseMark, Elt};
 use setl_value::Value;
@@ -92,4 +96,48 @@ pub(crate) fn remove(table: &mut Table, i: BaseId)
     ensures { Puts i None table.old.entries table.new.entries }
 {
     table.remove(&i);
+}
+
+/// What each instance has. An error is want of memory.
+pub(crate) fn marks(alloc: Global, table: &Table) -> Result<MarkTable, Memory>
+    ensures { IfOk result (λ ms. (i : BaseId) → marked_at ms.entries i ≡ option_map mark_of (found table.now.entries i)) }
+{
+    table
+        .iter()
+        .map(|(i, instance)| (*i, mark(instance)))
+        .collect(alloc)
+}
+
+// What an instance has.
+fn mark(instance: &Instance) -> Mark
+    ensures { result ≡ mark_of instance.now }
+{
+    Mark {
+        count: instance.base.mark().count,
+        gone: instance.gone,
+    }
+}
+
+/// Takes out the instances that have no mark, and cuts the others to theirs.
+pub(crate) fn back_to(table: &mut Table, marks: &MarkTable)
+    requires { (i : BaseId) (x : Instance) → found table.old.entries i ≡ Some x → MayBeCut (marked_at marks.now.entries i) x }
+    ensures { Brings marks.now.entries table.old.entries table.new.entries }
+{
+    let _ordered = table.len();
+    table.retain(|i, instance| bring(marks, *i, instance));
+}
+
+// Cuts an instance to its mark, and tells whether it has one.
+fn bring(marks: &MarkTable, i: BaseId, instance: &mut Instance) -> bool
+    requires { MayBeCut (marked_at marks.now.entries i) instance.old }
+    ensures { cond result (Some instance.new) None ≡ option_map (as_cut instance.old) (marked_at marks.now.entries i) }
+{
+    match marks.get(&i) {
+        None => false,
+        Some(m) => {
+            instance.base.back(&BaseMark { count: m.count });
+            instance.gone = m.gone;
+            true
+        }
+    }
 }

@@ -2,13 +2,13 @@
 -- knows what a form is.
 --
 -- These theorems speak of all forms and predicates, which no clause can, so they stand here and are cited from here. What
--- they ask of cuts is what `laws::cuts_are_exact` tells.
+-- they ask of cuts is what `setl_rep_bases::laws::cuts_are_exact` tells, and `back_to` there cuts the bases to their marks.
 use Rattle.std.proofs.Common.{◌≡◌, ◌≢◌, ◌∙◌, ℕ, zero, suc, ◌+◌, ◌≤◌, List, [], ◌∷◌, set, refl, ap, sym, subst, arith}
 use Rattle.setl_rep_bases.specs.Bases.{BasesState}
 use Rattle.setl_rep_bases.specs.Keeping.{AreKept}
-use Rattle.setl_store_kept.specs.Marks.{Marks, marks_of, cut_all, AreWithin}
+use Rattle.setl_rep_bases.specs.Marks.{Marks, marks_of, cut_all, AreWithin}
 use Rattle.setl_store_kept.specs.Kept.{shown, AllStand, kept_shown, KeptSound}
-use Rattle.setl_store_kept.specs.Laws.{NothingIsCut, GrownBasesAreCutAlike}
+use Rattle.setl_rep_bases.specs.Cutting.{NothingIsCut, GrownBasesAreCutAlike}
 
 module _ {C K Q : Type 0} (marks : K → Marks) (read : BasesState → C × K → Q) (sound : BasesState → C → Type 0) where
   -- What is sound over bases stands for the same, and is sound, over all in which their instances and blocks are kept. It is

@@ -6,7 +6,7 @@
 -- over which it is read the present ones, and it stands for the same by definition.
 use Rattle.std.specs.Prelude.{ℕ, suc, List, [], ◌∷◌}
 use Rattle.setl_rep_bases.specs.Bases.{BasesState}
-use Rattle.setl_store_kept.specs.Marks.{Marks, cut_all, AreWithin}
+use Rattle.setl_rep_bases.specs.Marks.{Marks, cut_all, AreWithin}
 
 module _ {S P Fs : Type 0} (denoted : BasesState → Fs → ℕ → S → P) where
   -- what slots stand for, which begin with the k-th

@@ -1,4 +1,2 @@
-pub mod Marks
 pub mod Kept
-pub mod Laws
 pub mod Keeping

@@ -4,5 +4,3 @@
 //! The theorems (`specs/Keeping`) speak of any forms, of which they ask one thing: that what stands over bases stands for the
 //! same over all in which their instances and blocks are kept.
 #![tactic(auto)]
-
-pub mod laws;

@@ -2,27 +2,21 @@
 use Rattle.std.proofs.Common.{◌≡◌, ◌∙◌, ℕ, zero, suc, ◌<◌, ◌≤◌, Bool, true, false, cond, List, [], ◌∷◌, length, map, take, slice_get, Option, None, Some, refl, sym, ap, subst, arith}
 use Rattle.std.proofs.lemmas.Bool.{false≢true}
 use Rattle.std.proofs.lemmas.List.{take_all}
-use Rattle.std.proofs.lemmas.Map.Lookups.{exact_pairs, exact_unsigned}
-use Rattle.std.specs.Prelude.{IsSome, option_and_then}
-use Rattle.std.specs.Cmp.{Equal-is, IsTotalOrder, then_total, on_total, nat_cmp_total}
-use Rattle.std.specs.Ordering.{eq_by_cmp, nat_cmp}
+use Rattle.std.specs.Prelude.{IsSome}
+use Rattle.std.specs.Cmp.{Equal-is}
+use Rattle.std.specs.Ordering.{eq_by_cmp}
 use Rattle.std.specs.Option.{option_map, option_map_or, unwrap_or}
 use Rattle.std.specs.FinMap as finmap
 use Rattle.setl_base.specs.Base.{BaseState, Member, empty, member_at}
 use Rattle.setl_rep_bases.specs.declared.BaseId.{BaseId}
+use Rattle.setl_rep_bases.specs.declared.marks.Mark.{Mark}
 use Rattle.setl_rep_bases.specs.declared.tables.Instance.{Instance}
 use Rattle.setl_rep_bases.specs.BaseId.{id_cmp}
 use Rattle.setl_rep_bases.specs.Bases.{instance_at, base_at}
-use Rattle.setl_store_kept.specs.Marks.{Mark, Marks, mark_of, marks_of, as_marked, marked, cut_all}
-use Rattle.setl_store_kept.specs.Laws.{MarksAreRead, CutsAreRead, NothingIsCut, GrownBasesAreCutAlike}
-
-id_total : IsTotalOrder id_cmp
-id_total = then_total (on_total (λ (i : BaseId). i.base) nat_cmp_total) (on_total (λ (i : BaseId). i.instance) nat_cmp_total)
-
--- names that compare alike are one
-same_id : finmap.IsAntisymmetric id_cmp
-same_id i j h =
-    ap (λ (p : ℕ × ℕ). record { base = p.0; instance = p.1 }) (exact_pairs nat_cmp nat_cmp exact_unsigned exact_unsigned (i.base, i.instance) (j.base, j.instance) h)
+use Rattle.setl_rep_bases.specs.Tables.{brought}
+use Rattle.setl_rep_bases.specs.Marks.{Marks, mark_of, marks_of, as_marked, as_cut, marked, cut_all, back_all}
+use Rattle.setl_rep_bases.specs.Cutting.{MarksAreRead, CutsAreRead, CountedCutsAreRead, NothingIsCut, GrownBasesAreCutAlike, CountedCutsLeaveTheSame}
+use Rattle.setl_rep_bases.proofs.Ids.{id_total, same_id}
 
 same_name : (i j : BaseId) → eq_by_cmp id_cmp i j ≡ true → i ≡ j
 same_name i j e = same_id i j ((Equal-is (id_cmp i j)).0 e)
@@ -46,44 +40,47 @@ marks_are_read bs i =
     ∙ found_mapped i (finmap.entries bs.instances)
     ∙ ap (option_map mark_of) (sym (finmap.get-entries bs.instances i))
 
--- an instance as a mark has it
-abbrev by_mark : Option Mark → Option Instance → Option Instance
-by_mark w o = option_and_then (λ x. option_map (as_marked x) w) o
+module _ (f : Instance → Mark → Instance) where
+  pub none_left : (w : Option Mark) (o : Option Instance) → w ≡ None → brought f w o ≡ None
+  none_left w None e = refl
+  none_left w (Some x) e = ap (option_map (f x)) e
 
-none_left : (w : Option Mark) (o : Option Instance) → w ≡ None → by_mark w o ≡ None
-none_left w None e = refl
-none_left w (Some x) e = ap (option_map (as_marked x)) e
+  -- one entry more, where w is the mark of its name
+  marked_by : (ms : Marks) (i j : BaseId) (x : Instance) (es : List (BaseId × Instance)) (w : Option Mark) (b : Bool) → finmap.get ms i ≡ w → eq_by_cmp id_cmp j i ≡ b →
+      finmap.find id_cmp j (marked f ms es) ≡ brought f (finmap.get ms j) (finmap.find id_cmp j es) →
+      finmap.find id_cmp j (option_map_or (λ m. (i, f x m) ∷ marked f ms es) w (marked f ms es)) ≡ brought f (finmap.get ms j) (cond b (Some x) (finmap.find id_cmp j es))
+  marked_by ms i j x es (Some m) true e t rest =
+      ap (λ b. cond b (Some (f x m)) (finmap.find id_cmp j (marked f ms es))) t
+      ∙ sym (ap (option_map (f x)) (ap (finmap.get ms) (same_name j i t) ∙ e))
+  marked_by ms i j x es (Some m) false e t rest = ap (λ b. cond b (Some (f x m)) (finmap.find id_cmp j (marked f ms es))) t ∙ rest
+  marked_by ms i j x es None true e t rest =
+      rest
+      ∙ none_left (finmap.get ms j) (finmap.find id_cmp j es) (ap (finmap.get ms) (same_name j i t) ∙ e)
+      ∙ sym (ap (option_map (f x)) (ap (finmap.get ms) (same_name j i t) ∙ e))
+  marked_by ms i j x es None false e t rest = rest
 
--- one entry more, where w is the mark of its name
-marked_by : (ms : Marks) (i j : BaseId) (x : Instance) (es : List (BaseId × Instance)) (w : Option Mark) (b : Bool) → finmap.get ms i ≡ w → eq_by_cmp id_cmp j i ≡ b →
-    finmap.find id_cmp j (marked ms es) ≡ by_mark (finmap.get ms j) (finmap.find id_cmp j es) →
-    finmap.find id_cmp j (option_map_or (λ m. (i, as_marked x m) ∷ marked ms es) w (marked ms es)) ≡ by_mark (finmap.get ms j) (cond b (Some x) (finmap.find id_cmp j es))
-marked_by ms i j x es (Some m) true e t rest =
-    ap (λ b. cond b (Some (as_marked x m)) (finmap.find id_cmp j (marked ms es))) t
-    ∙ sym (ap (option_map (as_marked x)) (ap (finmap.get ms) (same_name j i t) ∙ e))
-marked_by ms i j x es (Some m) false e t rest = ap (λ b. cond b (Some (as_marked x m)) (finmap.find id_cmp j (marked ms es))) t ∙ rest
-marked_by ms i j x es None true e t rest =
-    rest
-    ∙ none_left (finmap.get ms j) (finmap.find id_cmp j es) (ap (finmap.get ms) (same_name j i t) ∙ e)
-    ∙ sym (ap (option_map (as_marked x)) (ap (finmap.get ms) (same_name j i t) ∙ e))
-marked_by ms i j x es None false e t rest = rest
-
-found_marked : (ms : Marks) (j : BaseId) (es : List (BaseId × Instance)) → finmap.find id_cmp j (marked ms es) ≡ by_mark (finmap.get ms j) (finmap.find id_cmp j es)
-found_marked ms j [] = refl
-found_marked ms j ((i, x) ∷ es) = marked_by ms i j x es (finmap.get ms i) (eq_by_cmp id_cmp j i) refl refl (found_marked ms j es)
+  found_marked : (ms : Marks) (j : BaseId) (es : List (BaseId × Instance)) → finmap.find id_cmp j (marked f ms es) ≡ brought f (finmap.get ms j) (finmap.find id_cmp j es)
+  found_marked ms j [] = refl
+  found_marked ms j ((i, x) ∷ es) = marked_by ms i j x es (finmap.get ms i) (eq_by_cmp id_cmp j i) refl refl (found_marked ms j es)
 
 pub cuts_are_read : CutsAreRead
 cuts_are_read bs ms i =
-    finmap.get-from_entries id_total (marked ms (finmap.entries bs.instances)) i
-    ∙ found_marked ms i (finmap.entries bs.instances)
-    ∙ ap (by_mark (finmap.get ms i)) (sym (finmap.get-entries bs.instances i))
+    finmap.get-from_entries id_total (marked as_marked ms (finmap.entries bs.instances)) i
+    ∙ found_marked as_marked ms i (finmap.entries bs.instances)
+    ∙ ap (brought as_marked (finmap.get ms i)) (sym (finmap.get-entries bs.instances i))
+
+pub counted_cuts_are_read : CountedCutsAreRead
+counted_cuts_are_read bs ms i =
+    finmap.get-from_entries id_total (marked as_cut ms (finmap.entries bs.instances)) i
+    ∙ found_marked as_cut ms i (finmap.entries bs.instances)
+    ∙ ap (brought as_cut (finmap.get ms i)) (sym (finmap.get-entries bs.instances i))
 
 -- ---- cut to what is there
 
 uncut : (x : Instance) → as_marked x (mark_of x) ≡ x
 uncut x = ap (λ ms. record x { base = record x.base { members = ms } }) (take_all (length x.base.members) x.base.members (omega arith))
 
-whole : (o : Option Instance) → by_mark (option_map mark_of o) o ≡ o
+whole : (o : Option Instance) → brought as_marked (option_map mark_of o) o ≡ o
 whole None = refl
 whole (Some x) = ap (λ y. Some y) (uncut x)
 
@@ -94,13 +91,13 @@ within_by (Some x) m e = (refl, omega (arith, ap (λ (k : Mark). k.count) (some_
 pub nothing_is_cut : NothingIsCut
 nothing_is_cut bs = (
   ap (λ t. record bs { instances = t }) (finmap.same_map id_total same_id (cut_all bs (marks_of bs)).instances bs.instances (λ i.
-      cuts_are_read bs (marks_of bs) i ∙ ap (λ w. by_mark w (instance_at bs i)) (marks_are_read bs i) ∙ whole (instance_at bs i))),
+      cuts_are_read bs (marks_of bs) i ∙ ap (λ w. brought as_marked w (instance_at bs i)) (marks_are_read bs i) ∙ whole (instance_at bs i))),
   λ i m e. within_by (instance_at bs i) m (sym (marks_are_read bs i) ∙ e),
 )
 
 -- ---- bases that grew
 
-there_by : (w : Option Mark) (o p : Option Instance) → (IsSome o → IsSome p) → IsSome (by_mark w o) → IsSome (by_mark w p)
+there_by : (w : Option Mark) (o p : Option Instance) → (IsSome o → IsSome p) → IsSome (brought as_marked w o) → IsSome (brought as_marked w p)
 there_by w None p k h = absurd (false≢true h)
 there_by w (Some x) None k h = absurd (false≢true (k refl))
 there_by None (Some x) (Some y) k h = h
@@ -132,8 +129,8 @@ cut_keeps : (x y : Instance) (m : Mark) → Keeps x.base y.base → Keeps (as_ma
 cut_keeps x y m k zero l e = absurd (cc)
 cut_keeps x y m k (suc i) l e = let h = get_taken m.count x.base.members i l e in taken_get m.count y.base.members i l h.0 (k (suc i) l h.1)
 
-members_by : (w : Option Mark) (o p : Option Instance) → (IsSome o → IsSome p) → Keeps (base_of o) (base_of p) → Keeps (base_of (by_mark w o)) (base_of (by_mark w p))
-members_by w None p t k = nothing_at (base_of (by_mark w p))
+members_by : (w : Option Mark) (o p : Option Instance) → (IsSome o → IsSome p) → Keeps (base_of o) (base_of p) → Keeps (base_of (brought as_marked w o)) (base_of (brought as_marked w p))
+members_by w None p t k = nothing_at (base_of (brought as_marked w p))
 members_by w (Some x) None t k = absurd (false≢true (t refl))
 members_by None (Some x) (Some y) t k = nothing_at empty
 members_by (Some m) (Some x) (Some y) t k = cut_keeps x y m k
@@ -162,8 +159,45 @@ grown_alike bs cs ms more h = (
         (there_by (finmap.get ms i) (instance_at bs i) (instance_at cs i) (more.there i) (subst (λ o. IsSome o) (cuts_are_read bs ms i) t));
     members = λ i.
         subst (λ o. Keeps (base_of (instance_at (cut_all bs ms) i)) (base_of o)) (sym (cuts_are_read cs ms i))
-        (subst (λ o. Keeps (base_of o) (base_of (by_mark (finmap.get ms i) (instance_at cs i)))) (sym (cuts_are_read bs ms i))
+        (subst (λ o. Keeps (base_of o) (base_of (brought as_marked (finmap.get ms i) (instance_at cs i)))) (sym (cuts_are_read bs ms i))
         (members_by (finmap.get ms i) (instance_at bs i) (instance_at cs i) (more.there i) (more.members i)));
   },
   λ i m e. let w = h i m e in (more.there i w.0, as_long (base_at bs i) (base_at cs i) m.count (more.members i) w.1),
 )
+
+-- ---- cuts that count
+
+there_both : (w : Option Mark) (o : Option Instance) → (IsSome (brought as_marked w o) → IsSome (brought as_cut w o)) × (IsSome (brought as_cut w o) → IsSome (brought as_marked w o))
+there_both w None = (λ h. h, λ h. h)
+there_both None (Some x) = (λ h. h, λ h. h)
+there_both (Some m) (Some x) = (λ h. refl, λ h. refl)
+
+same_members : (b c : BaseState) → b.members ≡ c.members → Keeps b c
+same_members b c e zero m p = p
+same_members b c e (suc i) m p = ap (λ ms. slice_get ms i) (sym e) ∙ p
+
+members_both : (w : Option Mark) (o : Option Instance) → (base_of (brought as_marked w o)).members ≡ (base_of (brought as_cut w o)).members
+members_both w None = refl
+members_both None (Some x) = refl
+members_both (Some m) (Some x) = refl
+
+pub counted_cuts_leave_the_same : CountedCutsLeaveTheSame
+counted_cuts_leave_the_same bs ms =
+    let same : (i : BaseId) → (base_at (cut_all bs ms) i).members ≡ (base_at (back_all bs ms) i).members = λ i.
+    ap (λ o. (base_of o).members) (cuts_are_read bs ms i)
+    ∙ members_both (finmap.get ms i) (instance_at bs i)
+    ∙ sym (ap (λ o. (base_of o).members) (counted_cuts_are_read bs ms i))
+    in (
+      record {
+        there = λ i t.
+            subst (λ o. IsSome o) (sym (counted_cuts_are_read bs ms i))
+            ((there_both (finmap.get ms i) (instance_at bs i)).0 (subst (λ o. IsSome o) (cuts_are_read bs ms i) t));
+        members = λ i. same_members (base_at (cut_all bs ms) i) (base_at (back_all bs ms) i) (same i);
+      },
+      record {
+        there = λ i t.
+            subst (λ o. IsSome o) (sym (cuts_are_read bs ms i))
+            ((there_both (finmap.get ms i) (instance_at bs i)).1 (subst (λ o. IsSome o) (counted_cuts_are_read bs ms i) t));
+        members = λ i. same_members (base_at (back_all bs ms) i) (base_at (cut_all bs ms) i) (sym (same i));
+      },
+    )
