@@ -15,7 +15,7 @@ use Rattle.setl_base.specs.Base.{Member, BaseState, IsBase, handle, member_at, v
 use Rattle.setl_modes_dump.specs.Dump.{number_from, block_number, numbers_from, digits_of, component}
 use Rattle.setl_rep_forms.specs.Laws.{TestedAtNumber}
 use Rattle.setl_rep_forms.specs.Stands.{value_at, members_at, parts_at, AreLiving, AreHandles}
-use Rattle.setl_rep_layout.specs.Members.{values_of}
+use Rattle.setl_rep_layout.specs.Members.{as_list, member_list, values_of}
 use Rattle.setl_rep_layout.specs.Texts.{handle_text, handle_texts}
 use Rattle.setl_rep_layout.proofs.Walks.{one, walk, walk_list, rise_within}
 
@@ -44,13 +44,14 @@ living_within b (suc i) h = (omega arith, omega (arith, got_within (values_of b)
 
 -- ---- the number of a member
 
+number_by : (n : ℕ) (d : Datum) (m : Member) (ms : List Member) (e : Elt) (b : Bool) → (find_from (n + 1) ms d ≡ Some e → number_from (n + 1) d (map (λ x. x.value) ms) ≡ e.block)
+    → (if b then Some (handle n m) else find_from (n + 1) ms d) ≡ Some e → cond b n (number_from (suc n) d (map (λ x. x.value) ms)) ≡ e.block
+number_by n d m ms e true rest p = ap (λ (o : Option Elt). unwrap_or (option_map (λ (x : Elt). x.block) o) n) p
+number_by n d m ms e false rest p = let k : suc n ≡ n + 1 = omega arith in ap (λ j. number_from j d (map (λ x. x.value) ms)) k ∙ rest p
+
 number_found : (n : ℕ) (d : Datum) (ms : List Member) (e : Elt) → find_from n ms d ≡ Some e → number_from n d (map (λ m. m.value) ms) ≡ e.block
 number_found n d [] e h = absurd (cc)
-number_found n d (m ∷ ms) e h = by (is_eq (datum_cmp d m.value)) h
-  where
-    by : (b : Bool) → (if b then Some (handle n m) else find_from (n + 1) ms d) ≡ Some e → cond b n (number_from (suc n) d (map (λ x. x.value) ms)) ≡ e.block
-    by true p = ap (λ (o : Option Elt). unwrap_or (option_map (λ (x : Elt). x.block) o) n) p
-    by false p = let k : suc n ≡ n + 1 = omega arith in ap (λ j. number_from j d (map (λ x. x.value) ms)) k ∙ number_found (n + 1) d ms e p
+number_found n d (m ∷ ms) e h = number_by n d m ms e (is_eq (datum_cmp d m.value)) (λ p. number_found (n + 1) d ms e p) h
 
 pub element_number : (b : BaseState) (e : Elt) (d : Datum) → IsBase b → value_of b e ≡ Some d → block_number d (values_of b) ≡ e.block
 element_number b e d k h = number_found 1 d b.members e (k.found e d h)
@@ -84,7 +85,7 @@ numbers_walk s test n (e ∷ es) h =
 pub numbers_listed : TestedAtNumber → (b : BaseState) (ns : set.FinSet nat_cmp) (list : List ℕ) → IsBase b → AreLiving b ns → IsStrictlyIncreasing list
     → ((n : ℕ) → list_any (nat_eq n) list ≡ set.contains ns n) → numbers_from 1 (members_at b ns) (values_of b) ≡ map decimal list
 numbers_listed law b ns list k living rising has =
-    numbers_walk (members_at b ns) (set.contains ns) 1 (values_of b) (λ i d g. tested law b ns k i d g)
+    numbers_walk (members_at b ns) (set.contains ns) 1 (values_of b) (λ i d g. let e : suc i ≡ 1 + i = omega arith in tested law b ns k i d g ∙ ap (set.contains ns) e)
     ∙ walk_list (λ m. cond (set.contains ns m) (Some (decimal m)) None) decimal 1 (length (values_of b)) list
       (rise_within 1 (1 + length (values_of b)) list rising (λ m h. living_within b m (living m (sym (has m) ∙ h))))
       (λ m l. ap (λ x. cond x (Some (decimal m)) None) (sym (has m)))
@@ -100,3 +101,33 @@ digit_next s (v ∷ vs) zero on h t = by on (t v refl)
     by true e = ap (λ b. cond b 49 48 ∷ digits_of s vs) e
     by false e = ap (λ b. cond b 49 48 ∷ digits_of s vs) e
 digit_next s (v ∷ vs) (suc n) on h t = digit_next s vs n on (omega (arith, h)) t
+
+-- ---- the list of the members
+
+rest_from : (vs : List Datum) (n : ℕ) → drop n vs ≡ as_list (slice_get vs n) ++ drop (suc n) vs
+rest_from [] zero = refl
+rest_from [] (suc n) = refl
+rest_from (v ∷ vs) zero = refl
+rest_from (v ∷ vs) (suc n) = rest_from vs n
+
+-- the member of the next number, and the ones behind it
+pub members_next : (b : BaseState) (n : ℕ) → drop n (values_of b) ≡ member_list b (n + 1) ++ drop (n + 1) (values_of b)
+members_next b n =
+    let e : suc n ≡ n + 1 = omega arith in
+    rest_from (values_of b) n ∙ ap (λ o. as_list o ++ drop (suc n) (values_of b)) (sym (at_value b n)) ∙ ap (λ k. member_list b k ++ drop k (values_of b)) e
+
+drop_past : (vs : List Datum) (n : ℕ) → length vs ≤ n → drop n vs ≡ []
+drop_past [] zero h = refl
+drop_past [] (suc n) h = refl
+drop_past (v ∷ vs) zero h = absurd (omega (arith, h))
+drop_past (v ∷ vs) (suc n) h = drop_past vs n (omega (arith, h))
+
+values_count : (ms : List Member) → length (map (λ m. m.value) ms) ≡ length ms
+values_count [] = refl
+values_count (m ∷ ms) = ap suc (values_count ms)
+
+pub count_of : (b : BaseState) → length (values_of b) ≡ length b.members
+count_of b = values_count b.members
+
+pub members_end : (b : BaseState) (n : ℕ) → length b.members ≤ n → drop n (values_of b) ≡ []
+members_end b n h = drop_past (values_of b) n (omega (arith, h, count_of b))

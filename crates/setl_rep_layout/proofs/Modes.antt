@@ -23,7 +23,7 @@ use Rattle.setl_rep_bases.specs.Bases.{BasesState, base_at}
 use Rattle.setl_rep_building.specs.HasForm.{layout_of, placed, place_of, base_of, content_mode, HasForm, IsPlain, IsSetForm, IsTupleForm, IsMapForm, IsTableOf, HaveForms}
 use Rattle.setl_rep_forms.specs.Form.{Layout, Form, om, plain, element, numbers, table, handles, Entries, no_entry, entry_then, remote, sparse}
 use Rattle.setl_rep_forms.specs.Stands.{stands, value_at, members_at, parts_at, IsOver, AreOver, IsContent, AreHandles}
-use Rattle.setl_rep_maps.specs.Contents.{content_of}
+use Rattle.setl_rep_maps.specs.Contents.{content_of, HasBase, IsKeyedForm, IsTable}
 use Rattle.setl_rep_maps.specs.Laws.{ContentsStandForImages}
 use Rattle.setl_rep_tables.specs.Tables.{content_in, images_of, table_pairs}
 use Rattle.setl_rep_layout.specs.Listing.{has_content, ListsExactly}
@@ -409,3 +409,20 @@ contents_laid bs (Sets a k) l b has es h = absurd (table_of_set (place_of a k) l
 contents_laid bs (Tuples m) l b has es h = absurd (table_of_tuple (base_of m) l b has es h.form)
 contents_laid bs (SingleMaps a k r) l b has es h = laid_inside bs false a k r l b has es (map_base (layout_of a) k false (HasForm main r) l b has es h.form) h.over h.attributed
 contents_laid bs (MultiMaps a k s) l b has es h = laid_inside bs true a k s l b has es (map_base (layout_of a) k true (HasForm main s) l b has es h.form) h.over h.attributed
+
+pub contents_laid_in : (bs : BasesState) (m : Mode) (f : Form) → IsTable f → IsLaid bs m f → AreContentsLaid bs (content_mode m) f
+contents_laid_in bs m (table l b has es) t h = contents_laid bs m l b has es h
+contents_laid_in bs m om t h = absurd t
+contents_laid_in bs m (plain d) t h = absurd t
+contents_laid_in bs m (element b e) t h = absurd t
+contents_laid_in bs m (numbers l b ns) t h = absurd t
+contents_laid_in bs m (handles b es) t h = absurd t
+
+pub of_map_form : ContentsStandForImages → (bs : BasesState) (m : Mode) (f : Form) (list : List ℕ) → IsTable f → HasForm main m f → IsOver bs f → IsKeyedForm f → HasBase bs f → ListsExactly (has_content f) list
+    → form_word (attribute_of m) ++ after_blanks (listed (entry_texts bs (content_mode m) f list)) ≡ held_text bs m (stands bs f)
+of_map_form law bs m (table l b has es) list t h o k base x = of_table law bs m l b has es list h (record { over = o; keyed = k; base = base }) x
+of_map_form law bs m om list t h o k base x = absurd t
+of_map_form law bs m (plain d) list t h o k base x = absurd t
+of_map_form law bs m (element b e) list t h o k base x = absurd t
+of_map_form law bs m (numbers l b ns) list t h o k base x = absurd t
+of_map_form law bs m (handles b es) list t h o k base x = absurd t

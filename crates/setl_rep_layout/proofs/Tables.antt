@@ -29,17 +29,17 @@ use Rattle.setl_rep_layout.proofs.Walks.{one, walk, walk_list, rise_within}
 some_same : {A : Type 0} {x y : A} → Some x ≡ Some y → x ≡ y
 some_same p = cc
 
+content_by : (P : ℕ → Form → Type 0) (k : ℕ) (d : Form) (es : Entries) (n : ℕ) (c : Form) (b : Bool) → (b ≡ true → n ≡ k) → P k d → (content_in es n ≡ Some c → P n c)
+    → cond b (Some d) (content_in es n) ≡ Some c → P n c
+content_by P k d es n c true e here rest p = subst (λ f. P n f) (some_same p) (subst (λ m. P m d) (sym (e refl)) here)
+content_by P k d es n c false e here rest p = rest p
+
 -- what each entry has, the content of a number has
 pub content_has : (P : ℕ → Form → Type 0) (Q : Entries → Type 0) → ((k : ℕ) (d : Form) (es : Entries) → Q (entry_then k d es) → P k d × Q es)
     → (es : Entries) (n : ℕ) (c : Form) → Q es → content_in es n ≡ Some c → P n c
 content_has P Q split no_entry n c q h = absurd (cc)
-content_has P Q split (entry_then k d es) n c q h = by (n == k) (eqb-true n k) h
-  where
-    here = split k d es q
-
-    by : (b : Bool) → (b ≡ true → n ≡ k) → cond b (Some d) (content_in es n) ≡ Some c → P n c
-    by true e p = subst (λ f. P n f) (some_same p) (subst (λ m. P m d) (sym (e refl)) here.0)
-    by false e p = content_has P Q split es n c here.1 p
+content_has P Q split (entry_then k d es) n c q h =
+    content_by P k d es n c (n == k) (eqb-true n k) (split k d es q).0 (content_has P Q split es n c (split k d es q).1) h
 
 -- ---- the text of an entry
 
@@ -102,8 +102,14 @@ pub texts_listed : ContentsStandForImages → (bs : BasesState) (layout : Layout
     → texts_from (images_text bs many m) 1 (table_pairs bs (base_at bs b) many es) (values_of (base_at bs b)) ≡ map (entry_text bs m (table layout b many es)) list
 texts_listed law bs layout b many es m list is exact =
     texts_walk (images_text bs many m) (table_pairs bs (base_at bs b) many es) (text_at bs m f) 1 (values_of (base_at bs b)) (λ i d p.
-      ap (image_text (images_text bs many m) (suc i)) (law bs f (suc i) d is.over is.keyed is.base (at_value (base_at bs b) i ∙ p))
-      ∙ of_number bs many m f (suc i) (content_of f (suc i)) refl (λ c e. (content_is bs layout b many es is.over (suc i) c e).2))
+      let e : suc i ≡ 1 + i = omega arith in
+      subst
+      (λ k. image_text (images_text bs many m) k (images d (table_pairs bs (base_at bs b) many es)) ≡ one (text_at bs m f k))
+      e
+      (
+        ap (image_text (images_text bs many m) (suc i)) (law bs f (suc i) d is.over is.keyed is.base (at_value (base_at bs b) i ∙ p))
+        ∙ of_number bs many m f (suc i) (content_of f (suc i)) refl (λ c q. (content_is bs layout b many es is.over (suc i) c q).2)
+      ))
     ∙ walk_list (text_at bs m f) (entry_text bs m f) 1 (length (values_of (base_at bs b))) list
       (rise_within 1 (1 + length (values_of (base_at bs b))) list exact.rising (λ n h. living_within (base_at bs b) n (there n (content_of f n) refl (sym (exact.members n) ∙ h))))
       (λ n l. ap (λ x. cond x (Some (entry_text bs m f n)) None) (sym (exact.members n)))
@@ -119,7 +125,7 @@ texts_listed law bs layout b many es m list is exact =
 
 abbrev mutual
   pub size : Form → ℕ
-  size (table layout base many es) = sizes es + 5
+  size (table layout base many es) = sizes es + 6
   size f = 0
 
   pub sizes : Entries → ℕ

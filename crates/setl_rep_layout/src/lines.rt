@@ -38,7 +38,8 @@ pub fn push_base(
     push_decimal(into, base.mark().count)?;
     into.push(b':')?;
     push_members(alloc, base, into)?;
-    into.push(b'\n')
+    into.push(b'\n')?;
+    Ok(())
 }
 
 // Adds the texts of the members, each behind a blank.
@@ -92,5 +93,6 @@ pub fn push_variable(
         Held::Om => into.extend_from_slice(b"om")?,
         _ => push_part(alloc, mode, h, bases, into)?,
     }
-    into.push(b'\n')
+    into.push(b'\n')?;
+    Ok(())
 }

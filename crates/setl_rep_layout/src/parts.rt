@@ -6,10 +6,10 @@ ghost use Rattle.setl_modes.specs.Modes.{mode_of};
 ghost use Rattle.setl_rep_building.specs.HasForm.{content_mode};
 ghost use Rattle.setl_rep_forms.specs.Form.{numbers, remote, sparse};
 ghost use Rattle.setl_rep_forms.specs.FormOf.{form};
-ghost use Rattle.setl_rep_forms.specs.Stands.{stands};
+ghost use Rattle.setl_rep_forms.specs.Stands.{stands, IsOver};
 ghost use Rattle.setl_rep_layout.specs.Laid.{attribute_of, AreContentsLaid, IsLaid};
 ghost use Rattle.setl_rep_layout.specs.Texts.{after_blanks, element_text, content_text, entry_text, entry_texts, handle_text, handle_texts, held_text};
-ghost use Rattle.setl_rep_maps.specs.Contents.{IsTable};
+ghost use Rattle.setl_rep_maps.specs.Contents.{HasBase, IsTable};
 ghost use Rattle.setl_value.specs.code.DatumOf.{datum};
 
 use crate::Memory;
@@ -20,7 +20,7 @@ use setl_modes::{Form, Mode};
 use setl_remote::Bits;
 use setl_rep_bases::{BaseId, Bases};
 use setl_rep_forms::Held;
-use setl_rep_maps::content;
+use setl_rep_maps::{content, learn, table_of};
 use setl_sparse::SparseSet;
 use setl_text::{push_decimal, text};
 use setl_value::Value;
@@ -41,8 +41,14 @@ pub(crate) fn push_part(
     match h {
         Held::Om => Ok(()),
         Held::Plain(v) => push_plain(alloc, v, into),
-        Held::Elt(_, e) => push_element(*e, into),
-        Held::EltTuple(_, list) => push_handles(list.as_slice(), into),
+        Held::Elt(b, e) => {
+            bases.at(*b).learn();
+            push_element(*e, into)
+        }
+        Held::EltTuple(b, list) => {
+            bases.at(*b).learn();
+            push_handles(list.as_slice(), into)
+        }
         Held::Remote(b, bits) => push_remote(mode, *b, bits, bases, into),
         Held::Sparse(b, table) => push_sparse(alloc, mode, *b, table, bases, into),
         Held::RemoteMap(_, _, _) => push_map(alloc, mode, h, bases, into),
@@ -94,9 +100,10 @@ fn push_handle(e: Option<Elt>, into: &mut Vec<u8>) -> Result<(), Memory>
     ensures { OnOk result (into.new.items ≡ into.old.items ++ handle_text e) }
 {
     match e {
-        None => into.push(b'*'),
-        Some(e) => push_decimal(into, e.block),
+        None => into.push(b'*')?,
+        Some(e) => push_decimal(into, e.block)?,
     }
+    Ok(())
 }
 
 // Adds the word of the attribute of a mode.
@@ -179,17 +186,46 @@ fn push_map(
     requires table { IsTable (form map.now) }
     ensures { OnOk result (into.new.items ≡ into.old.items ++ held_text bases.now (mode_of mode.now) (stands bases.now (form map.now))) }
 {
+    setl_rep_maps::laws::contents_stand_for_images();
+    learn(map);
+    learn_base(map, bases);
     let list = numbers_of(alloc, map, bases)?;
     push_word(mode, into)?;
+    push_entries(alloc, content_mode(mode), map, list.as_slice(), bases, into)
+}
+
+// Has no effect: it hands a proof that the members of a map's base differ.
+fn learn_base(map: &Held, bases: &Bases)
+    requires { IsOver bases.now (form map.now) }
+    ensures { HasBase bases.now (form map.now) }
+{
+    if let Some((base, _)) = table_of(map) {
+        bases.at(base).learn();
+    }
+}
+
+// Adds the numbers of a list, each behind a blank and with the text of its content; or `-` where there are none.
+#[cycle(parts)]
+fn push_entries(
+    alloc: Global,
+    mode: &Mode,
+    map: &Held,
+    list: &[u64],
+    bases: &Bases,
+    into: &mut Vec<u8>,
+) -> Result<(), Memory>
+    requires { AreContentsLaid bases.now (mode_of mode.now) (form map.now) }
+    ensures { OnOk result (into.new.items ≡ into.old.items ++ after_blanks (listed (entry_texts bases.now (mode_of mode.now) (form map.now) list.now))) }
+{
     if list.is_empty() {
         return into.extend_from_slice(b" -");
     }
-    push_entries(alloc, content_mode(mode), map, list.as_slice(), bases, into)
+    push_each_entry(alloc, mode, map, list, bases, into)
 }
 
 // Adds the numbers of a list, each behind a blank and with the text of its content.
 #[cycle(parts)]
-fn push_entries(
+fn push_each_entry(
     alloc: Global,
     mode: &Mode,
     map: &Held,
@@ -223,7 +259,8 @@ fn push_entry(
     push_decimal(into, n)?;
     into.push(b'(')?;
     push_content(alloc, mode, map, n, bases, into)?;
-    into.push(b')')
+    into.push(b')')?;
+    Ok(())
 }
 
 // Adds the text of the content of a number, if it has one.

@@ -1,7 +1,6 @@
 //! The texts of sets of numbers.
 
-ghost use Rattle.std.specs.Prelude.{◌≡◌, ◌++◌, OnOk};
-ghost use Rattle.std.specs.List.Sorted.{IsStrictlyIncreasing};
+ghost use Rattle.std.specs.Prelude.{◌≡◌, ◌++◌, if◌then◌else◌, OnOk};
 ghost use Rattle.setl_modes_dump.specs.Dump.{digits_of, digits_or_none, listed, numbers_from};
 ghost use Rattle.setl_rep_forms.specs.Stands.{members_at, AreLiving};
 ghost use Rattle.setl_rep_layout.specs.Members.{values_of};
@@ -22,7 +21,8 @@ pub(crate) fn push_digits(base: &Base, bits: &Bits, into: &mut Vec<u8>) -> Resul
 {
     let count = base.mark().count;
     if count == 0 {
-        return into.push(b'-');
+        into.push(b'-')?;
+        return Ok(());
     }
     push_each_digit(base, bits, into)
 }
@@ -59,14 +59,21 @@ pub(crate) fn push_numbers(
     laws::numbers_stand_for_members();
     base.learn();
     let list = table.numbers(alloc)?;
-    if list.is_empty() {
-        return into.extend_from_slice(b" -");
-    }
     push_list(list.as_slice(), into)
 }
 
-// Adds numbers, each behind a blank.
+// Adds numbers, each behind a blank; or `-` where there are none.
 fn push_list(list: &[u64], into: &mut Vec<u8>) -> Result<(), Memory>
+    ensures { OnOk result (into.new.items ≡ into.old.items ++ after_blanks (listed (decimals list.now))) }
+{
+    if list.is_empty() {
+        return into.extend_from_slice(b" -");
+    }
+    push_each(list, into)
+}
+
+// Adds numbers, each behind a blank.
+fn push_each(list: &[u64], into: &mut Vec<u8>) -> Result<(), Memory>
     ensures { OnOk result (into.new.items ≡ into.old.items ++ after_blanks (decimals list.now)) }
 {
     for n in list {
