@@ -1,0 +1,4 @@
+pub mod Members
+pub mod Laid
+pub mod Texts
+pub mod Listing

@@ -1,0 +1,13 @@
+//! The dump: the members of each base by block number, and what each declared variable holds, read from its form.
+//!
+//! Contracts say that the texts are those of the definition of the dump (`base_line` and `variable_line` of the meaning),
+//! which speaks of values and of members and not of forms.
+#![tactic(auto)]
+
+mod lines;
+mod numbers;
+mod parts;
+mod sets;
+
+pub use lines::{push_base, push_variable};
+pub use std::alloc::AllocError as Memory;
