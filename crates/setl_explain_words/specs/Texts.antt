@@ -35,7 +35,8 @@ fault_text fault.Syntax = text_of
     ∷ codes "What is wrong often stands just before it. At the end of the file, something is still open there."
     ∷ codes "Instead: Look for a missing `;`, `)`, `then` or `end` before the place (as the `;` behind `x := 1`),"
     ∷ codes "for `=` in place of `:=`, and for a reserved word that was taken for a name (`set`, `range`,"
-    ∷ codes "`string`, `max`, `from`, `base`, ..)."
+    ∷ codes "`string`, `max`, `from`, `base`, ..). A loop begins with `(`, as `(for x in s) .. end for;`, and has"
+    ∷ codes "neither `do` nor `loop`."
     ∷ [])
 fault_text fault.Nesting = text_of
     (codes "The token at this place opens the 201st construct inside 200 that are still open: brackets, `if`,"

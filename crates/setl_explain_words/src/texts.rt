@@ -41,7 +41,8 @@ Instead: A string or a tuple of parts, if so many digits are needed. The least i
 What is wrong often stands just before it. At the end of the file, something is still open there.
 Instead: Look for a missing `;`, `)`, `then` or `end` before the place (as the `;` behind `x := 1`),
 for `=` in place of `:=`, and for a reserved word that was taken for a name (`set`, `range`,
-`string`, `max`, `from`, `base`, ..).
+`string`, `max`, `from`, `base`, ..). A loop begins with `(`, as `(for x in s) .. end for;`, and has
+neither `do` nor `loop`.
 "
         }
         SourceFault::Nesting => {
