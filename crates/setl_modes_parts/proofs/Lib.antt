@@ -1,0 +1,6 @@
+mod Lists
+mod Images
+mod Subsets
+mod Parts
+mod Puts
+mod Combined
