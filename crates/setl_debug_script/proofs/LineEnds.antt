@@ -41,6 +41,10 @@ pub line_open : (z : List ℕ) → 0 < length z → ((k : ℕ) → k < length z 
 line_open [] h f = absurd (omega (arith, h))
 line_open (b ∷ z) h f = open_line b z (text_whole (b ∷ z) f)
 
+pub no_line : (z : List ℕ) → length z ≡ 0 → lines z ≡ []
+no_line [] e = refl
+no_line (b ∷ z) e = absurd (omega (arith, e))
+
 -- ---- the first blank
 
 in_word : (b : ℕ) (bs : List ℕ) → b ≢ 32 → split (b ∷ bs) ≡ (b ∷ (split bs).0, (split bs).1)

@@ -1,5 +1,5 @@
 -- A line is what its parts are.
-use Rattle.std.proofs.Common.{◌≡◌, ◌≢◌, ◌<◌, ◌≤◌, ◌^◌, ◌∙◌, ℕ, Bool, true, false, List, [], ◌∷◌, ◌++◌, Option, Some, None, cond, nat_eq, codes, decimal, refl, sym, ap, arith, rules}
+use Rattle.std.proofs.Common.{◌≡◌, ◌≢◌, ◌<◌, ◌≤◌, ◌^◌, ◌∙◌, ℕ, Bool, true, false, List, [], ◌∷◌, ◌++◌, Option, Some, None, Result, Ok, Err, IfOk, MatchOption, cond, nat_eq, codes, decimal, refl, sym, ap, arith, rules}
 use Rattle.std.specs.Option.{unwrap_or}
 use Rattle.std.proofs.lemmas.Bool.Decides.{nat_tests}
 use Rattle.std.proofs.lemmas.Fmt.{decimal_injective}
@@ -18,7 +18,7 @@ joined_more : (b : ℕ) (word : List ℕ) (value : Option (List ℕ)) → joined
 joined_more b word None = refl
 joined_more b word (Some value) = refl
 
-one_byte : (b : ℕ) (bs : List ℕ) (t : Bool) → nat_eq b 32 ≡ t → joined (split bs).0 (split bs).1 ≡ bs → let p = cond t ([], Some bs) (b ∷ (split bs).0, (split bs).1) in joined p.0 p.1 ≡ b ∷ bs
+one_byte : (b : ℕ) (bs : List ℕ) (t : Bool) → nat_eq b 32 ≡ t → joined (split bs).0 (split bs).1 ≡ bs → let p = cond {A = List ℕ × Option (List ℕ)} t ([], Some bs) (b ∷ (split bs).0, (split bs).1) in joined p.0 p.1 ≡ b ∷ bs
 one_byte b bs true e h = ap (λ x. x ∷ bs) (let s : 32 ≡ b = grind (arith, nat_tests, e) in s)
 one_byte b bs false e h = joined_more b (split bs).0 (split bs).1 ∙ ap (λ l. b ∷ l) h
 
@@ -35,6 +35,12 @@ one_command line word value c e s = record { spelled = same_line line (line_of c
 
 pub no_command : (line word : List ℕ) (value : Option (List ℕ)) → split line ≡ (word, value) → SpellsNone word value → IsFaulty line
 no_command line word value e none c s = none c (record { spelled = ap split (sym s.spelled) ∙ e; in_range = s.in_range })
+
+-- what the parts of a line give
+pub by_parts : {E : Type 0} (r : Result (Option Command) E) (line word : List ℕ) (value : Option (List ℕ)) → split line ≡ (word, value) → IfOk r (λ o. MatchOption o (SpellsNone word value) (SpellsOne word value)) → IfOk r (λ o. MatchOption o (IsFaulty line) (IsCommand line))
+by_parts (Ok None) line word value e h = no_command line word value e h
+by_parts (Ok (Some c)) line word value e h = one_command line word value c e h
+by_parts (Err x) line word value e h = tt
 
 -- ---- words and numbers
 

@@ -1,8 +1,9 @@
 -- One line more of a script.
 use Rattle.std.proofs.Common.{◌≡◌, ◌+◌, ◌∙◌, ℕ, zero, suc, List, [], ◌∷◌, ◌++◌, Some, None, take, drop, slice_get, refl, sym, ap, subst, arith, add-one}
+use Rattle.std.specs.List.{AllByRecursion}
 use Rattle.std.proofs.lemmas.List.{take-append-drop}
 use Rattle.setl_value_pages.specs.ListLaws.{front_of}
-use Rattle.setl_debug_script.specs.Scripts.{AreCommands, IsCommand, IsFaulty, IsFirstFault}
+use Rattle.setl_debug_script.specs.Scripts.{AreCommands, IsCommand, IsFaulty, IsFirstFault, IsInRange}
 use Rattle.setl_debug_script.specs.declared.command.Command.{Command}
 
 one_more : (ls : List (List ℕ)) (cs : List Command) (l : List ℕ) (c : Command) → AreCommands ls cs → IsCommand l c → AreCommands (ls ++ l ∷ []) (cs ++ c ∷ [])
@@ -40,3 +41,9 @@ spelled_whole ls n cs a e =
 
 pub first_fault : (ls : List (List ℕ)) (n : ℕ) (l : List ℕ) (more : List (List ℕ)) (cs : List Command) → AreCommands (take n ls) cs → drop n ls ≡ l ∷ more → IsFaulty l → IsFirstFault ls (n + 1)
 first_fault ls n l more cs a e none = record { before = n; commands = cs; line = l; counted = refl; spelled = a; there = front_of ls n l more e; faulty = none }
+
+pub all_in_range : (ls : List (List ℕ)) (cs : List Command) → AreCommands ls cs → AllByRecursion IsInRange cs
+all_in_range [] [] a = tt
+all_in_range [] (c ∷ cs) a = absurd a
+all_in_range (l ∷ ls) [] a = absurd a
+all_in_range (l ∷ ls) (c ∷ cs) a = (a.0.in_range, all_in_range ls cs a.1)

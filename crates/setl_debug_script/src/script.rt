@@ -1,7 +1,8 @@
 //! Scripts.
 
 ghost use Rattle.std.specs.Prelude.{◌≡◌, ◌++◌, IfOk, OnOk};
-ghost use Rattle.setl_debug_script.specs.Scripts.{input_line, input_of};
+ghost use Rattle.std.specs.List.{AllByRecursion};
+ghost use Rattle.setl_debug_script.specs.Scripts.{IsInRange, input_line, input_of};
 
 use crate::Memory;
 use crate::command::Command;
@@ -22,11 +23,17 @@ impl Model for Script {
     ghost Value = { List Command };
 
     ghost view = { λ s. s.commands };
+
+    ghost use Rattle.std.specs.List.{AllByRecursion};
+    ghost use Rattle.setl_debug_script.specs.Scripts.{IsInRange};
+
+    ghost invariant = { λ s. AllByRecursion IsInRange s.commands };
 }
 
 impl Script {
     /// The script of these commands.
-    pub fn of(commands: Items<Command>) -> Script
+    pub(crate) fn of(commands: Items<Command>) -> Script
+        requires { AllByRecursion IsInRange commands }
         ensures { result ≡ commands }
     {
         Script { commands }
@@ -34,7 +41,8 @@ impl Script {
 
     /// The commands in their order.
     pub fn commands(&self) -> &[Command]
-        ensures { result.now ≡ self.now }
+        ensures value { result.now ≡ self.now }
+        ensures in_range { AllByRecursion IsInRange result.now }
     {
         self.commands.as_slice()
     }

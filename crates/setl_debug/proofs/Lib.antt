@@ -1,0 +1,2 @@
+pub mod Hitting
+pub mod Following
