@@ -5,8 +5,8 @@ use Rattle.std.proofs.lemmas.List.{append_assoc, append-nil}
 use Rattle.setl_debug.specs.Ends.{Ends, IsCut, IsCutInside, IsDone}
 use Rattle.setl_debug.specs.Sessions.{Does, Follows}
 use Rattle.setl_debug.specs.code.Steps.{Breaks, IsFollowed, IsPartly, Steps}
-use Rattle.setl_debug.specs.declared.session.Ended.{Ended}
-use Rattle.setl_debug.specs.declared.session.Ended.TheVariants.{Done, WriteFault, NoMemory}
+use Rattle.setl_debug.specs.declared.sessions.Ended.{Ended}
+use Rattle.setl_debug.specs.declared.sessions.Ended.TheVariants.{Done, WriteFault, NoMemory}
 use Rattle.setl_debug_script.specs.declared.command.Command.{Command}
 use Rattle.setl_debug_target.specs.Screens.{Screen}
 

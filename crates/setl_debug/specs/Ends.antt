@@ -3,8 +3,8 @@ use Rattle.std.specs.Prelude.{◌≡◌, ◌⊎◌, ◌<◌, ℕ, List, ◌++◌
 use Rattle.std.specs.Io.KnownBytes.{Appends}
 use Rattle.setl_io.specs.Faults.{Rose}
 use Rattle.setl_debug.specs.Sessions.{Does, Follows}
-use Rattle.setl_debug.specs.declared.session.Ended.{Ended}
-use Rattle.setl_debug.specs.declared.session.Ended.TheVariants.{Done, WriteFault, NoMemory}
+use Rattle.setl_debug.specs.declared.sessions.Ended.{Ended}
+use Rattle.setl_debug.specs.declared.sessions.Ended.TheVariants.{Done, WriteFault, NoMemory}
 use Rattle.setl_debug_script.specs.declared.command.Command.{Command}
 use Rattle.setl_debug_target.specs.Screens.{Screen}
 

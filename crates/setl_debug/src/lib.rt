@@ -6,8 +6,8 @@
 
 mod obeying;
 mod place;
-mod session;
+mod sessions;
 mod until;
 
-pub use session::{Ended, session};
+pub use sessions::{Ended, session};
 pub use std::alloc::AllocError as Memory;

@@ -1,6 +1,6 @@
 use Rattle.std.proofs.Common.{◌≡◌, ◌<◌, ◌^◌, take}
 use Rattle.setl_debug.specs.code.Steps.{IsFollowed}
-use Rattle.setl_debug.proofs.session.session.Given as goal
+use Rattle.setl_debug.proofs.sessions.session.Given as goal
 
 abbrev pub invariant-loop-command : goal.invariant-loop-command
 invariant-loop-command g l = record {
