@@ -11,16 +11,11 @@ use Rattle.setl_debug_script.specs.declared.command.Command.{Command}
 use Rattle.setl_debug_target.specs.Screens.{Screen}
 
 -- two pieces one after the other
-pub appends_both : (a b c : Option (List ℕ)) (x y : List ℕ) → Appends a b x → Appends b c y → Appends a c (x ++ y)
+appends_both : (a b c : Option (List ℕ)) (x y : List ℕ) → Appends a b x → Appends b c y → Appends a c (x ++ y)
 appends_both None b c x y p q = tt
 appends_both (Some s) None c x y p q = absurd p
 appends_both (Some s) (Some t) None x y p q = absurd q
 appends_both (Some s) (Some t) (Some u) x y p q = q ∙ (ap (λ l. l ++ y) p ∙ append_assoc s x y)
-
--- nothing is added
-pub appends_nothing : (a : Option (List ℕ)) → Appends a a []
-appends_nothing None = tt
-appends_nothing (Some s) = sym (append-nil s)
 
 follows_more : (shows : ℕ → Screen → Type 0) (cs : List Command) (c : Command) (k middle next : ℕ) (told more : List ℕ) → Follows shows cs k told middle → Does shows c middle more next → Follows shows (cs ++ c ∷ []) k (told ++ more) next
 follows_more shows [] c k middle next told more f d =
@@ -28,18 +23,12 @@ follows_more shows [] c k middle next told more f d =
 follows_more shows (x ∷ cs) c k middle next told more f d =
     (f.0, f.1 ++ more, f.2, f.3, follows_more shows cs c f.2 middle next f.1 more f.4 d, ap (λ l. l ++ more) f.5 ∙ append_assoc f.0 f.1 more)
 
-pub followed_none : (shows : ℕ → Screen → Type 0) (out : Option (List ℕ)) → IsFollowed shows [] out out 0
-followed_none shows out = record { told = []; follows = (refl, refl); gained = appends_nothing out }
-
 pub followed_more : (shows : ℕ → Screen → Type 0) (cs : List Command) (c : Command) (a b d : Option (List ℕ)) (k f g next : ℕ) → IsFollowed shows cs a b k → Steps shows c k b d f g next → IsFollowed shows (cs ++ c ∷ []) a d next
 followed_more shows cs c a b d k f g next done step = record {
   told = done.told ++ step.told;
   follows = follows_more shows cs c 0 k next done.told step.told done.follows step.does;
   gained = appends_both a b d done.told step.told done.gained step.gained;
 }
-
-pub all_followed : (shows : ℕ → Screen → Type 0) (cs : List Command) (a b : Option (List ℕ)) (k f g : ℕ) → IsFollowed shows cs a b k → g ≡ f → Ends shows cs a b f g Done
-all_followed shows cs a b k f g done count = (record { told = done.told; next = k; follows = done.follows; gained = done.gained }, count)
 
 cut_inside : (shows : ℕ → Screen → Type 0) (cs : List Command) (n : ℕ) (c : Command) (a b d : Option (List ℕ)) (k : ℕ) → slice_get cs n ≡ Some c → IsFollowed shows (take n cs) a b k → IsPartly shows c k b d → IsCutInside shows cs a d
 cut_inside shows cs n c a b d k there done partly = record {

@@ -1,2 +1,2 @@
-pub mod Hitting
 pub mod Following
+pub mod Going

@@ -4,10 +4,12 @@
 //! turns the session stands at their end.
 #![tactic(auto)]
 
+mod laws;
 mod obeying;
 mod place;
 mod sessions;
 mod until;
 
+pub use laws::back_undoes_on;
 pub use sessions::{Ended, session};
 pub use std::alloc::AllocError as Memory;

@@ -2,7 +2,7 @@
 use Rattle.std.proofs.Common.{◌≡◌, ◌+◌, ◌≤◌, ◌-◌, ◌^◌, ◌∙◌, ℕ, suc, Bool, true, false, List, [], ◌∷◌, ◌++◌, cond, min, nat_eq, refl, ap, sym, arith}
 use Rattle.setl_model_runs.specs.Events.{Event, Called, Returned, Stored, Printed, Kept, Back}
 use Rattle.setl_model_turns.specs.Laws.{TurnsOnlyCut, IsFrontOfEvents}
-use Rattle.setl_debug_screens.specs.Screens.{HitsGrow, stores_at}
+use Rattle.setl_top_screens.specs.Screens.{HitsGrow, stores_at}
 use Rattle.setl_debug_target.specs.Screens.{Screen}
 
 counted : (t : Bool) (n m k : ℕ) → m ≡ n + k → cond t (suc m) m ≡ cond t (suc n) n + k
