@@ -1,0 +1,7 @@
+//! What the debugger steps over: the states of one run, by the number of their turns.
+#![tactic(auto)]
+
+mod target;
+
+pub use std::alloc::AllocError as Memory;
+pub use target::Target;
