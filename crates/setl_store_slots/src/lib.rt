@@ -4,6 +4,6 @@
 mod cells;
 mod handing;
 
-pub use cells::Held;
+pub use cells::{Held, content};
 pub use handing::handed_back;
 pub use setl_store_environment::Memory;
