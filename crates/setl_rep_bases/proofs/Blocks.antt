@@ -6,12 +6,11 @@ use Rattle.std.specs.Cmp.{Equal-is}
 use Rattle.std.specs.Ordering.{eq_by_cmp}
 use Rattle.std.specs.Option.{option_map_or, is_some}
 use Rattle.std.specs.FinMap as map
-use Rattle.setl_value.specs.Datum.{Datum}
-use Rattle.setl_base.specs.Base.{BaseState, Member, empty, member_at, entered, cut_back, undone, find}
+use Rattle.setl_base.specs.Base.{BaseState, Member, empty, member_at, cut_back, undone, find}
 use Rattle.setl_rep_bases.specs.declared.BaseId.{BaseId}
 use Rattle.setl_rep_bases.specs.declared.tables.Instance.{Instance}
 use Rattle.setl_rep_bases.specs.BaseId.{id_cmp}
-use Rattle.setl_rep_bases.specs.Bases.{BasesState, instance_at, base_at, is_gone, IsThere, with_instance, with_base, fresh, without, without_gone}
+use Rattle.setl_rep_bases.specs.Bases.{BasesState, instance_at, base_at, is_gone, IsThere, with_instance, fresh, without, without_gone}
 use Rattle.setl_rep_bases.specs.Keeping.{AreKept, EnteringKeepsMembers, EnteringKeepsBlocks, CutsKeepBlocks, InstancesKeepBlocks, RemovalsKeepBlocks}
 use Rattle.setl_rep_bases.proofs.Ids.{id_total, same_id}
 

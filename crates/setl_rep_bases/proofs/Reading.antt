@@ -1,13 +1,12 @@
 -- What is read of bases after a change.
-use Rattle.std.proofs.Common.{◌≡◌, ◌∙◌, ℕ, zero, suc, Bool, true, false, not, cond, ◌&&◌, ◌==◌, nat_eq, nat_lt, Option, None, Some, refl, sym, ap, subst, arith}
+use Rattle.std.proofs.Common.{◌≡◌, ◌∙◌, ℕ, zero, suc, Bool, true, false, not, cond, ◌&&◌, ◌==◌, nat_eq, nat_lt, None, Some, refl, sym, ap, subst, arith}
 use Rattle.std.specs.Bool.{if◌then◌else◌}
 use Rattle.std.specs.Ordering.{nat_cmp, eq_by_cmp, is_eq}
-use Rattle.std.specs.Cmp.{Equal-is, unsigned_tied, both_tied, eq_by_cmp_equiv, tied_itself}
+use Rattle.std.specs.Cmp.{Equal-is, unsigned_tied, both_tied, tied_itself}
 use Rattle.std.specs.FinMap as map
 use Rattle.setl_rep_bases.specs.declared.BaseId.{BaseId}
-use Rattle.setl_rep_bases.specs.declared.tables.Instance.{Instance}
 use Rattle.setl_rep_bases.specs.BaseId.{id_cmp, is_id, main}
-use Rattle.setl_rep_bases.specs.Bases.{BasesState, instance_at, is_gone, fresh, main_instances, main_bases}
+use Rattle.setl_rep_bases.specs.Bases.{instance_at, is_gone, fresh, main_instances}
 use Rattle.setl_rep_bases.specs.Reading.{InstancesArePut, InstancesAreTaken, GoneAreTaken, MainInstancesAreFresh, NamesAreExact, BasesAgree}
 use Rattle.setl_rep_bases.proofs.Ids.{id_total, same_id}
 

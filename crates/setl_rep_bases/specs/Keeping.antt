@@ -1,9 +1,9 @@
 -- What each change of bases leaves.
-use Rattle.std.specs.Prelude.{◌≡◌, ℕ, Bool, true, false, Some, None}
+use Rattle.std.specs.Prelude.{◌≡◌, ℕ, Bool, Some, None}
 use Rattle.setl_value.specs.Datum.{Datum}
 use Rattle.setl_base.specs.Base.{BaseState, Member, member_at, entered}
 use Rattle.setl_rep_bases.specs.declared.BaseId.{BaseId}
-use Rattle.setl_rep_bases.specs.Bases.{BasesState, instance_at, base_at, is_gone, IsThere, with_entered, with_cut, with_undone, with_added, with_gone, without, without_gone}
+use Rattle.setl_rep_bases.specs.Bases.{BasesState, instance_at, base_at, IsThere, with_entered, with_cut, with_undone, with_added, with_gone, without, without_gone}
 
 -- each instance and each living block of the first bases is there in the second, with its value and generation
 pub record AreKept (bs cs : BasesState) : Type 0 where

@@ -1,4 +1,4 @@
-use Rattle.std.proofs.Common.{rules, ◌≡◌, ℕ, None, map}
+use Rattle.std.proofs.Common.{rules}
 use Rattle.std.proofs.lemmas.Result.{IfOk-weaker}
 use Rattle.std.proofs.lemmas.Iterator.Adapters.{fact_from_collect}
 use Rattle.std.proofs.lemmas.Iterator.{YieldsList-from_map}
