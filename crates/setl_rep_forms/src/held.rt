@@ -29,7 +29,6 @@ pub enum Held {
 impl Held {
     /// The same value in the same form, which shares its tables.
     pub fn copy(&self) -> Result<Held, Memory>
-        ensures equal { IfOk result (λ r. r ≡ self.now) }
         ensures same { IfOk result (λ r. form r ≡ form self.now) }
     {
         match self {

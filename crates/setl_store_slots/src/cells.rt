@@ -10,6 +10,7 @@ use setl_rep_plain::plain;
 use setl_store_environment::{Copied, Memory};
 use setl_value::Value;
 use std::alloc::Global;
+use std::rc::Rc;
 
 /// What a slot holds.
 #[derive(Drop)]
@@ -19,7 +20,7 @@ pub enum Held {
     /// Nothing: its value was taken, and it is stored before it is read again.
     Taken,
     /// A value, or `om`, in a form over bases.
-    Based(setl_rep_forms::Held),
+    Based(Rc<setl_rep_forms::Held>),
 }
 
 impl Copied for Held {
@@ -28,7 +29,7 @@ impl Copied for Held {
             Held::Om => Ok(Held::Om),
             Held::Value(value) => Ok(Held::Value(value.copy()?)),
             Held::Taken => Ok(Held::Taken),
-            Held::Based(held) => Ok(Held::Based(held.copy()?)),
+            Held::Based(held) => Ok(Held::Based(held.clone()?)),
         }
     }
 }
