@@ -1,8 +1,6 @@
 -- Slots whose forms stand over the bases.
 use Rattle.std.proofs.Common.{◌≡◌, ◌∙◌, ℕ, zero, suc, ◌≤◌, List, [], ◌∷◌, ◌++◌, take, map, replicate, set, refl, sym, ap, subst, Option, None, Some}
 use Rattle.std.specs.Prelude.{slice_get}
-use Rattle.std.specs.declared.rc.Rc.{Rc}
-use Rattle.std.specs.declared.alloc.Global.{Global}
 use Rattle.std.proofs.lemmas.Option.{same_Some}
 use Rattle.std.proofs.lemmas.List.{map-append}
 use Rattle.setl_value.specs.Datum.{Datum, part_depth}
@@ -86,7 +84,7 @@ pub there_by_content : (bs : BasesState) (h : Held) (v : Option Datum) → conte
 there_by_content bs held.Om v e = ap (λ w. core.There w) (same_Some None v e)
 there_by_content bs (held.Value w) v e = ap (λ u. core.There u) (same_Some (Some (datum w)) v e)
 there_by_content bs held.Taken v e = absurd (cc)
-there_by_content bs (held.Based f) v e = ap (λ u. core.There u) (same_Some (held_value bs f.value) v e)
+there_by_content bs (held.Based f) v e = ap (λ u. core.There u) (same_Some (held_value bs f) v e)
 
 pub gone_by_content : (bs : BasesState) (h : Held) → content_of bs h ≡ None → held_of bs h ≡ core.Gone
 gone_by_content bs held.Om e = absurd (cc)
@@ -95,7 +93,7 @@ gone_by_content bs held.Taken e = refl
 gone_by_content bs (held.Based f) e = absurd (cc)
 
 -- what is there and in no form is plain
-pub plain_there : (bs : BasesState) (h : Held) → IsThere (held_of bs h) → ((f : Rc Form Global) → h ≡ held.Based f → ⊥) → IsPlainSlot h
+pub plain_there : (bs : BasesState) (h : Held) → IsThere (held_of bs h) → ((f : Form) → h ≡ held.Based f → ⊥) → IsPlainSlot h
 plain_there bs held.Om there not = tt
 plain_there bs (held.Value w) there not = tt
 plain_there bs held.Taken there not = absurd there
@@ -112,7 +110,7 @@ slot_stays stay bs cs held.Om more h = record { same = refl; stands = tt }
 slot_stays stay bs cs (held.Value v) more h = record { same = refl; stands = tt }
 slot_stays stay bs cs held.Taken more h = record { same = refl; stands = tt }
 slot_stays stay bs cs (held.Based f) more h =
-    let s = stay bs cs (form f.value) more h.over in
+    let s = stay bs cs (form f) more h.over in
     record { same = ap (λ v. core.There v) s.1; stands = record { over = s.0; shallow = subst (λ v. part_depth v ≤ 500) (sym s.1) h.shallow } }
 
 pub record SlotsStay (bs cs : BasesState) (hs : List Held) : Type 0 where

@@ -40,7 +40,7 @@ abbrev pub held_of : BasesState → Held → core.Held
 held_of bs held.Om = core.There None
 held_of bs (held.Value v) = core.There (Some (datum v))
 held_of bs held.Taken = core.Gone
-held_of bs (held.Based h) = core.There (held_value bs h.value)
+held_of bs (held.Based h) = core.There (held_value bs h)
 
 -- it is a value as it is, or `om`
 abbrev pub IsPlainSlot : Held → Type 0

@@ -146,7 +146,7 @@ impl<'c> Store<'c> {
         let at = place(&self.environment, slot);
         match self.environment.slot(at) {
             Held::Based(held) => {
-                let value = plain(self.alloc, held, &self.bases)?;
+                let value = plain(self.alloc, held.get(), &self.bases)?;
                 write_slot(&mut self.environment, at, Held::Taken)?;
                 Ok(value)
             }

@@ -12,14 +12,14 @@ abbrev pub content_of : BasesState → Held → Option (Option Datum)
 content_of bs held.Om = Some None
 content_of bs (held.Value v) = Some (Some (datum v))
 content_of bs held.Taken = None
-content_of bs (held.Based h) = Some (held_value bs h.value)
+content_of bs (held.Based h) = Some (held_value bs h)
 
 -- the form of what it holds stands over these bases
 abbrev pub IsStanding : BasesState → Held → Type 0
 IsStanding bs held.Om = Unit {0}
 IsStanding bs (held.Value v) = Unit {0}
 IsStanding bs held.Taken = Unit {0}
-IsStanding bs (held.Based h) = IsHeldOver bs h.value
+IsStanding bs (held.Based h) = IsHeldOver bs h
 
 abbrev pub AreStanding : BasesState → List Held → Type 0
 AreStanding bs [] = Unit {0}

@@ -5,12 +5,12 @@ ghost use Rattle.std.specs.Option.{option_map};
 ghost use Rattle.setl_value.specs.code.DatumOf.{part};
 ghost use Rattle.setl_store_slots.specs.Slots.{content_of, IsStanding};
 
+use crate::shared::Shared;
 use setl_rep_bases::Bases;
 use setl_rep_plain::plain;
 use setl_store_environment::{Copied, Memory};
 use setl_value::Value;
 use std::alloc::Global;
-use std::rc::Rc;
 
 /// What a slot holds.
 #[derive(Drop)]
@@ -20,7 +20,7 @@ pub enum Held {
     /// Nothing: its value was taken, and it is stored before it is read again.
     Taken,
     /// A value, or `om`, in a form over bases.
-    Based(Rc<setl_rep_forms::Held>),
+    Based(Shared<setl_rep_forms::Held>),
 }
 
 impl Copied for Held {
@@ -29,7 +29,7 @@ impl Copied for Held {
             Held::Om => Ok(Held::Om),
             Held::Value(value) => Ok(Held::Value(value.copy()?)),
             Held::Taken => Ok(Held::Taken),
-            Held::Based(held) => Ok(Held::Based(held.clone()?)),
+            Held::Based(held) => Ok(Held::Based(held.copy()?)),
         }
     }
 }
@@ -45,6 +45,6 @@ pub fn content(alloc: Global, slot: &Held, bases: &Bases) -> Result<Option<Optio
         Held::Om => Ok(Some(None)),
         Held::Value(value) => Ok(Some(Some(value.copy()?))),
         Held::Taken => Ok(None),
-        Held::Based(held) => Ok(Some(plain(alloc, held, bases)?)),
+        Held::Based(held) => Ok(Some(plain(alloc, held.get(), bases)?)),
     }
 }

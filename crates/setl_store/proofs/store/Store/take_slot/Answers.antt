@@ -1,6 +1,4 @@
 use Rattle.std.proofs.Common.{◌≡◌, ◌∙◌, ◌<◌, length, sym, ap, subst, refl, Some}
-use Rattle.std.specs.declared.rc.Rc.{Rc}
-use Rattle.std.specs.declared.alloc.Global.{Global}
 use Rattle.std.proofs.lemmas.Option.{same_Some}
 use Rattle.setl_value.specs.code.DatumOf.{part}
 use Rattle.setl_code.specs.CodeCore.{There, Gone, write}
@@ -78,7 +76,7 @@ plain_before c =
     plain_there c.self.inside.bases h
     (subst IsThere (slot_at c.self.inside.code.now c.self.inside.bases c.self.inside.keeps c.self.inside.at c.self.inside.environment.now c.self.inside.environment.kept c.args.self.now c.args.slot c.place-at.result c.slot.result.now
     c.self.invariant c.self.view_is c.requires.slot c.place-at.ensures c.slot.ensures ∙ ap (held_of c.self.inside.bases) same) c.requires.there)
-    (λ (f : Rc Form Global) e. c.in_default.not-Based f (same ∙ e))
+    (λ (f : Form) e. c.in_default.not-Based f (same ∙ e))
 
 pub held_value-requires : goal.held_value-requires
 held_value-requires c = plain_before (goal.at.held_value-requires c).In_ok-take_slot-in_default
