@@ -32,6 +32,7 @@ impl<'c> Store<'c> {
         ensures { IfOk result (λ store. store ≡ started code.now) }
     {
         setl_rep_bases::laws::instances_are_read();
+        let instances = Bases::new(alloc, bases)?;
         let mut environment: Contents = Environment::new(alloc)?;
         let slots = code.vars.len();
         add_cleared(&mut environment, slots)?;
@@ -53,7 +54,7 @@ impl<'c> Store<'c> {
             code,
             at: 0,
             environment,
-            bases: Bases::new(alloc, bases)?,
+            bases: instances,
             keeps: 0,
         })
     }

@@ -24,5 +24,8 @@ done c =
     slot_stored c.self.inside.code.now c.self.inside.bases c.self.inside.keeps c.self.inside.at c.self.inside.environment.now c.write_slot.new.environment.now c.self.inside.environment.kept c.write_slot.new.environment.kept c.args.self.now c.args.slot c.place-at.result c.held.result (There (part c.args.value))
     c.self.invariant c.self.view_is c.requires c.place-at.ensures (subst (IsStanding c.self.inside.bases) (sym c.held.ensures) (value_standing c.self.inside.bases c.args.value)) c.in_ok-write_slot.ensures.now c.in_ok-write_slot.ensures.kept (ap (held_of c.self.inside.bases) c.held.ensures ∙ value_shown c.self.inside.bases c.args.value)
 
+pub invariant_of-self-2 : goal.invariant_of-self-2
+invariant_of-self-2 c = (done (goal.at.invariant_of-self-2 c).In_ok-write_slot).holds
+
 pub returns : goal.returns
 returns c = (done c).stands

@@ -4,6 +4,7 @@ use Rattle.setl_value.specs.code.DatumOf.{part}
 use Rattle.setl_code.specs.CodeCore.{There, Gone, write}
 use Rattle.setl_code.specs.Plain.{plain_slot}
 use Rattle.setl_rep_forms.specs.declared.held.Held.{Held as Form}
+use Rattle.setl_rep_plain.specs.Standing.{held_value, IsHeldOver}
 use Rattle.setl_store_slots.specs.Slots.{IsStanding}
 use Rattle.setl_store_slots.specs.declared.cells.Held.TheVariants as held
 use Rattle.setl_store.specs.Flat.{held_of, IsPlainSlot}
@@ -13,7 +14,7 @@ use Rattle.setl_store.proofs.OperandLists.{Changed}
 use Rattle.setl_store.proofs.Slots.{place_within, slot_at, slot_again, slot_stored}
 use Rattle.setl_store.proofs.StandingSlots.{standing_at, plain_there}
 use Rattle.setl_store.proofs.store.Store.take_slot.Goals as goal
-use Rattle.setl_store.proofs.store.Store.take_slot.Goals.{In-Based, In_ok-value-in-Based, In_ok-write_slot-in-Based, In_ok-take_slot-in_default}
+use Rattle.setl_store.proofs.store.Store.take_slot.Goals.{After-plain-arg-in-Based-1, In_ok-value-in-Based, In_ok-write_slot-in-Based, In_ok-take_slot-in_default}
 
 pub place-at-requires-clause-there : goal.place-at-requires-clause-there
 place-at-requires-clause-there c = place_within c.self.inside.code.now c.self.inside.bases c.self.inside.at c.self.inside.environment.now c.self.inside.environment.kept c.args.self.now c.args.slot c.self.invariant.1 c.self.view_is c.requires.slot
@@ -25,8 +26,10 @@ slot-requires c =
 
 -- ---- a value in a form
 
-standing : (c : In-Based) → IsStanding c.self.inside.bases (held.Based c.in-Based.held)
-standing c = subst (IsStanding c.self.inside.bases) c.in-Based.is (standing_at c.self.inside.bases c.self.inside.environment.now.slots c.place-at.result c.slot.result.now c.self.invariant.2.standing c.slot.ensures)
+standing : (c : After-plain-arg-in-Based-1) → IsHeldOver c.self.inside.bases c.get.result.now
+standing c =
+    let whole : IsStanding c.self.inside.bases (held.Based c.in-Based.held) = subst (IsStanding c.self.inside.bases) c.in-Based.is (standing_at c.self.inside.bases c.self.inside.environment.now.slots c.place-at.result c.slot.result.now c.self.invariant.2.standing c.slot.ensures) in
+    subst (IsHeldOver c.self.inside.bases) (sym c.get.ensures) whole
 
 pub plain-requires-clause-over : goal.plain-requires-clause-over
 plain-requires-clause-over c = (standing c).over
@@ -40,7 +43,7 @@ write_slot-requires c =
     (place_within c.self.inside.code.now c.self.inside.bases c.self.inside.at c.self.inside.environment.now c.self.inside.environment.kept c.args.self.now c.args.slot c.self.invariant.1 c.self.view_is c.requires.slot)
 
 shown : (c : In_ok-value-in-Based) → held_of c.self.inside.bases c.slot.result.now ≡ There (part c.in_ok-value-in-Based.value)
-shown c = ap (held_of c.self.inside.bases) c.in-Based.is ∙ ap (λ v. There v) (sym c.in_ok-value-in-Based.ensures)
+shown c = ap (held_of c.self.inside.bases) c.in-Based.is ∙ ap (λ h. There (held_value c.self.inside.bases h)) (sym c.get.ensures) ∙ ap (λ v. There v) (sym c.in_ok-value-in-Based.ensures)
 
 made : (c : In_ok-write_slot-in-Based) → Changed c.self.inside.code.now c.self.inside.bases c.self.inside.keeps c.self.inside.at c.write_slot.new.environment.now c.write_slot.new.environment.kept c.args.self.now (write (plain_slot (variables c.args.self.now.core) c.args.slot) Gone c.args.self.now.core)
 made c =

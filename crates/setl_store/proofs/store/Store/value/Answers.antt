@@ -21,12 +21,12 @@ pub returns-in-Some : goal.returns-in-Some
 returns-in-Some c =
     slot_at c.self.inside.code.now c.self.inside.bases c.self.inside.keeps c.self.inside.at c.self.inside.environment.now c.self.inside.environment.kept c.args.self.now c.args.slot c.place-at.result c.slot.result.now
     c.self.invariant c.self.view_is c.requires.slot c.place-at.ensures c.slot.ensures
-    ∙ there_by_content c.self.inside.bases c.slot.result.now (part c.in-Some.value) (rw c.in-Some.is at c.in_ok-content.ensures)
+    ∙ there_by_content c.self.inside.bases c.slot.result.now (part c.in-Some.value) (rw c.in-Some.is at c.in_ok-value.ensures)
 
 pub returns-in-None : goal.returns-in-None
 returns-in-None c =
     absurd (subst IsThere
     (slot_at c.self.inside.code.now c.self.inside.bases c.self.inside.keeps c.self.inside.at c.self.inside.environment.now c.self.inside.environment.kept c.args.self.now c.args.slot c.place-at.result c.slot.result.now
     c.self.invariant c.self.view_is c.requires.slot c.place-at.ensures c.slot.ensures
-    ∙ gone_by_content c.self.inside.bases c.slot.result.now (rw c.in-None.is at c.in_ok-content.ensures))
+    ∙ gone_by_content c.self.inside.bases c.slot.result.now (rw c.in-None.is at c.in_ok-value.ensures))
     c.requires.there)
