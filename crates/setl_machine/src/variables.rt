@@ -165,6 +165,7 @@ fn held_copy(slot: Slot, store: &Store<'_>) -> Result<Option<Value>, Memory>
 {
     match store.slot(slot) {
         Content::Value(value) => Ok(Some(value.copy()?)),
+        Content::Based => store.value(slot),
         Content::Om | Content::Taken => Ok(None),
     }
 }

@@ -178,7 +178,7 @@ fn take_held(slot: Slot, store: &mut Store<'_>) -> Result<Option<Option<Value>>,
 {
     match store.slot(slot) {
         Content::Taken => return Ok(None),
-        Content::Om | Content::Value(_) => {}
+        Content::Om | Content::Value(_) | Content::Based => {}
     }
     Ok(Some(store.take_slot(slot)?))
 }

@@ -92,7 +92,7 @@ fn new_integer(
     };
     let whole = match store.slot(slot) {
         Content::Value(whole) => whole,
-        Content::Om | Content::Taken => return None,
+        Content::Om | Content::Taken | Content::Based => return None,
     };
     let Some(value) = store.one() else {
         return None;

@@ -66,6 +66,7 @@ pub fn load(slot: Slot, store: &mut Store<'_>) -> Result<End, Memory>
         Content::Taken => return Ok(End::Stuck),
         Content::Om => None,
         Content::Value(value) => Some(value.copy()?),
+        Content::Based => store.value(slot)?,
     };
     store.push(value)?;
     go_on(store);
@@ -82,7 +83,7 @@ pub fn take(slot: Slot, store: &mut Store<'_>) -> Result<End, Memory>
 {
     match store.slot(slot) {
         Content::Taken => return Ok(End::Stuck),
-        Content::Om | Content::Value(_) => {}
+        Content::Om | Content::Value(_) | Content::Based => {}
     }
     let value = store.take_slot(slot)?;
     store.push(value)?;

@@ -9,7 +9,8 @@ use Rattle.setl_operators_table.specs.declared.OpFault.{OpFault}
 use Rattle.setl_operators_table.specs.declared.OpFault.TheVariants.{Kind, Om, Wide, Zero, Range, Deep, Spent, NoMemory}
 use Rattle.setl_operators_table.specs.Outcome.{Outcome}
 use Rattle.setl_operators_table.specs.code.Answers.{Tells}
-use Rattle.setl_rep.specs.Standing.{held_value, AreHeldOver}
+use Rattle.setl_rep_plain.specs.Standing.{held_value}
+use Rattle.setl_rep.specs.Standing.{AreHeldOver}
 use Rattle.setl_rep.specs.Telling.{TellsHeld}
 
 -- the values of all but the rest

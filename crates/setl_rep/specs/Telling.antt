@@ -5,7 +5,7 @@ use Rattle.setl_operators_table.specs.declared.OpFault.TheVariants.{Kind, Om, Wi
 use Rattle.setl_operators_table.specs.Outcome.{Outcome, Gives, Fails, Overspends, OmFault, KindFault, ZeroFault, RangeFault, WideFault, DeepFault}
 use Rattle.setl_rep_bases.specs.Bases.{BasesState}
 use Rattle.setl_rep.specs.declared.applied.Applied.{Applied}
-use Rattle.setl_rep.specs.Standing.{held_value}
+use Rattle.setl_rep_plain.specs.Standing.{held_value}
 
 -- what is held stands for the value, with its charge, a fault is told where it comes, and want of memory tells nothing
 abbrev pub TellsHeld : BasesState → Result Applied OpFault → Outcome → Type 0

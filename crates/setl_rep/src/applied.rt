@@ -3,7 +3,8 @@
 ghost use Rattle.std.specs.Prelude.{◌≡◌, length, map, IfOk};
 ghost use Rattle.setl_value.specs.code.DatumOf.{part};
 ghost use Rattle.setl_operators_table.specs.Operators.{op_of, TakesOperands};
-ghost use Rattle.setl_rep.specs.Standing.{held_value, AreHeldOver, IsHeldOver};
+ghost use Rattle.setl_rep_plain.specs.Standing.{held_value, IsHeldOver};
+ghost use Rattle.setl_rep.specs.Standing.{AreHeldOver};
 ghost use Rattle.setl_rep.specs.Telling.{TellsHeld};
 ghost use Rattle.setl_rep_forms.specs.FormOf.{form};
 ghost use Rattle.setl_rep_bases.specs.Bases.{BasesState};

@@ -9,7 +9,8 @@ ghost use Rattle.setl_rep_forms.specs.FormOf.{form};
 ghost use Rattle.setl_rep_forms.specs.Stands.{stands, IsOver};
 ghost use Rattle.setl_rep_building.specs.HasForm.{HasForm, HasFormOrOm};
 ghost use Rattle.setl_rep_entering.specs.Entering.{AreLengthened, BasesAreThere};
-ghost use Rattle.setl_rep.specs.Standing.{held_value, AreLengthenedBy, IsHeldOver};
+ghost use Rattle.setl_rep_plain.specs.Standing.{held_value, IsHeldOver};
+ghost use Rattle.setl_rep.specs.Standing.{AreLengthenedBy};
 ghost use Rattle.setl_rep.specs.declared.conversion.ConvertFault.TheVariants as fault;
 
 use crate::Memory;

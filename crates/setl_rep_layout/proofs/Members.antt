@@ -87,8 +87,8 @@ pub numbers_listed : TestedAtNumber → (b : BaseState) (ns : set.FinSet nat_cmp
 numbers_listed law b ns list k living rising has =
     numbers_walk (members_at b ns) (set.contains ns) 1 (values_of b) (λ i d g. let e : suc i ≡ 1 + i = omega arith in tested law b ns k i d g ∙ ap (set.contains ns) e)
     ∙ walk_list (λ m. cond (set.contains ns m) (Some (decimal m)) None) decimal 1 (length (values_of b)) list
-      (rise_within 1 (1 + length (values_of b)) list rising (λ m h. living_within b m (living m (sym (has m) ∙ h))))
-      (λ m l. ap (λ x. cond x (Some (decimal m)) None) (sym (has m)))
+    (rise_within 1 (1 + length (values_of b)) list rising (λ m h. living_within b m (living m (sym (has m) ∙ h))))
+    (λ m l. ap (λ x. cond x (Some (decimal m)) None) (sym (has m)))
 
 -- ---- digits
 

@@ -201,15 +201,15 @@ of_handles bs (Tuples m) b es k h o =
     (λ n. codes "tuple" ++ after_blanks (listed (handle_texts es)) ≡ held_text bs (Tuples n) (stands bs (handles b es)))
     (sym on.mode)
     (
-      subst
-      (λ i. AreHandles (base_at bs i) es → IsBase (base_at bs i) → codes "tuple" ++ after_blanks (listed (handle_texts es)) ≡ held_text bs (Tuples (Element on.number on.inner)) (stands bs (handles i es)))
-      (sym on.base)
-      (λ living base.
-        ap (λ l. codes "tuple" ++ after_blanks (listed l)) (components (base_at bs (main on.number)) es base living)
-        ∙ sym (spaced_after (codes "tuple") (listed (map (component (values_of (base_at bs (main on.number)))) (parts_at (base_at bs (main on.number)) es))))
-        ∙ ap (λ l. spaced (codes "tuple" ∷ listed (map (component (values_of (base_at bs (main on.number)))) l))) (sym (datum.part_list-parts_of (parts_at (base_at bs (main on.number)) es))))
-      o.1
-      k
+    subst
+    (λ i. AreHandles (base_at bs i) es → IsBase (base_at bs i) → codes "tuple" ++ after_blanks (listed (handle_texts es)) ≡ held_text bs (Tuples (Element on.number on.inner)) (stands bs (handles i es)))
+    (sym on.base)
+    (λ living base.
+    ap (λ l. codes "tuple" ++ after_blanks (listed l)) (components (base_at bs (main on.number)) es base living)
+    ∙ sym (spaced_after (codes "tuple") (listed (map (component (values_of (base_at bs (main on.number)))) (parts_at (base_at bs (main on.number)) es))))
+    ∙ ap (λ l. spaced (codes "tuple" ∷ listed (map (component (values_of (base_at bs (main on.number)))) l))) (sym (datum.part_list-parts_of (parts_at (base_at bs (main on.number)) es))))
+    o.1
+    k
     )
 of_handles bs (SingleMaps x y r) b es k h o = absurd (handles_of_map (place_of x y) false (HasForm main r) b es h)
 of_handles bs (MultiMaps x y s) b es k h o = absurd (handles_of_map (place_of x y) true (HasForm main s) b es h)
@@ -279,13 +279,13 @@ of_numbers bs (Sets a k) l b ns h =
     (λ m. form_word a ++ text_with l (values_of (base_at bs b)) (members_at (base_at bs b) ns) ≡ held_text bs (Sets a m) (stands bs (numbers l b ns)))
     (sym on.mode)
     (
-      subst
-      (λ i. form_word a ++ text_with l (values_of (base_at bs i)) (members_at (base_at bs i) ns) ≡ held_text bs (Sets a (Element on.number on.inner)) (stands bs (numbers l i ns)))
-      (sym on.base)
-      (
-        text_by l a (values_of (base_at bs (main on.number))) (members_at (base_at bs (main on.number)) ns) on.layout
-        ∙ ap (set_text a (values_of (base_at bs (main on.number)))) (sym (element_list-elements_of (members_at (base_at bs (main on.number)) ns)))
-      )
+    subst
+    (λ i. form_word a ++ text_with l (values_of (base_at bs i)) (members_at (base_at bs i) ns) ≡ held_text bs (Sets a (Element on.number on.inner)) (stands bs (numbers l i ns)))
+    (sym on.base)
+    (
+    text_by l a (values_of (base_at bs (main on.number))) (members_at (base_at bs (main on.number)) ns) on.layout
+    ∙ ap (set_text a (values_of (base_at bs (main on.number)))) (sym (element_list-elements_of (members_at (base_at bs (main on.number)) ns)))
+    )
     )
 of_numbers bs (Tuples m) l b ns h = absurd (numbers_of_tuple (base_of m) l b ns h)
 of_numbers bs (SingleMaps a k r) l b ns h = absurd (numbers_of_map (place_of a k) false (HasForm main r) l b ns h)
@@ -349,19 +349,19 @@ of_map law bs many a k m l b has es list is over exact =
     (λ n. form_word a ++ after_blanks (listed (entry_texts bs m (table l b has es) list)) ≡ held_text bs (map_mode many a n m) (stands bs (table l b has es)))
     (sym is.on.mode)
     (
-      subst
-      (λ (w : Bool). IsMapOver bs l b w es → ListsExactly (has_content (table l b w es)) list → form_word a ++ after_blanks (listed (entry_texts bs m (table l b w es) list)) ≡ held_text bs (map_mode many a (Element is.on.number is.on.inner) m) (stands bs (table l b w es)))
-      (sym is.kind)
-      (
-        subst
-        (λ i. IsMapOver bs l i many es → ListsExactly (has_content (table l i many es)) list → form_word a ++ after_blanks (listed (entry_texts bs m (table l i many es) list)) ≡ held_text bs (map_mode many a (Element is.on.number is.on.inner) m) (stands bs (table l i many es)))
-        (sym is.on.base)
-        (λ o x.
-          ap (λ t. form_word a ++ after_blanks (listed t)) (sym (texts_listed law bs l (main is.on.number) many es m list o x))
-          ∙ sym (map_held bs many a is.on.number is.on.inner m (table_pairs bs (base_at bs (main is.on.number)) many es)))
-      )
-      over
-      exact
+    subst
+    (λ (w : Bool). IsMapOver bs l b w es → ListsExactly (has_content (table l b w es)) list → form_word a ++ after_blanks (listed (entry_texts bs m (table l b w es) list)) ≡ held_text bs (map_mode many a (Element is.on.number is.on.inner) m) (stands bs (table l b w es)))
+    (sym is.kind)
+    (
+    subst
+    (λ i. IsMapOver bs l i many es → ListsExactly (has_content (table l i many es)) list → form_word a ++ after_blanks (listed (entry_texts bs m (table l i many es) list)) ≡ held_text bs (map_mode many a (Element is.on.number is.on.inner) m) (stands bs (table l i many es)))
+    (sym is.on.base)
+    (λ o x.
+    ap (λ t. form_word a ++ after_blanks (listed t)) (sym (texts_listed law bs l (main is.on.number) many es m list o x))
+    ∙ sym (map_held bs many a is.on.number is.on.inner m (table_pairs bs (base_at bs (main is.on.number)) many es)))
+    )
+    over
+    exact
     )
 
 pub of_table : ContentsStandForImages → (bs : BasesState) (m : Mode) (l : Layout) (b : BaseId) (has : Bool) (es : Entries) (list : List ℕ) → HasForm main m (table l b has es)

@@ -102,17 +102,17 @@ pub texts_listed : ContentsStandForImages → (bs : BasesState) (layout : Layout
     → texts_from (images_text bs many m) 1 (table_pairs bs (base_at bs b) many es) (values_of (base_at bs b)) ≡ map (entry_text bs m (table layout b many es)) list
 texts_listed law bs layout b many es m list is exact =
     texts_walk (images_text bs many m) (table_pairs bs (base_at bs b) many es) (text_at bs m f) 1 (values_of (base_at bs b)) (λ i d p.
-      let e : suc i ≡ 1 + i = omega arith in
-      subst
-      (λ k. image_text (images_text bs many m) k (images d (table_pairs bs (base_at bs b) many es)) ≡ one (text_at bs m f k))
-      e
-      (
-        ap (image_text (images_text bs many m) (suc i)) (law bs f (suc i) d is.over is.keyed is.base (at_value (base_at bs b) i ∙ p))
-        ∙ of_number bs many m f (suc i) (content_of f (suc i)) refl (λ c q. (content_is bs layout b many es is.over (suc i) c q).2)
-      ))
+    let e : suc i ≡ 1 + i = omega arith in
+    subst
+    (λ k. image_text (images_text bs many m) k (images d (table_pairs bs (base_at bs b) many es)) ≡ one (text_at bs m f k))
+    e
+    (
+    ap (image_text (images_text bs many m) (suc i)) (law bs f (suc i) d is.over is.keyed is.base (at_value (base_at bs b) i ∙ p))
+    ∙ of_number bs many m f (suc i) (content_of f (suc i)) refl (λ c q. (content_is bs layout b many es is.over (suc i) c q).2)
+    ))
     ∙ walk_list (text_at bs m f) (entry_text bs m f) 1 (length (values_of (base_at bs b))) list
-      (rise_within 1 (1 + length (values_of (base_at bs b))) list exact.rising (λ n h. living_within (base_at bs b) n (there n (content_of f n) refl (sym (exact.members n) ∙ h))))
-      (λ n l. ap (λ x. cond x (Some (entry_text bs m f n)) None) (sym (exact.members n)))
+    (rise_within 1 (1 + length (values_of (base_at bs b))) list exact.rising (λ n h. living_within (base_at bs b) n (there n (content_of f n) refl (sym (exact.members n) ∙ h))))
+    (λ n l. ap (λ x. cond x (Some (entry_text bs m f n)) None) (sym (exact.members n)))
   where
     f : Form
     f = table layout b many es

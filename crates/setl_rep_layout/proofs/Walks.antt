@@ -46,14 +46,14 @@ walk_list g t n (suc k) (x ∷ xs) r h =
     let up : n + suc k ≡ suc n + k = omega arith in
     ⊎_elim
     (λ e.
-      ap (λ o. one o ++ walk g (suc n) k) (h n (omega arith) ∙ ap (λ b. cond (b || list_any (nat_eq n) xs) (Some (t n)) None) (eq-eqb n x e))
-      ∙ ap (λ l. t n ∷ l) (walk_list g t (suc n) k xs (from_later (suc n) (suc x) (suc n + k) xs (omega (arith, e)) (subst (λ f. Rise (suc x) f xs) up r.2)) (λ m l.
-        h m (omega (arith, l)) ∙ ap (λ b. cond (b || list_any (nat_eq m) xs) (Some (t m)) None) (not_one m x (omega (arith, l, e)))))
-      ∙ ap (λ y. t y ∷ map t xs) e)
+    ap (λ o. one o ++ walk g (suc n) k) (h n (omega arith) ∙ ap (λ b. cond (b || list_any (nat_eq n) xs) (Some (t n)) None) (eq-eqb n x e))
+    ∙ ap (λ l. t n ∷ l) (walk_list g t (suc n) k xs (from_later (suc n) (suc x) (suc n + k) xs (omega (arith, e)) (subst (λ f. Rise (suc x) f xs) up r.2)) (λ m l.
+    h m (omega (arith, l)) ∙ ap (λ b. cond (b || list_any (nat_eq m) xs) (Some (t m)) None) (not_one m x (omega (arith, l, e)))))
+    ∙ ap (λ y. t y ∷ map t xs) e)
     (λ l.
-      let q : Rise (suc n) (suc n + k) (x ∷ xs) = (omega (arith, l), subst (λ f. x < f) up r.1, subst (λ f. Rise (suc x) f xs) up r.2) in
-      ap (λ o. one o ++ walk g (suc n) k) (h n (omega arith) ∙ ap (λ b. cond b (Some (t n)) None) (not_before n (suc n) (suc n + k) (x ∷ xs) (omega arith) q))
-      ∙ walk_list g t (suc n) k (x ∷ xs) q (λ m p. h m (omega (arith, p))))
+    let q : Rise (suc n) (suc n + k) (x ∷ xs) = (omega (arith, l), subst (λ f. x < f) up r.1, subst (λ f. Rise (suc x) f xs) up r.2) in
+    ap (λ o. one o ++ walk g (suc n) k) (h n (omega arith) ∙ ap (λ b. cond b (Some (t n)) None) (not_before n (suc n) (suc n + k) (x ∷ xs) (omega arith) q))
+    ∙ walk_list g t (suc n) k (x ∷ xs) q (λ m p. h m (omega (arith, p))))
     (eq-or-lt_of_le r.0)
 
 -- ---- lists that rise strictly

@@ -24,12 +24,7 @@ use std::alloc::Global;
 /// Adds the line of a base: its name, how many members it has, and these by their block numbers.
 ///
 /// The error is want of memory.
-pub fn push_base(
-    alloc: Global,
-    name: &[u8],
-    base: &Base,
-    into: &mut Vec<u8>,
-) -> Result<(), Memory>
+pub fn push_base(alloc: Global, name: &[u8], base: &Base, into: &mut Vec<u8>) -> Result<(), Memory>
     ensures { OnOk result (into.new.items ≡ into.old.items ++ base_line name.now (values_of base.now)) }
 {
     into.extend_from_slice(b"base ")?;
@@ -54,12 +49,7 @@ fn push_members(alloc: Global, base: &Base, into: &mut Vec<u8>) -> Result<(), Me
 }
 
 // Adds the text of the member with a block number behind a blank.
-fn push_member(
-    alloc: Global,
-    base: &Base,
-    n: u64,
-    into: &mut Vec<u8>,
-) -> Result<(), Memory>
+fn push_member(alloc: Global, base: &Base, n: u64, into: &mut Vec<u8>) -> Result<(), Memory>
     ensures { OnOk result (into.new.items ≡ into.old.items ++ after_blanks (inner_texts (member_list base.now n))) }
 {
     if let Some(v) = member(base, n) {

@@ -16,11 +16,13 @@ use Rattle.setl_code.specs.CodeCore as core
 use Rattle.setl_code.specs.Machine.{Added, Adds, Refused, Nowhere, add_by, below, added}
 use Rattle.setl_code.specs.MayRun.{MayRun}
 use Rattle.setl_code.specs.Plain.{plain_code}
+use Rattle.setl_rep_bases.specs.Bases.{BasesState}
 use Rattle.setl_store.specs.declared.cells.Frame.{Frame}
 use Rattle.setl_store.specs.declared.cells.Member.{Member}
 use Rattle.setl_store.specs.declared.cells.Operand.{Operand}
 use Rattle.setl_store.specs.declared.cells.Operand.TheVariants as operand
 use Rattle.setl_store.specs.Standing.{Standing, iterator_by, over}
+use Rattle.setl_store.specs.declared.cells.Kept.{Kept}
 use Rattle.setl_store.specs.Flat.{Here, member_of, got, operand_of, operands_in, lowest_in, now_operands, results, stands, AllGot, AllSound, GotThese, HasMembers, IsShaped, IsSound}
 use Rattle.setl_store.specs.Iterating.{AreIterators, Refuses}
 use Rattle.setl_store.specs.Operands.{TellsAdded}
@@ -180,12 +182,12 @@ none_added ms (operand.Value w) v xs h = refl
 none_added ms (operand.Iterator i) v xs h = iterator_adds i.pairs i.left v xs
 none_added ms (operand.Collection what lowest count) v xs h = absurd (h what lowest count refl)
 
-pub no_collection : (code : Code) (at : ℕ) (e : Here) (kept : List (Here × ℕ)) (s : Standing) (n k : ℕ) (o : Operand) (v : Option Datum) →
-    IsSound (plain_code code) e → stands code at e kept ≡ s → lowest_of e ≤ n → n + k + 1 ≡ length e.operands → Some o ≡ slice_get e.operands n → AreIterators (drop (n + 1) e.operands) →
+pub no_collection : (code : Code) (bs : BasesState) (at : ℕ) (e : Here) (kept : List (Here × Kept)) (s : Standing) (n k : ℕ) (o : Operand) (v : Option Datum) →
+    IsSound (plain_code code) e → stands code bs at e kept ≡ s → lowest_of e ≤ n → n + k + 1 ≡ length e.operands → Some o ≡ slice_get e.operands n → AreIterators (drop (n + 1) e.operands) →
     ((what : Collection) (lowest count : ℕ) → o ≡ operand.Collection what lowest count → ⊥) → added k v s.core.now.operands ≡ Nowhere
-no_collection code at e kept s n k o v sound is low long last are none =
+no_collection code bs at e kept s n k o v sound is low long last are none =
     let same : n + 1 ≡ suc n = omega arith in
-    ap (added k v) (sym (now_is code at e kept s is))
+    ap (added k v) (sym (now_is code bs at e kept s is))
     ∙ nowhere_at e n o sound.some low last k 0 v (subst (λ j. AreIterators (drop j e.operands)) same are) (omega (arith, long)) (none_added e.members o v (lower e n) none)
 
 pub told_refused : (a : Added) (fault : OpFault) (why : Option Fault) (new : List core.Operand) → Refuses fault why → ((f : Fault) → why ≡ Some f → a ≡ Refused f) → TellsAdded a (Err fault) new
@@ -242,8 +244,8 @@ abbrev pub with_member : Here → ℕ → Operand → Member → Here
 with_member e n o m = record e { operands = set e.operands n o; members = e.members ++ m ∷ [] }
 
 -- a collection below iterators
-module _ (code : Code) (at : ℕ) (e : Here) (kept : List (Here × ℕ)) (s : Standing) (n k : ℕ) (what : Collection) (lowest count : ℕ)
-    (holds : MayRun code × IsSound (plain_code code) e × AllSound (plain_code code) kept) (is : stands code at e kept ≡ s)
+module _ (code : Code) (bs : BasesState) (keeps : ℕ) (at : ℕ) (e : Here) (kept : List (Here × Kept)) (s : Standing) (n k : ℕ) (what : Collection) (lowest count : ℕ)
+    (holds : MayRun code × IsSound (plain_code code) e × AllSound (plain_code code) bs keeps e.slots kept) (is : stands code bs at e kept ≡ s)
     (low : lowest_of e ≤ n) (long : n + k + 1 ≡ length e.operands) (last : Some (operand.Collection what lowest count) ≡ slice_get e.operands n) (are : AreIterators (drop (n + 1) e.operands)) where
   are_above : AreIterators (drop (suc n) e.operands)
   are_above = let same : n + 1 ≡ suc n = omega arith in subst (λ j. AreIterators (drop j e.operands)) same are
@@ -293,24 +295,24 @@ module _ (code : Code) (at : ℕ) (e : Here) (kept : List (Here × ℕ)) (s : St
 
   asked : (v : Option Datum) → added k v s.core.now.operands ≡ told v
   asked v =
-      ap (added k v) (sym (now_is code at e kept s is))
+      ap (added k v) (sym (now_is code bs at e kept s is))
       ∙ added_around e n (operand.Collection what lowest count) holds.1.some low last k 0 v are_above (omega (arith, long))
 
   pub refused_by : (v : Option Datum) (why : Fault) → refusal what v ≡ Some why → added k v s.core.now.operands ≡ Refused why
   refused_by v why refuses = asked v ∙ ap (λ f. on (higher e n) (add_by f (core.Collecting what (v ∷ got e.members lowest count)) (lower e n))) refuses
 
-  more_changed : (m : Member) → refusal what (member_of m) ≡ None → (e' : Here) (kept' : List (Here × ℕ)) → e' ≡ with_member e n more m → kept' ≡ kept →
-      Changed code at e' kept' s (over (higher e n ++ core.Collecting what (member_of m ∷ got e.members lowest count) ∷ lower e n) s.core)
+  more_changed : (m : Member) → refusal what (member_of m) ≡ None → (e' : Here) (kept' : List (Here × Kept)) → e' ≡ with_member e n more m → kept' ≡ kept →
+      Changed code bs keeps at e' kept' s (over (higher e n ++ core.Collecting what (member_of m ∷ got e.members lowest count) ∷ lower e n) s.core)
   more_changed m free e' kept' now same =
       let p = core.Collecting what (member_of m ∷ got e.members lowest count) in
       let xs = higher e n ++ p ∷ lower e n in
       let there = there_is (results e) n (core.Collecting what (got e.members lowest count)) its_result in
       let flat = more_results m ∙ around_in (reverse e.activations) n (results e) p (omega (arith, holds.1.some, length-reverse e.activations)) low there in
-      let to = above (plain_code code) at e (with_member e n more m) kept xs holds.1 refl refl flat in
-      subst (λ x. Changed code at x kept' s (over xs s.core)) (sym now)
-      (changed code at at e (with_member e n more m) kept kept' s (λ c. over xs c) holds is same to (more_sound m free))
+      let to = above (plain_code code) bs at e (with_member e n more m) kept xs holds.1 refl refl flat in
+      subst (λ x. Changed code bs keeps at x kept' s (over xs s.core)) (sym now)
+      (changed code bs keeps at at e (with_member e n more m) kept kept' s (λ c. over xs c) holds is same to (more_sound m free) holds.2.standing)
 
-  pub adds : (m : Member) (e' : Here) (kept' : List (Here × ℕ)) → refusal what (member_of m) ≡ None → e' ≡ with_member e n more m → kept' ≡ kept → NowHas (λ xs. added k (member_of m) s.core.now.operands ≡ Adds xs) code at e' kept' s
+  pub adds : (m : Member) (e' : Here) (kept' : List (Here × Kept)) → refusal what (member_of m) ≡ None → e' ≡ with_member e n more m → kept' ≡ kept → NowHas (λ xs. added k (member_of m) s.core.now.operands ≡ Adds xs) code bs keeps at e' kept' s
   adds m e' kept' free now same =
       now_has (higher e n ++ core.Collecting what (member_of m ∷ got e.members lowest count) ∷ lower e n)
       (asked (member_of m) ∙ ap (λ f. on (higher e n) (add_by f (core.Collecting what (member_of m ∷ got e.members lowest count)) (lower e n))) free)

@@ -5,10 +5,12 @@ use Rattle.setl_model.specs.Core.{Item}
 use Rattle.setl_code.specs.declared.code.Code.{Code}
 use Rattle.setl_code.specs.CodeCore as core
 use Rattle.setl_code.specs.CodeCore.{value_of, without_iterators}
+use Rattle.setl_rep_bases.specs.Bases.{BasesState}
 use Rattle.setl_store.specs.declared.cells.Member.{Member}
 use Rattle.setl_store.specs.declared.cells.Operand.{Operand}
 use Rattle.setl_store.specs.declared.cells.Operand.TheVariants as operand
 use Rattle.setl_store.specs.Standing.{Standing, iterator_by}
+use Rattle.setl_store.specs.declared.cells.Kept.{Kept}
 use Rattle.setl_store.specs.Flat.{Here, operand_of, stands}
 use Rattle.setl_store.proofs.Lists.{some_same}
 use Rattle.setl_store.proofs.OperandLists.{lowest_of, on_top_counted}
@@ -76,9 +78,9 @@ enough_off (suc n) (core.Collecting what got ∷ xs) ys e = absurd (cc)
 
 -- ---- a store
 
-pub few_left : (code : Code) (at : ℕ) (e : Here) (kept : List (Here × ℕ)) (s : Standing) → stands code at e kept ≡ s →
+pub few_left : (code : Code) (bs : BasesState) (at : ℕ) (e : Here) (kept : List (Here × Kept)) (s : Standing) → stands code bs at e kept ≡ s →
     (size low n : ℕ) → size ≡ length e.operands → low ≡ lowest_of e → size - low < n → without_iterators n s.core.now.operands ≡ None
-few_left code at e kept s is size low n long lowest less = few n s.core.now.operands (omega (arith, less, on_top_counted code at e kept s is, long, lowest))
+few_left code bs at e kept s is size low n long lowest less = few n s.core.now.operands (omega (arith, less, on_top_counted code bs at e kept s is, long, lowest))
 
 -- the k-th from the top is none
 pub one_off : (n k : ℕ) (ms : List Member) (o : Operand) (xs : List core.Operand) → k < n → drop k xs ≡ operand_of ms o ∷ drop (k + 1) xs → ((ns : List Member) → false ≡ is_some (value_of (operand_of ns o))) →

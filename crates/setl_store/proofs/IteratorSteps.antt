@@ -17,11 +17,13 @@ use Rattle.setl_code.specs.CodeCore as core
 use Rattle.setl_code.specs.CodeCore.{CodeCore, Result as Holds}
 use Rattle.setl_code.specs.MayRun.{MayRun}
 use Rattle.setl_code.specs.Plain.{plain_code}
+use Rattle.setl_rep_bases.specs.Bases.{BasesState}
 use Rattle.setl_store.specs.declared.cells.Member.{Member}
 use Rattle.setl_store.specs.declared.cells.Operand.{Operand}
 use Rattle.setl_store.specs.declared.cells.Operand.TheVariants as operand
 use Rattle.setl_store.specs.declared.iterating.Ahead.TheVariants as ahead
 use Rattle.setl_store.specs.Standing.{Standing, iterator_by, over}
+use Rattle.setl_store.specs.declared.cells.Kept.{Kept}
 use Rattle.setl_store.specs.Flat.{Here, iterator_of, operand_of, stands, IsSound, AllSound, HasMembers, with_operand}
 use Rattle.setl_store.specs.Iterating.{IsAtItem, IsFirst, advanced, with_item}
 use Rattle.setl_store.specs.Returning.{operand_by}
@@ -51,11 +53,11 @@ none_ahead members (operand.Iterator i) xs h = absurd (h i refl)
 none_ahead members (operand.Collection what lowest count) xs h = tt
 
 -- the operands of a store, where this is the last one and there are more than the lowest
-module _ (code : Code) (at : ℕ) (e : Here) (kept : List (Here × ℕ)) (s : Standing) (n m : ℕ) (o : Operand)
-    (holds : MayRun code × IsSound (plain_code code) e × AllSound (plain_code code) kept) (is : stands code at e kept ≡ s)
+module _ (code : Code) (bs : BasesState) (keeps : ℕ) (at : ℕ) (e : Here) (kept : List (Here × Kept)) (s : Standing) (n m : ℕ) (o : Operand)
+    (holds : MayRun code × IsSound (plain_code code) e × AllSound (plain_code code) bs keeps e.slots kept) (is : stands code bs at e kept ≡ s)
     (count : n ≡ length e.operands) (low : m ≡ lowest_of e) (some : n ≡ m → ⊥) (last : Some o ≡ slice_get e.operands (n - 1)) where
   top_here : s.core.now.operands ≡ operand_of e.members o ∷ drop 1 s.core.now.operands
-  top_here = top_is code at e kept s (n - 1) o holds.1 is (omega (arith, lowest_below (plain_code code) e holds.1)) (omega arith) last
+  top_here = top_is code bs at e kept s (n - 1) o holds.1 is (omega (arith, lowest_below (plain_code code) e holds.1)) (omega arith) last
 
   pub end_on_top : (i : IteratorState) (b : Bool) → o ≡ operand.Iterator i → b ≡ nat_eq (length i.left) 0 → b ≡ true → IsAhead s.core.now.operands ahead.AtEnd
   end_on_top i b at_work ends h =
@@ -134,38 +136,38 @@ value_stands None members = refl
 value_stands (Some v) members = refl
 
 -- a value pushed
-value_pushed : (code : Code) (at : ℕ) (e : Here) (kept : List (Here × ℕ)) (s : Standing) (v : Option Value) →
-    MayRun code × IsSound (plain_code code) e × AllSound (plain_code code) kept → stands code at e kept ≡ s →
-    Changed code at (with_operand e (operand_by v)) kept s (over (Holds (part v) ∷ s.core.now.operands) s.core)
-value_pushed code at e kept s v holds is =
-    pushes code at e (with_operand e (operand_by v)) kept kept s (operand_by v) (Holds (part v)) holds is refl refl
+value_pushed : (code : Code) (bs : BasesState) (keeps : ℕ) (at : ℕ) (e : Here) (kept : List (Here × Kept)) (s : Standing) (v : Option Value) →
+    MayRun code × IsSound (plain_code code) e × AllSound (plain_code code) bs keeps e.slots kept → stands code bs at e kept ≡ s →
+    Changed code bs keeps at (with_operand e (operand_by v)) kept s (over (Holds (part v) ∷ s.core.now.operands) s.core)
+value_pushed code bs keeps at e kept s v holds is =
+    pushes code bs keeps at e (with_operand e (operand_by v)) kept kept s (operand_by v) (Holds (part v)) holds is refl refl
     (value_members v (reverse e.operands) (length e.members) holds.1.members) tt (value_stands v e.members)
 
 -- an item pushed
-item_pushed : (code : Code) (at : ℕ) (e : Here) (kept : List (Here × ℕ)) (s : Standing) (x : Item) →
-    MayRun code × IsSound (plain_code code) e × AllSound (plain_code code) kept → stands code at e kept ≡ s →
-    Changed code at (with_item e x) kept s (over (item_on x s.core.now.operands) s.core)
-item_pushed code at e kept s (item.One v) holds is = value_pushed code at e kept s v holds is
-item_pushed code at e kept s (item.Two x y) holds is =
-    let one = value_pushed code at e kept s y holds is in
+item_pushed : (code : Code) (bs : BasesState) (keeps : ℕ) (at : ℕ) (e : Here) (kept : List (Here × Kept)) (s : Standing) (x : Item) →
+    MayRun code × IsSound (plain_code code) e × AllSound (plain_code code) bs keeps e.slots kept → stands code bs at e kept ≡ s →
+    Changed code bs keeps at (with_item e x) kept s (over (item_on x s.core.now.operands) s.core)
+item_pushed code bs keeps at e kept s (item.One v) holds is = value_pushed code bs keeps at e kept s v holds is
+item_pushed code bs keeps at e kept s (item.Two x y) holds is =
+    let one = value_pushed code bs keeps at e kept s y holds is in
     let k = over (Holds (part y) ∷ s.core.now.operands) s.core in
-    behind code at (with_item e (item.Two x y)) kept s k (over (item_on (item.Two x y) s.core.now.operands) s.core)
-    (value_pushed code at (with_operand e (operand_by y)) kept (record s { core = k }) x one.holds one.stands)
+    behind code bs keeps at (with_item e (item.Two x y)) kept s k (over (item_on (item.Two x y) s.core.now.operands) s.core)
+    (value_pushed code bs keeps at (with_operand e (operand_by y)) kept (record s { core = k }) x one.holds one.stands)
 
 -- the iterator that is the last operand replaced
-module _ (code : Code) (at : ℕ) (e : Here) (kept : List (Here × ℕ)) (s : Standing)
-    (holds : MayRun code × IsSound (plain_code code) e × AllSound (plain_code code) kept) (is : stands code at e kept ≡ s) where
+module _ (code : Code) (bs : BasesState) (keeps : ℕ) (at : ℕ) (e : Here) (kept : List (Here × Kept)) (s : Standing)
+    (holds : MayRun code × IsSound (plain_code code) e × AllSound (plain_code code) bs keeps e.slots kept) (is : stands code bs at e kept ≡ s) where
   iterator_set : (i j : IteratorState) (n : ℕ) → length e.operands ≡ n + 1 → lowest_of e < length e.operands → Some (operand.Iterator i) ≡ slice_get e.operands n →
-      Changed code at (record e { operands = set e.operands n (operand.Iterator j) }) kept s (over (iterator_of j ∷ drop 1 s.core.now.operands) s.core)
+      Changed code bs keeps at (record e { operands = set e.operands n (operand.Iterator j) }) kept s (over (iterator_of j ∷ drop 1 s.core.now.operands) s.core)
   iterator_set i j n long some last =
-      operand_set code at e (record e { operands = set e.operands n (operand.Iterator j) }) kept kept s (operand.Iterator i) (operand.Iterator j) (iterator_of j) n holds is long (omega arith) last refl refl refl
+      operand_set code bs keeps at e (record e { operands = set e.operands n (operand.Iterator j) }) kept kept s (operand.Iterator i) (operand.Iterator j) (iterator_of j) n holds is long (omega arith) last refl refl refl
       (λ os m h. h) (got_iterator j.pairs j.left) refl
 
   last_of : IsAhead s.core.now.operands ahead.AtItem → Some (get_or e.operands (length e.operands - 1) operand.Om) ≡ slice_get e.operands (length e.operands - 1)
-  last_of h = sym (slice_get-get_or e.operands (length e.operands - 1) operand.Om (omega (arith, some_below code at e kept s is (some_ahead s.core.now.operands h))))
+  last_of h = sym (slice_get-get_or e.operands (length e.operands - 1) operand.Om (omega (arith, some_below code bs at e kept s is (some_ahead s.core.now.operands h))))
 
   top_before : (h : IsAhead s.core.now.operands ahead.AtItem) → s.core.now.operands ≡ operand_of e.members (get_or e.operands (length e.operands - 1) operand.Om) ∷ drop 1 s.core.now.operands
-  top_before h = top_is code at e kept s (length e.operands - 1) (get_or e.operands (length e.operands - 1) operand.Om) holds.1 is (some_below code at e kept s is (some_ahead s.core.now.operands h)) refl (last_of h)
+  top_before h = top_is code bs at e kept s (length e.operands - 1) (get_or e.operands (length e.operands - 1) operand.Om) holds.1 is (some_below code bs at e kept s is (some_ahead s.core.now.operands h)) refl (last_of h)
 
   -- an iterator is the last operand where an item is ahead
   pub item_there : IsAhead s.core.now.operands ahead.AtItem → IsAtItem (slice_get e.operands (length e.operands - 1))
@@ -174,9 +176,9 @@ module _ (code : Code) (at : ℕ) (e : Here) (kept : List (Here × ℕ)) (s : St
       subst IsAtItem (last_of h) (at_item e.members o (drop 1 s.core.now.operands) (subst (λ l. IsAhead l ahead.AtItem) (top_before h) h))
 
   -- its first item taken and pushed
-  advanced_by : (o : Operand) (x : Item) (e₁ e₂ : Here) (kept' : List (Here × ℕ)) → length e.operands ≡ (length e.operands - 1) + 1 → lowest_of e < length e.operands → Some o ≡ slice_get e.operands (length e.operands - 1) →
+  advanced_by : (o : Operand) (x : Item) (e₁ e₂ : Here) (kept' : List (Here × Kept)) → length e.operands ≡ (length e.operands - 1) + 1 → lowest_of e < length e.operands → Some o ≡ slice_get e.operands (length e.operands - 1) →
       s.core.now.operands ≡ operand_of e.members o ∷ drop 1 s.core.now.operands → IsFirst (Some o) x →
-      e₁ ≡ record e { operands = set e.operands (length e.operands - 1) (advanced (Some o)) } → e₂ ≡ with_item e₁ x → kept' ≡ kept → NowHas (Advances s.core.now.operands) code at e₂ kept' s
+      e₁ ≡ record e { operands = set e.operands (length e.operands - 1) (advanced (Some o)) } → e₂ ≡ with_item e₁ x → kept' ≡ kept → NowHas (Advances s.core.now.operands) code bs keeps at e₂ kept' s
   advanced_by operand.Om x e₁ e₂ kept' long some last top first now pushed same = absurd first
   advanced_by (operand.Value v) x e₁ e₂ kept' long some last top first now pushed same = absurd first
   advanced_by (operand.Collection what lowest count) x e₁ e₂ kept' long some last top first now pushed same = absurd first
@@ -186,19 +188,19 @@ module _ (code : Code) (at : ℕ) (e : Here) (kept : List (Here × ℕ)) (s : St
       let one = iterator_set i j (length e.operands - 1) long some last in
       let k = over (iterator_of j ∷ xs) s.core in
       let e' = record e { operands = set e.operands (length e.operands - 1) (operand.Iterator j) } in
-      let two = behind code at (with_item e' x) kept s k (over (item_on x (iterator_of j ∷ xs)) s.core) (item_pushed code at e' kept (record s { core = k }) x one.holds one.stands) in
+      let two = behind code bs keeps at (with_item e' x) kept s k (over (item_on x (iterator_of j ∷ xs)) s.core) (item_pushed code bs keeps at e' kept (record s { core = k }) x one.holds one.stands) in
       let off : Advances (iterator_by i.pairs i.left ∷ xs) (item_on x (iterator_of j ∷ xs)) =
       subst (λ (l : List model.Item). Advances (iterator_by i.pairs l ∷ xs) (item_on x (iterator_of j ∷ xs))) (sym first.0)
       (subst (λ b. Advances (iterator_by b (plain_item x ∷ drop 1 i.left) ∷ xs) (item_on x (iterator_by b (drop 1 i.left) ∷ xs))) first.1 (item_off x (drop 1 i.left) xs)) in
       now_has (item_on x (iterator_of j ∷ xs))
       (subst (λ l. Advances l (item_on x (iterator_of j ∷ xs))) (sym top) off)
-      (subst (λ ks. Changed code at e₂ ks s (over (item_on x (iterator_of j ∷ xs)) s.core)) (sym same)
-      (subst (λ y. Changed code at y kept s (over (item_on x (iterator_of j ∷ xs)) s.core)) (sym (pushed ∙ ap (λ y. with_item y x) now)) two))
+      (subst (λ ks. Changed code bs keeps at e₂ ks s (over (item_on x (iterator_of j ∷ xs)) s.core)) (sym same)
+      (subst (λ y. Changed code bs keeps at y kept s (over (item_on x (iterator_of j ∷ xs)) s.core)) (sym (pushed ∙ ap (λ y. with_item y x) now)) two))
 
-  pub advances : (x : Item) (e₁ e₂ : Here) (kept' : List (Here × ℕ)) → IsAhead s.core.now.operands ahead.AtItem → IsFirst (slice_get e.operands (length e.operands - 1)) x →
-      e₁ ≡ record e { operands = set e.operands (length e.operands - 1) (advanced (slice_get e.operands (length e.operands - 1))) } → e₂ ≡ with_item e₁ x → kept' ≡ kept → NowHas (Advances s.core.now.operands) code at e₂ kept' s
+  pub advances : (x : Item) (e₁ e₂ : Here) (kept' : List (Here × Kept)) → IsAhead s.core.now.operands ahead.AtItem → IsFirst (slice_get e.operands (length e.operands - 1)) x →
+      e₁ ≡ record e { operands = set e.operands (length e.operands - 1) (advanced (slice_get e.operands (length e.operands - 1))) } → e₂ ≡ with_item e₁ x → kept' ≡ kept → NowHas (Advances s.core.now.operands) code bs keeps at e₂ kept' s
   advances x e₁ e₂ kept' h first now pushed same =
-      let some = some_below code at e kept s is (some_ahead s.core.now.operands h) in
+      let some = some_below code bs at e kept s is (some_ahead s.core.now.operands h) in
       let last = last_of h in
       advanced_by (get_or e.operands (length e.operands - 1) operand.Om) x e₁ e₂ kept' (omega (arith, some)) some last (top_before h)
       (subst (λ o. IsFirst o x) (sym last) first)

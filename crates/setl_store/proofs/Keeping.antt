@@ -1,25 +1,44 @@
--- What `ok` keeps.
-use Rattle.std.proofs.Common.{◌≡◌, ℕ, suc, ◌+◌, List, [], ◌∷◌, ◌++◌, length, drop, map, set, refl, sym, ap, ◌∙◌, subst, arith, Bool, true, false, Some}
+-- What `ok` keeps, and what `fail` brings back.
+use Rattle.std.proofs.Common.{◌≡◌, ℕ, suc, ◌+◌, ◌<◌, ◌≤◌, ◌^◌, List, [], ◌∷◌, ◌++◌, length, drop, map, reverse, set, refl, sym, ap, ◌∙◌, subst, arith, Bool, true, false, Some}
+use Rattle.std.specs.Prelude.{Option, None, option_and_then}
+use Rattle.std.specs.Option.{option_map, option_map_or}
+use Rattle.std.specs.FinMap as finmap
+use Rattle.setl_base.specs.Base.{empty}
 use Rattle.setl_value.specs.Datum.{bool}
 use Rattle.setl_value.specs.declared.Value.TheVariants as value
 use Rattle.setl_code.specs.declared.code.Code.{Code}
+use Rattle.setl_code.specs.Code as plain
+use Rattle.setl_code.specs.CodeCore as core
 use Rattle.setl_code.specs.CodeCore.{Result as Holds, Copy, CodeCore}
 use Rattle.setl_code.specs.MayRun.{MayRun}
 use Rattle.setl_code.specs.Plain.{plain_code}
+use Rattle.setl_rep_bases.specs.declared.BaseId.{BaseId}
+use Rattle.setl_rep_bases.specs.declared.tables.Instance.{Instance}
+use Rattle.setl_rep_bases.specs.declared.marks.Mark.{Mark}
+use Rattle.setl_rep_bases.specs.Bases.{BasesState, base_at, instance_at}
+use Rattle.setl_rep_bases.specs.Keeping.{AreKept}
+use Rattle.setl_rep_bases.specs.Marks.{marks_of, as_cut, cut_all, back_all, AreWithin, HaveFewCuts}
+use Rattle.setl_rep_bases.specs.Cutting.{NothingIsCut, GrownBasesAreCutAlike, CountedCutsLeaveTheSame, CountedCutsAreRead}
+use Rattle.setl_rep_forms.specs.Laws.{FormsStay}
+use Rattle.setl_store_kept.specs.Kept.{KeptSound}
+use Rattle.setl_store_kept.specs.Keeping.{ReadsBlocks, one_more_kept, sound_back}
+use Rattle.setl_store_slots.specs.declared.cells.Held.{Held}
+use Rattle.setl_store.specs.declared.cells.Kept.{Kept}
 use Rattle.setl_store.specs.declared.cells.Operand.{Operand}
 use Rattle.setl_store.specs.declared.cells.Operand.TheVariants as operand
-use Rattle.setl_store.specs.Standing.{Standing, over, kept as with_kept}
-use Rattle.setl_store.specs.Flat.{Here, copy_of, core_of, stands, IsSound, AllSound, answering, now_operands}
+use Rattle.setl_store.specs.Standing.{Standing, over, kept as with_kept, restored}
+use Rattle.setl_store.specs.Flat.{Here, body_in, cells, own_in, operands_in, callers, results, marks_in, copy_of, copies_of, core_of, stands, IsSound, WasSound, AllSound, answering, now_operands}
 use Rattle.setl_store.proofs.OperandLists.{Changed, pushes}
+use Rattle.setl_store.proofs.StandingSlots.{slots_stay}
 
 -- with a truth value pushed
-answered : (code : Code) (at : ℕ) (e : Here) (kept : List (Here × ℕ)) (b : Bool) → MayRun code × IsSound (plain_code code) e × AllSound (plain_code code) kept →
-    Changed code at (answering e b) kept (stands code at e kept) (over (Holds (Some (bool b)) ∷ now_operands e) (core_of (plain_code code) at e kept))
-answered code at e kept b h = pushes code at e (answering e b) kept kept (stands code at e kept) (operand.Value (value.Bool b)) (Holds (Some (bool b))) h refl refl refl h.1.members tt refl
+answered : (code : Code) (bs : BasesState) (keeps : ℕ) (at : ℕ) (e : Here) (kept : List (Here × Kept)) (b : Bool) → MayRun code × IsSound (plain_code code) e × AllSound (plain_code code) bs keeps e.slots kept →
+    Changed code bs keeps at (answering e b) kept (stands code bs at e kept) (over (Holds (Some (bool b)) ∷ now_operands e) (core_of (plain_code code) bs at e kept))
+answered code bs keeps at e kept b h = pushes code bs keeps at e (answering e b) kept kept (stands code bs at e kept) (operand.Value (value.Bool b)) (Holds (Some (bool b))) h refl refl refl h.1.members tt refl
 
-core_answered : (code : Code) (at : ℕ) (e : Here) (kept : List (Here × ℕ)) (b : Bool) → MayRun code × IsSound (plain_code code) e × AllSound (plain_code code) kept →
-    core_of (plain_code code) at (answering e b) kept ≡ over (Holds (Some (bool b)) ∷ now_operands e) (core_of (plain_code code) at e kept)
-core_answered code at e kept b h = ap (λ (x : Standing). x.core) (answered code at e kept b h).stands
+core_answered : (code : Code) (bs : BasesState) (keeps : ℕ) (at : ℕ) (e : Here) (kept : List (Here × Kept)) (b : Bool) → MayRun code × IsSound (plain_code code) e × AllSound (plain_code code) bs keeps e.slots kept →
+    core_of (plain_code code) bs at (answering e b) kept ≡ over (Holds (Some (bool b)) ∷ now_operands e) (core_of (plain_code code) bs at e kept)
+core_answered code bs keeps at e kept b h = ap (λ (x : Standing). x.core) (answered code bs keeps at e kept b h).stands
 
 last_set : {A : Type 0} (xs : List A) (x y : A) → set (xs ++ x ∷ []) (length xs) y ≡ xs ++ y ∷ []
 last_set [] x y = refl
@@ -37,31 +56,101 @@ replaced e e1 e2 n o now last is to =
 abbrev copied : CodeCore → Copy
 copied k = record { globals = k.globals; now = record k.now { operands = drop 1 k.now.operands }; callers = k.callers }
 
--- all that always holds still does, once it is kept
-keeps : (code : Code) (at : ℕ) (e e' : Here) (kept kept' : List (Here × ℕ)) → MayRun code × IsSound (plain_code code) e × AllSound (plain_code code) kept →
-    e' ≡ answering e false → kept' ≡ (answering e false, at) ∷ kept → MayRun code × IsSound (plain_code code) e' × AllSound (plain_code code) kept'
-keeps code at e e' kept kept' h now added =
-    let c = plain_code code in
-    let sound = (answered code at e kept false h).holds.1 in
-    let top = ap (λ (k : CodeCore). k.now.operands) (core_answered code at e kept false h) in
-    (h.0, subst (IsSound c) (sym now) sound, subst (AllSound c) (sym added) (sound, top ∙ ap (λ l. Holds (Some (bool false)) ∷ drop 1 l) (sym top), h.2))
+-- what was kept, with these slots
+abbrev copy_with : plain.Code → List core.Held → Here × Kept → Copy
+copy_with c hs k = record {
+  globals = cells c.vars hs;
+  now = record { body = body_in (reverse k.0.activations); at = k.1.at; own = own_in c (reverse k.0.activations) hs; operands = drop 1 (operands_in (reverse k.0.activations) (results k.0)) };
+  callers = callers c (reverse k.0.activations) hs (results k.0);
+}
 
--- and once it goes on
-pub all_kept : (code : Code) (at next : ℕ) (e e' : Here) (kept kept' : List (Here × ℕ)) (s : Standing) → MayRun code × IsSound (plain_code code) e × AllSound (plain_code code) kept → stands code at e kept ≡ s →
-    next ≡ at + 1 → e' ≡ answering e true → kept' ≡ (answering e false, next) ∷ kept → Changed code next e' kept' s (with_kept s.core)
-all_kept code at next e e' kept kept' s h is there now added =
+-- what is there is kept, and goes on
+pub all_kept : NothingIsCut → (code : Code) (bs : BasesState) (keeps : ℕ) (at next : ℕ) (e e' : Here) (kept kept' : List (Here × Kept)) (k : Kept) (s : Standing) →
+    MayRun code × IsSound (plain_code code) e × AllSound (plain_code code) bs keeps e.slots kept → stands code bs at e kept ≡ s →
+    next ≡ at + 1 → k.at ≡ at + 1 → k.marks ≡ marks_of bs → keeps + 1 < 2 ^ 63 → e' ≡ answering e true → kept' ≡ (answering e false, k) ∷ kept →
+    Changed code bs (keeps + 1) next e' kept' s (with_kept s.core)
+all_kept none code bs keeps at next e e' kept kept' k s h is there place marked few now added =
     let c = plain_code code in
-    let up : next ≡ suc at = omega (arith, there) in
-    let copy = ap copied (core_answered code (suc at) e kept false h) in
-    let on = core_answered code (suc at) e kept true h in
-    let to : core_of c (suc at) (answering e true) ((answering e false, suc at) ∷ kept) ≡ with_kept (core_of c at e kept) =
-    λ i. record (on i) { kept = copy i ∷ map (copy_of c) kept } in
+    let n : ℕ = suc at in
+    let up : next ≡ n = omega (arith, there) in
+    let behind : k.at ≡ n = omega (arith, place) in
+    let asked = answered code bs keeps at e kept false h in
+    let top = ap (λ (q : CodeCore). q.now.operands) (core_answered code bs keeps at e kept false h) in
+    let was : WasSound c bs (answering e false) = record { sound = asked.holds.1; answered = top ∙ ap (λ l. Holds (Some (bool false)) ∷ drop 1 l) (sym top); standing = h.2.standing } in
+    let one = one_more_kept marks_in (copy_of c) (WasSound c) none bs (answering e false, k) kept marked was h.2.older in
+    let copy = ap (λ i. copied (core_of c bs i (answering e false) kept)) behind ∙ ap copied (core_answered code bs keeps n e kept false h) in
+    let copies = one.same ∙ ap (λ x. x ∷ copies_of c bs kept) copy in
+    let on = core_answered code bs keeps n e kept true h in
+    let all = (answering e false, k) ∷ kept in
+    let to : core_of c bs n (answering e true) all ≡ with_kept (core_of c bs at e kept) = λ i. record (on i) { kept = copies i } in
+    let done : Changed code bs (keeps + 1) n (answering e true) all s (with_kept s.core) =
     record {
-      stands =
-          ap (λ n. stands code n e' kept') up
-          ∙ ap (λ x. stands code (suc at) x kept') now
-          ∙ ap (λ x. stands code (suc at) (answering e true) x) (added ∙ ap (λ n. (answering e false, n) ∷ kept) up)
-          ∙ ap (λ (k : CodeCore). record { code = code; core = k }) to
-          ∙ ap (λ (x : Standing). record x { core = with_kept x.core }) is;
-      holds = (h.0, subst (IsSound c) (sym now) (answered code at e kept true h).holds.1, (keeps code next e (answering e false) kept kept' h refl added).2);
+      stands = ap (λ (q : CodeCore). record { code = code; core = q }) to ∙ ap (λ (x : Standing). record x { core = with_kept x.core }) is;
+      holds = (
+        h.0,
+        (answered code bs keeps at e kept true h).holds.1,
+        record { standing = h.2.standing; older = one.sound_too; cuts = λ i. (omega (arith, h.2.cuts i)); few = few },
+      );
+    } in
+    subst (λ m. Changed code bs (keeps + 1) m e' kept' s (with_kept s.core)) (sym up)
+    (subst (λ x. Changed code bs (keeps + 1) n x kept' s (with_kept s.core)) (sym now)
+    (subst (λ ks. Changed code bs (keeps + 1) n (answering e true) ks s (with_kept s.core)) (sym added) done))
+
+-- what a kept one shows is told by the blocks of its bases
+reads_blocks : FormsStay → (c : plain.Code) → ReadsBlocks marks_in (copy_of c) (WasSound c)
+reads_blocks stay c bs cs k more was =
+    let slots = slots_stay stay bs cs k.0.slots more was.standing in
+    (ap (λ hs. copy_with c hs k) slots.same, record { sound = was.sound; answered = was.answered; standing = slots.stand })
+
+-- the store over what was kept last, and over the bases that were cut to its marks
+pub record BroughtBack (code : Code) (cs : BasesState) (keeps : ℕ) (at : ℕ) (e : Here) (kept : List (Here × Kept)) (s : Standing) : Type 0 where
+  pub restored_to : restored s.core.kept s.core ≡ Some (stands code cs at e kept).core
+  pub holds : MayRun code × IsSound (plain_code code) e × AllSound (plain_code code) cs keeps e.slots kept
+
+cut_once : (w : Option Mark) (o : Option Instance) →
+    (option_map_or (λ (x : Instance). x.base) (option_and_then (λ x. option_map (as_cut x) w) o) empty).cuts ≤ (option_map_or (λ (x : Instance). x.base) o empty).cuts + 1
+cut_once w None = omega arith
+cut_once None (Some x) = omega arith
+cut_once (Some m) (Some x) = omega arith
+
+-- each instance is cut at most once
+cuts_counted : CountedCutsAreRead → (bs : BasesState) (k : Kept) (i : BaseId) → (base_at (back_all bs k.marks) i).cuts ≤ (base_at bs i).cuts + 1
+cuts_counted read bs k i =
+    subst (λ o. (option_map_or (λ (x : Instance). x.base) o empty).cuts ≤ (base_at bs i).cuts + 1) (sym (read bs k.marks i))
+    (cut_once (finmap.get k.marks i) (instance_at bs i))
+
+pub brought_back : FormsStay → GrownBasesAreCutAlike → CountedCutsAreRead → CountedCutsLeaveTheSame → (code : Code) (bs cs : BasesState) (keeps : ℕ) (at : ℕ) (e e' : Here) (kept kept' : List (Here × Kept)) (k : Kept) (s : Standing) →
+    MayRun code × IsSound (plain_code code) e × AllSound (plain_code code) bs keeps e.slots kept → stands code bs at e kept ≡ s → kept ≡ (e', k) ∷ kept' →
+    cs ≡ back_all bs k.marks → BroughtBack code cs keeps k.at e' kept' s
+brought_back stay alike read same code bs cs keeps at e e' kept kept' k s h is last back =
+    let c = plain_code code in
+    let more : AreKept (cut_all bs k.marks) cs = subst (AreKept (cut_all bs k.marks)) (sym back) (same bs k.marks).0 in
+    let cut : (i : BaseId) → (base_at cs i).cuts ≤ (base_at bs i).cuts + 1 = subst (λ ds. (i : BaseId) → (base_at ds i).cuts ≤ (base_at bs i).cuts + 1) (sym back) (cuts_counted read bs k) in
+    let b = sound_back marks_in (copy_of c) (WasSound c) alike (reads_blocks stay c) bs cs (e', k) kept' more (subst (KeptSound marks_in (WasSound c) bs) last h.2.older) in
+    let copies = ap (copies_of c bs) last ∙ b.same in
+    let to = core_of c cs k.at e' kept' in
+    record {
+      restored_to =
+          subst (λ (t : Standing). restored t.core.kept t.core ≡ Some to) is
+          (ap (λ l. restored l (core_of c bs at e kept)) copies ∙ (λ i. Some (record to { now = record to.now { operands = sym b.now.answered i } })));
+      holds = (h.0, b.now.sound, record { standing = b.now.standing; older = b.older; cuts = λ i. (omega (arith, cut i, h.2.cuts i, ap length last)); few = h.2.few });
     }
+
+-- where something is kept, no instance was cut too often
+pub cut_seldom : (c : plain.Code) (bs : BasesState) (keeps : ℕ) (hs : List Held) (kept kept' : List (Here × Kept)) (k : Here × Kept) → AllSound c bs keeps hs kept → kept ≡ k ∷ kept' → HaveFewCuts bs
+cut_seldom c bs keeps hs kept kept' k h last i = omega (arith, h.cuts i, h.few, ap length last)
+
+pub marks_within : (c : plain.Code) (bs : BasesState) (keeps : ℕ) (hs : List Held) (kept kept' : List (Here × Kept)) (k : Here × Kept) → AllSound c bs keeps hs kept → kept ≡ k ∷ kept' → AreWithin k.1.marks bs
+marks_within c bs keeps hs kept kept' k h last = (subst (KeptSound marks_in (WasSound c) bs) last h.older).0
+
+-- how many are kept
+copies_counted : (c : plain.Code) (bs : BasesState) (kept : List (Here × Kept)) → length (copies_of c bs kept) ≡ length kept
+copies_counted c bs [] = refl
+copies_counted c bs (k ∷ ks) = ap suc (copies_counted c (cut_all bs k.1.marks) ks)
+
+pub kept_counted : (code : Code) (bs : BasesState) (at : ℕ) (e : Here) (kept : List (Here × Kept)) (s : Standing) → stands code bs at e kept ≡ s → length s.core.kept ≡ length kept
+kept_counted code bs at e kept s is = sym (ap (λ (x : Standing). length x.core.kept) is) ∙ copies_counted (plain_code code) bs kept
+
+-- nothing is kept
+pub nothing_kept : (code : Code) (bs : BasesState) (at : ℕ) (e : Here) (kept : List (Here × Kept)) (s : Standing) → stands code bs at e kept ≡ s → kept ≡ [] → s.core.kept ≡ []
+nothing_kept code bs at e kept s is none = sym (ap (λ (x : Standing). x.core.kept) is) ∙ ap (copies_of (plain_code code) bs) none

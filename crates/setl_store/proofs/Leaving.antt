@@ -25,20 +25,25 @@ use Rattle.setl_code.specs.Machine.{hand, push_held, handed_back}
 use Rattle.setl_code.specs.MayRun.{Differ, MayRun}
 use Rattle.setl_code.specs.Names.{is_among}
 use Rattle.setl_code.specs.Plain.{plain_body, plain_code, plain_name}
+use Rattle.setl_rep_bases.specs.Bases.{BasesState}
 use Rattle.setl_store.specs.declared.cells.Frame.{Frame}
 use Rattle.setl_store_slots.specs.declared.cells.Held.{Held as Slot}
 use Rattle.setl_store_slots.specs.declared.cells.Held.TheVariants as slot
 use Rattle.setl_store_slots.specs.Handed.{and_held, and_handed}
 use Rattle.setl_store_slots.specs.Handed as cells
+use Rattle.setl_store_slots.specs.Slots.{AreStanding}
+use Rattle.setl_rep_plain.specs.Standing.{held_value}
 use Rattle.setl_store.specs.declared.cells.Operand.{Operand}
 use Rattle.setl_store.specs.Bodies.{left, left_for}
+use Rattle.setl_store.specs.declared.cells.Kept.{Kept}
 use Rattle.setl_store.specs.Flat.{Here, cells, held_of, helds, operand_of, results, body_in, slots_in, operands_in, activation, callers, core_of, stands, own_count_of, AllGot, HasMembers, members_below, IsShaped, IsSound, AllSound, with_operand, without}
 use Rattle.setl_store.specs.Returning.{operand_by, pushed_on, handed, handed_by, handed_in, parameter_count_of}
 use Rattle.setl_store.specs.Standing.{Standing, variables_by, over}
 use Rattle.setl_store.proofs.Bodies.{body_at, names_same, names_differ}
 use Rattle.setl_store.proofs.Entering.{among_left, core_over}
-use Rattle.setl_store.proofs.OperandLists.{has_below, below_within, cut_results, got_take, Changed, pushes}
+use Rattle.setl_store.proofs.OperandLists.{has_below, below_within, cut_results, got_take, Changed, pushes, still}
 use Rattle.setl_store.proofs.Slots.{or_false, cells_agree, own_counted, globals_below}
+use Rattle.setl_store.proofs.StandingSlots.{standing_take}
 use Rattle.setl_store.proofs.Steps.{counted}
 
 -- ---- the members of lower operands
@@ -72,19 +77,19 @@ stands_for : (v : Option Value) (e : Here) → operand_of e.members (operand_by 
 stands_for None e = refl
 stands_for (Some v) e = refl
 
-pub pushes_all : (vs : List (Option Value)) (code : Code) (at : ℕ) (e e' : Here) (kept kept' : List (Here × ℕ)) (s : Standing) →
-    MayRun code × IsSound (plain_code code) e × AllSound (plain_code code) kept → stands code at e kept ≡ s →
-    e' ≡ record e { operands = e.operands ++ map operand_by vs } → kept' ≡ kept → Changed code at e' kept' s (over (pushed_on (map part vs) s.core.now.operands) s.core)
-pushes_all [] code at e e' kept kept' s h is now same =
+pub pushes_all : (vs : List (Option Value)) (code : Code) (bs : BasesState) (keeps : ℕ) (at : ℕ) (e e' : Here) (kept kept' : List (Here × Kept)) (s : Standing) →
+    MayRun code × IsSound (plain_code code) e × AllSound (plain_code code) bs keeps e.slots kept → stands code bs at e kept ≡ s →
+    e' ≡ record e { operands = e.operands ++ map operand_by vs } → kept' ≡ kept → Changed code bs keeps at e' kept' s (over (pushed_on (map part vs) s.core.now.operands) s.core)
+pushes_all [] code bs keeps at e e' kept kept' s h is now same =
     let to : e' ≡ e = now ∙ ap (λ os. record e { operands = os }) (append-nil e.operands) in
     record {
-      stands = (λ i. stands code at (to i) (same i)) ∙ is;
-      holds = (h.0, subst (IsSound (plain_code code)) (sym to) h.1, subst (AllSound (plain_code code)) (sym same) h.2);
+      stands = (λ i. stands code bs at (to i) (same i)) ∙ is;
+      holds = (h.0, subst (IsSound (plain_code code)) (sym to) h.1, still (plain_code code) bs keeps e.slots e'.slots kept kept' (subst (λ (x : Here). AreStanding bs x.slots) (sym to) h.2.standing) same h.2);
     }
-pushes_all (v ∷ vs) code at e e' kept kept' s h is now same =
+pushes_all (v ∷ vs) code bs keeps at e e' kept kept' s h is now same =
     let o = operand_by v in
-    let first = pushes code at e (with_operand e o) kept kept s o (core.Result (part v)) h is refl refl (alone v (reverse e.operands) (length e.members) h.1.members) tt (stands_for v e) in
-    let rest = pushes_all vs code at (with_operand e o) e' kept kept' (record s { core = over (core.Result (part v) ∷ s.core.now.operands) s.core }) first.holds first.stands
+    let first = pushes code bs keeps at e (with_operand e o) kept kept s o (core.Result (part v)) h is refl refl (alone v (reverse e.operands) (length e.members) h.1.members) tt (stands_for v e) in
+    let rest = pushes_all vs code bs keeps at (with_operand e o) e' kept kept' (record s { core = over (core.Result (part v) ∷ s.core.now.operands) s.core }) first.holds first.stands
     (now ∙ ap (λ os. record e { operands = os }) (sym (append_assoc e.operands (o ∷ []) (map operand_by vs)))) same in
     record { stands = rest.stands; holds = rest.holds }
 
@@ -95,34 +100,36 @@ pushed_last [] v xs = refl
 pushed_last (w ∷ vs) v xs = pushed_last vs v (core.Result w ∷ xs)
 
 -- what one parameter hands back, as values and as operands
-held_too : (h : Slot) (o : Option (List (Option Datum))) (xs : List core.Operand) → push_held (held_of h) (option_map (λ vs. pushed_on vs xs) o) ≡ option_map (λ vs. pushed_on vs xs) (and_held h o)
-held_too slot.Om None xs = refl
-held_too slot.Om (Some vs) xs = ap (λ l. Some l) (sym (pushed_last vs None xs))
-held_too (slot.Value v) None xs = refl
-held_too (slot.Value v) (Some vs) xs = ap (λ l. Some l) (sym (pushed_last vs (Some (datum v)) xs))
-held_too slot.Taken None xs = refl
-held_too slot.Taken (Some vs) xs = refl
+held_too : (bs : BasesState) (h : Slot) (o : Option (List (Option Datum))) (xs : List core.Operand) → push_held (held_of bs h) (option_map (λ vs. pushed_on vs xs) o) ≡ option_map (λ vs. pushed_on vs xs) (and_held bs h o)
+held_too bs slot.Om None xs = refl
+held_too bs slot.Om (Some vs) xs = ap (λ l. Some l) (sym (pushed_last vs None xs))
+held_too bs (slot.Value v) None xs = refl
+held_too bs (slot.Value v) (Some vs) xs = ap (λ l. Some l) (sym (pushed_last vs (Some (datum v)) xs))
+held_too bs slot.Taken None xs = refl
+held_too bs slot.Taken (Some vs) xs = refl
+held_too bs (slot.Based h) None xs = refl
+held_too bs (slot.Based h) (Some vs) xs = ap (λ l. Some l) (sym (pushed_last vs (held_value bs h) xs))
 
-handed_too : (p : Passing) (h : Slot) (o : Option (List (Option Datum))) (xs : List core.Operand) → hand p (held_of h) (option_map (λ vs. pushed_on vs xs) o) ≡ option_map (λ vs. pushed_on vs xs) (and_handed p h o)
-handed_too Rd h o xs = refl
-handed_too Wr h o xs = held_too h o xs
-handed_too Rw h o xs = held_too h o xs
+handed_too : (bs : BasesState) (p : Passing) (h : Slot) (o : Option (List (Option Datum))) (xs : List core.Operand) → hand p (held_of bs h) (option_map (λ vs. pushed_on vs xs) o) ≡ option_map (λ vs. pushed_on vs xs) (and_handed bs p h o)
+handed_too bs Rd h o xs = refl
+handed_too bs Wr h o xs = held_too bs h o xs
+handed_too bs Rw h o xs = held_too bs h o xs
 
-all_handed : (ps : List Param) (hs : List Slot) (v : Option Datum) (xs : List core.Operand) → handed ps (map held_of hs) (core.Result v ∷ xs) ≡ option_map (λ vs. pushed_on vs xs) (cells.handed ps hs v)
-all_handed [] hs v xs = refl
-all_handed (p ∷ ps) [] v xs = refl
-all_handed (p ∷ ps) (h ∷ hs) v xs = ap (hand p.passing (held_of h)) (all_handed ps hs v xs) ∙ handed_too p.passing h (cells.handed ps hs v) xs
+all_handed : (bs : BasesState) (ps : List Param) (hs : List Slot) (v : Option Datum) (xs : List core.Operand) → handed ps (map (held_of bs) hs) (core.Result v ∷ xs) ≡ option_map (λ vs. pushed_on vs xs) (cells.handed bs ps hs v)
+all_handed bs [] hs v xs = refl
+all_handed bs (p ∷ ps) [] v xs = refl
+all_handed bs (p ∷ ps) (h ∷ hs) v xs = ap (hand p.passing (held_of bs h)) (all_handed bs ps hs v xs) ∙ handed_too bs p.passing h (cells.handed bs ps hs v) xs
 
 in_turn : (all : Option (Vec (Option Value))) (xs : List core.Operand) → option_map (λ vs. pushed_on vs xs) (option_map (λ (values : Vec (Option Value)). map part values.items) all) ≡ option_map (λ (values : Vec (Option Value)). pushed_on (map part values.items) xs) all
 in_turn None xs = refl
 in_turn (Some values) xs = refl
 
 -- the values that are handed back are the operands
-pub handed_slots : (ps : List Param) (slots : List Slot) (lowest : ℕ) (v : Option Datum) (all : Option (Vec (Option Value))) → cells.handed ps (drop lowest slots) v ≡ option_map (λ (values : Vec (Option Value)). map part values.items) all →
-    (xs : List core.Operand) → handed ps (drop lowest (map held_of slots)) (core.Result v ∷ xs) ≡ option_map (λ (values : Vec (Option Value)). pushed_on (map part values.items) xs) all
-handed_slots ps slots lowest v all h xs =
-    ap (λ hs. handed ps hs (core.Result v ∷ xs)) (drop-map held_of lowest slots)
-    ∙ all_handed ps (drop lowest slots) v xs
+pub handed_slots : (bs : BasesState) (ps : List Param) (slots : List Slot) (lowest : ℕ) (v : Option Datum) (all : Option (Vec (Option Value))) → cells.handed bs ps (drop lowest slots) v ≡ option_map (λ (values : Vec (Option Value)). map part values.items) all →
+    (xs : List core.Operand) → handed ps (drop lowest (map (held_of bs) slots)) (core.Result v ∷ xs) ≡ option_map (λ (values : Vec (Option Value)). pushed_on (map part values.items) xs) all
+handed_slots bs ps slots lowest v all h xs =
+    ap (λ hs. handed ps hs (core.Result v ∷ xs)) (drop-map (held_of bs) lowest slots)
+    ∙ all_handed bs ps (drop lowest slots) v xs
     ∙ ap (option_map (λ vs. pushed_on vs xs)) h
     ∙ in_turn all xs
 
@@ -170,11 +177,11 @@ under [] os = []
 under (f ∷ []) os = []
 under (f ∷ g ∷ fs) os = operands_in (g ∷ fs) (take f.operands os)
 
-abbrev pub given_back : plain.Code → ℕ → List Frame → List Held → List core.Operand → List (Here × ℕ) → List core.Operand → CodeCore
-given_back c at [] hs os kept xs = core_over c at [] hs os kept
-given_back c at (f ∷ []) hs os kept xs = core_over c at (f ∷ []) hs os kept
-given_back c at (f ∷ g ∷ fs) hs os kept xs =
-    caller_with (core_over c at (f ∷ g ∷ fs) hs os kept) (activation c f.from (g ∷ fs) (take f.slots hs) (take f.operands os)) (callers c (g ∷ fs) (take f.slots hs) (take f.operands os)) xs
+abbrev pub given_back : plain.Code → BasesState → ℕ → List Frame → List Held → List core.Operand → List (Here × Kept) → List core.Operand → CodeCore
+given_back c bs at [] hs os kept xs = core_over c bs at [] hs os kept
+given_back c bs at (f ∷ []) hs os kept xs = core_over c bs at (f ∷ []) hs os kept
+given_back c bs at (f ∷ g ∷ fs) hs os kept xs =
+    caller_with (core_over c bs at (f ∷ g ∷ fs) hs os kept) (activation c f.from (g ∷ fs) (take f.slots hs) (take f.operands os)) (callers c (g ∷ fs) (take f.slots hs) (take f.operands os)) xs
 
 counted_first : (b : Option Body) → parameter_count_of b ≤ own_count_of b
 counted_first None = omega arith
@@ -190,15 +197,15 @@ pub parameters_there : (code : Code) (fs : List Frame) (n m : ℕ) → IsShaped 
 parameters_there code [] n m h = absurd h
 parameters_there code (f ∷ fs) n m h = parameters_within code f fs n m h
 
-left_flat : (code : Code) (at : ℕ) (fs : List Frame) (hs : List Held) (os : List core.Operand) (kept : List (Here × ℕ)) (v : Option Datum) (m : ℕ) → MayRun code → IsShaped (plain_code code) fs (length hs) m →
-    left (slice_get (plain_code code).bodies (body_in fs)) v (core_over (plain_code code) at fs hs os kept)
-    ≡ option_map (given_back (plain_code code) at fs hs os kept) (handed_in code.bodies fs hs (core.Result v ∷ under fs os))
-left_flat code at [] hs os kept v m may h = absurd h
-left_flat code at (f ∷ []) hs os kept v m may h = left_outermost (slice_get (plain_code code).bodies f.body) v (core_over (plain_code code) at (f ∷ []) hs os kept) refl
-left_flat code at (f ∷ g ∷ fs) hs os kept v m may h =
+left_flat : (code : Code) (bs : BasesState) (at : ℕ) (fs : List Frame) (hs : List Held) (os : List core.Operand) (kept : List (Here × Kept)) (v : Option Datum) (m : ℕ) → MayRun code → IsShaped (plain_code code) fs (length hs) m →
+    left (slice_get (plain_code code).bodies (body_in fs)) v (core_over (plain_code code) bs at fs hs os kept)
+    ≡ option_map (given_back (plain_code code) bs at fs hs os kept) (handed_in code.bodies fs hs (core.Result v ∷ under fs os))
+left_flat code bs at [] hs os kept v m may h = absurd h
+left_flat code bs at (f ∷ []) hs os kept v m may h = left_outermost (slice_get (plain_code code).bodies f.body) v (core_over (plain_code code) bs at (f ∷ []) hs os kept) refl
+left_flat code bs at (f ∷ g ∷ fs) hs os kept v m may h =
     let c = plain_code code in
     let n = f.body in
-    let k = core_over c at (f ∷ g ∷ fs) hs os kept in
+    let k = core_over c bs at (f ∷ g ∷ fs) hs os kept in
     let body = body_at c.vars 0 code.bodies n n (omega arith) in
     let within : parameter_count_of (slice_get code.bodies n) ≤ length (drop f.slots hs) = omega (arith, parameters_within code f (g ∷ fs) (length hs) m h, length-drop f.slots hs) in
     ap (λ b. left b v k) body
@@ -210,17 +217,17 @@ left_flat code at (f ∷ g ∷ fs) hs os kept v m may h =
 abbrev rest_of : Here → List Frame
 rest_of e = reverse (take (length e.activations - 1) e.activations)
 
-dropped : (c : plain.Code) (at : ℕ) (e : Here) (kept : List (Here × ℕ)) (f g : Frame) (fs : List Frame) (m : ℕ) → IsShaped c (f ∷ g ∷ fs) (length e.slots) (length e.operands) → rest_of e ≡ g ∷ fs →
+dropped : (c : plain.Code) (bs : BasesState) (at : ℕ) (e : Here) (kept : List (Here × Kept)) (f g : Frame) (fs : List Frame) (m : ℕ) → IsShaped c (f ∷ g ∷ fs) (length e.slots) (length e.operands) → rest_of e ≡ g ∷ fs →
     HasMembers (reverse (take f.operands e.operands)) m → m ≤ length e.members →
-    core_of c f.from (without e f m) kept ≡ given_back c at (f ∷ g ∷ fs) (helds e) (results e) kept (under (f ∷ g ∷ fs) (results e))
-dropped c at e kept f g fs m h rest has within =
-    let hs = helds e in
+    core_of c bs f.from (without e f m) kept ≡ given_back c bs at (f ∷ g ∷ fs) (helds bs e) (results e) kept (under (f ∷ g ∷ fs) (results e))
+dropped c bs at e kept f g fs m h rest has within =
+    let hs = helds bs e in
     let os = results e in
-    let slots : map held_of (take f.slots e.slots) ≡ take f.slots hs = sym (take-map held_of f.slots e.slots) in
+    let slots : map (held_of bs) (take f.slots e.slots) ≡ take f.slots hs = sym (take-map (held_of bs) f.slots e.slots) in
     let operands : results (without e f m) ≡ take f.operands os = cut_results e f.operands m has within in
     let globals = cells_agree c.vars (take f.slots hs) hs f.slots (globals_below c f (g ∷ fs) (length e.slots) (length e.operands) h) (take-take f.slots f.slots hs (omega arith)) in
-    (λ i. core_over c f.from (rest i) (slots i) (operands i) kept)
-    ∙ (λ i. record (core_over c f.from (g ∷ fs) (take f.slots hs) (take f.operands os) kept) { globals = globals i })
+    (λ i. core_over c bs f.from (rest i) (slots i) (operands i) kept)
+    ∙ (λ i. record (core_over c bs f.from (g ∷ fs) (take f.slots hs) (take f.operands os) kept) { globals = globals i })
 
 dropped_sound : (c : plain.Code) (e : Here) (f g : Frame) (fs : List Frame) (m : ℕ) → IsSound c e → IsShaped c (f ∷ g ∷ fs) (length e.slots) (length e.operands) → rest_of e ≡ g ∷ fs →
     HasMembers (reverse (take f.operands e.operands)) m → m ≤ length e.members → IsSound c (without e f m)
@@ -245,49 +252,49 @@ pub record Drops (e e' : Here) (f : Frame) (m : ℕ) (vs : List (Option Value)) 
   pub within : m ≤ length e.members
   pub pushed : e' ≡ record (without e f m) { operands = take f.operands e.operands ++ map operand_by vs }
 
-left_rest : (code : Code) (at : ℕ) (e : Here) (kept : List (Here × ℕ)) (f : Frame) (m : ℕ) (v : Option Datum) (vs : List (Option Value)) (gs : List Frame) → MayRun code × IsSound (plain_code code) e × AllSound (plain_code code) kept →
+left_rest : (code : Code) (bs : BasesState) (keeps : ℕ) (at : ℕ) (e : Here) (kept : List (Here × Kept)) (f : Frame) (m : ℕ) (v : Option Datum) (vs : List (Option Value)) (gs : List Frame) → MayRun code × IsSound (plain_code code) e × AllSound (plain_code code) bs keeps e.slots kept →
     reverse e.activations ≡ f ∷ gs → rest_of e ≡ gs → HasMembers (reverse (take f.operands e.operands)) m → m ≤ length e.members →
-    ((xs : List core.Operand) → handed_in code.bodies (reverse e.activations) (helds e) (core.Result v ∷ xs) ≡ Some (pushed_on (map part vs) xs)) →
-    (left (slice_get (plain_code code).bodies (body_in (reverse e.activations))) v (core_of (plain_code code) at e kept) ≡ Some (over (pushed_on (map part vs) (core_of (plain_code code) f.from (without e f m) kept).now.operands) (core_of (plain_code code) f.from (without e f m) kept)))
+    ((xs : List core.Operand) → handed_in code.bodies (reverse e.activations) (helds bs e) (core.Result v ∷ xs) ≡ Some (pushed_on (map part vs) xs)) →
+    (left (slice_get (plain_code code).bodies (body_in (reverse e.activations))) v (core_of (plain_code code) bs at e kept) ≡ Some (over (pushed_on (map part vs) (core_of (plain_code code) bs f.from (without e f m) kept).now.operands) (core_of (plain_code code) bs f.from (without e f m) kept)))
     × IsSound (plain_code code) (without e f m)
-left_rest code at e kept f m v vs [] h last rest has within back =
-    absurd (let e : None ≡ Some (pushed_on (map part vs) []) = subst (λ l. handed_in code.bodies l (helds e) (core.Result v ∷ []) ≡ Some (pushed_on (map part vs) [])) last (back []) in cc)
-left_rest code at e kept f m v vs (g ∷ fs) h last rest has within back =
+left_rest code bs keeps at e kept f m v vs [] h last rest has within back =
+    absurd (let e : None ≡ Some (pushed_on (map part vs) []) = subst (λ l. handed_in code.bodies l (helds bs e) (core.Result v ∷ []) ≡ Some (pushed_on (map part vs) [])) last (back []) in cc)
+left_rest code bs keeps at e kept f m v vs (g ∷ fs) h last rest has within back =
     let c = plain_code code in
-    let hs = helds e in
+    let hs = helds bs e in
     let os = results e in
     let all = f ∷ g ∷ fs in
     let shaped : IsShaped c all (length e.slots) (length e.operands) = subst (λ l. IsShaped c l (length e.slots) (length e.operands)) last h.1.shaped in
-    let shaped_hs : IsShaped c all (length hs) (length e.operands) = subst (λ n. IsShaped c all n (length e.operands)) (sym (length-map e.slots held_of)) shaped in
+    let shaped_hs : IsShaped c all (length hs) (length e.operands) = subst (λ n. IsShaped c all n (length e.operands)) (sym (length-map e.slots (held_of bs))) shaped in
     let after = pushed_on (map part vs) (under all os) in
-    let to = dropped c at e kept f g fs m shaped rest has within in (
-      subst (λ l. left (slice_get c.bodies (body_in l)) v (core_over c at l hs os kept) ≡ Some (given_back c at all hs os kept after)) (sym last)
-          (left_flat code at all hs os kept v (length e.operands) h.0 shaped_hs
-          ∙ ap (option_map (given_back c at all hs os kept)) (subst (λ l. handed_in code.bodies l hs (core.Result v ∷ under all os) ≡ Some after) last (back (under all os))))
+    let to = dropped c bs at e kept f g fs m shaped rest has within in (
+      subst (λ l. left (slice_get c.bodies (body_in l)) v (core_over c bs at l hs os kept) ≡ Some (given_back c bs at all hs os kept after)) (sym last)
+          (left_flat code bs at all hs os kept v (length e.operands) h.0 shaped_hs
+          ∙ ap (option_map (given_back c bs at all hs os kept)) (subst (λ l. handed_in code.bodies l hs (core.Result v ∷ under all os) ≡ Some after) last (back (under all os))))
           ∙ sym (ap (λ (k : CodeCore). Some (over (pushed_on (map part vs) k.now.operands) k)) to),
       dropped_sound c e f g fs m h.1 shaped rest has within,
     )
 
-pub leaves : (code : Code) (at : ℕ) (e e' : Here) (kept kept' : List (Here × ℕ)) (s : Standing) (f : Frame) (m : ℕ) (v : Option Datum) (vs : List (Option Value)) →
-    MayRun code × IsSound (plain_code code) e × AllSound (plain_code code) kept → stands code at e kept ≡ s → Drops e e' f m vs → kept' ≡ kept →
-    ((xs : List core.Operand) → handed_in code.bodies (reverse e.activations) (helds e) (core.Result v ∷ xs) ≡ Some (pushed_on (map part vs) xs)) →
-    (left (slice_get (plain_code s.code).bodies s.core.now.body) v s.core ≡ Some (stands code f.from e' kept').core)
-    × (MayRun code × IsSound (plain_code code) e' × AllSound (plain_code code) kept')
-leaves code at e e' kept kept' s f m v vs h is drops same back =
-    let r = left_rest code at e kept f m v vs (rest_of e) h drops.last refl drops.has drops.within back in
+pub leaves : (code : Code) (bs : BasesState) (keeps : ℕ) (at : ℕ) (e e' : Here) (kept kept' : List (Here × Kept)) (s : Standing) (f : Frame) (m : ℕ) (v : Option Datum) (vs : List (Option Value)) →
+    MayRun code × IsSound (plain_code code) e × AllSound (plain_code code) bs keeps e.slots kept → stands code bs at e kept ≡ s → Drops e e' f m vs → kept' ≡ kept →
+    ((xs : List core.Operand) → handed_in code.bodies (reverse e.activations) (helds bs e) (core.Result v ∷ xs) ≡ Some (pushed_on (map part vs) xs)) →
+    (left (slice_get (plain_code s.code).bodies s.core.now.body) v s.core ≡ Some (stands code bs f.from e' kept').core)
+    × (MayRun code × IsSound (plain_code code) e' × AllSound (plain_code code) bs keeps e'.slots kept')
+leaves code bs keeps at e e' kept kept' s f m v vs h is drops same back =
+    let r = left_rest code bs keeps at e kept f m v vs (rest_of e) h drops.last refl drops.has drops.within back in
     let e0 = without e f m in
-    let p = pushes_all vs code f.from e0 e' kept kept' (stands code f.from e0 kept) (h.0, r.1, h.2) refl drops.pushed same in (
-      subst (λ (t : Standing). left (slice_get (plain_code t.code).bodies t.core.now.body) v t.core ≡ Some (stands code f.from e' kept').core) is
+    let p = pushes_all vs code bs keeps f.from e0 e' kept kept' (stands code bs f.from e0 kept) (h.0, r.1, still (plain_code code) bs keeps e.slots e0.slots kept kept (standing_take bs f.slots e.slots h.2.standing) refl h.2) refl drops.pushed same in (
+      subst (λ (t : Standing). left (slice_get (plain_code t.code).bodies t.core.now.body) v t.core ≡ Some (stands code bs f.from e' kept').core) is
           (r.0 ∙ sym (ap (λ (x : Standing). Some x.core) p.stands)),
       p.holds,
     )
 
 -- where it can't be left
-pub stays : (code : Code) (at : ℕ) (e : Here) (kept : List (Here × ℕ)) (s : Standing) (v : Option Datum) → MayRun code × IsSound (plain_code code) e × AllSound (plain_code code) kept → stands code at e kept ≡ s →
-    handed_in code.bodies (reverse e.activations) (helds e) (core.Result v ∷ under (reverse e.activations) (results e)) ≡ None → left (slice_get (plain_code s.code).bodies s.core.now.body) v s.core ≡ None
-stays code at e kept s v h is none =
+pub stays : (code : Code) (bs : BasesState) (keeps : ℕ) (at : ℕ) (e : Here) (kept : List (Here × Kept)) (s : Standing) (v : Option Datum) → MayRun code × IsSound (plain_code code) e × AllSound (plain_code code) bs keeps e.slots kept → stands code bs at e kept ≡ s →
+    handed_in code.bodies (reverse e.activations) (helds bs e) (core.Result v ∷ under (reverse e.activations) (results e)) ≡ None → left (slice_get (plain_code s.code).bodies s.core.now.body) v s.core ≡ None
+stays code bs keeps at e kept s v h is none =
     let c = plain_code code in
     let fs = reverse e.activations in
-    let shaped = subst (λ n. IsShaped c fs n (length e.operands)) (sym (length-map e.slots held_of)) h.1.shaped in
+    let shaped = subst (λ n. IsShaped c fs n (length e.operands)) (sym (length-map e.slots (held_of bs))) h.1.shaped in
     subst (λ (t : Standing). left (slice_get (plain_code t.code).bodies t.core.now.body) v t.core ≡ None) is
-    (left_flat code at fs (helds e) (results e) kept v (length e.operands) h.0 shaped ∙ ap (option_map (given_back c at fs (helds e) (results e) kept)) none)
+    (left_flat code bs at fs (helds bs e) (results e) kept v (length e.operands) h.0 shaped ∙ ap (option_map (given_back c bs at fs (helds bs e) (results e) kept)) none)

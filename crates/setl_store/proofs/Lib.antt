@@ -1,6 +1,7 @@
 pub mod Lists
 pub mod OperandLists
 pub mod Bodies
+pub mod StandingSlots
 pub mod Slots
 pub mod NewOperands
 pub mod LastOperand
@@ -13,5 +14,6 @@ pub mod Serving
 pub mod Dropping
 pub mod Steps
 pub mod Keeping
+pub mod Starting
 pub mod Entering
 pub mod Leaving

@@ -10,14 +10,17 @@ use Rattle.setl_code.specs.CodeCore as core
 use Rattle.setl_code.specs.CodeCore.{Cells, Activation, CodeCore}
 use Rattle.setl_code.specs.MayRun.{MayRun}
 use Rattle.setl_code.specs.Plain.{plain_code}
+use Rattle.setl_rep_bases.specs.Bases.{BasesState}
 use Rattle.setl_store.specs.declared.cells.Frame.{Frame}
+use Rattle.setl_store_slots.specs.Slots.{AreStanding}
 use Rattle.setl_store_slots.specs.declared.cells.Held.{Held}
 use Rattle.setl_store.specs.declared.cells.Member.{Member}
 use Rattle.setl_store.specs.declared.cells.Operand.{Operand}
 use Rattle.setl_store.specs.declared.cells.Operand.TheVariants as operand
 use Rattle.setl_store.specs.declared.store.Top.TheVariants as top
 use Rattle.setl_store.specs.Standing.{Standing, no_world, over, iterator_by, Shows}
-use Rattle.setl_store.specs.Flat.{Here, got, member_of, operand_of, operands_in, lowest_in, activation, callers, cells, core_of, copy_of, stands, held_of, helds, results, GotThese, AllGot, IsShaped, IsSound, AllSound, HasMembers, members_below, with_operand, now_operands, cut_to}
+use Rattle.setl_store.specs.declared.cells.Kept.{Kept}
+use Rattle.setl_store.specs.Flat.{Here, got, member_of, operand_of, operands_in, lowest_in, activation, callers, cells, core_of, copies_of, stands, held_of, helds, results, GotThese, AllGot, IsShaped, IsSound, AllSound, HasMembers, members_below, with_operand, now_operands, cut_to}
 use Rattle.setl_store.proofs.Lists.{last_apart, map_reverse, take_more_reversed}
 
 -- ---- the flat list of operands
@@ -97,44 +100,48 @@ got_right (x ∷ xs) ys a = got_right xs ys a.1
 
 -- ---- what the store then is
 
-abbrev core_with : plain.Code → ℕ → List Frame → List Held → List core.Operand → List (Here × ℕ) → CodeCore
-core_with c at acts ss os kept = record {
-  globals = cells c.vars (map held_of ss);
-  now = activation c at (reverse acts) (map held_of ss) os;
-  callers = callers c (reverse acts) (map held_of ss) os;
-  kept = map (copy_of c) kept;
+abbrev core_with : plain.Code → BasesState → ℕ → List Frame → List Held → List core.Operand → List (Here × Kept) → CodeCore
+core_with c bs at acts ss os kept = record {
+  globals = cells c.vars (map (held_of bs) ss);
+  now = activation c at (reverse acts) (map (held_of bs) ss) os;
+  callers = callers c (reverse acts) (map (held_of bs) ss) os;
+  kept = copies_of c bs kept;
   world = no_world;
 }
 
 -- other operands of the body at work
-pub above : (c : plain.Code) (at : ℕ) (e e' : Here) (kept : List (Here × ℕ)) (xs : List core.Operand) → IsSound c e →
+pub above : (c : plain.Code) (bs : BasesState) (at : ℕ) (e e' : Here) (kept : List (Here × Kept)) (xs : List core.Operand) → IsSound c e →
     e'.activations ≡ e.activations → e'.slots ≡ e.slots → results e' ≡ take (lowest_of e) (results e) ++ reverse xs →
-    core_of c at e' kept ≡ over xs (core_of c at e kept)
-above c at e e' kept xs h acts slots os =
+    core_of c bs at e' kept ≡ over xs (core_of c bs at e kept)
+above c bs at e e' kept xs h acts slots os =
     let fs = reverse e.activations in
     let shaped = shaped_results c e h in
     let inner = ap (operands_in fs) os ∙ in_above c fs (length e.slots) (results e) xs shaped in
-    let outer = ap (callers c fs (helds e)) os ∙ callers_above c fs (helds e) (length e.slots) (results e) (reverse xs) shaped in
-    ap (λ l. core_with c at l e'.slots (results e') kept) acts
-    ∙ ap (λ ss. core_with c at e.activations ss (results e') kept) slots
-    ∙ (λ i. record (core_of c at e kept) { now = record (core_of c at e kept).now { operands = inner i }; callers = outer i })
+    let outer = ap (callers c fs (helds bs e)) os ∙ callers_above c fs (helds bs e) (length e.slots) (results e) (reverse xs) shaped in
+    ap (λ l. core_with c bs at l e'.slots (results e') kept) acts
+    ∙ ap (λ ss. core_with c bs at e.activations ss (results e') kept) slots
+    ∙ (λ i. record (core_of c bs at e kept) { now = record (core_of c bs at e kept).now { operands = inner i }; callers = outer i })
 
 -- the store over an environment that was changed, and that all that always holds still does
-pub record Changed (code : Code) (at : ℕ) (e : Here) (kept : List (Here × ℕ)) (s : Standing) (k : CodeCore) : Type 0 where
-  pub stands : stands code at e kept ≡ record s { core = k }
-  pub holds : MayRun code × IsSound (plain_code code) e × AllSound (plain_code code) kept
+pub record Changed (code : Code) (bs : BasesState) (keeps : ℕ) (at : ℕ) (e : Here) (kept : List (Here × Kept)) (s : Standing) (k : CodeCore) : Type 0 where
+  pub stands : stands code bs at e kept ≡ record s { core = k }
+  pub holds : MayRun code × IsSound (plain_code code) e × AllSound (plain_code code) bs keeps e.slots kept
+
+-- the same of other slots that stand
+pub still : (c : plain.Code) (bs : BasesState) (keeps : ℕ) (hs gs : List Held) (kept kept' : List (Here × Kept)) → AreStanding bs gs → kept' ≡ kept → AllSound c bs keeps hs kept → AllSound c bs keeps gs kept'
+still c bs keeps hs gs kept kept' stand same h = subst (AllSound c bs keeps gs) (sym same) (record { standing = stand; older = h.older; cuts = h.cuts; few = h.few })
 
 -- where the core is a function of the one before
-pub changed : (code : Code) (at at' : ℕ) (e e' : Here) (kept kept' : List (Here × ℕ)) (s : Standing) (f : CodeCore → CodeCore) →
-    MayRun code × IsSound (plain_code code) e × AllSound (plain_code code) kept → stands code at e kept ≡ s → kept' ≡ kept →
-    core_of (plain_code code) at' e' kept ≡ f (core_of (plain_code code) at e kept) → IsSound (plain_code code) e' →
-    Changed code at' e' kept' s (f s.core)
-changed code at at' e e' kept kept' s f h is same to sound = record {
+pub changed : (code : Code) (bs : BasesState) (keeps : ℕ) (at at' : ℕ) (e e' : Here) (kept kept' : List (Here × Kept)) (s : Standing) (f : CodeCore → CodeCore) →
+    MayRun code × IsSound (plain_code code) e × AllSound (plain_code code) bs keeps e.slots kept → stands code bs at e kept ≡ s → kept' ≡ kept →
+    core_of (plain_code code) bs at' e' kept ≡ f (core_of (plain_code code) bs at e kept) → IsSound (plain_code code) e' → AreStanding bs e'.slots →
+    Changed code bs keeps at' e' kept' s (f s.core)
+changed code bs keeps at at' e e' kept kept' s f h is same to sound stand = record {
   stands =
-      ap (λ x. stands code at' e' x) same
+      ap (λ x. stands code bs at' e' x) same
       ∙ ap (λ (k : CodeCore). record { code = code; core = k }) to
       ∙ ap (λ (x : Standing). record x { core = f x.core }) is;
-  holds = (h.0, sound, subst (AllSound (plain_code code)) (sym same) h.2);
+  holds = (h.0, sound, still (plain_code code) bs keeps e.slots e'.slots kept kept' stand same h.2);
 }
 
 -- ---- pushing
@@ -159,16 +166,16 @@ sound_pushed c e o h has got = record {
   got = subst AllGot (sym (results_pushed e o)) (got_append (results e) (operand_of e.members o ∷ []) h.got (got, tt));
 }
 
-pub pushes : (code : Code) (at : ℕ) (e e' : Here) (kept kept' : List (Here × ℕ)) (s : Standing) (o : Operand) (p : core.Operand) →
-    MayRun code × IsSound (plain_code code) e × AllSound (plain_code code) kept → stands code at e kept ≡ s →
+pub pushes : (code : Code) (bs : BasesState) (keeps : ℕ) (at : ℕ) (e e' : Here) (kept kept' : List (Here × Kept)) (s : Standing) (o : Operand) (p : core.Operand) →
+    MayRun code × IsSound (plain_code code) e × AllSound (plain_code code) bs keeps e.slots kept → stands code bs at e kept ≡ s →
     e' ≡ with_operand e o → kept' ≡ kept → HasMembers (o ∷ reverse e.operands) (length e.members) → GotThese p → operand_of e.members o ≡ p →
-    Changed code at e' kept' s (over (p ∷ s.core.now.operands) s.core)
-pushes code at e e' kept kept' s o p h is now same has got stands_for =
+    Changed code bs keeps at e' kept' s (over (p ∷ s.core.now.operands) s.core)
+pushes code bs keeps at e e' kept kept' s o p h is now same has got stands_for =
     let got' = subst GotThese (sym stands_for) got in
-    let to = above (plain_code code) at e (with_operand e o) kept (operand_of e.members o ∷ now_operands e) h.1 refl refl (flat_pushed (plain_code code) e o h.1) in
-    subst (λ x. Changed code at x kept' s (over (p ∷ s.core.now.operands) s.core)) (sym now)
-    (subst (λ q. Changed code at (with_operand e o) kept' s (over (q ∷ s.core.now.operands) s.core)) stands_for
-    (changed code at at e (with_operand e o) kept kept' s (λ k. over (operand_of e.members o ∷ k.now.operands) k) h is same to (sound_pushed (plain_code code) e o h.1 has got')))
+    let to = above (plain_code code) bs at e (with_operand e o) kept (operand_of e.members o ∷ now_operands e) h.1 refl refl (flat_pushed (plain_code code) e o h.1) in
+    subst (λ x. Changed code bs keeps at x kept' s (over (p ∷ s.core.now.operands) s.core)) (sym now)
+    (subst (λ q. Changed code bs keeps at (with_operand e o) kept' s (over (q ∷ s.core.now.operands) s.core)) stands_for
+    (changed code bs keeps at at e (with_operand e o) kept kept' s (λ k. over (operand_of e.members o ∷ k.now.operands) k) h is same to (sound_pushed (plain_code code) e o h.1 has got') h.2.standing))
 
 -- ---- the top
 
@@ -180,8 +187,8 @@ pub some_on_top : (e : Here) → 0 < length (now_operands e) → lowest_of e < l
 some_on_top e h = omega (arith, now_counted (reverse e.activations) (results e), length-map e.operands (operand_of e.members))
 
 -- how many the body at work has
-pub on_top_counted : (code : Code) (at : ℕ) (e : Here) (kept : List (Here × ℕ)) (s : Standing) → stands code at e kept ≡ s → length s.core.now.operands ≤ length e.operands - lowest_of e
-on_top_counted code at e kept s is =
+pub on_top_counted : (code : Code) (bs : BasesState) (at : ℕ) (e : Here) (kept : List (Here × Kept)) (s : Standing) → stands code bs at e kept ≡ s → length s.core.now.operands ≤ length e.operands - lowest_of e
+on_top_counted code bs at e kept s is =
     omega (arith, ap (λ (x : Standing). length x.core.now.operands) is, now_counted (reverse e.activations) (results e), length-map e.operands (operand_of e.members))
 
 pub has_below : (o : Operand) (os : List Operand) (n : ℕ) → HasMembers (o ∷ os) n → HasMembers os (members_below o n)
@@ -252,37 +259,37 @@ cut_sound c e n m h low short has within = record {
 }
 
 -- the operands of the body at work, the top first
-pub now_is : (code : Code) (at : ℕ) (e : Here) (kept : List (Here × ℕ)) (s : Standing) → stands code at e kept ≡ s → now_operands e ≡ s.core.now.operands
-now_is code at e kept s is = ap (λ (x : Standing). x.core.now.operands) is
+pub now_is : (code : Code) (bs : BasesState) (at : ℕ) (e : Here) (kept : List (Here × Kept)) (s : Standing) → stands code bs at e kept ≡ s → now_operands e ≡ s.core.now.operands
+now_is code bs at e kept s is = ap (λ (x : Standing). x.core.now.operands) is
 
 -- the store without the top operand
-pub pops : (code : Code) (at : ℕ) (e e' : Here) (kept kept' : List (Here × ℕ)) (s : Standing) (n : ℕ) (o : Operand) →
-    MayRun code × IsSound (plain_code code) e × AllSound (plain_code code) kept → stands code at e kept ≡ s →
+pub pops : (code : Code) (bs : BasesState) (keeps : ℕ) (at : ℕ) (e e' : Here) (kept kept' : List (Here × Kept)) (s : Standing) (n : ℕ) (o : Operand) →
+    MayRun code × IsSound (plain_code code) e × AllSound (plain_code code) bs keeps e.slots kept → stands code bs at e kept ≡ s →
     length e.operands ≡ n + 1 → lowest_of e ≤ n → Some o ≡ slice_get e.operands n →
     e' ≡ cut_to e n (members_below o (length e.members)) → kept' ≡ kept →
-    Changed code at e' kept' s (over (drop 1 s.core.now.operands) s.core)
-pops code at e e' kept kept' s n o h is long low at_end now same =
+    Changed code bs keeps at e' kept' s (over (drop 1 s.core.now.operands) s.core)
+pops code bs keeps at e e' kept kept' s n o h is long low at_end now same =
     let t = on_top (plain_code code) e n o h.1 long low at_end in
     let m = members_below o (length e.members) in
     let has = has_below o (reverse (take n e.operands)) (length e.members) t.members in
     let within = below_within o (reverse (take n e.operands)) (length e.members) t.members in
-    let to = above (plain_code code) at e (cut_to e n m) kept (drop 1 (now_operands e)) h.1 refl refl (cut_results e n m has within ∙ t.flat) in
-    subst (λ x. Changed code at x kept' s (over (drop 1 s.core.now.operands) s.core)) (sym now)
-    (changed code at at e (cut_to e n m) kept kept' s (λ k. over (drop 1 k.now.operands) k) h is same to (cut_sound (plain_code code) e n m h.1 low t.short has within))
+    let to = above (plain_code code) bs at e (cut_to e n m) kept (drop 1 (now_operands e)) h.1 refl refl (cut_results e n m has within ∙ t.flat) in
+    subst (λ x. Changed code bs keeps at x kept' s (over (drop 1 s.core.now.operands) s.core)) (sym now)
+    (changed code bs keeps at at e (cut_to e n m) kept kept' s (λ k. over (drop 1 k.now.operands) k) h is same to (cut_sound (plain_code code) e n m h.1 low t.short has within) h.2.standing)
 
 -- the store without so many operands
-pub cuts : (code : Code) (at : ℕ) (e e' : Here) (kept kept' : List (Here × ℕ)) (s : Standing) (n k m : ℕ) →
-    MayRun code × IsSound (plain_code code) e × AllSound (plain_code code) kept → stands code at e kept ≡ s →
+pub cuts : (code : Code) (bs : BasesState) (keeps : ℕ) (at : ℕ) (e e' : Here) (kept kept' : List (Here × Kept)) (s : Standing) (n k m : ℕ) →
+    MayRun code × IsSound (plain_code code) e × AllSound (plain_code code) bs keeps e.slots kept → stands code bs at e kept ≡ s →
     length e.operands ≡ n + k → lowest_of e ≤ n → HasMembers (reverse (take n e.operands)) m → m ≤ length e.members →
-    e' ≡ cut_to e n m → kept' ≡ kept → Changed code at e' kept' s (over (drop k s.core.now.operands) s.core)
-cuts code at e e' kept kept' s n k m h is long low has within now same =
+    e' ≡ cut_to e n m → kept' ≡ kept → Changed code bs keeps at e' kept' s (over (drop k s.core.now.operands) s.core)
+cuts code bs keeps at e e' kept kept' s n k m h is long low has within now same =
     let c = plain_code code in
     let some : 0 < length (reverse e.activations) = omega (arith, h.1.some, length-reverse e.activations) in
     let short : length (take n e.operands) ≡ n = length-take-le n e.operands (omega (arith, long)) in
     let flat = flat_below (reverse e.activations) n k (results e) some low (length-map e.operands (operand_of e.members) ∙ long) in
-    let to = above c at e (cut_to e n m) kept (drop k (now_operands e)) h.1 refl refl (cut_results e n m has within ∙ flat) in
-    subst (λ x. Changed code at x kept' s (over (drop k s.core.now.operands) s.core)) (sym now)
-    (changed code at at e (cut_to e n m) kept kept' s (λ q. over (drop k q.now.operands) q) h is same to (cut_sound c e n m h.1 low short has within))
+    let to = above c bs at e (cut_to e n m) kept (drop k (now_operands e)) h.1 refl refl (cut_results e n m has within ∙ flat) in
+    subst (λ x. Changed code bs keeps at x kept' s (over (drop k s.core.now.operands) s.core)) (sym now)
+    (changed code bs keeps at at e (cut_to e n m) kept kept' s (λ q. over (drop k q.now.operands) q) h is same to (cut_sound c e n m h.1 low short has within) h.2.standing)
 
 -- ---- what stays
 
@@ -296,15 +303,15 @@ collection_alone what e n is h = (omega (arith, is), subst (HasMembers (reverse 
 
 -- ---- reading the top
 
-pub some_below : (code : Code) (at : ℕ) (e : Here) (kept : List (Here × ℕ)) (s : Standing) → stands code at e kept ≡ s → 0 < length s.core.now.operands → lowest_of e < length e.operands
-some_below code at e kept s is h = some_on_top e (subst (λ l. 0 < length l) (sym (now_is code at e kept s is)) h)
+pub some_below : (code : Code) (bs : BasesState) (at : ℕ) (e : Here) (kept : List (Here × Kept)) (s : Standing) → stands code bs at e kept ≡ s → 0 < length s.core.now.operands → lowest_of e < length e.operands
+some_below code bs at e kept s is h = some_on_top e (subst (λ l. 0 < length l) (sym (now_is code bs at e kept s is)) h)
 
 -- the operands, where this one is the last
-pub top_is : (code : Code) (at : ℕ) (e : Here) (kept : List (Here × ℕ)) (s : Standing) (n : ℕ) (o : Operand) →
-    IsSound (plain_code code) e → stands code at e kept ≡ s → lowest_of e < length e.operands → n ≡ length e.operands - 1 → Some o ≡ slice_get e.operands n →
+pub top_is : (code : Code) (bs : BasesState) (at : ℕ) (e : Here) (kept : List (Here × Kept)) (s : Standing) (n : ℕ) (o : Operand) →
+    IsSound (plain_code code) e → stands code bs at e kept ≡ s → lowest_of e < length e.operands → n ≡ length e.operands - 1 → Some o ≡ slice_get e.operands n →
     s.core.now.operands ≡ operand_of e.members o ∷ drop 1 s.core.now.operands
-top_is code at e kept s n o h is some last there =
-    subst (λ l. l ≡ operand_of e.members o ∷ drop 1 l) (now_is code at e kept s is) (on_top (plain_code code) e n o h (omega arith) (omega arith) there).now
+top_is code bs at e kept s n o h is some last there =
+    subst (λ l. l ≡ operand_of e.members o ∷ drop 1 l) (now_is code bs at e kept s is) (on_top (plain_code code) e n o h (omega arith) (omega arith) there).now
 
 pub shows_iterator : (pairs : Bool) (left : List Item) (xs : List core.Operand) → Shows (iterator_by pairs left ∷ xs) top.Iterator
 shows_iterator true left xs = tt

@@ -11,10 +11,12 @@ use Rattle.setl_code.specs.Code as plain
 use Rattle.setl_code.specs.CodeCore as core
 use Rattle.setl_code.specs.CodeCore.{value_of, popped}
 use Rattle.setl_code.specs.Plain.{plain_code}
+use Rattle.setl_rep_bases.specs.Bases.{BasesState}
 use Rattle.setl_store.specs.declared.cells.Member.{Member}
 use Rattle.setl_store.specs.declared.cells.Operand.{Operand}
 use Rattle.setl_store.specs.declared.cells.Operand.TheVariants as operand
 use Rattle.setl_store.specs.Standing.{Standing, iterator_by, top_of}
+use Rattle.setl_store.specs.declared.cells.Kept.{Kept}
 use Rattle.setl_store.specs.Flat.{Here, operand_of, stands, AllGot, GotThese, HasMembers, IsSound, Serves, members_below}
 use Rattle.setl_store.specs.HasValues.{has_values}
 use Rattle.setl_store.proofs.Lists.{some_same}
@@ -76,11 +78,11 @@ serves_at c e k o h there is some =
     (got_at_place (map f e.operands) (length e.operands - 1 - k) (f o) h.got (slice_get_map f e.operands (length e.operands - 1 - k) o is))
 
 -- a collection on top
-module _ (code : Code) (at : ℕ) (e : Here) (kept : List (Here × ℕ)) (s : Standing) (h : IsSound (plain_code code) e) (is : stands code at e kept ≡ s) (some : IsSome (top_of s.core.now.operands))
+module _ (code : Code) (bs : BasesState) (at : ℕ) (e : Here) (kept : List (Here × Kept)) (s : Standing) (h : IsSound (plain_code code) e) (is : stands code bs at e kept ≡ s) (some : IsSome (top_of s.core.now.operands))
     (size : ℕ) (long : size ≡ length e.operands) (o : Operand) (there : Some o ≡ slice_get e.operands (size - 1)) (what : Collection) (lowest count : ℕ) (made : o ≡ operand.Collection what lowest count) where
   pub collection_serves : Serves e.members o
   collection_serves =
-      serves_at (plain_code code) e 0 o h (omega (arith, some_below code at e kept s is (top_there s.core.now.operands some)))
+      serves_at (plain_code code) e 0 o h (omega (arith, some_below code bs at e kept s is (top_there s.core.now.operands some)))
       (there ∙ ap (slice_get e.operands) {x = size - 1} {y = length e.operands - 1 - 0} (omega (arith, long)))
       (ap (λ p. is_some (value_of (operand_of e.members p))) made)
 
@@ -109,14 +111,14 @@ some_at (suc n) zero (x ∷ xs) o rest l e d = ap (λ y. is_some (value_of y)) (
 some_at (suc n) (suc k) (x ∷ xs) o rest l e d = some_at n k xs o rest (omega (arith, l)) (right (is_some (value_of x)) (has_values n xs) e) d
 
 -- the k-th of n results on top
-module _ (code : Code) (at : ℕ) (e : Here) (kept : List (Here × ℕ)) (s : Standing) (h : IsSound (plain_code code) e) (is : stands code at e kept ≡ s)
+module _ (code : Code) (bs : BasesState) (at : ℕ) (e : Here) (kept : List (Here × Kept)) (s : Standing) (h : IsSound (plain_code code) e) (is : stands code bs at e kept ≡ s)
     (size n k : ℕ) (o : Operand) (long : size ≡ length e.operands) (l : k < n) (all : has_values n s.core.now.operands ≡ true) (there : Some o ≡ slice_get e.operands (size - 1 - k)) where
   pub top_at : drop k s.core.now.operands ≡ operand_of e.members o ∷ drop (k + 1) s.core.now.operands
-  top_at = at_from_top code at e kept s h is size (lowest_of e) k o long refl (omega (arith, l, long, enough n s.core.now.operands all, on_top_counted code at e kept s is)) there
+  top_at = at_from_top code bs at e kept s h is size (lowest_of e) k o long refl (omega (arith, l, long, enough n s.core.now.operands all, on_top_counted code bs at e kept s is)) there
 
   pub top_serves : Serves e.members o
   top_serves =
-      serves_at (plain_code code) e k o h (omega (arith, l, enough n s.core.now.operands all, on_top_counted code at e kept s is)) (there ∙ ap (λ m. slice_get e.operands (m - 1 - k)) long)
+      serves_at (plain_code code) e k o h (omega (arith, l, enough n s.core.now.operands all, on_top_counted code bs at e kept s is)) (there ∙ ap (λ m. slice_get e.operands (m - 1 - k)) long)
       (some_at n k s.core.now.operands (operand_of e.members o) (drop (k + 1) s.core.now.operands) l all top_at)
 
   pub one_more_copied : (vs : List (Option Value)) (v : Option Value) → value_of (operand_of e.members o) ≡ Some (part v) →
@@ -126,5 +128,5 @@ module _ (code : Code) (at : ℕ) (e : Here) (kept : List (Here × ℕ)) (s : St
       (ap top_of top_at ∙ ap (option_map (λ w. (w, drop (k + 1) s.core.now.operands))) serves)
 
 -- as many are there
-pub values_there : (code : Code) (at : ℕ) (e : Here) (kept : List (Here × ℕ)) (s : Standing) → stands code at e kept ≡ s → (n : ℕ) → has_values n s.core.now.operands ≡ true → n ≤ length e.operands
-values_there code at e kept s is n all = omega (arith, enough n s.core.now.operands all, on_top_counted code at e kept s is)
+pub values_there : (code : Code) (bs : BasesState) (at : ℕ) (e : Here) (kept : List (Here × Kept)) (s : Standing) → stands code bs at e kept ≡ s → (n : ℕ) → has_values n s.core.now.operands ≡ true → n ≤ length e.operands
+values_there code bs at e kept s is n all = omega (arith, enough n s.core.now.operands all, on_top_counted code bs at e kept s is)

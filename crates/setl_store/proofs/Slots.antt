@@ -14,12 +14,16 @@ use Rattle.setl_code.specs.CodeCore.{Cells, CodeCore, held, held_in, with_held, 
 use Rattle.setl_code.specs.Names.{is_among}
 use Rattle.setl_code.specs.Plain.{variable_at, plain_slot, plain_code}
 use Rattle.setl_code.specs.MayRun.{Differ, HasSlot, MayRun}
+use Rattle.setl_rep_bases.specs.Bases.{BasesState}
 use Rattle.setl_store.specs.declared.cells.Frame.{Frame}
+use Rattle.setl_store_slots.specs.Slots.{IsStanding}
 use Rattle.setl_store_slots.specs.declared.cells.Held.{Held}
 use Rattle.setl_store.specs.Standing.{Standing, no_world, variables}
-use Rattle.setl_store.specs.Flat.{Here, operand_of, held_of, cells, names_of, own_in, operands_in, activation, callers, copy_of, core_of, stands, helds, results, place_in, with_slot, IsShaped, IsSound, AllSound}
+use Rattle.setl_store.specs.declared.cells.Kept.{Kept}
+use Rattle.setl_store.specs.Flat.{Here, operand_of, held_of, cells, names_of, own_in, operands_in, activation, callers, copies_of, core_of, stands, helds, results, place_in, with_slot, IsShaped, IsSound, AllSound}
 use Rattle.setl_store.proofs.Bodies.{own_at, own_held, own_write, with_own, global_held, global_write, with_global, names_own, names_differ}
 use Rattle.setl_store.proofs.OperandLists.{Changed, changed}
+use Rattle.setl_store.proofs.StandingSlots.{standing_at, standing_set}
 
 -- ---- cells
 
@@ -94,12 +98,12 @@ callers_global c f (g ∷ fs) hs i v os n m h l =
 
 -- ---- what a slot holds
 
-abbrev core_flat : plain.Code → ℕ → List Frame → List core.Held → List core.Operand → List (Here × ℕ) → CodeCore
-core_flat c at fs hs os kept = record {
+abbrev core_flat : plain.Code → BasesState → ℕ → List Frame → List core.Held → List core.Operand → List (Here × Kept) → CodeCore
+core_flat c bs at fs hs os kept = record {
   globals = cells c.vars hs;
   now = activation c at fs hs os;
   callers = callers c fs hs os;
-  kept = map (copy_of c) kept;
+  kept = copies_of c bs kept;
   world = no_world;
 }
 
@@ -147,111 +151,111 @@ within_flat c f fs hs m (slot.Global k) h has = let z = sizes c f fs hs m h in o
 within_flat c f fs hs m (slot.Own k) h has = let z = sizes c f fs hs m h in omega (arith, z.whole, z.own_length, has)
 
 -- what it holds
-held_flat : (code : Code) (at : ℕ) (f : Frame) (fs : List Frame) (hs : List core.Held) (os : List core.Operand) (kept : List (Here × ℕ)) (x : Slot) (v : core.Held) → MayRun code →
+held_flat : (code : Code) (bs : BasesState) (at : ℕ) (f : Frame) (fs : List Frame) (hs : List core.Held) (os : List core.Operand) (kept : List (Here × Kept)) (x : Slot) (v : core.Held) → MayRun code →
     IsShaped (plain_code code) (f ∷ fs) (length hs) (length os) →
     HasSlot (length (cells (plain_code code).vars hs)) (length (cells (names_of (plain_code code) f.body) (drop f.slots hs))) x →
     Some v ≡ slice_get hs (place_in (f ∷ fs) x) →
-    held (plain_slot (variables (core_flat (plain_code code) at (f ∷ fs) hs os kept)) x) (core_flat (plain_code code) at (f ∷ fs) hs os kept) ≡ v
-held_flat code at f fs hs os kept (slot.Global k) v may h has is =
+    held (plain_slot (variables (core_flat (plain_code code) bs at (f ∷ fs) hs os kept)) x) (core_flat (plain_code code) bs at (f ∷ fs) hs os kept) ≡ v
+held_flat code bs at f fs hs os kept (slot.Global k) v may h has is =
     let c = plain_code code in
     let z = sizes c f fs hs (length os) h in
     let lower : k < length c.vars = omega (arith, has, z.globals_length) in
     let all : k < length code.vars = omega (arith, lower, length-map code.vars Global) in
-    let core = core_flat c at (f ∷ fs) hs os kept in
+    let core = core_flat c bs at (f ∷ fs) hs os kept in
     ap (λ xs. held (variable_at xs k) core) z.globals_are
     ∙ global_held code.vars k core all
     ∙ held_at c.vars hs k v may.0 lower is
-held_flat code at f fs hs os kept (slot.Own k) v may h has is =
+held_flat code bs at f fs hs os kept (slot.Own k) v may h has is =
     let c = plain_code code in
     let z = sizes c f fs hs (length os) h in
     let xs = names_of c f.body in
     let lower : k < length xs = omega (arith, has, z.own_length) in
-    let core = core_flat c at (f ∷ fs) hs os kept in
+    let core = core_flat c bs at (f ∷ fs) hs os kept in
     ap (λ ys. held (variable_at ys k) core) z.own_are
     ∙ own_held (variable_at xs k) core (own_at xs k (names_own code f.body) lower)
     ∙ held_at xs (drop f.slots hs) k v (names_differ code f.body may) lower (is ∙ sym (slice_get_drop f.slots hs k))
 
 -- what a write of it does
-written_flat : (code : Code) (at : ℕ) (f : Frame) (fs : List Frame) (hs : List core.Held) (os : List core.Operand) (kept : List (Here × ℕ)) (x : Slot) (v : core.Held) → MayRun code →
+written_flat : (code : Code) (bs : BasesState) (at : ℕ) (f : Frame) (fs : List Frame) (hs : List core.Held) (os : List core.Operand) (kept : List (Here × Kept)) (x : Slot) (v : core.Held) → MayRun code →
     IsShaped (plain_code code) (f ∷ fs) (length hs) (length os) →
     HasSlot (length (cells (plain_code code).vars hs)) (length (cells (names_of (plain_code code) f.body) (drop f.slots hs))) x →
-    core_flat (plain_code code) at (f ∷ fs) (set hs (place_in (f ∷ fs) x) v) os kept
-    ≡ write (plain_slot (variables (core_flat (plain_code code) at (f ∷ fs) hs os kept)) x) v (core_flat (plain_code code) at (f ∷ fs) hs os kept)
-written_flat code at f fs hs os kept (slot.Global k) v may h has =
+    core_flat (plain_code code) bs at (f ∷ fs) (set hs (place_in (f ∷ fs) x) v) os kept
+    ≡ write (plain_slot (variables (core_flat (plain_code code) bs at (f ∷ fs) hs os kept)) x) v (core_flat (plain_code code) bs at (f ∷ fs) hs os kept)
+written_flat code bs at f fs hs os kept (slot.Global k) v may h has =
     let c = plain_code code in
     let z = sizes c f fs hs (length os) h in
     let lower : k < length c.vars = omega (arith, has, z.globals_length) in
     let all : k < length code.vars = omega (arith, lower, length-map code.vars Global) in
-    let core = core_flat c at (f ∷ fs) hs os kept in
+    let core = core_flat c bs at (f ∷ fs) hs os kept in
     let globals = written_at c.vars hs k v may.0 lower (omega (arith, z.below, z.whole)) in
     let own = ap (cells (names_of c f.body)) (drop-set-lt f.slots hs k v (omega (arith, lower, z.below))) in
     let waits = callers_global c f fs hs k v os (length hs) (length os) h lower in
-    let to : core_flat c at (f ∷ fs) (set hs k v) os kept ≡ with_global core (variable_at c.vars k) v =
+    let to : core_flat c bs at (f ∷ fs) (set hs k v) os kept ≡ with_global core (variable_at c.vars k) v =
     λ i. record core { globals = globals i; now = record core.now { own = own i }; callers = waits i } in
     to ∙ sym (ap (λ ys. write (variable_at ys k) v core) z.globals_are ∙ global_write code.vars k v core all)
-written_flat code at f fs hs os kept (slot.Own k) v may h has =
+written_flat code bs at f fs hs os kept (slot.Own k) v may h has =
     let c = plain_code code in
     let z = sizes c f fs hs (length os) h in
     let xs = names_of c f.body in
     let lower : k < length xs = omega (arith, has, z.own_length) in
-    let core = core_flat c at (f ∷ fs) hs os kept in
+    let core = core_flat c bs at (f ∷ fs) hs os kept in
     let front : take f.slots (set hs (f.slots + k) v) ≡ take f.slots hs = take-set-le f.slots hs (f.slots + k) v (omega arith) in
     let globals = cells_agree c.vars (set hs (f.slots + k) v) hs f.slots z.below front in
     let own = ap (cells xs) (drop-set-add f.slots hs k v) ∙ written_at xs (drop f.slots hs) k v (names_differ code f.body may) lower (omega (arith, z.own)) in
     let waits = callers_own c f fs (set hs (f.slots + k) v) hs os front in
-    let to : core_flat c at (f ∷ fs) (set hs (f.slots + k) v) os kept ≡ with_own core (variable_at xs k) v =
+    let to : core_flat c bs at (f ∷ fs) (set hs (f.slots + k) v) os kept ≡ with_own core (variable_at xs k) v =
     λ i. record core { globals = globals i; now = record core.now { own = own i }; callers = waits i } in
     to ∙ sym (ap (λ ys. write (variable_at ys k) v core) z.own_are ∙ own_write (variable_at xs k) v core (own_at xs k (names_own code f.body) lower))
 
 -- ---- the same of a store
 
 -- the activations, with the innermost apart
-pub data Innermost (c : plain.Code) (e : Here) : Type 0 where
-  innermost : (f : Frame) (fs : List Frame) → reverse e.activations ≡ f ∷ fs → IsShaped c (f ∷ fs) (length (helds e)) (length (results e)) → Innermost c e
+pub data Innermost (bs : BasesState) (c : plain.Code) (e : Here) : Type 0 where
+  innermost : (f : Frame) (fs : List Frame) → reverse e.activations ≡ f ∷ fs → IsShaped c (f ∷ fs) (length (helds bs e)) (length (results e)) → Innermost bs c e
 
-apart_in : (c : plain.Code) (e : Here) (fs : List Frame) → reverse e.activations ≡ fs → IsShaped c fs (length (helds e)) (length (results e)) → Innermost c e
-apart_in c e [] is h = absurd h
-apart_in c e (f ∷ fs) is h = innermost f fs is h
+apart_in : (bs : BasesState) (c : plain.Code) (e : Here) (fs : List Frame) → reverse e.activations ≡ fs → IsShaped c fs (length (helds bs e)) (length (results e)) → Innermost bs c e
+apart_in bs c e [] is h = absurd h
+apart_in bs c e (f ∷ fs) is h = innermost f fs is h
 
-pub innermost_of : (c : plain.Code) (e : Here) → IsSound c e → Innermost c e
-innermost_of c e h =
-    apart_in c e (reverse e.activations) refl
-    (subst (λ n. IsShaped c (reverse e.activations) n (length (results e))) (sym (length-map e.slots held_of))
+pub innermost_of : (bs : BasesState) (c : plain.Code) (e : Here) → IsSound c e → Innermost bs c e
+innermost_of bs c e h =
+    apart_in bs c e (reverse e.activations) refl
+    (subst (λ n. IsShaped c (reverse e.activations) n (length (results e))) (sym (length-map e.slots (held_of bs)))
     (subst (λ n. IsShaped c (reverse e.activations) (length e.slots) n) (sym (length-map e.operands (operand_of e.members))) h.shaped))
 
 abbrev pub Has : CodeCore → Slot → Type 0
 Has k x = HasSlot (length k.globals) (length k.now.own) x
 
-within_by : (c : plain.Code) (at : ℕ) (e : Here) (kept : List (Here × ℕ)) (x : Slot) → Innermost c e → Has (core_of c at e kept) x → place_in (reverse e.activations) x < length e.slots
-within_by c at e kept x (innermost f fs is h) =
-    subst (λ l. HasSlot (length (cells c.vars (helds e))) (length (own_in c l (helds e))) x → place_in l x < length e.slots) (sym is)
-    (λ has. omega (arith, within_flat c f fs (helds e) (length (results e)) x h has, length-map e.slots held_of))
+within_by : (c : plain.Code) (bs : BasesState) (at : ℕ) (e : Here) (kept : List (Here × Kept)) (x : Slot) → Innermost bs c e → Has (core_of c bs at e kept) x → place_in (reverse e.activations) x < length e.slots
+within_by c bs at e kept x (innermost f fs is h) =
+    subst (λ l. HasSlot (length (cells c.vars (helds bs e))) (length (own_in c l (helds bs e))) x → place_in l x < length e.slots) (sym is)
+    (λ has. omega (arith, within_flat c f fs (helds bs e) (length (results e)) x h has, length-map e.slots (held_of bs)))
 
-pub place_within : (code : Code) (at : ℕ) (e : Here) (kept : List (Here × ℕ)) (s : Standing) (x : Slot) → IsSound (plain_code code) e → stands code at e kept ≡ s → Has s.core x → place_in (reverse e.activations) x < length e.slots
-place_within code at e kept s x h is has =
-    within_by (plain_code code) at e kept x (innermost_of (plain_code code) e h) (subst (λ (t : Standing). Has t.core x) (sym is) has)
+pub place_within : (code : Code) (bs : BasesState) (at : ℕ) (e : Here) (kept : List (Here × Kept)) (s : Standing) (x : Slot) → IsSound (plain_code code) e → stands code bs at e kept ≡ s → Has s.core x → place_in (reverse e.activations) x < length e.slots
+place_within code bs at e kept s x h is has =
+    within_by (plain_code code) bs at e kept x (innermost_of bs (plain_code code) e h) (subst (λ (t : Standing). Has t.core x) (sym is) has)
 
-holds_by : (code : Code) (at : ℕ) (e : Here) (kept : List (Here × ℕ)) (x : Slot) (h : Held) → MayRun code → Innermost (plain_code code) e → Has (core_of (plain_code code) at e kept) x → Some h ≡ slice_get e.slots (place_in (reverse e.activations) x) →
-    held (plain_slot (variables (core_of (plain_code code) at e kept)) x) (core_of (plain_code code) at e kept) ≡ held_of h
-holds_by code at e kept x v may (innermost f fs is h) =
+holds_by : (code : Code) (bs : BasesState) (at : ℕ) (e : Here) (kept : List (Here × Kept)) (x : Slot) (h : Held) → MayRun code → Innermost bs (plain_code code) e → Has (core_of (plain_code code) bs at e kept) x → Some h ≡ slice_get e.slots (place_in (reverse e.activations) x) →
+    held (plain_slot (variables (core_of (plain_code code) bs at e kept)) x) (core_of (plain_code code) bs at e kept) ≡ held_of bs h
+holds_by code bs at e kept x v may (innermost f fs is h) =
     let c = plain_code code in
-    subst (λ l. HasSlot (length (cells c.vars (helds e))) (length (own_in c l (helds e))) x → Some v ≡ slice_get e.slots (place_in l x) → held (plain_slot (variables (core_flat c at l (helds e) (results e) kept)) x) (core_flat c at l (helds e) (results e) kept) ≡ held_of v) (sym is)
-    (λ has there. held_flat code at f fs (helds e) (results e) kept x (held_of v) may h has (slice_get_map held_of e.slots (place_in (f ∷ fs) x) v there))
+    subst (λ l. HasSlot (length (cells c.vars (helds bs e))) (length (own_in c l (helds bs e))) x → Some v ≡ slice_get e.slots (place_in l x) → held (plain_slot (variables (core_flat c bs at l (helds bs e) (results e) kept)) x) (core_flat c bs at l (helds bs e) (results e) kept) ≡ held_of bs v) (sym is)
+    (λ has there. held_flat code bs at f fs (helds bs e) (results e) kept x (held_of bs v) may h has (slice_get_map (held_of bs) e.slots (place_in (f ∷ fs) x) v there))
 
-pub slot_holds : (code : Code) (at : ℕ) (e : Here) (kept : List (Here × ℕ)) (s : Standing) (x : Slot) (h : Held) →
-    MayRun code × IsSound (plain_code code) e × AllSound (plain_code code) kept → stands code at e kept ≡ s → Has s.core x → Some h ≡ slice_get e.slots (place_in (reverse e.activations) x) →
-    held (plain_slot (variables s.core) x) s.core ≡ held_of h
-slot_holds code at e kept s x v h is has there =
-    subst (λ (t : Standing). Has t.core x → held (plain_slot (variables t.core) x) t.core ≡ held_of v) is
-    (λ own. holds_by code at e kept x v h.0 (innermost_of (plain_code code) e h.1) own there) has
+pub slot_holds : (code : Code) (bs : BasesState) (keeps : ℕ) (at : ℕ) (e : Here) (kept : List (Here × Kept)) (s : Standing) (x : Slot) (h : Held) →
+    MayRun code × IsSound (plain_code code) e × AllSound (plain_code code) bs keeps e.slots kept → stands code bs at e kept ≡ s → Has s.core x → Some h ≡ slice_get e.slots (place_in (reverse e.activations) x) →
+    held (plain_slot (variables s.core) x) s.core ≡ held_of bs h
+slot_holds code bs keeps at e kept s x v h is has there =
+    subst (λ (t : Standing). Has t.core x → held (plain_slot (variables t.core) x) t.core ≡ held_of bs v) is
+    (λ own. holds_by code bs at e kept x v h.0 (innermost_of bs (plain_code code) e h.1) own there) has
 
-written_by : (code : Code) (at : ℕ) (e : Here) (kept : List (Here × ℕ)) (x : Slot) (v : Held) → MayRun code → Innermost (plain_code code) e → Has (core_of (plain_code code) at e kept) x →
-    core_of (plain_code code) at (with_slot e (place_in (reverse e.activations) x) v) kept ≡ write (plain_slot (variables (core_of (plain_code code) at e kept)) x) (held_of v) (core_of (plain_code code) at e kept)
-written_by code at e kept x v may (innermost f fs is h) =
+written_by : (code : Code) (bs : BasesState) (at : ℕ) (e : Here) (kept : List (Here × Kept)) (x : Slot) (v : Held) → MayRun code → Innermost bs (plain_code code) e → Has (core_of (plain_code code) bs at e kept) x →
+    core_of (plain_code code) bs at (with_slot e (place_in (reverse e.activations) x) v) kept ≡ write (plain_slot (variables (core_of (plain_code code) bs at e kept)) x) (held_of bs v) (core_of (plain_code code) bs at e kept)
+written_by code bs at e kept x v may (innermost f fs is h) =
     let c = plain_code code in
-    subst (λ l. HasSlot (length (cells c.vars (helds e))) (length (own_in c l (helds e))) x →
-    core_flat c at l (map held_of (set e.slots (place_in l x) v)) (results e) kept ≡ write (plain_slot (variables (core_flat c at l (helds e) (results e) kept)) x) (held_of v) (core_flat c at l (helds e) (results e) kept)) (sym is)
-    (λ has. ap (λ hs. core_flat c at (f ∷ fs) hs (results e) kept) (map-set held_of e.slots (place_in (f ∷ fs) x) v) ∙ written_flat code at f fs (helds e) (results e) kept x (held_of v) may h has)
+    subst (λ l. HasSlot (length (cells c.vars (helds bs e))) (length (own_in c l (helds bs e))) x →
+    core_flat c bs at l (map (held_of bs) (set e.slots (place_in l x) v)) (results e) kept ≡ write (plain_slot (variables (core_flat c bs at l (helds bs e) (results e) kept)) x) (held_of bs v) (core_flat c bs at l (helds bs e) (results e) kept)) (sym is)
+    (λ has. ap (λ hs. core_flat c bs at (f ∷ fs) hs (results e) kept) (map-set (held_of bs) e.slots (place_in (f ∷ fs) x) v) ∙ written_flat code bs at f fs (helds bs e) (results e) kept x (held_of bs v) may h has)
 
 sound_written : (c : plain.Code) (e : Here) (n : ℕ) (v : Held) → IsSound c e → IsSound c (with_slot e n v)
 sound_written c e n v h = record {
@@ -261,31 +265,31 @@ sound_written c e n v h = record {
   got = h.got;
 }
 
-pub slot_written : (code : Code) (at : ℕ) (e e' : Here) (kept kept' : List (Here × ℕ)) (s : Standing) (x : Slot) (v : Held) →
-    MayRun code × IsSound (plain_code code) e × AllSound (plain_code code) kept → stands code at e kept ≡ s → Has s.core x →
+pub slot_written : (code : Code) (bs : BasesState) (keeps : ℕ) (at : ℕ) (e e' : Here) (kept kept' : List (Here × Kept)) (s : Standing) (x : Slot) (v : Held) →
+    MayRun code × IsSound (plain_code code) e × AllSound (plain_code code) bs keeps e.slots kept → stands code bs at e kept ≡ s → Has s.core x → IsStanding bs v →
     e' ≡ with_slot e (place_in (reverse e.activations) x) v → kept' ≡ kept →
-    Changed code at e' kept' s (write (plain_slot (variables s.core) x) (held_of v) s.core)
-slot_written code at e e' kept kept' s x v h is has now same =
+    Changed code bs keeps at e' kept' s (write (plain_slot (variables s.core) x) (held_of bs v) s.core)
+slot_written code bs keeps at e e' kept kept' s x v h is has stand now same =
     let c = plain_code code in
     let n = place_in (reverse e.activations) x in
     let own = subst (λ (t : Standing). Has t.core x) (sym is) has in
-    let to = written_by code at e kept x v h.0 (innermost_of c e h.1) own in
-    subst (λ y. Changed code at y kept' s (write (plain_slot (variables s.core) x) (held_of v) s.core)) (sym now)
-    (changed code at at e (with_slot e n v) kept kept' s (λ k. write (plain_slot (variables k) x) (held_of v) k) h is same to (sound_written c e n v h.1))
+    let to = written_by code bs at e kept x v h.0 (innermost_of bs c e h.1) own in
+    subst (λ y. Changed code bs keeps at y kept' s (write (plain_slot (variables s.core) x) (held_of bs v) s.core)) (sym now)
+    (changed code bs keeps at at e (with_slot e n v) kept kept' s (λ k. write (plain_slot (variables k) x) (held_of bs v) k) h is same to (sound_written c e n v h.1) (standing_set bs e.slots n v h.2.standing stand))
 
 -- the same, where the slot's place is known by this number
-pub slot_at : (code : Code) (at : ℕ) (e : Here) (kept : List (Here × ℕ)) (s : Standing) (x : Slot) (n : ℕ) (h : Held) →
-    MayRun code × IsSound (plain_code code) e × AllSound (plain_code code) kept → stands code at e kept ≡ s → Has s.core x → n ≡ place_in (reverse e.activations) x → Some h ≡ slice_get e.slots n →
-    held (plain_slot (variables s.core) x) s.core ≡ held_of h
-slot_at code at e kept s x n v h is has place there = slot_holds code at e kept s x v h is has (there ∙ ap (slice_get e.slots) place)
+pub slot_at : (code : Code) (bs : BasesState) (keeps : ℕ) (at : ℕ) (e : Here) (kept : List (Here × Kept)) (s : Standing) (x : Slot) (n : ℕ) (h : Held) →
+    MayRun code × IsSound (plain_code code) e × AllSound (plain_code code) bs keeps e.slots kept → stands code bs at e kept ≡ s → Has s.core x → n ≡ place_in (reverse e.activations) x → Some h ≡ slice_get e.slots n →
+    held (plain_slot (variables s.core) x) s.core ≡ held_of bs h
+slot_at code bs keeps at e kept s x n v h is has place there = slot_holds code bs keeps at e kept s x v h is has (there ∙ ap (slice_get e.slots) place)
 
-pub slot_stored : (code : Code) (at : ℕ) (e e' : Here) (kept kept' : List (Here × ℕ)) (s : Standing) (x : Slot) (n : ℕ) (v : Held) (h : core.Held) →
-    MayRun code × IsSound (plain_code code) e × AllSound (plain_code code) kept → stands code at e kept ≡ s → Has s.core x → n ≡ place_in (reverse e.activations) x →
-    e' ≡ with_slot e n v → kept' ≡ kept → held_of v ≡ h →
-    Changed code at e' kept' s (write (plain_slot (variables s.core) x) h s.core)
-slot_stored code at e e' kept kept' s x n v h holds is has place now same stands_for =
-    subst (λ w. Changed code at e' kept' s (write (plain_slot (variables s.core) x) w s.core)) stands_for
-    (slot_written code at e e' kept kept' s x v holds is has (now ∙ ap (λ m. with_slot e m v) place) same)
+pub slot_stored : (code : Code) (bs : BasesState) (keeps : ℕ) (at : ℕ) (e e' : Here) (kept kept' : List (Here × Kept)) (s : Standing) (x : Slot) (n : ℕ) (v : Held) (h : core.Held) →
+    MayRun code × IsSound (plain_code code) e × AllSound (plain_code code) bs keeps e.slots kept → stands code bs at e kept ≡ s → Has s.core x → n ≡ place_in (reverse e.activations) x → IsStanding bs v →
+    e' ≡ with_slot e n v → kept' ≡ kept → held_of bs v ≡ h →
+    Changed code bs keeps at e' kept' s (write (plain_slot (variables s.core) x) h s.core)
+slot_stored code bs keeps at e e' kept kept' s x n v h holds is has place stand now same stands_for =
+    subst (λ w. Changed code bs keeps at e' kept' s (write (plain_slot (variables s.core) x) w s.core)) stands_for
+    (slot_written code bs keeps at e e' kept kept' s x v holds is has stand (now ∙ ap (λ m. with_slot e m v) place) same)
 
 set_same : {A : Type 0} (xs : List A) (n : ℕ) (x : A) → Some x ≡ slice_get xs n → set xs n x ≡ xs
 set_same [] n x e = absurd (cc)
@@ -293,9 +297,9 @@ set_same (y ∷ xs) zero x e = ap (λ z. z ∷ xs) (let same : x ≡ y = cc in s
 set_same (y ∷ xs) (suc n) x e = ap (λ zs. y ∷ zs) (set_same xs n x e)
 
 -- what a slot holds, stored again, changes nothing
-pub slot_again : (code : Code) (at : ℕ) (e : Here) (kept : List (Here × ℕ)) (s : Standing) (x : Slot) (n : ℕ) (v : Held) (h : core.Held) →
-    MayRun code × IsSound (plain_code code) e × AllSound (plain_code code) kept → stands code at e kept ≡ s → Has s.core x → n ≡ place_in (reverse e.activations) x → Some v ≡ slice_get e.slots n → held_of v ≡ h →
+pub slot_again : (code : Code) (bs : BasesState) (keeps : ℕ) (at : ℕ) (e : Here) (kept : List (Here × Kept)) (s : Standing) (x : Slot) (n : ℕ) (v : Held) (h : core.Held) →
+    MayRun code × IsSound (plain_code code) e × AllSound (plain_code code) bs keeps e.slots kept → stands code bs at e kept ≡ s → Has s.core x → n ≡ place_in (reverse e.activations) x → Some v ≡ slice_get e.slots n → held_of bs v ≡ h →
     write (plain_slot (variables s.core) x) h s.core ≡ s.core
-slot_again code at e kept s x n v h holds is has place there stands_for =
+slot_again code bs keeps at e kept s x n v h holds is has place there stands_for =
     let same : e ≡ with_slot e n v = sym (ap (λ l. record e { slots = l }) (set_same e.slots n v there)) in
-    ap (λ t. t.core) (sym (slot_stored code at e e kept kept s x n v h holds is has place same refl stands_for).stands ∙ is)
+    ap (λ t. t.core) (sym (slot_stored code bs keeps at e e kept kept s x n v h holds is has place (standing_at bs e.slots n v holds.2.standing there) same refl stands_for).stands ∙ is)

@@ -13,6 +13,8 @@ use Rattle.setl_code.specs.CodeCore.{CodeCore}
 use Rattle.setl_code.specs.Machine.{body_steps, fetch}
 use Rattle.setl_code.specs.MayRun.{InstrFits, StepsFit, MayRun}
 use Rattle.setl_code.specs.Plain.{Variables, plain_body, plain_step, plain_code, plain_name}
+use Rattle.setl_rep_bases.specs.Bases.{BasesState}
+use Rattle.setl_store.specs.declared.cells.Kept.{Kept}
 use Rattle.setl_store.specs.Flat.{Here, step_of, own_count_of, body_in, cells, own_in, helds, results, core_of, stands, IsSound, AllSound}
 use Rattle.setl_store.specs.Standing.{Standing, variables, variables_in}
 use Rattle.setl_store.proofs.Bodies.{own_by, BodyFits, body_at, body_fits, names_same}
@@ -34,47 +36,47 @@ fetched code n at =
 
 -- ---- the variables in hand
 
-variables_here : (code : Code) (at : ℕ) (e : Here) (kept : List (Here × ℕ)) → Innermost (plain_code code) e →
-    variables (core_of (plain_code code) at e kept) ≡ variables_by_slots code (body_in (reverse e.activations)) (slice_get code.bodies (body_in (reverse e.activations)))
-variables_here code at e kept (innermost f fs is h) =
+variables_here : (code : Code) (bs : BasesState) (at : ℕ) (e : Here) (kept : List (Here × Kept)) → Innermost bs (plain_code code) e →
+    variables (core_of (plain_code code) bs at e kept) ≡ variables_by_slots code (body_in (reverse e.activations)) (slice_get code.bodies (body_in (reverse e.activations)))
+variables_here code bs at e kept (innermost f fs is h) =
     let c = plain_code code in
-    let z = sizes c f fs (helds e) (length (results e)) h in
-    subst (λ l. record { global = map (λ s. s.0) (cells c.vars (helds e)); own = map (λ s. s.0) (own_in c l (helds e)) } ≡ variables_by_slots code (body_in l) (slice_get code.bodies (body_in l))) (sym is)
+    let z = sizes c f fs (helds bs e) (length (results e)) h in
+    subst (λ l. record { global = map (λ s. s.0) (cells c.vars (helds bs e)); own = map (λ s. s.0) (own_in c l (helds bs e)) } ≡ variables_by_slots code (body_in l) (slice_get code.bodies (body_in l))) (sym is)
     (λ i. record { global = z.globals_are i; own = (z.own_are ∙ names_same code f.body) i })
 
 -- what the body at work has in hand
-pub at_work : (code : Code) (at : ℕ) (e : Here) (kept : List (Here × ℕ)) (s : Standing) (n : ℕ) → IsSound (plain_code code) e → stands code at e kept ≡ s → n ≡ body_in (reverse e.activations) → variables s.core ≡ variables_in (plain_code s.code) n
-at_work code at e kept s n h is number =
+pub at_work : (code : Code) (bs : BasesState) (at : ℕ) (e : Here) (kept : List (Here × Kept)) (s : Standing) (n : ℕ) → IsSound (plain_code code) e → stands code bs at e kept ≡ s → n ≡ body_in (reverse e.activations) → variables s.core ≡ variables_in (plain_code s.code) n
+at_work code bs at e kept s n h is number =
     let m = body_in (reverse e.activations) in
     subst (λ (t : Standing). variables t.core ≡ variables_in (plain_code t.code) n) is
-    (variables_here code at e kept (innermost_of (plain_code code) e h)
+    (variables_here code bs at e kept (innermost_of bs (plain_code code) e h)
     ∙ (λ i. record { global = map Global code.vars; own = sym (names_same code m) i })
     ∙ ap (variables_in (plain_code code)) (sym number))
 
 -- ---- the step in hand of a store
 
-pub step_found : (code : Code) (at : ℕ) (e : Here) (kept : List (Here × ℕ)) (s : Standing) (n : ℕ) (x : Step) → IsSound (plain_code code) e → stands code at e kept ≡ s → n ≡ body_in (reverse e.activations) →
+pub step_found : (code : Code) (bs : BasesState) (at : ℕ) (e : Here) (kept : List (Here × Kept)) (s : Standing) (n : ℕ) (x : Step) → IsSound (plain_code code) e → stands code bs at e kept ≡ s → n ≡ body_in (reverse e.activations) →
     step_of (slice_get code.bodies n) at ≡ Some x → fetch (plain_code s.code) s.core.now.body s.core.now.at ≡ Some (plain_step (variables s.core) x)
-step_found code at e kept s n x h is number found =
+step_found code bs at e kept s n x h is number found =
     let m = body_in (reverse e.activations) in
     subst (λ (t : Standing). fetch (plain_code t.code) t.core.now.body t.core.now.at ≡ Some (plain_step (variables t.core) x)) is
     (fetched code m at
     ∙ ap (option_map (plain_step (variables_by_slots code m (slice_get code.bodies m)))) (subst (λ k. step_of (slice_get code.bodies k) at ≡ Some x) number found)
-    ∙ ap (λ v. Some (plain_step v x)) (sym (variables_here code at e kept (innermost_of (plain_code code) e h))))
+    ∙ ap (λ v. Some (plain_step v x)) (sym (variables_here code bs at e kept (innermost_of bs (plain_code code) e h))))
 
-no_step : (code : Code) (at : ℕ) (e : Here) (kept : List (Here × ℕ)) (s : Standing) (n : ℕ) → stands code at e kept ≡ s → n ≡ body_in (reverse e.activations) →
+no_step : (code : Code) (bs : BasesState) (at : ℕ) (e : Here) (kept : List (Here × Kept)) (s : Standing) (n : ℕ) → stands code bs at e kept ≡ s → n ≡ body_in (reverse e.activations) →
     step_of (slice_get code.bodies n) at ≡ None → fetch (plain_code s.code) s.core.now.body s.core.now.at ≡ None
-no_step code at e kept s n is number none =
+no_step code bs at e kept s n is number none =
     let m = body_in (reverse e.activations) in
     subst (λ (t : Standing). fetch (plain_code t.code) t.core.now.body t.core.now.at ≡ None) is
     (fetched code m at
     ∙ ap (option_map (plain_step (variables_by_slots code m (slice_get code.bodies m)))) (subst (λ k. step_of (slice_get code.bodies k) at ≡ None) number none))
 
 -- the same, of an answer
-pub step_missing : (r : Option (Bor Step)) (code : Code) (at : ℕ) (e : Here) (kept : List (Here × ℕ)) (s : Standing) (n : ℕ) → stands code at e kept ≡ s → n ≡ body_in (reverse e.activations) →
+pub step_missing : (r : Option (Bor Step)) (code : Code) (bs : BasesState) (at : ℕ) (e : Here) (kept : List (Here × Kept)) (s : Standing) (n : ℕ) → stands code bs at e kept ≡ s → n ≡ body_in (reverse e.activations) →
     IfNone r (step_of (slice_get code.bodies n) at ≡ None) → IfNone r (fetch (plain_code s.code) s.core.now.body s.core.now.at ≡ None)
-step_missing None code at e kept s n is number none = no_step code at e kept s n is number none
-step_missing (Some x) code at e kept s n is number none = tt
+step_missing None code bs at e kept s n is number none = no_step code bs at e kept s n is number none
+step_missing (Some x) code bs at e kept s n is number none = tt
 
 -- ---- what it names is there
 
@@ -98,22 +100,22 @@ record Counts (code : Code) (n : ℕ) (k : CodeCore) : Type 0 where
   pub globals : length k.globals ≡ length code.vars
   pub own : length k.now.own ≡ own_count_of (slice_get code.bodies n)
 
-counts_by : (code : Code) (at : ℕ) (e : Here) (kept : List (Here × ℕ)) → Innermost (plain_code code) e → Counts code (body_in (reverse e.activations)) (core_of (plain_code code) at e kept)
-counts_by code at e kept (innermost f fs is h) =
+counts_by : (code : Code) (bs : BasesState) (at : ℕ) (e : Here) (kept : List (Here × Kept)) → Innermost bs (plain_code code) e → Counts code (body_in (reverse e.activations)) (core_of (plain_code code) bs at e kept)
+counts_by code bs at e kept (innermost f fs is h) =
     let c = plain_code code in
-    let z = sizes c f fs (helds e) (length (results e)) h in
+    let z = sizes c f fs (helds bs e) (length (results e)) h in
     record {
       globals = z.globals_length ∙ length-map code.vars Global;
       own =
-          subst (λ l. length (own_in c l (helds e)) ≡ own_count_of (slice_get code.bodies (body_in l))) (sym is)
+          subst (λ l. length (own_in c l (helds bs e)) ≡ own_count_of (slice_get code.bodies (body_in l))) (sym is)
           (z.own_length ∙ ap length (names_same code f.body) ∙ counted f.body (slice_get code.bodies f.body));
     }
 
-pub step_fits : (code : Code) (at : ℕ) (e : Here) (kept : List (Here × ℕ)) (s : Standing) (n : ℕ) (x : Step) → MayRun code × IsSound (plain_code code) e × AllSound (plain_code code) kept → stands code at e kept ≡ s → n ≡ body_in (reverse e.activations) →
+pub step_fits : (code : Code) (bs : BasesState) (keeps : ℕ) (at : ℕ) (e : Here) (kept : List (Here × Kept)) (s : Standing) (n : ℕ) (x : Step) → MayRun code × IsSound (plain_code code) e × AllSound (plain_code code) bs keeps e.slots kept → stands code bs at e kept ≡ s → n ≡ body_in (reverse e.activations) →
     step_of (slice_get code.bodies n) at ≡ Some x → InstrFits (length s.core.globals) (length s.core.now.own) x.what
-step_fits code at e kept s n x h is number found =
-    let z = counts_by code at e kept (innermost_of (plain_code code) e h.1) in
+step_fits code bs keeps at e kept s n x h is number found =
+    let z = counts_by code bs at e kept (innermost_of bs (plain_code code) e h.1) in
     let fits = fits_by (length code.vars) n (slice_get code.bodies n) at x (body_fits (length code.vars) 0 code.bodies n n (omega arith) (h.0).1) found in
     subst (λ (t : Standing). InstrFits (length t.core.globals) (length t.core.now.own) x.what) is
-    (subst (λ m. InstrFits m (length (core_of (plain_code code) at e kept).now.own) x.what) (sym z.globals)
+    (subst (λ m. InstrFits m (length (core_of (plain_code code) bs at e kept).now.own) x.what) (sym z.globals)
     (subst (λ m. InstrFits (length code.vars) m x.what) (sym (z.own ∙ ap (λ m. own_count_of (slice_get code.bodies m)) (sym number))) fits))

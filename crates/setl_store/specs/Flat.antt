@@ -1,5 +1,5 @@
 -- How the activations lie in flat lists of slots, operands and members. No public clause cites this module.
-use Rattle.std.specs.Prelude.{◌≡◌, Bool, false, ℕ, ◌-◌, ◌+◌, ◌<◌, ◌≤◌, List, [], ◌∷◌, ◌++◌, length, take, drop, map, reverse, Option, Some, None, slice_get, slice_set}
+use Rattle.std.specs.Prelude.{◌≡◌, Bool, false, ℕ, ◌-◌, ◌+◌, ◌<◌, ◌≤◌, ◌^◌, List, [], ◌∷◌, ◌++◌, length, take, drop, map, reverse, Option, Some, None, slice_get, slice_set}
 use Rattle.setl_value.specs.Datum.{Datum, bool}
 use Rattle.setl_value.specs.code.DatumOf.{datum, part}
 use Rattle.setl_value.specs.declared.Value.TheVariants as value
@@ -17,21 +17,37 @@ use Rattle.setl_code.specs.Code as plain
 use Rattle.setl_code.specs.Plain.{plain_code}
 use Rattle.setl_code.specs.CodeCore as core
 use Rattle.setl_code.specs.CodeCore.{Cells, Activation, Copy, CodeCore}
+use Rattle.setl_rep_bases.specs.declared.BaseId.{BaseId}
+use Rattle.setl_rep_bases.specs.Bases.{BasesState, base_at}
+use Rattle.setl_rep_bases.specs.Marks.{Marks}
+use Rattle.setl_rep_plain.specs.Standing.{held_value}
+use Rattle.setl_store_kept.specs.Kept.{kept_shown, KeptSound}
+use Rattle.setl_store_slots.specs.Slots.{AreStanding}
 use Rattle.setl_store_slots.specs.declared.cells.Held.{Held}
 use Rattle.setl_store_slots.specs.declared.cells.Held.TheVariants as held
 use Rattle.setl_store.specs.declared.cells.Operand.{Operand}
 use Rattle.setl_store.specs.declared.cells.Operand.TheVariants as operand
 use Rattle.setl_store.specs.declared.cells.FieldContent.{FieldContent}
 use Rattle.setl_store.specs.declared.cells.Frame.{Frame}
+use Rattle.setl_store.specs.declared.cells.Kept.{Kept}
 use Rattle.setl_store.specs.declared.cells.Member.{Member}
 use Rattle.setl_store.specs.Standing.{Standing, no_world, variables_by, iterator_by}
 
 -- ---- slots
 
-abbrev pub held_of : Held → core.Held
-held_of held.Om = core.There None
-held_of (held.Value v) = core.There (Some (datum v))
-held_of held.Taken = core.Gone
+-- what a slot holds, over bases
+abbrev pub held_of : BasesState → Held → core.Held
+held_of bs held.Om = core.There None
+held_of bs (held.Value v) = core.There (Some (datum v))
+held_of bs held.Taken = core.Gone
+held_of bs (held.Based h) = core.There (held_value bs h)
+
+-- it is a value as it is, or `om`
+abbrev pub IsPlainSlot : Held → Type 0
+IsPlainSlot held.Om = Unit {0}
+IsPlainSlot (held.Value v) = Unit {0}
+IsPlainSlot held.Taken = ⊥
+IsPlainSlot (held.Based h) = ⊥
 
 -- variables with what their slots hold
 abbrev pub cells : List Variable → List core.Held → Cells
@@ -146,38 +162,46 @@ callers c (f ∷ g ∷ fs) hs os = activation c f.from (g ∷ fs) (take f.slots 
 abbrev pub Here : Type 0
 Here = Contents Held Operand Frame Member FieldContent
 
-abbrev pub helds : Here → List core.Held
-helds e = map held_of e.slots
+abbrev pub helds : BasesState → Here → List core.Held
+helds bs e = map (held_of bs) e.slots
 
 abbrev pub results : Here → List core.Operand
 results e = map (operand_of e.members) e.operands
 
+-- what `ok` kept of the bases
+abbrev pub marks_in : Kept → Marks
+marks_in k = k.marks
+
 -- What `ok` keeps has its answer `false` on top, so that `fail` brings that back too; the copy lacks it.
-abbrev pub copy_of : plain.Code → Here × ℕ → Copy
-copy_of c k = record {
-  globals = cells c.vars (helds k.0);
+abbrev pub copy_of : plain.Code → BasesState → Here × Kept → Copy
+copy_of c bs k = record {
+  globals = cells c.vars (helds bs k.0);
   now =
       record {
         body = body_in (reverse k.0.activations);
-        at = k.1;
-        own = own_in c (reverse k.0.activations) (helds k.0);
+        at = k.1.at;
+        own = own_in c (reverse k.0.activations) (helds bs k.0);
         operands = drop 1 (operands_in (reverse k.0.activations) (results k.0));
       };
-  callers = callers c (reverse k.0.activations) (helds k.0) (results k.0);
+  callers = callers c (reverse k.0.activations) (helds bs k.0) (results k.0);
 }
 
-abbrev pub core_of : plain.Code → ℕ → Here → List (Here × ℕ) → CodeCore
-core_of c at e kept = record {
-  globals = cells c.vars (helds e);
-  now = activation c at (reverse e.activations) (helds e) (results e);
-  callers = callers c (reverse e.activations) (helds e) (results e);
-  kept = map (copy_of c) kept;
+-- each kept one over the bases cut to its marks
+abbrev pub copies_of : plain.Code → BasesState → List (Here × Kept) → List Copy
+copies_of c bs kept = kept_shown marks_in (copy_of c) bs kept
+
+abbrev pub core_of : plain.Code → BasesState → ℕ → Here → List (Here × Kept) → CodeCore
+core_of c bs at e kept = record {
+  globals = cells c.vars (helds bs e);
+  now = activation c at (reverse e.activations) (helds bs e) (results e);
+  callers = callers c (reverse e.activations) (helds bs e) (results e);
+  kept = copies_of c bs kept;
   world = no_world;
 }
 
 -- what a store over this environment stands for
-abbrev pub stands : Code → ℕ → Here → List (Here × ℕ) → Standing
-stands code at e kept = record { code = code; core = core_of (plain_code code) at e kept }
+abbrev pub stands : Code → BasesState → ℕ → Here → List (Here × Kept) → Standing
+stands code bs at e kept = record { code = code; core = core_of (plain_code code) bs at e kept }
 
 -- ---- what always holds
 
@@ -214,10 +238,19 @@ pub record IsSound (c : plain.Code) (e : Here) : Type 0 where
 abbrev pub now_operands : Here → List core.Operand
 now_operands e = operands_in (reverse e.activations) (results e)
 
--- each kept one has its answer on top
-abbrev pub AllSound : plain.Code → List (Here × ℕ) → Type 0
-AllSound c [] = Unit {0}
-AllSound c (k ∷ ks) = IsSound c k.0 × (now_operands k.0 ≡ core.Result (Some (bool false)) ∷ drop 1 (now_operands k.0)) × AllSound c ks
+-- what was kept, over the bases of then: it has its answer on top
+pub record WasSound (c : plain.Code) (bs : BasesState) (e : Here) : Type 0 where
+  pub sound : IsSound c e
+  pub answered : now_operands e ≡ core.Result (Some (bool false)) ∷ drop 1 (now_operands e)
+  pub standing : AreStanding bs e.slots
+
+-- These slots stand over the bases, and each kept one over the bases cut to its marks. Each cut uses up a kept one, so that no
+-- instance was cut more often than something was kept.
+pub record AllSound (c : plain.Code) (bs : BasesState) (keeps : ℕ) (slots : List Held) (kept : List (Here × Kept)) : Type 0 where
+  pub standing : AreStanding bs slots
+  pub older : KeptSound marks_in (WasSound c) bs kept
+  pub cuts : (i : BaseId) → (base_at bs i).cuts + length kept ≤ keeps
+  pub few : keeps < 2 ^ 63
 
 -- ---- changes
 

@@ -10,11 +10,18 @@ use Rattle.setl_code.specs.Machine.{hand}
 use Rattle.setl_store.specs.declared.cells.Frame.{Frame}
 use Rattle.setl_store.specs.declared.cells.Operand.{Operand}
 use Rattle.setl_store.specs.declared.cells.Operand.TheVariants as operand
+use Rattle.setl_store_slots.specs.declared.cells.Held.{Held as Slot}
+use Rattle.setl_store_slots.specs.declared.cells.Held.TheVariants as slot
 
 -- the operand that is this value
 abbrev pub operand_by : Option Value → Operand
 operand_by None = operand.Om
 operand_by (Some v) = operand.Value v
+
+-- what a slot holds that holds this value
+abbrev pub held_by : Option Value → Slot
+held_by None = slot.Om
+held_by (Some v) = slot.Value v
 
 -- these values pushed, the last one on top
 abbrev pub pushed_on : List (Option Datum) → List core.Operand → List core.Operand

@@ -94,6 +94,7 @@ Becomes (Err e) old new made = new ≡ old
 
 -- what a slot holds
 abbrev pub IsHeld : Held → Content → Type 0
+IsHeld (There v) content.Based = Unit {0}
 IsHeld Gone content.Taken = Unit {0}
 IsHeld (There None) content.Om = Unit {0}
 IsHeld (There (Some d)) (content.Value v) = datum v.now ≡ d

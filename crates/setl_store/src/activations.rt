@@ -1,10 +1,9 @@
 //! Activations of an environment, with the memory that they take.
 
-ghost use Rattle.std.specs.Prelude.{◌≡◌, ◌<◌, ◌-◌, ◌+◌, ◌≤◌, [], ◌∷◌, ◌++◌, None, map, length, take, reverse, replicate, OnOk, OnErr};
-ghost use Rattle.setl_code.specs.CodeCore.{There};
-ghost use Rattle.setl_value.specs.code.DatumOf.{part};
-ghost use Rattle.setl_store.specs.Flat.{helds, without, HasMembers};
-ghost use Rattle.setl_store.specs.Returning.{operand_by};
+ghost use Rattle.std.specs.Prelude.{◌≡◌, ◌<◌, ◌-◌, ◌+◌, ◌≤◌, [], ◌∷◌, ◌++◌, map, length, take, reverse, replicate, OnOk, OnErr};
+ghost use Rattle.setl_store.specs.Flat.{without, HasMembers};
+ghost use Rattle.setl_store.specs.Returning.{held_by, operand_by};
+ghost use Rattle.setl_store_slots.specs.declared.cells.Held.TheVariants as slot;
 
 use crate::cells::{Contents, Frame, Operand};
 use crate::changes::{reserve_one_more, reserve_sum};
@@ -25,7 +24,7 @@ pub(crate) fn innermost(environment: &Contents) -> Frame
 
 /// Adds so many slots that are `om`.
 pub(crate) fn add_cleared(environment: &mut Contents, count: usize) -> Result<(), Memory>
-    ensures slots { OnOk result (helds environment.new.now ≡ helds environment.old.now ++ replicate count (There None)) }
+    ensures slots { OnOk result (environment.new.now.slots ≡ environment.old.now.slots ++ replicate count slot.Om) }
     ensures rest { OnOk result (environment.new.now ≡ record environment.old.now { slots = environment.new.now.slots }) }
     ensures kept { environment.new.kept ≡ environment.old.kept }
 {
@@ -42,7 +41,7 @@ pub(crate) fn add_activation(
     values: Vec<Option<Value>>,
     names: usize,
 ) -> Result<(), Memory>
-    ensures slots { OnOk result (helds environment.new.now ≡ helds environment.old.now ++ (map There (map part values.items) ++ replicate names (There None))) }
+    ensures slots { OnOk result (environment.new.now.slots ≡ environment.old.now.slots ++ (map held_by values.items ++ replicate names slot.Om)) }
     ensures rest { OnOk result (environment.new.now ≡ record environment.old.now { slots = environment.new.now.slots; activations = environment.old.now.activations ++ frame ∷ [] }) }
     ensures kept { environment.new.kept ≡ environment.old.kept }
     ensures refused { OnErr result (environment.new.now ≡ environment.old.now) }
@@ -75,7 +74,7 @@ fn reserve_activation(environment: &mut Contents, values: usize, names: usize) -
 fn push_values(environment: &mut Contents, values: Vec<Option<Value>>)
     requires each { length values.items ≤ environment.old.ready }
     requires places { length values.items ≤ environment.old.room.slots }
-    ensures slots { helds environment.new.now ≡ helds environment.old.now ++ map There (map part values.items) }
+    ensures slots { environment.new.now.slots ≡ environment.old.now.slots ++ map held_by values.items }
     ensures rest { environment.new.now ≡ record environment.old.now { slots = environment.new.now.slots } }
     ensures kept { environment.new.kept ≡ environment.old.kept }
     ensures ready { environment.old.ready ≤ environment.new.ready + length values.items }
@@ -90,7 +89,7 @@ fn push_values(environment: &mut Contents, values: Vec<Option<Value>>)
 fn push_cleared(environment: &mut Contents, count: usize)
     requires each { count ≤ environment.old.ready }
     requires places { count ≤ environment.old.room.slots }
-    ensures slots { helds environment.new.now ≡ helds environment.old.now ++ replicate count (There None) }
+    ensures slots { environment.new.now.slots ≡ environment.old.now.slots ++ replicate count slot.Om }
     ensures rest { environment.new.now ≡ record environment.old.now { slots = environment.new.now.slots } }
     ensures kept { environment.new.kept ≡ environment.old.kept }
     ensures ready { environment.old.ready ≤ environment.new.ready + count }

@@ -6,21 +6,32 @@ ghost use Rattle.setl_store.specs.declared.cells.Operand.TheVariants as operand;
 ghost use Rattle.setl_store.specs.Flat.{answering};
 ghost use Rattle.setl_store.specs.Standing.{kept, Restored, Becomes};
 
-use crate::cells::{Contents, Operand};
+use crate::cells::{Contents, Kept, Operand};
 use crate::store::Store;
 use setl_store_environment::Memory;
 use setl_value::Value;
+use std::alloc::AllocError;
+
+// How often something is kept at most, so that no base is cut more often than its generations go.
+const MOST_KEEPS: u64 = (1 << 63) - 1;
 
 impl<'c> Store<'c> {
     /// Keeps all that there is, as `ok` does, and goes on behind the step in hand with `true` pushed.
     ///
-    /// The error is want of memory, and then all is as before.
+    /// The error is want of memory, or that something was kept 2^63 - 1 times, which no run does, and then all is as before.
     pub fn keep(&mut self) -> Result<(), Memory>
         requires { self.old.core.now.at + 1 < 2 ^ 64 }
         ensures { Becomes result self.old self.new (record self.old { core = kept self.old.core }) }
     {
-        keep_answering(&mut self.environment, self.at + 1)?;
-        self.at += 1;
+        setl_rep_bases::laws::cuts_are_exact();
+        if self.keeps == MOST_KEEPS {
+            return Err(AllocError);
+        }
+        let at = self.at + 1;
+        let marks = self.bases.marks(self.alloc)?;
+        keep_answering(&mut self.environment, Kept { at, marks })?;
+        self.at = at;
+        self.keeps += 1;
         Ok(())
     }
 
@@ -30,10 +41,13 @@ impl<'c> Store<'c> {
         ensures code { self.new.code ≡ self.old.code }
         ensures back { Restored result self.old.core self.new.core }
     {
-        let Some(at) = self.environment.back() else {
+        setl_rep_bases::laws::cuts_are_exact();
+        setl_rep_forms::laws::forms_stay();
+        let Some(kept) = self.environment.back() else {
             return false;
         };
-        self.at = at;
+        self.bases.back_to(&kept.marks);
+        self.at = kept.at;
         true
     }
 
@@ -46,9 +60,9 @@ impl<'c> Store<'c> {
 }
 
 // Keeps what is there and on it `false`, which `fail` then brings back too, and goes on with `true` in its place.
-fn keep_answering(environment: &mut Contents, at: usize) -> Result<(), Memory>
+fn keep_answering(environment: &mut Contents, beside: Kept) -> Result<(), Memory>
     ensures now { OnOk result (environment.new.now ≡ answering environment.old.now true) }
-    ensures kept { OnOk result (environment.new.kept ≡ (answering environment.old.now false, at) ∷ environment.old.kept) }
+    ensures kept { OnOk result (environment.new.kept ≡ (answering environment.old.now false, beside) ∷ environment.old.kept) }
     ensures refused { OnErr result (environment.new.now ≡ environment.old.now) }
     ensures rest { OnErr result (environment.new.kept ≡ environment.old.kept) }
 {
@@ -56,7 +70,7 @@ fn keep_answering(environment: &mut Contents, at: usize) -> Result<(), Memory>
     environment.reserve(2)?;
     environment.reserve_operands(1)?;
     environment.push_operand(truth(false));
-    if let Err(refused) = environment.keep(at, 1) {
+    if let Err(refused) = environment.keep(beside, 1) {
         environment.drop_operand();
         return Err(refused);
     }

@@ -17,18 +17,22 @@ use crate::cells::{Contents, Frame};
 use crate::returning::handed_back;
 use crate::store::Store;
 use setl_code::{Code, Step};
+use setl_rep_bases::Bases;
 use setl_store_environment::{Environment, Memory};
 use setl_value::Value;
 use std::alloc::Global;
 
 impl<'c> Store<'c> {
-    /// At the first step of the main program of a code, with every variable `om`.
+    /// At the first step of the main program of a code, with every variable `om`, and so many bases of the main program
+    /// without members.
     ///
     /// The error is want of memory.
-    pub fn start(alloc: Global, code: &'c Code) -> Result<Store<'c>, Memory>
+    pub fn start(alloc: Global, code: &'c Code, bases: u32) -> Result<Store<'c>, Memory>
         requires { MayRun code.now }
         ensures { IfOk result (λ store. store ≡ started code.now) }
     {
+        setl_rep_bases::laws::instances_are_read();
+        let instances = Bases::new(alloc, bases)?;
         let mut environment: Contents = Environment::new(alloc)?;
         let slots = code.vars.len();
         add_cleared(&mut environment, slots)?;
@@ -50,6 +54,8 @@ impl<'c> Store<'c> {
             code,
             at: 0,
             environment,
+            bases: instances,
+            keeps: 0,
         })
     }
 
@@ -110,7 +116,14 @@ impl<'c> Store<'c> {
         ensures left { IfOk result (λ done. Leaves (left (slice_get (plain_code self.old.code).bodies self.old.core.now.body) (part value) self.old.core) done self.old.core self.new.core) }
         ensures refused { OnErr result (self.new ≡ self.old) }
     {
-        let Some(values) = handed_back(self.alloc, self.code, &self.environment, value)? else {
+        let Some(values) = handed_back(
+            self.alloc,
+            self.code,
+            &self.environment,
+            &self.bases,
+            value,
+        )?
+        else {
             return Ok(false);
         };
         let frame = innermost(&self.environment);

@@ -1,6 +1,7 @@
 //! What operands hold, and what lies in the environment of a store.
 
 use setl_program::Collection;
+use setl_rep_bases::BaseMarks;
 use setl_store_environment::{Copied, Environment, Memory};
 use setl_store_iterator::Iterator;
 use setl_store_slots::Held;
@@ -35,9 +36,16 @@ pub(crate) struct Frame {
 #[derive(Drop)]
 pub(crate) enum FieldContent {}
 
+/// What `ok` keeps beside the environment: the place at which `fail` goes on, and what was there of the bases.
+#[derive(Drop)]
+pub(crate) struct Kept {
+    pub at: usize,
+    pub marks: BaseMarks,
+}
+
 /// The slots, the operands, the activations, the members of collections and the fields of element blocks, and what `ok`
-/// kept, each with its place in the code.
-pub(crate) type Contents = Environment<Held, Operand, Frame, Member, FieldContent, usize>;
+/// kept.
+pub(crate) type Contents = Environment<Held, Operand, Frame, Member, FieldContent, Kept>;
 
 impl Copied for Operand {
     fn copied(&self) -> Result<Operand, Memory> {

@@ -5,29 +5,35 @@ ghost use Rattle.setl_code.specs.CodeCore.{Result as Holds, Collecting, There, G
 ghost use Rattle.setl_code.specs.MayRun.{HasSlot};
 ghost use Rattle.setl_code.specs.Plain.{plain_slot};
 ghost use Rattle.setl_value.specs.code.DatumOf.{part};
-ghost use Rattle.setl_store.specs.Flat.{operand_of, held_of, lowest_in, slots_in, place_in, HasMembers};
+ghost use Rattle.setl_store.specs.Flat.{operand_of, held_of, lowest_in, slots_in, place_in, HasMembers, IsPlainSlot};
 ghost use Rattle.setl_store.specs.Operands.{IsThere};
-ghost use Rattle.setl_store.specs.Returning.{operand_by};
+ghost use Rattle.setl_store.specs.Returning.{held_by, operand_by};
 ghost use Rattle.setl_store.specs.Standing.{over, at_place, iterator_by, variables, Shows, IsHeld, Becomes};
 
 use crate::cells::{Contents, Operand};
 use crate::changes::{add_operand, take_slot, write_slot};
 use setl_code::{Code, Slot};
 use setl_program::Collection;
+use setl_rep_bases::Bases;
+use setl_rep_plain::plain;
 use setl_store_environment::Memory;
 use setl_store_iterator::Iterator;
-use setl_store_slots::Held;
+use setl_store_slots::{Held, content};
 use setl_value::Value;
 use std::alloc::Global;
 use std::marker::Model;
 
-/// The variables, operands and activations of a run of a code, its place in the code, and what `ok` kept of them.
+/// The variables, operands and activations of a run of a code, its place in the code, the bases of its variables' forms, and
+/// what `ok` kept of all these.
 #[derive(Drop)]
 pub struct Store<'c> {
     pub(crate) alloc: Global,
     pub(crate) code: &'c Code,
     pub(crate) at: usize,
     pub(crate) environment: Contents,
+    pub(crate) bases: Bases,
+    // How often something was kept.
+    pub(crate) keeps: u64,
 }
 
 impl<'c> Model for Store<'c> {
@@ -43,9 +49,9 @@ impl<'c> Model for Store<'c> {
     ghost use Rattle.setl_code.specs.Plain.{plain_code};
     ghost use Rattle.setl_store.specs.Flat.{stands, IsSound, AllSound};
 
-    ghost view = { λ s. stands s.code.now s.at s.environment.now s.environment.kept };
+    ghost view = { λ s. stands s.code.now s.bases s.at s.environment.now s.environment.kept };
 
-    ghost invariant = { λ s. MayRun s.code.now × IsSound (plain_code s.code.now) s.environment.now × AllSound (plain_code s.code.now) s.environment.kept };
+    ghost invariant = { λ s. MayRun s.code.now × IsSound (plain_code s.code.now) s.environment.now × AllSound (plain_code s.code.now) s.bases s.keeps s.environment.now.slots s.environment.kept };
 }
 
 /// What a slot holds.
@@ -54,6 +60,8 @@ pub enum Content<'a> {
     Taken,
     Om,
     Value(&'a Value),
+    /// A value, or `om`, in a form over bases: `Store::value` gives it.
+    Based,
 }
 
 /// What the top operand is.
@@ -91,6 +99,22 @@ impl<'c> Store<'c> {
             Held::Om => Content::Om,
             Held::Value(value) => Content::Value(value),
             Held::Taken => Content::Taken,
+            Held::Based(_) => Content::Based,
+        }
+    }
+
+    /// The value, or `om`, that a variable's slot holds.
+    ///
+    /// The error is want of memory.
+    pub fn value(&self, slot: Slot) -> Result<Option<Value>, Memory>
+        requires slot { HasSlot (length self.now.core.globals) (length self.now.core.now.own) slot }
+        requires there { IsThere (held (plain_slot (variables self.now.core) slot) self.now.core) }
+        ensures { IfOk result (λ value. held (plain_slot (variables self.now.core) slot) self.now.core ≡ There (part value)) }
+    {
+        let at = place(&self.environment, slot);
+        match content(self.alloc, self.environment.slot(at), &self.bases)? {
+            Some(value) => Ok(value),
+            None => Ok(None),
         }
     }
 
@@ -120,8 +144,14 @@ impl<'c> Store<'c> {
         ensures refused { OnErr result (self.new ≡ self.old) }
     {
         let at = place(&self.environment, slot);
-        let before = take_slot(&mut self.environment, at)?;
-        Ok(held_value(before))
+        match self.environment.slot(at) {
+            Held::Based(held) => {
+                let value = plain(self.alloc, held.get(), &self.bases)?;
+                write_slot(&mut self.environment, at, Held::Taken)?;
+                Ok(value)
+            }
+            _ => Ok(held_value(take_slot(&mut self.environment, at)?)),
+        }
     }
 
     /// What the top operand is. It takes no memory.
@@ -190,7 +220,7 @@ pub(crate) fn operand(value: Option<Value>) -> Operand
 /// What a slot holds that holds this value.
 #[inline(always)]
 pub(crate) fn held(value: Option<Value>) -> Held
-    ensures { held_of result ≡ There (part value) }
+    ensures { result ≡ held_by value }
 {
     match value {
         Some(value) => Held::Value(value),
@@ -198,15 +228,15 @@ pub(crate) fn held(value: Option<Value>) -> Held
     }
 }
 
-/// The value that a slot holds, which wasn't taken.
+/// The value that a slot holds as it is.
 #[inline(always)]
 fn held_value(held: Held) -> Option<Value>
-    requires { IsThere (held_of held) }
-    ensures { held_of held ≡ There (part result) }
+    requires { IsPlainSlot held }
+    ensures { (bs : _) → held_of bs held ≡ There (part result) }
 {
     match held {
         Held::Value(value) => Some(value),
-        Held::Om | Held::Taken => None,
+        Held::Om | Held::Taken | Held::Based(_) => None,
     }
 }
 

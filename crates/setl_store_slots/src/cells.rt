@@ -1,7 +1,16 @@
 //! What slots hold.
 
+ghost use Rattle.std.specs.Prelude.{◌≡◌, IfOk};
+ghost use Rattle.std.specs.Option.{option_map};
+ghost use Rattle.setl_value.specs.code.DatumOf.{part};
+ghost use Rattle.setl_store_slots.specs.Slots.{content_of, IsStanding};
+
+use crate::shared::Shared;
+use setl_rep_bases::Bases;
+use setl_rep_plain::plain;
 use setl_store_environment::{Copied, Memory};
 use setl_value::Value;
+use std::alloc::Global;
 
 /// What a slot holds.
 #[derive(Drop)]
@@ -10,6 +19,8 @@ pub enum Held {
     Value(Value),
     /// Nothing: its value was taken, and it is stored before it is read again.
     Taken,
+    /// A value, or `om`, in a form over bases.
+    Based(Shared<setl_rep_forms::Held>),
 }
 
 impl Copied for Held {
@@ -18,6 +29,22 @@ impl Copied for Held {
             Held::Om => Ok(Held::Om),
             Held::Value(value) => Ok(Held::Value(value.copy()?)),
             Held::Taken => Ok(Held::Taken),
+            Held::Based(held) => Ok(Held::Based(held.copy()?)),
         }
+    }
+}
+
+/// The plain value, or `om`, that a slot holds, whose form stands over these bases; or None where it was taken.
+///
+/// The error is want of memory.
+pub fn content(alloc: Global, slot: &Held, bases: &Bases) -> Result<Option<Option<Value>>, Memory>
+    requires { IsStanding bases.now slot.now }
+    ensures { IfOk result (λ content. content_of bases.now slot.now ≡ option_map part content) }
+{
+    match slot {
+        Held::Om => Ok(Some(None)),
+        Held::Value(value) => Ok(Some(Some(value.copy()?))),
+        Held::Taken => Ok(None),
+        Held::Based(held) => Ok(Some(plain(alloc, held.get(), bases)?)),
     }
 }

@@ -3,7 +3,9 @@
 
 mod cells;
 mod handing;
+mod shared;
 
-pub use cells::Held;
+pub use cells::{Held, content};
 pub use handing::handed_back;
 pub use setl_store_environment::Memory;
+pub use shared::Shared;

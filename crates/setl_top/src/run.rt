@@ -49,7 +49,7 @@ fn run_code<I: Source, O: Sink>(
     ensures out { OnErr result (seen O.held O.faults out.new ≡ seen O.held O.faults out.old) }
 {
     let declarations = Declarations::new(alloc, code, declared)?;
-    let mut store = Store::start(alloc, code)?;
+    let mut store = Store::start(alloc, code, 0)?;
     let mut control = Control::new(alloc, turns)?;
     Ok(run_watched(
         &declarations,

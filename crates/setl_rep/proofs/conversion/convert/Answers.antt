@@ -3,7 +3,8 @@ use Rattle.setl_value.specs.code.DatumOf.{datum, part}
 use Rattle.setl_modes.specs.Modes.{mode_of}
 use Rattle.setl_rep_bases.specs.Bases.{named}
 use Rattle.setl_rep_forms.specs.FormOf.{form}
-use Rattle.setl_rep.specs.Standing.{held_value, AreLengthenedBy}
+use Rattle.setl_rep_plain.specs.Standing.{held_value}
+use Rattle.setl_rep.specs.Standing.{AreLengthenedBy}
 use Rattle.setl_rep.proofs.Converting.{om_has, has_form_or_om}
 use Rattle.setl_rep.proofs.conversion.convert.Goals as goal
 

@@ -16,10 +16,10 @@ returns-in-RemoteMap c =
     let e = ap form c.in-RemoteMap.is ∙ of_remote_map c.in-RemoteMap.field-0 c.in-RemoteMap.field-1 cs in
     if_ok c.slot_numbers.result
     (λ list x. same_test (λ n. is_some (slot_at c.deref.result.now n)) (has_content (form c.args.map.now)) list.items (λ n.
-      ap (λ s. is_some (slot_at s n)) c.deref.ensures
-      ∙ mapped_test cs.value n
-      ∙ ap is_some (sym ((c.slots_are_keyed.ensures (map (option_map form) cs.value)).1 n))
-      ∙ ap (λ f. is_some (content_of f n)) (sym e)) x)
+    ap (λ s. is_some (slot_at s n)) c.deref.ensures
+    ∙ mapped_test cs.value n
+    ∙ ap is_some (sym ((c.slots_are_keyed.ensures (map (option_map form) cs.value)).1 n))
+    ∙ ap (λ f. is_some (content_of f n)) (sym e)) x)
     c.slot_numbers.ensures
 
 pub returns-in-SparseMap : goal.returns-in-SparseMap

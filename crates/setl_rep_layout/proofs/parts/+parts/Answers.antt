@@ -40,9 +40,9 @@ push_map-returns t c =
     in
     on_ok c.push_entries.result
     (λ e. two_parts _ _ _ _ (after_blanks (listed (entry_texts bs (content_mode m) f list))) _
-      c.in_ok-push_word.ensures
-      (of_map_form c.contents_stand_for_images.ensures.images bs m f list c.requires.table c.requires.laid.form c.requires.laid.over c.learn.ensures c.learn_base.ensures c.in_ok-list.ensures)
-      (e ∙ ap (λ l. c.push_word.new.into.items ++ l) is))
+    c.in_ok-push_word.ensures
+    (of_map_form c.contents_stand_for_images.ensures.images bs m f list c.requires.table c.requires.laid.form c.requires.laid.over c.learn.ensures c.learn_base.ensures c.in_ok-list.ensures)
+    (e ∙ ap (λ l. c.push_word.new.into.items ++ l) is))
     c.push_entries.ensures
 
 pub push_part-returns-in-Plain : goal.push_part-returns-in-Plain

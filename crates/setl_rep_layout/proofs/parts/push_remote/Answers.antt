@@ -15,5 +15,5 @@ returns c =
     let is = ap (λ x. digits_or_none (members_at x c.args.bits.now) (values_of x)) c.at.ensures.base in
     on_ok c.push_digits.result
     (λ e. three_parts _ _ _ _ _ (digits_or_none (members_at (base_at bs c.args.b) c.args.bits.now) (values_of (base_at bs c.args.b))) _
-      c.in_ok-push_word.ensures c.in_ok-push.ensures.items (of_remote_set bs (mode_of c.args.mode.now) c.args.b c.args.bits.now c.requires.form) (e ∙ ap (λ l. c.push.new.self.items ++ l) is))
+    c.in_ok-push_word.ensures c.in_ok-push.ensures.items (of_remote_set bs (mode_of c.args.mode.now) c.args.b c.args.bits.now c.requires.form) (e ∙ ap (λ l. c.push.new.self.items ++ l) is))
     c.push_digits.ensures

@@ -16,5 +16,5 @@ returns c =
     let is = ap (λ x. after_blanks (listed (numbers_from 1 (members_at x c.args.table.now) (values_of x)))) c.at.ensures.base in
     on_ok c.push_numbers.result
     (λ e. two_parts _ _ _ _ (after_blanks (listed (numbers_from 1 (members_at (base_at bs c.args.b) c.args.table.now) (values_of (base_at bs c.args.b))))) _
-      c.in_ok-push_word.ensures (of_sparse_set bs (mode_of c.args.mode.now) c.args.b c.args.table.now c.requires.form) (e ∙ ap (λ l. c.push_word.new.into.items ++ l) is))
+    c.in_ok-push_word.ensures (of_sparse_set bs (mode_of c.args.mode.now) c.args.b c.args.table.now c.requires.form) (e ∙ ap (λ l. c.push_word.new.into.items ++ l) is))
     c.push_numbers.ensures

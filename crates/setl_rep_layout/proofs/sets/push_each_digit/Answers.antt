@@ -15,10 +15,10 @@ loop-n-preserved c =
     let e : n + 1 ≡ suc n = omega arith in
     next_part _ _ (c.digit.result ∷ []) (digits_of s (drop (n + 1) (values_of b))) _ c.in_ok-push.ensures.items
     (
-      ap (λ l. c.loop-n.into.items ++ l) (
-        ap (λ d. d ∷ digits_of s (drop (n + 1) (values_of b))) c.digit.ensures
-        ∙ ap (λ k. (if c.test.result then 49 else 48) ∷ digits_of s (drop k (values_of b))) e
-        ∙ sym (digit_next s (values_of b) n c.test.result (omega (arith, c.loop-n-test.true, c.mark-count.ensures, count_of b)) (λ d h. tested c.numbers_stand_for_members.ensures.tested b c.args.bits.now c.learn.ensures n d h ∙ ap (set.contains c.args.bits.now) (sym e) ∙ sym c.test.ensures))
-      )
-      ∙ c.loop-n.invariant
+    ap (λ l. c.loop-n.into.items ++ l) (
+    ap (λ d. d ∷ digits_of s (drop (n + 1) (values_of b))) c.digit.ensures
+    ∙ ap (λ k. (if c.test.result then 49 else 48) ∷ digits_of s (drop k (values_of b))) e
+    ∙ sym (digit_next s (values_of b) n c.test.result (omega (arith, c.loop-n-test.true, c.mark-count.ensures, count_of b)) (λ d h. tested c.numbers_stand_for_members.ensures.tested b c.args.bits.now c.learn.ensures n d h ∙ ap (set.contains c.args.bits.now) (sym e) ∙ sym c.test.ensures))
+    )
+    ∙ c.loop-n.invariant
     )

@@ -1,6 +1,5 @@
-use Rattle.std.proofs.Common.{◌≡◌, ◌+◌, ◌-◌, ◌≤◌, ◌++◌, replicate, None}
-use Rattle.setl_code.specs.CodeCore.{There}
-use Rattle.setl_store.specs.Flat.{helds}
+use Rattle.std.proofs.Common.{◌≡◌, ◌+◌, ◌-◌, ◌≤◌, ◌++◌, replicate}
+use Rattle.setl_store_slots.specs.declared.cells.Held.TheVariants as slot
 use Rattle.setl_store.proofs.activations.push_cleared.Given as goal
 
 -- so many are added
@@ -9,7 +8,7 @@ invariant-loop-i l =
     let was = l.fn.environment in
     let is = l.environment in
     record {
-      slots : helds is.now ≡ helds was.now ++ replicate l._i (There None);
+      slots : is.now.slots ≡ was.now.slots ++ replicate l._i slot.Om;
       rest : is.now ≡ record was.now { slots = is.now.slots };
       kept : is.kept ≡ was.kept;
       ready : was.ready ≤ is.ready + l._i;

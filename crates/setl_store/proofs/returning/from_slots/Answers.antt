@@ -17,7 +17,7 @@ returns c =
     let now = c.args.environment.now.now in
     let v = part c.args.value in
     IfOk-weaker c.handed_back.result
-    (λ (all : Option (Vec (Option Value))). cells.handed ps (drop c.args.lowest now.slots) v ≡ option_map (λ (values : Vec (Option Value)). map part values.items) all)
-    (λ (all : Option (Vec (Option Value))). (xs : List core.Operand) → handed ps (drop c.args.lowest (helds now)) (core.Result v ∷ xs) ≡ option_map (λ (values : Vec (Option Value)). pushed_on (map part values.items) xs) all)
-    (λ all h xs. handed_slots ps now.slots c.args.lowest v all h xs)
+    (λ (all : Option (Vec (Option Value))). cells.handed c.args.bases.now ps (drop c.args.lowest now.slots) v ≡ option_map (λ (values : Vec (Option Value)). map part values.items) all)
+    (λ (all : Option (Vec (Option Value))). (xs : List core.Operand) → handed ps (drop c.args.lowest (helds c.args.bases.now now)) (core.Result v ∷ xs) ≡ option_map (λ (values : Vec (Option Value)). pushed_on (map part values.items) xs) all)
+    (λ all h xs. handed_slots c.args.bases.now ps now.slots c.args.lowest v all h xs)
     c.handed_back.ensures

@@ -7,4 +7,4 @@ use Rattle.setl_store_slots.proofs.handing.handed_back.Given as goal
 abbrev pub invariant-loop-i : goal.invariant-loop-i
 invariant-loop-i g l =
     let n = length l.parameters - l.i in
-    handed (drop n l.parameters) (drop n (drop l.lowest l.environment.now.slots)) (part l.fn.value) ≡ Some (map part l.all.items)
+    handed l.bases (drop n l.parameters) (drop n (drop l.lowest l.environment.now.slots)) (part l.fn.value) ≡ Some (map part l.all.items)

@@ -11,13 +11,13 @@ use Rattle.setl_store.proofs.OperandLists.{Changed}
 use Rattle.setl_store.proofs.store.Store.enter.Goals as goal
 use Rattle.setl_store.proofs.store.Store.enter.Goals.{In_ok-add_activation}
 
-done : (c : In_ok-add_activation) → Changed c.self.inside.code.now 0 c.add_activation.new.environment.now c.add_activation.new.environment.kept c.args.self.now (entered c.args.body (slice_get (plain_code c.args.self.now.code).bodies c.args.body) (map part c.args.values.items) c.args.self.now.core)
+done : (c : In_ok-add_activation) → Changed c.self.inside.code.now c.self.inside.bases c.self.inside.keeps 0 c.add_activation.new.environment.now c.add_activation.new.environment.kept c.args.self.now (entered c.args.body (slice_get (plain_code c.args.self.now.code).bodies c.args.body) (map part c.args.values.items) c.args.self.now.core)
 done c =
     let e = c.self.inside.environment.now in
     let s = c.args.self.now in
     let same : s.code ≡ c.self.inside.code.now = sym (ap (λ (x : Standing). x.code) c.self.view_is) in
-    enters c.self.inside.code.now c.self.inside.at e c.add_activation.new.environment.now c.self.inside.environment.kept c.add_activation.new.environment.kept s
-    (record { body = c.args.body; from = c.self.inside.at + 1; slots = c.slots.result; operands = c.operands.result }) (map part c.args.values.items) c.name_count-names.result c.self.invariant c.self.view_is
+    enters c.self.inside.code.now c.self.inside.bases c.self.inside.keeps c.self.inside.at e c.add_activation.new.environment.now c.self.inside.environment.kept c.add_activation.new.environment.kept s
+    (record { body = c.args.body; from = c.self.inside.at + 1; slots = c.slots.result; operands = c.operands.result }) c.args.values.items c.name_count-names.result c.self.invariant c.self.view_is
     (record {
       there = subst (λ (code : Code). c.args.body < length code.bodies) same c.requires.there;
       each =

@@ -8,7 +8,7 @@ use Rattle.setl_store.proofs.store.Store.has_iterators.Goals.{After-operand}
 
 pub returns-then-operands-lowest : goal.returns-then-operands-lowest
 returns-then-operands-lowest c =
-    few_left c.self.inside.code.now c.self.inside.at c.self.inside.environment.now c.self.inside.environment.kept c.args.self.now c.self.view_is c.operands-operands.result c.lowest.result c.args.count
+    few_left c.self.inside.code.now c.self.inside.bases c.self.inside.at c.self.inside.environment.now c.self.inside.environment.kept c.args.self.now c.self.view_is c.operands-operands.result c.lowest.result c.args.count
     c.operands-operands.ensures c.lowest.ensures c.if-operands-lowest.true
 
 pub loop-k-init : goal.loop-k-init
@@ -17,7 +17,7 @@ loop-k-init c = ap (λ n. without_iterators n c.args.self.now.core.now.operands)
 -- the k-th from the top
 there : (c : After-operand) → drop c.loop-k.k c.args.self.now.core.now.operands ≡ operand_of c.self.inside.environment.now.members c.operand.result.now ∷ drop (c.loop-k.k + 1) c.args.self.now.core.now.operands
 there c =
-    at_from_top c.self.inside.code.now c.self.inside.at c.self.inside.environment.now c.self.inside.environment.kept c.args.self.now c.self.invariant.1 c.self.view_is c.operands-operands.result c.lowest.result c.loop-k.k c.operand.result.now
+    at_from_top c.self.inside.code.now c.self.inside.bases c.self.inside.at c.self.inside.environment.now c.self.inside.environment.kept c.args.self.now c.self.invariant.1 c.self.view_is c.operands-operands.result c.lowest.result c.loop-k.k c.operand.result.now
     c.operands-operands.ensures c.lowest.ensures (omega (arith, c.loop-k-test.true, c.if-operands-lowest.false)) c.operand.ensures
 
 pub loop-k-preserved : goal.loop-k-preserved

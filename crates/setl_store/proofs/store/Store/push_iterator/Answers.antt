@@ -5,10 +5,10 @@ use Rattle.setl_store.proofs.OperandLists.{Changed, pushes, got_iterator}
 use Rattle.setl_store.proofs.store.Store.push_iterator.Goals as goal
 use Rattle.setl_store.proofs.store.Store.push_iterator.Goals.{In_ok-add_operand}
 
-done : (c : In_ok-add_operand) → Changed c.self.inside.code.now c.self.inside.at c.add_operand.new.environment.now c.add_operand.new.environment.kept c.args.self.now (over ((iterator_by c.args.iterator.pairs c.args.iterator.left) ∷ c.args.self.now.core.now.operands) c.args.self.now.core)
+done : (c : In_ok-add_operand) → Changed c.self.inside.code.now c.self.inside.bases c.self.inside.keeps c.self.inside.at c.add_operand.new.environment.now c.add_operand.new.environment.kept c.args.self.now (over ((iterator_by c.args.iterator.pairs c.args.iterator.left) ∷ c.args.self.now.core.now.operands) c.args.self.now.core)
 done c =
     let e = c.self.inside.environment.now in
-    pushes c.self.inside.code.now c.self.inside.at e c.add_operand.new.environment.now c.self.inside.environment.kept c.add_operand.new.environment.kept c.args.self.now
+    pushes c.self.inside.code.now c.self.inside.bases c.self.inside.keeps c.self.inside.at e c.add_operand.new.environment.now c.self.inside.environment.kept c.add_operand.new.environment.kept c.args.self.now
     (operand.Iterator c.args.iterator) (iterator_by c.args.iterator.pairs c.args.iterator.left) c.self.invariant c.self.view_is c.in_ok-add_operand.ensures.now c.in_ok-add_operand.ensures.kept (c.self.invariant.1).members (got_iterator c.args.iterator.pairs c.args.iterator.left) refl
 
 pub returns : goal.returns

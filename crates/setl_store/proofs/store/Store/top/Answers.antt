@@ -8,20 +8,20 @@ use Rattle.setl_store.proofs.store.Store.top.Goals as goal
 
 pub returns-in-Om : goal.returns-in-Om
 returns-in-Om c =
-    let is = top_is c.self.inside.code.now c.self.inside.at c.self.inside.environment.now c.self.inside.environment.kept c.args.self.now (c.operands-count.result - 1) c.operand.result.now c.self.invariant.1 c.self.view_is (omega (arith, lowest_below (plain_code c.self.inside.code.now) c.self.inside.environment.now c.self.invariant.1, c.if-count-lowest.false, c.lowest.ensures, c.operands-count.ensures)) (omega (arith, c.operands-count.ensures)) c.operand.ensures in
+    let is = top_is c.self.inside.code.now c.self.inside.bases c.self.inside.at c.self.inside.environment.now c.self.inside.environment.kept c.args.self.now (c.operands-count.result - 1) c.operand.result.now c.self.invariant.1 c.self.view_is (omega (arith, lowest_below (plain_code c.self.inside.code.now) c.self.inside.environment.now c.self.invariant.1, c.if-count-lowest.false, c.lowest.ensures, c.operands-count.ensures)) (omega (arith, c.operands-count.ensures)) c.operand.ensures in
     subst (λ l. Shows l top.Om) (sym (is ∙ ap (λ o. operand_of c.self.inside.environment.now.members o ∷ drop 1 c.args.self.now.core.now.operands) c.in-Om.is)) tt
 
 pub returns-in-Value : goal.returns-in-Value
 returns-in-Value c =
-    let is = top_is c.self.inside.code.now c.self.inside.at c.self.inside.environment.now c.self.inside.environment.kept c.args.self.now (c.operands-count.result - 1) c.operand.result.now c.self.invariant.1 c.self.view_is (omega (arith, lowest_below (plain_code c.self.inside.code.now) c.self.inside.environment.now c.self.invariant.1, c.if-count-lowest.false, c.lowest.ensures, c.operands-count.ensures)) (omega (arith, c.operands-count.ensures)) c.operand.ensures in
+    let is = top_is c.self.inside.code.now c.self.inside.bases c.self.inside.at c.self.inside.environment.now c.self.inside.environment.kept c.args.self.now (c.operands-count.result - 1) c.operand.result.now c.self.invariant.1 c.self.view_is (omega (arith, lowest_below (plain_code c.self.inside.code.now) c.self.inside.environment.now c.self.invariant.1, c.if-count-lowest.false, c.lowest.ensures, c.operands-count.ensures)) (omega (arith, c.operands-count.ensures)) c.operand.ensures in
     subst (λ l. Shows l (top.Value (record { ref_ptr = (c.operand.result.ref_ptr.0, c.operand.result.ref_ptr.1 + 16); now = c.in-Value.value }))) (sym (is ∙ ap (λ o. operand_of c.self.inside.environment.now.members o ∷ drop 1 c.args.self.now.core.now.operands) c.in-Value.is)) refl
 
 pub returns-in-Iterator : goal.returns-in-Iterator
 returns-in-Iterator c =
-    let is = top_is c.self.inside.code.now c.self.inside.at c.self.inside.environment.now c.self.inside.environment.kept c.args.self.now (c.operands-count.result - 1) c.operand.result.now c.self.invariant.1 c.self.view_is (omega (arith, lowest_below (plain_code c.self.inside.code.now) c.self.inside.environment.now c.self.invariant.1, c.if-count-lowest.false, c.lowest.ensures, c.operands-count.ensures)) (omega (arith, c.operands-count.ensures)) c.operand.ensures in
+    let is = top_is c.self.inside.code.now c.self.inside.bases c.self.inside.at c.self.inside.environment.now c.self.inside.environment.kept c.args.self.now (c.operands-count.result - 1) c.operand.result.now c.self.invariant.1 c.self.view_is (omega (arith, lowest_below (plain_code c.self.inside.code.now) c.self.inside.environment.now c.self.invariant.1, c.if-count-lowest.false, c.lowest.ensures, c.operands-count.ensures)) (omega (arith, c.operands-count.ensures)) c.operand.ensures in
     subst (λ l. Shows l top.Iterator) (sym (is ∙ ap (λ o. operand_of c.self.inside.environment.now.members o ∷ drop 1 c.args.self.now.core.now.operands) c.in-Iterator.is)) (shows_iterator c.in-Iterator.field-0.pairs c.in-Iterator.field-0.left (drop 1 c.args.self.now.core.now.operands))
 
 pub returns-in-Collection : goal.returns-in-Collection
 returns-in-Collection c =
-    let is = top_is c.self.inside.code.now c.self.inside.at c.self.inside.environment.now c.self.inside.environment.kept c.args.self.now (c.operands-count.result - 1) c.operand.result.now c.self.invariant.1 c.self.view_is (omega (arith, lowest_below (plain_code c.self.inside.code.now) c.self.inside.environment.now c.self.invariant.1, c.if-count-lowest.false, c.lowest.ensures, c.operands-count.ensures)) (omega (arith, c.operands-count.ensures)) c.operand.ensures in
+    let is = top_is c.self.inside.code.now c.self.inside.bases c.self.inside.at c.self.inside.environment.now c.self.inside.environment.kept c.args.self.now (c.operands-count.result - 1) c.operand.result.now c.self.invariant.1 c.self.view_is (omega (arith, lowest_below (plain_code c.self.inside.code.now) c.self.inside.environment.now c.self.invariant.1, c.if-count-lowest.false, c.lowest.ensures, c.operands-count.ensures)) (omega (arith, c.operands-count.ensures)) c.operand.ensures in
     subst (λ l. Shows l (top.Collection c.in-Collection.what)) (sym (is ∙ ap (λ o. operand_of c.self.inside.environment.now.members o ∷ drop 1 c.args.self.now.core.now.operands) c.in-Collection.is)) refl

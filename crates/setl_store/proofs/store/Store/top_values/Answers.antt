@@ -8,25 +8,25 @@ use Rattle.setl_store.proofs.store.Store.top_values.Goals as goal
 
 pub overflow_sub-operands : goal.overflow_sub-operands
 overflow_sub-operands c =
-    omega (arith, c.loop-k-test.true, c.operands-operands.ensures, values_there c.self.inside.code.now c.self.inside.at c.self.inside.environment.now c.self.inside.environment.kept c.args.self.now c.self.view_is c.args.count c.requires)
+    omega (arith, c.loop-k-test.true, c.operands-operands.ensures, values_there c.self.inside.code.now c.self.inside.bases c.self.inside.at c.self.inside.environment.now c.self.inside.environment.kept c.args.self.now c.self.view_is c.args.count c.requires)
 
 pub overflow_sub-operands-in-loop-k : goal.overflow_sub-operands-in-loop-k
 overflow_sub-operands-in-loop-k c =
-    omega (arith, c.loop-k-test.true, c.operands-operands.ensures, values_there c.self.inside.code.now c.self.inside.at c.self.inside.environment.now c.self.inside.environment.kept c.args.self.now c.self.view_is c.args.count c.requires)
+    omega (arith, c.loop-k-test.true, c.operands-operands.ensures, values_there c.self.inside.code.now c.self.inside.bases c.self.inside.at c.self.inside.environment.now c.self.inside.environment.kept c.args.self.now c.self.view_is c.args.count c.requires)
 
 pub operand-operand-requires : goal.operand-operand-requires
 operand-operand-requires c =
-    omega (arith, c.loop-k-test.true, c.operands-operands.ensures, values_there c.self.inside.code.now c.self.inside.at c.self.inside.environment.now c.self.inside.environment.kept c.args.self.now c.self.view_is c.args.count c.requires)
+    omega (arith, c.loop-k-test.true, c.operands-operands.ensures, values_there c.self.inside.code.now c.self.inside.bases c.self.inside.at c.self.inside.environment.now c.self.inside.environment.kept c.args.self.now c.self.view_is c.args.count c.requires)
 
 pub served-requires : goal.served-requires
 served-requires c =
-    top_serves c.self.inside.code.now c.self.inside.at c.self.inside.environment.now c.self.inside.environment.kept c.args.self.now c.self.invariant.1 c.self.view_is
+    top_serves c.self.inside.code.now c.self.inside.bases c.self.inside.at c.self.inside.environment.now c.self.inside.environment.kept c.args.self.now c.self.invariant.1 c.self.view_is
     c.operands-operands.result c.args.count c.loop-k.k c.operand-operand.result.now c.operands-operands.ensures c.loop-k-test.true c.requires c.operand-operand.ensures
 
 pub loop-k-preserved : goal.loop-k-preserved
 loop-k-preserved c =
     c.loop-k.invariant
-    ∙ one_more_copied c.self.inside.code.now c.self.inside.at c.self.inside.environment.now c.self.inside.environment.kept c.args.self.now c.self.invariant.1 c.self.view_is
+    ∙ one_more_copied c.self.inside.code.now c.self.inside.bases c.self.inside.at c.self.inside.environment.now c.self.inside.environment.kept c.args.self.now c.self.invariant.1 c.self.view_is
     c.operands-operands.result c.args.count c.loop-k.k c.operand-operand.result.now c.operands-operands.ensures c.loop-k-test.true c.requires c.operand-operand.ensures
     c.loop-k.values.items c.in_ok-served.field-0 c.in_ok-served.ensures
     ∙ ap (λ l. popped (c.args.count - (c.loop-k.k + 1)) (reverse (map part l)) (drop (c.loop-k.k + 1) c.args.self.now.core.now.operands)) (sym {A = List (Option Value)} c.in_ok-push.ensures.items)

@@ -1,0 +1,41 @@
+//! What several slots share.
+
+ghost use Rattle.std.specs.Prelude.{◌≡◌, IfOk};
+
+use setl_store_environment::Memory;
+use std::marker::Model;
+use std::rc::Rc;
+
+/// A value with several owners, which contracts see as itself.
+#[derive(Drop)]
+pub struct Shared<T> {
+    rc: Rc<T>,
+}
+
+impl<T> Model for Shared<T> {
+    ghost Value = { T };
+
+    ghost coded = { T.code };
+
+    ghost view = { λ s. s.rc.value };
+}
+
+impl<T> Shared<T> {
+    /// What is shared.
+    pub fn get(&self) -> &T
+        ensures { result.now ≡ self.now }
+    {
+        &self.rc
+    }
+}
+
+impl<T: Drop> Shared<T> {
+    /// One more owner. The error is that there are too many.
+    pub fn copy(&self) -> Result<Shared<T>, Memory>
+        ensures { IfOk result (λ s. s ≡ self.now) }
+    {
+        Ok(Shared {
+            rc: self.rc.clone()?,
+        })
+    }
+}
