@@ -43,3 +43,15 @@ impl Held {
         }
     }
 }
+
+/// A clone is `copy`.
+impl Clone for Held {
+    ghost use Rattle.std.specs.Prelude.{◌≡◌};
+    ghost use Rattle.setl_rep_forms.specs.FormOf.{form};
+
+    ghost is_clone = { λ h copy. form copy ≡ form h };
+
+    fn clone(&self) -> Result<Held, Memory> {
+        self.copy()
+    }
+}
