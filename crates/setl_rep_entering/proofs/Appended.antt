@@ -101,7 +101,7 @@ has_places_in tests gathers bs n m d i x = by (is_named bs n i)
     by true = has_set tests gathers x (elements_at i.base m d)
     by false = refl
 
-places_rise : Gathers → (bs : BasesState) (n : ℕ) (m : Mode) (d : Datum) (i : BaseId) → IsRising (places_in bs n m d i)
+pub places_rise : Gathers → (bs : BasesState) (n : ℕ) (m : Mode) (d : Datum) (i : BaseId) → IsRising (places_in bs n m d i)
 unfolding IsStrictlySortedBy
 places_rise gathers bs n m d i = by (is_named bs n i)
   where

@@ -7,3 +7,4 @@ pub mod Sorting
 pub mod Undoing
 pub mod Lengthened
 pub mod Taking
+pub mod NewPlaces

@@ -1,5 +1,5 @@
 -- What is so of bases that were lengthened by the places of a value.
-use Rattle.std.specs.Prelude.{◌≡◌, ℕ, true, false, IsSome}
+use Rattle.std.specs.Prelude.{◌≡◌, ◌⊎◌, ℕ, true, false, IsSome}
 use Rattle.setl_value.specs.Datum.{Datum}
 use Rattle.setl_set.specs.Sets.{has_datum}
 use Rattle.setl_modes.specs.Modes.{Mode}
@@ -42,3 +42,10 @@ BlocksAreKept = (m : Mode) (d : Datum) (n : ℕ) (bs cs : BasesState) → AreLen
 -- where each value at a place was a member, nothing changes
 abbrev pub MembersChangeNothing : Type 0
 MembersChangeNothing = (m : Mode) (d : Datum) (n : ℕ) (bs cs : BasesState) → PlacesAreFound bs n m d → AreLengthened m d n bs cs → cs ≡ bs
+
+-- a value lengthens bases as the part of it does that has all of its places but members
+abbrev pub PartsLengthenAlike : Type 0
+PartsLengthenAlike =
+    (m k : Mode) (d e : Datum) (n : ℕ) (bs cs : BasesState) → ((b : ℕ) (x : Datum) → has_datum x (elements_at b k e) ≡ true → has_datum x (elements_at b m d) ≡ true)
+    → ((b : ℕ) (x : Datum) → has_datum x (elements_at b m d) ≡ true → (has_datum x (elements_at b k e) ≡ true) ⊎ IsSome (find (base_at bs (named bs n b)) x))
+    → AreLengthened k e n bs cs → AreLengthened m d n bs cs

@@ -1,7 +1,7 @@
 //! Laws of bases that were lengthened by the places of a value. The functions have no effect: each hands a proof the laws
 //! that it is named for.
 
-ghost use Rattle.setl_rep_entering.specs.Laws.{MembersAreLengthened, OthersStay, NamesStay, PlacesAreMembers, BlocksAreKept, MembersChangeNothing};
+ghost use Rattle.setl_rep_entering.specs.Laws.{MembersAreLengthened, OthersStay, NamesStay, PlacesAreMembers, BlocksAreKept, MembersChangeNothing, PartsLengthenAlike};
 
 /// Each base that the mode names has the values at its places behind its members, and all others are as before.
 pub fn bases_are_lengthened()
@@ -22,5 +22,15 @@ pub fn places_are_members()
     setl_set::laws::tests_are_exact();
     setl_set::laws::operations_have_their_members();
     setl_modes_places::places_are_named();
+    setl_rep_bases::laws::instances_are_read();
+}
+
+/// A value lengthens bases as the part of it does that has all of its places but members.
+pub fn parts_lengthen_alike()
+    ensures { PartsLengthenAlike }
+{
+    setl_set::laws::rising_lists_agree();
+    setl_set::laws::tests_are_exact();
+    setl_set::laws::operations_have_their_members();
     setl_rep_bases::laws::instances_are_read();
 }
