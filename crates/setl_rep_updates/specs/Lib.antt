@@ -1,0 +1,3 @@
+pub mod InForm
+pub mod Updates
+pub mod code

@@ -1,0 +1,11 @@
+//! Values in their declared forms are updated in place.
+//!
+//! An update tests the new part alone, enters it into its base, and changes the form where it stands: it makes no plain
+//! value. Where it has no such way, it says so and leaves all as it was.
+#![tactic(auto)]
+
+pub mod laws;
+mod sets;
+
+pub use sets::include;
+pub use std::alloc::AllocError as Memory;

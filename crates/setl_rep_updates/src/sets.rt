@@ -1,0 +1,167 @@
+//! A value comes into a set.
+
+ghost use Rattle.std.specs.Prelude.{◌≡◌, ◌≤◌, ℕ, nat_lt, ◌&&◌, true, IfOk, OnOk, OnErr, Some, IsSome, [], ◌∷◌};
+ghost use Rattle.setl_value.specs.Datum.{depth, part_depth};
+ghost use Rattle.setl_value.specs.code.DatumOf.{datum};
+ghost use Rattle.setl_modes.specs.Fits.{datum_fits};
+ghost use Rattle.setl_modes.specs.declared.mode.Form.{Form as Attribute};
+ghost use Rattle.setl_modes.specs.Modes.{mode_of, Sets};
+ghost use Rattle.setl_operators_table.specs.declared.Operator.TheVariants.{With};
+ghost use Rattle.setl_operators_table.specs.Operators.{op_of};
+ghost use Rattle.setl_operators_table.specs.Outcome.{Gives};
+ghost use Rattle.setl_base.specs.Base.{find};
+ghost use Rattle.setl_rep_bases.specs.Bases.{base_at, named};
+ghost use Rattle.setl_rep_forms.specs.FormOf.{form};
+ghost use Rattle.setl_rep_forms.specs.Stands.{stands, IsOver};
+ghost use Rattle.setl_rep_entering.specs.Entering.{BasesAreThere};
+ghost use Rattle.setl_rep_kernels.specs.Kernels.{is_numbered, IsAlike};
+ghost use Rattle.setl_rep_building.specs.HasForm.{base_of};
+ghost use Rattle.setl_rep_updates.specs.InForm.{IsInForm};
+ghost use Rattle.setl_rep_updates.specs.Updates.{includes, includes_one, IsUpdate};
+ghost use Rattle.setl_rep_updates.specs.code.Entered.{HasNumbersOf, IsElementOn, IsPutIn};
+
+use crate::Memory;
+use setl_modes::Mode;
+use setl_modes_fit::fits;
+use setl_rep_based::handle;
+use setl_rep_bases::{BaseId, Bases};
+use setl_rep_entering::{base_marks, enter_places, take_back};
+use setl_rep_forms::Held;
+use setl_rep_kernels::change;
+use setl_value::Value;
+use std::alloc::{AllocError, Global};
+
+/// `s with x`, in place: a set on a base that is held as numbers takes a value in, which is entered into its base first.
+///
+/// Ok(false) comes where the set isn't held so, the value doesn't fit the mode of its members, or it is 500 deep. After that,
+/// and after want of memory, which is the error, the set and the bases are as before. Nothing is charged. Where nobody else
+/// holds the set, the cost is near linear in the size of `x` alone.
+pub fn include(
+    alloc: Global,
+    mode: &Mode,
+    s: &mut Held,
+    x: &Value,
+    bases: &mut Bases,
+    instance: u64,
+) -> Result<bool, Memory>
+    requires { IsInForm bases.old instance (mode_of mode.now) (form s.old) }
+    ensures kernel { IfOk result (λ t. t ≡ includes (mode_of mode.now) (form s.old) (datum x.now)) }
+    ensures update { IsUpdate (mode_of mode.now) instance With (Some (datum x.now)) bases.old bases.new (form s.old) (form s.new) result }
+{
+    match mode {
+        Mode::Set(_, m) => include_in(alloc, m.get(), s, x, bases, instance),
+        _ => Ok(false),
+    }
+}
+
+// The same for a set of members of this mode.
+fn include_in(
+    alloc: Global,
+    m: &Mode,
+    s: &mut Held,
+    x: &Value,
+    bases: &mut Bases,
+    instance: u64,
+) -> Result<bool, Memory>
+    requires { (a : Attribute) × IsInForm bases.old instance (Sets a (mode_of m.now)) (form s.old) }
+    ensures kernel { IfOk result (λ t. t ≡ includes_one (mode_of m.now) (form s.old) (datum x.now)) }
+    ensures update { (a : Attribute) → IsInForm bases.old instance (Sets a (mode_of m.now)) (form s.old) → IsUpdate (Sets a (mode_of m.now)) instance With (Some (datum x.now)) bases.old bases.new (form s.old) (form s.new) result }
+{
+    setl_rep_forms::laws::forms_stay();
+    setl_rep_entering::laws::places_are_members();
+    setl_rep_entering::laws::parts_lengthen_alike();
+    crate::laws::forms_of_modes_stay();
+    let Some(b) = base_of(m) else {
+        return Ok(false);
+    };
+    if !takes(m, s, x)? {
+        return Ok(false);
+    }
+    let i = bases.named(instance, b);
+    put_in(alloc, m, i, s, x, bases, instance)?;
+    Ok(true)
+}
+
+// The base on which values of a mode are elements.
+fn base_of(mode: &Mode) -> Option<u32>
+    ensures { result ≡ base_of (mode_of mode.now) }
+{
+    match mode {
+        Mode::Elmt(b, _) => Some(*b),
+        _ => None,
+    }
+}
+
+// Whether a value is taken into a set of elements of this mode. An error is want of memory.
+fn takes(m: &Mode, s: &Held, x: &Value) -> Result<bool, Memory>
+    ensures { IfOk result (λ t. t ≡ (is_numbered (form s.now) && (nat_lt (depth (datum x.now)) 500 && datum_fits (mode_of m.now) (datum x.now)))) }
+{
+    if is_numbered(s) && x.depth() < 500 {
+        return Ok(fits(m, &Some(x.copy()?)));
+    }
+    Ok(false)
+}
+
+// Whether a set is held as numbers.
+fn is_numbered(s: &Held) -> bool
+    ensures { result ≡ is_numbered (form s.now) }
+{
+    match s {
+        Held::Remote(_, _) | Held::Sparse(_, _) => true,
+        _ => false,
+    }
+}
+
+// Enters a value into its base, and puts it into a set of numbers of that base. After an error, which is want of memory, the
+// bases and the set are as before.
+fn put_in(
+    alloc: Global,
+    m: &Mode,
+    b: BaseId,
+    s: &mut Held,
+    x: &Value,
+    bases: &mut Bases,
+    instance: u64,
+) -> Result<(), Memory>
+    requires element { IsElementOn (named bases.old instance) b (mode_of m.now) }
+    requires there { BasesAreThere bases.old instance (mode_of m.now) }
+    requires fits { datum_fits (mode_of m.now) (datum x.now) ≡ true }
+    requires numbers { HasNumbersOf b (form s.old) }
+    requires over { IsOver bases.old (form s.old) }
+    requires shallow { part_depth (stands bases.old (form s.old)) ≤ 500 }
+    ensures put { OnOk result (IsPutIn (mode_of m.now) instance (datum x.now) bases.old bases.new (form s.old) (form s.new)) }
+    ensures refused { OnErr result ((bases.new ≡ bases.old) × (form s.new ≡ form s.old)) }
+{
+    setl_rep_forms::laws::forms_stay();
+    setl_rep_entering::laws::places_are_members();
+    setl_rep_entering::laws::bases_are_lengthened();
+    let marks = base_marks(alloc, m, instance, bases)?;
+    enter_places(alloc, m, x, instance, bases)?;
+    match put_member(s, b, x, bases) {
+        Ok(()) => Ok(()),
+        Err(e) => {
+            take_back(marks, bases);
+            Err(e)
+        }
+    }
+}
+
+// Puts a member of its base into a set of numbers. After an error, which is want of memory or that the value is 500 deep, the
+// set is as before.
+fn put_member(s: &mut Held, b: BaseId, x: &Value, bases: &Bases) -> Result<(), Memory>
+    requires numbers { HasNumbersOf b (form s.old) }
+    requires over { IsOver bases.now (form s.old) }
+    requires shallow { part_depth (stands bases.now (form s.old)) ≤ 500 }
+    requires found { IsSome (find (base_at bases.now b) (datum x.now)) }
+    ensures value { OnOk result ((left : ℕ) → op_of With (stands bases.now (form s.old) ∷ Some (datum x.now) ∷ []) left ≡ Gives (stands bases.now (form s.new)) 0) }
+    ensures over { IsOver bases.now (form s.new) }
+    ensures shallow { part_depth (stands bases.now (form s.new)) ≤ 500 }
+    ensures alike { IsAlike (form s.old) (form s.new) }
+    ensures refused { OnErr result (form s.new ≡ form s.old) }
+{
+    let e = Held::Elt(b, handle(bases.at(b), x));
+    match change(s, &e, true, bases) {
+        Ok(_) => Ok(()),
+        Err(_) => Err(AllocError),
+    }
+}
