@@ -1,5 +1,5 @@
 -- A variable takes the new whole of an update where the new part says so.
-use Rattle.std.proofs.Common.{◌≡◌, ◌∙◌, ℕ, ◌+◌, ◌-◌, Bool, true, false, List, [], ◌∷◌, map, reverse, Option, Some, None, Result, Ok, Err, refl, sym, ap, subst}
+use Rattle.std.proofs.Common.{◌≡◌, ◌∙◌, ℕ, ◌+◌, ◌-◌, Bool, true, List, [], ◌∷◌, reverse, Option, Some, None, Result, Ok, Err, refl, sym, ap, subst}
 use Rattle.std.specs.Prelude.{OnErr, option_and_then}
 use Rattle.setl_value.specs.Datum.{Datum, bool, int, text, atom, tuple, set, Parts, Elements, set_of, tuple_of, elements_of, element_list, parts_of, part_list, elements_of-element_list, parts_of-part_list}
 use Rattle.setl_value.specs.Order.{IsRising}
@@ -10,7 +10,7 @@ use Rattle.setl_operators_table.specs.declared.Operator.{Operator}
 use Rattle.setl_operators_table.specs.declared.OpFault.{OpFault}
 use Rattle.setl_operators_table.specs.Operators.{op_of}
 use Rattle.setl_operators_table.specs.Outcome.{Outcome, Gives, Fails, Overspends, adding, then_with}
-use Rattle.setl_modes.specs.Modes.{Mode, mode_of}
+use Rattle.setl_modes.specs.Modes.{Mode}
 use Rattle.setl_modes.specs.Fits.{datum_fits, fits, is_taken}
 use Rattle.setl_modes_parts.specs.Parts.{combines}
 use Rattle.setl_modes_parts.specs.Laws.{Fitting as Fits}
@@ -255,11 +255,3 @@ taken_sure laws holds modes old gone x end d at w w' turns t declared fit takes 
 -- where operands were popped, what declared variables hold is the same
 pub fitting_popped : (modes : Modes) (old mid : Standing) → mid ≡ record old { core = over mid.core.now.operands old.core } → Fitting modes old.core → Fitting modes mid.core
 fitting_popped modes old mid m f = subst (λ (t : Standing). Fitting modes t.core) (sym m) f
-
--- ---- loops over selectors
-
-pub one_mode_more : (m n k : Mode) (at ss : List Selected) (s : Selected) → part_mode m at ≡ part_mode n (s ∷ ss) → mode_at n s ≡ Some k → part_mode m at ≡ part_mode k ss
-one_mode_more m n k at ss s h e = h ∙ ap (option_and_then (λ j. part_mode j ss)) e
-
-pub no_mode : (m n : Mode) (at ss : List Selected) (s : Selected) → part_mode m at ≡ part_mode n (s ∷ ss) → mode_at n s ≡ None → part_mode m at ≡ None
-no_mode m n at ss s h e = h ∙ ap (option_and_then (λ j. part_mode j ss)) e

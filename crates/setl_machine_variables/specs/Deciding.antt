@@ -1,5 +1,5 @@
 -- Which updates of a variable keep that it holds what its declaration takes, as the new part alone tells.
-use Rattle.std.specs.Prelude.{◌≡◌, Bool, true, false, List, [], ◌∷◌, Option, Some, None, option_and_then}
+use Rattle.std.specs.Prelude.{Bool, true, false, List, [], ◌∷◌, Option, Some, None, option_and_then}
 use Rattle.std.specs.Option.{option_map}
 use Rattle.setl_value.specs.Datum.{Datum}
 use Rattle.setl_modes.specs.Modes.{Mode, mode_of}
