@@ -1,6 +1,6 @@
 //! Whether a variable takes the new whole of an update, as the new part alone tells.
 
-ghost use Rattle.std.specs.Prelude.{◌≡◌, true, map, option_map, IfOk};
+ghost use Rattle.std.specs.Prelude.{◌≡◌, true, map, Option, option_map, IfOk};
 ghost use Rattle.setl_code_declared.specs.Laws.{HeldFits};
 ghost use Rattle.setl_machine_control.specs.Declaring.{Modes, tested, Keeps};
 ghost use Rattle.setl_machine_updates.specs.Selectors.{selected};
