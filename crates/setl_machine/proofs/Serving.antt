@@ -1,5 +1,5 @@
 -- What a table serves goes on being served.
-use Rattle.std.proofs.Common.{◌≡◌, ◌∙◌, ℕ, suc, List, [], ◌∷◌, Option, None, Some, refl, sym, ap, subst}
+use Rattle.std.proofs.Common.{◌≡◌, ◌∙◌, ℕ, List, [], ◌∷◌, Option, None, Some, refl, sym, subst}
 use Rattle.setl_model_runs.specs.Run.{run}
 use Rattle.setl_model_runs.specs.Variable.{Global, Own, Bound}
 use Rattle.setl_code.specs.Code.{Code}

@@ -1,4 +1,4 @@
-use Rattle.std.proofs.Common.{◌≡◌, ◌∙◌, ◌+◌, ◌*◌, refl, sym, ap, subst, arith}
+use Rattle.std.proofs.Common.{◌≡◌, ◌∙◌, ◌+◌, ◌*◌, refl, ap, arith}
 use Rattle.setl_code.specs.Plain.{plain_code}
 use Rattle.setl_machine_control.specs.Declaring.{modes_of}
 use Rattle.setl_machine_control.specs.declared.end.End.TheVariants.{Paused, NoMemory}
