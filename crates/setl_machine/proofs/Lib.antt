@@ -15,5 +15,6 @@ pub mod Printing
 pub mod Staying
 pub mod Told
 pub mod Hearing
+pub mod Serving
 pub mod AtOnce
 pub mod ByFamily

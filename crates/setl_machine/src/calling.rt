@@ -35,7 +35,7 @@ pub(crate) fn do_call(
 ) -> Result<End, Memory>
     requires is { family_of what.now ≡ Family.Calls }
     requires few { store.old.core.now.at + 1 < 2 ^ 64 }
-    requires serves { Serves declarations.now store.old.code }
+    requires serves { Serves declarations.now store.old }
     ensures did { IfOk result (λ end. DoesBy (modes_of declarations.now) store.old control.old line (plain_instr (variables store.old.core) what.now) store.new control.new end) }
     ensures reader { control.new.reader ≡ control.old.reader }
 {
@@ -57,7 +57,7 @@ pub(crate) fn calls_telling(
     requires is { family_of what.now ≡ Family.Calls }
     requires few { store.old.core.now.at + 1 < 2 ^ 64 }
     requires fits { InstrFits (length store.old.core.globals) (length store.old.core.now.own) what.now }
-    requires serves { Serves declarations.now store.old.code }
+    requires serves { Serves declarations.now store.old }
     ensures did { DoesTelling (modes_of declarations.now) store.old control.old line (plain_instr (variables store.old.core) what.now) store.new control.new result }
     ensures reader { control.new.reader ≡ control.old.reader }
 {
@@ -165,7 +165,7 @@ fn call_telling(
     control: &mut Control,
 ) -> Result<Vec<Event>, End>
     requires few { store.old.core.now.at + 1 < 2 ^ 64 }
-    requires serves { Serves declarations.now store.old.code }
+    requires serves { Serves declarations.now store.old }
     ensures did { DoesTelling (modes_of declarations.now) store.old control.old line (CallBody body) store.new control.new result }
     ensures reader { control.new.reader ≡ control.old.reader }
 {

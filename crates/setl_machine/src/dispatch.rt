@@ -38,7 +38,7 @@ pub(crate) fn quiet_step(
     requires quiet { ¬ (family_of what.now ≡ Family.Outside) }
     requires few { store.old.core.now.at + 1 < 2 ^ 64 }
     requires fits { InstrFits (length store.old.core.globals) (length store.old.core.now.own) what.now }
-    requires serves { Serves declarations.now store.old.code }
+    requires serves { Serves declarations.now store.old }
     ensures did { (rest : List ℕ) → Quiet (modes_of declarations.now) (next_of (modes_of declarations.now) (plain_code store.old.code) line (plain_instr (variables store.old.core) what.now) (stood_for store.old.core control.old rest)) (stood_for store.new.core control.new rest) result }
     ensures code { result ≡ End.Paused → store.new.code ≡ store.old.code }
     ensures reader { control.new.reader ≡ control.old.reader }
@@ -60,7 +60,7 @@ fn do_quiet(
     requires quiet { ¬ (family_of what.now ≡ Family.Outside) }
     requires few { store.old.core.now.at + 1 < 2 ^ 64 }
     requires fits { InstrFits (length store.old.core.globals) (length store.old.core.now.own) what.now }
-    requires serves { Serves declarations.now store.old.code }
+    requires serves { Serves declarations.now store.old }
     ensures did { IfOk result (λ end. DoesBy (modes_of declarations.now) store.old control.old line (plain_instr (variables store.old.core) what.now) store.new control.new end) }
     ensures reader { control.new.reader ≡ control.old.reader }
 {

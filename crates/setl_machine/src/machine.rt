@@ -16,6 +16,7 @@ use crate::families::{Family, family_of};
 use crate::outside::{print, read};
 use crate::quiet::run_quietly;
 use setl_code::Instr;
+use setl_code_declared::declared_variables_fit;
 use setl_io::{Sink, Source};
 use setl_machine_control::{Control, End};
 use setl_machine_variables::Declarations;
@@ -41,7 +42,7 @@ pub fn run<I: Source, O: Sink>(
     out: &mut O,
 ) -> End
     requires no_fault { control.old.reader.fault ≡ None }
-    requires serves { Serves declarations.now store.old.code }
+    requires serves { Serves declarations.now store.old }
     ensures ran { (rest' : List ℕ) → IsRest (ahead control.new.reader.ended (I.left input.new)) rest' →
         (rest : List ℕ) × IsRest (ahead control.old.reader.ended (I.left input.old)) rest
         × Ran (modes_of declarations.now) (plain_code store.old.code) steps (stood_for store.old.core control.old rest) (seen (O.held out.old) (O.faults out.old) (I.faults input.old)) (seen (O.held out.new) (O.faults out.new) (I.faults input.new)) (stood_for store.new.core control.new rest') result
@@ -51,6 +52,7 @@ pub fn run<I: Source, O: Sink>(
     ensures took { TakesOff (I.left input.old) (I.left input.new) }
     ensures honest { StaysHonest control.old.reader.ended (I.left input.old) control.new.reader.ended (I.left input.new) }
 {
+    declared_variables_fit();
     let mut done = 0;
     while done < steps {
         let quiet = run_quietly(declarations, store, control, steps - done - 1);
@@ -79,7 +81,7 @@ pub fn run_whole<I: Source, O: Sink>(
     out: &mut O,
 ) -> End
     requires no_fault { control.old.reader.fault ≡ None }
-    requires serves { Serves declarations.now store.old.code }
+    requires serves { Serves declarations.now store.old }
     ensures ran { (rest' : List ℕ) → IsRest (ahead control.new.reader.ended (I.left input.new)) rest' →
         (rest : List ℕ) × IsRest (ahead control.old.reader.ended (I.left input.old)) rest
         × (n : ℕ) × Ran (modes_of declarations.now) (plain_code store.old.code) n (stood_for store.old.core control.old rest) (seen (O.held out.old) (O.faults out.old) (I.faults input.old)) (seen (O.held out.new) (O.faults out.new) (I.faults input.new)) (stood_for store.new.core control.new rest') result
@@ -88,6 +90,7 @@ pub fn run_whole<I: Source, O: Sink>(
     ensures took { TakesOff (I.left input.old) (I.left input.new) }
     ensures honest { StaysHonest control.old.reader.ended (I.left input.old) control.new.reader.ended (I.left input.new) }
 {
+    declared_variables_fit();
     for rounds in 0..u64::MAX {
         match run(declarations, store, control, 1000, input, out) {
             End::Paused => {}
@@ -106,7 +109,7 @@ fn step<I: Source, O: Sink>(
     out: &mut O,
 ) -> End
     requires no_fault { control.old.reader.fault ≡ None }
-    requires serves { Serves declarations.now store.old.code }
+    requires serves { Serves declarations.now store.old }
     ensures did { (rest' : List ℕ) → IsRest (ahead control.new.reader.ended (I.left input.new)) rest' →
         (rest : List ℕ) × IsRest (ahead control.old.reader.ended (I.left input.old)) rest
         × Steps (modes_of declarations.now) (step (machine (plain_code store.old.code)) (tested (modes_of declarations.now)) (start (stood_for store.old.core control.old rest))) (seen (O.held out.old) (O.faults out.old) (I.faults input.old)) (seen (O.held out.new) (O.faults out.new) (I.faults input.new)) (stood_for store.new.core control.new rest') result }

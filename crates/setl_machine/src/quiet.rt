@@ -13,6 +13,7 @@ use crate::at_once::at_once;
 use crate::dispatch::quiet_step;
 use crate::families::{Family, family_of};
 use setl_code::Instr;
+use setl_code_declared::declared_variables_fit;
 use setl_machine_control::{Control, End};
 use setl_machine_variables::Declarations;
 use setl_store::Store;
@@ -33,12 +34,13 @@ pub(crate) fn run_quietly(
     control: &mut Control,
     steps: u64,
 ) -> Progress
-    requires serves { Serves declarations.now store.old.code }
+    requires serves { Serves declarations.now store.old }
     ensures ran { RanQuietly (modes_of declarations.now) (plain_code store.old.code) result.done store.old.core control.old store.new.core control.new result.end }
     ensures most { result.done ≤ steps }
     ensures code { result.end ≡ End.Paused → store.new.code ≡ store.old.code }
     ensures reader { control.new.reader ≡ control.old.reader }
 {
+    declared_variables_fit();
     let mut done = 0;
     while done < steps {
         match one_quietly(declarations, store, control) {
@@ -71,7 +73,7 @@ fn one_quietly(
     store: &mut Store<'_>,
     control: &mut Control,
 ) -> Result<bool, End>
-    requires serves { Serves declarations.now store.old.code }
+    requires serves { Serves declarations.now store.old }
     ensures did { StepsOrLeaves (modes_of declarations.now) store.old control.old store.new control.new result }
     ensures reader { control.new.reader ≡ control.old.reader }
 {
@@ -96,7 +98,7 @@ fn else_quietly(
 ) -> Result<bool, End>
     requires few { store.old.core.now.at + 1 < 2 ^ 64 }
     requires fits { InstrFits (length store.old.core.globals) (length store.old.core.now.own) what.now }
-    requires serves { Serves declarations.now store.old.code }
+    requires serves { Serves declarations.now store.old }
     ensures did { DoesOrLeaves (modes_of declarations.now) store.old control.old line (plain_instr (variables store.old.core) what.now) store.new control.new result }
     ensures reader { control.new.reader ≡ control.old.reader }
 {

@@ -42,7 +42,7 @@ pub(crate) fn step_telling<I: Source, O: Sink>(
     out: &mut O,
 ) -> Result<Vec<Event>, End>
     requires no_fault { control.old.reader.fault ≡ None }
-    requires serves { Serves declarations.now store.old.code }
+    requires serves { Serves declarations.now store.old }
     ensures did { (rest' : List ℕ) → IsRest (ahead control.new.reader.ended (I.left input.new)) rest' →
         (rest : List ℕ) × IsRest (ahead control.old.reader.ended (I.left input.old)) rest
         × Steps (modes_of declarations.now) (step (machine (plain_code store.old.code)) (tested (modes_of declarations.now)) (start (stood_for store.old.core control.old rest))) (seen (O.held out.old) (O.faults out.old) (I.faults input.old)) (seen (O.held out.new) (O.faults out.new) (I.faults input.new)) (stood_for store.new.core control.new rest') (ended result) }
@@ -83,7 +83,7 @@ fn quiet_telling(
     requires quiet { ¬ (family_of what.now ≡ Family.Outside) }
     requires few { store.old.core.now.at + 1 < 2 ^ 64 }
     requires fits { InstrFits (length store.old.core.globals) (length store.old.core.now.own) what.now }
-    requires serves { Serves declarations.now store.old.code }
+    requires serves { Serves declarations.now store.old }
     ensures did { DoesTelling (modes_of declarations.now) store.old control.old line (plain_instr (variables store.old.core) what.now) store.new control.new result }
     ensures reader { control.new.reader ≡ control.old.reader }
 {
@@ -106,7 +106,7 @@ pub(crate) fn alone_telling(
     requires alone { IsToldAlone what.now }
     requires few { store.old.core.now.at + 1 < 2 ^ 64 }
     requires fits { InstrFits (length store.old.core.globals) (length store.old.core.now.own) what.now }
-    requires serves { Serves declarations.now store.old.code }
+    requires serves { Serves declarations.now store.old }
     ensures did { DoesTelling (modes_of declarations.now) store.old control.old line (plain_instr (variables store.old.core) what.now) store.new control.new result }
     ensures reader { control.new.reader ≡ control.old.reader }
 {

@@ -39,7 +39,7 @@ pub(crate) fn do_variable(
     requires is { family_of what.now ≡ Family.Variables }
     requires few { store.old.core.now.at + 1 < 2 ^ 64 }
     requires fits { InstrFits (length store.old.core.globals) (length store.old.core.now.own) what.now }
-    requires serves { Serves declarations.now store.old.code }
+    requires serves { Serves declarations.now store.old }
     ensures did { IfOk result (λ end. DoesBy (modes_of declarations.now) store.old control.old line (plain_instr (variables store.old.core) what.now) store.new control.new end) }
     ensures reader { control.new.reader ≡ control.old.reader }
 {
@@ -71,7 +71,7 @@ pub(crate) fn variable_telling(
     requires is { family_of what.now ≡ Family.Variables }
     requires few { store.old.core.now.at + 1 < 2 ^ 64 }
     requires fits { InstrFits (length store.old.core.globals) (length store.old.core.now.own) what.now }
-    requires serves { Serves declarations.now store.old.code }
+    requires serves { Serves declarations.now store.old }
     ensures did { DoesTelling (modes_of declarations.now) store.old control.old line (plain_instr (variables store.old.core) what.now) store.new control.new result }
     ensures reader { control.new.reader ≡ control.old.reader }
 {
@@ -100,7 +100,7 @@ fn store_telling(
 ) -> Result<Vec<Event>, End>
     requires few { store.old.core.now.at + 1 < 2 ^ 64 }
     requires there { HasSlot (length store.old.core.globals) (length store.old.core.now.own) slot }
-    requires serves { Serves declarations.now store.old.code }
+    requires serves { Serves declarations.now store.old }
     ensures { (from : ControlState) → DoesTelling (modes_of declarations.now) store.old from line (StoreIn (plain_slot (variables store.old.core) slot)) store.new from result }
 {
     // Its clause names the variables by the body's number, as `stored_events` wants them.
@@ -124,7 +124,7 @@ fn alter_telling(
     requires few { store.old.core.now.at + 1 < 2 ^ 64 }
     requires there { HasSlot (length store.old.core.globals) (length store.old.core.now.own) slot }
     requires can { CanAlter what }
-    requires serves { Serves declarations.now store.old.code }
+    requires serves { Serves declarations.now store.old }
     ensures did { DoesTelling (modes_of declarations.now) store.old control.old line (Alter (plain_alteration what) (plain_slot (variables store.old.core) slot) (map plain_bracket brackets.now)) store.new control.new result }
     ensures reader { control.new.reader ≡ control.old.reader }
 {

@@ -12,6 +12,7 @@ ghost use Rattle.setl_machine_control.specs.declared.end.End.{End};
 
 use crate::machine::run_whole;
 use crate::telling::step_telling;
+use setl_code_declared::declared_variables_fit;
 use setl_code_events::{ends_tell_nothing, events_are};
 use setl_io::{Sink, Source};
 use setl_machine_control::{Control, End};
@@ -35,7 +36,7 @@ pub fn run_watched<I: Source, O: Sink>(
     reports: &mut Vec<u8>,
 ) -> End
     requires no_fault { control.old.reader.fault ≡ None }
-    requires serves { Serves declarations.now store.old.code }
+    requires serves { Serves declarations.now store.old }
     ensures ran { (rest' : List ℕ) → IsRest (ahead control.new.reader.ended (I.left input.new)) rest' →
         (rest : List ℕ) × IsRest (ahead control.old.reader.ended (I.left input.old)) rest
         × (n : ℕ) × Ran (modes_of declarations.now) (plain_code store.old.code) n (stood_for store.old.core control.old rest) (seen (O.held out.old) (O.faults out.old) (I.faults input.old)) (seen (O.held out.new) (O.faults out.new) (I.faults input.new)) (stood_for store.new.core control.new rest') result
@@ -48,6 +49,7 @@ pub fn run_watched<I: Source, O: Sink>(
     told_in_parts();
     events_are();
     ends_tell_nothing();
+    declared_variables_fit();
     for steps in 0..u64::MAX {
         if watchers.is_empty() {
             return run_whole(declarations, store, control, input, out);

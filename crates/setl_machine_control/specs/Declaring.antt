@@ -10,6 +10,8 @@ use Rattle.setl_model.specs.Step.{test_of, declared_mode}
 use Rattle.setl_code.specs.declared.code.Code as code
 use Rattle.setl_code.specs.Code.{Code}
 use Rattle.setl_code.specs.Plain.{variable_at, plain_code}
+use Rattle.setl_code_declared.specs.Fitting.{Fitting}
+use Rattle.setl_store.specs.Standing.{Standing}
 use Rattle.setl_machine_control.specs.declared.declaration.Declaration.{Declaration}
 
 -- the declared variables with their modes, in the order of the declarations
@@ -58,12 +60,13 @@ AreOfMain (m ∷ ms) = IsOfMain m.0 × AreOfMain ms
 abbrev pub IsBare : Code → Type 0
 IsBare c = IfSome (slice_get c.bodies 0) (λ b. b.parameters ≡ [])
 
--- A table serves a code: it is of this code, whose main body has no parameters, and no own variable of another body is
--- declared.
-pub record Serves (d : DeclarationTable) (c : code.Code) : Type 0 where
-  pub same : d.code ≡ c
-  pub bare : IsBare (plain_code c)
+-- A table serves a store: it is of the store's code, whose main body has no parameters, no own variable of another body is
+-- declared, and what each declared variable holds fits its mode.
+pub record Serves (d : DeclarationTable) (s : Standing) : Type 0 where
+  pub same : d.code ≡ s.code
+  pub bare : IsBare (plain_code s.code)
   pub main : AreOfMain (modes_of d)
+  pub fitting : Fitting (modes_of d) s.core
 
 -- ---- tests
 
@@ -77,7 +80,8 @@ abbrev pub IsDeclared : Modes → Variable → Option Declaration → Type 0
 IsDeclared modes x None = declared_mode modes x ≡ None
 IsDeclared modes x (Some d) = (declared_mode modes x ≡ Some (mode_of d.mode.now)) × (declared_at modes d.place ≡ x) × IsOfMain x
 
--- what a declared variable held is kept; one that isn't declared takes every value
-abbrev pub Keeps : Modes → Variable → Option Datum → Option (Option Datum) → Type 0
-Keeps modes x old None = declared_mode modes x ≡ None
-Keeps modes x old (Some kept) = kept ≡ old
+-- what a variable held is kept until its new whole was tested; where nothing is kept, the variable takes the new whole
+-- without a test
+abbrev pub Keeps : Modes → Variable → (old new : Option Datum) → (kept : Option (Option Datum)) → Type 0
+Keeps modes x old new None = tested modes x new ≡ true
+Keeps modes x old new (Some kept) = kept ≡ old

@@ -43,7 +43,6 @@ use Rattle.setl_machine_control.specs.declared.declaration.Declaration.{Declarat
 use Rattle.setl_machine_control.specs.declared.end.End.{End}
 use Rattle.setl_machine_control.specs.declared.end.End.TheVariants as end
 use Rattle.setl_machine_control.specs.declared.end.StopKind.TheVariants as kind
-use Rattle.setl_machine_control.specs.Laws.{takes_any}
 use Rattle.setl_machine_variables.proofs.Storing.{at_written, goes_stored, stops_unfit}
 use Rattle.setl_machine_control.specs.Laws.{halted_quiet, likely_over, write_in_world}
 use Rattle.setl_machine_control.specs.Laws.{halts_by}
@@ -193,12 +192,12 @@ abbrev held_then : ℕ → Variable → Option Datum → List Operand → World 
 held_then at x v xs world k = in_world world (at_place at (write x (There v) (over xs k)))
 
 -- the variable's test
-taken_by : (modes : Modes) (x : Variable) (w v : Option Datum) (kept : Option (Option Datum)) → Keeps modes x w kept → (kept ≡ None) ⊎ (tested modes x v ≡ true) → tested modes x v ≡ true
-taken_by modes x w v kept h (inl none) = takes_any modes x v (subst (Keeps modes x w) none h)
+taken_by : (modes : Modes) (x : Variable) (w v : Option Datum) (kept : Option (Option Datum)) → Keeps modes x w v kept → (kept ≡ None) ⊎ (tested modes x v ≡ true) → tested modes x v ≡ true
+taken_by modes x w v kept h (inl none) = subst (Keeps modes x w v) none h
 taken_by modes x w v kept h (inr t) = t
 
 settled_goes : (modes : Modes) (c : Code) (line : ℕ) (x : Variable) (w v : Option Datum) (kept : Option (Option Datum)) (holds : Option Datum) (xs before : List Operand) (world : World) (core k to : CodeCore) (e : End) →
-    Keeps modes x w kept → write x (There w) (over xs core) ≡ over xs core → Settles modes line x v kept holds e → to ≡ held_then (suc core.now.at) x holds xs world core →
+    Keeps modes x w v kept → write x (There w) (over xs core) ≡ over xs core → Settles modes line x v kept holds e → to ≡ held_then (suc core.now.at) x holds xs world core →
     Quiet modes (settle (machine c) (tested modes) (start k) (store_in x line v xs (in_world world (over before core)))) to e
 settled_goes modes c line x w v kept holds xs before world core k to end.Paused keeps again s there =
     let d = in_world world (over before core) in
@@ -207,7 +206,7 @@ settled_goes modes c line x w v kept holds xs before world core k to end.Paused 
     goes_stored modes c line x v xs k d to (taken_by modes x w v kept keeps s.1) at
 settled_goes modes c line x w v kept holds xs before world core k to (end.Stopped (kind.Unfit place) at) keeps again s there =
     let d = in_world world (over before core) in
-    let was : holds ≡ w = subst (Keeps modes x w) s.1 keeps in
+    let was : holds ≡ w = subst (Keeps modes x w v) s.1 keeps in
     let same : to ≡ at_step (suc d.now.at) xs d =
     there ∙ ap (λ u. held_then (suc core.now.at) x u xs world core) was ∙ ap (λ (k : CodeCore). in_world world (at_place (suc core.now.at) k)) again in
     let likely : IsLikely (at_step (suc d.now.at) xs d) to = subst (λ t. IsLikely (at_step (suc d.now.at) xs d) t) (sym same) ([], refl) in
@@ -227,7 +226,7 @@ settled_skips modes c line x w holds xs before world core k to e again s there =
 settled_same : (modes : Modes) (old : Standing) (slot : Slot) (xs : List Operand) (w v : Option Datum) (kept : Option (Option Datum)) (holds : Option Datum) (gone : Standing) (line : ℕ) (e : End) → InHand old slot xs w gone → Settles modes line (plain_slot (variables gone.core) slot) v kept holds e → Settles modes line (plain_slot (variables old.core) slot) v kept holds e
 settled_same modes old slot xs w v kept holds gone line e h s = subst (λ vs. Settles modes line (plain_slot vs slot) v kept holds e) (same_variables old slot xs w gone h) s
 
-update_goes : (modes : Modes) (old : Standing) (slot : Slot) (xs before : List Operand) (w v : Option Datum) (kept : Option (Option Datum)) (gone new : Standing) (from to : ControlState) (line left : ℕ) (e : End) (k : CodeCore) (rest : List ℕ) → Keeps modes (plain_slot (variables old.core) slot) w kept → InHand old slot xs w gone → EndsUpdate modes (Ok left) line (plain_slot (variables gone.core) slot) v kept gone from new to e → left ≤ from.turns →
+update_goes : (modes : Modes) (old : Standing) (slot : Slot) (xs before : List Operand) (w v : Option Datum) (kept : Option (Option Datum)) (gone new : Standing) (from to : ControlState) (line left : ℕ) (e : End) (k : CodeCore) (rest : List ℕ) → Keeps modes (plain_slot (variables old.core) slot) w v kept → InHand old slot xs w gone → EndsUpdate modes (Ok left) line (plain_slot (variables gone.core) slot) v kept gone from new to e → left ≤ from.turns →
     Quiet modes (settle (machine (plain_code old.code)) (tested modes) (start k) (store_in (plain_slot (variables old.core) slot) line v xs (in_world (record (world_of from rest) { left = left }) (over before old.core)))) (stood_for new.core to rest) e
 update_goes modes old slot xs before w v kept gone new from to line left e k rest keeps h f few =
     settled_goes modes (plain_code old.code) line (plain_slot (variables old.core) slot) w v kept f.0 xs before (record (world_of from rest) { left = left }) old.core k (stood_for new.core to rest) e
@@ -252,12 +251,12 @@ update_stops modes old slot xs before w kept gone new from to line f e rest m h 
 
 -- ---- putting and combining
 
-parts_refused : (r : Result ℕ OpFault) (w' w : Option Value) → OnErr r (w' ≡ w) → OnErr r (part w' ≡ part w)
+pub parts_refused : (r : Result ℕ OpFault) (w' w : Option Value) → OnErr r (w' ≡ w) → OnErr r (part w' ≡ part w)
 parts_refused (Ok left) w' w h = h
 parts_refused (Err f) w' w h = ap part h
 
 update_ends : (modes : Modes) (old : Standing) (slot : Slot) (xs before : List Operand) (w v : Option Datum) (kept : Option (Option Datum)) (gone new : Standing) (from to : ControlState) (line : ℕ) (o : Outcome) (r : Result ℕ OpFault) (e : End) (rest : List ℕ) →
-    Keeps modes (plain_slot (variables old.core) slot) w kept → InHand old slot xs w gone → Updates o from.turns v r → OnErr r (v ≡ w) → EndsUpdate modes r line (plain_slot (variables gone.core) slot) v kept gone from new to e →
+    Keeps modes (plain_slot (variables old.core) slot) w v kept → InHand old slot xs w gone → Updates o from.turns v r → OnErr r (v ≡ w) → EndsUpdate modes r line (plain_slot (variables gone.core) slot) v kept gone from new to e →
     Quiet modes (settle (machine (plain_code old.code)) (tested modes) (start (stood_for (over before old.core) from rest)) (store_whole o line (plain_slot (variables old.core) slot) xs (stood_for (over before old.core) from rest))) (stood_for new.core to rest) e
 update_ends modes old slot xs before w v kept gone new from to line (Gives z n) (Ok left) e rest keeps h u refused f =
     let few : left ≤ from.turns = omega (arith, u.1) in
@@ -288,7 +287,7 @@ on_top_of (o ∷ xs) ys v f h = go (value_of o) h
 
 -- the whole becomes what an outcome gives, by the value on top
 pub changed : (modes : Modes) (old mid gone new : Standing) (from to : ControlState) (line : ℕ) (slot : Slot) (outcome : Option Datum → Option Datum → ℕ → Outcome) (v w w' : Option Value) (kept : Option (Option Datum)) (r : Result ℕ OpFault) (e : End) →
-    Keeps modes (plain_slot (variables old.core) slot) (part w) kept → PopsTop old (Some v) mid → TakesHeld (plain_slot (variables mid.core) slot) mid (Some w) gone → Updates (outcome (part w) (part v) from.turns) from.turns (part w') r → OnErr r (w' ≡ w) → EndsUpdate modes r line (plain_slot (variables gone.core) slot) (part w') kept gone from new to e →
+    Keeps modes (plain_slot (variables old.core) slot) (part w) (part w') kept → PopsTop old (Some v) mid → TakesHeld (plain_slot (variables mid.core) slot) mid (Some w) gone → Updates (outcome (part w) (part v) from.turns) from.turns (part w') r → OnErr r (w' ≡ w) → EndsUpdate modes r line (plain_slot (variables gone.core) slot) (part w') kept gone from new to e →
     (new.code ≡ old.code)
     × ((before : List Operand) (rest : List ℕ) →
     let k = stood_for (over before old.core) from rest in
@@ -330,7 +329,7 @@ pushed_slot old gone put x w u takes n has = still_there old x (Holds (part u) �
 
 -- what is left over is stored, or nothing is
 taking_goes : (modes : Modes) (old : Standing) (slot : Slot) (before : List Operand) (w w' : Option Datum) (kept tests : Option (Option Datum)) (put new : Standing) (from to : ControlState) (line turns : ℕ) (at : List Selected) (taken : Taken) (t : TakenOut) (e : End) (k : CodeCore) (rest : List ℕ) →
-    Keeps modes (plain_slot (variables old.core) slot) w kept → tests ≡ cond t.stored kept None → InHand old slot (Holds (part t.value) ∷ old.core.now.operands) w put → turns ≤ from.turns → TakesPart taken at w turns w' (Ok t) → EndsUpdate modes (Ok t.left) line (plain_slot (variables put.core) slot) w' tests put from new to e →
+    Keeps modes (plain_slot (variables old.core) slot) w w' kept → tests ≡ cond t.stored kept None → InHand old slot (Holds (part t.value) ∷ old.core.now.operands) w put → turns ≤ from.turns → TakesPart taken at w turns w' (Ok t) → EndsUpdate modes (Ok t.left) line (plain_slot (variables put.core) slot) w' tests put from new to e →
     Quiet modes (settle (machine (plain_code old.code)) (tested modes) (start k) (take_from taken line (plain_slot (variables old.core) slot) w at old.core.now.operands (in_world (record (world_of from rest) { left = turns }) (over before old.core)))) (stood_for new.core to rest) e
 taking_goes modes old slot before w w' kept tests put new from to line turns at (TakesOut small v) t e k rest keeps stores h few told f = go (with_part_at_all at w (Some small) turns) told.2
   where
@@ -367,7 +366,7 @@ abbrev taking : Outcome → Taking → ℕ → Variable → Option Datum → Lis
 taking o end line x whole at xs k = with_outcome o line k (λ p d. take_from (take_out end p) line x whole at xs d)
 
 reading_goes : (modes : Modes) (old : Standing) (slot : Slot) (before : List Operand) (w w' : Option Datum) (kept tests : Option (Option Datum)) (put new : Standing) (from to : ControlState) (line : ℕ) (at : List Selected) (end : Taking) (o : Outcome) (t : TakenOut) (e : End) (rest : List ℕ) →
-    Keeps modes (plain_slot (variables old.core) slot) w kept → tests ≡ cond t.stored kept None → InHand old slot (Holds (part t.value) ∷ old.core.now.operands) w put → TakesFrom o end at w from.turns w' (Ok t) → EndsUpdate modes (Ok t.left) line (plain_slot (variables put.core) slot) w' tests put from new to e →
+    Keeps modes (plain_slot (variables old.core) slot) w w' kept → tests ≡ cond t.stored kept None → InHand old slot (Holds (part t.value) ∷ old.core.now.operands) w put → TakesFrom o end at w from.turns w' (Ok t) → EndsUpdate modes (Ok t.left) line (plain_slot (variables put.core) slot) w' tests put from new to e →
     Quiet modes (settle (machine (plain_code old.code)) (tested modes) (start (stood_for (over before old.core) from rest)) (taking o end line (plain_slot (variables old.core) slot) w at old.core.now.operands (stood_for (over before old.core) from rest))) (stood_for new.core to rest) e
 reading_goes modes old slot before w w' kept tests put new from to line at end (Gives p n) t e rest keeps stores h told f =
     taking_goes modes old slot before w w' kept tests put new from to line (from.turns - n) at (take_out end p) t e (stood_for (over before old.core) from rest) rest keeps stores h (omega arith) told f
@@ -385,7 +384,7 @@ reading_halts (Fails g) end line x w w' at xs k f e told b = halts_by f (Fails g
 reading_halts Overspends end line x w w' at xs k f e told b = halts_by f Overspends line k (λ y d. next xs d) e told b
 
 pub took_out : (modes : Modes) (old gone put new : Standing) (from to : ControlState) (line : ℕ) (slot : Slot) (at : List Selected) (end : Taking) (w w' : Option Value) (kept tests : Option (Option Datum)) (t : TakenOut) (e : End) →
-    Keeps modes (plain_slot (variables old.core) slot) (part w) kept → tests ≡ cond t.stored kept None → TakesHeld (plain_slot (variables old.core) slot) old (Some w) gone → Takes end at (part w) from.turns (part w') (Ok t) → put ≡ record gone { core = over (Holds (part t.value) ∷ gone.core.now.operands) gone.core } → EndsUpdate modes (Ok t.left) line (plain_slot (variables put.core) slot) (part w') tests put from new to e →
+    Keeps modes (plain_slot (variables old.core) slot) (part w) (part w') kept → tests ≡ cond t.stored kept None → TakesHeld (plain_slot (variables old.core) slot) old (Some w) gone → Takes end at (part w) from.turns (part w') (Ok t) → put ≡ record gone { core = over (Holds (part t.value) ∷ gone.core.now.operands) gone.core } → EndsUpdate modes (Ok t.left) line (plain_slot (variables put.core) slot) (part w') tests put from new to e →
     Alters modes old from line (TakingOut end) (plain_slot (variables old.core) slot) at new to e
 took_out modes old gone put new from to line slot at end w w' kept tests t e keeps stores takes told n f =
     let xs = Holds (part t.value) ∷ old.core.now.operands in

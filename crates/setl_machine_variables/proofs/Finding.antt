@@ -1,5 +1,5 @@
 -- The tables from the names of declared variables.
-use Rattle.std.proofs.Common.{◌≡◌, ◌∙◌, ◌<◌, ◌+◌, ◌≢◌, ℕ, zero, suc, Bool, true, false, List, [], ◌∷◌, map, drop, length, get_or, Option, Some, refl, sym, ap, subst, true≢false, add-one, drop-cons}
+use Rattle.std.proofs.Common.{◌≡◌, ◌∙◌, ◌<◌, ◌+◌, ◌≢◌, ℕ, zero, suc, List, [], ◌∷◌, map, drop, length, get_or, Option, Some, refl, sym, ap, subst, add-one, drop-cons}
 use Rattle.std.specs.Prelude.{cond, bytes_eq, slice_get}
 use Rattle.std.specs.Global.{Vec}
 use Rattle.indexmap.specs.IndexMap.{IndexMap, insert_entry}

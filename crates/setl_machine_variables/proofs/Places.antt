@@ -181,18 +181,18 @@ main_of t c ds view h = subst (λ (t : DeclarationTable). AreOfMain (modes_of t)
 bare_of : (t : DeclarationTable) (c d : declared_code.Code) (ds : List Declared) → table c ds ≡ t → t.code ≡ d → IsBare (plain_code d) → IsBare (plain_code c)
 bare_of t c d ds view same h = subst (λ c. IsBare (plain_code c)) (sym (ap (λ (t : DeclarationTable). t.code) view ∙ same)) h
 
-pub global_at : (t : DeclarationTable) (c : declared_code.Code) (ds : List Declared) (globals own : List (Option ℕ)) (s : Standing) (n k : ℕ) (y : Slot) (p : Option ℕ) → table c ds ≡ t → Serves t s.code → KnowsSlots c (map plain_declared ds) globals own →
+pub global_at : (t : DeclarationTable) (c : declared_code.Code) (ds : List Declared) (globals own : List (Option ℕ)) (s : Standing) (n k : ℕ) (y : Slot) (p : Option ℕ) → table c ds ≡ t → Serves t s → KnowsSlots c (map plain_declared ds) globals own →
     variables s.core ≡ variables_in (plain_code s.code) n → y ≡ slot.Global k → p ≡ option_flatten (slice_get globals k) → p ≡ place_of (modes_of t) (plain_slot (variables s.core) y)
 global_at t c ds globals own s n k y p view serves knows vars is e =
     at_slot t c ds s n (slot.Global k) y p view serves.same vars is (e ∙ global_place c (map plain_declared ds) globals own n k (main_of t c ds view serves.main) knows)
 
-pub own_at : (t : DeclarationTable) (c : declared_code.Code) (ds : List Declared) (globals own : List (Option ℕ)) (s : Standing) (n k : ℕ) (y : Slot) (p : Option ℕ) → table c ds ≡ t → Serves t s.code → KnowsSlots c (map plain_declared ds) globals own →
+pub own_at : (t : DeclarationTable) (c : declared_code.Code) (ds : List Declared) (globals own : List (Option ℕ)) (s : Standing) (n k : ℕ) (y : Slot) (p : Option ℕ) → table c ds ≡ t → Serves t s → KnowsSlots c (map plain_declared ds) globals own →
     variables s.core ≡ variables_in (plain_code s.code) n → n ≡ 0 → y ≡ slot.Own k → p ≡ option_flatten (slice_get own k) → p ≡ place_of (modes_of t) (plain_slot (variables s.core) y)
 own_at t c ds globals own s n k y p view serves knows vars none is e =
     at_slot t c ds s 0 (slot.Own k) y p view serves.same (vars ∙ ap (variables_in (plain_code s.code)) none) is
     (e ∙ own_place c (map plain_declared ds) globals own k (main_of t c ds view serves.main) (bare_of t c s.code ds view serves.same serves.bare) knows)
 
-pub other_at : (t : DeclarationTable) (c : declared_code.Code) (ds : List Declared) (s : Standing) (n k : ℕ) (y : Slot) → table c ds ≡ t → Serves t s.code →
+pub other_at : (t : DeclarationTable) (c : declared_code.Code) (ds : List Declared) (s : Standing) (n k : ℕ) (y : Slot) → table c ds ≡ t → Serves t s →
     variables s.core ≡ variables_in (plain_code s.code) n → n ≢ 0 → y ≡ slot.Own k → None ≡ place_of (modes_of t) (plain_slot (variables s.core) y)
 other_at t c ds s n k y view serves vars some is =
     at_slot t c ds s n (slot.Own k) y None view serves.same vars is (no_place c (map plain_declared ds) n k (main_of t c ds view serves.main) some)

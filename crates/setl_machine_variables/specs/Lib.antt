@@ -1,3 +1,4 @@
 pub mod Tables
 pub mod Altered
+pub mod Deciding
 pub mod Freely

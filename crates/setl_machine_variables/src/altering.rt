@@ -6,6 +6,7 @@ ghost use Rattle.setl_code.specs.CodeCore.{held, popped};
 ghost use Rattle.setl_code.specs.Machine.{selected_by};
 ghost use Rattle.setl_code.specs.MayRun.{HasSlot, CanAlter};
 ghost use Rattle.setl_code.specs.Plain.{plain_slot, plain_bracket, plain_alteration};
+ghost use Rattle.setl_code_declared.specs.Fitting.{Fitting};
 ghost use Rattle.setl_operators_table.specs.Operators.{operand_count};
 ghost use Rattle.setl_store.specs.Standing.{variables};
 ghost use Rattle.setl_machine_updates.specs.Selectors.{selected};
@@ -16,7 +17,8 @@ ghost use Rattle.setl_machine_control.specs.Working.{DoesBy};
 ghost use Rattle.setl_machine_control.specs.declared.end.End.{End};
 ghost use Rattle.setl_machine_variables.specs.Altered.{Alters, TakesHeld, stores_new};
 
-use crate::declarations::{Declarations, kept_copy};
+use crate::deciding::{decides_combined, decides_put, decides_taken, kept_unless, learn_laws};
+use crate::declarations::Declarations;
 use setl_code::{Alteration, Bracket, Slot};
 use setl_machine_control::{Control, End, Target, end_update, pop_top};
 use setl_machine_updates::{Operator, Selector, Taking, combine_at, put_at, take_at};
@@ -48,7 +50,7 @@ pub fn alter(
     requires few { store.old.core.now.at + 1 < 2 ^ 64 }
     requires there { HasSlot (length store.old.core.globals) (length store.old.core.now.own) slot }
     requires can { CanAlter what }
-    requires serves { Serves declarations.now store.old.code }
+    requires serves { Serves declarations.now store.old }
     ensures did { IfOk result (λ updated. DoesBy (modes_of declarations.now) store.old control.old line (Alter (plain_alteration what) (plain_slot (variables store.old.core) slot) (map plain_bracket brackets.now)) store.new control.new updated.end) }
     ensures stored { IfOk result (λ updated. updated.end ≡ End.Paused → updated.stored ≡ stores_new (plain_alteration what) (value_held (held (plain_slot (variables store.old.core) slot) store.old.core)) (selected_by (map plain_bracket brackets.now) (popped_values (popped (length (map plain_bracket brackets.now)) [] store.old.core.now.operands))) control.old.turns) }
     ensures reader { control.new.reader ≡ control.old.reader }
@@ -85,7 +87,7 @@ fn put(
 ) -> Result<End, Memory>
     requires few { store.old.core.now.at + 1 < 2 ^ 64 }
     requires there { HasSlot (length store.old.core.globals) (length store.old.core.now.own) target.slot }
-    ensures did { (modes : Modes) → IsDeclared modes (plain_slot (variables store.old.core) target.entry.slot) target.entry.declared → IfOk result (λ end. Alters modes store.old control.old line Putting (plain_slot (variables store.old.core) target.entry.slot) (map selected at.now) store.new control.new end) }
+    ensures did { (modes : Modes) → IsDeclared modes (plain_slot (variables store.old.core) target.entry.slot) target.entry.declared → Fitting modes store.old.core → IfOk result (λ end. Alters modes store.old control.old line Putting (plain_slot (variables store.old.core) target.entry.slot) (map selected at.now) store.new control.new end) }
     ensures reader { control.new.reader ≡ control.old.reader }
 {
     let Some(value) = pop_top(store)? else {
@@ -94,7 +96,9 @@ fn put(
     let Some(mut whole) = take_held(target.slot, store)? else {
         return Ok(End::Stuck);
     };
-    let kept = kept_copy(target.declared, &whole)?;
+    learn_laws(&whole);
+    let sure = decides_put(target.declared, at, &value);
+    let kept = kept_unless(sure, &whole)?;
     let left = put_at(control.alloc(), &mut whole, at, value, control.turns());
     end_update(left, whole, kept, target, line, store, control)
 }
@@ -111,7 +115,7 @@ fn combine(
     requires few { store.old.core.now.at + 1 < 2 ^ 64 }
     requires there { HasSlot (length store.old.core.globals) (length store.old.core.now.own) target.slot }
     requires two { operand_count by ≡ Some 2 }
-    ensures did { (modes : Modes) → IsDeclared modes (plain_slot (variables store.old.core) target.entry.slot) target.entry.declared → IfOk result (λ end. Alters modes store.old control.old line (Combining by) (plain_slot (variables store.old.core) target.entry.slot) (map selected at.now) store.new control.new end) }
+    ensures did { (modes : Modes) → IsDeclared modes (plain_slot (variables store.old.core) target.entry.slot) target.entry.declared → Fitting modes store.old.core → IfOk result (λ end. Alters modes store.old control.old line (Combining by) (plain_slot (variables store.old.core) target.entry.slot) (map selected at.now) store.new control.new end) }
     ensures reader { control.new.reader ≡ control.old.reader }
 {
     let Some(value) = pop_top(store)? else {
@@ -120,7 +124,9 @@ fn combine(
     let Some(mut whole) = take_held(target.slot, store)? else {
         return Ok(End::Stuck);
     };
-    let kept = kept_copy(target.declared, &whole)?;
+    learn_laws(&whole);
+    let sure = decides_combined(by, target.declared, at, &value);
+    let kept = kept_unless(sure, &whole)?;
     let left = combine_at(control.alloc(), by, &mut whole, at, value, control.turns());
     end_update(left, whole, kept, target, line, store, control)
 }
@@ -136,7 +142,7 @@ fn take_out(
 ) -> Result<Updated, Memory>
     requires few { store.old.core.now.at + 1 < 2 ^ 64 }
     requires there { HasSlot (length store.old.core.globals) (length store.old.core.now.own) target.slot }
-    ensures did { (modes : Modes) → IsDeclared modes (plain_slot (variables store.old.core) target.entry.slot) target.entry.declared → IfOk result (λ updated. Alters modes store.old control.old line (TakingOut end) (plain_slot (variables store.old.core) target.entry.slot) (map selected at.now) store.new control.new updated.end) }
+    ensures did { (modes : Modes) → IsDeclared modes (plain_slot (variables store.old.core) target.entry.slot) target.entry.declared → Fitting modes store.old.core → IfOk result (λ updated. Alters modes store.old control.old line (TakingOut end) (plain_slot (variables store.old.core) target.entry.slot) (map selected at.now) store.new control.new updated.end) }
     ensures stored { (modes : Modes) → IsDeclared modes (plain_slot (variables store.old.core) target.entry.slot) target.entry.declared → IfOk result (λ updated. updated.end ≡ End.Paused → updated.stored ≡ stores_new (TakingOut end) (value_held (held (plain_slot (variables store.old.core) target.entry.slot) store.old.core)) (map selected at.now) control.old.turns) }
     ensures reader { control.new.reader ≡ control.old.reader }
 {
@@ -146,7 +152,9 @@ fn take_out(
             stored: false,
         });
     };
-    let kept = kept_copy(target.declared, &whole)?;
+    learn_laws(&whole);
+    let sure = decides_taken(target.declared, at);
+    let kept = kept_unless(sure, &whole)?;
     match take_at(control.alloc(), end, &mut whole, at, control.turns()) {
         Ok(taken) => {
             store.push(taken.value)?;

@@ -1,25 +1,22 @@
 //! Declared variables, by the slots of a code.
 
-ghost use Rattle.std.specs.Prelude.{◌≡◌, ◌∷◌, ℕ, suc, List, [], map, length, slice_get, option_map, IfOk, OnOk};
+ghost use Rattle.std.specs.Prelude.{◌≡◌, ◌∷◌, ℕ, suc, List, [], map, length, slice_get, IfOk, OnOk};
 ghost use Rattle.std.specs.Option.{option_flatten};
 ghost use Rattle.setl_code.specs.Plain.{plain_slot};
 ghost use Rattle.setl_modes.specs.Modes.{Mode as PlainMode};
 ghost use Rattle.setl_program.specs.code.Plain.{plain_declared, plain_variable};
-ghost use Rattle.setl_model_runs.specs.Variable.{Variable as PlainVariable};
 ghost use Rattle.setl_store.specs.Standing.{variables};
-ghost use Rattle.setl_value.specs.code.DatumOf.{part};
-ghost use Rattle.setl_machine_control.specs.Declaring.{Modes, modes_of, place_of, Serves, IsDeclared, Keeps};
+ghost use Rattle.setl_machine_control.specs.Declaring.{Modes, modes_of, place_of, Serves, IsDeclared};
 ghost use Rattle.setl_names.specs.ByName.{value_at};
 ghost use Rattle.setl_machine_variables.specs.Tables.{Finds, Puts, names_by, name_place};
 
 use indexmap::IndexMap;
 use setl_code::{Code, OwnName, Slot};
-use setl_machine_control::{Declaration, copied};
+use setl_machine_control::Declaration;
 use setl_program::{Declared, Variable};
 use setl_store::Store;
 use setl_store_environment::Memory;
 use setl_tree::Text;
-use setl_value::Value;
 use std::alloc::{AllocError, Global};
 use std::marker::Model;
 
@@ -70,7 +67,7 @@ impl<'p> Declarations<'p> {
     /// The declaration of a slot's variable, where it has one. It costs one look into a table, and none where nothing is
     /// declared.
     pub(crate) fn of_slot(&self, slot: Slot, store: &Store<'_>) -> Option<Declaration<'p>>
-        requires { Serves self.now store.now.code }
+        requires { Serves self.now store.now }
         ensures { IsDeclared (modes_of self.now) (plain_slot (variables store.now.core) slot) result }
     {
         let declared: &'p [Declared] = self.declared;
@@ -89,7 +86,7 @@ impl<'p> Declarations<'p> {
     /// The place of the declaration of a slot's variable.
     #[inline(never)]
     fn place(&self, slot: Slot, store: &Store<'_>) -> Option<u32>
-        requires { Serves self.now store.now.code }
+        requires { Serves self.now store.now }
         ensures { result ≡ place_of (modes_of self.now) (plain_slot (variables store.now.core) slot) }
     {
         let body = store.body();
@@ -260,18 +257,5 @@ fn name_place(name: &OwnName, table: &IndexMap<Vec<u8>, u32>) -> Option<u32>
     match name {
         OwnName::Body(name) => seen_place(name, table),
         OwnName::Former(_, _) => None,
-    }
-}
-
-/// A copy of what a declared variable holds; of one that isn't declared there is none.
-pub(crate) fn kept_copy(
-    declared: Option<Declaration<'_>>,
-    value: &Option<Value>,
-) -> Result<Option<Option<Value>>, Memory>
-    ensures { IfOk result (λ kept. (modes : Modes) (x : PlainVariable) → IsDeclared modes x declared.entry → Keeps modes x (part value.now) (option_map part kept)) }
-{
-    match declared {
-        None => Ok(None),
-        Some(_) => Ok(Some(copied(value)?)),
     }
 }

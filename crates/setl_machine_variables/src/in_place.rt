@@ -35,7 +35,7 @@ pub fn update(
     requires few { store.old.core.now.at + 1 < 2 ^ 64 }
     requires there { HasSlot (length store.old.core.globals) (length store.old.core.now.own) slot }
     requires can { CanAlter what }
-    requires serves { Serves declarations.now store.old.code }
+    requires serves { Serves declarations.now store.old }
     ensures did { IfOk result (λ end. DoesBy (modes_of declarations.now) store.old control.old line (Alter (plain_alteration what) (plain_slot (variables store.old.core) slot) (map plain_bracket brackets.now)) store.new control.new end) }
     ensures reader { control.new.reader ≡ control.old.reader }
 {
@@ -59,7 +59,7 @@ fn update_any(
     requires few { store.old.core.now.at + 1 < 2 ^ 64 }
     requires there { HasSlot (length store.old.core.globals) (length store.old.core.now.own) slot }
     requires can { CanAlter what }
-    requires serves { Serves declarations.now store.old.code }
+    requires serves { Serves declarations.now store.old }
     ensures did { IfOk result (λ end. DoesBy (modes_of declarations.now) store.old control.old line (Alter (plain_alteration what) (plain_slot (variables store.old.core) slot) (map plain_bracket brackets.now)) store.new control.new end) }
     ensures reader { control.new.reader ≡ control.old.reader }
 {
@@ -77,7 +77,7 @@ fn new_integer(
     store: &Store<'_>,
 ) -> Option<Value>
     requires there { HasSlot (length store.now.core.globals) (length store.now.core.now.own) slot }
-    requires serves { Serves declarations.now store.now.code }
+    requires serves { Serves declarations.now store.now }
     ensures { IfSome result (λ v. AltersFreely (modes_of declarations.now) (plain_alteration what) (plain_slot (variables store.now.core) slot) (map plain_bracket brackets.now) store.now.core (datum v)) }
 {
     let Alteration::Combine(by) = what else {

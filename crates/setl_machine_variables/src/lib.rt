@@ -2,6 +2,7 @@
 #![tactic(auto)]
 
 mod altering;
+mod deciding;
 mod declarations;
 mod in_place;
 mod integers;

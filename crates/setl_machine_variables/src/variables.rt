@@ -102,7 +102,7 @@ pub fn store_in(
 ) -> Result<End, Memory>
     requires few { store.old.core.now.at + 1 < 2 ^ 64 }
     requires there { HasSlot (length store.old.core.globals) (length store.old.core.now.own) slot }
-    requires serves { Serves declarations.now store.old.code }
+    requires serves { Serves declarations.now store.old }
     ensures { IfOk result (λ end. WorksBy (modes_of declarations.now) store.old line (StoreIn (plain_slot (variables store.old.core) slot)) store.new end) }
 {
     let declared = declarations.of_slot(slot, store);
@@ -132,7 +132,7 @@ pub fn store_at_once(
 ) -> Result<bool, Memory>
     requires few { store.old.core.now.at + 1 < 2 ^ 64 }
     requires there { HasSlot (length store.old.core.globals) (length store.old.core.now.own) slot }
-    requires serves { Serves declarations.now store.old.code }
+    requires serves { Serves declarations.now store.old }
     ensures { (line : ℕ) → IfOk result (λ done. WorksOrLeaves (modes_of declarations.now) store.old line (StoreIn (plain_slot (variables store.old.core) slot)) store.new done) }
 {
     let None = declarations.of_slot(slot, store) else {

@@ -1,28 +1,26 @@
 -- The parts of wholes that fit.
-use Rattle.std.specs.Prelude.{◌≡◌, ℕ, zero, suc, pos, ℤ, Bool, true, false, ◌&&◌, cond, List, [], ◌∷◌, int_le, slice_get, Option, Some, None, Result, Ok, Err, refl, if◌then◌else◌}
-use Rattle.std.specs.List.{AllByRecursion, list_all}
+use Rattle.std.specs.Prelude.{◌≡◌, ℕ, zero, suc, pos, Bool, true, false, cond, List, [], ◌∷◌, int_le, slice_get, Option, Some, None, Ok, Err, refl, if◌then◌else◌}
+use Rattle.std.specs.List.{AllByRecursion}
 use Rattle.std.specs.Option.{option_map, option_flatten}
 use Rattle.std.proofs.Common.{ap, sym, ◌∙◌, subst, inl, inr}
 use Rattle.std.proofs.lemmas.Bool.{false≢true, and_parts}
-use Rattle.setl_value.specs.Datum.{Datum, bool, int, text, atom, tuple, set, Parts, no_part, om_then, part_then, Elements, no_element, element_then, set_of, element_list, elements_of, part_list, element_list-elements_of}
+use Rattle.setl_value.specs.Datum.{Datum, int, text, tuple, set, Parts, no_part, om_then, part_then, Elements, no_element, element_then, set_of, element_list, elements_of, part_list, element_list-elements_of}
 use Rattle.setl_value.specs.Order.{IsRising}
 use Rattle.setl_value.specs.Pairs.{pair, pair_parts, is_map, images}
 use Rattle.setl_value.specs.WellFormed.{IsTextByte, IsWellFormed, PartsAreWellFormed, ElementsAreWellFormed, PartIsWellFormed}
 use Rattle.setl_map.specs.Maps.{only, image}
-use Rattle.setl_tuple.specs.Tuples.{index_of, get_of}
+use Rattle.setl_tuple.specs.Tuples.{index_of}
 use Rattle.setl_modes.specs.Modes.{Mode, General, Integers, Strings, Booleans, Atoms, Elements as ElementsOf, Sets, Tuples, SingleMaps, MultiMaps}
 use Rattle.setl_modes.specs.Fits.{part_fits, single_fits, multi_fits, datum_fits, fits}
 use Rattle.setl_operators_table.specs.Outcome.{Outcome, Gives, Fails, KindFault, RangeFault}
-use Rattle.setl_operators_table.specs.Operators.{op_of}
 use Rattle.setl_operators_table.specs.Collections.{on_map}
-use Rattle.setl_operators_table.specs.Selections.{get, images_of, component, letter}
+use Rattle.setl_operators_table.specs.Selections.{get, images_of, component}
 use Rattle.setl_tuple.specs.declared.TupleFault.TheVariants.{Range}
-use Rattle.setl_operators_table.specs.declared.Operator.TheVariants.{Get, Images}
 use Rattle.setl_modes_parts.specs.Parts.{member_mode, takes_sets, value_mode, images_mode}
-use Rattle.setl_modes_parts.specs.Laws.{Fitting, ValuesFit, ImagesFit}
+use Rattle.setl_modes_parts.specs.Laws.{ValuesFit, ImagesFit}
 use Rattle.setl_modes_parts.proofs.Lists.{Among, all_of}
 use Rattle.setl_modes_parts.proofs.Images.{images_to_pairs, pairs_to_images, rising_images}
-use Rattle.setl_modes_parts.proofs.Subsets.{some_same, list_fits, of_list, of_set, any_fits, single_second, members_fit, empty_fits}
+use Rattle.setl_modes_parts.proofs.Subsets.{some_same, list_fits, of_set, any_fits, single_second, members_fit, empty_fits}
 
 -- ---- what is given
 

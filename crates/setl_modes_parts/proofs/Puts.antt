@@ -1,29 +1,28 @@
 -- Wholes in which a part was put.
-use Rattle.std.specs.Prelude.{◌≡◌, ◌⊎◌, ℕ, zero, suc, ◌+◌, ◌-◌, pos, Bool, true, false, not, ◌&&◌, ◌==◌, cond, List, [], ◌∷◌, ◌++◌, map, length, take, drop, replicate, int_le, nat_le, Option, Some, None, refl, if◌then◌else◌}
-use Rattle.std.specs.List.{list_all, filter}
+use Rattle.std.specs.Prelude.{◌≡◌, ◌⊎◌, ℕ, zero, suc, ◌+◌, ◌-◌, pos, Bool, true, false, not, ◌==◌, cond, List, [], ◌∷◌, ◌++◌, map, length, take, drop, replicate, int_le, nat_le, Option, Some, None, refl, if◌then◌else◌}
+use Rattle.std.specs.List.{list_all}
 use Rattle.std.specs.declared.cmp.Ordering.{Ordering}
 use Rattle.std.specs.declared.cmp.Ordering.TheVariants.{Less, Equal, Greater}
 use Rattle.std.specs.Ordering.{is_eq, ordering_reverse}
 use Rattle.std.proofs.Common.{ap, sym, ◌∙◌, subst, inl, inr}
 use Rattle.std.proofs.lemmas.Bool.{false≢true, and_parts, and_from}
-use Rattle.setl_value.specs.Datum.{Datum, int, tuple, set, part_then, no_part, depth, set_of, tuple_of, element_list, elements_of, part_list, part_list-parts_of}
+use Rattle.setl_value.specs.Datum.{Datum, int, tuple, set, part_then, no_part, depth, set_of, tuple_of, element_list, part_list, part_list-parts_of}
 use Rattle.setl_value.specs.Order.{datum_cmp, IsRising}
 use Rattle.setl_value.specs.OrderLaws.{datum_cmp_total}
 use Rattle.setl_value.specs.Pairs.{pair, pair_parts, first_of, is_datum, images}
 use Rattle.setl_value.specs.WellFormed.{trim, trim_onto}
-use Rattle.setl_set.specs.Sets.{insert_datum, set_from}
 use Rattle.setl_set.specs.Laws.{Gathers}
 use Rattle.setl_map.specs.Maps.{without_point, put_image, put_images}
 use Rattle.setl_tuple.specs.Tuples.{index_of, put_of}
 use Rattle.setl_modes.specs.Modes.{Mode, General, Integers, Strings, Booleans, Atoms, Elements as ElementsOf, Sets, Tuples, SingleMaps, MultiMaps}
 use Rattle.setl_modes.specs.Fits.{part_fits, single_fits, multi_fits, datum_fits, fits}
-use Rattle.setl_operators_table.specs.Outcome.{Outcome, Gives, Fails, Overspends, DeepFault, RangeFault, value, adding, charging, within_depth}
+use Rattle.setl_operators_table.specs.Outcome.{Gives, Fails, Overspends, DeepFault, RangeFault, value, adding, charging, within_depth}
 use Rattle.setl_operators_table.specs.Puts.{put_value, put_part, put_set}
 use Rattle.setl_modes_parts.specs.Parts.{member_mode, takes_sets, value_mode, images_mode}
 use Rattle.setl_modes_parts.specs.Laws.{Fitting, PutsFit, SetPutsFit}
 use Rattle.setl_modes_parts.proofs.Lists.{Among, Within, all_of, all_from, among_parts, among_pairs, among_filter, among_insert, among_set_from, rising_filter}
 use Rattle.setl_modes_parts.proofs.Images.{images_to_pairs, pairs_to_images, rising_images, same_self, none_left, others_left, insert_past, insert_here}
-use Rattle.setl_modes_parts.proofs.Subsets.{some_same, list_fits, of_list, of_set, any_fits, single_first, single_once, single_second, single_from, shrinks, part_of_set, members_fit, fit_by_members}
+use Rattle.setl_modes_parts.proofs.Subsets.{some_same, list_fits, of_list, of_set, any_fits, single_first, single_once, single_second, single_from, shrinks, members_fit, fit_by_members}
 use Rattle.setl_modes_parts.proofs.Parts.{gives_same, map_gives, let_through}
 
 -- ---- what is given

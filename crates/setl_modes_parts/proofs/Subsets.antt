@@ -1,5 +1,5 @@
 -- A part of a set that fits a mode fits it too.
-use Rattle.std.specs.Prelude.{◌≡◌, Bool, true, false, ◌&&◌, ◌==◌, cond, List, [], ◌∷◌, length, Option, Some, None, refl}
+use Rattle.std.specs.Prelude.{◌≡◌, Bool, true, false, ◌&&◌, ◌==◌, List, [], length, Option, Some, None, refl}
 use Rattle.std.specs.List.{list_all}
 use Rattle.std.proofs.Common.{ap, sym, ◌∙◌}
 use Rattle.std.proofs.lemmas.Bool.{false≢true, and_parts, and_from}
@@ -7,7 +7,7 @@ use Rattle.setl_value.specs.Datum.{Datum, tuple, part_then, no_part, set, set_of
 use Rattle.setl_value.specs.Order.{IsRising}
 use Rattle.setl_value.specs.Pairs.{pair, pair_parts, images}
 use Rattle.setl_modes.specs.Modes.{Mode, General, Integers, Strings, Booleans, Atoms, Elements as ElementsOf, Sets, Tuples, SingleMaps, MultiMaps}
-use Rattle.setl_modes.specs.Fits.{part_fits, single_fits, multi_fits, datum_fits, fits}
+use Rattle.setl_modes.specs.Fits.{single_fits, multi_fits, datum_fits, fits}
 use Rattle.setl_modes_parts.specs.Parts.{member_mode, takes_sets}
 use Rattle.setl_modes_parts.proofs.Lists.{Among, Within, all_of, all_from, one_left}
 use Rattle.setl_modes_parts.proofs.Images.{images_to_pairs, pairs_to_images, rising_images}

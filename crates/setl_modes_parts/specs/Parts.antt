@@ -1,10 +1,10 @@
 -- The mode of a part of a whole that fits a mode, and which updates of a part keep that the whole fits.
-use Rattle.std.specs.Prelude.{◌≡◌, refl, Bool, true, false, cond, List, [], ◌∷◌, Option, Some, None, pos}
-use Rattle.setl_value.specs.Datum.{Datum, int}
-use Rattle.setl_modes.specs.Modes.{Mode, General, Integers, Strings, Booleans, Atoms, Elements, Sets, Tuples, SingleMaps, MultiMaps}
+use Rattle.std.specs.Prelude.{◌≡◌, refl, Bool, true, false, cond, [], Option, Some, None, pos}
+use Rattle.setl_value.specs.Datum.{Datum, int, text}
+use Rattle.setl_modes.specs.Modes.{Mode, General, Integers, Strings, Elements, Sets, Tuples, SingleMaps, MultiMaps}
 use Rattle.setl_modes.specs.Fits.{fits}
 use Rattle.setl_operators_table.specs.declared.Operator.{Operator}
-use Rattle.setl_operators_table.specs.declared.Operator.TheVariants.{Add, Subtract, With, Less, Lessf}
+use Rattle.setl_operators_table.specs.declared.Operator.TheVariants.{Add, Subtract, Multiply, Power, Divide, Modulo, Max, Min, With, Less, Lessf}
 use Rattle.setl_modes.specs.declared.mode.Form.TheVariants.{Plain}
 
 -- the mode of the members of sets of this mode, where these are tested one by one
@@ -51,25 +51,47 @@ takes_one m v = false
 -- whether `whole + v` fits where the whole does
 abbrev pub takes_all : Mode → Option Datum → Bool
 takes_all General v = true
+takes_all Integers v = true
 takes_all Strings v = true
 takes_all (Elements base m) v = takes_all m v
 takes_all (Sets form m) v = fits (Sets form m) v
 takes_all (Tuples m) v = fits (Tuples m) v
 takes_all m v = false
 
+-- whether `whole * v` fits where the whole does; an integer may also make copies of a string
+abbrev pub takes_product : Mode → Option Datum → Bool
+takes_product General v = true
+takes_product Integers v = fits Integers v
+takes_product (Elements base m) v = takes_product m v
+takes_product m v = false
+
+-- whether `whole mod v` does
+abbrev pub takes_remainder : Mode → Bool
+takes_remainder General = true
+takes_remainder Integers = true
+takes_remainder (Elements base m) = takes_remainder m
+takes_remainder m = false
+
+-- whether the mode takes every value
 abbrev pub takes_any : Mode → Bool
 takes_any General = true
 takes_any (Elements base m) = takes_any m
 takes_any m = false
 
 -- Whether the whole fits that an operator gives of one that fits and a value, as the value decides it. What takes members
--- out keeps every mode.
+-- out keeps every mode, and so does what makes an integer of integers alone.
 abbrev pub combines : Operator → Mode → Option Datum → Bool
 combines With m v = takes_one m v
 combines Add m v = takes_all m v
 combines Less m v = true
 combines Subtract m v = true
 combines Lessf m v = true
+combines Multiply m v = takes_product m v
+combines Modulo m v = takes_remainder m
+combines Power m v = true
+combines Divide m v = true
+combines Max m v = true
+combines Min m v = true
 combines o m v = takes_any m
 
 -- ---- worked rows
@@ -78,6 +100,12 @@ one = Some (int (pos 1))
 
 a_member : combines With (Sets Plain Strings) one ≡ false
 a_member = refl
+
+a_sum : combines Add Integers one ≡ true
+a_sum = refl
+
+copies_of_a_string : combines Multiply Integers (Some (text [])) ≡ false
+copies_of_a_string = refl
 
 an_image : value_mode (SingleMaps Plain Integers Strings) one ≡ Some Strings
 an_image = refl

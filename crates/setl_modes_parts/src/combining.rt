@@ -3,7 +3,7 @@
 ghost use Rattle.std.specs.Prelude.{◌≡◌};
 ghost use Rattle.setl_value.specs.code.DatumOf.{part};
 ghost use Rattle.setl_modes.specs.Modes.{mode_of};
-ghost use Rattle.setl_modes_parts.specs.Parts.{takes_one, takes_all, takes_any, combines};
+ghost use Rattle.setl_modes_parts.specs.Parts.{takes_one, takes_all, takes_product, takes_remainder, takes_any, combines};
 
 use setl_modes::Mode;
 use setl_modes_fit::fits;
@@ -13,8 +13,9 @@ use setl_value::Value;
 /// Whether a whole that fits a mode fits it too once an operator combined it with a value, as the value alone tells. False
 /// where it doesn't tell that.
 ///
-/// What takes members out keeps every mode, `with` keeps that of a set or tuple where the value fits the mode of the members
-/// or components, and `+` where the other set or tuple fits. It takes no memory, and costs the test of the value.
+/// What takes members out keeps every mode, and so does what makes an integer of integers alone. `with` keeps that of a set
+/// or tuple where the value fits the mode of the members or components, and `+` where the other set or tuple fits; of an
+/// integer `+` and `mod` keep it, and `*` where the other value is one. It takes no memory, and costs the test of the value.
 pub fn combines(by: Operator, mode: &Mode, value: &Option<Value>) -> bool
     ensures { result ≡ combines by (mode_of mode.now) (part value.now) }
 {
@@ -24,6 +25,12 @@ pub fn combines(by: Operator, mode: &Mode, value: &Option<Value>) -> bool
         Operator::Less => true,
         Operator::Subtract => true,
         Operator::Lessf => true,
+        Operator::Multiply => takes_product(mode, value),
+        Operator::Modulo => takes_remainder(mode),
+        Operator::Power => true,
+        Operator::Divide => true,
+        Operator::Max => true,
+        Operator::Min => true,
         _ => takes_any(mode),
     }
 }
@@ -47,10 +54,35 @@ fn takes_all(mode: &Mode, value: &Option<Value>) -> bool
 {
     match mode {
         Mode::General => true,
+        Mode::Int => true,
         Mode::Str => true,
         Mode::Elmt(_, m) => takes_all(m.get(), value),
         Mode::Set(_, _) => fits(mode, value),
         Mode::Tuple(_) => fits(mode, value),
+        _ => false,
+    }
+}
+
+// Whether `whole * value` fits where the whole does. An integer may also make copies of a string.
+fn takes_product(mode: &Mode, value: &Option<Value>) -> bool
+    ensures { result ≡ takes_product (mode_of mode.now) (part value.now) }
+{
+    match mode {
+        Mode::General => true,
+        Mode::Int => fits(mode, value),
+        Mode::Elmt(_, m) => takes_product(m.get(), value),
+        _ => false,
+    }
+}
+
+// Whether `whole mod value` fits where the whole does.
+fn takes_remainder(mode: &Mode) -> bool
+    ensures { result ≡ takes_remainder (mode_of mode.now) }
+{
+    match mode {
+        Mode::General => true,
+        Mode::Int => true,
+        Mode::Elmt(_, m) => takes_remainder(m.get()),
         _ => false,
     }
 }

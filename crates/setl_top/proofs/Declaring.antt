@@ -20,7 +20,9 @@ use Rattle.setl_code.specs.Names.{is_among}
 use Rattle.setl_code.specs.Plain.{plain_code}
 use Rattle.setl_code_marked.specs.Marked.{declared_in, MarksBodies}
 use Rattle.setl_live.specs.Slots.{OnlyMain}
-use Rattle.setl_store.specs.Standing.{Standing, started}
+use Rattle.setl_code_declared.specs.Fitting.{Fitting}
+use Rattle.setl_code_declared.specs.Laws.{StartsFit}
+use Rattle.setl_store.specs.Standing.{Standing, no_world, started}
 use Rattle.setl_machine_control.specs.Declaring.{Modes, DeclarationTable, modes_of, IsOfMain, AreOfMain, IsBare, Serves}
 use Rattle.setl_top.specs.Listings.{IsMarked}
 use Rattle.setl_top.specs.code.Runs.{IsMeant, counted}
@@ -92,11 +94,12 @@ only_main p m =
     }
 
 -- a table of these declarations serves the code of a store that was started
-pub serves : (code : RustCode) (declared : List Declared) (d : DeclarationTable) (store : Standing) → d ≡ record { code = code; declared = declared } → store ≡ started code → IsBare (plain_code code) → AreOfMain (map plain_declared declared) → Serves d store.code
-serves code declared d store made begun bare main = record {
+pub serves : StartsFit → (code : RustCode) (declared : List Declared) (d : DeclarationTable) (store : Standing) → d ≡ record { code = code; declared = declared } → store ≡ started code → IsBare (plain_code code) → AreOfMain (map plain_declared declared) → Serves d store
+serves starts code declared d store made begun bare main = record {
   same = ap (λ (t : DeclarationTable). t.code) made ∙ sym (ap (λ (s : Standing). s.code) begun);
   bare = subst (λ (s : Standing). IsBare (plain_code s.code)) (sym begun) bare;
   main = subst AreOfMain (sym (ap modes_of made)) main;
+  fitting = subst (λ (s : Standing). Fitting (modes_of d) s.core) (sym begun) (starts (modes_of d) (plain_code code) no_world);
 }
 
 -- what is made of all or none is all or none of what is made

@@ -12,6 +12,7 @@ ghost use Rattle.setl_top_words.specs.code.Commands.{options_now};
 
 use crate::coding::code_of_program;
 use setl_code::Code;
+use setl_code_declared::declared_variables_fit;
 use setl_io::{Sink, Source};
 use setl_machine::{Control, Declarations, End, run_watched};
 use setl_program::{Declared, Program};
@@ -48,6 +49,7 @@ fn run_code<I: Source, O: Sink>(
     ensures input { OnErr result (seen I.left I.faults input.new ≡ seen I.left I.faults input.old) }
     ensures out { OnErr result (seen O.held O.faults out.new ≡ seen O.held O.faults out.old) }
 {
+    declared_variables_fit();
     let declarations = Declarations::new(alloc, code, declared)?;
     let mut store = Store::start(alloc, code, 0)?;
     let mut control = Control::new(alloc, turns)?;

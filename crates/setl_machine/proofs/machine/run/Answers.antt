@@ -7,6 +7,7 @@ use Rattle.setl_machine_control.specs.declared.end.End.TheVariants.{Paused}
 use Rattle.setl_machine.specs.Outcome.{RanQuietly}
 use Rattle.setl_machine.proofs.AtOnce.{then_quietly}
 use Rattle.setl_machine.proofs.Rounds.{moment, Runs, runs_on, runs_longer, takes_then, honest_then}
+use Rattle.setl_machine.proofs.Serving.{serves_then, serves_quietly}
 use Rattle.setl_machine.proofs.machine.run.Goals as goal
 
 pub loop-done-preserved : goal.loop-done-preserved
@@ -95,4 +96,18 @@ returns-clause-ran g c =
     subst (λ n. Runs (modes_of c.args.declarations.now) (plain_code s.code) n old now Paused) all l.invariant.ran
 
 pub step-requires-clause-serves : goal.step-requires-clause-serves
-step-requires-clause-serves g c = subst (λ d. Serves c.args.declarations.now d) (sym (c.run_quietly-quiet.ensures.code c.in-Paused.is ∙ c.loop-done.invariant.code)) c.requires.serves
+step-requires-clause-serves g c =
+    let l = c.loop-done in
+    let q = c.run_quietly-quiet in
+    let d = c.args.declarations.now in
+    let a = moment c.args.store.now.core c.args.control.now (g.O.Sink.held c.args.out.now) (g.O.Sink.faults c.args.out.now) (g.I.Source.faults c.args.input.now) (g.I.Source.left c.args.input.now) in
+    let b = moment l.store.core l.control (g.O.Sink.held l.out) (g.O.Sink.faults l.out) (g.I.Source.faults l.input) (g.I.Source.left l.input) in
+    let serves : Serves d l.store = serves_then c.declared_variables_fit.ensures.runs d c.args.store.now l.store l.done a b c.requires.serves l.invariant.code l.invariant.ran in
+    serves_quietly c.declared_variables_fit.ensures.runs d l.store q.new.store q.result.done l.control q.new.control q.result.end serves (q.ensures.code c.in-Paused.is) c.in-Paused.is q.ensures.ran
+
+pub run_quietly-quiet-requires : goal.run_quietly-quiet-requires
+run_quietly-quiet-requires g c =
+    let l = c.loop-done in
+    let a = moment c.args.store.now.core c.args.control.now (g.O.Sink.held c.args.out.now) (g.O.Sink.faults c.args.out.now) (g.I.Source.faults c.args.input.now) (g.I.Source.left c.args.input.now) in
+    let b = moment l.store.core l.control (g.O.Sink.held l.out) (g.O.Sink.faults l.out) (g.I.Source.faults l.input) (g.I.Source.left l.input) in
+    record { serves = serves_then c.declared_variables_fit.ensures.runs c.args.declarations.now c.args.store.now l.store l.done a b c.requires.serves l.invariant.code l.invariant.ran }

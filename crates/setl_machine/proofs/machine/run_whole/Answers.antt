@@ -1,8 +1,9 @@
-use Rattle.std.proofs.Common.{◌≡◌, ◌∙◌, ◌+◌, ◌*◌, refl, sym, ap, subst, arith}
+use Rattle.std.proofs.Common.{◌≡◌, ◌∙◌, ◌+◌, ◌*◌, refl, ap, arith}
 use Rattle.setl_code.specs.Plain.{plain_code}
-use Rattle.setl_machine_control.specs.Declaring.{modes_of, Serves}
+use Rattle.setl_machine_control.specs.Declaring.{modes_of}
 use Rattle.setl_machine_control.specs.declared.end.End.TheVariants.{Paused, NoMemory}
 use Rattle.setl_machine.proofs.Rounds.{moment, runs_then, runs_give_up, some_runs, takes_then, honest_then}
+use Rattle.setl_machine.proofs.Serving.{serves_then}
 use Rattle.setl_machine.proofs.machine.run_whole.Goals as goal
 
 pub loop-rounds-preserved : goal.loop-rounds-preserved
@@ -51,4 +52,8 @@ returns-clause-ran g c =
     some_runs (modes_of c.args.declarations.now) (plain_code s.code) (l.rounds * 1000 + 1) old now NoMemory (runs_give_up (modes_of c.args.declarations.now) (plain_code s.code) (l.rounds * 1000) old now l.invariant.ran)
 
 pub run-requires-clause-serves : goal.run-requires-clause-serves
-run-requires-clause-serves g c = subst (λ d. Serves c.args.declarations.now d) (sym c.loop-rounds.invariant.code) c.requires.serves
+run-requires-clause-serves g c =
+    let l = c.loop-rounds in
+    let a = moment c.args.store.now.core c.args.control.now (g.O.Sink.held c.args.out.now) (g.O.Sink.faults c.args.out.now) (g.I.Source.faults c.args.input.now) (g.I.Source.left c.args.input.now) in
+    let b = moment l.store.core l.control (g.O.Sink.held l.out) (g.O.Sink.faults l.out) (g.I.Source.faults l.input) (g.I.Source.left l.input) in
+    serves_then c.declared_variables_fit.ensures.runs c.args.declarations.now c.args.store.now l.store (l.rounds * 1000) a b c.requires.serves l.invariant.code l.invariant.ran

@@ -1,15 +1,16 @@
-use Rattle.std.proofs.Common.{◌∙◌, ℕ, List, Ok, ap, sym, subst, arith}
+use Rattle.std.proofs.Common.{◌∙◌, ℕ, List, Ok, refl, ap, sym, subst, arith}
 use Rattle.setl_code.specs.Machine.{machine}
 use Rattle.setl_code.specs.Plain.{plain_code}
 use Rattle.setl_model_runs.specs.Run.{step}
 use Rattle.setl_store.specs.Standing.{Standing}
 use Rattle.setl_machine_control.specs.Answers.{start}
 use Rattle.setl_machine_control.specs.Control.{ControlState, stood_for}
-use Rattle.setl_machine_control.specs.Declaring.{modes_of, tested, Serves}
+use Rattle.setl_machine_control.specs.Declaring.{modes_of, tested}
 use Rattle.setl_machine_control.specs.declared.end.End.TheVariants.{Paused}
 use Rattle.setl_machine.specs.Outcome.{RanQuietly}
 use Rattle.setl_machine.specs.Working.{StepsOrLeaves}
 use Rattle.setl_machine.proofs.AtOnce.{ends_so, no_pause, quietly_on}
+use Rattle.setl_machine.proofs.Serving.{serves_quietly}
 use Rattle.setl_machine.proofs.quiet.run_quietly.Goals as goal
 
 pub loop-done-preserved : goal.loop-done-preserved
@@ -61,4 +62,6 @@ returns-in-Err c =
     }
 
 pub one_quietly-requires : goal.one_quietly-requires
-one_quietly-requires c = record { serves = subst (λ d. Serves c.args.declarations.now d) (sym c.loop-done.invariant.code) c.requires.serves }
+one_quietly-requires c =
+    let l = c.loop-done in
+    record { serves = serves_quietly c.declared_variables_fit.ensures.runs c.args.declarations.now c.args.store.now l.store l.done c.args.control.now l.control Paused c.requires.serves l.invariant.code refl l.invariant.ran }

@@ -3,10 +3,11 @@ use Rattle.std.proofs.lemmas.Bool.{eqb-true}
 use Rattle.setl_code.specs.Plain.{plain_code}
 use Rattle.setl_watch.specs.code.NoticeOf.{notice_of}
 use Rattle.setl_watch.specs.Watches.{watched, told_each}
-use Rattle.setl_machine_control.specs.Declaring.{modes_of, Serves}
+use Rattle.setl_machine_control.specs.Declaring.{modes_of, IsBare}
 use Rattle.setl_machine_control.specs.declared.end.End.TheVariants.{Paused}
 use Rattle.setl_machine.proofs.Hearing.{heard_on, heard_then, heard_paused, heard_ended, heard_gives_up, some_heard, no_items}
 use Rattle.setl_machine.proofs.Rounds.{moment, runs_one, takes_then, honest_then}
+use Rattle.setl_machine.proofs.Serving.{serves_heard}
 use Rattle.setl_machine.proofs.watching.run_watched.Goals as goal
 
 pub loop-steps-preserved : goal.loop-steps-preserved
@@ -89,10 +90,10 @@ returns-in-Err-clause-ran g c =
     let a = c.in-Err.ensures in
     let end = c.in-Err.end in
     let d = plain_code l.store.code in
-    let serves : Serves c.args.declarations.now l.store.code = subst (λ d. Serves c.args.declarations.now d) (sym i.code) c.requires.serves in
+    let bare : IsBare d = subst (λ c. IsBare (plain_code c)) (sym i.code) c.requires.serves.bare in
     some_heard modes (plain_code s.code) (l.steps + 1) old new h h1 end
     (heard_on c.told_in_parts.ensures modes (plain_code s.code) d l.steps old mid new h h1 h1 end (ap plain_code i.code) i.heard
-    (heard_ended c.ends_tell_nothing.ensures modes d mid new h1 end serves.main serves.bare a.ends (runs_one modes d mid new end a.did a.reads a.prints a.reads_only)))
+    (heard_ended c.ends_tell_nothing.ensures modes d mid new h1 end c.requires.serves.main bare a.ends (runs_one modes d mid new end a.did a.reads a.prints a.reads_only)))
 
 pub returns-in-Err-clause-took : goal.returns-in-Err-clause-took
 returns-in-Err-clause-took g c =
@@ -174,3 +175,23 @@ returns-clause-ran g c =
     let h = watched (map (λ w. (goal.Watcher-dyn g (w.vtable, w.value)).watch w.value) c.args.watchers.now.items) c.args.reports.now.items in
     let h1 = watched (map (λ w. (goal.Watcher-dyn g (w.vtable, w.value)).watch w.value) l.watchers.items) l.reports.items in
     heard_gives_up modes (plain_code s.code) l.steps old mid h h1 h1 i.heard
+
+pub run_whole-requires-clause-serves : goal.run_whole-requires-clause-serves
+run_whole-requires-clause-serves g c =
+    let l = c.loop-steps in
+    let i = l.invariant in
+    let a = moment c.args.store.now.core c.args.control.now (g.O.Sink.held c.args.out.now) (g.O.Sink.faults c.args.out.now) (g.I.Source.faults c.args.input.now) (g.I.Source.left c.args.input.now) in
+    let b = moment l.store.core l.control (g.O.Sink.held l.out) (g.O.Sink.faults l.out) (g.I.Source.faults l.input) (g.I.Source.left l.input) in
+    let h = watched (map (λ w. (goal.Watcher-dyn g (w.vtable, w.value)).watch w.value) c.args.watchers.now.items) c.args.reports.now.items in
+    let h1 = watched (map (λ w. (goal.Watcher-dyn g (w.vtable, w.value)).watch w.value) l.watchers.items) l.reports.items in
+    serves_heard c.declared_variables_fit.ensures.runs c.args.declarations.now c.args.store.now l.store l.steps a b h h1 c.requires.serves i.code i.heard
+
+pub step_telling-requires-clause-serves : goal.step_telling-requires-clause-serves
+step_telling-requires-clause-serves g c =
+    let l = c.loop-steps in
+    let i = l.invariant in
+    let a = moment c.args.store.now.core c.args.control.now (g.O.Sink.held c.args.out.now) (g.O.Sink.faults c.args.out.now) (g.I.Source.faults c.args.input.now) (g.I.Source.left c.args.input.now) in
+    let b = moment l.store.core l.control (g.O.Sink.held l.out) (g.O.Sink.faults l.out) (g.I.Source.faults l.input) (g.I.Source.left l.input) in
+    let h = watched (map (λ w. (goal.Watcher-dyn g (w.vtable, w.value)).watch w.value) c.args.watchers.now.items) c.args.reports.now.items in
+    let h1 = watched (map (λ w. (goal.Watcher-dyn g (w.vtable, w.value)).watch w.value) l.watchers.items) l.reports.items in
+    serves_heard c.declared_variables_fit.ensures.runs c.args.declarations.now c.args.store.now l.store l.steps a b h h1 c.requires.serves i.code i.heard

@@ -14,6 +14,7 @@ use Rattle.setl_machine_control.specs.Working.{DoesBy}
 use Rattle.setl_machine_variables.specs.declared.altering.Updated.{Updated}
 use Rattle.setl_machine_control.specs.declared.end.End.TheVariants.{Paused}
 use Rattle.setl_machine_variables.proofs.Altered.{altered_by, stores_popped, declared_popped}
+use Rattle.setl_machine_variables.proofs.Parts.{fitting_popped}
 use Rattle.setl_machine_variables.proofs.altering.alter.Goals as goal
 
 pub returns-in-Put-clause-did : goal.returns-in-Put-clause-did
@@ -25,7 +26,7 @@ returns-in-Put-clause-did c =
     let off : popped (length c.args.brackets.now) [] old.core.now.operands ≡ Pops (map part c.in-Some.values.items) mid.core.now.operands = rw c.in-Some.is at c.in_ok-values.ensures.values in
     altered_by modes old mid c.put.new.store c.args.control.now c.put.new.control c.args.line c.args.what Putting c.args.slot c.args.brackets.now vs (map selected c.as_slice.result.now) c.in_ok-end-in-Put.end
     off c.in_ok-values.ensures.rest (ap (map selected) c.as_slice.ensures.value ∙ c.in_ok-at.ensures) (ap plain_alteration c.in-Put.is)
-    (c.in_ok-end-in-Put.ensures.did modes (declared_popped modes old mid c.args.slot c.of_slot-declared.result c.in_ok-values.ensures.rest c.of_slot-declared.ensures))
+    (c.in_ok-end-in-Put.ensures.did modes (declared_popped modes old mid c.args.slot c.of_slot-declared.result c.in_ok-values.ensures.rest c.of_slot-declared.ensures) (fitting_popped modes old mid c.in_ok-values.ensures.rest c.requires.serves.fitting))
 
 pub returns-in-Combine-clause-did : goal.returns-in-Combine-clause-did
 returns-in-Combine-clause-did c =
@@ -36,7 +37,7 @@ returns-in-Combine-clause-did c =
     let off : popped (length c.args.brackets.now) [] old.core.now.operands ≡ Pops (map part c.in-Some.values.items) mid.core.now.operands = rw c.in-Some.is at c.in_ok-values.ensures.values in
     altered_by modes old mid c.combine.new.store c.args.control.now c.combine.new.control c.args.line c.args.what (Combining c.in-Combine.by) c.args.slot c.args.brackets.now vs (map selected c.as_slice-in-Combine.result.now) c.in_ok-end-in-Combine.end
     off c.in_ok-values.ensures.rest (ap (map selected) c.as_slice-in-Combine.ensures.value ∙ c.in_ok-at.ensures) (ap plain_alteration c.in-Combine.is)
-    (c.in_ok-end-in-Combine.ensures.did modes (declared_popped modes old mid c.args.slot c.of_slot-declared.result c.in_ok-values.ensures.rest c.of_slot-declared.ensures))
+    (c.in_ok-end-in-Combine.ensures.did modes (declared_popped modes old mid c.args.slot c.of_slot-declared.result c.in_ok-values.ensures.rest c.of_slot-declared.ensures) (fitting_popped modes old mid c.in_ok-values.ensures.rest c.requires.serves.fitting))
 
 pub returns-clause-did : goal.returns-clause-did
 returns-clause-did c =
@@ -53,7 +54,7 @@ returns-clause-did c =
     (λ (u : Updated). Alters modes mid from c.args.line (TakingOut c.in-TakeOut.end) (plain_slot (variables mid.core) c.args.slot) at new to u.end)
     (λ (u : Updated). DoesBy modes old from c.args.line (Alter (plain_alteration c.args.what) (plain_slot (variables old.core) c.args.slot) (map plain_bracket c.args.brackets.now)) new to u.end)
     (λ u a. altered_by modes old mid new from to c.args.line c.args.what (TakingOut c.in-TakeOut.end) c.args.slot c.args.brackets.now vs at u.end off c.in_ok-values.ensures.rest (ap (map selected) c.as_slice-in-TakeOut.ensures.value ∙ c.in_ok-at.ensures) (ap plain_alteration c.in-TakeOut.is) a)
-    (c.take_out.ensures.did modes (declared_popped modes old mid c.args.slot c.of_slot-declared.result c.in_ok-values.ensures.rest c.of_slot-declared.ensures))
+    (c.take_out.ensures.did modes (declared_popped modes old mid c.args.slot c.of_slot-declared.result c.in_ok-values.ensures.rest c.of_slot-declared.ensures) (fitting_popped modes old mid c.in_ok-values.ensures.rest c.requires.serves.fitting))
 
 pub returns-clause-stored : goal.returns-clause-stored
 returns-clause-stored c =

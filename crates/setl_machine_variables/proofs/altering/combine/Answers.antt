@@ -1,4 +1,4 @@
-use Rattle.std.proofs.Common.{◌∷◌, [], subst, Some}
+use Rattle.std.proofs.Common.{◌∙◌, ◌∷◌, [], sym, subst, Some}
 use Rattle.std.proofs.lemmas.Result.{IfOk-weaker}
 use Rattle.setl_value.specs.code.DatumOf.{part}
 use Rattle.setl_operators_table.specs.Operators.{op_of}
@@ -14,6 +14,7 @@ use Rattle.setl_machine_variables.specs.Altered.{Alters, TakesHeld}
 use Rattle.setl_machine_control.specs.Declaring.{Keeps}
 use Rattle.setl_machine_control.specs.Working.{PopsTop}
 use Rattle.setl_machine_variables.proofs.Altered.{changed, held_slot, declared_here}
+use Rattle.setl_machine_variables.proofs.Parts.{combined_sure}
 use Rattle.setl_machine_variables.proofs.altering.combine.Goals as goal
 
 pub end_update-requires-clause-there : goal.end_update-requires-clause-there
@@ -25,7 +26,7 @@ end_update-requires-clause-there c =
     held_slot old mid c.take_held.new.store c.args.target.slot c.in-Some.value c.in-Some-2.whole pops takes c.requires.there
 
 pub returns-clause-did : goal.returns-clause-did
-returns-clause-did c = λ modes declared.
+returns-clause-did c = λ modes declared fitting.
     let old = c.args.store.now in
     let mid = c.pop_top.new.store in
     let gone = c.take_held.new.store in
@@ -38,7 +39,11 @@ returns-clause-did c = λ modes declared.
     let whole = c.combine_at-left.new.whole in
     let told : Updates (combined at (part c.in-Some-2.whole) (λ p now. op_of c.args.by (p ∷ part c.in-Some.value ∷ []) now) c.turns.result) c.turns.result (part whole) c.combine_at-left.result = c.combine_at-left.ensures.updated in
     let updated : Updates (combined at (part c.in-Some-2.whole) (λ p now. op_of c.args.by (p ∷ part c.in-Some.value ∷ []) now) from.turns) from.turns (part whole) c.combine_at-left.result = subst (λ n. Updates (combined at (part c.in-Some-2.whole) (λ p now. op_of c.args.by (p ∷ part c.in-Some.value ∷ []) now) n) n (part whole) c.combine_at-left.result) c.turns.ensures told in
-    let keeps : Keeps modes (plain_slot (variables old.core) c.args.target.slot) (part c.in-Some-2.whole) (option_map part c.in_ok-kept.kept) = c.in_ok-kept.ensures modes (plain_slot (variables old.core) c.args.target.slot) declared in
+    let x = plain_slot (variables old.core) c.args.target.slot in
+    let laws = c.learn_laws.ensures in
+    let keeps : Keeps modes x (part c.in-Some-2.whole) (part whole) (option_map part c.in_ok-kept.kept) =
+    c.in_ok-kept.ensures modes x (part whole)
+    (λ sure. combined_sure laws.parts laws.held modes old mid gone c.args.target.slot c.args.by c.args.target.declared at c.in-Some.value c.in-Some-2.whole whole from.turns c.combine_at-left.result declared fitting pops takes (sym c.decides_combined-sure.ensures ∙ sure) laws.formed updated c.combine_at-left.ensures.refused) in
     IfOk-weaker c.end_update.result
     (λ e. EndsUpdate modes c.combine_at-left.result c.args.line (plain_slot (variables gone.core) c.args.target.slot) (part whole) (option_map part c.in_ok-kept.kept) gone from new to e)
     (λ e. Alters modes old from c.args.line (Combining c.args.by) (plain_slot (variables old.core) c.args.target.slot) at new to e)

@@ -10,6 +10,7 @@ use Rattle.setl_code_events.specs.Told.{value_held}
 use Rattle.setl_machine_variables.specs.Altered.{stores_new, TakesHeld}
 use Rattle.setl_machine_control.specs.Declaring.{Keeps}
 use Rattle.setl_machine_variables.proofs.Taking.{took_stores, no_pause}
+use Rattle.setl_machine_variables.proofs.Parts.{taken_sure}
 use Rattle.setl_machine_variables.proofs.Altered.{pushed_slot, held_slot_of, took_out, takes_not, declared_pushed, declared_gone}
 use Rattle.setl_machine_variables.proofs.altering.take_out.Goals as goal
 
@@ -26,7 +27,7 @@ end_update-requires-in-Err-clause-there c =
     held_slot_of old c.take_held.new.store c.args.target.slot c.in-Some.whole takes c.requires.there
 
 pub returns-in_ok-end-in-Ok-clause-did : goal.returns-in_ok-end-in-Ok-clause-did
-returns-in_ok-end-in-Ok-clause-did c = λ modes declared.
+returns-in_ok-end-in-Ok-clause-did c = λ modes declared fitting.
     let old = c.args.store.now in
     let gone = c.take_held.new.store in
     let put = c.push.new.self in
@@ -40,12 +41,16 @@ returns-in_ok-end-in-Ok-clause-did c = λ modes declared.
     let told : Takes c.args.end at (part c.in-Some.whole) c.turns.result (part whole) (Ok taken) = c.in-Ok.ensures.taken in
     let took : Takes c.args.end at (part c.in-Some.whole) from.turns (part whole) (Ok taken) = subst (λ n. Takes c.args.end at (part c.in-Some.whole) n (part whole) (Ok taken)) c.turns.ensures told in
     let kept = option_map part c.in_ok-kept.kept in
-    let keeps : Keeps modes (plain_slot (variables old.core) c.args.target.slot) (part c.in-Some.whole) kept = c.in_ok-kept.ensures modes (plain_slot (variables old.core) c.args.target.slot) declared in
+    let x = plain_slot (variables old.core) c.args.target.slot in
+    let laws = c.learn_laws.ensures in
+    let keeps : Keeps modes x (part c.in-Some.whole) (part whole) kept =
+    c.in_ok-kept.ensures modes x (part whole)
+    (λ sure. taken_sure laws.parts laws.held modes old gone c.args.target.slot c.args.end c.args.target.declared at c.in-Some.whole whole from.turns taken declared fitting takes (sym c.decides_taken-sure.ensures ∙ sure) laws.formed took) in
     took_out modes old gone put new from to c.args.line c.args.target.slot at c.args.end c.in-Some.whole whole kept (option_map part c.tested_if-tested.result) taken c.in_ok-end-in-Ok.end keeps c.tested_if-tested.ensures takes took c.in_ok-push-in-Ok.ensures
     (c.in_ok-end-in-Ok.ensures.did modes (declared_pushed modes old gone put c.args.target.slot c.in-Some.whole taken.value c.args.target.declared takes c.in_ok-push-in-Ok.ensures declared))
 
 pub returns-in_ok-end-in-Err-clause-did : goal.returns-in_ok-end-in-Err-clause-did
-returns-in_ok-end-in-Err-clause-did c = λ modes declared.
+returns-in_ok-end-in-Err-clause-did c = λ modes declared fitting.
     let old = c.args.store.now in
     let gone = c.take_held.new.store in
     let new = c.end_update-in-Err.new.store in
@@ -58,7 +63,6 @@ returns-in_ok-end-in-Err-clause-did c = λ modes declared.
     let told : Takes c.args.end at (part c.in-Some.whole) c.turns.result (part whole) (Err fault) = c.in-Err.ensures.taken in
     let took : Takes c.args.end at (part c.in-Some.whole) from.turns (part whole) (Err fault) = subst (λ n. Takes c.args.end at (part c.in-Some.whole) n (part whole) (Err fault)) c.turns.ensures told in
     let kept = option_map part c.in_ok-kept.kept in
-    let keeps : Keeps modes (plain_slot (variables old.core) c.args.target.slot) (part c.in-Some.whole) kept = c.in_ok-kept.ensures modes (plain_slot (variables old.core) c.args.target.slot) declared in
     takes_not modes old gone new from to c.args.line c.args.target.slot at c.args.end c.in-Some.whole whole kept fault c.in_ok-end-in-Err.end takes took c.in-Err.ensures.refused
     (c.in_ok-end-in-Err.ensures.did modes (declared_gone modes old gone c.args.target.slot c.in-Some.whole c.args.target.declared takes declared))
 

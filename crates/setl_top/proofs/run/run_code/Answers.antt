@@ -13,7 +13,7 @@ use Rattle.setl_top.proofs.run.run_code.Goals as goal
 pub run_watched-requires : goal.run_watched-requires
 run_watched-requires g c = record {
   no_fault = ap (λ (k : ControlState). k.reader.fault) c.in_ok-control.ensures;
-  serves = serves c.args.code.now c.args.declared.now c.in_ok-declarations.declarations c.in_ok-store.store c.in_ok-declarations.ensures c.in_ok-store.ensures c.requires.bare c.requires.main;
+  serves = serves c.declared_variables_fit.ensures.starts c.args.code.now c.args.declared.now c.in_ok-declarations.declarations c.in_ok-store.store c.in_ok-declarations.ensures c.in_ok-store.ensures c.requires.bare c.requires.main;
 }
 
 pub returns-clause-ran : goal.returns-clause-ran
