@@ -151,7 +151,9 @@ fn truth_on_top(store: &Store<'_>, line: u32) -> Result<bool, End>
 {
     match store.top() {
         Top::Value(Value::Bool(truth)) => Ok(*truth),
-        Top::Value(_) | Top::Collection(_) => Err(End::Stopped(StopKind::Kind, line)),
+        Top::Value(_) | Top::Collection(_) | Top::Based => {
+            Err(End::Stopped(StopKind::Kind, line))
+        }
         Top::Om => Err(End::Stopped(StopKind::Om, line)),
         Top::Nothing | Top::Iterator => Err(End::Stuck),
     }

@@ -28,7 +28,7 @@ pub fn pop_top(store: &mut Store<'_>) -> Result<Option<Option<Value>>, Memory>
 {
     match store.top() {
         Top::Nothing | Top::Iterator => Ok(None),
-        Top::Collection(_) | Top::Om | Top::Value(_) => Ok(Some(store.pop()?)),
+        Top::Collection(_) | Top::Om | Top::Value(_) | Top::Based => Ok(Some(store.pop()?)),
     }
 }
 

@@ -18,16 +18,18 @@ use Rattle.setl_code.specs.MayRun.{MayRun}
 use Rattle.setl_code.specs.Plain.{plain_code}
 use Rattle.setl_rep_bases.specs.Bases.{BasesState}
 use Rattle.setl_store.specs.declared.cells.Frame.{Frame}
-use Rattle.setl_store.specs.declared.cells.Member.{Member}
-use Rattle.setl_store.specs.declared.cells.Operand.{Operand}
-use Rattle.setl_store.specs.declared.cells.Operand.TheVariants as operand
-use Rattle.setl_store.specs.Standing.{Standing, iterator_by, over}
+use Rattle.setl_store_operands.specs.declared.cells.Member.{Member}
+use Rattle.setl_store_operands.specs.declared.cells.Operand.{Operand}
+use Rattle.setl_store_operands.specs.declared.cells.Operand.TheVariants as operand
+use Rattle.setl_store_operands.specs.Operands.{HasMembers, got, iterator_by, member_of, operand_of}
+use Rattle.setl_store.specs.Standing.{Standing, over}
 use Rattle.setl_store.specs.declared.cells.Kept.{Kept}
-use Rattle.setl_store.specs.Flat.{Here, member_of, got, operand_of, operands_in, lowest_in, now_operands, results, stands, AllGot, AllSound, GotThese, HasMembers, IsShaped, IsSound}
+use Rattle.setl_store.specs.Flat.{Here, operands_in, lowest_in, now_operands, results, stands, AllGot, AllSound, GotThese, IsShaped, IsSound}
 use Rattle.setl_store.specs.Iterating.{AreIterators, Refuses}
 use Rattle.setl_store.specs.Operands.{TellsAdded}
 use Rattle.setl_store.proofs.Lists.{map_reverse}
 use Rattle.setl_store.proofs.NewOperands.{NowHas, now_has}
+use Rattle.setl_store.proofs.StandingOperands.{over_set}
 use Rattle.setl_store.proofs.OperandLists.{Changed, above, agree_flat, changed, lowest_of, now_counted, now_is}
 
 -- ---- below iterators
@@ -52,17 +54,18 @@ added_below true left n v xs = refl
 added_below false left n v xs = refl
 
 -- the first of so many iterators passed
-added_past : (its : List Operand) (ms : List Member) (n m : ℕ) (v : Option Datum) (xs : List core.Operand) → AreIterators its → n ≡ length its + m →
-    added n v (map (operand_of ms) its ++ xs) ≡ on (map (operand_of ms) its) (added m v xs)
-added_past [] ms n m v xs h long = ap (λ k. added k v xs) (omega (arith, long)) ∙ on_none (added m v xs)
-added_past (operand.Om ∷ its) ms n m v xs h long = absurd h
-added_past (operand.Value w ∷ its) ms n m v xs h long = absurd h
-added_past (operand.Collection what lowest count ∷ its) ms n m v xs h long = absurd h
-added_past (operand.Iterator i ∷ its) ms zero m v xs h long = absurd (omega (arith, long))
-added_past (operand.Iterator i ∷ its) ms (suc n) m v xs h long =
-    added_below i.pairs i.left n v (map (operand_of ms) its ++ xs)
-    ∙ ap (below (iterator_by i.pairs i.left)) (added_past its ms n m v xs h (omega (arith, long)))
-    ∙ on_more (iterator_by i.pairs i.left) (map (operand_of ms) its) (added m v xs)
+added_past : (bs : BasesState) (its : List Operand) (ms : List Member) (n m : ℕ) (v : Option Datum) (xs : List core.Operand) → AreIterators its → n ≡ length its + m →
+    added n v (map (operand_of bs ms) its ++ xs) ≡ on (map (operand_of bs ms) its) (added m v xs)
+added_past bs [] ms n m v xs h long = ap (λ k. added k v xs) (omega (arith, long)) ∙ on_none (added m v xs)
+added_past bs (operand.Om ∷ its) ms n m v xs h long = absurd h
+added_past bs (operand.Value w ∷ its) ms n m v xs h long = absurd h
+added_past bs (operand.Based f ∷ its) ms n m v xs h long = absurd h
+added_past bs (operand.Collection what lowest count ∷ its) ms n m v xs h long = absurd h
+added_past bs (operand.Iterator i ∷ its) ms zero m v xs h long = absurd (omega (arith, long))
+added_past bs (operand.Iterator i ∷ its) ms (suc n) m v xs h long =
+    added_below i.pairs i.left n v (map (operand_of bs ms) its ++ xs)
+    ∙ ap (below (iterator_by i.pairs i.left)) (added_past bs its ms n m v xs h (omega (arith, long)))
+    ∙ on_more (iterator_by i.pairs i.left) (map (operand_of bs ms) its) (added m v xs)
 
 iterator_adds : (pairs : Bool) (left : List model.Item) (v : Option Datum) (xs : List core.Operand) → added zero v (iterator_by pairs left ∷ xs) ≡ Nowhere
 iterator_adds true left v xs = refl
@@ -78,13 +81,14 @@ added_few (suc n) v (core.Iterator items ∷ xs) h = ap (below (core.Iterator it
 added_few (suc n) v (core.PairIterator items ∷ xs) h = ap (below (core.PairIterator items)) (added_few n v xs (omega (arith, h)))
 added_few (suc n) v (core.Collecting what got ∷ xs) h = refl
 
-pub nowhere_few : (e : Here) (n : ℕ) (v : Option Datum) → length e.operands - lowest_of e ≤ n → added n v (now_operands e) ≡ Nowhere
-nowhere_few e n v h = added_few n v (now_operands e) (omega (arith, now_counted (reverse e.activations) (results e), length-map e.operands (operand_of e.members)))
+pub nowhere_few : (bs : BasesState) (e : Here) (n : ℕ) (v : Option Datum) → length e.operands - lowest_of e ≤ n → added n v (now_operands bs e) ≡ Nowhere
+nowhere_few bs e n v h = added_few n v (now_operands bs e) (omega (arith, now_counted (reverse e.activations) (results bs e), length-map e.operands (operand_of bs e.members)))
 
 iterators_append : (xs ys : List Operand) → AreIterators xs → AreIterators ys → AreIterators (xs ++ ys)
 iterators_append [] ys h k = k
 iterators_append (operand.Om ∷ xs) ys h k = absurd h
 iterators_append (operand.Value w ∷ xs) ys h k = absurd h
+iterators_append (operand.Based f ∷ xs) ys h k = absurd h
 iterators_append (operand.Collection what lowest count ∷ xs) ys h k = absurd h
 iterators_append (operand.Iterator i ∷ xs) ys h k = iterators_append xs ys h k
 
@@ -92,6 +96,7 @@ iterators_reversed : (xs : List Operand) → AreIterators xs → AreIterators (r
 iterators_reversed [] h = tt
 iterators_reversed (operand.Om ∷ xs) h = absurd h
 iterators_reversed (operand.Value w ∷ xs) h = absurd h
+iterators_reversed (operand.Based f ∷ xs) h = absurd h
 iterators_reversed (operand.Collection what lowest count ∷ xs) h = absurd h
 iterators_reversed (operand.Iterator i ∷ xs) h =
     subst AreIterators (sym (reverse-append (operand.Iterator i ∷ []) xs)) (iterators_append (reverse xs) (operand.Iterator i ∷ []) (iterators_reversed xs h) tt)
@@ -147,48 +152,49 @@ around_now (f ∷ fs) n os q some low last =
     ∙ reverse-reverse xs
 
 -- those above and below the one at a place
-abbrev pub higher : Here → ℕ → List core.Operand
-higher e n = reverse (drop (suc n) (results e))
+abbrev pub higher : BasesState → Here → ℕ → List core.Operand
+higher bs e n = reverse (drop (suc n) (results bs e))
 
-abbrev pub lower : Here → ℕ → List core.Operand
-lower e n = operands_in (reverse e.activations) (take n (results e))
+abbrev pub lower : BasesState → Here → ℕ → List core.Operand
+lower bs e n = operands_in (reverse e.activations) (take n (results bs e))
 
-module _ (e : Here) (n : ℕ) (o : Operand) (some : 0 < length e.activations) (low : lowest_of e ≤ n) (last : Some o ≡ slice_get e.operands n) where
-  pub now_around : now_operands e ≡ higher e n ++ operand_of e.members o ∷ lower e n
+module _ (bs : BasesState) (e : Here) (n : ℕ) (o : Operand) (some : 0 < length e.activations) (low : lowest_of e ≤ n) (last : Some o ≡ slice_get e.operands n) where
+  pub now_around : now_operands bs e ≡ higher bs e n ++ operand_of bs e.members o ∷ lower bs e n
   now_around =
-      around_now (reverse e.activations) n (results e) (operand_of e.members o) (omega (arith, some, length-reverse e.activations)) low
-      (ap (option_map (operand_of e.members)) last ∙ sym (slice_get-map (operand_of e.members) e.operands n))
+      around_now (reverse e.activations) n (results bs e) (operand_of bs e.members o) (omega (arith, some, length-reverse e.activations)) low
+      (ap (option_map (operand_of bs e.members)) last ∙ sym (slice_get-map (operand_of bs e.members) e.operands n))
 
-  higher_mapped : map (operand_of e.members) (reverse (drop (suc n) e.operands)) ≡ higher e n
-  higher_mapped = map_reverse (operand_of e.members) (drop (suc n) e.operands) ∙ ap reverse (sym (drop-map (operand_of e.members) (suc n) e.operands))
+  higher_mapped : map (operand_of bs e.members) (reverse (drop (suc n) e.operands)) ≡ higher bs e n
+  higher_mapped = map_reverse (operand_of bs e.members) (drop (suc n) e.operands) ∙ ap reverse (sym (drop-map (operand_of bs e.members) (suc n) e.operands))
 
   -- so many iterators above it passed
   pub added_around : (k m : ℕ) (v : Option Datum) → AreIterators (drop (suc n) e.operands) → k + suc n ≡ length e.operands + m →
-      added k v (now_operands e) ≡ on (higher e n) (added m v (operand_of e.members o ∷ lower e n))
+      added k v (now_operands bs e) ≡ on (higher bs e n) (added m v (operand_of bs e.members o ∷ lower bs e n))
   added_around k m v are long =
       let its = reverse (drop (suc n) e.operands) in
-      ap (added k v) (now_around ∙ ap (λ l. l ++ operand_of e.members o ∷ lower e n) (sym higher_mapped))
-      ∙ added_past its e.members k m v (operand_of e.members o ∷ lower e n) (iterators_reversed (drop (suc n) e.operands) are) (omega (arith, long, there_is e.operands n o last, length-reverse (drop (suc n) e.operands), length-drop (suc n) e.operands))
-      ∙ ap (λ l. on l (added m v (operand_of e.members o ∷ lower e n))) higher_mapped
+      ap (added k v) (now_around ∙ ap (λ l. l ++ operand_of bs e.members o ∷ lower bs e n) (sym higher_mapped))
+      ∙ added_past bs its e.members k m v (operand_of bs e.members o ∷ lower bs e n) (iterators_reversed (drop (suc n) e.operands) are) (omega (arith, long, there_is e.operands n o last, length-reverse (drop (suc n) e.operands), length-drop (suc n) e.operands))
+      ∙ ap (λ l. on l (added m v (operand_of bs e.members o ∷ lower bs e n))) higher_mapped
 
-  pub nowhere_at : (k m : ℕ) (v : Option Datum) → AreIterators (drop (suc n) e.operands) → k + suc n ≡ length e.operands + m → added m v (operand_of e.members o ∷ lower e n) ≡ Nowhere → added k v (now_operands e) ≡ Nowhere
-  nowhere_at k m v are long none = added_around k m v are long ∙ ap (on (higher e n)) none
+  pub nowhere_at : (k m : ℕ) (v : Option Datum) → AreIterators (drop (suc n) e.operands) → k + suc n ≡ length e.operands + m → added m v (operand_of bs e.members o ∷ lower bs e n) ≡ Nowhere → added k v (now_operands bs e) ≡ Nowhere
+  nowhere_at k m v are long none = added_around k m v are long ∙ ap (on (higher bs e n)) none
 
 -- ---- where nothing is added
 
-none_added : (ms : List Member) (o : Operand) (v : Option Datum) (xs : List core.Operand) → ((what : Collection) (lowest count : ℕ) → o ≡ operand.Collection what lowest count → ⊥) → added zero v (operand_of ms o ∷ xs) ≡ Nowhere
-none_added ms operand.Om v xs h = refl
-none_added ms (operand.Value w) v xs h = refl
-none_added ms (operand.Iterator i) v xs h = iterator_adds i.pairs i.left v xs
-none_added ms (operand.Collection what lowest count) v xs h = absurd (h what lowest count refl)
+none_added : (bs : BasesState) (ms : List Member) (o : Operand) (v : Option Datum) (xs : List core.Operand) → ((what : Collection) (lowest count : ℕ) → o ≡ operand.Collection what lowest count → ⊥) → added zero v (operand_of bs ms o ∷ xs) ≡ Nowhere
+none_added bs ms operand.Om v xs h = refl
+none_added bs ms (operand.Value w) v xs h = refl
+none_added bs ms (operand.Based f) v xs h = refl
+none_added bs ms (operand.Iterator i) v xs h = iterator_adds i.pairs i.left v xs
+none_added bs ms (operand.Collection what lowest count) v xs h = absurd (h what lowest count refl)
 
 pub no_collection : (code : Code) (bs : BasesState) (at : ℕ) (e : Here) (kept : List (Here × Kept)) (s : Standing) (n k : ℕ) (o : Operand) (v : Option Datum) →
-    IsSound (plain_code code) e → stands code bs at e kept ≡ s → lowest_of e ≤ n → n + k + 1 ≡ length e.operands → Some o ≡ slice_get e.operands n → AreIterators (drop (n + 1) e.operands) →
+    IsSound (plain_code code) bs e → stands code bs at e kept ≡ s → lowest_of e ≤ n → n + k + 1 ≡ length e.operands → Some o ≡ slice_get e.operands n → AreIterators (drop (n + 1) e.operands) →
     ((what : Collection) (lowest count : ℕ) → o ≡ operand.Collection what lowest count → ⊥) → added k v s.core.now.operands ≡ Nowhere
 no_collection code bs at e kept s n k o v sound is low long last are none =
     let same : n + 1 ≡ suc n = omega arith in
     ap (added k v) (sym (now_is code bs at e kept s is))
-    ∙ nowhere_at e n o sound.some low last k 0 v (subst (λ j. AreIterators (drop j e.operands)) same are) (omega (arith, long)) (none_added e.members o v (lower e n) none)
+    ∙ nowhere_at bs e n o sound.some low last k 0 v (subst (λ j. AreIterators (drop j e.operands)) same are) (omega (arith, long)) (none_added bs e.members o v (lower bs e n) none)
 
 pub told_refused : (a : Added) (fault : OpFault) (why : Option Fault) (new : List core.Operand) → Refuses fault why → ((f : Fault) → why ≡ Some f → a ≡ Refused f) → TellsAdded a (Err fault) new
 told_refused a fault.Om why new h told = told OmFault h
@@ -206,6 +212,7 @@ iterators_have : (its os : List Operand) (n : ℕ) → AreIterators its → HasM
 iterators_have [] os n h has = has
 iterators_have (operand.Om ∷ its) os n h has = absurd h
 iterators_have (operand.Value w ∷ its) os n h has = absurd h
+iterators_have (operand.Based f ∷ its) os n h has = absurd h
 iterators_have (operand.Collection what lowest count ∷ its) os n h has = absurd h
 iterators_have (operand.Iterator i ∷ its) os n h has = iterators_have its os n h has
 
@@ -213,6 +220,7 @@ have_iterators : (its os : List Operand) (n : ℕ) → AreIterators its → HasM
 have_iterators [] os n h has = has
 have_iterators (operand.Om ∷ its) os n h has = absurd h
 have_iterators (operand.Value w ∷ its) os n h has = absurd h
+have_iterators (operand.Based f ∷ its) os n h has = absurd h
 have_iterators (operand.Collection what lowest count ∷ its) os n h has = absurd h
 have_iterators (operand.Iterator i ∷ its) os n h has = have_iterators its os n h has
 
@@ -245,7 +253,7 @@ with_member e n o m = record e { operands = set e.operands n o; members = e.memb
 
 -- a collection below iterators
 module _ (code : Code) (bs : BasesState) (keeps : ℕ) (at : ℕ) (e : Here) (kept : List (Here × Kept)) (s : Standing) (n k : ℕ) (what : Collection) (lowest count : ℕ)
-    (holds : MayRun code × IsSound (plain_code code) e × AllSound (plain_code code) bs keeps e.slots kept) (is : stands code bs at e kept ≡ s)
+    (holds : MayRun code × IsSound (plain_code code) bs e × AllSound (plain_code code) bs keeps e.slots kept) (is : stands code bs at e kept ≡ s)
     (low : lowest_of e ≤ n) (long : n + k + 1 ≡ length e.operands) (last : Some (operand.Collection what lowest count) ≡ slice_get e.operands n) (are : AreIterators (drop (n + 1) e.operands)) where
   are_above : AreIterators (drop (suc n) e.operands)
   are_above = let same : n + 1 ≡ suc n = omega arith in subst (λ j. AreIterators (drop j e.operands)) same are
@@ -265,17 +273,17 @@ module _ (code : Code) (bs : BasesState) (keeps : ℕ) (at : ℕ) (e : Here) (ke
   abbrev more : Operand
   more = operand.Collection what lowest (count + 1)
 
-  more_results : (m : Member) → results (with_member e n more m) ≡ set (results e) n (core.Collecting what (member_of m ∷ got e.members lowest count))
+  more_results : (m : Member) → results bs (with_member e n more m) ≡ set (results bs e) n (core.Collecting what (member_of m ∷ got e.members lowest count))
   more_results m =
       let ms = e.members ++ m ∷ [] in
-      map-set (operand_of ms) e.operands n more
-      ∙ ap (λ l. set l n (operand_of ms more)) (agree_flat e.operands (length e.members) ms e.members holds.1.members (take_at e.members (m ∷ []) (length e.members) refl ∙ sym (take_all (length e.members) e.members (omega arith))))
-      ∙ ap (λ l. set (results e) n (core.Collecting what l)) (got_more e.members m lowest count its_members.0)
+      map-set (operand_of bs ms) e.operands n more
+      ∙ ap (λ l. set l n (operand_of bs ms more)) (agree_flat bs e.operands (length e.members) ms e.members holds.1.members (take_at e.members (m ∷ []) (length e.members) refl ∙ sym (take_all (length e.members) e.members (omega arith))))
+      ∙ ap (λ l. set (results bs e) n (core.Collecting what l)) (got_more e.members m lowest count its_members.0)
 
-  its_result : Some (core.Collecting what (got e.members lowest count)) ≡ slice_get (results e) n
-  its_result = ap (option_map (operand_of e.members)) last ∙ sym (slice_get-map (operand_of e.members) e.operands n)
+  its_result : Some (core.Collecting what (got e.members lowest count)) ≡ slice_get (results bs e) n
+  its_result = ap (option_map (operand_of bs e.members)) last ∙ sym (slice_get-map (operand_of bs e.members) e.operands n)
 
-  more_sound : (m : Member) → refusal what (member_of m) ≡ None → IsSound (plain_code code) (with_member e n more m)
+  more_sound : (m : Member) → refusal what (member_of m) ≡ None → IsSound (plain_code code) bs (with_member e n more m)
   more_sound m free = record {
     some = holds.1.some;
     shaped = subst (λ j. IsShaped (plain_code code) (reverse e.activations) (length e.slots) j) (sym (length-set e.operands n more)) holds.1.shaped;
@@ -285,35 +293,36 @@ module _ (code : Code) (bs : BasesState) (keeps : ℕ) (at : ℕ) (e : Here) (ke
         (omega (arith, length-append e.members (m ∷ []), its_members.0), its_members.1));
     got =
         subst AllGot (sym (more_results m))
-        (got_set (results e) n (core.Collecting what (member_of m ∷ got e.members lowest count)) holds.1.got
-        (free, got_at (results e) n (core.Collecting what (got e.members lowest count)) holds.1.got its_result));
+        (got_set (results bs e) n (core.Collecting what (member_of m ∷ got e.members lowest count)) holds.1.got
+        (free, got_at (results bs e) n (core.Collecting what (got e.members lowest count)) holds.1.got its_result));
+    operands = over_set bs e.operands n more holds.1.operands tt;
   }
 
   -- what it does with a value
   abbrev told : Option Datum → Added
-  told v = on (higher e n) (add_by (refusal what v) (core.Collecting what (v ∷ got e.members lowest count)) (lower e n))
+  told v = on (higher bs e n) (add_by (refusal what v) (core.Collecting what (v ∷ got e.members lowest count)) (lower bs e n))
 
   asked : (v : Option Datum) → added k v s.core.now.operands ≡ told v
   asked v =
       ap (added k v) (sym (now_is code bs at e kept s is))
-      ∙ added_around e n (operand.Collection what lowest count) holds.1.some low last k 0 v are_above (omega (arith, long))
+      ∙ added_around bs e n (operand.Collection what lowest count) holds.1.some low last k 0 v are_above (omega (arith, long))
 
   pub refused_by : (v : Option Datum) (why : Fault) → refusal what v ≡ Some why → added k v s.core.now.operands ≡ Refused why
-  refused_by v why refuses = asked v ∙ ap (λ f. on (higher e n) (add_by f (core.Collecting what (v ∷ got e.members lowest count)) (lower e n))) refuses
+  refused_by v why refuses = asked v ∙ ap (λ f. on (higher bs e n) (add_by f (core.Collecting what (v ∷ got e.members lowest count)) (lower bs e n))) refuses
 
   more_changed : (m : Member) → refusal what (member_of m) ≡ None → (e' : Here) (kept' : List (Here × Kept)) → e' ≡ with_member e n more m → kept' ≡ kept →
-      Changed code bs keeps at e' kept' s (over (higher e n ++ core.Collecting what (member_of m ∷ got e.members lowest count) ∷ lower e n) s.core)
+      Changed code bs keeps at e' kept' s (over (higher bs e n ++ core.Collecting what (member_of m ∷ got e.members lowest count) ∷ lower bs e n) s.core)
   more_changed m free e' kept' now same =
       let p = core.Collecting what (member_of m ∷ got e.members lowest count) in
-      let xs = higher e n ++ p ∷ lower e n in
-      let there = there_is (results e) n (core.Collecting what (got e.members lowest count)) its_result in
-      let flat = more_results m ∙ around_in (reverse e.activations) n (results e) p (omega (arith, holds.1.some, length-reverse e.activations)) low there in
+      let xs = higher bs e n ++ p ∷ lower bs e n in
+      let there = there_is (results bs e) n (core.Collecting what (got e.members lowest count)) its_result in
+      let flat = more_results m ∙ around_in (reverse e.activations) n (results bs e) p (omega (arith, holds.1.some, length-reverse e.activations)) low there in
       let to = above (plain_code code) bs at e (with_member e n more m) kept xs holds.1 refl refl flat in
       subst (λ x. Changed code bs keeps at x kept' s (over xs s.core)) (sym now)
       (changed code bs keeps at at e (with_member e n more m) kept kept' s (λ c. over xs c) holds is same to (more_sound m free) holds.2.standing)
 
   pub adds : (m : Member) (e' : Here) (kept' : List (Here × Kept)) → refusal what (member_of m) ≡ None → e' ≡ with_member e n more m → kept' ≡ kept → NowHas (λ xs. added k (member_of m) s.core.now.operands ≡ Adds xs) code bs keeps at e' kept' s
   adds m e' kept' free now same =
-      now_has (higher e n ++ core.Collecting what (member_of m ∷ got e.members lowest count) ∷ lower e n)
-      (asked (member_of m) ∙ ap (λ f. on (higher e n) (add_by f (core.Collecting what (member_of m ∷ got e.members lowest count)) (lower e n))) free)
+      now_has (higher bs e n ++ core.Collecting what (member_of m ∷ got e.members lowest count) ∷ lower bs e n)
+      (asked (member_of m) ∙ ap (λ f. on (higher bs e n) (add_by f (core.Collecting what (member_of m ∷ got e.members lowest count)) (lower bs e n))) free)
       (more_changed m free e' kept' now same)

@@ -6,12 +6,13 @@ use Rattle.setl_code.specs.declared.code.Code.{Code}
 use Rattle.setl_code.specs.CodeCore as core
 use Rattle.setl_code.specs.CodeCore.{value_of, without_iterators}
 use Rattle.setl_rep_bases.specs.Bases.{BasesState}
-use Rattle.setl_store.specs.declared.cells.Member.{Member}
-use Rattle.setl_store.specs.declared.cells.Operand.{Operand}
-use Rattle.setl_store.specs.declared.cells.Operand.TheVariants as operand
-use Rattle.setl_store.specs.Standing.{Standing, iterator_by}
+use Rattle.setl_store_operands.specs.declared.cells.Member.{Member}
+use Rattle.setl_store_operands.specs.declared.cells.Operand.{Operand}
+use Rattle.setl_store_operands.specs.declared.cells.Operand.TheVariants as operand
+use Rattle.setl_store_operands.specs.Operands.{iterator_by, operand_of}
+use Rattle.setl_store.specs.Standing.{Standing}
 use Rattle.setl_store.specs.declared.cells.Kept.{Kept}
-use Rattle.setl_store.specs.Flat.{Here, operand_of, stands}
+use Rattle.setl_store.specs.Flat.{Here, stands}
 use Rattle.setl_store.proofs.Lists.{some_same}
 use Rattle.setl_store.proofs.OperandLists.{lowest_of, on_top_counted}
 
@@ -21,11 +22,12 @@ dropped_by : (pairs : Bool) (left : List Item) (xs : List core.Operand) → with
 dropped_by true left xs = refl
 dropped_by false left xs = refl
 
-one_dropped : (ms : List Member) (o : Operand) (xs : List core.Operand) → is_some (value_of (operand_of ms o)) ≡ false → without_iterators 1 (operand_of ms o ∷ xs) ≡ Some xs
-one_dropped ms operand.Om xs e = absurd (cc)
-one_dropped ms (operand.Value v) xs e = absurd (cc)
-one_dropped ms (operand.Iterator i) xs e = dropped_by i.pairs i.left xs
-one_dropped ms (operand.Collection what lowest count) xs e = absurd (cc)
+one_dropped : (bs : BasesState) (ms : List Member) (o : Operand) (xs : List core.Operand) → is_some (value_of (operand_of bs ms o)) ≡ false → without_iterators 1 (operand_of bs ms o ∷ xs) ≡ Some xs
+one_dropped bs ms operand.Om xs e = absurd (cc)
+one_dropped bs ms (operand.Value v) xs e = absurd (cc)
+one_dropped bs ms (operand.Based f) xs e = absurd (cc)
+one_dropped bs ms (operand.Iterator i) xs e = dropped_by i.pairs i.left xs
+one_dropped bs ms (operand.Collection what lowest count) xs e = absurd (cc)
 
 none_dropped : (o : core.Operand) (xs : List core.Operand) → is_some (value_of o) ≡ true → without_iterators 1 (o ∷ xs) ≡ None
 none_dropped (core.Result v) xs e = refl
@@ -83,12 +85,12 @@ pub few_left : (code : Code) (bs : BasesState) (at : ℕ) (e : Here) (kept : Lis
 few_left code bs at e kept s is size low n long lowest less = few n s.core.now.operands (omega (arith, less, on_top_counted code bs at e kept s is, long, lowest))
 
 -- the k-th from the top is none
-pub one_off : (n k : ℕ) (ms : List Member) (o : Operand) (xs : List core.Operand) → k < n → drop k xs ≡ operand_of ms o ∷ drop (k + 1) xs → ((ns : List Member) → false ≡ is_some (value_of (operand_of ns o))) →
+pub one_off : (bs : BasesState) (n k : ℕ) (ms : List Member) (o : Operand) (xs : List core.Operand) → k < n → drop k xs ≡ operand_of bs ms o ∷ drop (k + 1) xs → ((cs : BasesState) (ns : List Member) → false ≡ is_some (value_of (operand_of cs ns o))) →
     without_iterators (n - k) (drop k xs) ≡ without_iterators (n - (k + 1)) (drop (k + 1) xs)
-one_off n k ms o xs l there none =
-    dropped_more n k (drop k xs) (drop (k + 1) xs) l (ap (without_iterators 1) there ∙ one_dropped ms o (drop (k + 1) xs) (sym (none ms)))
+one_off bs n k ms o xs l there none =
+    dropped_more n k (drop k xs) (drop (k + 1) xs) l (ap (without_iterators 1) there ∙ one_dropped bs ms o (drop (k + 1) xs) (sym (none bs ms)))
 
-pub none_off : (n k : ℕ) (ms : List Member) (o : Operand) (xs : List core.Operand) → k < n → drop k xs ≡ operand_of ms o ∷ drop (k + 1) xs → ((ns : List Member) → true ≡ is_some (value_of (operand_of ns o))) →
+pub none_off : (bs : BasesState) (n k : ℕ) (ms : List Member) (o : Operand) (xs : List core.Operand) → k < n → drop k xs ≡ operand_of bs ms o ∷ drop (k + 1) xs → ((cs : BasesState) (ns : List Member) → true ≡ is_some (value_of (operand_of cs ns o))) →
     without_iterators (n - k) (drop k xs) ≡ None
-none_off n k ms o xs l there some =
-    dropped_end n k (drop k xs) l (ap (without_iterators 1) there ∙ none_dropped (operand_of ms o) (drop (k + 1) xs) (sym (some ms)))
+none_off bs n k ms o xs l there some =
+    dropped_end n k (drop k xs) l (ap (without_iterators 1) there ∙ none_dropped (operand_of bs ms o) (drop (k + 1) xs) (sym (some bs ms)))

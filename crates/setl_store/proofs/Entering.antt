@@ -29,7 +29,8 @@ use Rattle.setl_store_slots.specs.declared.cells.Held.{Held as Slot}
 use Rattle.setl_store_slots.specs.declared.cells.Held.TheVariants as slot
 use Rattle.setl_store.specs.Bodies.{with_stores, entered}
 use Rattle.setl_store.specs.declared.cells.Kept.{Kept}
-use Rattle.setl_store.specs.Flat.{Here, held_of, operand_of, cells, names_of, helds, results, activation, callers, core_of, copies_of, stands, own_count_of, IsShaped, IsSound, AllSound}
+use Rattle.setl_store_operands.specs.Operands.{operand_of}
+use Rattle.setl_store.specs.Flat.{Here, held_of, cells, names_of, helds, results, activation, callers, core_of, copies_of, stands, own_count_of, IsShaped, IsSound, AllSound}
 use Rattle.setl_store.specs.Returning.{held_by, parameter_count_of, name_count_of}
 use Rattle.setl_store.specs.Standing.{Standing, no_world, started, variables_by}
 use Rattle.setl_store.proofs.Bodies.{body_at, names_same, names_differ}
@@ -168,12 +169,12 @@ core_entered code bs at e kept f vs m ss may (innermost g fs is h) calls filled_
     let c = plain_code code in
     let n = f.body in
     let hs = helds bs e in
-    let os = results e in
+    let os = results bs e in
     let z = sizes c g fs hs (length os) h in
     let body = body_at c.vars 0 code.bodies n n (omega arith) in
     let acts : reverse (e.activations ++ f ∷ []) ≡ f ∷ g ∷ fs = reverse-append e.activations (f ∷ []) ∙ ap (λ l. f ∷ l) is in
     let slots = calls.slots ∙ sym (length-map e.slots (held_of bs)) in
-    let operands = calls.operands ∙ sym (length-map e.operands (operand_of e.members)) in
+    let operands = calls.operands ∙ sym (length-map e.operands (operand_of bs e.members)) in
     ap (λ l. core_over c bs 0 l (map (held_of bs) ss) os kept) acts
     ∙ ap (λ l. core_over c bs 0 (f ∷ g ∷ fs) l os kept) filled_by
     ∙ over_others c bs at f g fs hs (first_held vs m) os kept slots operands calls.from (omega (arith, z.below, z.whole))
@@ -195,12 +196,12 @@ shaped_entered code bs at e f vs m ss (innermost g fs is h) calls filled_by =
     let all : length ss ≡ length (helds bs e) + length (first_held vs m) = sym (length-map ss (held_of bs)) ∙ ap length filled_by ∙ length-append (helds bs e) (first_held vs m) in
     let below : IsShaped c (g ∷ fs) f.slots f.operands =
     subst (λ k. IsShaped c (g ∷ fs) k f.operands) (length-map e.slots (held_of bs) ∙ sym calls.slots)
-    (subst (λ k. IsShaped c (g ∷ fs) (length (helds bs e)) k) (length-map e.operands (operand_of e.members) ∙ sym calls.operands) h) in
+    (subst (λ k. IsShaped c (g ∷ fs) (length (helds bs e)) k) (length-map e.operands (operand_of bs e.members) ∙ sym calls.operands) h) in
     subst (λ l. IsShaped c l (length ss) (length e.operands)) (sym acts)
     (omega (arith, own, all, length_first vs m, length-map e.slots (held_of bs), calls.slots), omega (arith, calls.operands), below)
 
 pub enters : (code : Code) (bs : BasesState) (keeps : ℕ) (at : ℕ) (e e' : Here) (kept kept' : List (Here × Kept)) (s : Standing) (f : Frame) (ws : List (Option Value)) (m : ℕ) →
-    MayRun code × IsSound (plain_code code) e × AllSound (plain_code code) bs keeps e.slots kept → stands code bs at e kept ≡ s → Calls code at e f (map part ws) m →
+    MayRun code × IsSound (plain_code code) bs e × AllSound (plain_code code) bs keeps e.slots kept → stands code bs at e kept ≡ s → Calls code at e f (map part ws) m →
     e'.slots ≡ e.slots ++ (map held_by ws ++ replicate m slot.Om) → e' ≡ record e { slots = e'.slots; activations = e.activations ++ f ∷ [] } → kept' ≡ kept →
     Changed code bs keeps 0 e' kept' s (entered f.body (slice_get (plain_code s.code).bodies f.body) (map part ws) s.core)
 enters code bs keeps at e e' kept kept' s f ws m h is calls slots_by now same =
@@ -218,6 +219,7 @@ enters code bs keeps at e e' kept kept' s f ws m h is calls slots_by now same =
       shaped = shaped_entered code bs at e f vs m e'.slots i calls filled_by;
       members = h.1.members;
       got = h.1.got;
+      operands = h.1.operands;
     })
     stand))
 
@@ -244,7 +246,7 @@ counted_both (Some b) = refl
 pub starts : (code : Code) (bs : BasesState) (e : Here) (v p m : ℕ) → MayRun code → v ≡ length code.vars → p ≡ parameter_count_of (slice_get code.bodies 0) → m ≡ name_count_of (slice_get code.bodies 0) →
     e.slots ≡ (replicate v slot.Om ++ replicate p slot.Om) ++ replicate m slot.Om →
     e ≡ record { slots = e.slots; operands = []; activations = record { body = 0; from = 0; slots = v; operands = 0 } ∷ []; members = []; fields = no_fields } →
-    (stands code bs 0 e [] ≡ started code) × IsSound (plain_code code) e × AreStanding bs e.slots
+    (stands code bs 0 e [] ≡ started code) × IsSound (plain_code code) bs e × AreStanding bs e.slots
 starts code bs e v p m may vars ps ns slots_by now =
     let c = plain_code code in
     let filled_by : helds bs e ≡ (replicate v (There None) ++ replicate p (There None)) ++ replicate m (There None) = ap (map (held_of bs)) slots_by ∙ all_cleared_shown bs v p m in
@@ -262,12 +264,13 @@ starts code bs e v p m may vars ps ns slots_by now =
     ∙ (λ i. length-replicate v (There None) i + (length-append (replicate p (There None)) (replicate m (There None)) ∙ (λ j. length-replicate p (There None) j + length-replicate m (There None) j)) i) in (
       ap (λ x. stands code bs 0 x []) now
           ∙ (λ i. record { code = code; core = record { globals = globals i; now = record { body = 0; at = 0; own = mine i; operands = [] }; callers = []; kept = []; world = no_world } }),
-      subst (IsSound c) (sym now)
+      subst (IsSound c bs) (sym now)
           (record {
             some = omega arith;
             shaped = (refl, front, refl, omega (arith, long, all));
             members = refl;
             got = tt;
+            operands = tt;
           }),
       subst (AreStanding bs) (sym slots_by) (all_cleared_standing bs v p m),
     )

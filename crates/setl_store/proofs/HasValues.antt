@@ -13,10 +13,11 @@ use Rattle.setl_code.specs.CodeCore as core
 use Rattle.setl_code.specs.CodeCore.{Pops, Lacks, value_of, pop_before, popped}
 use Rattle.setl_rep_bases.specs.Bases.{BasesState}
 use Rattle.setl_store.specs.declared.cells.Frame.{Frame}
-use Rattle.setl_store.specs.declared.cells.Operand.{Operand}
+use Rattle.setl_store_operands.specs.declared.cells.Operand.{Operand}
 use Rattle.setl_store.specs.Standing.{Standing, top_of}
 use Rattle.setl_store.specs.declared.cells.Kept.{Kept}
-use Rattle.setl_store.specs.Flat.{Here, operand_of, operands_in, lowest_in, stands, results, IsSound}
+use Rattle.setl_store_operands.specs.Operands.{operand_of}
+use Rattle.setl_store.specs.Flat.{Here, operands_in, lowest_in, stands, results, IsSound}
 use Rattle.setl_store.specs.HasValues.{has_values}
 use Rattle.setl_store.proofs.Lists.{some_same}
 use Rattle.setl_store.proofs.OperandLists.{lowest_of, now_counted, now_is}
@@ -105,18 +106,18 @@ from_top_in [] os k o some h there = absurd (omega (arith, some))
 from_top_in (f ∷ fs) os k o some h there = from_top os f.operands k o h there
 
 -- the same of a store
-pub at_from_top : (code : Code) (bs : BasesState) (at : ℕ) (e : Here) (kept : List (Here × Kept)) (s : Standing) → IsSound (plain_code code) e → stands code bs at e kept ≡ s →
+pub at_from_top : (code : Code) (bs : BasesState) (at : ℕ) (e : Here) (kept : List (Here × Kept)) (s : Standing) → IsSound (plain_code code) bs e → stands code bs at e kept ≡ s →
     (size low k : ℕ) (o : Operand) → size ≡ length e.operands → low ≡ lowest_of e → low + k < size → Some o ≡ slice_get e.operands (size - 1 - k) →
-    drop k s.core.now.operands ≡ operand_of e.members o ∷ drop (k + 1) s.core.now.operands
+    drop k s.core.now.operands ≡ operand_of bs e.members o ∷ drop (k + 1) s.core.now.operands
 at_from_top code bs at e kept s h is size low k o long lowest below there =
-    let count = length-map e.operands (operand_of e.members) in
-    let place : size - 1 - k ≡ length (results e) - 1 - k = omega (arith, long, count) in
-    subst (λ l. drop k l ≡ operand_of e.members o ∷ drop (k + 1) l) (now_is code bs at e kept s is)
-    (from_top_in (reverse e.activations) (results e) k (operand_of e.members o) (omega (arith, h.some, length-reverse e.activations)) (omega (arith, long, lowest, below, count))
-    (slice_get_map (operand_of e.members) e.operands (length (results e) - 1 - k) o (there ∙ ap (slice_get e.operands) place)))
+    let count = length-map e.operands (operand_of bs e.members) in
+    let place : size - 1 - k ≡ length (results bs e) - 1 - k = omega (arith, long, count) in
+    subst (λ l. drop k l ≡ operand_of bs e.members o ∷ drop (k + 1) l) (now_is code bs at e kept s is)
+    (from_top_in (reverse e.activations) (results bs e) k (operand_of bs e.members o) (omega (arith, h.some, length-reverse e.activations)) (omega (arith, long, lowest, below, count))
+    (slice_get_map (operand_of bs e.members) e.operands (length (results bs e) - 1 - k) o (there ∙ ap (slice_get e.operands) place)))
 
 pub too_few_left : (code : Code) (bs : BasesState) (at : ℕ) (e : Here) (kept : List (Here × Kept)) (s : Standing) → stands code bs at e kept ≡ s →
     (size low n : ℕ) → size ≡ length e.operands → low ≡ lowest_of e → size - low < n → false ≡ has_values n s.core.now.operands
 too_few_left code bs at e kept s is size low n long lowest few =
     let count = ap length (now_is code bs at e kept s is) in
-    sym (too_few n s.core.now.operands (omega (arith, long, lowest, few, count, now_counted (reverse e.activations) (results e), length-map e.operands (operand_of e.members))))
+    sym (too_few n s.core.now.operands (omega (arith, long, lowest, few, count, now_counted (reverse e.activations) (results bs e), length-map e.operands (operand_of bs e.members))))

@@ -18,18 +18,19 @@ use Rattle.setl_code.specs.CodeCore.{CodeCore, Result as Holds}
 use Rattle.setl_code.specs.MayRun.{MayRun}
 use Rattle.setl_code.specs.Plain.{plain_code}
 use Rattle.setl_rep_bases.specs.Bases.{BasesState}
-use Rattle.setl_store.specs.declared.cells.Member.{Member}
-use Rattle.setl_store.specs.declared.cells.Operand.{Operand}
-use Rattle.setl_store.specs.declared.cells.Operand.TheVariants as operand
+use Rattle.setl_store_operands.specs.declared.cells.Member.{Member}
+use Rattle.setl_store_operands.specs.declared.cells.Operand.{Operand}
+use Rattle.setl_store_operands.specs.declared.cells.Operand.TheVariants as operand
 use Rattle.setl_store.specs.declared.iterating.Ahead.TheVariants as ahead
-use Rattle.setl_store.specs.Standing.{Standing, iterator_by, over}
+use Rattle.setl_store_operands.specs.Operands.{HasMembers, iterator_by, iterator_of, operand_by, operand_of}
+use Rattle.setl_store.specs.Standing.{Standing, over}
 use Rattle.setl_store.specs.declared.cells.Kept.{Kept}
-use Rattle.setl_store.specs.Flat.{Here, iterator_of, operand_of, stands, IsSound, AllSound, HasMembers, with_operand}
+use Rattle.setl_store.specs.Flat.{Here, stands, IsSound, AllSound, with_operand}
 use Rattle.setl_store.specs.Iterating.{IsAtItem, IsFirst, advanced, with_item}
-use Rattle.setl_store.specs.Returning.{operand_by}
 use Rattle.setl_store.specs.Operands.{IsAhead, Advances}
 use Rattle.setl_store.proofs.NewOperands.{NowHas, now_has}
 use Rattle.setl_store.proofs.LastOperand.{behind, operand_set}
+use Rattle.setl_store.proofs.StandingOperands.{value_over}
 use Rattle.setl_store.proofs.OperandLists.{Changed, top_is, some_below, lowest_of, lowest_below, pushes, got_iterator}
 
 -- ---- what is ahead
@@ -46,31 +47,32 @@ item_ahead true (x ∷ left) xs h = tt
 item_ahead false [] xs h = absurd (cc (eq-eqb 0 0 refl))
 item_ahead false (x ∷ left) xs h = tt
 
-none_ahead : (members : List Member) (o : Operand) (xs : List core.Operand) → ((i : IteratorState) → o ≡ operand.Iterator i → ⊥) → IsAhead (operand_of members o ∷ xs) ahead.NoIterator
-none_ahead members operand.Om xs h = tt
-none_ahead members (operand.Value v) xs h = tt
-none_ahead members (operand.Iterator i) xs h = absurd (h i refl)
-none_ahead members (operand.Collection what lowest count) xs h = tt
+none_ahead : (bs : BasesState) (members : List Member) (o : Operand) (xs : List core.Operand) → ((i : IteratorState) → o ≡ operand.Iterator i → ⊥) → IsAhead (operand_of bs members o ∷ xs) ahead.NoIterator
+none_ahead bs members operand.Om xs h = tt
+none_ahead bs members (operand.Value v) xs h = tt
+none_ahead bs members (operand.Based f) xs h = tt
+none_ahead bs members (operand.Iterator i) xs h = absurd (h i refl)
+none_ahead bs members (operand.Collection what lowest count) xs h = tt
 
 -- the operands of a store, where this is the last one and there are more than the lowest
 module _ (code : Code) (bs : BasesState) (keeps : ℕ) (at : ℕ) (e : Here) (kept : List (Here × Kept)) (s : Standing) (n m : ℕ) (o : Operand)
-    (holds : MayRun code × IsSound (plain_code code) e × AllSound (plain_code code) bs keeps e.slots kept) (is : stands code bs at e kept ≡ s)
+    (holds : MayRun code × IsSound (plain_code code) bs e × AllSound (plain_code code) bs keeps e.slots kept) (is : stands code bs at e kept ≡ s)
     (count : n ≡ length e.operands) (low : m ≡ lowest_of e) (some : n ≡ m → ⊥) (last : Some o ≡ slice_get e.operands (n - 1)) where
-  top_here : s.core.now.operands ≡ operand_of e.members o ∷ drop 1 s.core.now.operands
-  top_here = top_is code bs at e kept s (n - 1) o holds.1 is (omega (arith, lowest_below (plain_code code) e holds.1)) (omega arith) last
+  top_here : s.core.now.operands ≡ operand_of bs e.members o ∷ drop 1 s.core.now.operands
+  top_here = top_is code bs at e kept s (n - 1) o holds.1 is (omega (arith, lowest_below (plain_code code) bs e holds.1)) (omega arith) last
 
   pub end_on_top : (i : IteratorState) (b : Bool) → o ≡ operand.Iterator i → b ≡ nat_eq (length i.left) 0 → b ≡ true → IsAhead s.core.now.operands ahead.AtEnd
   end_on_top i b at_work ends h =
-      subst (λ l. IsAhead l ahead.AtEnd) (sym (top_here ∙ ap (λ x. operand_of e.members x ∷ drop 1 s.core.now.operands) at_work))
+      subst (λ l. IsAhead l ahead.AtEnd) (sym (top_here ∙ ap (λ x. operand_of bs e.members x ∷ drop 1 s.core.now.operands) at_work))
       (end_ahead i.pairs i.left (drop 1 s.core.now.operands) (sym ends ∙ h))
 
   pub item_on_top : (i : IteratorState) (b : Bool) → o ≡ operand.Iterator i → b ≡ nat_eq (length i.left) 0 → b ≡ false → IsAhead s.core.now.operands ahead.AtItem
   item_on_top i b at_work ends h =
-      subst (λ l. IsAhead l ahead.AtItem) (sym (top_here ∙ ap (λ x. operand_of e.members x ∷ drop 1 s.core.now.operands) at_work))
+      subst (λ l. IsAhead l ahead.AtItem) (sym (top_here ∙ ap (λ x. operand_of bs e.members x ∷ drop 1 s.core.now.operands) at_work))
       (item_ahead i.pairs i.left (drop 1 s.core.now.operands) (sym ends ∙ h))
 
   pub no_iterator_on_top : ((i : IteratorState) → o ≡ operand.Iterator i → ⊥) → IsAhead s.core.now.operands ahead.NoIterator
-  no_iterator_on_top h = subst (λ l. IsAhead l ahead.NoIterator) (sym top_here) (none_ahead e.members o (drop 1 s.core.now.operands) h)
+  no_iterator_on_top h = subst (λ l. IsAhead l ahead.NoIterator) (sym top_here) (none_ahead bs e.members o (drop 1 s.core.now.operands) h)
 
 -- ---- the iterator is taken out, and put back behind its first item
 
@@ -112,11 +114,12 @@ item_left true (x ∷ left) xs h = omega arith
 item_left false [] xs h = absurd h
 item_left false (x ∷ left) xs h = omega arith
 
-at_item : (members : List Member) (o : Operand) (xs : List core.Operand) → IsAhead (operand_of members o ∷ xs) ahead.AtItem → IsAtItem (Some o)
-at_item members operand.Om xs h = absurd h
-at_item members (operand.Value v) xs h = absurd h
-at_item members (operand.Iterator i) xs h = item_left i.pairs i.left xs h
-at_item members (operand.Collection what lowest count) xs h = absurd h
+at_item : (bs : BasesState) (members : List Member) (o : Operand) (xs : List core.Operand) → IsAhead (operand_of bs members o ∷ xs) ahead.AtItem → IsAtItem (Some o)
+at_item bs members operand.Om xs h = absurd h
+at_item bs members (operand.Value v) xs h = absurd h
+at_item bs members (operand.Based f) xs h = absurd h
+at_item bs members (operand.Iterator i) xs h = item_left i.pairs i.left xs h
+at_item bs members (operand.Collection what lowest count) xs h = absurd h
 
 -- an item on these operands
 abbrev pub item_on : Item → List core.Operand → List core.Operand
@@ -131,21 +134,21 @@ value_members : (v : Option Value) (os : List Operand) (n : ℕ) → HasMembers 
 value_members None os n h = h
 value_members (Some v) os n h = h
 
-value_stands : (v : Option Value) (members : List Member) → operand_of members (operand_by v) ≡ Holds (part v)
-value_stands None members = refl
-value_stands (Some v) members = refl
+value_stands : (bs : BasesState) (v : Option Value) (members : List Member) → operand_of bs members (operand_by v) ≡ Holds (part v)
+value_stands bs None members = refl
+value_stands bs (Some v) members = refl
 
 -- a value pushed
 value_pushed : (code : Code) (bs : BasesState) (keeps : ℕ) (at : ℕ) (e : Here) (kept : List (Here × Kept)) (s : Standing) (v : Option Value) →
-    MayRun code × IsSound (plain_code code) e × AllSound (plain_code code) bs keeps e.slots kept → stands code bs at e kept ≡ s →
+    MayRun code × IsSound (plain_code code) bs e × AllSound (plain_code code) bs keeps e.slots kept → stands code bs at e kept ≡ s →
     Changed code bs keeps at (with_operand e (operand_by v)) kept s (over (Holds (part v) ∷ s.core.now.operands) s.core)
 value_pushed code bs keeps at e kept s v holds is =
     pushes code bs keeps at e (with_operand e (operand_by v)) kept kept s (operand_by v) (Holds (part v)) holds is refl refl
-    (value_members v (reverse e.operands) (length e.members) holds.1.members) tt (value_stands v e.members)
+    (value_members v (reverse e.operands) (length e.members) holds.1.members) tt (value_over bs v) (value_stands bs v e.members)
 
 -- an item pushed
 item_pushed : (code : Code) (bs : BasesState) (keeps : ℕ) (at : ℕ) (e : Here) (kept : List (Here × Kept)) (s : Standing) (x : Item) →
-    MayRun code × IsSound (plain_code code) e × AllSound (plain_code code) bs keeps e.slots kept → stands code bs at e kept ≡ s →
+    MayRun code × IsSound (plain_code code) bs e × AllSound (plain_code code) bs keeps e.slots kept → stands code bs at e kept ≡ s →
     Changed code bs keeps at (with_item e x) kept s (over (item_on x s.core.now.operands) s.core)
 item_pushed code bs keeps at e kept s (item.One v) holds is = value_pushed code bs keeps at e kept s v holds is
 item_pushed code bs keeps at e kept s (item.Two x y) holds is =
@@ -156,31 +159,32 @@ item_pushed code bs keeps at e kept s (item.Two x y) holds is =
 
 -- the iterator that is the last operand replaced
 module _ (code : Code) (bs : BasesState) (keeps : ℕ) (at : ℕ) (e : Here) (kept : List (Here × Kept)) (s : Standing)
-    (holds : MayRun code × IsSound (plain_code code) e × AllSound (plain_code code) bs keeps e.slots kept) (is : stands code bs at e kept ≡ s) where
+    (holds : MayRun code × IsSound (plain_code code) bs e × AllSound (plain_code code) bs keeps e.slots kept) (is : stands code bs at e kept ≡ s) where
   iterator_set : (i j : IteratorState) (n : ℕ) → length e.operands ≡ n + 1 → lowest_of e < length e.operands → Some (operand.Iterator i) ≡ slice_get e.operands n →
       Changed code bs keeps at (record e { operands = set e.operands n (operand.Iterator j) }) kept s (over (iterator_of j ∷ drop 1 s.core.now.operands) s.core)
   iterator_set i j n long some last =
       operand_set code bs keeps at e (record e { operands = set e.operands n (operand.Iterator j) }) kept kept s (operand.Iterator i) (operand.Iterator j) (iterator_of j) n holds is long (omega arith) last refl refl refl
-      (λ os m h. h) (got_iterator j.pairs j.left) refl
+      (λ os m h. h) (got_iterator j.pairs j.left) tt refl
 
   last_of : IsAhead s.core.now.operands ahead.AtItem → Some (get_or e.operands (length e.operands - 1) operand.Om) ≡ slice_get e.operands (length e.operands - 1)
   last_of h = sym (slice_get-get_or e.operands (length e.operands - 1) operand.Om (omega (arith, some_below code bs at e kept s is (some_ahead s.core.now.operands h))))
 
-  top_before : (h : IsAhead s.core.now.operands ahead.AtItem) → s.core.now.operands ≡ operand_of e.members (get_or e.operands (length e.operands - 1) operand.Om) ∷ drop 1 s.core.now.operands
+  top_before : (h : IsAhead s.core.now.operands ahead.AtItem) → s.core.now.operands ≡ operand_of bs e.members (get_or e.operands (length e.operands - 1) operand.Om) ∷ drop 1 s.core.now.operands
   top_before h = top_is code bs at e kept s (length e.operands - 1) (get_or e.operands (length e.operands - 1) operand.Om) holds.1 is (some_below code bs at e kept s is (some_ahead s.core.now.operands h)) refl (last_of h)
 
   -- an iterator is the last operand where an item is ahead
   pub item_there : IsAhead s.core.now.operands ahead.AtItem → IsAtItem (slice_get e.operands (length e.operands - 1))
   item_there h =
       let o = get_or e.operands (length e.operands - 1) operand.Om in
-      subst IsAtItem (last_of h) (at_item e.members o (drop 1 s.core.now.operands) (subst (λ l. IsAhead l ahead.AtItem) (top_before h) h))
+      subst IsAtItem (last_of h) (at_item bs e.members o (drop 1 s.core.now.operands) (subst (λ l. IsAhead l ahead.AtItem) (top_before h) h))
 
   -- its first item taken and pushed
   advanced_by : (o : Operand) (x : Item) (e₁ e₂ : Here) (kept' : List (Here × Kept)) → length e.operands ≡ (length e.operands - 1) + 1 → lowest_of e < length e.operands → Some o ≡ slice_get e.operands (length e.operands - 1) →
-      s.core.now.operands ≡ operand_of e.members o ∷ drop 1 s.core.now.operands → IsFirst (Some o) x →
+      s.core.now.operands ≡ operand_of bs e.members o ∷ drop 1 s.core.now.operands → IsFirst (Some o) x →
       e₁ ≡ record e { operands = set e.operands (length e.operands - 1) (advanced (Some o)) } → e₂ ≡ with_item e₁ x → kept' ≡ kept → NowHas (Advances s.core.now.operands) code bs keeps at e₂ kept' s
   advanced_by operand.Om x e₁ e₂ kept' long some last top first now pushed same = absurd first
   advanced_by (operand.Value v) x e₁ e₂ kept' long some last top first now pushed same = absurd first
+  advanced_by (operand.Based f) x e₁ e₂ kept' long some last top first now pushed same = absurd first
   advanced_by (operand.Collection what lowest count) x e₁ e₂ kept' long some last top first now pushed same = absurd first
   advanced_by (operand.Iterator i) x e₁ e₂ kept' long some last top first now pushed same =
       let j : IteratorState = record i { left = drop 1 i.left } in

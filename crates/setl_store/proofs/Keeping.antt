@@ -1,5 +1,5 @@
 -- What `ok` keeps, and what `fail` brings back.
-use Rattle.std.proofs.Common.{◌≡◌, ℕ, suc, ◌+◌, ◌<◌, ◌≤◌, ◌^◌, List, [], ◌∷◌, ◌++◌, length, drop, map, reverse, set, refl, sym, ap, ◌∙◌, subst, arith, Bool, true, false, Some}
+use Rattle.std.proofs.Common.{◌≡◌, ℕ, suc, ◌+◌, ◌<◌, ◌≤◌, ◌^◌, List, [], ◌∷◌, ◌++◌, length, drop, reverse, set, refl, sym, ap, ◌∙◌, subst, arith, Bool, true, false, Some}
 use Rattle.std.specs.Prelude.{Option, None, option_and_then}
 use Rattle.std.specs.Option.{option_map, option_map_or}
 use Rattle.std.specs.FinMap as finmap
@@ -20,24 +20,25 @@ use Rattle.setl_rep_bases.specs.Keeping.{AreKept}
 use Rattle.setl_rep_bases.specs.Marks.{marks_of, as_cut, cut_all, back_all, AreWithin, HaveFewCuts}
 use Rattle.setl_rep_bases.specs.Cutting.{NothingIsCut, GrownBasesAreCutAlike, CountedCutsLeaveTheSame, CountedCutsAreRead}
 use Rattle.setl_rep_forms.specs.Laws.{FormsStay}
+use Rattle.setl_store_operands.specs.Laws.{OperandsStay}
 use Rattle.setl_store_kept.specs.Kept.{KeptSound}
 use Rattle.setl_store_kept.specs.Keeping.{ReadsBlocks, one_more_kept, sound_back}
 use Rattle.setl_store_slots.specs.declared.cells.Held.{Held}
 use Rattle.setl_store.specs.declared.cells.Kept.{Kept}
-use Rattle.setl_store.specs.declared.cells.Operand.{Operand}
-use Rattle.setl_store.specs.declared.cells.Operand.TheVariants as operand
+use Rattle.setl_store_operands.specs.declared.cells.Operand.{Operand}
+use Rattle.setl_store_operands.specs.declared.cells.Operand.TheVariants as operand
 use Rattle.setl_store.specs.Standing.{Standing, over, kept as with_kept, restored}
-use Rattle.setl_store.specs.Flat.{Here, body_in, cells, own_in, operands_in, callers, results, marks_in, copy_of, copies_of, core_of, stands, IsSound, WasSound, AllSound, answering, now_operands}
+use Rattle.setl_store.specs.Flat.{Here, AllGot, body_in, cells, own_in, operands_in, callers, marks_in, copy_of, copies_of, core_of, stands, IsSound, WasSound, AllSound, answering, now_operands}
 use Rattle.setl_store.proofs.OperandLists.{Changed, pushes}
 use Rattle.setl_store.proofs.StandingSlots.{slots_stay}
 
 -- with a truth value pushed
-answered : (code : Code) (bs : BasesState) (keeps : ℕ) (at : ℕ) (e : Here) (kept : List (Here × Kept)) (b : Bool) → MayRun code × IsSound (plain_code code) e × AllSound (plain_code code) bs keeps e.slots kept →
-    Changed code bs keeps at (answering e b) kept (stands code bs at e kept) (over (Holds (Some (bool b)) ∷ now_operands e) (core_of (plain_code code) bs at e kept))
-answered code bs keeps at e kept b h = pushes code bs keeps at e (answering e b) kept kept (stands code bs at e kept) (operand.Value (value.Bool b)) (Holds (Some (bool b))) h refl refl refl h.1.members tt refl
+answered : (code : Code) (bs : BasesState) (keeps : ℕ) (at : ℕ) (e : Here) (kept : List (Here × Kept)) (b : Bool) → MayRun code × IsSound (plain_code code) bs e × AllSound (plain_code code) bs keeps e.slots kept →
+    Changed code bs keeps at (answering e b) kept (stands code bs at e kept) (over (Holds (Some (bool b)) ∷ now_operands bs e) (core_of (plain_code code) bs at e kept))
+answered code bs keeps at e kept b h = pushes code bs keeps at e (answering e b) kept kept (stands code bs at e kept) (operand.Value (value.Bool b)) (Holds (Some (bool b))) h refl refl refl h.1.members tt tt refl
 
-core_answered : (code : Code) (bs : BasesState) (keeps : ℕ) (at : ℕ) (e : Here) (kept : List (Here × Kept)) (b : Bool) → MayRun code × IsSound (plain_code code) e × AllSound (plain_code code) bs keeps e.slots kept →
-    core_of (plain_code code) bs at (answering e b) kept ≡ over (Holds (Some (bool b)) ∷ now_operands e) (core_of (plain_code code) bs at e kept)
+core_answered : (code : Code) (bs : BasesState) (keeps : ℕ) (at : ℕ) (e : Here) (kept : List (Here × Kept)) (b : Bool) → MayRun code × IsSound (plain_code code) bs e × AllSound (plain_code code) bs keeps e.slots kept →
+    core_of (plain_code code) bs at (answering e b) kept ≡ over (Holds (Some (bool b)) ∷ now_operands bs e) (core_of (plain_code code) bs at e kept)
 core_answered code bs keeps at e kept b h = ap (λ (x : Standing). x.core) (answered code bs keeps at e kept b h).stands
 
 last_set : {A : Type 0} (xs : List A) (x y : A) → set (xs ++ x ∷ []) (length xs) y ≡ xs ++ y ∷ []
@@ -56,17 +57,17 @@ replaced e e1 e2 n o now last is to =
 abbrev copied : CodeCore → Copy
 copied k = record { globals = k.globals; now = record k.now { operands = drop 1 k.now.operands }; callers = k.callers }
 
--- what was kept, with these slots
-abbrev copy_with : plain.Code → List core.Held → Here × Kept → Copy
-copy_with c hs k = record {
+-- what was kept, with these slots and operands
+abbrev copy_with : plain.Code → List core.Held → List core.Operand → Here × Kept → Copy
+copy_with c hs os k = record {
   globals = cells c.vars hs;
-  now = record { body = body_in (reverse k.0.activations); at = k.1.at; own = own_in c (reverse k.0.activations) hs; operands = drop 1 (operands_in (reverse k.0.activations) (results k.0)) };
-  callers = callers c (reverse k.0.activations) hs (results k.0);
+  now = record { body = body_in (reverse k.0.activations); at = k.1.at; own = own_in c (reverse k.0.activations) hs; operands = drop 1 (operands_in (reverse k.0.activations) os) };
+  callers = callers c (reverse k.0.activations) hs os;
 }
 
 -- what is there is kept, and goes on
 pub all_kept : NothingIsCut → (code : Code) (bs : BasesState) (keeps : ℕ) (at next : ℕ) (e e' : Here) (kept kept' : List (Here × Kept)) (k : Kept) (s : Standing) →
-    MayRun code × IsSound (plain_code code) e × AllSound (plain_code code) bs keeps e.slots kept → stands code bs at e kept ≡ s →
+    MayRun code × IsSound (plain_code code) bs e × AllSound (plain_code code) bs keeps e.slots kept → stands code bs at e kept ≡ s →
     next ≡ at + 1 → k.at ≡ at + 1 → k.marks ≡ marks_of bs → keeps + 1 < 2 ^ 63 → e' ≡ answering e true → kept' ≡ (answering e false, k) ∷ kept →
     Changed code bs (keeps + 1) next e' kept' s (with_kept s.core)
 all_kept none code bs keeps at next e e' kept kept' k s h is there place marked few now added =
@@ -97,15 +98,26 @@ all_kept none code bs keeps at next e e' kept kept' k s h is there place marked 
     (subst (λ ks. Changed code bs (keeps + 1) n (answering e true) ks s (with_kept s.core)) (sym added) done))
 
 -- what a kept one shows is told by the blocks of its bases
-reads_blocks : FormsStay → (c : plain.Code) → ReadsBlocks marks_in (copy_of c) (WasSound c)
-reads_blocks stay c bs cs k more was =
-    let slots = slots_stay stay bs cs k.0.slots more was.standing in
-    (ap (λ hs. copy_with c hs k) slots.same, record { sound = was.sound; answered = was.answered; standing = slots.stand })
+reads_blocks : FormsStay → OperandsStay → (c : plain.Code) → ReadsBlocks marks_in (copy_of c) (WasSound c)
+reads_blocks stay too c bs cs k more was =
+    let e = k.0 in
+    let slots = slots_stay stay bs cs e.slots more was.standing in
+    let operands = too bs cs e.members e.operands more was.sound.operands in
+    let sound : IsSound c cs e =
+    record {
+      some = was.sound.some;
+      shaped = was.sound.shaped;
+      members = was.sound.members;
+      got = subst AllGot (sym operands.0) was.sound.got;
+      operands = operands.1;
+    } in
+    let answered = subst (λ os. operands_in (reverse e.activations) os ≡ Holds (Some (bool false)) ∷ drop 1 (operands_in (reverse e.activations) os)) (sym operands.0) was.answered in
+    (λ i. copy_with c (slots.same i) (operands.0 i) k, record { sound = sound; answered = answered; standing = slots.stand })
 
 -- the store over what was kept last, and over the bases that were cut to its marks
 pub record BroughtBack (code : Code) (cs : BasesState) (keeps : ℕ) (at : ℕ) (e : Here) (kept : List (Here × Kept)) (s : Standing) : Type 0 where
   pub restored_to : restored s.core.kept s.core ≡ Some (stands code cs at e kept).core
-  pub holds : MayRun code × IsSound (plain_code code) e × AllSound (plain_code code) cs keeps e.slots kept
+  pub holds : MayRun code × IsSound (plain_code code) cs e × AllSound (plain_code code) cs keeps e.slots kept
 
 cut_once : (w : Option Mark) (o : Option Instance) →
     (option_map_or (λ (x : Instance). x.base) (option_and_then (λ x. option_map (as_cut x) w) o) empty).cuts ≤ (option_map_or (λ (x : Instance). x.base) o empty).cuts + 1
@@ -119,14 +131,14 @@ cuts_counted read bs k i =
     subst (λ o. (option_map_or (λ (x : Instance). x.base) o empty).cuts ≤ (base_at bs i).cuts + 1) (sym (read bs k.marks i))
     (cut_once (finmap.get k.marks i) (instance_at bs i))
 
-pub brought_back : FormsStay → GrownBasesAreCutAlike → CountedCutsAreRead → CountedCutsLeaveTheSame → (code : Code) (bs cs : BasesState) (keeps : ℕ) (at : ℕ) (e e' : Here) (kept kept' : List (Here × Kept)) (k : Kept) (s : Standing) →
-    MayRun code × IsSound (plain_code code) e × AllSound (plain_code code) bs keeps e.slots kept → stands code bs at e kept ≡ s → kept ≡ (e', k) ∷ kept' →
+pub brought_back : FormsStay → OperandsStay → GrownBasesAreCutAlike → CountedCutsAreRead → CountedCutsLeaveTheSame → (code : Code) (bs cs : BasesState) (keeps : ℕ) (at : ℕ) (e e' : Here) (kept kept' : List (Here × Kept)) (k : Kept) (s : Standing) →
+    MayRun code × IsSound (plain_code code) bs e × AllSound (plain_code code) bs keeps e.slots kept → stands code bs at e kept ≡ s → kept ≡ (e', k) ∷ kept' →
     cs ≡ back_all bs k.marks → BroughtBack code cs keeps k.at e' kept' s
-brought_back stay alike read same code bs cs keeps at e e' kept kept' k s h is last back =
+brought_back stay too alike read same code bs cs keeps at e e' kept kept' k s h is last back =
     let c = plain_code code in
     let more : AreKept (cut_all bs k.marks) cs = subst (AreKept (cut_all bs k.marks)) (sym back) (same bs k.marks).0 in
     let cut : (i : BaseId) → (base_at cs i).cuts ≤ (base_at bs i).cuts + 1 = subst (λ ds. (i : BaseId) → (base_at ds i).cuts ≤ (base_at bs i).cuts + 1) (sym back) (cuts_counted read bs k) in
-    let b = sound_back marks_in (copy_of c) (WasSound c) alike (reads_blocks stay c) bs cs (e', k) kept' more (subst (KeptSound marks_in (WasSound c) bs) last h.2.older) in
+    let b = sound_back marks_in (copy_of c) (WasSound c) alike (reads_blocks stay too c) bs cs (e', k) kept' more (subst (KeptSound marks_in (WasSound c) bs) last h.2.older) in
     let copies = ap (copies_of c bs) last ∙ b.same in
     let to = core_of c cs k.at e' kept' in
     record {

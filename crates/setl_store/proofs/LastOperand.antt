@@ -9,12 +9,13 @@ use Rattle.setl_code.specs.CodeCore.{CodeCore, Result as Holds}
 use Rattle.setl_code.specs.MayRun.{MayRun}
 use Rattle.setl_code.specs.Plain.{plain_code}
 use Rattle.setl_rep_bases.specs.Bases.{BasesState}
-use Rattle.setl_store.specs.declared.cells.Member.{Member}
-use Rattle.setl_store.specs.declared.cells.Operand.{Operand}
-use Rattle.setl_store.specs.declared.cells.Operand.TheVariants as operand
+use Rattle.setl_store_operands.specs.declared.cells.Member.{Member}
+use Rattle.setl_store_operands.specs.declared.cells.Operand.{Operand}
+use Rattle.setl_store_operands.specs.declared.cells.Operand.TheVariants as operand
 use Rattle.setl_store.specs.Standing.{Standing, over, top_of}
 use Rattle.setl_store.specs.declared.cells.Kept.{Kept}
-use Rattle.setl_store.specs.Flat.{Here, operand_of, stands, IsSound, AllSound, HasMembers, GotThese, members_below, with_operand, cut_to}
+use Rattle.setl_store_operands.specs.Operands.{IsOperandOver, HasMembers, members_below, operand_of}
+use Rattle.setl_store.specs.Flat.{Here, stands, IsSound, AllSound, GotThese, with_operand, cut_to}
 use Rattle.setl_store.specs.Operands.{IsPlainTop}
 use Rattle.setl_store.proofs.OperandLists.{Changed, lowest_of, below_within, on_top, pops, pushes, some_below, top_is}
 
@@ -28,12 +29,12 @@ last_set xs n x long = sym (take_all (n + 1) (set xs n x) (omega (arith, long, l
 
 -- one without members is put in the place of one without members
 pub operand_set : (code : Code) (bs : BasesState) (keeps : ℕ) (at : ℕ) (e e' : Here) (kept kept' : List (Here × Kept)) (s : Standing) (o o' : Operand) (p : core.Operand) (n : ℕ) →
-    MayRun code × IsSound (plain_code code) e × AllSound (plain_code code) bs keeps e.slots kept → stands code bs at e kept ≡ s →
+    MayRun code × IsSound (plain_code code) bs e × AllSound (plain_code code) bs keeps e.slots kept → stands code bs at e kept ≡ s →
     length e.operands ≡ n + 1 → lowest_of e ≤ n → Some o ≡ slice_get e.operands n → members_below o (length e.members) ≡ length e.members →
     e' ≡ record e { operands = set e.operands n o' } → kept' ≡ kept →
-    ((os : List Operand) (m : ℕ) → HasMembers os m → HasMembers (o' ∷ os) m) → GotThese p → operand_of e.members o' ≡ p →
+    ((os : List Operand) (m : ℕ) → HasMembers os m → HasMembers (o' ∷ os) m) → GotThese p → IsOperandOver bs o' → operand_of bs e.members o' ≡ p →
     Changed code bs keeps at e' kept' s (over (p ∷ drop 1 s.core.now.operands) s.core)
-operand_set code bs keeps at e e' kept kept' s o o' p n holds is long low last none now same alone got to =
+operand_set code bs keeps at e e' kept kept' s o o' p n holds is long low last none now same alone got over_them to =
     let cut = cut_to e n (length e.members) in
     let below = pops code bs keeps at e cut kept kept s n o holds is long low last (ap (cut_to e n) (sym none)) refl in
     let k = over (drop 1 s.core.now.operands) s.core in
@@ -41,9 +42,9 @@ operand_set code bs keeps at e e' kept kept' s o o' p n holds is long low last n
     let members = take_all (length e.members) e.members (omega arith) in
     let operands = last_set e.operands n o' long in
     let whole : with_operand cut o' ≡ record e { operands = set e.operands n o' } = λ k. record e { operands = sym operands k; members = members k } in
-    let stands_for : operand_of cut.members o' ≡ p = ap (λ ms. operand_of ms o') members ∙ to in
+    let stands_for : operand_of bs cut.members o' ≡ p = ap (λ ms. operand_of bs ms o') members ∙ to in
     let done = behind code bs keeps at (with_operand cut o') kept s k core'
-    (pushes code bs keeps at cut (with_operand cut o') kept kept (record s { core = k }) o' p below.holds below.stands refl refl (alone (reverse cut.operands) (length cut.members) below.holds.1.members) got stands_for) in
+    (pushes code bs keeps at cut (with_operand cut o') kept kept (record s { core = k }) o' p below.holds below.stands refl refl (alone (reverse cut.operands) (length cut.members) below.holds.1.members) got over_them stands_for) in
     subst (λ ks. Changed code bs keeps at e' ks s core') (sym same) (subst (λ x. Changed code bs keeps at x kept s core') (whole ∙ sym now) done)
 
 -- ---- the top
@@ -56,29 +57,30 @@ some_plain : (xs : List core.Operand) → IsPlainTop xs → 0 < length xs
 some_plain [] h = absurd h
 some_plain (x ∷ xs) h = omega arith
 
-plain_members : (ms : List Member) (o : Operand) (xs : List core.Operand) (n : ℕ) → IsPlainTop (operand_of ms o ∷ xs) → members_below o n ≡ n
-plain_members ms operand.Om xs n h = refl
-plain_members ms (operand.Value v) xs n h = refl
-plain_members ms (operand.Iterator i) xs n h = refl
-plain_members ms (operand.Collection what lowest count) xs n h = absurd h
+plain_members : (bs : BasesState) (ms : List Member) (o : Operand) (xs : List core.Operand) (n : ℕ) → IsPlainTop (operand_of bs ms o ∷ xs) → members_below o n ≡ n
+plain_members bs ms operand.Om xs n h = refl
+plain_members bs ms (operand.Value v) xs n h = refl
+plain_members bs ms (operand.Based f) xs n h = refl
+plain_members bs ms (operand.Iterator i) xs n h = refl
+plain_members bs ms (operand.Collection what lowest count) xs n h = absurd h
 
 module _ (code : Code) (bs : BasesState) (keeps : ℕ) (at : ℕ) (e : Here) (kept : List (Here × Kept)) (s : Standing)
-    (holds : MayRun code × IsSound (plain_code code) e × AllSound (plain_code code) bs keeps e.slots kept) (is : stands code bs at e kept ≡ s) where
+    (holds : MayRun code × IsSound (plain_code code) bs e × AllSound (plain_code code) bs keeps e.slots kept) (is : stands code bs at e kept ≡ s) where
   pub plain_above : IsPlainTop s.core.now.operands → lowest_of e < length e.operands
   plain_above h = some_below code bs at e kept s is (some_plain s.core.now.operands h)
 
   -- a value in the place of the result on top
   pub top_set : (e' : Here) (kept' : List (Here × Kept)) (o' : Operand) (p : core.Operand) → IsPlainTop s.core.now.operands →
       e' ≡ record e { operands = set e.operands (length e.operands - 1) o' } → kept' ≡ kept →
-      ((os : List Operand) (m : ℕ) → HasMembers os m → HasMembers (o' ∷ os) m) → GotThese p → operand_of e.members o' ≡ p →
+      ((os : List Operand) (m : ℕ) → HasMembers os m → HasMembers (o' ∷ os) m) → GotThese p → IsOperandOver bs o' → operand_of bs e.members o' ≡ p →
       Changed code bs keeps at e' kept' s (over (p ∷ drop 1 s.core.now.operands) s.core)
-  top_set e' kept' o' p plain now same alone got to =
+  top_set e' kept' o' p plain now same alone got over_them to =
       let above = plain_above plain in
       let o = get_or e.operands (length e.operands - 1) operand.Om in
       let last : Some o ≡ slice_get e.operands (length e.operands - 1) = sym (slice_get-get_or e.operands (length e.operands - 1) operand.Om (omega (arith, above))) in
       let top = top_is code bs at e kept s (length e.operands - 1) o holds.1 is above refl last in
       operand_set code bs keeps at e e' kept kept' s o o' p (length e.operands - 1) holds is (omega (arith, above)) (omega (arith, above)) last
-      (plain_members e.members o (drop 1 s.core.now.operands) (length e.members) (subst IsPlainTop top plain)) now same alone got to
+      (plain_members bs e.members o (drop 1 s.core.now.operands) (length e.members) (subst IsPlainTop top plain)) now same alone got over_them to
 
   pub plain_there : IsPlainTop s.core.now.operands → 0 < length e.operands
   plain_there h = omega (arith, plain_above h)
@@ -93,7 +95,7 @@ module _ (code : Code) (bs : BasesState) (keeps : ℕ) (at : ℕ) (e : Here) (ke
 
     pub last_within : m ≤ length e.members
     last_within =
-        let t = on_top (plain_code code) e n o holds.1 (omega (arith, last, some_above)) (omega (arith, last, some_above)) there in
+        let t = on_top (plain_code code) bs e n o holds.1 (omega (arith, last, some_above)) (omega (arith, last, some_above)) there in
         subst (λ k. k ≤ length e.members) (sym lowest_is) (below_within o (reverse (take n e.operands)) (length e.members) t.members)
 
     pub last_off : (e' : Here) (kept' : List (Here × Kept)) → e' ≡ cut_to e (length e.operands - 1) m → kept' ≡ kept → Changed code bs keeps at e' kept' s (over (drop 1 s.core.now.operands) s.core)

@@ -33,16 +33,18 @@ use Rattle.setl_store_slots.specs.Handed.{and_held, and_handed}
 use Rattle.setl_store_slots.specs.Handed as cells
 use Rattle.setl_store_slots.specs.Slots.{AreStanding}
 use Rattle.setl_rep_plain.specs.Standing.{held_value}
-use Rattle.setl_store.specs.declared.cells.Operand.{Operand}
+use Rattle.setl_store_operands.specs.declared.cells.Operand.{Operand}
 use Rattle.setl_store.specs.Bodies.{left, left_for}
 use Rattle.setl_store.specs.declared.cells.Kept.{Kept}
-use Rattle.setl_store.specs.Flat.{Here, cells, held_of, helds, operand_of, results, body_in, slots_in, operands_in, activation, callers, core_of, stands, own_count_of, AllGot, HasMembers, members_below, IsShaped, IsSound, AllSound, with_operand, without}
-use Rattle.setl_store.specs.Returning.{operand_by, pushed_on, handed, handed_by, handed_in, parameter_count_of}
+use Rattle.setl_store_operands.specs.Operands.{HasMembers, members_below, operand_by, operand_of}
+use Rattle.setl_store.specs.Flat.{Here, cells, held_of, helds, results, body_in, slots_in, operands_in, activation, callers, core_of, stands, own_count_of, AllGot, IsShaped, IsSound, AllSound, with_operand, without}
+use Rattle.setl_store.specs.Returning.{pushed_on, handed, handed_by, handed_in, parameter_count_of}
 use Rattle.setl_store.specs.Standing.{Standing, variables_by, over}
 use Rattle.setl_store.proofs.Bodies.{body_at, names_same, names_differ}
 use Rattle.setl_store.proofs.Entering.{among_left, core_over}
 use Rattle.setl_store.proofs.OperandLists.{has_below, below_within, cut_results, got_take, Changed, pushes, still}
 use Rattle.setl_store.proofs.Slots.{or_false, cells_agree, own_counted, globals_below}
+use Rattle.setl_store.proofs.StandingOperands.{over_take, value_over}
 use Rattle.setl_store.proofs.StandingSlots.{standing_take}
 use Rattle.setl_store.proofs.Steps.{counted}
 
@@ -73,22 +75,22 @@ alone : (v : Option Value) (os : List Operand) (n : ℕ) → HasMembers os n →
 alone None os n h = h
 alone (Some v) os n h = h
 
-stands_for : (v : Option Value) (e : Here) → operand_of e.members (operand_by v) ≡ core.Result (part v)
-stands_for None e = refl
-stands_for (Some v) e = refl
+stands_for : (bs : BasesState) (v : Option Value) (e : Here) → operand_of bs e.members (operand_by v) ≡ core.Result (part v)
+stands_for bs None e = refl
+stands_for bs (Some v) e = refl
 
 pub pushes_all : (vs : List (Option Value)) (code : Code) (bs : BasesState) (keeps : ℕ) (at : ℕ) (e e' : Here) (kept kept' : List (Here × Kept)) (s : Standing) →
-    MayRun code × IsSound (plain_code code) e × AllSound (plain_code code) bs keeps e.slots kept → stands code bs at e kept ≡ s →
+    MayRun code × IsSound (plain_code code) bs e × AllSound (plain_code code) bs keeps e.slots kept → stands code bs at e kept ≡ s →
     e' ≡ record e { operands = e.operands ++ map operand_by vs } → kept' ≡ kept → Changed code bs keeps at e' kept' s (over (pushed_on (map part vs) s.core.now.operands) s.core)
 pushes_all [] code bs keeps at e e' kept kept' s h is now same =
     let to : e' ≡ e = now ∙ ap (λ os. record e { operands = os }) (append-nil e.operands) in
     record {
       stands = (λ i. stands code bs at (to i) (same i)) ∙ is;
-      holds = (h.0, subst (IsSound (plain_code code)) (sym to) h.1, still (plain_code code) bs keeps e.slots e'.slots kept kept' (subst (λ (x : Here). AreStanding bs x.slots) (sym to) h.2.standing) same h.2);
+      holds = (h.0, subst (IsSound (plain_code code) bs) (sym to) h.1, still (plain_code code) bs keeps e.slots e'.slots kept kept' (subst (λ (x : Here). AreStanding bs x.slots) (sym to) h.2.standing) same h.2);
     }
 pushes_all (v ∷ vs) code bs keeps at e e' kept kept' s h is now same =
     let o = operand_by v in
-    let first = pushes code bs keeps at e (with_operand e o) kept kept s o (core.Result (part v)) h is refl refl (alone v (reverse e.operands) (length e.members) h.1.members) tt (stands_for v e) in
+    let first = pushes code bs keeps at e (with_operand e o) kept kept s o (core.Result (part v)) h is refl refl (alone v (reverse e.operands) (length e.members) h.1.members) tt (value_over bs v) (stands_for bs v e) in
     let rest = pushes_all vs code bs keeps at (with_operand e o) e' kept kept' (record s { core = over (core.Result (part v) ∷ s.core.now.operands) s.core }) first.holds first.stands
     (now ∙ ap (λ os. record e { operands = os }) (sym (append_assoc e.operands (o ∷ []) (map operand_by vs)))) same in
     record { stands = rest.stands; holds = rest.holds }
@@ -219,19 +221,19 @@ rest_of e = reverse (take (length e.activations - 1) e.activations)
 
 dropped : (c : plain.Code) (bs : BasesState) (at : ℕ) (e : Here) (kept : List (Here × Kept)) (f g : Frame) (fs : List Frame) (m : ℕ) → IsShaped c (f ∷ g ∷ fs) (length e.slots) (length e.operands) → rest_of e ≡ g ∷ fs →
     HasMembers (reverse (take f.operands e.operands)) m → m ≤ length e.members →
-    core_of c bs f.from (without e f m) kept ≡ given_back c bs at (f ∷ g ∷ fs) (helds bs e) (results e) kept (under (f ∷ g ∷ fs) (results e))
+    core_of c bs f.from (without e f m) kept ≡ given_back c bs at (f ∷ g ∷ fs) (helds bs e) (results bs e) kept (under (f ∷ g ∷ fs) (results bs e))
 dropped c bs at e kept f g fs m h rest has within =
     let hs = helds bs e in
-    let os = results e in
+    let os = results bs e in
     let slots : map (held_of bs) (take f.slots e.slots) ≡ take f.slots hs = sym (take-map (held_of bs) f.slots e.slots) in
-    let operands : results (without e f m) ≡ take f.operands os = cut_results e f.operands m has within in
+    let operands : results bs (without e f m) ≡ take f.operands os = cut_results bs e f.operands m has within in
     let globals = cells_agree c.vars (take f.slots hs) hs f.slots (globals_below c f (g ∷ fs) (length e.slots) (length e.operands) h) (take-take f.slots f.slots hs (omega arith)) in
     (λ i. core_over c bs f.from (rest i) (slots i) (operands i) kept)
     ∙ (λ i. record (core_over c bs f.from (g ∷ fs) (take f.slots hs) (take f.operands os) kept) { globals = globals i })
 
-dropped_sound : (c : plain.Code) (e : Here) (f g : Frame) (fs : List Frame) (m : ℕ) → IsSound c e → IsShaped c (f ∷ g ∷ fs) (length e.slots) (length e.operands) → rest_of e ≡ g ∷ fs →
-    HasMembers (reverse (take f.operands e.operands)) m → m ≤ length e.members → IsSound c (without e f m)
-dropped_sound c e f g fs m sound h rest has within =
+dropped_sound : (c : plain.Code) (bs : BasesState) (e : Here) (f g : Frame) (fs : List Frame) (m : ℕ) → IsSound c bs e → IsShaped c (f ∷ g ∷ fs) (length e.slots) (length e.operands) → rest_of e ≡ g ∷ fs →
+    HasMembers (reverse (take f.operands e.operands)) m → m ≤ length e.members → IsSound c bs (without e f m)
+dropped_sound c bs e f g fs m sound h rest has within =
     let own = own_counted c f (g ∷ fs) (length e.slots) (length e.operands) h in
     let slots : f.slots ≡ length (take f.slots e.slots) = sym (length-take-le f.slots e.slots (omega (arith, own))) in
     let operands : f.operands ≡ length (take f.operands e.operands) = sym (length-take-le f.operands e.operands h.1) in
@@ -242,7 +244,8 @@ dropped_sound c e f g fs m sound h rest has within =
           subst (λ l. IsShaped c l (length (take f.slots e.slots)) (length (take f.operands e.operands))) (sym rest)
           (subst (λ n. IsShaped c (g ∷ fs) n (length (take f.operands e.operands))) slots (subst (λ n. IsShaped c (g ∷ fs) f.slots n) operands h.2));
       members = subst (HasMembers (reverse (take f.operands e.operands))) (sym (length-take-le m e.members within)) has;
-      got = subst AllGot (sym (cut_results e f.operands m has within)) (got_take f.operands (results e) sound.got);
+      got = subst AllGot (sym (cut_results bs e f.operands m has within)) (got_take f.operands (results bs e) sound.got);
+      operands = over_take bs f.operands e.operands sound.operands;
     }
 
 -- what is known where the body at work is left
@@ -252,17 +255,17 @@ pub record Drops (e e' : Here) (f : Frame) (m : ℕ) (vs : List (Option Value)) 
   pub within : m ≤ length e.members
   pub pushed : e' ≡ record (without e f m) { operands = take f.operands e.operands ++ map operand_by vs }
 
-left_rest : (code : Code) (bs : BasesState) (keeps : ℕ) (at : ℕ) (e : Here) (kept : List (Here × Kept)) (f : Frame) (m : ℕ) (v : Option Datum) (vs : List (Option Value)) (gs : List Frame) → MayRun code × IsSound (plain_code code) e × AllSound (plain_code code) bs keeps e.slots kept →
+left_rest : (code : Code) (bs : BasesState) (keeps : ℕ) (at : ℕ) (e : Here) (kept : List (Here × Kept)) (f : Frame) (m : ℕ) (v : Option Datum) (vs : List (Option Value)) (gs : List Frame) → MayRun code × IsSound (plain_code code) bs e × AllSound (plain_code code) bs keeps e.slots kept →
     reverse e.activations ≡ f ∷ gs → rest_of e ≡ gs → HasMembers (reverse (take f.operands e.operands)) m → m ≤ length e.members →
     ((xs : List core.Operand) → handed_in code.bodies (reverse e.activations) (helds bs e) (core.Result v ∷ xs) ≡ Some (pushed_on (map part vs) xs)) →
     (left (slice_get (plain_code code).bodies (body_in (reverse e.activations))) v (core_of (plain_code code) bs at e kept) ≡ Some (over (pushed_on (map part vs) (core_of (plain_code code) bs f.from (without e f m) kept).now.operands) (core_of (plain_code code) bs f.from (without e f m) kept)))
-    × IsSound (plain_code code) (without e f m)
+    × IsSound (plain_code code) bs (without e f m)
 left_rest code bs keeps at e kept f m v vs [] h last rest has within back =
     absurd (let e : None ≡ Some (pushed_on (map part vs) []) = subst (λ l. handed_in code.bodies l (helds bs e) (core.Result v ∷ []) ≡ Some (pushed_on (map part vs) [])) last (back []) in cc)
 left_rest code bs keeps at e kept f m v vs (g ∷ fs) h last rest has within back =
     let c = plain_code code in
     let hs = helds bs e in
-    let os = results e in
+    let os = results bs e in
     let all = f ∷ g ∷ fs in
     let shaped : IsShaped c all (length e.slots) (length e.operands) = subst (λ l. IsShaped c l (length e.slots) (length e.operands)) last h.1.shaped in
     let shaped_hs : IsShaped c all (length hs) (length e.operands) = subst (λ n. IsShaped c all n (length e.operands)) (sym (length-map e.slots (held_of bs))) shaped in
@@ -272,14 +275,14 @@ left_rest code bs keeps at e kept f m v vs (g ∷ fs) h last rest has within bac
           (left_flat code bs at all hs os kept v (length e.operands) h.0 shaped_hs
           ∙ ap (option_map (given_back c bs at all hs os kept)) (subst (λ l. handed_in code.bodies l hs (core.Result v ∷ under all os) ≡ Some after) last (back (under all os))))
           ∙ sym (ap (λ (k : CodeCore). Some (over (pushed_on (map part vs) k.now.operands) k)) to),
-      dropped_sound c e f g fs m h.1 shaped rest has within,
+      dropped_sound c bs e f g fs m h.1 shaped rest has within,
     )
 
 pub leaves : (code : Code) (bs : BasesState) (keeps : ℕ) (at : ℕ) (e e' : Here) (kept kept' : List (Here × Kept)) (s : Standing) (f : Frame) (m : ℕ) (v : Option Datum) (vs : List (Option Value)) →
-    MayRun code × IsSound (plain_code code) e × AllSound (plain_code code) bs keeps e.slots kept → stands code bs at e kept ≡ s → Drops e e' f m vs → kept' ≡ kept →
+    MayRun code × IsSound (plain_code code) bs e × AllSound (plain_code code) bs keeps e.slots kept → stands code bs at e kept ≡ s → Drops e e' f m vs → kept' ≡ kept →
     ((xs : List core.Operand) → handed_in code.bodies (reverse e.activations) (helds bs e) (core.Result v ∷ xs) ≡ Some (pushed_on (map part vs) xs)) →
     (left (slice_get (plain_code s.code).bodies s.core.now.body) v s.core ≡ Some (stands code bs f.from e' kept').core)
-    × (MayRun code × IsSound (plain_code code) e' × AllSound (plain_code code) bs keeps e'.slots kept')
+    × (MayRun code × IsSound (plain_code code) bs e' × AllSound (plain_code code) bs keeps e'.slots kept')
 leaves code bs keeps at e e' kept kept' s f m v vs h is drops same back =
     let r = left_rest code bs keeps at e kept f m v vs (rest_of e) h drops.last refl drops.has drops.within back in
     let e0 = without e f m in
@@ -290,11 +293,11 @@ leaves code bs keeps at e e' kept kept' s f m v vs h is drops same back =
     )
 
 -- where it can't be left
-pub stays : (code : Code) (bs : BasesState) (keeps : ℕ) (at : ℕ) (e : Here) (kept : List (Here × Kept)) (s : Standing) (v : Option Datum) → MayRun code × IsSound (plain_code code) e × AllSound (plain_code code) bs keeps e.slots kept → stands code bs at e kept ≡ s →
-    handed_in code.bodies (reverse e.activations) (helds bs e) (core.Result v ∷ under (reverse e.activations) (results e)) ≡ None → left (slice_get (plain_code s.code).bodies s.core.now.body) v s.core ≡ None
+pub stays : (code : Code) (bs : BasesState) (keeps : ℕ) (at : ℕ) (e : Here) (kept : List (Here × Kept)) (s : Standing) (v : Option Datum) → MayRun code × IsSound (plain_code code) bs e × AllSound (plain_code code) bs keeps e.slots kept → stands code bs at e kept ≡ s →
+    handed_in code.bodies (reverse e.activations) (helds bs e) (core.Result v ∷ under (reverse e.activations) (results bs e)) ≡ None → left (slice_get (plain_code s.code).bodies s.core.now.body) v s.core ≡ None
 stays code bs keeps at e kept s v h is none =
     let c = plain_code code in
     let fs = reverse e.activations in
     let shaped = subst (λ n. IsShaped c fs n (length e.operands)) (sym (length-map e.slots (held_of bs))) h.1.shaped in
     subst (λ (t : Standing). left (slice_get (plain_code t.code).bodies t.core.now.body) v t.core ≡ None) is
-    (left_flat code bs at fs (helds bs e) (results e) kept v (length e.operands) h.0 shaped ∙ ap (option_map (given_back c bs at fs (helds bs e) (results e) kept)) none)
+    (left_flat code bs at fs (helds bs e) (results bs e) kept v (length e.operands) h.0 shaped ∙ ap (option_map (given_back c bs at fs (helds bs e) (results bs e) kept)) none)

@@ -2,14 +2,16 @@ pub mod Lists
 pub mod OperandLists
 pub mod Bodies
 pub mod StandingSlots
+pub mod StandingOperands
 pub mod Slots
 pub mod NewOperands
 pub mod LastOperand
 pub mod IteratorSteps
 pub mod Adding
-pub mod Collecting
 pub mod Popping
 pub mod HasValues
+pub mod HeldOperands
+pub mod PushedSlots
 pub mod Serving
 pub mod Dropping
 pub mod Steps

@@ -15,11 +15,11 @@ pub data NowHas (told : List core.Operand → Type 0) (code : Code) (bs : BasesS
   now_has : (xs : List core.Operand) → told xs → Changed code bs keeps at e kept s (over xs s.core) → NowHas told code bs keeps at e kept s
 
 module _ (told : List core.Operand → Type 0) (code : Code) (bs : BasesState) (keeps : ℕ) (at : ℕ) (e : Here) (kept : List (Here × Kept)) (s : Standing) where
-  pub told_of_now : NowHas told code bs keeps at e kept s → told (now_operands e)
+  pub told_of_now : NowHas told code bs keeps at e kept s → told (now_operands bs e)
   told_of_now (now_has xs is to) = subst told (sym (ap (λ (t : Standing). t.core.now.operands) to.stands)) is
 
-  pub rest_same : NowHas told code bs keeps at e kept s → stands code bs at e kept ≡ record s { core = over (now_operands e) s.core }
+  pub rest_same : NowHas told code bs keeps at e kept s → stands code bs at e kept ≡ record s { core = over (now_operands bs e) s.core }
   rest_same (now_has xs is to) = to.stands ∙ ap (λ l. record s { core = over l s.core }) (sym (ap (λ (t : Standing). t.core.now.operands) to.stands))
 
-  pub still_holds : NowHas told code bs keeps at e kept s → MayRun code × IsSound (plain_code code) e × AllSound (plain_code code) bs keeps e.slots kept
+  pub still_holds : NowHas told code bs keeps at e kept s → MayRun code × IsSound (plain_code code) bs e × AllSound (plain_code code) bs keeps e.slots kept
   still_holds (now_has xs is to) = to.holds

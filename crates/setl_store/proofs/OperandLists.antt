@@ -14,13 +14,15 @@ use Rattle.setl_rep_bases.specs.Bases.{BasesState}
 use Rattle.setl_store.specs.declared.cells.Frame.{Frame}
 use Rattle.setl_store_slots.specs.Slots.{AreStanding}
 use Rattle.setl_store_slots.specs.declared.cells.Held.{Held}
-use Rattle.setl_store.specs.declared.cells.Member.{Member}
-use Rattle.setl_store.specs.declared.cells.Operand.{Operand}
-use Rattle.setl_store.specs.declared.cells.Operand.TheVariants as operand
+use Rattle.setl_store_operands.specs.declared.cells.Member.{Member}
+use Rattle.setl_store_operands.specs.declared.cells.Operand.{Operand}
+use Rattle.setl_store_operands.specs.declared.cells.Operand.TheVariants as operand
 use Rattle.setl_store.specs.declared.store.Top.TheVariants as top
-use Rattle.setl_store.specs.Standing.{Standing, no_world, over, iterator_by, Shows}
+use Rattle.setl_store_operands.specs.Operands.{IsOperandOver, HasMembers, got, iterator_by, member_of, members_below, operand_of}
+use Rattle.setl_store.specs.Standing.{Standing, no_world, over, Shows}
 use Rattle.setl_store.specs.declared.cells.Kept.{Kept}
-use Rattle.setl_store.specs.Flat.{Here, got, member_of, operand_of, operands_in, lowest_in, activation, callers, cells, core_of, copies_of, stands, held_of, helds, results, GotThese, AllGot, IsShaped, IsSound, AllSound, HasMembers, members_below, with_operand, now_operands, cut_to}
+use Rattle.setl_store.specs.Flat.{Here, operands_in, lowest_in, activation, callers, cells, core_of, copies_of, stands, held_of, helds, results, GotThese, AllGot, IsShaped, IsSound, AllSound, with_operand, now_operands, cut_to}
+use Rattle.setl_store.proofs.StandingOperands.{over_append, over_take}
 use Rattle.setl_store.proofs.Lists.{last_apart, map_reverse, take_more_reversed}
 
 -- ---- the flat list of operands
@@ -54,32 +56,33 @@ reshaped c (f ∷ g ∷ fs) n m k h s = (s.0, h, s.2)
 abbrev pub lowest_of : Here → ℕ
 lowest_of e = lowest_in (reverse e.activations)
 
-shaped_results : (c : plain.Code) (e : Here) → IsSound c e → IsShaped c (reverse e.activations) (length e.slots) (length (results e))
-shaped_results c e h = subst (λ n. IsShaped c (reverse e.activations) (length e.slots) n) (sym (length-map e.operands (operand_of e.members))) h.shaped
+shaped_results : (c : plain.Code) (bs : BasesState) (e : Here) → IsSound c bs e → IsShaped c (reverse e.activations) (length e.slots) (length (results bs e))
+shaped_results c bs e h = subst (λ n. IsShaped c (reverse e.activations) (length e.slots) n) (sym (length-map e.operands (operand_of bs e.members))) h.shaped
 
-pub lowest_below : (c : plain.Code) (e : Here) → IsSound c e → lowest_of e ≤ length e.operands
-lowest_below c e h = lowest_within c (reverse e.activations) (length e.slots) (length e.operands) h.shaped
+pub lowest_below : (c : plain.Code) (bs : BasesState) (e : Here) → IsSound c bs e → lowest_of e ≤ length e.operands
+lowest_below c bs e h = lowest_within c (reverse e.activations) (length e.slots) (length e.operands) h.shaped
 
 -- ---- the members of collections
 
 -- the operands stand for the same over members that are the same as far as they have any
-agree : (os : List Operand) (k : ℕ) (ms ns : List Member) → HasMembers os k → take k ms ≡ take k ns → map (operand_of ms) os ≡ map (operand_of ns) os
-agree [] k ms ns h e = refl
-agree (operand.Om ∷ os) k ms ns h e = ap (λ l. core.Result None ∷ l) (agree os k ms ns h e)
-agree (operand.Value v ∷ os) k ms ns h e = ap (λ l. operand_of ms (operand.Value v) ∷ l) (agree os k ms ns h e)
-agree (operand.Iterator i ∷ os) k ms ns h e = ap (λ l. operand_of ms (operand.Iterator i) ∷ l) (agree os k ms ns h e)
-agree (operand.Collection what lowest count ∷ os) k ms ns h e =
+agree : (bs : BasesState) (os : List Operand) (k : ℕ) (ms ns : List Member) → HasMembers os k → take k ms ≡ take k ns → map (operand_of bs ms) os ≡ map (operand_of bs ns) os
+agree bs [] k ms ns h e = refl
+agree bs (operand.Om ∷ os) k ms ns h e = ap (λ l. core.Result None ∷ l) (agree bs os k ms ns h e)
+agree bs (operand.Value v ∷ os) k ms ns h e = ap (λ l. operand_of bs ms (operand.Value v) ∷ l) (agree bs os k ms ns h e)
+agree bs (operand.Based f ∷ os) k ms ns h e = ap (λ l. operand_of bs ms (operand.Based f) ∷ l) (agree bs os k ms ns h e)
+agree bs (operand.Iterator i ∷ os) k ms ns h e = ap (λ l. operand_of bs ms (operand.Iterator i) ∷ l) (agree bs os k ms ns h e)
+agree bs (operand.Collection what lowest count ∷ os) k ms ns h e =
     let lower = sym (take-take lowest k ms (omega (arith, h.0))) ∙ ap (take lowest) e ∙ take-take lowest k ns (omega (arith, h.0)) in
     let whole : take (lowest + count) ms ≡ take (lowest + count) ns = subst (λ n. take n ms ≡ take n ns) h.0 e in
     let same : got ms lowest count ≡ got ns lowest count = ap (λ l. reverse (map member_of l)) (sym (drop-take lowest count ms) ∙ ap (drop lowest) whole ∙ drop-take lowest count ns) in
-    λ i. core.Collecting what (same i) ∷ agree os lowest ms ns h.1 lower i
+    λ i. core.Collecting what (same i) ∷ agree bs os lowest ms ns h.1 lower i
 
 -- the same, for a list of operands with the top last
-pub agree_flat : (os : List Operand) (k : ℕ) (ms ns : List Member) → HasMembers (reverse os) k → take k ms ≡ take k ns → map (operand_of ms) os ≡ map (operand_of ns) os
-agree_flat os k ms ns h e =
-    sym (reverse-reverse (map (operand_of ms) os))
-    ∙ ap reverse (sym (map_reverse (operand_of ms) os) ∙ agree (reverse os) k ms ns h e ∙ map_reverse (operand_of ns) os)
-    ∙ reverse-reverse (map (operand_of ns) os)
+pub agree_flat : (bs : BasesState) (os : List Operand) (k : ℕ) (ms ns : List Member) → HasMembers (reverse os) k → take k ms ≡ take k ns → map (operand_of bs ms) os ≡ map (operand_of bs ns) os
+agree_flat bs os k ms ns h e =
+    sym (reverse-reverse (map (operand_of bs ms) os))
+    ∙ ap reverse (sym (map_reverse (operand_of bs ms) os) ∙ agree bs (reverse os) k ms ns h e ∙ map_reverse (operand_of bs ns) os)
+    ∙ reverse-reverse (map (operand_of bs ns) os)
 
 pub got_append : (xs ys : List core.Operand) → AllGot xs → AllGot ys → AllGot (xs ++ ys)
 got_append [] ys a b = b
@@ -110,22 +113,22 @@ core_with c bs at acts ss os kept = record {
 }
 
 -- other operands of the body at work
-pub above : (c : plain.Code) (bs : BasesState) (at : ℕ) (e e' : Here) (kept : List (Here × Kept)) (xs : List core.Operand) → IsSound c e →
-    e'.activations ≡ e.activations → e'.slots ≡ e.slots → results e' ≡ take (lowest_of e) (results e) ++ reverse xs →
+pub above : (c : plain.Code) (bs : BasesState) (at : ℕ) (e e' : Here) (kept : List (Here × Kept)) (xs : List core.Operand) → IsSound c bs e →
+    e'.activations ≡ e.activations → e'.slots ≡ e.slots → results bs e' ≡ take (lowest_of e) (results bs e) ++ reverse xs →
     core_of c bs at e' kept ≡ over xs (core_of c bs at e kept)
 above c bs at e e' kept xs h acts slots os =
     let fs = reverse e.activations in
-    let shaped = shaped_results c e h in
-    let inner = ap (operands_in fs) os ∙ in_above c fs (length e.slots) (results e) xs shaped in
-    let outer = ap (callers c fs (helds bs e)) os ∙ callers_above c fs (helds bs e) (length e.slots) (results e) (reverse xs) shaped in
-    ap (λ l. core_with c bs at l e'.slots (results e') kept) acts
-    ∙ ap (λ ss. core_with c bs at e.activations ss (results e') kept) slots
+    let shaped = shaped_results c bs e h in
+    let inner = ap (operands_in fs) os ∙ in_above c fs (length e.slots) (results bs e) xs shaped in
+    let outer = ap (callers c fs (helds bs e)) os ∙ callers_above c fs (helds bs e) (length e.slots) (results bs e) (reverse xs) shaped in
+    ap (λ l. core_with c bs at l e'.slots (results bs e') kept) acts
+    ∙ ap (λ ss. core_with c bs at e.activations ss (results bs e') kept) slots
     ∙ (λ i. record (core_of c bs at e kept) { now = record (core_of c bs at e kept).now { operands = inner i }; callers = outer i })
 
 -- the store over an environment that was changed, and that all that always holds still does
 pub record Changed (code : Code) (bs : BasesState) (keeps : ℕ) (at : ℕ) (e : Here) (kept : List (Here × Kept)) (s : Standing) (k : CodeCore) : Type 0 where
   pub stands : stands code bs at e kept ≡ record s { core = k }
-  pub holds : MayRun code × IsSound (plain_code code) e × AllSound (plain_code code) bs keeps e.slots kept
+  pub holds : MayRun code × IsSound (plain_code code) bs e × AllSound (plain_code code) bs keeps e.slots kept
 
 -- the same of other slots that stand
 pub still : (c : plain.Code) (bs : BasesState) (keeps : ℕ) (hs gs : List Held) (kept kept' : List (Here × Kept)) → AreStanding bs gs → kept' ≡ kept → AllSound c bs keeps hs kept → AllSound c bs keeps gs kept'
@@ -133,8 +136,8 @@ still c bs keeps hs gs kept kept' stand same h = subst (AllSound c bs keeps gs) 
 
 -- where the core is a function of the one before
 pub changed : (code : Code) (bs : BasesState) (keeps : ℕ) (at at' : ℕ) (e e' : Here) (kept kept' : List (Here × Kept)) (s : Standing) (f : CodeCore → CodeCore) →
-    MayRun code × IsSound (plain_code code) e × AllSound (plain_code code) bs keeps e.slots kept → stands code bs at e kept ≡ s → kept' ≡ kept →
-    core_of (plain_code code) bs at' e' kept ≡ f (core_of (plain_code code) bs at e kept) → IsSound (plain_code code) e' → AreStanding bs e'.slots →
+    MayRun code × IsSound (plain_code code) bs e × AllSound (plain_code code) bs keeps e.slots kept → stands code bs at e kept ≡ s → kept' ≡ kept →
+    core_of (plain_code code) bs at' e' kept ≡ f (core_of (plain_code code) bs at e kept) → IsSound (plain_code code) bs e' → AreStanding bs e'.slots →
     Changed code bs keeps at' e' kept' s (f s.core)
 changed code bs keeps at at' e e' kept kept' s f h is same to sound stand = record {
   stands =
@@ -146,36 +149,37 @@ changed code bs keeps at at' e e' kept kept' s f h is same to sound stand = reco
 
 -- ---- pushing
 
-results_pushed : (e : Here) (o : Operand) → results (with_operand e o) ≡ results e ++ operand_of e.members o ∷ []
-results_pushed e o = map-append (operand_of e.members) e.operands (o ∷ [])
+results_pushed : (bs : BasesState) (e : Here) (o : Operand) → results bs (with_operand e o) ≡ results bs e ++ operand_of bs e.members o ∷ []
+results_pushed bs e o = map-append (operand_of bs e.members) e.operands (o ∷ [])
 
 -- the operands with one more
-flat_pushed : (c : plain.Code) (e : Here) (o : Operand) → IsSound c e →
-    results (with_operand e o) ≡ take (lowest_of e) (results e) ++ reverse (operand_of e.members o ∷ now_operands e)
-flat_pushed c e o h =
-    results_pushed e o
-    ∙ ap (λ l. l ++ operand_of e.members o ∷ []) (split c (reverse e.activations) (length e.slots) (results e) (shaped_results c e h))
-    ∙ append_assoc (take (lowest_of e) (results e)) (reverse (now_operands e)) (operand_of e.members o ∷ [])
-    ∙ ap (λ l. take (lowest_of e) (results e) ++ l) (sym (reverse-append (operand_of e.members o ∷ []) (now_operands e)))
+flat_pushed : (c : plain.Code) (bs : BasesState) (e : Here) (o : Operand) → IsSound c bs e →
+    results bs (with_operand e o) ≡ take (lowest_of e) (results bs e) ++ reverse (operand_of bs e.members o ∷ now_operands bs e)
+flat_pushed c bs e o h =
+    results_pushed bs e o
+    ∙ ap (λ l. l ++ operand_of bs e.members o ∷ []) (split c (reverse e.activations) (length e.slots) (results bs e) (shaped_results c bs e h))
+    ∙ append_assoc (take (lowest_of e) (results bs e)) (reverse (now_operands bs e)) (operand_of bs e.members o ∷ [])
+    ∙ ap (λ l. take (lowest_of e) (results bs e) ++ l) (sym (reverse-append (operand_of bs e.members o ∷ []) (now_operands bs e)))
 
-sound_pushed : (c : plain.Code) (e : Here) (o : Operand) → IsSound c e → HasMembers (o ∷ reverse e.operands) (length e.members) → GotThese (operand_of e.members o) → IsSound c (with_operand e o)
-sound_pushed c e o h has got = record {
+sound_pushed : (c : plain.Code) (bs : BasesState) (e : Here) (o : Operand) → IsSound c bs e → HasMembers (o ∷ reverse e.operands) (length e.members) → GotThese (operand_of bs e.members o) → IsOperandOver bs o → IsSound c bs (with_operand e o)
+sound_pushed c bs e o h has got over_them = record {
   some = h.some;
-  shaped = reshaped c (reverse e.activations) (length e.slots) (length e.operands) (length (e.operands ++ o ∷ [])) (omega (arith, lowest_below c e h, length_push e.operands o)) h.shaped;
+  shaped = reshaped c (reverse e.activations) (length e.slots) (length e.operands) (length (e.operands ++ o ∷ [])) (omega (arith, lowest_below c bs e h, length_push e.operands o)) h.shaped;
   members = subst (λ os. HasMembers os (length e.members)) (sym (reverse-append e.operands (o ∷ []))) has;
-  got = subst AllGot (sym (results_pushed e o)) (got_append (results e) (operand_of e.members o ∷ []) h.got (got, tt));
+  got = subst AllGot (sym (results_pushed bs e o)) (got_append (results bs e) (operand_of bs e.members o ∷ []) h.got (got, tt));
+  operands = over_append bs e.operands (o ∷ []) h.operands (over_them, tt);
 }
 
 pub pushes : (code : Code) (bs : BasesState) (keeps : ℕ) (at : ℕ) (e e' : Here) (kept kept' : List (Here × Kept)) (s : Standing) (o : Operand) (p : core.Operand) →
-    MayRun code × IsSound (plain_code code) e × AllSound (plain_code code) bs keeps e.slots kept → stands code bs at e kept ≡ s →
-    e' ≡ with_operand e o → kept' ≡ kept → HasMembers (o ∷ reverse e.operands) (length e.members) → GotThese p → operand_of e.members o ≡ p →
+    MayRun code × IsSound (plain_code code) bs e × AllSound (plain_code code) bs keeps e.slots kept → stands code bs at e kept ≡ s →
+    e' ≡ with_operand e o → kept' ≡ kept → HasMembers (o ∷ reverse e.operands) (length e.members) → GotThese p → IsOperandOver bs o → operand_of bs e.members o ≡ p →
     Changed code bs keeps at e' kept' s (over (p ∷ s.core.now.operands) s.core)
-pushes code bs keeps at e e' kept kept' s o p h is now same has got stands_for =
+pushes code bs keeps at e e' kept kept' s o p h is now same has got over_them stands_for =
     let got' = subst GotThese (sym stands_for) got in
-    let to = above (plain_code code) bs at e (with_operand e o) kept (operand_of e.members o ∷ now_operands e) h.1 refl refl (flat_pushed (plain_code code) e o h.1) in
+    let to = above (plain_code code) bs at e (with_operand e o) kept (operand_of bs e.members o ∷ now_operands bs e) h.1 refl refl (flat_pushed (plain_code code) bs e o h.1) in
     subst (λ x. Changed code bs keeps at x kept' s (over (p ∷ s.core.now.operands) s.core)) (sym now)
     (subst (λ q. Changed code bs keeps at (with_operand e o) kept' s (over (q ∷ s.core.now.operands) s.core)) stands_for
-    (changed code bs keeps at at e (with_operand e o) kept kept' s (λ k. over (operand_of e.members o ∷ k.now.operands) k) h is same to (sound_pushed (plain_code code) e o h.1 has got') h.2.standing))
+    (changed code bs keeps at at e (with_operand e o) kept kept' s (λ k. over (operand_of bs e.members o ∷ k.now.operands) k) h is same to (sound_pushed (plain_code code) bs e o h.1 has got' over_them) h.2.standing))
 
 -- ---- the top
 
@@ -183,33 +187,35 @@ pub now_counted : (fs : List Frame) (os : List core.Operand) → length (operand
 now_counted [] os = omega arith
 now_counted (f ∷ fs) os = omega (arith, length-reverse (drop f.operands os), length-drop f.operands os)
 
-pub some_on_top : (e : Here) → 0 < length (now_operands e) → lowest_of e < length e.operands
-some_on_top e h = omega (arith, now_counted (reverse e.activations) (results e), length-map e.operands (operand_of e.members))
+pub some_on_top : (bs : BasesState) (e : Here) → 0 < length (now_operands bs e) → lowest_of e < length e.operands
+some_on_top bs e h = omega (arith, now_counted (reverse e.activations) (results bs e), length-map e.operands (operand_of bs e.members))
 
 -- how many the body at work has
 pub on_top_counted : (code : Code) (bs : BasesState) (at : ℕ) (e : Here) (kept : List (Here × Kept)) (s : Standing) → stands code bs at e kept ≡ s → length s.core.now.operands ≤ length e.operands - lowest_of e
 on_top_counted code bs at e kept s is =
-    omega (arith, ap (λ (x : Standing). length x.core.now.operands) is, now_counted (reverse e.activations) (results e), length-map e.operands (operand_of e.members))
+    omega (arith, ap (λ (x : Standing). length x.core.now.operands) is, now_counted (reverse e.activations) (results bs e), length-map e.operands (operand_of bs e.members))
 
 pub has_below : (o : Operand) (os : List Operand) (n : ℕ) → HasMembers (o ∷ os) n → HasMembers os (members_below o n)
 has_below operand.Om os n h = h
 has_below (operand.Value v) os n h = h
+has_below (operand.Based f) os n h = h
 has_below (operand.Iterator i) os n h = h
 has_below (operand.Collection what lowest count) os n h = h.1
 
 pub below_within : (o : Operand) (os : List Operand) (n : ℕ) → HasMembers (o ∷ os) n → members_below o n ≤ n
 below_within operand.Om os n h = omega arith
 below_within (operand.Value v) os n h = omega arith
+below_within (operand.Based f) os n h = omega arith
 below_within (operand.Iterator i) os n h = omega arith
 below_within (operand.Collection what lowest count) os n h = omega (arith, h.0)
 
 -- the last one is the top
-pub record OnTop (c : plain.Code) (e : Here) (n : ℕ) (o : Operand) : Type 0 where
+pub record OnTop (c : plain.Code) (bs : BasesState) (e : Here) (n : ℕ) (o : Operand) : Type 0 where
   pub apart : e.operands ≡ take n e.operands ++ o ∷ []
   pub short : length (take n e.operands) ≡ n
   pub members : HasMembers (o ∷ reverse (take n e.operands)) (length e.members)
-  pub flat : take n (results e) ≡ take (lowest_of e) (results e) ++ reverse (drop 1 (now_operands e))
-  pub now : now_operands e ≡ operand_of e.members o ∷ drop 1 (now_operands e)
+  pub flat : take n (results bs e) ≡ take (lowest_of e) (results bs e) ++ reverse (drop 1 (now_operands bs e))
+  pub now : now_operands bs e ≡ operand_of bs e.members o ∷ drop 1 (now_operands bs e)
 
 top_of_flat : (fs : List Frame) (n : ℕ) (os : List core.Operand) (o : core.Operand) → 0 < length fs → lowest_in fs ≤ n → length (take n os) ≡ n → os ≡ take n os ++ o ∷ [] → operands_in fs os ≡ o ∷ drop 1 (operands_in fs os)
 top_of_flat [] n os o some low short is = absurd (omega (arith, some))
@@ -225,71 +231,72 @@ flat_below [] n k os some low long = absurd (omega (arith, some))
 flat_below (f ∷ fs) n k os some low long =
     subst (λ m. take m os ≡ take f.operands os ++ reverse (drop k (reverse (drop f.operands os)))) (omega (arith, low)) (take_more_reversed f.operands (n - f.operands) k os (omega (arith, low, long)))
 
-pub on_top : (c : plain.Code) (e : Here) (n : ℕ) (o : Operand) → IsSound c e → length e.operands ≡ n + 1 → lowest_of e ≤ n → Some o ≡ slice_get e.operands n → OnTop c e n o
-on_top c e n o h long low is =
+pub on_top : (c : plain.Code) (bs : BasesState) (e : Here) (n : ℕ) (o : Operand) → IsSound c bs e → length e.operands ≡ n + 1 → lowest_of e ≤ n → Some o ≡ slice_get e.operands n → OnTop c bs e n o
+on_top c bs e n o h long low is =
     let fs = reverse e.activations in
-    let f = operand_of e.members in
+    let f = operand_of bs e.members in
     let some : 0 < length fs = omega (arith, h.some, length-reverse e.activations) in
     let apart = last_apart e.operands o n long is in
     let short : length (take n e.operands) ≡ n = length-take-le n e.operands (omega (arith, long)) in
-    let flat_apart : results e ≡ take n (results e) ++ f o ∷ [] =
+    let flat_apart : results bs e ≡ take n (results bs e) ++ f o ∷ [] =
     ap (map f) apart ∙ map-append f (take n e.operands) (o ∷ []) ∙ ap (λ l. l ++ f o ∷ []) (sym (take-map f n e.operands)) in
-    let flat_short : length (take n (results e)) ≡ n = length-take-le n (results e) (omega (arith, long, length-map e.operands f)) in
+    let flat_short : length (take n (results bs e)) ≡ n = length-take-le n (results bs e) (omega (arith, long, length-map e.operands f)) in
     record {
       apart = apart;
       short = short;
       members = subst (λ os. HasMembers os (length e.members)) (ap reverse apart ∙ reverse-append (take n e.operands) (o ∷ [])) h.members;
-      flat = flat_below fs n 1 (results e) some low (length-map e.operands f ∙ long);
-      now = top_of_flat fs n (results e) (f o) some low flat_short flat_apart;
+      flat = flat_below fs n 1 (results bs e) some low (length-map e.operands f ∙ long);
+      now = top_of_flat fs n (results bs e) (f o) some low flat_short flat_apart;
     }
 
 -- ---- popping
 
-pub cut_results : (e : Here) (n m : ℕ) → HasMembers (reverse (take n e.operands)) m → m ≤ length e.members → results (cut_to e n m) ≡ take n (results e)
-cut_results e n m has within =
-    agree_flat (take n e.operands) m (take m e.members) e.members has (take-take m m e.members (omega arith))
-    ∙ sym (take-map (operand_of e.members) n e.operands)
+pub cut_results : (bs : BasesState) (e : Here) (n m : ℕ) → HasMembers (reverse (take n e.operands)) m → m ≤ length e.members → results bs (cut_to e n m) ≡ take n (results bs e)
+cut_results bs e n m has within =
+    agree_flat bs (take n e.operands) m (take m e.members) e.members has (take-take m m e.members (omega arith))
+    ∙ sym (take-map (operand_of bs e.members) n e.operands)
 
-cut_sound : (c : plain.Code) (e : Here) (n m : ℕ) → IsSound c e → lowest_of e ≤ n → length (take n e.operands) ≡ n → HasMembers (reverse (take n e.operands)) m → m ≤ length e.members → IsSound c (cut_to e n m)
-cut_sound c e n m h low short has within = record {
+cut_sound : (c : plain.Code) (bs : BasesState) (e : Here) (n m : ℕ) → IsSound c bs e → lowest_of e ≤ n → length (take n e.operands) ≡ n → HasMembers (reverse (take n e.operands)) m → m ≤ length e.members → IsSound c bs (cut_to e n m)
+cut_sound c bs e n m h low short has within = record {
   some = h.some;
   shaped = reshaped c (reverse e.activations) (length e.slots) (length e.operands) (length (take n e.operands)) (omega (arith, low, short)) h.shaped;
   members = subst (HasMembers (reverse (take n e.operands))) (sym (length-take-le m e.members within)) has;
-  got = subst AllGot (sym (cut_results e n m has within)) (got_take n (results e) h.got);
+  got = subst AllGot (sym (cut_results bs e n m has within)) (got_take n (results bs e) h.got);
+  operands = over_take bs n e.operands h.operands;
 }
 
 -- the operands of the body at work, the top first
-pub now_is : (code : Code) (bs : BasesState) (at : ℕ) (e : Here) (kept : List (Here × Kept)) (s : Standing) → stands code bs at e kept ≡ s → now_operands e ≡ s.core.now.operands
+pub now_is : (code : Code) (bs : BasesState) (at : ℕ) (e : Here) (kept : List (Here × Kept)) (s : Standing) → stands code bs at e kept ≡ s → now_operands bs e ≡ s.core.now.operands
 now_is code bs at e kept s is = ap (λ (x : Standing). x.core.now.operands) is
 
 -- the store without the top operand
 pub pops : (code : Code) (bs : BasesState) (keeps : ℕ) (at : ℕ) (e e' : Here) (kept kept' : List (Here × Kept)) (s : Standing) (n : ℕ) (o : Operand) →
-    MayRun code × IsSound (plain_code code) e × AllSound (plain_code code) bs keeps e.slots kept → stands code bs at e kept ≡ s →
+    MayRun code × IsSound (plain_code code) bs e × AllSound (plain_code code) bs keeps e.slots kept → stands code bs at e kept ≡ s →
     length e.operands ≡ n + 1 → lowest_of e ≤ n → Some o ≡ slice_get e.operands n →
     e' ≡ cut_to e n (members_below o (length e.members)) → kept' ≡ kept →
     Changed code bs keeps at e' kept' s (over (drop 1 s.core.now.operands) s.core)
 pops code bs keeps at e e' kept kept' s n o h is long low at_end now same =
-    let t = on_top (plain_code code) e n o h.1 long low at_end in
+    let t = on_top (plain_code code) bs e n o h.1 long low at_end in
     let m = members_below o (length e.members) in
     let has = has_below o (reverse (take n e.operands)) (length e.members) t.members in
     let within = below_within o (reverse (take n e.operands)) (length e.members) t.members in
-    let to = above (plain_code code) bs at e (cut_to e n m) kept (drop 1 (now_operands e)) h.1 refl refl (cut_results e n m has within ∙ t.flat) in
+    let to = above (plain_code code) bs at e (cut_to e n m) kept (drop 1 (now_operands bs e)) h.1 refl refl (cut_results bs e n m has within ∙ t.flat) in
     subst (λ x. Changed code bs keeps at x kept' s (over (drop 1 s.core.now.operands) s.core)) (sym now)
-    (changed code bs keeps at at e (cut_to e n m) kept kept' s (λ k. over (drop 1 k.now.operands) k) h is same to (cut_sound (plain_code code) e n m h.1 low t.short has within) h.2.standing)
+    (changed code bs keeps at at e (cut_to e n m) kept kept' s (λ k. over (drop 1 k.now.operands) k) h is same to (cut_sound (plain_code code) bs e n m h.1 low t.short has within) h.2.standing)
 
 -- the store without so many operands
 pub cuts : (code : Code) (bs : BasesState) (keeps : ℕ) (at : ℕ) (e e' : Here) (kept kept' : List (Here × Kept)) (s : Standing) (n k m : ℕ) →
-    MayRun code × IsSound (plain_code code) e × AllSound (plain_code code) bs keeps e.slots kept → stands code bs at e kept ≡ s →
+    MayRun code × IsSound (plain_code code) bs e × AllSound (plain_code code) bs keeps e.slots kept → stands code bs at e kept ≡ s →
     length e.operands ≡ n + k → lowest_of e ≤ n → HasMembers (reverse (take n e.operands)) m → m ≤ length e.members →
     e' ≡ cut_to e n m → kept' ≡ kept → Changed code bs keeps at e' kept' s (over (drop k s.core.now.operands) s.core)
 cuts code bs keeps at e e' kept kept' s n k m h is long low has within now same =
     let c = plain_code code in
     let some : 0 < length (reverse e.activations) = omega (arith, h.1.some, length-reverse e.activations) in
     let short : length (take n e.operands) ≡ n = length-take-le n e.operands (omega (arith, long)) in
-    let flat = flat_below (reverse e.activations) n k (results e) some low (length-map e.operands (operand_of e.members) ∙ long) in
-    let to = above c bs at e (cut_to e n m) kept (drop k (now_operands e)) h.1 refl refl (cut_results e n m has within ∙ flat) in
+    let flat = flat_below (reverse e.activations) n k (results bs e) some low (length-map e.operands (operand_of bs e.members) ∙ long) in
+    let to = above c bs at e (cut_to e n m) kept (drop k (now_operands bs e)) h.1 refl refl (cut_results bs e n m has within ∙ flat) in
     subst (λ x. Changed code bs keeps at x kept' s (over (drop k s.core.now.operands) s.core)) (sym now)
-    (changed code bs keeps at at e (cut_to e n m) kept kept' s (λ q. over (drop k q.now.operands) q) h is same to (cut_sound c e n m h.1 low short has within) h.2.standing)
+    (changed code bs keeps at at e (cut_to e n m) kept kept' s (λ q. over (drop k q.now.operands) q) h is same to (cut_sound c bs e n m h.1 low short has within) h.2.standing)
 
 -- ---- what stays
 
@@ -304,14 +311,14 @@ collection_alone what e n is h = (omega (arith, is), subst (HasMembers (reverse 
 -- ---- reading the top
 
 pub some_below : (code : Code) (bs : BasesState) (at : ℕ) (e : Here) (kept : List (Here × Kept)) (s : Standing) → stands code bs at e kept ≡ s → 0 < length s.core.now.operands → lowest_of e < length e.operands
-some_below code bs at e kept s is h = some_on_top e (subst (λ l. 0 < length l) (sym (now_is code bs at e kept s is)) h)
+some_below code bs at e kept s is h = some_on_top bs e (subst (λ l. 0 < length l) (sym (now_is code bs at e kept s is)) h)
 
 -- the operands, where this one is the last
 pub top_is : (code : Code) (bs : BasesState) (at : ℕ) (e : Here) (kept : List (Here × Kept)) (s : Standing) (n : ℕ) (o : Operand) →
-    IsSound (plain_code code) e → stands code bs at e kept ≡ s → lowest_of e < length e.operands → n ≡ length e.operands - 1 → Some o ≡ slice_get e.operands n →
-    s.core.now.operands ≡ operand_of e.members o ∷ drop 1 s.core.now.operands
+    IsSound (plain_code code) bs e → stands code bs at e kept ≡ s → lowest_of e < length e.operands → n ≡ length e.operands - 1 → Some o ≡ slice_get e.operands n →
+    s.core.now.operands ≡ operand_of bs e.members o ∷ drop 1 s.core.now.operands
 top_is code bs at e kept s n o h is some last there =
-    subst (λ l. l ≡ operand_of e.members o ∷ drop 1 l) (now_is code bs at e kept s is) (on_top (plain_code code) e n o h (omega arith) (omega arith) there).now
+    subst (λ l. l ≡ operand_of bs e.members o ∷ drop 1 l) (now_is code bs at e kept s is) (on_top (plain_code code) bs e n o h (omega arith) (omega arith) there).now
 
 pub shows_iterator : (pairs : Bool) (left : List Item) (xs : List core.Operand) → Shows (iterator_by pairs left ∷ xs) top.Iterator
 shows_iterator true left xs = tt

@@ -20,7 +20,8 @@ use Rattle.setl_store_slots.specs.Slots.{IsStanding}
 use Rattle.setl_store_slots.specs.declared.cells.Held.{Held}
 use Rattle.setl_store.specs.Standing.{Standing, no_world, variables}
 use Rattle.setl_store.specs.declared.cells.Kept.{Kept}
-use Rattle.setl_store.specs.Flat.{Here, operand_of, held_of, cells, names_of, own_in, operands_in, activation, callers, copies_of, core_of, stands, helds, results, place_in, with_slot, IsShaped, IsSound, AllSound}
+use Rattle.setl_store_operands.specs.Operands.{operand_of}
+use Rattle.setl_store.specs.Flat.{Here, held_of, cells, names_of, own_in, operands_in, activation, callers, copies_of, core_of, stands, helds, results, place_in, with_slot, IsShaped, IsSound, AllSound}
 use Rattle.setl_store.proofs.Bodies.{own_at, own_held, own_write, with_own, global_held, global_write, with_global, names_own, names_differ}
 use Rattle.setl_store.proofs.OperandLists.{Changed, changed}
 use Rattle.setl_store.proofs.StandingSlots.{standing_at, standing_set}
@@ -211,17 +212,17 @@ written_flat code bs at f fs hs os kept (slot.Own k) v may h has =
 
 -- the activations, with the innermost apart
 pub data Innermost (bs : BasesState) (c : plain.Code) (e : Here) : Type 0 where
-  innermost : (f : Frame) (fs : List Frame) → reverse e.activations ≡ f ∷ fs → IsShaped c (f ∷ fs) (length (helds bs e)) (length (results e)) → Innermost bs c e
+  innermost : (f : Frame) (fs : List Frame) → reverse e.activations ≡ f ∷ fs → IsShaped c (f ∷ fs) (length (helds bs e)) (length (results bs e)) → Innermost bs c e
 
-apart_in : (bs : BasesState) (c : plain.Code) (e : Here) (fs : List Frame) → reverse e.activations ≡ fs → IsShaped c fs (length (helds bs e)) (length (results e)) → Innermost bs c e
+apart_in : (bs : BasesState) (c : plain.Code) (e : Here) (fs : List Frame) → reverse e.activations ≡ fs → IsShaped c fs (length (helds bs e)) (length (results bs e)) → Innermost bs c e
 apart_in bs c e [] is h = absurd h
 apart_in bs c e (f ∷ fs) is h = innermost f fs is h
 
-pub innermost_of : (bs : BasesState) (c : plain.Code) (e : Here) → IsSound c e → Innermost bs c e
+pub innermost_of : (bs : BasesState) (c : plain.Code) (e : Here) → IsSound c bs e → Innermost bs c e
 innermost_of bs c e h =
     apart_in bs c e (reverse e.activations) refl
-    (subst (λ n. IsShaped c (reverse e.activations) n (length (results e))) (sym (length-map e.slots (held_of bs)))
-    (subst (λ n. IsShaped c (reverse e.activations) (length e.slots) n) (sym (length-map e.operands (operand_of e.members))) h.shaped))
+    (subst (λ n. IsShaped c (reverse e.activations) n (length (results bs e))) (sym (length-map e.slots (held_of bs)))
+    (subst (λ n. IsShaped c (reverse e.activations) (length e.slots) n) (sym (length-map e.operands (operand_of bs e.members))) h.shaped))
 
 abbrev pub Has : CodeCore → Slot → Type 0
 Has k x = HasSlot (length k.globals) (length k.now.own) x
@@ -229,9 +230,9 @@ Has k x = HasSlot (length k.globals) (length k.now.own) x
 within_by : (c : plain.Code) (bs : BasesState) (at : ℕ) (e : Here) (kept : List (Here × Kept)) (x : Slot) → Innermost bs c e → Has (core_of c bs at e kept) x → place_in (reverse e.activations) x < length e.slots
 within_by c bs at e kept x (innermost f fs is h) =
     subst (λ l. HasSlot (length (cells c.vars (helds bs e))) (length (own_in c l (helds bs e))) x → place_in l x < length e.slots) (sym is)
-    (λ has. omega (arith, within_flat c f fs (helds bs e) (length (results e)) x h has, length-map e.slots (held_of bs)))
+    (λ has. omega (arith, within_flat c f fs (helds bs e) (length (results bs e)) x h has, length-map e.slots (held_of bs)))
 
-pub place_within : (code : Code) (bs : BasesState) (at : ℕ) (e : Here) (kept : List (Here × Kept)) (s : Standing) (x : Slot) → IsSound (plain_code code) e → stands code bs at e kept ≡ s → Has s.core x → place_in (reverse e.activations) x < length e.slots
+pub place_within : (code : Code) (bs : BasesState) (at : ℕ) (e : Here) (kept : List (Here × Kept)) (s : Standing) (x : Slot) → IsSound (plain_code code) bs e → stands code bs at e kept ≡ s → Has s.core x → place_in (reverse e.activations) x < length e.slots
 place_within code bs at e kept s x h is has =
     within_by (plain_code code) bs at e kept x (innermost_of bs (plain_code code) e h) (subst (λ (t : Standing). Has t.core x) (sym is) has)
 
@@ -239,11 +240,11 @@ holds_by : (code : Code) (bs : BasesState) (at : ℕ) (e : Here) (kept : List (H
     held (plain_slot (variables (core_of (plain_code code) bs at e kept)) x) (core_of (plain_code code) bs at e kept) ≡ held_of bs h
 holds_by code bs at e kept x v may (innermost f fs is h) =
     let c = plain_code code in
-    subst (λ l. HasSlot (length (cells c.vars (helds bs e))) (length (own_in c l (helds bs e))) x → Some v ≡ slice_get e.slots (place_in l x) → held (plain_slot (variables (core_flat c bs at l (helds bs e) (results e) kept)) x) (core_flat c bs at l (helds bs e) (results e) kept) ≡ held_of bs v) (sym is)
-    (λ has there. held_flat code bs at f fs (helds bs e) (results e) kept x (held_of bs v) may h has (slice_get_map (held_of bs) e.slots (place_in (f ∷ fs) x) v there))
+    subst (λ l. HasSlot (length (cells c.vars (helds bs e))) (length (own_in c l (helds bs e))) x → Some v ≡ slice_get e.slots (place_in l x) → held (plain_slot (variables (core_flat c bs at l (helds bs e) (results bs e) kept)) x) (core_flat c bs at l (helds bs e) (results bs e) kept) ≡ held_of bs v) (sym is)
+    (λ has there. held_flat code bs at f fs (helds bs e) (results bs e) kept x (held_of bs v) may h has (slice_get_map (held_of bs) e.slots (place_in (f ∷ fs) x) v there))
 
 pub slot_holds : (code : Code) (bs : BasesState) (keeps : ℕ) (at : ℕ) (e : Here) (kept : List (Here × Kept)) (s : Standing) (x : Slot) (h : Held) →
-    MayRun code × IsSound (plain_code code) e × AllSound (plain_code code) bs keeps e.slots kept → stands code bs at e kept ≡ s → Has s.core x → Some h ≡ slice_get e.slots (place_in (reverse e.activations) x) →
+    MayRun code × IsSound (plain_code code) bs e × AllSound (plain_code code) bs keeps e.slots kept → stands code bs at e kept ≡ s → Has s.core x → Some h ≡ slice_get e.slots (place_in (reverse e.activations) x) →
     held (plain_slot (variables s.core) x) s.core ≡ held_of bs h
 slot_holds code bs keeps at e kept s x v h is has there =
     subst (λ (t : Standing). Has t.core x → held (plain_slot (variables t.core) x) t.core ≡ held_of bs v) is
@@ -254,19 +255,20 @@ written_by : (code : Code) (bs : BasesState) (at : ℕ) (e : Here) (kept : List 
 written_by code bs at e kept x v may (innermost f fs is h) =
     let c = plain_code code in
     subst (λ l. HasSlot (length (cells c.vars (helds bs e))) (length (own_in c l (helds bs e))) x →
-    core_flat c bs at l (map (held_of bs) (set e.slots (place_in l x) v)) (results e) kept ≡ write (plain_slot (variables (core_flat c bs at l (helds bs e) (results e) kept)) x) (held_of bs v) (core_flat c bs at l (helds bs e) (results e) kept)) (sym is)
-    (λ has. ap (λ hs. core_flat c bs at (f ∷ fs) hs (results e) kept) (map-set (held_of bs) e.slots (place_in (f ∷ fs) x) v) ∙ written_flat code bs at f fs (helds bs e) (results e) kept x (held_of bs v) may h has)
+    core_flat c bs at l (map (held_of bs) (set e.slots (place_in l x) v)) (results bs e) kept ≡ write (plain_slot (variables (core_flat c bs at l (helds bs e) (results bs e) kept)) x) (held_of bs v) (core_flat c bs at l (helds bs e) (results bs e) kept)) (sym is)
+    (λ has. ap (λ hs. core_flat c bs at (f ∷ fs) hs (results bs e) kept) (map-set (held_of bs) e.slots (place_in (f ∷ fs) x) v) ∙ written_flat code bs at f fs (helds bs e) (results bs e) kept x (held_of bs v) may h has)
 
-sound_written : (c : plain.Code) (e : Here) (n : ℕ) (v : Held) → IsSound c e → IsSound c (with_slot e n v)
-sound_written c e n v h = record {
+sound_written : (c : plain.Code) (bs : BasesState) (e : Here) (n : ℕ) (v : Held) → IsSound c bs e → IsSound c bs (with_slot e n v)
+sound_written c bs e n v h = record {
   some = h.some;
   shaped = subst (λ k. IsShaped c (reverse e.activations) k (length e.operands)) (sym (length-set e.slots n v)) h.shaped;
   members = h.members;
   got = h.got;
+  operands = h.operands;
 }
 
 pub slot_written : (code : Code) (bs : BasesState) (keeps : ℕ) (at : ℕ) (e e' : Here) (kept kept' : List (Here × Kept)) (s : Standing) (x : Slot) (v : Held) →
-    MayRun code × IsSound (plain_code code) e × AllSound (plain_code code) bs keeps e.slots kept → stands code bs at e kept ≡ s → Has s.core x → IsStanding bs v →
+    MayRun code × IsSound (plain_code code) bs e × AllSound (plain_code code) bs keeps e.slots kept → stands code bs at e kept ≡ s → Has s.core x → IsStanding bs v →
     e' ≡ with_slot e (place_in (reverse e.activations) x) v → kept' ≡ kept →
     Changed code bs keeps at e' kept' s (write (plain_slot (variables s.core) x) (held_of bs v) s.core)
 slot_written code bs keeps at e e' kept kept' s x v h is has stand now same =
@@ -275,16 +277,16 @@ slot_written code bs keeps at e e' kept kept' s x v h is has stand now same =
     let own = subst (λ (t : Standing). Has t.core x) (sym is) has in
     let to = written_by code bs at e kept x v h.0 (innermost_of bs c e h.1) own in
     subst (λ y. Changed code bs keeps at y kept' s (write (plain_slot (variables s.core) x) (held_of bs v) s.core)) (sym now)
-    (changed code bs keeps at at e (with_slot e n v) kept kept' s (λ k. write (plain_slot (variables k) x) (held_of bs v) k) h is same to (sound_written c e n v h.1) (standing_set bs e.slots n v h.2.standing stand))
+    (changed code bs keeps at at e (with_slot e n v) kept kept' s (λ k. write (plain_slot (variables k) x) (held_of bs v) k) h is same to (sound_written c bs e n v h.1) (standing_set bs e.slots n v h.2.standing stand))
 
 -- the same, where the slot's place is known by this number
 pub slot_at : (code : Code) (bs : BasesState) (keeps : ℕ) (at : ℕ) (e : Here) (kept : List (Here × Kept)) (s : Standing) (x : Slot) (n : ℕ) (h : Held) →
-    MayRun code × IsSound (plain_code code) e × AllSound (plain_code code) bs keeps e.slots kept → stands code bs at e kept ≡ s → Has s.core x → n ≡ place_in (reverse e.activations) x → Some h ≡ slice_get e.slots n →
+    MayRun code × IsSound (plain_code code) bs e × AllSound (plain_code code) bs keeps e.slots kept → stands code bs at e kept ≡ s → Has s.core x → n ≡ place_in (reverse e.activations) x → Some h ≡ slice_get e.slots n →
     held (plain_slot (variables s.core) x) s.core ≡ held_of bs h
 slot_at code bs keeps at e kept s x n v h is has place there = slot_holds code bs keeps at e kept s x v h is has (there ∙ ap (slice_get e.slots) place)
 
 pub slot_stored : (code : Code) (bs : BasesState) (keeps : ℕ) (at : ℕ) (e e' : Here) (kept kept' : List (Here × Kept)) (s : Standing) (x : Slot) (n : ℕ) (v : Held) (h : core.Held) →
-    MayRun code × IsSound (plain_code code) e × AllSound (plain_code code) bs keeps e.slots kept → stands code bs at e kept ≡ s → Has s.core x → n ≡ place_in (reverse e.activations) x → IsStanding bs v →
+    MayRun code × IsSound (plain_code code) bs e × AllSound (plain_code code) bs keeps e.slots kept → stands code bs at e kept ≡ s → Has s.core x → n ≡ place_in (reverse e.activations) x → IsStanding bs v →
     e' ≡ with_slot e n v → kept' ≡ kept → held_of bs v ≡ h →
     Changed code bs keeps at e' kept' s (write (plain_slot (variables s.core) x) h s.core)
 slot_stored code bs keeps at e e' kept kept' s x n v h holds is has place stand now same stands_for =
@@ -298,7 +300,7 @@ set_same (y ∷ xs) (suc n) x e = ap (λ zs. y ∷ zs) (set_same xs n x e)
 
 -- what a slot holds, stored again, changes nothing
 pub slot_again : (code : Code) (bs : BasesState) (keeps : ℕ) (at : ℕ) (e : Here) (kept : List (Here × Kept)) (s : Standing) (x : Slot) (n : ℕ) (v : Held) (h : core.Held) →
-    MayRun code × IsSound (plain_code code) e × AllSound (plain_code code) bs keeps e.slots kept → stands code bs at e kept ≡ s → Has s.core x → n ≡ place_in (reverse e.activations) x → Some v ≡ slice_get e.slots n → held_of bs v ≡ h →
+    MayRun code × IsSound (plain_code code) bs e × AllSound (plain_code code) bs keeps e.slots kept → stands code bs at e kept ≡ s → Has s.core x → n ≡ place_in (reverse e.activations) x → Some v ≡ slice_get e.slots n → held_of bs v ≡ h →
     write (plain_slot (variables s.core) x) h s.core ≡ s.core
 slot_again code bs keeps at e kept s x n v h holds is has place there stands_for =
     let same : e ≡ with_slot e n v = sym (ap (λ l. record e { slots = l }) (set_same e.slots n v there)) in

@@ -40,12 +40,12 @@ variables_here : (code : Code) (bs : BasesState) (at : ℕ) (e : Here) (kept : L
     variables (core_of (plain_code code) bs at e kept) ≡ variables_by_slots code (body_in (reverse e.activations)) (slice_get code.bodies (body_in (reverse e.activations)))
 variables_here code bs at e kept (innermost f fs is h) =
     let c = plain_code code in
-    let z = sizes c f fs (helds bs e) (length (results e)) h in
+    let z = sizes c f fs (helds bs e) (length (results bs e)) h in
     subst (λ l. record { global = map (λ s. s.0) (cells c.vars (helds bs e)); own = map (λ s. s.0) (own_in c l (helds bs e)) } ≡ variables_by_slots code (body_in l) (slice_get code.bodies (body_in l))) (sym is)
     (λ i. record { global = z.globals_are i; own = (z.own_are ∙ names_same code f.body) i })
 
 -- what the body at work has in hand
-pub at_work : (code : Code) (bs : BasesState) (at : ℕ) (e : Here) (kept : List (Here × Kept)) (s : Standing) (n : ℕ) → IsSound (plain_code code) e → stands code bs at e kept ≡ s → n ≡ body_in (reverse e.activations) → variables s.core ≡ variables_in (plain_code s.code) n
+pub at_work : (code : Code) (bs : BasesState) (at : ℕ) (e : Here) (kept : List (Here × Kept)) (s : Standing) (n : ℕ) → IsSound (plain_code code) bs e → stands code bs at e kept ≡ s → n ≡ body_in (reverse e.activations) → variables s.core ≡ variables_in (plain_code s.code) n
 at_work code bs at e kept s n h is number =
     let m = body_in (reverse e.activations) in
     subst (λ (t : Standing). variables t.core ≡ variables_in (plain_code t.code) n) is
@@ -55,7 +55,7 @@ at_work code bs at e kept s n h is number =
 
 -- ---- the step in hand of a store
 
-pub step_found : (code : Code) (bs : BasesState) (at : ℕ) (e : Here) (kept : List (Here × Kept)) (s : Standing) (n : ℕ) (x : Step) → IsSound (plain_code code) e → stands code bs at e kept ≡ s → n ≡ body_in (reverse e.activations) →
+pub step_found : (code : Code) (bs : BasesState) (at : ℕ) (e : Here) (kept : List (Here × Kept)) (s : Standing) (n : ℕ) (x : Step) → IsSound (plain_code code) bs e → stands code bs at e kept ≡ s → n ≡ body_in (reverse e.activations) →
     step_of (slice_get code.bodies n) at ≡ Some x → fetch (plain_code s.code) s.core.now.body s.core.now.at ≡ Some (plain_step (variables s.core) x)
 step_found code bs at e kept s n x h is number found =
     let m = body_in (reverse e.activations) in
@@ -103,7 +103,7 @@ record Counts (code : Code) (n : ℕ) (k : CodeCore) : Type 0 where
 counts_by : (code : Code) (bs : BasesState) (at : ℕ) (e : Here) (kept : List (Here × Kept)) → Innermost bs (plain_code code) e → Counts code (body_in (reverse e.activations)) (core_of (plain_code code) bs at e kept)
 counts_by code bs at e kept (innermost f fs is h) =
     let c = plain_code code in
-    let z = sizes c f fs (helds bs e) (length (results e)) h in
+    let z = sizes c f fs (helds bs e) (length (results bs e)) h in
     record {
       globals = z.globals_length ∙ length-map code.vars Global;
       own =
@@ -111,7 +111,7 @@ counts_by code bs at e kept (innermost f fs is h) =
           (z.own_length ∙ ap length (names_same code f.body) ∙ counted f.body (slice_get code.bodies f.body));
     }
 
-pub step_fits : (code : Code) (bs : BasesState) (keeps : ℕ) (at : ℕ) (e : Here) (kept : List (Here × Kept)) (s : Standing) (n : ℕ) (x : Step) → MayRun code × IsSound (plain_code code) e × AllSound (plain_code code) bs keeps e.slots kept → stands code bs at e kept ≡ s → n ≡ body_in (reverse e.activations) →
+pub step_fits : (code : Code) (bs : BasesState) (keeps : ℕ) (at : ℕ) (e : Here) (kept : List (Here × Kept)) (s : Standing) (n : ℕ) (x : Step) → MayRun code × IsSound (plain_code code) bs e × AllSound (plain_code code) bs keeps e.slots kept → stands code bs at e kept ≡ s → n ≡ body_in (reverse e.activations) →
     step_of (slice_get code.bodies n) at ≡ Some x → InstrFits (length s.core.globals) (length s.core.now.own) x.what
 step_fits code bs keeps at e kept s n x h is number found =
     let z = counts_by code bs at e kept (innermost_of bs (plain_code code) e h.1) in

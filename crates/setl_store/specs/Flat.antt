@@ -1,12 +1,9 @@
 -- How the activations lie in flat lists of slots, operands and members. No public clause cites this module.
 use Rattle.std.specs.Prelude.{◌≡◌, Bool, false, ℕ, ◌-◌, ◌+◌, ◌<◌, ◌≤◌, ◌^◌, List, [], ◌∷◌, ◌++◌, length, take, drop, map, reverse, Option, Some, None, slice_get, slice_set}
-use Rattle.setl_value.specs.Datum.{Datum, bool}
-use Rattle.setl_value.specs.code.DatumOf.{datum, part}
+use Rattle.setl_value.specs.Datum.{bool}
+use Rattle.setl_value.specs.code.DatumOf.{datum}
 use Rattle.setl_value.specs.declared.Value.TheVariants as value
 use Rattle.setl_model_runs.specs.Variable.{Variable}
-use Rattle.setl_program.specs.declared.kinds.Collection.{Collection}
-use Rattle.setl_model.specs.Collections.{refusal}
-use Rattle.setl_store_iterator.specs.States.{IteratorState}
 use Rattle.setl_store_environment.specs.Environment.{Contents}
 use Rattle.setl_code.specs.declared.code.Body.{Body}
 use Rattle.setl_code.specs.declared.code.Code.{Code}
@@ -25,13 +22,16 @@ use Rattle.setl_store_kept.specs.Kept.{kept_shown, KeptSound}
 use Rattle.setl_store_slots.specs.Slots.{AreStanding}
 use Rattle.setl_store_slots.specs.declared.cells.Held.{Held}
 use Rattle.setl_store_slots.specs.declared.cells.Held.TheVariants as held
-use Rattle.setl_store.specs.declared.cells.Operand.{Operand}
-use Rattle.setl_store.specs.declared.cells.Operand.TheVariants as operand
+use Rattle.setl_store_operands.specs.declared.cells.Operand.{Operand}
+use Rattle.setl_store_operands.specs.declared.cells.Operand.TheVariants as operand
 use Rattle.setl_store.specs.declared.cells.FieldContent.{FieldContent}
 use Rattle.setl_store.specs.declared.cells.Frame.{Frame}
 use Rattle.setl_store.specs.declared.cells.Kept.{Kept}
-use Rattle.setl_store.specs.declared.cells.Member.{Member}
-use Rattle.setl_store.specs.Standing.{Standing, no_world, variables_by, iterator_by}
+use Rattle.setl_store_operands.specs.declared.cells.Member.{Member}
+use Rattle.setl_store_operands.specs.Lending.{value_as, IsOverAs}
+use Rattle.setl_store_operands.specs.Operands.{operand_of, AreOperandsOver, GotAll, HasMembers, IsOperandOver}
+use Rattle.setl_store_operands.specs.declared.lent.AsHeld.{AsHeld}
+use Rattle.setl_store.specs.Standing.{Standing, no_world, variables_by}
 
 -- ---- slots
 
@@ -67,56 +67,6 @@ step_of (Some b) at = slice_get b.steps at
 abbrev pub own_count_of : Option Body → ℕ
 own_count_of None = 0
 own_count_of (Some b) = length b.parameters + length b.names
-
--- ---- operands
-
-abbrev pub member_of : Member → Option Datum
-member_of m = part m.value
-
--- those of some members that are no `om`
-abbrev pub present : List (Option Datum) → List Datum
-present [] = []
-present (None ∷ vs) = present vs
-present (Some d ∷ vs) = d ∷ present vs
-
--- what a collection has, the latest first
-abbrev pub got : List Member → (lowest count : ℕ) → List (Option Datum)
-got members lowest count = reverse (map member_of (take count (drop lowest members)))
-
-abbrev pub iterator_of : IteratorState → core.Operand
-iterator_of i = iterator_by i.pairs i.left
-
-abbrev pub operand_of : List Member → Operand → core.Operand
-operand_of members operand.Om = core.Result None
-operand_of members (operand.Value v) = core.Result (Some (datum v))
-operand_of members (operand.Iterator i) = iterator_of i
-operand_of members (operand.Collection what lowest count) = core.Collecting what (got members lowest count)
-
--- it is a result and no collection
-abbrev pub IsPlain : Operand → Type 0
-IsPlain operand.Om = Unit {0}
-IsPlain (operand.Value v) = Unit {0}
-IsPlain (operand.Iterator i) = ⊥
-IsPlain (operand.Collection what lowest count) = ⊥
-
--- no value that a collection has got is one that it refuses
-abbrev pub GotAll : Collection → List (Option Datum) → Type 0
-GotAll what [] = Unit {0}
-GotAll what (v ∷ vs) = (refusal what v ≡ None) × GotAll what vs
-
--- it serves as a value, and its members are there
-abbrev pub Serves : List Member → Operand → Type 0
-Serves ms operand.Om = Unit {0}
-Serves ms (operand.Value v) = Unit {0}
-Serves ms (operand.Iterator i) = ⊥
-Serves ms (operand.Collection what lowest count) = (lowest + count ≤ length ms) × GotAll what (got ms lowest count)
-
--- how many members are left without an operand
-abbrev pub members_below : Operand → ℕ → ℕ
-members_below operand.Om n = n
-members_below (operand.Value v) n = n
-members_below (operand.Iterator i) n = n
-members_below (operand.Collection what lowest count) n = lowest
 
 -- ---- activations
 
@@ -165,8 +115,8 @@ Here = Contents Held Operand Frame Member FieldContent
 abbrev pub helds : BasesState → Here → List core.Held
 helds bs e = map (held_of bs) e.slots
 
-abbrev pub results : Here → List core.Operand
-results e = map (operand_of e.members) e.operands
+abbrev pub results : BasesState → Here → List core.Operand
+results bs e = map (operand_of bs e.members) e.operands
 
 -- what `ok` kept of the bases
 abbrev pub marks_in : Kept → Marks
@@ -181,9 +131,9 @@ copy_of c bs k = record {
         body = body_in (reverse k.0.activations);
         at = k.1.at;
         own = own_in c (reverse k.0.activations) (helds bs k.0);
-        operands = drop 1 (operands_in (reverse k.0.activations) (results k.0));
+        operands = drop 1 (operands_in (reverse k.0.activations) (results bs k.0));
       };
-  callers = callers c (reverse k.0.activations) (helds bs k.0) (results k.0);
+  callers = callers c (reverse k.0.activations) (helds bs k.0) (results bs k.0);
 }
 
 -- each kept one over the bases cut to its marks
@@ -193,8 +143,8 @@ copies_of c bs kept = kept_shown marks_in (copy_of c) bs kept
 abbrev pub core_of : plain.Code → BasesState → ℕ → Here → List (Here × Kept) → CodeCore
 core_of c bs at e kept = record {
   globals = cells c.vars (helds bs e);
-  now = activation c at (reverse e.activations) (helds bs e) (results e);
-  callers = callers c (reverse e.activations) (helds bs e) (results e);
+  now = activation c at (reverse e.activations) (helds bs e) (results bs e);
+  callers = callers c (reverse e.activations) (helds bs e) (results bs e);
   kept = copies_of c bs kept;
   world = no_world;
 }
@@ -212,14 +162,6 @@ IsShaped c [] n m = ⊥
 IsShaped c (f ∷ []) n m = (f.body ≡ 0) × (f.slots ≡ length c.vars) × (f.operands ≡ 0) × (n ≡ f.slots + length (names_of c f.body))
 IsShaped c (f ∷ g ∷ fs) n m = (n ≡ f.slots + length (names_of c f.body)) × (f.operands ≤ m) × IsShaped c (g ∷ fs) f.slots f.operands
 
--- the collections among these operands, the top first, have these members one behind the other
-abbrev pub HasMembers : List Operand → (members : ℕ) → Type 0
-HasMembers [] n = n ≡ 0
-HasMembers (operand.Om ∷ os) n = HasMembers os n
-HasMembers (operand.Value v ∷ os) n = HasMembers os n
-HasMembers (operand.Iterator i ∷ os) n = HasMembers os n
-HasMembers (operand.Collection what lowest count ∷ os) n = (n ≡ lowest + count) × HasMembers os lowest
-
 abbrev pub GotThese : core.Operand → Type 0
 GotThese (core.Collecting what vs) = GotAll what vs
 GotThese o = Unit {0}
@@ -228,20 +170,29 @@ abbrev pub AllGot : List core.Operand → Type 0
 AllGot [] = Unit {0}
 AllGot (o ∷ os) = GotThese o × AllGot os
 
-pub record IsSound (c : plain.Code) (e : Here) : Type 0 where
+pub record IsSound (c : plain.Code) (bs : BasesState) (e : Here) : Type 0 where
   pub some : 0 < length e.activations
   pub shaped : IsShaped c (reverse e.activations) (length e.slots) (length e.operands)
   pub members : HasMembers (reverse e.operands) (length e.members)
-  pub got : AllGot (results e)
+  pub got : AllGot (results bs e)
+  pub operands : AreOperandsOver bs e.operands
 
 -- the operands of the body at work, the top first
-abbrev pub now_operands : Here → List core.Operand
-now_operands e = operands_in (reverse e.activations) (results e)
+abbrev pub now_operands : BasesState → Here → List core.Operand
+now_operands bs e = operands_in (reverse e.activations) (results bs e)
+
+-- the value that so many operands of the body at work stand above, as it is held
+pub record IsHeldBelow (e : Here) (n : ℕ) (h : AsHeld) : Type 0 where
+  pub operand : Operand
+  pub there : lowest_in (reverse e.activations) + n < length e.operands
+  pub is : Some operand ≡ slice_get e.operands (length e.operands - 1 - n)
+  pub value : (bs : BasesState) (ms : List Member) → operand_of bs ms operand ≡ core.Result (value_as bs h)
+  pub over : (bs : BasesState) → IsOperandOver bs operand → IsOverAs bs h
 
 -- what was kept, over the bases of then: it has its answer on top
 pub record WasSound (c : plain.Code) (bs : BasesState) (e : Here) : Type 0 where
-  pub sound : IsSound c e
-  pub answered : now_operands e ≡ core.Result (Some (bool false)) ∷ drop 1 (now_operands e)
+  pub sound : IsSound c bs e
+  pub answered : now_operands bs e ≡ core.Result (Some (bool false)) ∷ drop 1 (now_operands bs e)
   pub standing : AreStanding bs e.slots
 
 -- These slots stand over the bases, and each kept one over the bases cut to its marks. Each cut uses up a kept one, so that no

@@ -6,10 +6,10 @@ use Rattle.setl_operators_table.specs.declared.OpFault.TheVariants as fault
 use Rattle.setl_store_iterator.specs.Items.{plain_item, is_pair}
 use Rattle.setl_store_iterator.specs.declared.iterator.Item.{Item}
 use Rattle.setl_store_iterator.specs.declared.iterator.Item.TheVariants as item
-use Rattle.setl_store.specs.declared.cells.Operand.{Operand}
-use Rattle.setl_store.specs.declared.cells.Operand.TheVariants as operand
+use Rattle.setl_store_operands.specs.declared.cells.Operand.{Operand}
+use Rattle.setl_store_operands.specs.declared.cells.Operand.TheVariants as operand
 use Rattle.setl_store.specs.Flat.{Here, with_operand}
-use Rattle.setl_store.specs.Returning.{operand_by}
+use Rattle.setl_store_operands.specs.Operands.{operand_by}
 
 -- an iterator with an item left
 abbrev pub IsAtItem : Option Operand → Type 0

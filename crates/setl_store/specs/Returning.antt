@@ -8,15 +8,8 @@ use Rattle.setl_code.specs.CodeCore as core
 use Rattle.setl_code.specs.CodeCore.{Held}
 use Rattle.setl_code.specs.Machine.{hand}
 use Rattle.setl_store.specs.declared.cells.Frame.{Frame}
-use Rattle.setl_store.specs.declared.cells.Operand.{Operand}
-use Rattle.setl_store.specs.declared.cells.Operand.TheVariants as operand
 use Rattle.setl_store_slots.specs.declared.cells.Held.{Held as Slot}
 use Rattle.setl_store_slots.specs.declared.cells.Held.TheVariants as slot
-
--- the operand that is this value
-abbrev pub operand_by : Option Value → Operand
-operand_by None = operand.Om
-operand_by (Some v) = operand.Value v
 
 -- what a slot holds that holds this value
 abbrev pub held_by : Option Value → Slot

@@ -1,9 +1,8 @@
 -- What a store stands for: its code, and the core of the code's run but for the world, with all that is kept.
 use Rattle.std.specs.Prelude.{◌≡◌, ℕ, suc, Bool, true, false, List, [], ◌∷◌, map, Option, Some, None, Result, Ok, Err, slice_get}
 use Rattle.std.specs.Option.{option_map}
-use Rattle.setl_value.specs.Datum.{Datum, bool}
+use Rattle.setl_value.specs.Datum.{Datum, bool, set, tuple}
 use Rattle.setl_value.specs.code.DatumOf.{datum}
-use Rattle.setl_model.specs.Core.{Item}
 use Rattle.setl_model.specs.World.{World}
 use Rattle.setl_code.specs.declared.code.Code.{Code}
 use Rattle.setl_model_runs.specs.Variable.{Variable}
@@ -16,6 +15,7 @@ use Rattle.setl_store.specs.declared.store.Content.TheVariants as content
 use Rattle.setl_store.specs.declared.store.Top.{Top}
 use Rattle.setl_store.specs.declared.store.Top.TheVariants as top
 use Rattle.setl_code.specs.CodeMeans.{main_slots}
+pub use Rattle.setl_store_operands.specs.Operands.{iterator_by}
 
 -- The core's world stays `no_world` here: it is the machine's.
 pub record Standing : Type 0 where
@@ -56,6 +56,11 @@ variables_in c n = record { global = c.vars; own = variables_by n (slice_get c.b
 abbrev pub over : List Operand → CodeCore → CodeCore
 over xs k = record k { now = record k.now { operands = xs } }
 
+-- the same with what a slot holds on top of the operands; a slot whose value was taken holds nothing
+abbrev pub with_pushed : Held → CodeCore → CodeCore
+with_pushed Gone k = k
+with_pushed (There v) k = over (Holds v ∷ k.now.operands) k
+
 -- the same at this step
 abbrev pub at_place : ℕ → CodeCore → CodeCore
 at_place at k = record k { now = record k.now { at = at } }
@@ -82,11 +87,6 @@ abbrev pub top_of : List Operand → Option (Option Datum × List Operand)
 top_of [] = None
 top_of (o ∷ xs) = option_map (λ v. (v, xs)) (value_of o)
 
--- an iterator with these items left, over members or over pairs
-abbrev pub iterator_by : Bool → List Item → Operand
-iterator_by true left = PairIterator left
-iterator_by false left = Iterator left
-
 -- the call makes this of the store, or it is refused and all is as before
 abbrev pub Becomes : {V E : Type 0} → Result V E → (old new made : Standing) → Type 0
 Becomes (Ok v) old new made = new ≡ made
@@ -100,11 +100,13 @@ IsHeld (There None) content.Om = Unit {0}
 IsHeld (There (Some d)) (content.Value v) = datum v.now ≡ d
 IsHeld h c = ⊥
 
--- what the top operand is; an iterator gives members or pairs
+-- what the top operand is; an iterator gives members or pairs, and a value in a form that isn't lent is a set or a tuple
 abbrev pub Shows : List Operand → Top → Type 0
 Shows [] top.Nothing = Unit {0}
 Shows (Holds None ∷ xs) top.Om = Unit {0}
 Shows (Holds (Some d) ∷ xs) (top.Value v) = datum v.now ≡ d
+Shows (Holds (Some (set ms)) ∷ xs) top.Based = Unit {0}
+Shows (Holds (Some (tuple ps)) ∷ xs) top.Based = Unit {0}
 Shows (Iterator items ∷ xs) top.Iterator = Unit {0}
 Shows (PairIterator items ∷ xs) top.Iterator = Unit {0}
 Shows (Collecting what got ∷ xs) (top.Collection kind) = kind ≡ what

@@ -1,15 +1,17 @@
 //! Activations of an environment, with the memory that they take.
 
 ghost use Rattle.std.specs.Prelude.{◌≡◌, ◌<◌, ◌-◌, ◌+◌, ◌≤◌, [], ◌∷◌, ◌++◌, map, length, take, reverse, replicate, OnOk, OnErr};
-ghost use Rattle.setl_store.specs.Flat.{without, HasMembers};
-ghost use Rattle.setl_store.specs.Returning.{held_by, operand_by};
+ghost use Rattle.setl_store_operands.specs.Operands.{HasMembers, operand_by};
+ghost use Rattle.setl_store.specs.Flat.{without};
+ghost use Rattle.setl_store.specs.Returning.{held_by};
 ghost use Rattle.setl_store_slots.specs.declared.cells.Held.TheVariants as slot;
 
-use crate::cells::{Contents, Frame, Operand};
+use crate::cells::{Contents, Frame};
 use crate::changes::{reserve_one_more, reserve_sum};
 use crate::lent::members_below;
-use crate::store::{held, operand};
+use crate::store::held;
 use setl_store_environment::Memory;
+use setl_store_operands::operand;
 use setl_store_slots::Held;
 use setl_value::Value;
 use std::alloc::AllocError;

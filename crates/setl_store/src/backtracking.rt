@@ -2,13 +2,14 @@
 
 ghost use Rattle.std.specs.Prelude.{◌≡◌, ◌<◌, ◌+◌, ◌^◌, ◌∷◌, length, nat_lt, true, false, OnOk, OnErr};
 ghost use Rattle.setl_value.specs.declared.Value.TheVariants as value;
-ghost use Rattle.setl_store.specs.declared.cells.Operand.TheVariants as operand;
+ghost use Rattle.setl_store_operands.specs.declared.cells.Operand.TheVariants as operand;
 ghost use Rattle.setl_store.specs.Flat.{answering};
 ghost use Rattle.setl_store.specs.Standing.{kept, Restored, Becomes};
 
-use crate::cells::{Contents, Kept, Operand};
+use crate::cells::{Contents, Kept};
 use crate::store::Store;
 use setl_store_environment::Memory;
+use setl_store_operands::Operand;
 use setl_value::Value;
 use std::alloc::AllocError;
 
@@ -43,6 +44,7 @@ impl<'c> Store<'c> {
     {
         setl_rep_bases::laws::cuts_are_exact();
         setl_rep_forms::laws::forms_stay();
+        setl_store_operands::laws::operands_stay();
         let Some(kept) = self.environment.back() else {
             return false;
         };

@@ -3,8 +3,9 @@
 ghost use Rattle.std.specs.Prelude.{◌≡◌, ◌<◌, ◌-◌, ◌+◌, ◌≤◌, length, slice_get, slice_set, Some, IfSome, IfOk, OnOk, OnErr};
 ghost use Rattle.setl_store.specs.Flat.{with_operand, with_slot, cut_to};
 
-use crate::cells::{Contents, Operand};
+use crate::cells::Contents;
 use setl_store_environment::Memory;
+use setl_store_operands::Operand;
 use setl_store_slots::Held;
 use std::alloc::AllocError;
 

@@ -4,19 +4,21 @@ ghost use Rattle.std.specs.Prelude.{◌≡◌, ◌<◌, ◌≤◌, ◌-◌, ◌+
 ghost use Rattle.setl_model.specs.Collections.{refusal};
 ghost use Rattle.setl_code.specs.Machine.{added, Nowhere};
 ghost use Rattle.setl_value.specs.code.DatumOf.{part};
-ghost use Rattle.setl_store.specs.Flat.{lowest_in, now_operands, operand_of};
+ghost use Rattle.setl_store_operands.specs.Operands.{operand_of};
+ghost use Rattle.setl_store.specs.Flat.{lowest_in, now_operands};
 ghost use Rattle.setl_store.specs.Iterating.{IsAtItem, IsFirst, advanced, with_item, AreIterators, Refuses};
 ghost use Rattle.setl_store.specs.Operands.{IsAhead, Advances, TellsAdded};
 ghost use Rattle.setl_store.specs.Standing.{over};
-ghost use Rattle.setl_store.specs.declared.cells.Operand.TheVariants.{Iterator as at_work};
+ghost use Rattle.setl_store_operands.specs.declared.cells.Operand.TheVariants.{Iterator as at_work};
 ghost use Rattle.setl_store.specs.declared.iterating.Ahead.TheVariants as ahead;
 
-use crate::cells::{Contents, Member, Operand};
-use crate::store::{Store, lowest, operand};
+use crate::cells::Contents;
+use crate::store::{Store, lowest};
 use setl_operators_table::OpFault;
 use setl_program::Collection;
 use setl_store_environment::Memory;
 use setl_store_iterator::{Item, Iterator};
+use setl_store_operands::{Member, Operand, operand};
 use setl_value::Value;
 use std::alloc::{AllocError, Global};
 
@@ -147,7 +149,7 @@ fn below_iterators(environment: &Contents, count: usize) -> Option<usize>
     requires low { lowest_in (reverse environment.now.now.activations) ≤ length environment.now.now.operands }
     ensures place { IfSome result (λ at. (at + count + 1 ≡ length environment.now.now.operands) × (lowest_in (reverse environment.now.now.activations) ≤ at)) }
     ensures above { IfSome result (λ at. AreIterators (drop (at + 1) environment.now.now.operands)) }
-    ensures nowhere { IfNone result ((value : _) → added count value (now_operands environment.now.now) ≡ Nowhere) }
+    ensures nowhere { IfNone result ((bs : _) (value : _) → added count value (now_operands bs environment.now.now) ≡ Nowhere) }
 {
     let all = environment.operands();
     if all - lowest(environment) <= count {
@@ -206,7 +208,7 @@ fn add_member(
 /// Whether an operand is an iterator.
 fn is_iterator(operand: &Operand) -> bool
     ensures is { result ≡ true → AreIterators (operand.now ∷ []) }
-    ensures is_not { result ≡ false → (n : _) (value : _) (members : _) (xs : _) → added (n + 1) value (operand_of members operand.now ∷ xs) ≡ Nowhere }
+    ensures is_not { result ≡ false → (n : _) (value : _) (bs : _) (members : _) (xs : _) → added (n + 1) value (operand_of bs members operand.now ∷ xs) ≡ Nowhere }
 {
     matches!(operand, Operand::Iterator(_))
 }

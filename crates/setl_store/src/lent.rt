@@ -1,16 +1,20 @@
 //! Operands that are lent, dropped, or replaced where they stand.
 
-ghost use Rattle.std.specs.Prelude.{◌≡◌, ◌∷◌, ◌+◌, drop, Some, IsSome, IfSome};
+ghost use Rattle.std.specs.Prelude.{◌≡◌, ◌<◌, ◌≤◌, ◌∷◌, ◌+◌, drop, length, reverse, Some, IsSome, IfSome};
 ghost use Rattle.setl_code.specs.CodeCore.{Result as Holds};
 ghost use Rattle.setl_value.specs.code.DatumOf.{datum, part};
-ghost use Rattle.setl_store.specs.Flat.{members_below};
+ghost use Rattle.setl_store_operands.specs.Operands.{members_below};
+ghost use Rattle.setl_store.specs.Flat.{lowest_in, IsHeldBelow};
 ghost use Rattle.setl_store.specs.Operands.{IsPlainTop};
+ghost use Rattle.setl_store_operands.specs.Lending.{value_as, IsOverAs};
 ghost use Rattle.setl_store.specs.Standing.{over, top_of, Becomes};
 
-use crate::cells::Operand;
+use crate::cells::Contents;
 use crate::changes::{drop_operand, put_operand};
-use crate::store::{Store, lowest, operand};
+use crate::store::{Store, lowest};
+use setl_rep_bases::Bases;
 use setl_store_environment::Memory;
+use setl_store_operands::{AsHeld, Operand, in_form, operand};
 use setl_value::Value;
 
 impl<'c> Store<'c> {
@@ -33,6 +37,34 @@ impl<'c> Store<'c> {
             return None;
         };
         Some((lower, upper))
+    }
+
+    /// The value on top as it is held, and the bases of its form; None where none is there, or it is `om`, a collection or
+    /// an iterator. It takes no memory.
+    pub fn one_held(&self) -> Option<(AsHeld<'_>, &Bases)>
+        ensures value { IfSome result (λ held. self.now.core.now.operands ≡ Holds (value_as held.1.now held.0) ∷ drop 1 self.now.core.now.operands) }
+        ensures over { IfSome result (λ held. IsOverAs held.1.now held.0) }
+    {
+        let Some(held) = held_below(&self.environment, 0) else {
+            return None;
+        };
+        Some((held, &self.bases))
+    }
+
+    /// The two values on top as they are held, the lower one first, and the bases of their forms; None where one of the two
+    /// isn't there, or is `om`, a collection or an iterator. It takes no memory.
+    pub fn two_held(&self) -> Option<(AsHeld<'_>, AsHeld<'_>, &Bases)>
+        ensures values { IfSome result (λ held. self.now.core.now.operands ≡ Holds (value_as held.2.now held.1) ∷ Holds (value_as held.2.now held.0) ∷ drop 2 self.now.core.now.operands) }
+        ensures lower { IfSome result (λ held. IsOverAs held.2.now held.0) }
+        ensures upper { IfSome result (λ held. IsOverAs held.2.now held.1) }
+    {
+        let Some(upper) = held_below(&self.environment, 0) else {
+            return None;
+        };
+        let Some(lower) = held_below(&self.environment, 1) else {
+            return None;
+        };
+        Some((lower, upper, &self.bases))
     }
 
     // The value that so many operands stand above; None where none is there, or it is `om`, a collection or an iterator.
@@ -85,4 +117,21 @@ pub(crate) fn members_below(operand: &Operand, members: usize) -> usize
         Operand::Collection(_, lowest, _) => *lowest,
         _ => members,
     }
+}
+
+// The value that so many operands stand above, as it is held; None where none is there, or it is `om`, a collection or an
+// iterator.
+fn held_below(environment: &Contents, count: usize) -> Option<AsHeld<'_>>
+    requires some { 0 < length environment.now.now.activations }
+    requires low { lowest_in (reverse environment.now.now.activations) ≤ length environment.now.now.operands }
+    ensures { IfSome result (IsHeldBelow environment.now.now count) }
+{
+    let operands = environment.operands();
+    if operands - lowest(environment) <= count {
+        return None;
+    }
+    let Some(held) = in_form(environment.operand(operands - 1 - count)) else {
+        return None;
+    };
+    Some(held)
 }

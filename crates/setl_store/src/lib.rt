@@ -11,7 +11,6 @@ mod lent;
 mod operands;
 mod returning;
 mod store;
-mod values;
 
 pub use iterating::Ahead;
 pub use setl_operators_table::OpFault;

@@ -9,11 +9,11 @@ ghost use Rattle.setl_store.specs.Standing.{over, top_of, Becomes};
 ghost use Rattle.setl_store.specs.HasValues.{has_values};
 
 use crate::activations::members_of_lower;
-use crate::cells::Operand;
 use crate::changes::{cut_back, drop_operand, take_operand};
 use crate::store::{Store, lowest};
-use crate::values::{is_value, served, value};
+use setl_rep_plain::plain;
 use setl_store_environment::Memory;
+use setl_store_operands::{Operand, is_value, served, value};
 use setl_value::Value;
 
 impl<'c> Store<'c> {
@@ -32,8 +32,14 @@ impl<'c> Store<'c> {
         match operand {
             Operand::Collection(_, lowest, _) => {
                 let lowest = *lowest;
-                let value = served(self.alloc, &self.environment, operand)?;
+                let value = served(self.alloc, &self.environment, &self.bases, operand)?;
                 drop_operand(&mut self.environment, lowest)?;
+                Ok(value)
+            }
+            Operand::Based(form) => {
+                let value = plain(self.alloc, form.get(), &self.bases)?;
+                let members = self.environment.members();
+                drop_operand(&mut self.environment, members)?;
                 Ok(value)
             }
             _ => Ok(value(take_operand(&mut self.environment)?)),
@@ -94,7 +100,7 @@ impl<'c> Store<'c> {
         let mut values = Vec::with_capacity(self.alloc, count)?;
         for k in 0..count {
             let operand = self.environment.operand(operands - 1 - k);
-            values.push(served(self.alloc, &self.environment, operand)?)?;
+            values.push(served(self.alloc, &self.environment, &self.bases, operand)?)?;
         }
         values.reverse();
         Ok(values)

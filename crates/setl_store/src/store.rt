@@ -5,12 +5,15 @@ ghost use Rattle.setl_code.specs.CodeCore.{Result as Holds, Collecting, There, G
 ghost use Rattle.setl_code.specs.MayRun.{HasSlot};
 ghost use Rattle.setl_code.specs.Plain.{plain_slot};
 ghost use Rattle.setl_value.specs.code.DatumOf.{part};
-ghost use Rattle.setl_store.specs.Flat.{operand_of, held_of, lowest_in, slots_in, place_in, HasMembers, IsPlainSlot};
+ghost use Rattle.setl_store.specs.Flat.{held_of, lowest_in, slots_in, place_in, IsPlainSlot};
 ghost use Rattle.setl_store.specs.Operands.{IsThere};
-ghost use Rattle.setl_store.specs.Returning.{held_by, operand_by};
-ghost use Rattle.setl_store.specs.Standing.{over, at_place, iterator_by, variables, Shows, IsHeld, Becomes};
+ghost use Rattle.setl_store.specs.Returning.{held_by};
+ghost use Rattle.setl_store.specs.Standing.{over, at_place, iterator_by, variables, with_pushed, Shows, IsHeld, Becomes};
+ghost use Rattle.setl_rep_forms.specs.FormOf.{form};
+ghost use Rattle.setl_rep_forms.specs.Stands.{IsOver};
+ghost use Rattle.setl_rep_plain.specs.Standing.{held_value};
 
-use crate::cells::{Contents, Operand};
+use crate::cells::Contents;
 use crate::changes::{add_operand, take_slot, write_slot};
 use setl_code::{Code, Slot};
 use setl_program::Collection;
@@ -18,6 +21,7 @@ use setl_rep_bases::Bases;
 use setl_rep_plain::plain;
 use setl_store_environment::Memory;
 use setl_store_iterator::Iterator;
+use setl_store_operands::{Lent, Operand, lend, operand, operand_in};
 use setl_store_slots::{Held, content};
 use setl_value::Value;
 use std::alloc::Global;
@@ -51,7 +55,7 @@ impl<'c> Model for Store<'c> {
 
     ghost view = { λ s. stands s.code.now s.bases s.at s.environment.now s.environment.kept };
 
-    ghost invariant = { λ s. MayRun s.code.now × IsSound (plain_code s.code.now) s.environment.now × AllSound (plain_code s.code.now) s.bases s.keeps s.environment.now.slots s.environment.kept };
+    ghost invariant = { λ s. MayRun s.code.now × IsSound (plain_code s.code.now) s.bases s.environment.now × AllSound (plain_code s.code.now) s.bases s.keeps s.environment.now.slots s.environment.kept };
 }
 
 /// What a slot holds.
@@ -73,6 +77,8 @@ pub enum Top<'a> {
     Collection(Collection),
     Om,
     Value(&'a Value),
+    /// A set or a tuple in a form over bases: `Store::pop` gives it as a plain value.
+    Based,
 }
 
 impl<'c> Store<'c> {
@@ -166,6 +172,7 @@ impl<'c> Store<'c> {
         match self.environment.operand(count - 1) {
             Operand::Om => Top::Om,
             Operand::Value(value) => Top::Value(value),
+            Operand::Based(form) => top_of_form(form.get(), &self.bases),
             Operand::Iterator(_) => Top::Iterator,
             Operand::Collection(what, _, _) => Top::Collection(*what),
         }
@@ -179,6 +186,20 @@ impl<'c> Store<'c> {
         ensures { Becomes result self.old self.new (record self.old { core = over (Holds (part value) ∷ self.old.core.now.operands) self.old.core }) }
     {
         add_operand(&mut self.environment, operand(value))?;
+        Ok(())
+    }
+
+    /// Pushes what a variable's slot holds, a value in a form over bases in that form, which both then share.
+    ///
+    /// The error is want of memory, and then all is as before.
+    pub fn push_slot(&mut self, slot: Slot) -> Result<(), Memory>
+        requires slot { HasSlot (length self.old.core.globals) (length self.old.core.now.own) slot }
+        requires there { IsThere (held (plain_slot (variables self.old.core) slot) self.old.core) }
+        ensures { Becomes result self.old self.new (record self.old { core = with_pushed (held (plain_slot (variables self.old.core) slot) self.old.core) self.old.core }) }
+    {
+        let at = place(&self.environment, slot);
+        let operand = operand_in(self.environment.slot(at))?;
+        add_operand(&mut self.environment, operand)?;
         Ok(())
     }
 
@@ -204,16 +225,15 @@ impl<'c> Store<'c> {
     }
 }
 
-/// An operand that is this value.
-#[inline(always)]
-pub(crate) fn operand(value: Option<Value>) -> Operand
-    ensures is { result ≡ operand_by value }
-    ensures stands { (members : _) → operand_of members result ≡ Holds (part value) }
-    ensures alone { (os : _) (n : _) → HasMembers os n → HasMembers (result ∷ os) n }
+/// What the top operand is, where it is a value in this form.
+fn top_of_form<'a>(held: &'a setl_rep_forms::Held, bases: &'a Bases) -> Top<'a>
+    requires { IsOver bases.now (form held.now) }
+    ensures { (xs : _) → Shows (Holds (held_value bases.now held.now) ∷ xs) result }
 {
-    match value {
-        Some(value) => Operand::Value(value),
-        None => Operand::Om,
+    match lend(held, bases) {
+        Lent::Om => Top::Om,
+        Lent::Value(value) => Top::Value(value),
+        Lent::Whole => Top::Based,
     }
 }
 

@@ -1,5 +1,5 @@
 use Rattle.std.proofs.Common.{◌-◌, ◌≤◌, length, reverse, take}
-use Rattle.setl_store.specs.Flat.{HasMembers}
+use Rattle.setl_store_operands.specs.Operands.{HasMembers}
 use Rattle.setl_store.proofs.activations.members_of_lower.Given as goal
 
 -- those of the operands that are left, from the top down

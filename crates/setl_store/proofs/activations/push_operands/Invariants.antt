@@ -1,5 +1,5 @@
 use Rattle.std.proofs.Common.{◌≡◌, ◌+◌, ◌-◌, ◌≤◌, ◌++◌, length, map}
-use Rattle.setl_store.specs.Returning.{operand_by}
+use Rattle.setl_store_operands.specs.Operands.{operand_by}
 use Rattle.setl_store.proofs.activations.push_operands.Given as goal
 
 -- the values so far are added

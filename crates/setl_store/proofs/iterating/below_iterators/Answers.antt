@@ -4,18 +4,18 @@ use Rattle.setl_store.proofs.Adding.{nowhere_few, nowhere_at, iterators_from, lo
 use Rattle.setl_store.proofs.iterating.below_iterators.Goals as goal
 
 pub returns-then-all-lowest-clause-nowhere : goal.returns-then-all-lowest-clause-nowhere
-returns-then-all-lowest-clause-nowhere c value = nowhere_few c.args.environment.now.now c.args.count value (omega (arith, c.if-all-lowest.true, c.operands-all.ensures, c.lowest.ensures))
+returns-then-all-lowest-clause-nowhere c bs value = nowhere_few bs c.args.environment.now.now c.args.count value (omega (arith, c.if-all-lowest.true, c.operands-all.ensures, c.lowest.ensures))
 
 pub returns-then-not-is_iterator-clause-nowhere : goal.returns-then-not-is_iterator-clause-nowhere
-returns-then-not-is_iterator-clause-nowhere c value =
+returns-then-not-is_iterator-clause-nowhere c bs value =
     let e = c.args.environment.now.now in
     let n = c.loop-at.at - 1 in
     let m = c.loop-at.at - (c.operands-all.result - c.args.count) - 1 in
     let same : c.loop-at.at ≡ suc n = omega arith in
-    nowhere_at e n c.operand.result.now c.requires.some (omega (arith)) c.operand.ensures c.args.count (m + 1) value
+    nowhere_at bs e n c.operand.result.now c.requires.some (omega (arith)) c.operand.ensures c.args.count (m + 1) value
     (subst (λ k. AreIterators (drop k e.operands)) same c.loop-at.invariant.passed)
     (omega arith)
-    (c.is_iterator.ensures.is_not c.if-not-is_iterator.true m value e.members (lower e n))
+    (c.is_iterator.ensures.is_not c.if-not-is_iterator.true m value bs e.members (lower bs e n))
 
 pub loop-at-preserved : goal.loop-at-preserved
 loop-at-preserved c = record {

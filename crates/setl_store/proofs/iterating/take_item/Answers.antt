@@ -1,6 +1,6 @@
 use Rattle.std.proofs.Common.{◌≡◌, ◌∙◌, ◌-◌, ap}
 use Rattle.std.specs.Prelude.{slice_get, slice_set}
-use Rattle.setl_store.specs.declared.cells.Operand.TheVariants.{Om}
+use Rattle.setl_store_operands.specs.declared.cells.Operand.TheVariants.{Om}
 use Rattle.setl_store.specs.Flat.{Here}
 use Rattle.setl_store.proofs.IteratorSteps.{item_moved, item_refused}
 use Rattle.setl_store.proofs.iterating.take_item.Goals as goal

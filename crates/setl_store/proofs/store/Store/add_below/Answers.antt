@@ -2,11 +2,17 @@ use Rattle.std.proofs.Common.{◌≡◌, ◌+◌, ◌∙◌, arith, sym, ap, ref
 use Rattle.setl_model.specs.Collections.{refusal}
 use Rattle.setl_value.specs.code.DatumOf.{part}
 use Rattle.setl_code.specs.Machine.{Adds, added}
-use Rattle.setl_store.specs.declared.cells.Operand.TheVariants as operand
+use Rattle.setl_store_operands.specs.declared.cells.Operand.TheVariants as operand
 use Rattle.setl_store.proofs.Adding.{no_collection, told_refused, refused_by, adds, with_member}
+use Rattle.setl_store.proofs.OperandLists.{now_is}
 use Rattle.setl_store.proofs.NewOperands.{NowHas, told_of_now, rest_same, still_holds}
 use Rattle.setl_store.proofs.store.Store.add_below.Goals as goal
 use Rattle.setl_store.proofs.store.Store.add_below.Goals.{In_ok-add_member}
+
+pub returns-in_default-clause-told : goal.returns-in_default-clause-told
+returns-in_default-clause-told c =
+    ap (added c.args.count (part c.args.value)) (sym (now_is c.self.inside.code.now c.self.inside.bases c.self.inside.at c.self.inside.environment.now c.self.inside.environment.kept c.args.self.now c.self.view_is))
+    ∙ c.in_default.ensures.nowhere c.self.inside.bases (part c.args.value)
 
 pub returns-in_default-operand : goal.returns-in_default-operand
 returns-in_default-operand c = record {

@@ -1,6 +1,6 @@
 use Rattle.std.proofs.Common.{◌≡◌, ◌∙◌, ◌-◌, ◌+◌, ◌∷◌, drop, ap, arith}
 use Rattle.setl_code.specs.CodeCore.{without_iterators}
-use Rattle.setl_store.specs.Flat.{operand_of}
+use Rattle.setl_store_operands.specs.Operands.{operand_of}
 use Rattle.setl_store.proofs.HasValues.{at_from_top}
 use Rattle.setl_store.proofs.Dropping.{few_left, one_off, none_off}
 use Rattle.setl_store.proofs.store.Store.has_iterators.Goals as goal
@@ -15,7 +15,7 @@ pub loop-k-init : goal.loop-k-init
 loop-k-init c = ap (λ n. without_iterators n c.args.self.now.core.now.operands) {x = c.args.count} {y = c.args.count - 0} (omega arith)
 
 -- the k-th from the top
-there : (c : After-operand) → drop c.loop-k.k c.args.self.now.core.now.operands ≡ operand_of c.self.inside.environment.now.members c.operand.result.now ∷ drop (c.loop-k.k + 1) c.args.self.now.core.now.operands
+there : (c : After-operand) → drop c.loop-k.k c.args.self.now.core.now.operands ≡ operand_of c.self.inside.bases c.self.inside.environment.now.members c.operand.result.now ∷ drop (c.loop-k.k + 1) c.args.self.now.core.now.operands
 there c =
     at_from_top c.self.inside.code.now c.self.inside.bases c.self.inside.at c.self.inside.environment.now c.self.inside.environment.kept c.args.self.now c.self.invariant.1 c.self.view_is c.operands-operands.result c.lowest.result c.loop-k.k c.operand.result.now
     c.operands-operands.ensures c.lowest.ensures (omega (arith, c.loop-k-test.true, c.if-operands-lowest.false)) c.operand.ensures
@@ -23,12 +23,12 @@ there c =
 pub loop-k-preserved : goal.loop-k-preserved
 loop-k-preserved c =
     c.loop-k.invariant
-    ∙ one_off c.args.count c.loop-k.k c.self.inside.environment.now.members c.operand.result.now c.args.self.now.core.now.operands c.loop-k-test.true (there (goal.at.loop-k-preserved c).After-operand) c.if-is_value.ensures
+    ∙ one_off c.self.inside.bases c.args.count c.loop-k.k c.self.inside.environment.now.members c.operand.result.now c.args.self.now.core.now.operands c.loop-k-test.true (there (goal.at.loop-k-preserved c).After-operand) c.if-is_value.ensures
 
 pub returns-then-is_value : goal.returns-then-is_value
 returns-then-is_value c =
     c.loop-k.invariant
-    ∙ none_off c.args.count c.loop-k.k c.self.inside.environment.now.members c.operand.result.now c.args.self.now.core.now.operands c.loop-k-test.true (there (goal.at.returns-then-is_value c).After-operand) c.if-is_value.ensures
+    ∙ none_off c.self.inside.bases c.args.count c.loop-k.k c.self.inside.environment.now.members c.operand.result.now c.args.self.now.core.now.operands c.loop-k-test.true (there (goal.at.returns-then-is_value c).After-operand) c.if-is_value.ensures
 
 pub returns : goal.returns
 returns c =

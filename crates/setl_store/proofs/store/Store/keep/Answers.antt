@@ -1,4 +1,4 @@
-use Rattle.std.proofs.Common.{◌≡◌, ◌+◌, ◌<◌, ◌^◌, refl, arith}
+use Rattle.std.proofs.Common.{◌+◌, refl, arith}
 use Rattle.setl_store.specs.Standing.{kept as with_kept}
 use Rattle.setl_store.proofs.OperandLists.{Changed}
 use Rattle.setl_store.proofs.Keeping.{all_kept}

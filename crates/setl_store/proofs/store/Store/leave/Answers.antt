@@ -14,12 +14,12 @@ handed_back-requires-clause-slots c = parameters_there c.self.inside.code.now (r
 pub returns-in_default-clause-left : goal.returns-in_default-clause-left
 returns-in_default-clause-left c =
     let e = c.self.inside.environment.now in
-    let xs = under (reverse e.activations) (results e) in
+    let xs = under (reverse e.activations) (results c.self.inside.bases e) in
     (stays c.self.inside.code.now c.self.inside.bases c.self.inside.keeps c.self.inside.at e c.self.inside.environment.kept c.args.self.now (part c.args.value) c.self.invariant c.self.view_is (rw c.in_default.is at (c.in_ok-values.ensures xs)), refl)
 
 done : (c : In_ok-end_activation) →
     (left (slice_get (plain_code c.args.self.now.code).bodies c.args.self.now.core.now.body) (part c.args.value) c.args.self.now.core ≡ Some (stands c.self.inside.code.now c.self.inside.bases c.innermost-frame.result.from c.end_activation.new.environment.now c.end_activation.new.environment.kept).core)
-    × (MayRun c.self.inside.code.now × IsSound (plain_code c.self.inside.code.now) c.end_activation.new.environment.now × AllSound (plain_code c.self.inside.code.now) c.self.inside.bases c.self.inside.keeps c.end_activation.new.environment.now.slots c.end_activation.new.environment.kept)
+    × (MayRun c.self.inside.code.now × IsSound (plain_code c.self.inside.code.now) c.self.inside.bases c.end_activation.new.environment.now × AllSound (plain_code c.self.inside.code.now) c.self.inside.bases c.self.inside.keeps c.end_activation.new.environment.now.slots c.end_activation.new.environment.kept)
 done c =
     leaves c.self.inside.code.now c.self.inside.bases c.self.inside.keeps c.self.inside.at c.self.inside.environment.now c.end_activation.new.environment.now c.self.inside.environment.kept c.end_activation.new.environment.kept c.args.self.now c.innermost-frame.result c.members_of_lower-members.result (part c.args.value) c.in-Some.values.items
     c.self.invariant c.self.view_is

@@ -10,7 +10,7 @@ done : (c : In_ok-add_operand) → Changed c.self.inside.code.now c.self.inside.
 done c =
     let e = c.self.inside.environment.now in
     pushes c.self.inside.code.now c.self.inside.bases c.self.inside.keeps c.self.inside.at e c.add_operand.new.environment.now c.self.inside.environment.kept c.add_operand.new.environment.kept c.args.self.now
-    c.operand.result (Holds (part c.args.value)) c.self.invariant c.self.view_is c.in_ok-add_operand.ensures.now c.in_ok-add_operand.ensures.kept (c.operand.ensures.alone (reverse e.operands) (length e.members) (c.self.invariant.1).members) tt (c.operand.ensures.stands e.members)
+    c.operand.result (Holds (part c.args.value)) c.self.invariant c.self.view_is c.in_ok-add_operand.ensures.now c.in_ok-add_operand.ensures.kept (c.operand.ensures.alone (reverse e.operands) (length e.members) (c.self.invariant.1).members) tt (c.operand.ensures.over c.self.inside.bases) (c.operand.ensures.stands c.self.inside.bases e.members)
 
 pub returns : goal.returns
 returns c = (done c).stands

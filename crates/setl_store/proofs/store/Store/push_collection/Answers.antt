@@ -1,6 +1,6 @@
 use Rattle.std.proofs.Common.{[], ◌∷◌, refl}
 use Rattle.setl_code.specs.CodeCore.{Collecting}
-use Rattle.setl_store.specs.declared.cells.Operand.TheVariants as operand
+use Rattle.setl_store_operands.specs.declared.cells.Operand.TheVariants as operand
 use Rattle.setl_store.specs.Standing.{over}
 use Rattle.setl_store.proofs.OperandLists.{Changed, pushes, collection_alone}
 use Rattle.setl_store.proofs.store.Store.push_collection.Goals as goal
@@ -10,7 +10,7 @@ done : (c : In_ok-add_operand) → Changed c.self.inside.code.now c.self.inside.
 done c =
     let e = c.self.inside.environment.now in
     pushes c.self.inside.code.now c.self.inside.bases c.self.inside.keeps c.self.inside.at e c.add_operand.new.environment.now c.self.inside.environment.kept c.add_operand.new.environment.kept c.args.self.now
-    (operand.Collection c.args.what c.members-lowest.result 0) (Collecting c.args.what []) c.self.invariant c.self.view_is c.in_ok-add_operand.ensures.now c.in_ok-add_operand.ensures.kept (collection_alone c.args.what e c.members-lowest.result c.members-lowest.ensures (c.self.invariant.1).members) tt refl
+    (operand.Collection c.args.what c.members-lowest.result 0) (Collecting c.args.what []) c.self.invariant c.self.view_is c.in_ok-add_operand.ensures.now c.in_ok-add_operand.ensures.kept (collection_alone c.args.what e c.members-lowest.result c.members-lowest.ensures (c.self.invariant.1).members) tt tt refl
 
 pub returns : goal.returns
 returns c = (done c).stands

@@ -1,6 +1,7 @@
 use Rattle.std.proofs.Common.{◌∷◌, refl}
-use Rattle.setl_store.specs.declared.cells.Operand.TheVariants as operand
-use Rattle.setl_store.specs.Standing.{iterator_by, over}
+use Rattle.setl_store_operands.specs.declared.cells.Operand.TheVariants as operand
+use Rattle.setl_store_operands.specs.Operands.{iterator_by}
+use Rattle.setl_store.specs.Standing.{over}
 use Rattle.setl_store.proofs.OperandLists.{Changed, pushes, got_iterator}
 use Rattle.setl_store.proofs.store.Store.push_iterator.Goals as goal
 use Rattle.setl_store.proofs.store.Store.push_iterator.Goals.{In_ok-add_operand}
@@ -9,7 +10,7 @@ done : (c : In_ok-add_operand) → Changed c.self.inside.code.now c.self.inside.
 done c =
     let e = c.self.inside.environment.now in
     pushes c.self.inside.code.now c.self.inside.bases c.self.inside.keeps c.self.inside.at e c.add_operand.new.environment.now c.self.inside.environment.kept c.add_operand.new.environment.kept c.args.self.now
-    (operand.Iterator c.args.iterator) (iterator_by c.args.iterator.pairs c.args.iterator.left) c.self.invariant c.self.view_is c.in_ok-add_operand.ensures.now c.in_ok-add_operand.ensures.kept (c.self.invariant.1).members (got_iterator c.args.iterator.pairs c.args.iterator.left) refl
+    (operand.Iterator c.args.iterator) (iterator_by c.args.iterator.pairs c.args.iterator.left) c.self.invariant c.self.view_is c.in_ok-add_operand.ensures.now c.in_ok-add_operand.ensures.kept (c.self.invariant.1).members (got_iterator c.args.iterator.pairs c.args.iterator.left) tt refl
 
 pub returns : goal.returns
 returns c = (done c).stands

@@ -13,7 +13,7 @@ put_operand-requires c = plain_there c.self.inside.code.now c.self.inside.bases 
 done : (c : In_ok-put_operand) → Changed c.self.inside.code.now c.self.inside.bases c.self.inside.keeps c.self.inside.at c.put_operand.new.environment.now c.put_operand.new.environment.kept c.args.self.now (over (Holds (part c.args.value) ∷ drop 1 c.args.self.now.core.now.operands) c.args.self.now.core)
 done c =
     top_set c.self.inside.code.now c.self.inside.bases c.self.inside.keeps c.self.inside.at c.self.inside.environment.now c.self.inside.environment.kept c.args.self.now c.self.invariant c.self.view_is c.put_operand.new.environment.now c.put_operand.new.environment.kept
-    c.operand.result (Holds (part c.args.value)) c.requires c.in_ok-put_operand.ensures.now c.in_ok-put_operand.ensures.kept c.operand.ensures.alone tt (c.operand.ensures.stands c.self.inside.environment.now.members)
+    c.operand.result (Holds (part c.args.value)) c.requires c.in_ok-put_operand.ensures.now c.in_ok-put_operand.ensures.kept c.operand.ensures.alone tt (c.operand.ensures.over c.self.inside.bases) (c.operand.ensures.stands c.self.inside.bases c.self.inside.environment.now.members)
 
 pub returns : goal.returns
 returns c = (done c).stands

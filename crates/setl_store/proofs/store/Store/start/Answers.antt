@@ -1,7 +1,5 @@
-use Rattle.std.proofs.Common.{◌≡◌, ◌∙◌, ◌+◌, ◌≤◌, [], length, sym, ap, subst, arith}
+use Rattle.std.proofs.Common.{◌≡◌, ◌∙◌, [], length, sym, ap, subst, arith}
 use Rattle.setl_code.specs.Plain.{plain_code}
-use Rattle.setl_rep_bases.specs.declared.BaseId.{BaseId}
-use Rattle.setl_rep_bases.specs.Bases.{base_at}
 use Rattle.setl_store_kept.specs.Kept.{KeptSound}
 use Rattle.setl_store_slots.specs.Slots.{AreStanding}
 use Rattle.setl_store.specs.Flat.{stands, marks_in, IsSound, WasSound}
@@ -11,7 +9,7 @@ use Rattle.setl_store.proofs.Starting.{not_cut}
 use Rattle.setl_store.proofs.store.Store.start.Goals as goal
 use Rattle.setl_store.proofs.store.Store.start.Goals.{In_ok-add_activation}
 
-done : (c : In_ok-add_activation) → (stands c.args.code.now c.in_ok-instances.instances 0 c.add_activation.new.environment.now [] ≡ started c.args.code.now) × IsSound (plain_code c.args.code.now) c.add_activation.new.environment.now × AreStanding c.in_ok-instances.instances c.add_activation.new.environment.now.slots
+done : (c : In_ok-add_activation) → (stands c.args.code.now c.in_ok-instances.instances 0 c.add_activation.new.environment.now [] ≡ started c.args.code.now) × IsSound (plain_code c.args.code.now) c.in_ok-instances.instances c.add_activation.new.environment.now × AreStanding c.in_ok-instances.instances c.add_activation.new.environment.now.slots
 done c =
     let e0 = c.in_ok-environment.environment.now in
     let e1 = c.add_cleared.new.environment.now in

@@ -1,5 +1,4 @@
-use Rattle.std.proofs.Common.{◌≡◌, ◌∙◌, ◌<◌, length, sym, ap, subst, Option, Some, None}
-use Rattle.std.specs.Option.{option_map}
+use Rattle.std.proofs.Common.{◌∙◌, ◌<◌, length, sym, subst}
 use Rattle.setl_value.specs.code.DatumOf.{part}
 use Rattle.setl_store.specs.Operands.{IsThere}
 use Rattle.setl_store.proofs.Slots.{place_within, slot_at}

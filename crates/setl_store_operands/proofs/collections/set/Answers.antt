@@ -6,9 +6,9 @@ use Rattle.setl_value.specs.code.DatumOf.{datum}
 use Rattle.setl_set.specs.Sets.{set_from}
 use Rattle.setl_program.specs.declared.kinds.Collection.TheVariants.{OfSet}
 use Rattle.setl_model.specs.Collections.{collection}
-use Rattle.setl_store.specs.Flat.{member_of}
-use Rattle.setl_store.proofs.Collecting.{reversed_present, shallow_present, set_is}
-use Rattle.setl_store.proofs.values.set.Goals as goal
+use Rattle.setl_store_operands.specs.Operands.{member_of}
+use Rattle.setl_store_operands.proofs.Collecting.{reversed_present, shallow_present, set_is}
+use Rattle.setl_store_operands.proofs.collections.set.Goals as goal
 
 pub gathered-requires : goal.gathered-requires
 gathered-requires c =

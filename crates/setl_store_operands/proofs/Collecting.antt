@@ -12,9 +12,9 @@ use Rattle.setl_operators_table.specs.Outcome.{OmFault, DeepFault, all_values, o
 use Rattle.setl_program.specs.declared.kinds.Collection.{Collection}
 use Rattle.setl_program.specs.declared.kinds.Collection.TheVariants.{OfSet, OfTuple}
 use Rattle.setl_model.specs.Collections.{collected, collection}
-use Rattle.setl_store.specs.declared.cells.Member.{Member}
-use Rattle.setl_store.specs.Flat.{GotAll, member_of, present}
-use Rattle.setl_store.proofs.Lists.{map_reverse}
+use Rattle.setl_store_operands.specs.declared.cells.Member.{Member}
+use Rattle.setl_store_operands.specs.Operands.{GotAll, member_of, present}
+use Rattle.setl_store_operands.proofs.Lists.{map_reverse}
 
 -- ---- what isn't refused
 

@@ -1,63 +1,26 @@
-//! Operands, and members of collections, as values.
+//! Sets and tuples of the members of collections.
 
-ghost use Rattle.std.specs.Prelude.{◌≡◌, ◌∷◌, ◌++◌, [], map, reverse, is_some, Some, IfOk, OnOk};
+ghost use Rattle.std.specs.Prelude.{◌≡◌, ◌∷◌, ◌++◌, [], map, reverse, IfOk, OnOk};
 ghost use Rattle.setl_value.specs.code.Body.{Members};
 ghost use Rattle.setl_value.specs.Datum.{set_of, tuple_of};
-ghost use Rattle.setl_value.specs.code.DatumOf.{datum, part};
+ghost use Rattle.setl_value.specs.code.DatumOf.{datum};
 ghost use Rattle.setl_model.specs.Collections.{collection};
-ghost use Rattle.setl_code.specs.CodeCore.{Result as Holds, value_of};
 ghost use Rattle.setl_program.specs.declared.kinds.Collection.TheVariants as kind;
-ghost use Rattle.setl_store.specs.Flat.{operand_of, member_of, present, IsPlain, GotAll, Serves};
+ghost use Rattle.setl_store_operands.specs.Operands.{member_of, present, GotAll};
 
-use crate::cells::{Contents, Member, Operand};
+use crate::cells::Member;
 use setl_map::gathered;
 use setl_program::Collection;
 use setl_store_environment::Memory;
 use setl_value::{SetBody, TupleBody, Value};
 use std::alloc::Global;
 
-/// Whether an operand serves as a value, so that it is no iterator.
-pub(crate) fn is_value(operand: &Operand) -> bool
-    ensures { (members : _) → result ≡ is_some (value_of (operand_of members operand.now)) }
-{
-    !matches!(operand, Operand::Iterator(_))
-}
-
-/// The value of an operand that is a result and no collection.
-#[inline(always)]
-pub(crate) fn value(operand: Operand) -> Option<Value>
-    requires { IsPlain operand }
-    ensures { (members : _) → operand_of members operand ≡ Holds (part result) }
-{
-    match operand {
-        Operand::Value(value) => Some(value),
-        _ => None,
-    }
-}
-
-/// A copy of the result that an operand is, or the set or tuple of a collection's members.
-///
-/// The error is want of memory.
-pub(crate) fn served(
-    alloc: Global,
-    environment: &Contents,
-    operand: &Operand,
-) -> Result<Option<Value>, Memory>
-    requires { Serves environment.now.now.members operand.now }
-    ensures { IfOk result (λ value. value_of (operand_of environment.now.now.members operand.now) ≡ Some (part value)) }
-{
-    match operand {
-        Operand::Value(value) => Ok(Some(value.copy()?)),
-        Operand::Collection(what, lowest, count) => {
-            let members = environment.copied_members(*lowest, *count)?;
-            Ok(Some(collection(alloc, *what, members)?))
-        }
-        Operand::Om | Operand::Iterator(_) => Ok(None),
-    }
-}
-
 /// The set or tuple of members of which it refuses none.
-fn collection(alloc: Global, what: Collection, members: Vec<Member>) -> Result<Value, Memory>
+pub(crate) fn collection(
+    alloc: Global,
+    what: Collection,
+    members: Vec<Member>,
+) -> Result<Value, Memory>
     requires { GotAll what (reverse (map member_of members.items)) }
     ensures { IfOk result (λ value. datum value ≡ collection what (reverse (map member_of members.items))) }
 {

@@ -5,9 +5,9 @@ use Rattle.setl_value.specs.code.DatumOf.{part}
 use Rattle.setl_value.specs.WellFormed.{trim}
 use Rattle.setl_program.specs.declared.kinds.Collection.TheVariants.{OfTuple}
 use Rattle.setl_model.specs.Collections.{collection}
-use Rattle.setl_store.specs.Flat.{member_of}
-use Rattle.setl_store.proofs.Collecting.{parts_are, shallow_parts, got_reversed, tuple_is}
-use Rattle.setl_store.proofs.values.tuple.Goals as goal
+use Rattle.setl_store_operands.specs.Operands.{member_of}
+use Rattle.setl_store_operands.proofs.Collecting.{parts_are, shallow_parts, got_reversed, tuple_is}
+use Rattle.setl_store_operands.proofs.collections.tuple.Goals as goal
 
 pub of-requires : goal.of-requires
 of-requires c = record {

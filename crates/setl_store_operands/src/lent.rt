@@ -1,0 +1,70 @@
+//! Operands, and what their forms stand for, where these can be lent. Nothing here takes memory.
+
+ghost use Rattle.std.specs.Prelude.{◌≡◌, IfSome};
+ghost use Rattle.setl_code.specs.CodeCore.{Result as Holds};
+ghost use Rattle.setl_rep_forms.specs.FormOf.{form};
+ghost use Rattle.setl_rep_forms.specs.Stands.{IsOver};
+ghost use Rattle.setl_rep_plain.specs.Standing.{held_value};
+ghost use Rattle.setl_store_operands.specs.Lending.{value_as, IsLent, IsLentValue, IsOverAs};
+ghost use Rattle.setl_store_operands.specs.Operands.{operand_of, IsOperandOver};
+
+use crate::cells::Operand;
+use setl_rep_bases::Bases;
+use setl_rep_forms::Held;
+use setl_value::Value;
+
+/// What a form stands for.
+#[derive(Clone, Copy)]
+pub enum Lent<'a> {
+    Om,
+    Value(&'a Value),
+    /// A set or a tuple, which is nowhere as a plain value.
+    Whole,
+}
+
+/// What a form stands for: a value that lies plain, in the form or in its base, is lent.
+pub fn lend<'a>(held: &'a Held, bases: &'a Bases) -> Lent<'a>
+    requires { IsOver bases.now (form held.now) }
+    ensures { IsLent (held_value bases.now held.now) result }
+{
+    match held {
+        Held::Om => Lent::Om,
+        Held::Plain(value) => Lent::Value(value),
+        Held::Elt(base, element) => lent_value(bases.at(*base).value(*element)),
+        Held::Remote(_, _) => Lent::Whole,
+        Held::Sparse(_, _) => Lent::Whole,
+        Held::RemoteMap(_, _, _) => Lent::Whole,
+        Held::SparseMap(_, _, _) => Lent::Whole,
+        Held::EltTuple(_, _) => Lent::Whole,
+    }
+}
+
+// A value that may not be there.
+fn lent_value(value: Option<&Value>) -> Lent<'_>
+    ensures { IsLentValue value.entry result }
+{
+    match value {
+        None => Lent::Om,
+        Some(value) => Lent::Value(value),
+    }
+}
+
+/// A value as it is held.
+#[derive(Clone, Copy)]
+pub enum AsHeld<'a> {
+    Plain(&'a Value),
+    /// In a form over bases.
+    Based(&'a Held),
+}
+
+/// The value that an operand is, as it is held; None where it is `om` as it is, an iterator or a collection.
+pub fn in_form(operand: &Operand) -> Option<AsHeld<'_>>
+    ensures value { IfSome result (λ held. (bs : _) (members : _) → operand_of bs members operand.now ≡ Holds (value_as bs held)) }
+    ensures over { IfSome result (λ held. (bs : _) → IsOperandOver bs operand.now → IsOverAs bs held) }
+{
+    match operand {
+        Operand::Value(value) => Some(AsHeld::Plain(value)),
+        Operand::Based(form) => Some(AsHeld::Based(form.get())),
+        _ => None,
+    }
+}

@@ -1,0 +1,13 @@
+//! Operands, and members of collections that are being built.
+#![tactic(auto)]
+
+mod cells;
+mod collections;
+pub mod laws;
+mod lent;
+mod values;
+
+pub use cells::{Member, Operand};
+pub use lent::{AsHeld, Lent, in_form, lend};
+pub use setl_store_environment::Memory;
+pub use values::{is_value, operand, operand_in, served, value};
