@@ -113,3 +113,11 @@ main_same t x = among_all t.procs t.vars (main_body t ∷ []) x ∙ ap (λ b. ha
 
 pub declarable_alike : (t : Tree) (ds : List Declared) → lines_of_names (is_none_of t.procs (variable_names t.vars (take 1 (all_names t)))) ds ≡ lines_of_names (λ x. not (is_declarable t x)) ds
 declarable_alike t ds = ap (λ (test : Name → Bool). lines_of_names test ds) (λ k x. not (main_same t x k && not (is_procedure t.procs x)))
+
+-- ---- the first of an entry's name
+
+pub taken_names : (t : Tree) (line : ℕ) (es : List Entry) → first_at (is_among t.procs (variable_names t.vars (all_names t))) line es ≡ first_at (is_taken t) line es
+taken_names t line es = ap (λ (test : Name → Bool). first_at test line es) (λ k x. taken_same t x k)
+
+pub undeclarable_names : (t : Tree) (line : ℕ) (es : List Entry) → first_at (is_none_of t.procs (variable_names t.vars (take 1 (all_names t)))) line es ≡ first_at (λ x. not (is_declarable t x)) line es
+undeclarable_names t line es = ap (λ (test : Name → Bool). first_at test line es) (λ k x. not (main_same t x k && not (is_procedure t.procs x)))
