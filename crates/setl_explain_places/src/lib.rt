@@ -3,12 +3,13 @@
 //! Lines and columns are counted from 1. A column counts bytes: a tab is one, and a character has as many as its UTF-8 text.
 #![tactic(auto)]
 
-ghost use Rattle.std.specs.Prelude.{◌≡◌, ◌≤◌, ◌<◌, ◌^◌, ◌-◌, ◌++◌, ◌∷◌, [], codes, decimal, drop, flat_map, length, take, OnOk};
+ghost use Rattle.std.specs.Prelude.{◌≡◌, ◌≤◌, ◌<◌, ◌^◌, ◌-◌, ◌++◌, ◌∷◌, [], codes, decimal, drop, flat_map, length, nat_le, take, ◌&&◌, OnOk};
+ghost use Rattle.std.specs.Str.{str_eq_ignore_ascii_case};
 ghost use Rattle.setl_token.specs.Lex.{line_at};
 ghost use Rattle.setl_explain_places.specs.Places as spec;
 
 use setl_text::push_decimal;
-use setl_token::TokenList;
+use setl_token::{Token, TokenKind, TokenList};
 use std::alloc::AllocError;
 
 /// Where the line of a place begins.
@@ -122,6 +123,31 @@ pub fn first_on_line(list: &TokenList, line: u32) -> usize
     for i in 0..list.len() {
         let token = list.at(i);
         if token.line == line {
+            return token.from as usize;
+        }
+    }
+    list.source().len()
+}
+
+/// Whether a token of this text stands on a line or behind it and is this name, whatever the case of its letters.
+fn is_named_from(token: Token, text: &[u8], line: u32, name: &[u8]) -> bool
+    ensures { result ≡ (nat_le line token.line && (spec.is_name token.kind && str_eq_ignore_ascii_case text.now name.now)) }
+{
+    token.line >= line
+        && matches!(token.kind, TokenKind::Name)
+        && text.eq_ignore_ascii_case(name)
+}
+
+/// The place of the first token from a line on that is this name, whatever the case of its letters, or the end of the source
+/// where there is none.
+#[tactic(auto, using(crate::proofs::Firsts::named_here, crate::proofs::Firsts::named_later))]
+pub fn named_from(list: &TokenList, line: u32, name: &[u8]) -> usize
+    ensures value { result ≡ spec.named_from list.now line name.now }
+    ensures within { result ≤ length list.now.source }
+{
+    for i in 0..list.len() {
+        let token = list.at(i);
+        if is_named_from(*token, list.text(i), line, name) {
             return token.from as usize;
         }
     }

@@ -1,6 +1,6 @@
 //! The name by which a rule on declarations is broken.
 
-ghost use Rattle.std.specs.Prelude.{◌≡◌, ◌++◌, [], not, Option, map, IfOk};
+ghost use Rattle.std.specs.Prelude.{◌≡◌, [], Option, map, IfOk};
 ghost use Rattle.std.specs.Option.{option_map};
 ghost use Rattle.setl_tree.specs.declared.mode.Attribute.{Attribute as TreeAttribute};
 ghost use Rattle.setl_names.specs.Heads.{declared_entry};
@@ -8,7 +8,7 @@ ghost use Rattle.setl_names.specs.Resolves.{all_names};
 ghost use Rattle.setl_names_walk.specs.Breaking.{again_at, first_at};
 ghost use Rattle.setl_modes_declarations.specs.Breaking as spec;
 ghost use Rattle.setl_modes_declarations.specs.Rules as rules;
-ghost use Rattle.setl_modes_declarations.specs.Rules.{line_parts, is_taken, is_declarable};
+ghost use Rattle.setl_modes_declarations.specs.Rules.{line_parts, is_taken};
 ghost use Rattle.setl_modes_declarations.specs.code.Taken.{is_among, is_none_of};
 ghost use Rattle.setl_modes_written.specs.Written.{written, parts};
 ghost use Rattle.setl_modes_written.specs.code.Tests.{core_written};
@@ -45,25 +45,15 @@ fn unknown_in_core<'t>(line: u32, known: &Names, x: &'t Core) -> Option<&'t Text
         }
         Core::Set(m) => unknown_at(line, known, m.get()),
         Core::Tuple(m) => unknown_at(line, known, m.get()),
-        Core::Smap(domain, range) => unknown_in_two(line, known, domain.get(), range.get()),
-        Core::Mmap(domain, images) => unknown_in_two(line, known, domain.get(), images.get()),
+        Core::Smap(domain, range) => match unknown_at(line, known, domain.get()) {
+            None => unknown_at(line, known, range.get()),
+            Some(found) => Some(found),
+        },
+        Core::Mmap(domain, images) => match unknown_at(line, known, domain.get()) {
+            None => unknown_at(line, known, images.get()),
+            Some(found) => Some(found),
+        },
         _ => None,
-    }
-}
-
-/// The first base that an `elmt` of this line names in one of two modes and that isn't known.
-#[cycle(unknown_names)]
-fn unknown_in_two<'t>(
-    line: u32,
-    known: &Names,
-    first: &'t WrittenMode,
-    second: &'t WrittenMode,
-) -> Option<&'t Text>
-    ensures { option_map (λ x. x.now) result ≡ spec.unknown_at line known.now (parts (written first.now) ++ parts (written second.now)) }
-{
-    match unknown_at(line, known, first) {
-        None => unknown_at(line, known, second),
-        Some(found) => Some(found),
     }
 }
 
@@ -79,11 +69,7 @@ fn unknown_in_line<'t>(at: u32, known: &Names, line: &'t ReprLine) -> Option<&'t
 }
 
 /// The first base that an `elmt` of this line names and that no earlier `repr` line declares. The error is want of memory.
-fn unknown_base(
-    alloc: Global,
-    at: u32,
-    lines: &[ReprLine],
-) -> Result<Option<Text>, AllocError>
+fn unknown_base(alloc: Global, at: u32, lines: &[ReprLine]) -> Result<Option<Text>, AllocError>
     ensures { IfOk result (λ x. x ≡ spec.unknown_from at [] lines.now) }
 {
     let mut known = Names::new(alloc);
@@ -133,11 +119,7 @@ fn undeclarable_at(
 }
 
 /// The first base of this line that is declared before. The error is want of memory.
-fn base_again(
-    alloc: Global,
-    line: u32,
-    lines: &[ReprLine],
-) -> Result<Option<Text>, AllocError>
+fn base_again(alloc: Global, line: u32, lines: &[ReprLine]) -> Result<Option<Text>, AllocError>
     ensures { IfOk result (λ x. x ≡ again_at line [] (map declared_entry (rules.declared_bases lines.now))) }
 {
     let bases = declared_bases(alloc, lines)?;
@@ -145,11 +127,7 @@ fn base_again(
 }
 
 /// The first variable of this line that is declared before. The error is want of memory.
-fn variable_again(
-    alloc: Global,
-    line: u32,
-    lines: &[ReprLine],
-) -> Result<Option<Text>, AllocError>
+fn variable_again(alloc: Global, line: u32, lines: &[ReprLine]) -> Result<Option<Text>, AllocError>
     ensures { IfOk result (λ x. x ≡ again_at line [] (map declared_entry (rules.declared_variables lines.now))) }
 {
     let variables = declared_variables(alloc, lines)?;
@@ -185,7 +163,7 @@ fn undeclarable_variable(
 ) -> Result<Option<Text>, AllocError>
     requires procs { procs.now ≡ tree.now.procs }
     requires bodies { bodies.now ≡ all_names tree.now }
-    ensures { IfOk result (λ x. x ≡ first_at (λ y. not (is_declarable tree.now y)) line (map declared_entry (rules.declared_variables tree.now.modes))) }
+    ensures { IfOk result (λ x. x ≡ first_at (spec.is_undeclarable tree.now) line (map declared_entry (rules.declared_variables tree.now.modes))) }
 {
     let variables = declared_variables(alloc, tree.modes.as_slice())?;
     let main = variable_names(alloc, tree.vars.as_slice(), &bodies[..1])?;
