@@ -133,14 +133,11 @@ pub fn first_on_line(list: &TokenList, line: u32) -> usize
 fn is_named_from(token: Token, text: &[u8], line: u32, name: &[u8]) -> bool
     ensures { result ≡ (nat_le line token.line && (spec.is_name token.kind && str_eq_ignore_ascii_case text.now name.now)) }
 {
-    token.line >= line
-        && matches!(token.kind, TokenKind::Name)
-        && text.eq_ignore_ascii_case(name)
+    token.line >= line && matches!(token.kind, TokenKind::Name) && text.eq_ignore_ascii_case(name)
 }
 
 /// The place of the first token from a line on that is this name, whatever the case of its letters, or the end of the source
 /// where there is none.
-#[tactic(auto, using(crate::proofs::Firsts::named_here, crate::proofs::Firsts::named_later))]
 pub fn named_from(list: &TokenList, line: u32, name: &[u8]) -> usize
     ensures value { result ≡ spec.named_from list.now line name.now }
     ensures within { result ≤ length list.now.source }
