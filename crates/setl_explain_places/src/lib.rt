@@ -9,7 +9,7 @@ ghost use Rattle.setl_token.specs.Lex.{line_at};
 ghost use Rattle.setl_explain_places.specs.Places as spec;
 
 use setl_text::push_decimal;
-use setl_token::{Token, TokenKind, TokenList};
+use setl_token::{Token, TokenList};
 use std::alloc::AllocError;
 
 /// Where the line of a place begins.
@@ -129,22 +129,23 @@ pub fn first_on_line(list: &TokenList, line: u32) -> usize
     list.source().len()
 }
 
-/// Whether a token of this text stands on a line or behind it and is this name, whatever the case of its letters.
-fn is_named_from(token: Token, text: &[u8], line: u32, name: &[u8]) -> bool
-    ensures { result ≡ (nat_le line token.line && (spec.is_name token.kind && str_eq_ignore_ascii_case text.now name.now)) }
+/// Whether a token that is spelled so stands on a line or behind it, and its spelling is this text, whatever the case of its
+/// letters.
+fn is_spelled_from(token: Token, spelling: &[u8], line: u32, text: &[u8]) -> bool
+    ensures { result ≡ (nat_le line token.line && str_eq_ignore_ascii_case spelling.now text.now) }
 {
-    token.line >= line && matches!(token.kind, TokenKind::Name) && text.eq_ignore_ascii_case(name)
+    token.line >= line && spelling.eq_ignore_ascii_case(text)
 }
 
-/// The place of the first token from a line on that is this name, whatever the case of its letters, or the end of the source
+/// The place of the first token from a line on that is spelled so, whatever the case of its letters, or the end of the source
 /// where there is none.
-pub fn named_from(list: &TokenList, line: u32, name: &[u8]) -> usize
-    ensures value { result ≡ spec.named_from list.now line name.now }
+pub fn spelled_from(list: &TokenList, line: u32, text: &[u8]) -> usize
+    ensures value { result ≡ spec.spelled_from list.now line text.now }
     ensures within { result ≤ length list.now.source }
 {
     for i in 0..list.len() {
         let token = list.at(i);
-        if is_named_from(*token, list.text(i), line, name) {
+        if is_spelled_from(*token, list.text(i), line, text) {
             return token.from as usize;
         }
     }

@@ -1,5 +1,5 @@
 -- What is told of a refused source below the line of its reason.
-use Rattle.std.specs.Prelude.{◌≡◌, ℕ, min, List, ◌++◌, length, Option, Some, None}
+use Rattle.std.specs.Prelude.{◌≡◌, ℕ, min, ◌==◌, if◌then◌else◌, List, ◌++◌, length, codes, Option, Some, None}
 use Rattle.setl_tree.specs.declared.kind.Kind.{Kind}
 use Rattle.setl_tree.specs.declared.tree.Tree.{Tree}
 use Rattle.setl_tree.specs.Programs as grammar
@@ -13,7 +13,7 @@ use Rattle.setl_names.specs.declared.broken.Break.{Break}
 use Rattle.setl_explain_words.specs.Texts.{fault_text, rule_text}
 use Rattle.setl_explain_words.specs.declared.fault.SourceFault.{SourceFault}
 use Rattle.setl_explain_words.specs.declared.fault.SourceFault.TheVariants as fault
-use Rattle.setl_explain_places.specs.Places.{place_text, first_on_line, named_from}
+use Rattle.setl_explain_places.specs.Places.{place_text, first_on_line, spelled_from}
 use Rattle.setl_explain_open.specs.Opens.{open_at}
 use Rattle.setl_explain_open.specs.Texts.{open_text}
 use Rattle.setl_top_rules.specs.Rules.{breaking_name}
@@ -33,15 +33,22 @@ fault_explained source at why = shown_text source at ++ fault_text why
 abbrev pub nesting_explained : Lexed → ℕ → List ℕ
 nesting_explained l at = shown_text l.source at ++ open_text (open_at l at) ++ fault_text fault.Nesting
 
--- the first token from the line of a broken rule on that is the name by which it is broken, or where it is by none the first
--- token on the line
-abbrev pub break_place : Lexed → ℕ → Option Name → ℕ
-break_place l line None = first_on_line l line
-break_place l line (Some x) = named_from l line x
+-- The place of a rule that is broken by no name: for a word that stands where it may not the first such word from the line on,
+-- otherwise the first token on the line.
+unfoldable pub word_place : Lexed → Break → ℕ
+word_place l b =
+    if b.rule == 13 then min (spelled_from l b.line (codes "quit")) (spelled_from l b.line (codes "continue"))
+    else if b.rule == 14 then spelled_from l b.line (codes "return")
+    else first_on_line l b.line
+
+-- the place of a broken rule: the first token from its line on that is the name by which it is broken
+abbrev pub break_place : Lexed → Break → Option Name → ℕ
+break_place l b None = word_place l b
+break_place l b (Some x) = spelled_from l b.line x
 
 -- that place, and what the rule asks for
 abbrev pub rule_explained : Lexed → Break → Option Name → List ℕ
-rule_explained l b name = place_text l.source (break_place l b.line name) ++ rule_text b.rule
+rule_explained l b name = place_text l.source (break_place l b name) ++ rule_text b.rule
 
 -- a place, what can stand there, what is open there, and what a fault of syntax means
 unfoldable pub syntax_text : Lexed → ℕ → List Kind → List ℕ

@@ -8,7 +8,7 @@ ghost use Rattle.setl_top_explanation.specs.Explanations.{Explains, ExplainsRule
 
 use crate::next::{push_next, told_kinds};
 use setl_explain_open::{open_at, push_open};
-use setl_explain_places::{first_on_line, named_from, push_place};
+use setl_explain_places::{first_on_line, push_place, spelled_from};
 use setl_explain_words::{SourceFault, fault_text, rule_text};
 use setl_names::Break;
 use setl_parse::parse;
@@ -130,15 +130,30 @@ fn tree_of(alloc: Global, list: &TokenList) -> Result<Tree, AllocError>
     }
 }
 
-/// The first token from a line on that is a name, or where there is no name the first token on the line; the end of the
-/// source where there is no such token.
-fn break_place(list: &TokenList, line: u32, name: &Option<Text>) -> usize
-    ensures value { result ≡ spec.break_place list.now line name.now }
+/// The place of a rule that is broken by no name.
+#[tactic(auto, unfolding(crate::specs::Explanations::word_place))]
+fn word_place(list: &TokenList, found: Break) -> usize
+    ensures value { result ≡ spec.word_place list.now found }
+    ensures within { result ≤ length list.now.source }
+{
+    if found.rule == 13 {
+        let quit = spelled_from(list, found.line, b"quit");
+        return quit.min(spelled_from(list, found.line, b"continue"));
+    }
+    if found.rule == 14 {
+        return spelled_from(list, found.line, b"return");
+    }
+    first_on_line(list, found.line)
+}
+
+/// The place of a broken rule, by the name that breaks it.
+fn break_place(list: &TokenList, found: Break, name: &Option<Text>) -> usize
+    ensures value { result ≡ spec.break_place list.now found name.now }
     ensures within { result ≤ length list.now.source }
 {
     match name {
-        None => first_on_line(list, line),
-        Some(name) => named_from(list, line, name.bytes()),
+        None => word_place(list, found),
+        Some(name) => spelled_from(list, found.line, name.bytes()),
     }
 }
 
@@ -152,7 +167,7 @@ fn rule_explained(
     ensures { IfOk result (λ text. text.items ≡ spec.rule_explained list.now found name.now) }
 {
     let mut text = Vec::new(alloc);
-    push_place(&mut text, list.source(), break_place(list, found.line, name))?;
+    push_place(&mut text, list.source(), break_place(list, found, name))?;
     text.extend_from_slice(rule_text(found.rule))?;
     Ok(text)
 }
@@ -177,7 +192,7 @@ fn of_rule(alloc: Global, list: &TokenList, rule: u8, line: u32) -> Result<Vec<u
 /// What is told below the line of a reason for which the source is refused: of a fault at a place the line and the column,
 /// the source's line with a mark below the place, and what it means; of a fault of syntax also the kinds of tokens that can
 /// stand there, up to ten, and of it and of a nesting the constructs that are open, with their lines; of a broken rule the
-/// name that breaks it, or the first token on its line where none does, and the rule's words. The error is want of memory, or
+/// name or the word that breaks it, or the first token on its line where none does, and the rule's words. The error is want of memory, or
 /// that the source has no tokens or no tree, which isn't so where it is refused for syntax or a nesting, or for a rule.
 pub fn explanation(alloc: Global, source: &[u8], reason: Reason) -> Result<Vec<u8>, AllocError>
     requires { length source.now ≤ 2 ^ 24 }
