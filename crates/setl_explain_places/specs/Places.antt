@@ -1,9 +1,10 @@
 -- A place of a source as line and column, and its line with a mark below the place.
-use Rattle.std.specs.Prelude.{ℕ, ◌+◌, ◌-◌, ◌==◌, ◌||◌, nat_lt, nat_le, if◌then◌else◌, List, [], ◌∷◌, ◌++◌, length, take, drop, slice_range, flat_map, codes, decimal}
+use Rattle.std.specs.Prelude.{ℕ, ◌+◌, ◌-◌, ◌==◌, ◌||◌, ◌&&◌, nat_lt, nat_le, if◌then◌else◌, List, [], ◌∷◌, ◌++◌, length, take, drop, slice_range, flat_map, codes, decimal}
 use Rattle.std.specs.List.{prefix_len, suffix_len}
+use Rattle.std.specs.Str.{str_eq_ignore_ascii_case}
 use Rattle.setl_token.specs.Bytes.{is_in_line}
 use Rattle.setl_token.specs.Lex.{line_at}
-use Rattle.setl_token.specs.Text.{Lexed}
+use Rattle.setl_token.specs.Text.{Lexed, token_text}
 use Rattle.setl_token.specs.declared.Token.{Token}
 
 -- where the line of a place begins: behind the last line feed before it
@@ -41,3 +42,12 @@ first_from (t ∷ ts) line end = if t.line == line then t.from else first_from t
 
 abbrev pub first_on_line : Lexed → ℕ → ℕ
 first_on_line l line = first_from l.tokens line (length l.source)
+
+-- the place of the first token from a line on that is spelled so, whatever the case of its letters, or the end where there is
+-- none
+abbrev pub spelled_in : List ℕ → List ℕ → List Token → ℕ → ℕ → ℕ
+spelled_in source x [] line end = end
+spelled_in source x (t ∷ ts) line end = if nat_le line t.line && str_eq_ignore_ascii_case (token_text source t) x then t.from else spelled_in source x ts line end
+
+abbrev pub spelled_from : Lexed → ℕ → List ℕ → ℕ
+spelled_from l line x = spelled_in l.source x l.tokens line (length l.source)

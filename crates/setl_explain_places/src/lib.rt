@@ -3,12 +3,13 @@
 //! Lines and columns are counted from 1. A column counts bytes: a tab is one, and a character has as many as its UTF-8 text.
 #![tactic(auto)]
 
-ghost use Rattle.std.specs.Prelude.{◌≡◌, ◌≤◌, ◌<◌, ◌^◌, ◌-◌, ◌++◌, ◌∷◌, [], codes, decimal, drop, flat_map, length, take, OnOk};
+ghost use Rattle.std.specs.Prelude.{◌≡◌, ◌≤◌, ◌<◌, ◌^◌, ◌-◌, ◌++◌, ◌∷◌, [], codes, decimal, drop, flat_map, length, nat_le, take, ◌&&◌, OnOk};
+ghost use Rattle.std.specs.Str.{str_eq_ignore_ascii_case};
 ghost use Rattle.setl_token.specs.Lex.{line_at};
 ghost use Rattle.setl_explain_places.specs.Places as spec;
 
 use setl_text::push_decimal;
-use setl_token::TokenList;
+use setl_token::{Token, TokenList};
 use std::alloc::AllocError;
 
 /// Where the line of a place begins.
@@ -122,6 +123,29 @@ pub fn first_on_line(list: &TokenList, line: u32) -> usize
     for i in 0..list.len() {
         let token = list.at(i);
         if token.line == line {
+            return token.from as usize;
+        }
+    }
+    list.source().len()
+}
+
+/// Whether a token that is spelled so stands on a line or behind it, and its spelling is this text, whatever the case of its
+/// letters.
+fn is_spelled_from(token: Token, spelling: &[u8], line: u32, text: &[u8]) -> bool
+    ensures { result ≡ (nat_le line token.line && str_eq_ignore_ascii_case spelling.now text.now) }
+{
+    token.line >= line && spelling.eq_ignore_ascii_case(text)
+}
+
+/// The place of the first token from a line on that is spelled so, whatever the case of its letters, or the end of the source
+/// where there is none.
+pub fn spelled_from(list: &TokenList, line: u32, text: &[u8]) -> usize
+    ensures value { result ≡ spec.spelled_from list.now line text.now }
+    ensures within { result ≤ length list.now.source }
+{
+    for i in 0..list.len() {
+        let token = list.at(i);
+        if is_spelled_from(*token, list.text(i), line, text) {
             return token.from as usize;
         }
     }

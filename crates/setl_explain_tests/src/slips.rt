@@ -154,9 +154,9 @@ end;
 seen := {};
 end program;
 --
-line 3, column 3
+line 3, column 18
       seen: set(elmt town);
-      ^
+                     ^
 An `elmt` names no base of an earlier line.
 ====
 program p;
@@ -433,18 +433,18 @@ x := area;
 proc area(); return 12; end proc;
 end program;
 --
-line 2, column 1
+line 2, column 6
     x := area;
-    ^
+         ^
 A procedure's name stands where only a variable may: without a list of arguments, as a target, as a
 ====
 program p;
 if 1 = 1 then quit; end if;
 end program;
 --
-line 2, column 1
+line 2, column 15
     if 1 = 1 then quit; end if;
-    ^
+                  ^
 `quit` or `continue` stands outside every loop. A loop around the call doesn't count.
 ====
 program p;
@@ -507,9 +507,9 @@ print(area(3));
 proc area(a, b); return a * b; end proc;
 end program;
 --
-line 2, column 1
+line 2, column 7
     print(area(3));
-    ^
+          ^
 A call has too many arguments or too few.
 ====
 program p;

@@ -1,15 +1,18 @@
 -- The names that a program has, and those that the code lists.
-use Rattle.std.proofs.Common.{◌≡◌, Bool, true, false, cond, not, List, [], ◌∷◌, ◌++◌, ◌||◌, ◌&&◌, map, take, refl, ap, sym, ◌∙◌, bytes_eq}
+use Rattle.std.proofs.Common.{◌≡◌, ℕ, Bool, true, false, cond, not, List, [], ◌∷◌, ◌++◌, ◌||◌, ◌&&◌, map, take, refl, ap, sym, ◌∙◌, bytes_eq}
 use Rattle.std.specs.List.{list_any}
 use Rattle.std.specs.Cmp.Lexicographic.{bytes_decides}
 use Rattle.setl_tree.specs.declared.tree.Declared.{Declared}
 use Rattle.setl_tree.specs.declared.tree.Proc.{Proc}
 use Rattle.setl_tree.specs.declared.tree.Tree.{Tree}
+use Rattle.setl_names.specs.declared.head.Entry.{Entry}
 use Rattle.setl_names.specs.Bodies.{Body, main_body, bodies, occurrences}
 use Rattle.setl_names.specs.Names.{Name, has, in_order}
 use Rattle.setl_names.specs.Procedures.{is_procedure, param_names}
 use Rattle.setl_names.specs.Resolves.{all_names}
 use Rattle.setl_names.specs.Variables.{OfFormer, OfParameter, OfProgram, OfBody, variable, variables, of_body, is_of_body, body_names, var_names}
+use Rattle.setl_names_walk.specs.Breaking.{first_at}
+use Rattle.setl_modes_declarations.specs.Breaking.{is_undeclarable}
 use Rattle.setl_modes_declarations.specs.Rules.{is_parameter, is_variable_in, is_taken, is_declarable, lines_of_names}
 use Rattle.setl_modes_declarations.specs.code.Taken.{names_of_all, variable_names, is_among, is_none_of}
 use Rattle.setl_modes_declarations.proofs.NameLists.{or_false, has_append, has_with_names, has_in_order}
@@ -113,3 +116,11 @@ main_same t x = among_all t.procs t.vars (main_body t ∷ []) x ∙ ap (λ b. ha
 
 pub declarable_alike : (t : Tree) (ds : List Declared) → lines_of_names (is_none_of t.procs (variable_names t.vars (take 1 (all_names t)))) ds ≡ lines_of_names (λ x. not (is_declarable t x)) ds
 declarable_alike t ds = ap (λ (test : Name → Bool). lines_of_names test ds) (λ k x. not (main_same t x k && not (is_procedure t.procs x)))
+
+-- ---- the first of an entry's name
+
+pub taken_names : (t : Tree) (line : ℕ) (es : List Entry) → first_at (is_among t.procs (variable_names t.vars (all_names t))) line es ≡ first_at (is_taken t) line es
+taken_names t line es = ap (λ (test : Name → Bool). first_at test line es) (λ k x. taken_same t x k)
+
+pub undeclarable_names : (t : Tree) (line : ℕ) (es : List Entry) → first_at (is_none_of t.procs (variable_names t.vars (take 1 (all_names t)))) line es ≡ first_at (is_undeclarable t) line es
+undeclarable_names t line es = ap (λ (test : Name → Bool). first_at test line es) (λ k x. not (main_same t x k && not (is_procedure t.procs x)))

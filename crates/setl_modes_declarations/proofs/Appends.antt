@@ -43,12 +43,12 @@ pub unknown_fold : (first : Option Break) (bases : List Name) (xs ys : List Writ
     fold earlier first (tagged 21 (unknown_bases bases (xs ++ ys))) ≡ fold earlier (fold earlier first (tagged 21 (unknown_bases bases xs))) (tagged 21 (unknown_bases bases ys))
 unknown_fold first bases xs ys = ap (λ (ls : List ℕ). fold earlier first (tagged 21 ls)) (unknown_append bases xs ys) ∙ tagged_fold first 21 (unknown_bases bases xs) (unknown_bases bases ys)
 
-smap_written : (x : Core) (d r : WrittenMode) (a : Option Attribute) → x ≡ co.Smap d r → core_written x a ≡ Smap a (written d) (written r)
+pub smap_written : (x : Core) (d r : WrittenMode) (a : Option Attribute) → x ≡ co.Smap d r → core_written x a ≡ Smap a (written d) (written r)
 smap_written x d r a h =
     ap (λ (z : Core). core_written z a) h
     ∙ ap (λ (f : Option Attribute → Written). f a) (ap core_written (sym (co.rolls-Smap d r)) ∙ fold-roll-Core (Option Attribute → Written) Written core_step mode_step (Core-F.Smap d r))
 
-mmap_written : (x : Core) (d r : WrittenMode) (a : Option Attribute) → x ≡ co.Mmap d r → core_written x a ≡ Mmap a (written d) (written r)
+pub mmap_written : (x : Core) (d r : WrittenMode) (a : Option Attribute) → x ≡ co.Mmap d r → core_written x a ≡ Mmap a (written d) (written r)
 mmap_written x d r a h =
     ap (λ (z : Core). core_written z a) h
     ∙ ap (λ (f : Option Attribute → Written). f a) (ap core_written (sym (co.rolls-Mmap d r)) ∙ fold-roll-Core (Option Attribute → Written) Written core_step mode_step (Core-F.Mmap d r))

@@ -3,3 +3,4 @@ pub mod Appends
 pub mod Among
 pub mod Elements
 mod Lines
+pub mod Unknown

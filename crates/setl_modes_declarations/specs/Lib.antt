@@ -1,3 +1,4 @@
 pub mod Rules
 pub mod Declares
+pub mod Breaking
 pub mod code

@@ -60,7 +60,7 @@ fn unknown_in_line(first: Option<Break>, known: &Names, line: &ReprLine) -> Opti
 }
 
 /// Puts the bases of a `repr` line among names. An error is want of memory.
-fn put_bases(known: &mut Names, line: &ReprLine) -> Result<(), AllocError>
+pub fn put_bases(known: &mut Names, line: &ReprLine) -> Result<(), AllocError>
     ensures { OnOk result (known.new ≡ with_names known.old (var_names (line_bases line.now))) }
 {
     match line {

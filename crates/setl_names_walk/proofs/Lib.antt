@@ -2,3 +2,4 @@ pub mod NameLists
 pub mod Own
 pub mod Whole
 pub mod Formers
+pub mod Alone

@@ -2,3 +2,4 @@ pub mod Own
 pub mod Scopes
 pub mod Walks
 pub mod Found
+pub mod Breaking

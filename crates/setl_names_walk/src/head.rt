@@ -29,7 +29,7 @@ fn of_procedures<T: Declares>(
 }
 
 /// Whether a name behind an `end` is another one.
-fn is_other(end_name: &Option<Text>, name: &Text) -> bool
+pub fn is_other(end_name: &Option<Text>, name: &Text) -> bool
     ensures { result ≡ heads.is_other end_name.now name.now }
 {
     match end_name {

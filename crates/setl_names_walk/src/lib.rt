@@ -6,6 +6,7 @@
 
 mod bodies;
 mod bound;
+mod breaking;
 mod expressions;
 mod head;
 mod program;
@@ -14,4 +15,5 @@ mod simple;
 mod statements;
 mod walk;
 
+pub use breaking::{again_at, breaking_name};
 pub use program::{Resolution, resolve, resolve_all};

@@ -24,15 +24,15 @@ pub struct Resolution {
 
 /// The main program or a procedure, as it stands in a tree.
 #[derive(Clone, Copy)]
-struct BodyParts<'t> {
-    name: &'t Text,
-    params: &'t [Param],
-    statements: &'t [Stmt],
-    in_procedure: bool,
+pub struct BodyParts<'t> {
+    pub name: &'t Text,
+    pub params: &'t [Param],
+    pub statements: &'t [Stmt],
+    pub in_procedure: bool,
 }
 
 /// What stands in the statements of a body. An error is want of memory.
-fn occurrences_of<'t>(
+pub fn occurrences_of<'t>(
     alloc: Global,
     body: BodyParts<'t>,
 ) -> Result<Items<Occurrence<'t>>, AllocError>

@@ -2,15 +2,20 @@
 ghost use Rattle.std.specs.Prelude.{◌≡◌, ◌≤◌, ◌^◌, ◌++◌, length, min, IfOk, OnOk};
 ghost use Rattle.setl_token.specs.Lex.{Spelled};
 ghost use Rattle.setl_top_explanation.specs.Explanations as spec;
-ghost use Rattle.setl_top_explanation.specs.Explanations.{Explains, ExplainsSyntax};
+ghost use Rattle.setl_tree.specs.Programs as grammar;
+ghost use Rattle.setl_parse_cursor.specs.Plain.{plain_tokens};
+ghost use Rattle.setl_top_explanation.specs.Explanations.{Explains, ExplainsRule, ExplainsSyntax};
 
 use crate::next::{push_next, told_kinds};
 use setl_explain_open::{open_at, push_open};
-use setl_explain_places::{first_on_line, push_place};
+use setl_explain_places::{first_on_line, push_place, spelled_from};
 use setl_explain_words::{SourceFault, fault_text, rule_text};
+use setl_names::Break;
+use setl_parse::parse;
 use setl_token::{LexFault, TokenList, tokens};
+use setl_top_rules::breaking_name;
 use setl_top_status::Reason;
-use setl_tree::Kind;
+use setl_tree::{Kind, Text, Tree};
 use std::alloc::{AllocError, Global};
 
 /// The tokens of a source. The error is want of memory, or that it has none.
@@ -115,19 +120,65 @@ fn of_nesting(alloc: Global, list: &TokenList, at: u32) -> Result<Vec<u8>, Alloc
     nesting_text(alloc, list, at)
 }
 
-/// The first token on the line of a broken rule, and what the rule asks for.
+/// The tree of the tokens. The error is want of memory, or that they have none.
+fn tree_of(alloc: Global, list: &TokenList) -> Result<Tree, AllocError>
+    ensures { IfOk result (grammar.program 200 (plain_tokens list.now)) }
+{
+    match parse(alloc, list) {
+        Ok(tree) => Ok(tree),
+        Err(_) => Err(AllocError),
+    }
+}
+
+/// The place of a rule that is broken by no name.
+#[tactic(auto, unfolding(crate::specs::Explanations::word_place))]
+fn word_place(list: &TokenList, found: Break) -> usize
+    ensures value { result ≡ spec.word_place list.now found }
+    ensures within { result ≤ length list.now.source }
+{
+    if found.rule == 13 {
+        let quit = spelled_from(list, found.line, b"quit");
+        return quit.min(spelled_from(list, found.line, b"continue"));
+    }
+    if found.rule == 14 {
+        return spelled_from(list, found.line, b"return");
+    }
+    first_on_line(list, found.line)
+}
+
+/// The place of a broken rule, by the name that breaks it.
+fn break_place(list: &TokenList, found: Break, name: &Option<Text>) -> usize
+    ensures value { result ≡ spec.break_place list.now found name.now }
+    ensures within { result ≤ length list.now.source }
+{
+    match name {
+        None => word_place(list, found),
+        Some(name) => spelled_from(list, found.line, name.bytes()),
+    }
+}
+
+/// The place of a broken rule, by the name that breaks it, and what the rule asks for.
 fn rule_explained(
     alloc: Global,
     list: &TokenList,
-    rule: u8,
-    line: u32,
+    found: Break,
+    name: &Option<Text>,
 ) -> Result<Vec<u8>, AllocError>
-    ensures { IfOk result (λ text. text.items ≡ spec.rule_explained list.now rule line) }
+    ensures { IfOk result (λ text. text.items ≡ spec.rule_explained list.now found name.now) }
 {
     let mut text = Vec::new(alloc);
-    push_place(&mut text, list.source(), first_on_line(list, line))?;
-    text.extend_from_slice(rule_text(rule))?;
+    push_place(&mut text, list.source(), break_place(list, found, name))?;
+    text.extend_from_slice(rule_text(found.rule))?;
     Ok(text)
+}
+
+/// What is told of tokens that break a rule.
+fn rule_broken(alloc: Global, list: &TokenList, found: Break) -> Result<Vec<u8>, AllocError>
+    ensures { IfOk result (λ text. ExplainsRule list.now found text.items) }
+{
+    let tree = tree_of(alloc, list)?;
+    let name = breaking_name(alloc, &tree, found)?;
+    rule_explained(alloc, list, found, &name)
 }
 
 /// What is told of a broken rule.
@@ -135,14 +186,14 @@ fn of_rule(alloc: Global, list: &TokenList, rule: u8, line: u32) -> Result<Vec<u
     requires { Spelled list.now.source list.now.tokens }
     ensures { IfOk result (λ text. Explains list.now.source (Reason.Broken rule line) text.items) }
 {
-    rule_explained(alloc, list, rule, line)
+    rule_broken(alloc, list, Break { line, rule })
 }
 
 /// What is told below the line of a reason for which the source is refused: of a fault at a place the line and the column,
 /// the source's line with a mark below the place, and what it means; of a fault of syntax also the kinds of tokens that can
 /// stand there, up to ten, and of it and of a nesting the constructs that are open, with their lines; of a broken rule the
-/// first token on its line and the rule's words. The error is want of memory, or that the source has no tokens, which isn't
-/// so where it is refused for syntax, for a nesting or for a rule.
+/// name or the word that breaks it, or the first token on its line where none does, and the rule's words. The error is want of memory, or
+/// that the source has no tokens or no tree, which isn't so where it is refused for syntax or a nesting, or for a rule.
 pub fn explanation(alloc: Global, source: &[u8], reason: Reason) -> Result<Vec<u8>, AllocError>
     requires { length source.now ≤ 2 ^ 24 }
     ensures { IfOk result (λ text. Explains source.now reason text.items) }

@@ -7,4 +7,5 @@ pub fn one_explanation()
 {
     setl_token::lexing_is_determined();
     setl_explain_next::next_kinds_are_one_list();
+    setl_parse_reading::tree_is_unique();
 }

@@ -3,14 +3,14 @@ ghost use Rattle.std.specs.Prelude.{◌≡◌, None, IfOk};
 ghost use Rattle.setl_names.specs.Breaks.{first_break};
 ghost use Rattle.setl_names.specs.Resolves.{all_names};
 ghost use Rattle.setl_modes_declarations.specs.Declares as declarations;
-ghost use Rattle.setl_top_rules.specs.Rules.{AreModes, KeepsRules, earlier_of};
+ghost use Rattle.setl_top_rules.specs.Rules.{AreModes, KeepsRules, breaking_name, earlier_of};
 
 use setl_modes::NamedMode;
 use setl_modes_declarations::modes;
 use setl_names::{BodyNames, Break, Memory, RuleFault, noted};
 use setl_names_walk::resolve_all;
-use setl_tree::{Items, Tree};
-use std::alloc::Global;
+use setl_tree::{Items, Text, Tree};
+use std::alloc::{AllocError, Global};
 
 /// The first break of the rules of declarations, if there is one, and otherwise the declared variables of a program with
 /// their modes. The bodies' names are those of the tree. The error is want of memory.
@@ -56,4 +56,16 @@ pub fn sound(alloc: Global, tree: &Tree) -> Result<Items<NamedMode>, RuleFault>
             line: found.line,
         }),
     }
+}
+
+/// The name by which a rule is broken on a line, where it is by a name: that of the first thing on this line that breaks it
+/// there. The error is want of memory.
+pub fn breaking_name(alloc: Global, tree: &Tree, found: Break) -> Result<Option<Text>, AllocError>
+    ensures { IfOk result (λ x. x ≡ breaking_name tree.now found) }
+{
+    if found.rule < 19 {
+        return setl_names_walk::breaking_name(alloc, tree, found);
+    }
+    let resolved = resolve_all(alloc, tree)?;
+    setl_modes_declarations::breaking_name(alloc, tree, resolved.names.as_slice(), found)
 }
