@@ -1,0 +1,3 @@
+pub mod Links
+pub mod Statements
+pub mod Passes

@@ -1,0 +1,3 @@
+pub mod Table
+pub mod Selected
+pub mod code
