@@ -14,19 +14,20 @@ use crate::changes::{drop_operand, put_operand};
 use crate::store::{Store, lowest};
 use setl_rep_bases::Bases;
 use setl_store_environment::Memory;
-use setl_store_operands::{AsHeld, Operand, in_form, operand};
+use setl_store_operands::{AsHeld, Operand, in_form, operand, plain_in};
 use setl_value::Value;
 
 impl<'c> Store<'c> {
-    /// The value on top; None where none is there, or it is `om`, a collection or an iterator. It takes no memory.
+    /// The value on top; None where none is there, or it is `om`, a collection, an iterator, or a set or a tuple in a form. It
+    /// takes no memory.
     pub fn one(&self) -> Option<&Value>
         ensures { IfSome result (λ value. self.now.core.now.operands ≡ Holds (Some (datum value.now)) ∷ drop 1 self.now.core.now.operands) }
     {
         self.value_below(0)
     }
 
-    /// The two values on top, the upper one last; None where one of the two isn't there, or is `om`, a collection or an
-    /// iterator. It takes no memory.
+    /// The two values on top, the upper one last; None where one of the two isn't there, or is `om`, a collection, an
+    /// iterator, or a set or a tuple in a form. It takes no memory.
     pub fn two(&self) -> Option<(&Value, &Value)>
         ensures { IfSome result (λ both. self.now.core.now.operands ≡ Holds (Some (datum both.1.now)) ∷ Holds (Some (datum both.0.now)) ∷ drop 2 self.now.core.now.operands) }
     {
@@ -67,7 +68,8 @@ impl<'c> Store<'c> {
         Some((lower, upper, &self.bases))
     }
 
-    // The value that so many operands stand above; None where none is there, or it is `om`, a collection or an iterator.
+    // The value that so many operands stand above; None where none is there, or it is `om`, a collection, an iterator, or a
+    // set or a tuple in a form.
     fn value_below(&self, count: usize) -> Option<&Value>
         ensures { IfSome result (λ value. drop count self.now.core.now.operands ≡ Holds (Some (datum value.now)) ∷ drop (count + 1) self.now.core.now.operands) }
     {
@@ -75,10 +77,11 @@ impl<'c> Store<'c> {
         if operands - lowest(&self.environment) <= count {
             return None;
         }
-        match self.environment.operand(operands - 1 - count) {
-            Operand::Value(value) => Some(value),
-            _ => None,
-        }
+        let operand = self.environment.operand(operands - 1 - count);
+        let Some(value) = plain_in(operand, &self.bases) else {
+            return None;
+        };
+        Some(value)
     }
 
     /// Drops the top: a result, or a collection with its members.

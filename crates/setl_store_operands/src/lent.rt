@@ -1,6 +1,7 @@
 //! Operands, and what their forms stand for, where these can be lent. Nothing here takes memory.
 
-ghost use Rattle.std.specs.Prelude.{◌≡◌, IfSome};
+ghost use Rattle.std.specs.Prelude.{◌≡◌, Some, IfSome};
+ghost use Rattle.setl_value.specs.code.DatumOf.{datum};
 ghost use Rattle.setl_code.specs.CodeCore.{Result as Holds};
 ghost use Rattle.setl_rep_forms.specs.FormOf.{form};
 ghost use Rattle.setl_rep_forms.specs.Stands.{IsOver};
@@ -46,6 +47,23 @@ fn lent_value(value: Option<&Value>) -> Lent<'_>
     match value {
         None => Lent::Om,
         Some(value) => Lent::Value(value),
+    }
+}
+
+/// The value that an operand is, where it lies plain, in the operand or in a base; None where it lies nowhere so, or the
+/// operand is `om`, an iterator or a collection.
+#[inline(always)]
+pub fn plain_in<'a>(operand: &'a Operand, bases: &'a Bases) -> Option<&'a Value>
+    requires { IsOperandOver bases.now operand.now }
+    ensures { IfSome result (λ value. (members : _) → operand_of bases.now members operand.now ≡ Holds (Some (datum value.now))) }
+{
+    match operand {
+        Operand::Value(value) => Some(value),
+        Operand::Based(form) => match lend(form.get(), bases) {
+            Lent::Value(value) => Some(value),
+            _ => None,
+        },
+        _ => None,
     }
 }
 

@@ -8,6 +8,6 @@ mod lent;
 mod values;
 
 pub use cells::{Member, Operand};
-pub use lent::{AsHeld, Lent, in_form, lend};
+pub use lent::{AsHeld, Lent, in_form, lend, plain_in};
 pub use setl_store_environment::Memory;
 pub use values::{is_value, operand, operand_in, served, value};

@@ -42,6 +42,7 @@ pub fn operand_in(slot: &Held) -> Result<Operand, Memory>
 }
 
 /// Whether an operand serves as a value, so that it is no iterator.
+#[inline]
 pub fn is_value(operand: &Operand) -> bool
     ensures { (bs : _) (members : _) → result ≡ is_some (value_of (operand_of bs members operand.now)) }
 {
