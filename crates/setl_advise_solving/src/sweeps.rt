@@ -1,0 +1,82 @@
+//! Sweeps over conditions.
+
+ghost use Rattle.std.specs.Prelude.{◌≡◌, ◌<◌, true, false, IfOk, OnOk};
+ghost use Rattle.setl_program.specs.Formed.{Formed};
+ghost use Rattle.setl_program.specs.code.Plain.{plain_program};
+ghost use Rattle.setl_advise_flows.specs.Flow as plain;
+ghost use Rattle.setl_advise_flows.specs.Expressions.{Solves};
+ghost use Rattle.setl_advise_conditions.specs.Conditions.{Meets, MeetsAll, target_flow, term_flow};
+ghost use Rattle.setl_advise_conditions.specs.Grown.{Grown, raised_by};
+ghost use Rattle.setl_advise_conditions.specs.Parts.{conditions_of};
+ghost use Rattle.setl_advise_conditions.specs.Rank.{rank, room};
+ghost use Rattle.setl_advise_gathering.specs.code.Plain.{listed, plain_condition};
+ghost use Rattle.setl_advise_terms.specs.code.Plain.{flows_of};
+ghost use Rattle.setl_advise_solving.specs.Advised.{NeverUnfit};
+
+use setl_advise_conditions::conditions_are_enough;
+use setl_advise_flows::values_stay_in_their_flows;
+use setl_advise_gathering::{Condition, gathered};
+use setl_advise_terms::{Memory, Table, term};
+use setl_program::Program;
+use std::alloc::Global;
+
+/// Lets the target of a condition have what the condition stores, and tells whether it had not. An error is want of memory.
+fn meet<'p>(alloc: Global, table: &mut Table<'p>, c: Condition<'p>) -> Result<bool, Memory>
+    ensures stays { IfOk result (λ rose. rose ≡ false → table.new ≡ table.old) }
+    ensures met { IfOk result (λ rose. rose ≡ false → Meets (flows_of table.old) (plain_condition c.entry)) }
+    ensures raised { IfOk result (λ rose. rose ≡ true → flows_of table.new ≡ raised_by (flows_of table.old) (plain_condition c.entry)) }
+    ensures rises { IfOk result (λ rose. rose ≡ true → rank 3 (target_flow (flows_of table.old) (plain_condition c.entry).target) < rank 3 (plain.join (term_flow (flows_of table.old) (plain_condition c.entry).term) (target_flow (flows_of table.old) (plain_condition c.entry).target))) }
+{
+    let f = term(alloc, table, c.term)?;
+    table.raise(c.target, f)
+}
+
+/// Does so for some conditions, one by one, and tells whether a flow changed. An error is want of memory.
+fn sweep<'p>(
+    alloc: Global,
+    conditions: &[Condition<'p>],
+    table: &mut Table<'p>,
+) -> Result<bool, Memory>
+    ensures met { IfOk result (λ changed. changed ≡ false → MeetsAll (flows_of table.new) (listed conditions.now)) }
+    ensures grown { OnOk result (Grown (listed conditions.now) (flows_of table.old) → Grown (listed conditions.now) (flows_of table.new)) }
+    ensures less { IfOk result (λ changed. changed ≡ true → room (listed conditions.now) (flows_of table.new) < room (listed conditions.now) (flows_of table.old)) }
+{
+    let mut changed = false;
+    for c in conditions {
+        if meet(alloc, table, *c)? {
+            changed = true;
+        }
+    }
+    Ok(changed)
+}
+
+/// Flows that meet these conditions, and have no more than what the conditions store in turn. An error is want of memory.
+///
+/// It sweeps over all conditions until none changes a flow. Each sweep but the last raises a flow, and a flow rises at most
+/// 106 times: so there are at most 106 sweeps and one more for each condition, and mostly a few in all.
+pub fn settled<'p>(alloc: Global, conditions: &[Condition<'p>]) -> Result<Table<'p>, Memory>
+    ensures met { IfOk result (λ t. MeetsAll (flows_of t) (listed conditions.now)) }
+    ensures grown { IfOk result (λ t. Grown (listed conditions.now) (flows_of t)) }
+{
+    let mut table = Table::new(alloc);
+    'sweeps: loop {
+        let changed = sweep(alloc, conditions, &mut table)?;
+        if !changed {
+            return Ok(table);
+        }
+    }
+}
+
+/// The flows of a program: they meet all that a formed program asks, and so no run of it with the modes that are advised for
+/// them ends for a value that doesn't fit. They have no more than what the program's conditions store in turn. An error is
+/// want of memory.
+pub fn solved<'p>(alloc: Global, p: &'p Program) -> Result<Table<'p>, Memory>
+    ensures solves { IfOk result (λ t. Formed (plain_program p.now) → Solves (plain_program p.now) (flows_of t)) }
+    ensures fits { IfOk result (λ t. Formed (plain_program p.now) → NeverUnfit (plain_program p.now) (flows_of t)) }
+    ensures grown { IfOk result (λ t. Grown (conditions_of (plain_program p.now)) (flows_of t)) }
+{
+    conditions_are_enough();
+    values_stay_in_their_flows();
+    let conditions = gathered(alloc, p)?;
+    settled(alloc, conditions.as_slice())
+}
