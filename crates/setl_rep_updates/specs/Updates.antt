@@ -1,11 +1,9 @@
 -- Updates of values in their declared forms.
-use Rattle.std.specs.Prelude.{◌≡◌, ℕ, nat_lt, Bool, true, false, ◌&&◌, List, [], ◌∷◌, Option, Some, is_some, Result, IfOk, OnErr}
+use Rattle.std.specs.Prelude.{◌≡◌, ℕ, nat_lt, Bool, true, false, ◌&&◌, Some, is_some, Result, IfOk, OnErr}
 use Rattle.setl_value.specs.Datum.{Datum, depth}
 use Rattle.setl_modes.specs.Modes.{Mode, Sets}
 use Rattle.setl_modes.specs.Fits.{datum_fits}
-use Rattle.setl_operators_table.specs.declared.Operator.{Operator}
-use Rattle.setl_operators_table.specs.Outcome.{Gives}
-use Rattle.setl_operators_table.specs.Operators.{op_of}
+use Rattle.setl_operators_table.specs.Outcome.{Outcome, Gives}
 use Rattle.std.specs.declared.alloc.AllocError.{AllocError}
 use Rattle.setl_rep_bases.specs.Bases.{BasesState}
 use Rattle.setl_rep_forms.specs.Form.{Form}
@@ -24,12 +22,12 @@ abbrev pub includes : Mode → Form → Datum → Bool
 includes (Sets a m) f d = includes_one m f d
 includes m f d = false
 
--- What an update leaves, where v combines with what the form f stood for, and g is the form that stands there now. True says
--- that it was made: g stands for what the operator gives, without a charge, and the bases are lengthened by that value. False,
--- and want of memory, say that all is as before.
-pub record IsUpdate (m : Mode) (n : ℕ) (by : Operator) (v : Option Datum) (bs cs : BasesState) (f g : Form) (result : Result Bool AllocError) : Type 0 where
+-- What an update leaves, where an operator is to give this of what the form f stood for, by the turns that are left, and g is
+-- the form that stands there now. True says that it was made: g stands for what the operator gives, without a charge, and the
+-- bases are lengthened by that value. False, and want of memory, say that all is as before.
+pub record IsUpdate (m : Mode) (n : ℕ) (gives : ℕ → Outcome) (bs cs : BasesState) (f g : Form) (result : Result Bool AllocError) : Type 0 where
   pub held : IsInForm cs n m g
-  pub value : IfOk result (λ t. t ≡ true → (left : ℕ) → op_of by (stands bs f ∷ v ∷ []) left ≡ Gives (stands cs g) 0)
+  pub value : IfOk result (λ t. t ≡ true → (left : ℕ) → gives left ≡ Gives (stands cs g) 0)
   pub lengthened : IfOk result (λ t. t ≡ true → (d : Datum) × (stands cs g ≡ Some d) × AreLengthened m d n bs cs)
   pub nothing : IfOk result (λ t. t ≡ false → (cs ≡ bs) × (g ≡ f))
   pub refused : OnErr result ((cs ≡ bs) × (g ≡ f))
