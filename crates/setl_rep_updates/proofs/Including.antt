@@ -40,7 +40,7 @@ use Rattle.setl_rep_updates.specs.code.Entered.{HasNumbersOf, IsElementOn, IsPut
 
 -- ---- a set with one more member
 
-itself : (d : Datum) → is_eq (datum_cmp d d) ≡ true
+pub itself : (d : Datum) → is_eq (datum_cmp d d) ≡ true
 itself d = (eq_iff_same d d).1 refl
 
 has_inserted : (d : Datum) (es : List Datum) → has_datum d (insert_datum d es) ≡ true
