@@ -1,7 +1,7 @@
 -- A value comes into a set of elements.
-use Rattle.std.proofs.Common.{eq-eqb, ◌≡◌, ◌∙◌, ℕ, ◌≤◌, Bool, true, false, ◌&&◌, ◌||◌, ◌==◌, ◌⊎◌, inl, inr, cond, List, [], ◌∷◌, ◌++◌, Option, None, Some, IsSome, Result, Ok, Err, IfOk, refl, sym, ap, subst}
+use Rattle.std.proofs.Common.{eq-eqb, ◌≡◌, ◌∙◌, ℕ, ◌≤◌, Bool, true, false, ◌&&◌, ◌||◌, ◌==◌, ◌⊎◌, inl, inr, cond, List, [], ◌∷◌, Option, None, Some, IsSome, Result, Ok, IfOk, refl, sym, ap, subst, arith}
 use Rattle.std.specs.Bool.{nat_le, nat_lt, if◌then◌else◌}
-use Rattle.std.specs.List.{flat_map, list_all}
+use Rattle.std.specs.List.{flat_map, filter_map, list_all}
 use Rattle.std.specs.Option.{is_some, option_and_then}
 use Rattle.std.specs.FinSet as set
 use Rattle.std.specs.declared.cmp.Ordering.{Ordering}
@@ -9,16 +9,16 @@ use Rattle.std.specs.declared.cmp.Ordering.TheVariants.{Less, Equal, Greater}
 use Rattle.std.specs.Ordering.{nat_cmp, is_eq}
 use Rattle.std.proofs.lemmas.Bool.{false≢true, or_left, or_right, and_parts, and_from, or_cases}
 use Rattle.setl_value.specs.Datum.{Datum, depth, part_depth, set_of, elements_of, element_list, element_list-elements_of}
-use Rattle.setl_value.specs.Order.{datum_cmp}
-use Rattle.setl_value.specs.OrderLaws.{same_datum, same_if_eq, eq_iff_same}
+use Rattle.setl_value.specs.WellFormed.{IsWellFormed, ElementsAreWellFormed, IsValue}
+use Rattle.setl_value.specs.Order.{datum_cmp, IsRising}
+use Rattle.setl_value.specs.OrderLaws.{same_if_eq, eq_iff_same}
 use Rattle.setl_set.specs.Sets.{has_datum, insert_datum, insert_by}
+use Rattle.setl_set.specs.Laws.{Gathers}
 use Rattle.setl_modes.specs.declared.mode.Form.{Form as Attribute}
 use Rattle.setl_modes.specs.declared.mode.Form.TheVariants.{Plain, Local, Remote, Sparse}
 use Rattle.setl_modes.specs.Modes.{Mode, General, Integers, Strings, Booleans, Atoms, Elements, Sets, Tuples, SingleMaps, MultiMaps}
-use Rattle.setl_modes.specs.Fits.{fits, datum_fits}
+use Rattle.setl_modes.specs.Fits.{datum_fits}
 use Rattle.setl_modes_places.specs.Places.{elements_at}
-use Rattle.std.specs.declared.alloc.AllocError.{AllocError}
-use Rattle.setl_operators_table.specs.declared.Operator.{Operator}
 use Rattle.setl_operators_table.specs.declared.OpFault.{OpFault}
 use Rattle.setl_operators_table.specs.declared.Operator.TheVariants.{With}
 use Rattle.setl_operators_table.specs.Outcome.{Outcome, Gives, Fails, DeepFault, value, within_depth}
@@ -28,19 +28,19 @@ use Rattle.setl_base.specs.Base.{BaseState, find, value_of}
 use Rattle.setl_rep_bases.specs.declared.BaseId.{BaseId}
 use Rattle.setl_rep_bases.specs.Bases.{BasesState, base_at, named}
 use Rattle.setl_rep_forms.specs.Form.{Form, Layout, om, plain, element, numbers, table, handles}
-use Rattle.setl_rep_forms.specs.Stands.{stands, members_at, IsOver}
+use Rattle.setl_rep_forms.specs.Stands.{stands, members_at, value_at, IsOver}
 use Rattle.setl_rep_forms.specs.Laws.{FormsStay}
 use Rattle.setl_rep_kernels.specs.Kernels.{is_numbered, has_change, ChangeTells, IsAlike}
 use Rattle.setl_rep_building.specs.HasForm.{base_of, place_of, IsSetForm, HasFormOrOm}
 use Rattle.setl_rep_entering.specs.Entering.{AreLengthened, BasesAreThere}
 use Rattle.setl_rep_entering.specs.Laws.{NamesStay, PlacesAreFound, PlacesAreMembers, PartsLengthenAlike, BlocksAreKept}
-use Rattle.setl_rep_updates.specs.InForm.{ArePlacesFound, IsInForm, FormsOfModesStay}
+use Rattle.setl_rep_updates.specs.InForm.{IsValueOrOm, ArePlacesFound, IsInForm, FormsOfModesStay}
 use Rattle.setl_rep_updates.specs.Updates.{IsUpdate}
 use Rattle.setl_rep_updates.specs.code.Entered.{HasNumbersOf, IsElementOn, IsPutIn}
 
 -- ---- a set with one more member
 
-itself : (d : Datum) → is_eq (datum_cmp d d) ≡ true
+pub itself : (d : Datum) → is_eq (datum_cmp d d) ≡ true
 itself d = (eq_iff_same d d).1 refl
 
 has_inserted : (d : Datum) (es : List Datum) → has_datum d (insert_datum d es) ≡ true
@@ -72,6 +72,24 @@ all_inserted p d (e ∷ es) h a = by (datum_cmp d e) (all_inserted p d es h (and
     by Less r = and_from (p d) (list_all p (e ∷ es)) h a
     by Equal r = a
     by Greater r = and_from (p e) (list_all p (insert_datum d es)) (and_parts (p e) (list_all p es) a).0 r
+
+-- ---- values
+
+pub is_shallow : (v : Option Datum) → IsValueOrOm v → part_depth v ≤ 500
+is_shallow None h = omega (arith)
+is_shallow (Some d) h = h.1
+
+pub formed_inserted : (d : Datum) (es : List Datum) → IsWellFormed d → ElementsAreWellFormed (elements_of es) → ElementsAreWellFormed (elements_of (insert_datum d es))
+formed_inserted d [] w a = (w, a)
+formed_inserted d (e ∷ es) w a = by (datum_cmp d e) (formed_inserted d es w a.1)
+  where
+    by : (o : Ordering) → ElementsAreWellFormed (elements_of (insert_datum d es)) → ElementsAreWellFormed (elements_of (insert_by o d e es (insert_datum d es)))
+    by Less r = (w, a)
+    by Equal r = a
+    by Greater r = (a.0, r)
+
+pub value_of_set : (ds : List Datum) → ElementsAreWellFormed (elements_of ds) → IsRising ds → depth (set_of ds) ≤ 500 → IsValue (set_of ds)
+value_of_set ds w r s = ((w, subst IsRising (sym (element_list-elements_of ds)) r), s)
 
 -- ---- the places of elements
 
@@ -152,27 +170,8 @@ element_mode (MultiMaps a d r) c e = let no : ⊥ = cc in absurd no
 
 -- ---- updates
 
--- nothing was done
-pub nothing_done : (m : Mode) (n : ℕ) (by : Operator) (v : Option Datum) (bs cs : BasesState) (f g : Form) → IsInForm bs n m f → cs ≡ bs → g ≡ f → IsUpdate m n by v bs cs f g (Ok false)
-nothing_done m n by v bs cs f g h p q = record {
-  held = subst (λ b. IsInForm b n m g) (sym p) (subst (IsInForm bs n m) (sym q) h);
-  value = λ e. absurd (false≢true e);
-  lengthened = λ e. absurd (false≢true e);
-  nothing = λ e. (p, q);
-  refused = tt;
-}
-
-pub refused : (m : Mode) (n : ℕ) (by : Operator) (v : Option Datum) (bs cs : BasesState) (f g : Form) (e : AllocError) → IsInForm bs n m f → cs ≡ bs → g ≡ f → IsUpdate m n by v bs cs f g (Err e)
-refused m n by v bs cs f g e h p q = record {
-  held = subst (λ b. IsInForm b n m g) (sym p) (subst (IsInForm bs n m) (sym q) h);
-  value = tt;
-  lengthened = tt;
-  nothing = tt;
-  refused = (p, q);
-}
-
-module _ (forms_stay : FormsStay) (kept : BlocksAreKept) (members : PlacesAreMembers) (alike : PartsLengthenAlike) (stay : FormsOfModesStay)
-    (a : Attribute) (c n : ℕ) (k : Mode) (d : Datum) (bs cs : BasesState) where
+module _ (gathers : Gathers) (forms_stay : FormsStay) (kept : BlocksAreKept) (members : PlacesAreMembers) (alike : PartsLengthenAlike) (stay : FormsOfModesStay)
+    (a : Attribute) (c n : ℕ) (k : Mode) (d : Datum) (vd : IsValue d) (bs cs : BasesState) where
   abbrev set_mode : Mode
   set_mode = Sets a (Elements c k)
 
@@ -227,14 +226,14 @@ module _ (forms_stay : FormsStay) (kept : BlocksAreKept) (members : PlacesAreMem
         ap (list_all (datum_fits (Elements c k))) (element_list-elements_of new_members ∙ with_it)
         ∙ all_inserted (datum_fits (Elements c k)) d old_members fit (sym (ap (list_all (datum_fits (Elements c k))) (element_list-elements_of old_members)) ∙ then_in_form.fits)
 
-    put_numbers : IsUpdate set_mode n With (Some d) bs cs (numbers l b ns) (numbers l b ms) (Ok true)
+    put_numbers : IsUpdate set_mode n (op_of With (stands bs (numbers l b ns) ∷ Some d ∷ [])) bs cs (numbers l b ns) (numbers l b ms) (Ok true)
     put_numbers = record {
       held = record {
         there = then_in_form.there;
         over = p.over;
         form = other_numbers (named cs n) a c k l b ns ms then_in_form.form;
         fits = fits_then;
-        shallow = p.shallow;
+        value = value_of_set new_members (subst (λ ds. ElementsAreWellFormed (elements_of ds)) (sym with_it) (formed_inserted d old_members vd.0 then_in_form.value.0.0)) (gathers (filter_map (value_at (base_at cs b)) (set.items ms))).rising p.shallow;
         found = new_found;
       };
       value = λ e left. ap (λ v. op_of With (v ∷ Some d ∷ []) left) (sym same_value) ∙ p.value left;
@@ -243,13 +242,13 @@ module _ (forms_stay : FormsStay) (kept : BlocksAreKept) (members : PlacesAreMem
       refused = tt;
     }
 
-  pub put_is_update : (f g : Form) → IsInForm bs n set_mode f → datum_fits k d ≡ true → HasNumbersOf (named bs n c) f → IsPutIn (Elements c k) n d bs cs f g → IsUpdate set_mode n With (Some d) bs cs f g (Ok true)
+  pub put_is_update : (f g : Form) → IsInForm bs n set_mode f → datum_fits k d ≡ true → HasNumbersOf (named bs n c) f → IsPutIn (Elements c k) n d bs cs f g → IsUpdate set_mode n (op_of With (stands bs f ∷ Some d ∷ [])) bs cs f g (Ok true)
   put_is_update f g h fit has p = by (alike_numbers has.layout (named bs n c) has.held g (subst (λ z. IsAlike z g) has.is p.alike))
     where
-      by : (ms : set.FinSet nat_cmp) × (g ≡ numbers has.layout (named bs n c) ms) → IsUpdate set_mode n With (Some d) bs cs f g (Ok true)
+      by : (ms : set.FinSet nat_cmp) × (g ≡ numbers has.layout (named bs n c) ms) → IsUpdate set_mode n (op_of With (stands bs f ∷ Some d ∷ [])) bs cs f g (Ok true)
       by q =
-          subst (λ y. IsUpdate set_mode n With (Some d) bs cs f y (Ok true)) (sym q.1)
-          (subst (λ z. IsUpdate set_mode n With (Some d) bs cs z (numbers has.layout (named bs n c) q.0) (Ok true)) (sym has.is)
+          subst (λ y. IsUpdate set_mode n (op_of With (stands bs f ∷ Some d ∷ [])) bs cs f y (Ok true)) (sym q.1)
+          (subst (λ z. IsUpdate set_mode n (op_of With (stands bs z ∷ Some d ∷ [])) bs cs z (numbers has.layout (named bs n c) q.0) (Ok true)) (sym has.is)
           (put_numbers has.layout (named bs n c) has.held q.0 (subst (IsInForm bs n set_mode) has.is h) fit
           (subst (λ z. IsPutIn (Elements c k) n d bs cs z (numbers has.layout (named bs n c) q.0)) has.is (subst (IsPutIn (Elements c k) n d bs cs f) q.1 p))))
 
@@ -302,12 +301,12 @@ numbers_in_mode bs n a m c i f d t e is h taken taking =
     let k = element_mode m c e in
     subst (λ j. HasNumbersOf j f) (sym is) (numbers_of_mode (named bs n) a c k.0 f (and_parts (is_numbered f) _ (sym taken ∙ taking)).0 (subst (λ z. HasFormOrOm (named bs n) (Sets a z) f) k.1 h.form))
 
-pub update_of_elements : FormsStay → BlocksAreKept → PlacesAreMembers → PartsLengthenAlike → FormsOfModesStay → (a : Attribute) (m : Mode) (c n : ℕ) (i : BaseId) (d : Datum) (bs cs : BasesState) (f g : Form) (t : Bool) → base_of m ≡ Some c → i ≡ named bs n c
-    → IsInForm bs n (Sets a m) f → Taken m f d t → t ≡ true → IsPutIn m n d bs cs f g → IsUpdate (Sets a m) n With (Some d) bs cs f g (Ok true)
-update_of_elements forms_stay kept members alike stay a m c n i d bs cs f g t e is h taken taking p =
+pub update_of_elements : Gathers → FormsStay → BlocksAreKept → PlacesAreMembers → PartsLengthenAlike → FormsOfModesStay → (a : Attribute) (m : Mode) (c n : ℕ) (i : BaseId) (d : Datum) → IsValue d → (bs cs : BasesState) (f g : Form) (t : Bool) → base_of m ≡ Some c → i ≡ named bs n c
+    → IsInForm bs n (Sets a m) f → Taken m f d t → t ≡ true → IsPutIn m n d bs cs f g → IsUpdate (Sets a m) n (op_of With (stands bs f ∷ Some d ∷ [])) bs cs f g (Ok true)
+update_of_elements gathers forms_stay kept members alike stay a m c n i d vd bs cs f g t e is h taken taking p =
     let k = element_mode m c e in
     let tests = and_parts (is_numbered f) (nat_lt (depth d) 500 && datum_fits m d) (sym taken ∙ taking) in
     let fit : datum_fits k.0 d ≡ true = sym (ap (λ z. datum_fits z d) k.1) ∙ (and_parts (nat_lt (depth d) 500) (datum_fits m d) tests.1).1 in
-    subst (λ z. IsUpdate (Sets a z) n With (Some d) bs cs f g (Ok true)) (sym k.1)
-    (put_is_update forms_stay kept members alike stay a c n k.0 d bs cs f g (subst (λ z. IsInForm bs n (Sets a z) f) k.1 h) fit
+    subst (λ z. IsUpdate (Sets a z) n (op_of With (stands bs f ∷ Some d ∷ [])) bs cs f g (Ok true)) (sym k.1)
+    (put_is_update gathers forms_stay kept members alike stay a c n k.0 d vd bs cs f g (subst (λ z. IsInForm bs n (Sets a z) f) k.1 h) fit
     (subst (λ j. HasNumbersOf j f) is (numbers_in_mode bs n a m c i f d t e is h taken taking)) (subst (λ z. IsPutIn z n d bs cs f g) k.1 p))

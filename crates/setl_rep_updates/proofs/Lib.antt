@@ -1,2 +1,4 @@
 pub mod Staying
 pub mod Including
+pub mod Contents
+pub mod Imaging

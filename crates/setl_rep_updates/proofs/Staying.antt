@@ -1,26 +1,19 @@
 -- Values stay in the forms of their modes as bases are lengthened.
-use Rattle.std.proofs.Common.{◌≡◌, ◌∙◌, ℕ, zero, suc, ◌+◌, ◌≤◌, Bool, true, false, List, [], ◌∷◌, slice_get, Option, None, Some, IsSome, refl, sym, ap, subst}
+use Rattle.std.proofs.Common.{◌≡◌, ◌∙◌, ℕ, zero, suc, ◌+◌, Bool, true, false, List, [], ◌∷◌, slice_get, Option, None, Some, IsSome, refl, sym, ap, subst}
 use Rattle.std.specs.Bool.{if◌then◌else◌}
 use Rattle.std.specs.Ordering.{is_eq}
 use Rattle.std.proofs.lemmas.Bool.{false≢true}
-use Rattle.setl_value.specs.Datum.{Datum, part_depth}
+use Rattle.setl_value.specs.Datum.{Datum}
 use Rattle.setl_value.specs.Order.{datum_cmp}
-use Rattle.setl_set.specs.Sets.{has_datum}
-use Rattle.setl_modes.specs.Modes.{Mode}
 use Rattle.setl_modes.specs.Fits.{fits}
-use Rattle.setl_modes_places.specs.Places.{elements_at, names}
-use Rattle.setl_base.specs.declared.Elt.{Elt}
 use Rattle.setl_base.specs.Base.{BaseState, Member, handle, member_at, find_from, find}
-use Rattle.setl_rep_bases.specs.declared.BaseId.{BaseId}
-use Rattle.setl_rep_bases.specs.Bases.{BasesState, base_at, named, IsThere}
+use Rattle.setl_rep_bases.specs.Bases.{base_at, named, IsThere}
 use Rattle.setl_rep_bases.specs.Keeping.{AreKept}
-use Rattle.setl_rep_forms.specs.Form.{Form}
 use Rattle.setl_rep_forms.specs.Stands.{stands, IsOver}
 use Rattle.setl_rep_forms.specs.Laws.{FormsStay}
 use Rattle.setl_rep_building.specs.HasForm.{HasFormOrOm}
-use Rattle.setl_rep_entering.specs.Entering.{AreLengthened}
 use Rattle.setl_rep_entering.specs.Laws.{NamesStay, BlocksAreKept}
-use Rattle.setl_rep_updates.specs.InForm.{ArePlacesFound, IsInForm, FormsOfModesStay}
+use Rattle.setl_rep_updates.specs.InForm.{IsValueOrOm, ArePlacesFound, FormsOfModesStay}
 
 -- ---- members of bases that grow
 
@@ -55,7 +48,7 @@ forms_of_modes_stay forms_stay names_stay blocks_kept m k d n i bs cs f l h = re
   over = stay.0;
   form = subst (λ name. HasFormOrOm name m f) (sym same_names) h.form;
   fits = ap (λ v. fits m v) stay.1 ∙ h.fits;
-  shallow = subst (λ v. part_depth v ≤ 500) (sym stay.1) h.shallow;
+  value = subst IsValueOrOm (sym stay.1) h.value;
   found = subst (λ v. ArePlacesFound cs n m v) (sym stay.1) (all_found (stands bs f) h.found);
 }
   where

@@ -1,6 +1,7 @@
 -- A value, or `om`, held in the form of a mode.
-use Rattle.std.specs.Prelude.{◌≡◌, ℕ, ◌≤◌, true, Option, Some, None}
-use Rattle.setl_value.specs.Datum.{Datum, part_depth}
+use Rattle.std.specs.Prelude.{◌≡◌, ℕ, true, Option, Some, None}
+use Rattle.setl_value.specs.Datum.{Datum}
+use Rattle.setl_value.specs.WellFormed.{IsValue}
 use Rattle.setl_modes.specs.Modes.{Mode}
 use Rattle.setl_modes.specs.Fits.{fits}
 use Rattle.setl_rep_bases.specs.Bases.{BasesState, named}
@@ -10,19 +11,23 @@ use Rattle.setl_rep_building.specs.HasForm.{HasFormOrOm}
 use Rattle.setl_rep_entering.specs.Entering.{AreLengthened, BasesAreThere}
 use Rattle.setl_rep_entering.specs.Laws.{PlacesAreFound}
 
+abbrev pub IsValueOrOm : Option Datum → Type 0
+IsValueOrOm None = Unit {0}
+IsValueOrOm (Some d) = IsValue d
+
 -- each value at a place is a member of its base in the activation n; `om` has no places
 abbrev pub ArePlacesFound : BasesState → (n : ℕ) → Mode → Option Datum → Type 0
 ArePlacesFound bs n m None = Unit {0}
 ArePlacesFound bs n m (Some d) = PlacesAreFound bs n m d
 
 -- The form is that of the mode in the activation n, over bases that are there, and stands for `om` or a value that fits the
--- mode, is at most 500 deep, and has members of the bases at its places.
+-- mode and has members of the bases at its places.
 pub record IsInForm (bs : BasesState) (n : ℕ) (m : Mode) (f : Form) : Type 0 where
   pub there : BasesAreThere bs n m
   pub over : IsOver bs f
   pub form : HasFormOrOm (named bs n) m f
   pub fits : fits m (stands bs f) ≡ true
-  pub shallow : part_depth (stands bs f) ≤ 500
+  pub value : IsValueOrOm (stands bs f)
   pub found : ArePlacesFound bs n m (stands bs f)
 
 -- a value is held in the form of its mode as before, once bases were lengthened by a value of any mode

@@ -1,17 +1,16 @@
 -- Updates of values in their declared forms.
-use Rattle.std.specs.Prelude.{◌≡◌, ℕ, nat_lt, Bool, true, false, ◌&&◌, List, [], ◌∷◌, Option, Some, is_some, Result, IfOk, OnErr}
+use Rattle.std.specs.Prelude.{◌≡◌, ℕ, nat_lt, Bool, true, false, ◌&&◌, Some, is_some, Result, IfOk, OnErr}
 use Rattle.setl_value.specs.Datum.{Datum, depth}
-use Rattle.setl_modes.specs.Modes.{Mode, Sets}
+use Rattle.setl_modes.specs.Modes.{Mode, Sets, SingleMaps}
 use Rattle.setl_modes.specs.Fits.{datum_fits}
-use Rattle.setl_operators_table.specs.declared.Operator.{Operator}
-use Rattle.setl_operators_table.specs.Outcome.{Gives}
-use Rattle.setl_operators_table.specs.Operators.{op_of}
+use Rattle.setl_operators_table.specs.Outcome.{Outcome, Gives}
 use Rattle.std.specs.declared.alloc.AllocError.{AllocError}
 use Rattle.setl_rep_bases.specs.Bases.{BasesState}
 use Rattle.setl_rep_forms.specs.Form.{Form}
 use Rattle.setl_rep_forms.specs.Stands.{stands}
 use Rattle.setl_rep_kernels.specs.Kernels.{is_numbered}
 use Rattle.setl_rep_building.specs.HasForm.{base_of}
+use Rattle.setl_rep_maps.specs.Contents.{table_of}
 use Rattle.setl_rep_entering.specs.Entering.{AreLengthened}
 use Rattle.setl_rep_updates.specs.InForm.{IsInForm}
 
@@ -24,12 +23,21 @@ abbrev pub includes : Mode → Form → Datum → Bool
 includes (Sets a m) f d = includes_one m f d
 includes m f d = false
 
--- What an update leaves, where v combines with what the form f stood for, and g is the form that stands there now. True says
--- that it was made: g stands for what the operator gives, without a charge, and the bases are lengthened by that value. False,
--- and want of memory, say that all is as before.
-pub record IsUpdate (m : Mode) (n : ℕ) (by : Operator) (v : Option Datum) (bs cs : BasesState) (f g : Form) (result : Result Bool AllocError) : Type 0 where
+-- whether d is put into a map, where its mode is this one: it fits that and is less than 499 deep
+abbrev pub is_part : Mode → Datum → Bool
+is_part m d = nat_lt (depth d) 499 && datum_fits m d
+
+-- whether the image y is put at x, in a map of this mode: where it has one image for each point and is held as a table
+abbrev pub puts : Mode → Form → Datum → Datum → Bool
+puts (SingleMaps a d r) f x y = is_some (table_of f) && (is_part d x && is_part r y)
+puts m f x y = false
+
+-- What an update leaves, where an operator is to give this of what the form f stood for, by the turns that are left, and g is
+-- the form that stands there now. True says that it was made: g stands for what the operator gives, without a charge, and the
+-- bases are lengthened by that value. False, and want of memory, say that all is as before.
+pub record IsUpdate (m : Mode) (n : ℕ) (gives : ℕ → Outcome) (bs cs : BasesState) (f g : Form) (result : Result Bool AllocError) : Type 0 where
   pub held : IsInForm cs n m g
-  pub value : IfOk result (λ t. t ≡ true → (left : ℕ) → op_of by (stands bs f ∷ v ∷ []) left ≡ Gives (stands cs g) 0)
+  pub value : IfOk result (λ t. t ≡ true → (left : ℕ) → gives left ≡ Gives (stands cs g) 0)
   pub lengthened : IfOk result (λ t. t ≡ true → (d : Datum) × (stands cs g ≡ Some d) × AreLengthened m d n bs cs)
   pub nothing : IfOk result (λ t. t ≡ false → (cs ≡ bs) × (g ≡ f))
   pub refused : OnErr result ((cs ≡ bs) × (g ≡ f))

@@ -5,7 +5,9 @@
 #![tactic(auto)]
 
 pub mod laws;
+mod maps;
 mod sets;
 
+pub use maps::put;
 pub use sets::include;
 pub use std::alloc::AllocError as Memory;

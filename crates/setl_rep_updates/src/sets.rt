@@ -46,7 +46,7 @@ pub fn include(
 ) -> Result<bool, Memory>
     requires { IsInForm bases.old instance (mode_of mode.now) (form s.old) }
     ensures kernel { IfOk result (λ t. t ≡ includes (mode_of mode.now) (form s.old) (datum x.now)) }
-    ensures update { IsUpdate (mode_of mode.now) instance With (Some (datum x.now)) bases.old bases.new (form s.old) (form s.new) result }
+    ensures update { IsUpdate (mode_of mode.now) instance (op_of With (stands bases.old (form s.old) ∷ Some (datum x.now) ∷ [])) bases.old bases.new (form s.old) (form s.new) result }
 {
     match mode {
         Mode::Set(_, m) => include_in(alloc, m.get(), s, x, bases, instance),
@@ -65,8 +65,9 @@ fn include_in(
 ) -> Result<bool, Memory>
     requires { (a : Attribute) × IsInForm bases.old instance (Sets a (mode_of m.now)) (form s.old) }
     ensures kernel { IfOk result (λ t. t ≡ includes_one (mode_of m.now) (form s.old) (datum x.now)) }
-    ensures update { (a : Attribute) → IsInForm bases.old instance (Sets a (mode_of m.now)) (form s.old) → IsUpdate (Sets a (mode_of m.now)) instance With (Some (datum x.now)) bases.old bases.new (form s.old) (form s.new) result }
+    ensures update { (a : Attribute) → IsInForm bases.old instance (Sets a (mode_of m.now)) (form s.old) → IsUpdate (Sets a (mode_of m.now)) instance (op_of With (stands bases.old (form s.old) ∷ Some (datum x.now) ∷ [])) bases.old bases.new (form s.old) (form s.new) result }
 {
+    setl_set::laws::operations_have_their_members();
     setl_rep_forms::laws::forms_stay();
     setl_rep_entering::laws::places_are_members();
     setl_rep_entering::laws::parts_lengthen_alike();
@@ -77,6 +78,7 @@ fn include_in(
     if !takes(m, s, x)? {
         return Ok(false);
     }
+    x.learn();
     let i = bases.named(instance, b);
     put_in(alloc, m, i, s, x, bases, instance)?;
     Ok(true)
