@@ -86,7 +86,7 @@ in_inserted z g p (e ∷ es) h = by (datum_cmp p e) refl (in_inserted z g p es h
     by Equal q r = in_first z (g e) (flat_map g es) (ap (λ d. has_datum z (g d)) (sym (same_datum p e q)) ∙ h)
     by Greater q r = in_second z (g e) (flat_map g (insert_datum p es)) r
 
-of_kept : (z : Datum) (g : Datum → List Datum) (keep : Datum → Bool) (ds : List Datum) → has_datum z (flat_map g (filter keep ds)) ≡ true → has_datum z (flat_map g ds) ≡ true
+pub of_kept : (z : Datum) (g : Datum → List Datum) (keep : Datum → Bool) (ds : List Datum) → has_datum z (flat_map g (filter keep ds)) ≡ true → has_datum z (flat_map g ds) ≡ true
 of_kept z g keep [] h = h
 of_kept z g keep (d ∷ ds) h = by (keep d) h (of_kept z g keep ds)
   where
@@ -99,7 +99,7 @@ of_kept z g keep (d ∷ ds) h = by (keep d) h (of_kept z g keep ds)
 
 -- ---- values
 
-depth_kept : (keep : Datum → Bool) (ds : List Datum) → elements_depth (elements_of (filter keep ds)) ≤ elements_depth (elements_of ds)
+pub depth_kept : (keep : Datum → Bool) (ds : List Datum) → elements_depth (elements_of (filter keep ds)) ≤ elements_depth (elements_of ds)
 depth_kept keep [] = omega (arith)
 depth_kept keep (d ∷ ds) = by (keep d) (depth_kept keep ds)
   where
@@ -107,7 +107,7 @@ depth_kept keep (d ∷ ds) = by (keep d) (depth_kept keep ds)
     by true h = omega (arith, h)
     by false h = omega (arith, h)
 
-formed_kept : (keep : Datum → Bool) (ds : List Datum) → ElementsAreWellFormed (elements_of ds) → ElementsAreWellFormed (elements_of (filter keep ds))
+pub formed_kept : (keep : Datum → Bool) (ds : List Datum) → ElementsAreWellFormed (elements_of ds) → ElementsAreWellFormed (elements_of (filter keep ds))
 formed_kept keep [] w = w
 formed_kept keep (d ∷ ds) w = by (keep d) (formed_kept keep ds w.1)
   where
@@ -115,7 +115,7 @@ formed_kept keep (d ∷ ds) w = by (keep d) (formed_kept keep ds w.1)
     by true r = (w.0, r)
     by false r = r
 
-abbrev other : Datum → Datum → Bool
+abbrev pub other : Datum → Datum → Bool
 other x d = not (is_datum x (first_of (pair_parts d)))
 
 depth_put : (x y : Datum) (f : List Datum) → depth x < 499 → depth y < 499 → depth (set_of f) ≤ 500 → depth (set_of (insert_datum (pair x y) (without_point x f))) ≤ 500
@@ -139,7 +139,7 @@ some_fits : (p q : Datum → Bool) (f : List Datum) (o : Option (Datum × Datum)
 some_fits p q f None h = h
 some_fits p q f (Some o) h = refl
 
-map_fits : (p q : Datum → Bool) (f ds : List Datum) → list_all (λ d. single_fits p q f (pair_parts d)) ds ≡ true → is_map ds ≡ true
+pub map_fits : (p q : Datum → Bool) (f ds : List Datum) → list_all (λ d. single_fits p q f (pair_parts d)) ds ≡ true → is_map ds ≡ true
 map_fits p q f [] h = refl
 map_fits p q f (d ∷ ds) h =
     let t = and_parts (single_fits p q f (pair_parts d)) (list_all (λ d. single_fits p q f (pair_parts d)) ds) h in
@@ -147,11 +147,11 @@ map_fits p q f (d ∷ ds) h =
 
 -- ---- the form of a map
 
-is_single : (name : ℕ → BaseId) (o : Option (Layout × ℕ)) (P : Form → Type 0) (k : Layout) (b : BaseId) (many : Bool) (es : Entries) → IsMapForm name o false P (table k b many es) → many ≡ false
+pub is_single : (name : ℕ → BaseId) (o : Option (Layout × ℕ)) (P : Form → Type 0) (k : Layout) (b : BaseId) (many : Bool) (es : Entries) → IsMapForm name o false P (table k b many es) → many ≡ false
 is_single name None P k b many es h = absurd h
 is_single name (Some p) P k b many es h = h.2
 
-other_table : (name : ℕ → BaseId) (o : Option (Layout × ℕ)) (P : Form → Type 0) (k l : Layout) (b e : BaseId) (many some : Bool) (es fs : Entries) → l ≡ k → e ≡ b → some ≡ many → (HaveForms P es → HaveForms P fs)
+pub other_table : (name : ℕ → BaseId) (o : Option (Layout × ℕ)) (P : Form → Type 0) (k l : Layout) (b e : BaseId) (many some : Bool) (es fs : Entries) → l ≡ k → e ≡ b → some ≡ many → (HaveForms P es → HaveForms P fs)
     → IsMapForm name o false P (table k b many es) → IsMapForm name o false P (table l e some fs)
 other_table name None P k l b e many some es fs lk eb sm go h = absurd h
 other_table name (Some p) P k l b e many some es fs lk eb sm go h = (lk ∙ h.0, eb ∙ h.1, sm ∙ h.2, go h.3)
@@ -189,15 +189,16 @@ base_of_points name m a d r f b many e t h = by f t (subst (λ z. HasFormOrOm na
 
 -- ---- the places of a pair
 
-module _ (a : Attribute) (d r : Mode) (x y : Datum) where
-  abbrev at : ℕ → Datum → List Datum
-  at i p = at_pair (elements_at i d) (elements_at i r) (pair_parts p)
+-- those of the parts of a pair
+abbrev pub at : (d r : Mode) → ℕ → Datum → List Datum
+at d r i p = at_pair (elements_at i d) (elements_at i r) (pair_parts p)
 
+module _ (a : Attribute) (d r : Mode) (x y : Datum) where
   at_point : (i : ℕ) (z : Datum) → has_datum z (elements_at i d x) ≡ true → has_datum z (elements_at i (SingleMaps a d r) (set_of (pair x y ∷ []))) ≡ true
-  at_point i z h = in_first z (at i (pair x y)) [] (in_first z (elements_at i d x) (elements_at i r y) h)
+  at_point i z h = in_first z (at d r i (pair x y)) [] (in_first z (elements_at i d x) (elements_at i r y) h)
 
   at_image : (i : ℕ) (z : Datum) → has_datum z (elements_at i r y) ≡ true → has_datum z (elements_at i (SingleMaps a d r) (set_of (pair x y ∷ []))) ≡ true
-  at_image i z h = in_first z (at i (pair x y)) [] (in_second z (elements_at i d x) (elements_at i r y) h)
+  at_image i z h = in_first z (at d r i (pair x y)) [] (in_second z (elements_at i d x) (elements_at i r y) h)
 
 abbrev pair_set : Datum → Datum → Datum
 pair_set x y = set_of (pair x y ∷ [])
@@ -274,21 +275,21 @@ module _ (gathers : Gathers) (puts_fit : PutsFit) (forms_stay : FormsStay) (put_
     fits_then : datum_fits map_mode (set_of new) ≡ true
     fits_then = puts_fit map_mode r (Some x) (Some (set_of old)) (Some y) (Some (set_of new)) 0 0 (ap (λ t. cond t (Some r) None) (part_tests d x px).1) (old_value.0, then_in_form.fits) (part_tests r y py).1 (gives 0)
 
-    has_at : (i : ℕ) (z : Datum) (ds : List Datum) → has_datum z (elements_at i map_mode (set_of ds)) ≡ has_datum z (flat_map (at a d r x y i) ds)
-    has_at i z ds = ap (λ l. has_datum z (flat_map (at a d r x y i) l)) (element_list-elements_of ds)
+    has_at : (i : ℕ) (z : Datum) (ds : List Datum) → has_datum z (elements_at i map_mode (set_of ds)) ≡ has_datum z (flat_map (at d r i) ds)
+    has_at i z ds = ap (λ l. has_datum z (flat_map (at d r i) l)) (element_list-elements_of ds)
 
     new_places : (i : ℕ) (z : Datum) → has_datum z (elements_at i map_mode (set_of new)) ≡ true → (has_datum z (elements_at i map_mode part) ≡ true) ⊎ (has_datum z (elements_at i map_mode (set_of old)) ≡ true)
     new_places i z q =
-        elim (of_inserted z (at a d r x y i) (pair x y) (without_point x old) (sym (ap (λ l. has_datum z (flat_map (at a d r x y i) l)) with_it) ∙ sym (has_at i z new) ∙ q)) [
-          | inl s ↦ inl (in_first z (at a d r x y i (pair x y)) [] s)
-          | inr s ↦ inr (has_at i z old ∙ of_kept z (at a d r x y i) (other x) old s)
+        elim (of_inserted z (at d r i) (pair x y) (without_point x old) (sym (ap (λ l. has_datum z (flat_map (at d r i) l)) with_it) ∙ sym (has_at i z new) ∙ q)) [
+          | inl s ↦ inl (in_first z (at d r i (pair x y)) [] s)
+          | inr s ↦ inr (has_at i z old ∙ of_kept z (at d r i) (other x) old s)
         ]
 
     part_places : (i : ℕ) (z : Datum) → has_datum z (elements_at i map_mode part) ≡ true → has_datum z (elements_at i map_mode (set_of new)) ≡ true
     part_places i z q =
         has_at i z new
-        ∙ ap (λ l. has_datum z (flat_map (at a d r x y i) l)) with_it
-        ∙ in_inserted z (at a d r x y i) (pair x y) (without_point x old) (elim (of_both z (at a d r x y i (pair x y)) [] q) [ inl s ↦ s | inr s ↦ absurd (false≢true s) ])
+        ∙ ap (λ l. has_datum z (flat_map (at d r i) l)) with_it
+        ∙ in_inserted z (at d r i) (pair x y) (without_point x old) (elim (of_both z (at d r i (pair x y)) [] q) [ inl s ↦ s | inr s ↦ absurd (false≢true s) ])
 
     found_before : PlacesAreFound bs n map_mode (set_of old)
     found_before = subst (λ v. ArePlacesFound bs n map_mode v) (sym same_value) h.found
@@ -301,7 +302,8 @@ module _ (gathers : Gathers) (puts_fit : PutsFit) (forms_stay : FormsStay) (put_
 
     form_then : HasFormOrOm (named cs n) map_mode (table l e some fs)
     form_then =
-        other_table (named cs n) (place_of a d) (HasForm (named cs n) r) k l b e many some es fs p.put.0 p.put.1 p.put.2 (form_put (HasForm (named cs n) r) p.number p.content es fs p.keyed_then p.form p.put.3) then_in_form.form
+        other_table (named cs n) (place_of a d) (HasForm (named cs n) r) k l b e many some es fs p.put.0 p.put.1 p.put.2
+        (form_put (HasForm (named cs n) r) p.number (Some p.content) es fs p.keyed_then (λ c w. let same : p.content ≡ c = cc in subst (HasForm (named cs n) r) same p.form) p.put.3) then_in_form.form
 
     tables_update : IsUpdate map_mode n (op_of Put (stands bs (table k b many es) ∷ Some x ∷ Some y ∷ [])) bs cs (table k b many es) (table l e some fs) (Ok true)
     tables_update = record {

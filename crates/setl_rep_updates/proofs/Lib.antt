@@ -2,3 +2,4 @@ pub mod Staying
 pub mod Including
 pub mod Contents
 pub mod Imaging
+pub mod Cutting

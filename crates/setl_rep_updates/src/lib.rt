@@ -8,6 +8,6 @@ pub mod laws;
 mod maps;
 mod sets;
 
-pub use maps::put;
+pub use maps::{cut, put};
 pub use sets::include;
 pub use std::alloc::AllocError as Memory;
