@@ -2,7 +2,7 @@
 use Rattle.std.proofs.Common.{◌≡◌, ◌∙◌, refl, subst, sym, ap, ℕ, zero, suc, Bool, true, false, cond}
 use Rattle.setl_advise_flows.specs.Flow.{Kind, Flow, Nothing, Scalar, Set, Tuple, Map, Any, is_kind, scalars, capped, set_with_map, joined, join, Below}
 use Rattle.setl_advise_order.specs.Order.{IsNothing, Le, Within}
-use Rattle.setl_advise_order.proofs.Orders.{le_any, le_itself, le_through, le_same, same_kind, kind_itself}
+use Rattle.setl_advise_order.proofs.Orders.{le_any, le_itself, le_through, le_same, same_kind, kind_itself, nothing_le}
 use Rattle.setl_advise_order.proofs.Caps.{cap_within, within_more, cap_above, cap_least}
 
 -- ---- of scalars
@@ -85,14 +85,6 @@ tuple_only f g h t a b = absurd a
 
 -- ---- of flows with parts
 
-nothing_le : (f g : Flow) → IsNothing f → Le f g
-nothing_le Nothing g n = tt
-nothing_le (Scalar l) g n = absurd n
-nothing_le (Set k) g n = absurd n
-nothing_le (Tuple k) g n = absurd n
-nothing_le (Map k l) g n = absurd n
-nothing_le Any g n = absurd n
-
 le_nothing : (f : Flow) → Le f Nothing → IsNothing f
 le_nothing Nothing h = tt
 le_nothing f h = absurd h
@@ -112,7 +104,7 @@ tuples_least n f g j least Any w a b = tt
 tuples_least n f g j least h w a b = absurd a
 
 -- tuples in one place less
-tuples_under : (n : ℕ) (f g j : Flow) → Least n f g j → Least n (Tuple f) (Tuple g) (Tuple j)
+pub tuples_under : (n : ℕ) (f g j : Flow) → Least n f g j → Least n (Tuple f) (Tuple g) (Tuple j)
 tuples_under zero f g j least (Tuple h) w a b = absurd w
 tuples_under (suc n) f g j least (Tuple h) w a b = least h (within_more n h w) a b
 tuples_under n f g j least Any w a b = tt

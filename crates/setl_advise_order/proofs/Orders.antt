@@ -41,7 +41,7 @@ nothing_under f (Tuple k) h n = absurd n
 nothing_under f (Map k l) h n = absurd n
 nothing_under f Any h n = absurd n
 
-nothing_le : (f g : Flow) → IsNothing f → Le f g
+pub nothing_le : (f g : Flow) → IsNothing f → Le f g
 nothing_le Nothing g n = tt
 nothing_le (Scalar l) g n = absurd n
 nothing_le (Set k) g n = absurd n
@@ -49,7 +49,7 @@ nothing_le (Tuple k) g n = absurd n
 nothing_le (Map k l) g n = absurd n
 nothing_le Any g n = absurd n
 
-tuple_not_nothing : (f g : Flow) → Le (Tuple f) g → IsNothing g → ⊥
+pub tuple_not_nothing : (f g : Flow) → Le (Tuple f) g → IsNothing g → ⊥
 tuple_not_nothing f Nothing h n = h
 tuple_not_nothing f (Scalar l) h n = n
 tuple_not_nothing f (Set k) h n = n

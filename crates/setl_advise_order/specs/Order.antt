@@ -1,6 +1,8 @@
 -- An order on flows, whatever the places for constructors.
 use Rattle.std.specs.Prelude.{◌≡◌, ℕ, zero, suc, true}
+use Rattle.setl_model_runs.specs.Variable.{Variable}
 use Rattle.setl_advise_flows.specs.Flow.{Flow, Nothing, Scalar, Set, Tuple, Map, Any, is_kind}
+use Rattle.setl_advise_flows.specs.Expressions.{Flows}
 
 -- no value
 abbrev pub IsNothing : Flow → Type 0
@@ -30,3 +32,13 @@ Within (suc n) (Set f) = Within n f
 Within (suc n) (Tuple f) = Within n f
 Within (suc n) (Map f g) = Within n f × Within n g
 Within n Any = Unit {0}
+
+-- the first flows have no more than the second
+pub record AreBelow (s u : Flows) : Type 0 where
+  pub of : (x : Variable) → Le (s.of x) (u.of x)
+  pub result : (f : ℕ) → Le (s.result f) (u.result f)
+
+-- flows of at most three constructors inside one another
+pub record AreWithin (s : Flows) : Type 0 where
+  pub of : (x : Variable) → Within 3 (s.of x)
+  pub result : (f : ℕ) → Within 3 (s.result f)
