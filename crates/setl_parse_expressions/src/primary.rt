@@ -286,12 +286,22 @@ impl<F: Fn(&mut Cursor<'_>, usize, Part) -> Result<Expr, Fault>> Grammar<F> {
     }
 
     /// A primary expression with its selectors.
-    #[tactic(auto, unfolding(setl_parse_reading::specs::code::ReadExpressions::e12, setl_parse_reading::specs::code::ReadExpressions::selectors))]
+    #[tactic(auto, unfolding(setl_parse_reading::specs::code::ReadExpressions::e12))]
     fn e12(&self, tokens: &mut Cursor<'_>) -> Result<Expr, Fault>
         requires { Nests self.now.room (F.pre self.now.inside) (F.post self.now.inside) }
         ensures { Reads (spec.e12 self.now.room (nested self.now.room) tokens.old) result tokens.new }
     {
         let primary = self.primary(tokens)?;
+        self.selection(primary, tokens)
+    }
+
+    /// What goes on from a primary expression: it and its selectors.
+    #[inline(never)]
+    #[tactic(auto, unfolding(setl_parse_reading::specs::code::ReadExpressions::selectors))]
+    fn selection(&self, primary: Expr, tokens: &mut Cursor<'_>) -> Result<Expr, Fault>
+        requires { Nests self.now.room (F.pre self.now.inside) (F.post self.now.inside) }
+        ensures { Reads (parts.selection self.now.room (nested self.now.room) primary tokens.old) result tokens.new }
+    {
         let (primary, selectors) = with_many(primary, &SelectorRule { grammar: self }, tokens)?;
         selected(tokens.alloc(), primary, selectors)
     }
@@ -302,23 +312,32 @@ impl<F: Fn(&mut Cursor<'_>, usize, Part) -> Result<Expr, Fault>> Grammar<F> {
         requires { Nests self.now.room (F.pre self.now.inside) (F.post self.now.inside) }
         ensures { Reads (spec.e7 self.now.room (nested self.now.room) tokens.old) result tokens.new }
     {
+        let first = PrefixedRule { grammar: self }.read(tokens)?;
+        self.after_operand(first, tokens)
+    }
+
+    /// What goes on from an operand of `**`.
+    #[inline(never)]
+    fn after_operand(&self, a: Expr, tokens: &mut Cursor<'_>) -> Result<Expr, Fault>
+        requires { Nests self.now.room (F.pre self.now.inside) (F.post self.now.inside) }
+        ensures { Reads (parts.after_operand self.now.room (nested self.now.room) a tokens.old) result tokens.new }
+    {
+        let a = chain_from(10, &PrefixedRule { grammar: self }, a, tokens)?;
         let power = Chain {
             level: 10,
             item: PrefixedRule { grammar: self },
         };
+        let a = chain_from(9, &power, a, tokens)?;
         let product = Chain {
             level: 9,
             item: power,
         };
+        let a = chain_from(8, &product, a, tokens)?;
         let sum = Chain {
             level: 8,
             item: product,
         };
-        Chain {
-            level: 7,
-            item: sum,
-        }
-        .read(tokens)
+        chain_from(7, &sum, a, tokens)
     }
 
     /// The left side of a comparison, and its right side in a box.
@@ -359,27 +378,17 @@ impl<F: Fn(&mut Cursor<'_>, usize, Part) -> Result<Expr, Fault>> Grammar<F> {
     }
 
     /// An expression that is no quantifier.
-    #[tactic(auto, unfolding(setl_parse_reading::specs::code::ReadExpressions::e2))]
+    #[tactic(auto, unfolding(setl_parse_reading::specs::code::ReadExpressions::e2, setl_parse_reading::specs::code::ReadExpressions::after))]
     fn e2(&self, tokens: &mut Cursor<'_>) -> Result<Expr, Fault>
         requires { Nests self.now.room (F.pre self.now.inside) (F.post self.now.inside) }
         ensures { Reads (spec.e2 self.now.room (nested self.now.room) tokens.old) result tokens.new }
     {
-        let both = Chain {
-            level: 4,
-            item: ComparedRule { grammar: self },
-        };
-        let one = Chain {
-            level: 3,
-            item: both,
-        };
-        Chain {
-            level: 2,
-            item: one,
-        }
-        .read(tokens)
+        let first = ComparedRule { grammar: self }.read(tokens)?;
+        self.after_comparison(first, tokens)
     }
 
     /// What goes on from an operand of `and`.
+    #[inline(never)]
     #[tactic(auto, unfolding(setl_parse_reading::specs::code::ReadExpressions::after))]
     pub fn after_comparison(&self, a: Expr, tokens: &mut Cursor<'_>) -> Result<Expr, Fault>
         requires { Nests self.now.room (F.pre self.now.inside) (F.post self.now.inside) }

@@ -4,8 +4,9 @@ use Rattle.setl_tree.specs.declared.kind.Kind.TheVariants as k
 use Rattle.setl_tree.specs.declared.expr.Bound.{Bound}
 use Rattle.setl_tree.specs.declared.expr.Expr.{Expr}
 use Rattle.setl_tree.specs.declared.expr.Iter.{Iter}
+use Rattle.setl_tree.specs.Operators.{selected}
 use Rattle.setl_parse_reading.specs.code.Reading.{Reader, ◌>>=◌, ◌>>◌, pure, expect, is, optional, more}
-use Rattle.setl_parse_reading.specs.code.ReadExpressions.{Inside, bound, iters, condition}
+use Rattle.setl_parse_reading.specs.code.ReadExpressions.{Inside, bound, iters, condition, e11, levels_from, selectors}
 
 -- two parts, and more behind them
 abbrev pub two_and_more : {A : Type 0} → A → A → Reader A → Reader (List A)
@@ -22,3 +23,11 @@ clauses room here = do over ← iters room here.source; c ← optional (is k.Bar
 -- `bound in source`
 abbrev pub bound_in : ℕ → Reader Expr → Reader (Bound × Expr)
 bound_in room source = do b ← bound room; expect k.In; s ← source; pure (b, s)
+
+-- a primary expression and what selects from it
+abbrev pub selection : ℕ → Inside → Expr → Reader Expr
+selection room deep p = do ss ← selectors room deep; pure (selected p ss)
+
+-- what goes on from an operand of `**`
+abbrev pub after_operand : ℕ → Inside → Expr → Reader Expr
+after_operand room deep a = levels_from 10 (e11 room deep) 4 a
