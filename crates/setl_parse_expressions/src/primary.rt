@@ -352,23 +352,53 @@ impl<F: Fn(&mut Cursor<'_>, usize, Part) -> Result<Expr, Fault>> Grammar<F> {
         self.after_operand(a, tokens)
     }
 
-    /// What goes on from an operand of `**`.
+    /// What goes on from an operand of `**` with operators that bind as `*` or more tightly.
     #[inline(never)]
-    fn after_operand(&self, a: Expr, tokens: &mut Cursor<'_>) -> Result<Expr, Fault>
+    fn after_product(&self, a: Expr, tokens: &mut Cursor<'_>) -> Result<Expr, Fault>
         requires { Nests self.now.room (F.pre self.now.inside) (F.post self.now.inside) }
-        ensures { Reads (parts.after_operand self.now.room (nested self.now.room) a tokens.old) result tokens.new }
+        ensures { Reads (spec.levels_from 10 (spec.e11 self.now.room (nested self.now.room)) 2 a tokens.old) result tokens.new }
     {
         let a = chain_from(10, &PrefixedRule { grammar: self }, a, tokens)?;
         let power = Chain {
             level: 10,
             item: PrefixedRule { grammar: self },
         };
-        let a = chain_from(9, &power, a, tokens)?;
+        chain_from(9, &power, a, tokens)
+    }
+
+    /// What goes on from an operand of `**` with operators that bind as `+` or more tightly.
+    #[inline(never)]
+    fn after_sum(&self, a: Expr, tokens: &mut Cursor<'_>) -> Result<Expr, Fault>
+        requires { Nests self.now.room (F.pre self.now.inside) (F.post self.now.inside) }
+        ensures { Reads (spec.levels_from 10 (spec.e11 self.now.room (nested self.now.room)) 3 a tokens.old) result tokens.new }
+    {
+        let a = self.after_product(a, tokens)?;
+        let power = Chain {
+            level: 10,
+            item: PrefixedRule { grammar: self },
+        };
         let product = Chain {
             level: 9,
             item: power,
         };
-        let a = chain_from(8, &product, a, tokens)?;
+        chain_from(8, &product, a, tokens)
+    }
+
+    /// What goes on from an operand of `**`.
+    #[inline(never)]
+    fn after_operand(&self, a: Expr, tokens: &mut Cursor<'_>) -> Result<Expr, Fault>
+        requires { Nests self.now.room (F.pre self.now.inside) (F.post self.now.inside) }
+        ensures { Reads (spec.levels_from 10 (spec.e11 self.now.room (nested self.now.room)) 4 a tokens.old) result tokens.new }
+    {
+        let a = self.after_sum(a, tokens)?;
+        let power = Chain {
+            level: 10,
+            item: PrefixedRule { grammar: self },
+        };
+        let product = Chain {
+            level: 9,
+            item: power,
+        };
         let sum = Chain {
             level: 8,
             item: product,
@@ -425,7 +455,8 @@ impl<F: Fn(&mut Cursor<'_>, usize, Part) -> Result<Expr, Fault>> Grammar<F> {
         Ok(Before { nots, prefixes })
     }
 
-    /// A comparison's left side, from its primary expression on.
+    /// A comparison from its primary expression on.
+    #[inline(never)]
     fn after_primary(
         &self,
         before: Before,
@@ -443,12 +474,7 @@ impl<F: Fn(&mut Cursor<'_>, usize, Part) -> Result<Expr, Fault>> Grammar<F> {
 
     /// What goes on from a primary expression.
     #[inline(never)]
-    fn go_on(
-        &self,
-        before: Before,
-        primary: Expr,
-        tokens: &mut Cursor<'_>,
-    ) -> Result<Expr, Fault>
+    fn go_on(&self, before: Before, primary: Expr, tokens: &mut Cursor<'_>) -> Result<Expr, Fault>
         requires { Nests self.now.room (F.pre self.now.inside) (F.post self.now.inside) }
         ensures { Reads (parts.go_on self.now.room (nested self.now.room) before primary tokens.old) result tokens.new }
     {
@@ -468,6 +494,20 @@ impl<F: Fn(&mut Cursor<'_>, usize, Part) -> Result<Expr, Fault>> Grammar<F> {
         self.go_on(before, primary, tokens)
     }
 
+    /// What goes on from an operand of `and` with operators that bind as `or` or more tightly.
+    #[inline(never)]
+    fn after_either(&self, a: Expr, tokens: &mut Cursor<'_>) -> Result<Expr, Fault>
+        requires { Nests self.now.room (F.pre self.now.inside) (F.post self.now.inside) }
+        ensures { Reads (spec.levels_from 4 (spec.e5 self.now.room (nested self.now.room)) 2 a tokens.old) result tokens.new }
+    {
+        let a = chain_from(4, &ComparedRule { grammar: self }, a, tokens)?;
+        let both = Chain {
+            level: 4,
+            item: ComparedRule { grammar: self },
+        };
+        chain_from(3, &both, a, tokens)
+    }
+
     /// What goes on from an operand of `and`.
     #[inline(never)]
     #[tactic(auto, unfolding(setl_parse_reading::specs::code::ReadExpressions::after))]
@@ -475,29 +515,16 @@ impl<F: Fn(&mut Cursor<'_>, usize, Part) -> Result<Expr, Fault>> Grammar<F> {
         requires { Nests self.now.room (F.pre self.now.inside) (F.post self.now.inside) }
         ensures { Reads (spec.after self.now.room (nested self.now.room) a tokens.old) result tokens.new }
     {
-        let a = chain_from(4, &ComparedRule { grammar: self }, a, tokens)?;
-        let a = chain_from(
-            3,
-            &Chain {
-                level: 4,
-                item: ComparedRule { grammar: self },
-            },
-            a,
-            tokens,
-        )?;
+        let a = self.after_either(a, tokens)?;
         let both = Chain {
             level: 4,
             item: ComparedRule { grammar: self },
         };
-        chain_from(
-            2,
-            &Chain {
-                level: 3,
-                item: both,
-            },
-            a,
-            tokens,
-        )
+        let one = Chain {
+            level: 3,
+            item: both,
+        };
+        chain_from(2, &one, a, tokens)
     }
 
     /// `exists iterators | condition` and the like.

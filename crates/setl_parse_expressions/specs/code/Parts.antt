@@ -30,17 +30,13 @@ bound_in room source = do b ← bound room; expect k.In; s ← source; pure (b, 
 abbrev pub selection : ℕ → Inside → Expr → Reader Expr
 selection room deep p = do ss ← selectors room deep; pure (selected p ss)
 
--- what goes on from an operand of `**`
-abbrev pub after_operand : ℕ → Inside → Expr → Reader Expr
-after_operand room deep a = levels_from 10 (e11 room deep) 4 a
-
 -- an operand from its primary expression on
 abbrev pub operand_from : ℕ → Inside → List Prefix → Expr → Reader Expr
 operand_from room deep ps p = do x ← selection room deep p; pure (prefixed ps x)
 
 -- what comparisons compare, from its primary expression on
 abbrev pub sum_from : ℕ → Inside → List Prefix → Expr → Reader Expr
-sum_from room deep ps p = do x ← operand_from room deep ps p; after_operand room deep x
+sum_from room deep ps p = do x ← operand_from room deep ps p; levels_from 10 (e11 room deep) 4 x
 
 -- the words `not` and the prefixes before a primary expression
 abbrev pub before_primary : Reader Before
