@@ -48,6 +48,7 @@ impl<'r, R: Rule<Out = Expr>> Repeated for Operand<'r, R> {
 }
 
 /// What goes on from the first operand of a level.
+#[inline(never)]
 #[tactic(auto, unfolding(setl_parse_reading::specs::code::ReadExpressions::operands))]
 pub fn chain_from<R: Rule<Out = Expr>>(
     level: u8,

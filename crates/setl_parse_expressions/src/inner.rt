@@ -144,6 +144,7 @@ impl<F: Fn(&mut Cursor<'_>, usize, Part) -> Result<Expr, Fault>> Grammar<F> {
     }
 
     /// What stands behind the first expression.
+    #[inline(never)]
     #[tactic(auto, unfolding(setl_parse_reading::specs::code::ReadExpressions::rest_of_inner))]
     fn rest_of_inner(&self, a: Expr, tokens: &mut Cursor<'_>) -> Result<Inner, Fault>
         requires { Nests self.now.room (F.pre self.now.inside) (F.post self.now.inside) }
@@ -170,6 +171,7 @@ impl<F: Fn(&mut Cursor<'_>, usize, Part) -> Result<Expr, Fault>> Grammar<F> {
     }
 
     /// A filter behind `bound in source`.
+    #[inline(never)]
     #[tactic(auto, unfolding(setl_parse_reading::specs::code::ReadExpressions::filter, setl_parse_reading::specs::code::ReadExpressions::condition))]
     fn filter(
         &self,
@@ -185,6 +187,7 @@ impl<F: Fn(&mut Cursor<'_>, usize, Part) -> Result<Expr, Fault>> Grammar<F> {
     }
 
     /// What stands behind `bound in source`, which may be the left side of an expression.
+    #[inline(never)]
     #[tactic(auto, unfolding(setl_parse_reading::specs::code::ReadExpressions::filter_or_plain))]
     fn filter_or_plain(
         &self,
@@ -214,6 +217,7 @@ impl<F: Fn(&mut Cursor<'_>, usize, Part) -> Result<Expr, Fault>> Grammar<F> {
     }
 
     /// `bound in source`, and what goes on from them, where the bound may be an expression.
+    #[inline(never)]
     #[tactic(auto, unfolding(setl_parse_reading::specs::code::ReadExpressions::bound_first))]
     fn either(&self, tokens: &mut Cursor<'_>) -> Result<Inner, Fault>
         requires { Nests self.now.room (F.pre self.now.inside) (F.post self.now.inside) }
@@ -224,6 +228,7 @@ impl<F: Fn(&mut Cursor<'_>, usize, Part) -> Result<Expr, Fault>> Grammar<F> {
     }
 
     /// A filter whose bound is no expression.
+    #[inline(never)]
     #[tactic(auto, unfolding(setl_parse_reading::specs::code::ReadExpressions::bound_first))]
     fn pattern_filter(&self, tokens: &mut Cursor<'_>) -> Result<Inner, Fault>
         requires { Nests self.now.room (F.pre self.now.inside) (F.post self.now.inside) }

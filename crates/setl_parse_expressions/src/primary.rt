@@ -19,7 +19,7 @@ use setl_parse_cursor::{
     with_many,
 };
 use setl_parse_reading::Fault;
-use setl_tree::{Boxed, Expr, Items, Kind, Selector};
+use setl_tree::{Boxed, Expr, Items, Kind, Prefix, Selector};
 
 /// A selector.
 #[derive(Drop)]
@@ -59,6 +59,15 @@ impl<'g, F: Fn(&mut Cursor<'_>, usize, Part) -> Result<Expr, Fault>> Repeated
     }
 }
 
+/// The prefixes of an operand.
+#[inline(never)]
+#[tactic(auto, unfolding(setl_parse_reading::specs::code::ReadExpressions::prefixes))]
+fn read_prefixes(tokens: &mut Cursor<'_>) -> Result<Items<Prefix>, Fault>
+    ensures { Reads (spec.prefixes tokens.old) result tokens.new }
+{
+    many(&PrefixRule, tokens)
+}
+
 /// An operand with its prefixes.
 #[derive(Drop)]
 struct PrefixedRule<'g, F> {
@@ -76,12 +85,19 @@ impl<'g, F: Fn(&mut Cursor<'_>, usize, Part) -> Result<Expr, Fault>> Rule for Pr
 
     ghost reader = { λ s. e11 s.grammar.now.room (nested s.grammar.now.room) };
 
-    #[tactic(auto, unfolding(setl_parse_reading::specs::code::ReadExpressions::e11, setl_parse_reading::specs::code::ReadExpressions::prefixes))]
+    #[tactic(auto, unfolding(setl_parse_reading::specs::code::ReadExpressions::e11, setl_parse_reading::specs::code::ReadExpressions::e12))]
     fn read(&self, tokens: &mut Cursor<'_>) -> Result<Expr, Fault> {
-        let prefixes = many(&PrefixRule, tokens)?;
-        let operand = self.grammar.e12(tokens)?;
-        prefixed(tokens.alloc(), prefixes, operand)
+        let prefixes = read_prefixes(tokens)?;
+        let primary = self.grammar.primary(tokens)?;
+        self.grammar.operand_from(prefixes, primary, tokens)
     }
+}
+
+/// What stands before a primary expression.
+#[derive(Drop)]
+pub struct Before {
+    pub nots: Items<Prefix>,
+    pub prefixes: Items<Prefix>,
 }
 
 /// A comparison with its prefixes `not`.
@@ -285,23 +301,96 @@ impl<F: Fn(&mut Cursor<'_>, usize, Part) -> Result<Expr, Fault>> Grammar<F> {
         }
     }
 
-    /// A primary expression with its selectors.
-    #[tactic(auto, unfolding(setl_parse_reading::specs::code::ReadExpressions::e12, setl_parse_reading::specs::code::ReadExpressions::selectors))]
-    fn e12(&self, tokens: &mut Cursor<'_>) -> Result<Expr, Fault>
+    /// A primary expression, from which the selectors behind it select.
+    #[tactic(auto, unfolding(setl_parse_reading::specs::code::ReadExpressions::selectors))]
+    fn selection(&self, primary: Expr, tokens: &mut Cursor<'_>) -> Result<Expr, Fault>
         requires { Nests self.now.room (F.pre self.now.inside) (F.post self.now.inside) }
-        ensures { Reads (spec.e12 self.now.room (nested self.now.room) tokens.old) result tokens.new }
+        ensures { Reads (parts.selection self.now.room (nested self.now.room) primary tokens.old) result tokens.new }
     {
-        let primary = self.primary(tokens)?;
         let (primary, selectors) = with_many(primary, &SelectorRule { grammar: self }, tokens)?;
         selected(tokens.alloc(), primary, selectors)
     }
 
+    /// An operand from its primary expression on.
+    #[inline(never)]
+    fn operand_from(
+        &self,
+        prefixes: Items<Prefix>,
+        primary: Expr,
+        tokens: &mut Cursor<'_>,
+    ) -> Result<Expr, Fault>
+        requires { Nests self.now.room (F.pre self.now.inside) (F.post self.now.inside) }
+        ensures { Reads (parts.operand_from self.now.room (nested self.now.room) prefixes primary tokens.old) result tokens.new }
+    {
+        let operand = self.selection(primary, tokens)?;
+        prefixed(tokens.alloc(), prefixes, operand)
+    }
+
     /// What comparisons compare.
-    #[tactic(auto, unfolding(setl_parse_reading::specs::code::ReadExpressions::e7))]
+    #[tactic(auto, unfolding(setl_parse_reading::specs::code::ReadExpressions::e7, setl_parse_reading::specs::code::ReadExpressions::e11, setl_parse_reading::specs::code::ReadExpressions::e12))]
     pub fn e7(&self, tokens: &mut Cursor<'_>) -> Result<Expr, Fault>
         requires { Nests self.now.room (F.pre self.now.inside) (F.post self.now.inside) }
         ensures { Reads (spec.e7 self.now.room (nested self.now.room) tokens.old) result tokens.new }
     {
+        let prefixes = read_prefixes(tokens)?;
+        let primary = self.primary(tokens)?;
+        self.sum_from(prefixes, primary, tokens)
+    }
+
+    /// What comparisons compare, from the primary expression on.
+    #[inline(never)]
+    fn sum_from(
+        &self,
+        prefixes: Items<Prefix>,
+        primary: Expr,
+        tokens: &mut Cursor<'_>,
+    ) -> Result<Expr, Fault>
+        requires { Nests self.now.room (F.pre self.now.inside) (F.post self.now.inside) }
+        ensures { Reads (parts.sum_from self.now.room (nested self.now.room) prefixes primary tokens.old) result tokens.new }
+    {
+        let a = self.operand_from(prefixes, primary, tokens)?;
+        self.after_operand(a, tokens)
+    }
+
+    /// What goes on from an operand of `**` with operators that bind as `*` or more tightly.
+    #[inline(never)]
+    fn after_product(&self, a: Expr, tokens: &mut Cursor<'_>) -> Result<Expr, Fault>
+        requires { Nests self.now.room (F.pre self.now.inside) (F.post self.now.inside) }
+        ensures { Reads (spec.levels_from 10 (spec.e11 self.now.room (nested self.now.room)) 2 a tokens.old) result tokens.new }
+    {
+        let a = chain_from(10, &PrefixedRule { grammar: self }, a, tokens)?;
+        let power = Chain {
+            level: 10,
+            item: PrefixedRule { grammar: self },
+        };
+        chain_from(9, &power, a, tokens)
+    }
+
+    /// What goes on from an operand of `**` with operators that bind as `+` or more tightly.
+    #[inline(never)]
+    fn after_sum(&self, a: Expr, tokens: &mut Cursor<'_>) -> Result<Expr, Fault>
+        requires { Nests self.now.room (F.pre self.now.inside) (F.post self.now.inside) }
+        ensures { Reads (spec.levels_from 10 (spec.e11 self.now.room (nested self.now.room)) 3 a tokens.old) result tokens.new }
+    {
+        let a = self.after_product(a, tokens)?;
+        let power = Chain {
+            level: 10,
+            item: PrefixedRule { grammar: self },
+        };
+        let product = Chain {
+            level: 9,
+            item: power,
+        };
+        chain_from(8, &product, a, tokens)
+    }
+
+    /// What goes on from an operand of `**`.
+    #[inline(never)]
+    fn after_operand(&self, a: Expr, tokens: &mut Cursor<'_>) -> Result<Expr, Fault>
+        requires { Nests self.now.room (F.pre self.now.inside) (F.post self.now.inside) }
+        ensures { Reads (spec.levels_from 10 (spec.e11 self.now.room (nested self.now.room)) 4 a tokens.old) result tokens.new }
+    {
+        let a = self.after_sum(a, tokens)?;
         let power = Chain {
             level: 10,
             item: PrefixedRule { grammar: self },
@@ -314,11 +403,7 @@ impl<F: Fn(&mut Cursor<'_>, usize, Part) -> Result<Expr, Fault>> Grammar<F> {
             level: 8,
             item: product,
         };
-        Chain {
-            level: 7,
-            item: sum,
-        }
-        .read(tokens)
+        chain_from(7, &sum, a, tokens)
     }
 
     /// The left side of a comparison, and its right side in a box.
@@ -335,6 +420,7 @@ impl<F: Fn(&mut Cursor<'_>, usize, Part) -> Result<Expr, Fault>> Grammar<F> {
     }
 
     /// What goes on from the left side of a comparison.
+    #[inline(never)]
     #[tactic(auto, unfolding(setl_parse_reading::specs::code::ReadExpressions::compared, setl_parse_reading::specs::code::Reading::one_of))]
     fn compared(&self, a: Expr, tokens: &mut Cursor<'_>) -> Result<Expr, Fault>
         requires { Nests self.now.room (F.pre self.now.inside) (F.post self.now.inside) }
@@ -358,12 +444,78 @@ impl<F: Fn(&mut Cursor<'_>, usize, Part) -> Result<Expr, Fault>> Grammar<F> {
         self.compared(a, tokens)
     }
 
-    /// An expression that is no quantifier.
-    #[tactic(auto, unfolding(setl_parse_reading::specs::code::ReadExpressions::e2))]
+    /// The words `not` and the prefixes before a primary expression.
+    #[inline(never)]
+    #[tactic(auto, unfolding(setl_parse_reading::specs::code::ReadExpressions::nots))]
+    fn before_primary(&self, tokens: &mut Cursor<'_>) -> Result<Before, Fault>
+        ensures { Reads (parts.before_primary tokens.old) result tokens.new }
+    {
+        let nots = many(&NotRule, tokens)?;
+        let prefixes = read_prefixes(tokens)?;
+        Ok(Before { nots, prefixes })
+    }
+
+    /// A comparison from its primary expression on.
+    #[inline(never)]
+    fn after_primary(
+        &self,
+        before: Before,
+        primary: Expr,
+        tokens: &mut Cursor<'_>,
+    ) -> Result<Expr, Fault>
+        requires { Nests self.now.room (F.pre self.now.inside) (F.post self.now.inside) }
+        ensures { Reads (parts.comparison_from self.now.room (nested self.now.room) before primary tokens.old) result tokens.new }
+    {
+        let Before { nots, prefixes } = before;
+        let a = self.sum_from(prefixes, primary, tokens)?;
+        let a = self.compared(a, tokens)?;
+        prefixed(tokens.alloc(), nots, a)
+    }
+
+    /// What goes on from a primary expression.
+    #[inline(never)]
+    fn go_on(&self, before: Before, primary: Expr, tokens: &mut Cursor<'_>) -> Result<Expr, Fault>
+        requires { Nests self.now.room (F.pre self.now.inside) (F.post self.now.inside) }
+        ensures { Reads (parts.go_on self.now.room (nested self.now.room) before primary tokens.old) result tokens.new }
+    {
+        let a = self.after_primary(before, primary, tokens)?;
+        self.after_comparison(a, tokens)
+    }
+
+    /// An expression that is no quantifier. While its primary expression is read, nothing else is kept than what stands
+    /// before it.
+    #[tactic(auto, unfolding(setl_parse_reading::specs::code::ReadExpressions::e2, setl_parse_reading::specs::code::ReadExpressions::e5, setl_parse_reading::specs::code::ReadExpressions::e6, setl_parse_reading::specs::code::ReadExpressions::e7, setl_parse_reading::specs::code::ReadExpressions::e11, setl_parse_reading::specs::code::ReadExpressions::e12, setl_parse_reading::specs::code::ReadExpressions::after))]
     fn e2(&self, tokens: &mut Cursor<'_>) -> Result<Expr, Fault>
         requires { Nests self.now.room (F.pre self.now.inside) (F.post self.now.inside) }
         ensures { Reads (spec.e2 self.now.room (nested self.now.room) tokens.old) result tokens.new }
     {
+        let before = self.before_primary(tokens)?;
+        let primary = self.primary(tokens)?;
+        self.go_on(before, primary, tokens)
+    }
+
+    /// What goes on from an operand of `and` with operators that bind as `or` or more tightly.
+    #[inline(never)]
+    fn after_either(&self, a: Expr, tokens: &mut Cursor<'_>) -> Result<Expr, Fault>
+        requires { Nests self.now.room (F.pre self.now.inside) (F.post self.now.inside) }
+        ensures { Reads (spec.levels_from 4 (spec.e5 self.now.room (nested self.now.room)) 2 a tokens.old) result tokens.new }
+    {
+        let a = chain_from(4, &ComparedRule { grammar: self }, a, tokens)?;
+        let both = Chain {
+            level: 4,
+            item: ComparedRule { grammar: self },
+        };
+        chain_from(3, &both, a, tokens)
+    }
+
+    /// What goes on from an operand of `and`.
+    #[inline(never)]
+    #[tactic(auto, unfolding(setl_parse_reading::specs::code::ReadExpressions::after))]
+    pub fn after_comparison(&self, a: Expr, tokens: &mut Cursor<'_>) -> Result<Expr, Fault>
+        requires { Nests self.now.room (F.pre self.now.inside) (F.post self.now.inside) }
+        ensures { Reads (spec.after self.now.room (nested self.now.room) a tokens.old) result tokens.new }
+    {
+        let a = self.after_either(a, tokens)?;
         let both = Chain {
             level: 4,
             item: ComparedRule { grammar: self },
@@ -372,45 +524,11 @@ impl<F: Fn(&mut Cursor<'_>, usize, Part) -> Result<Expr, Fault>> Grammar<F> {
             level: 3,
             item: both,
         };
-        Chain {
-            level: 2,
-            item: one,
-        }
-        .read(tokens)
-    }
-
-    /// What goes on from an operand of `and`.
-    #[tactic(auto, unfolding(setl_parse_reading::specs::code::ReadExpressions::after))]
-    pub fn after_comparison(&self, a: Expr, tokens: &mut Cursor<'_>) -> Result<Expr, Fault>
-        requires { Nests self.now.room (F.pre self.now.inside) (F.post self.now.inside) }
-        ensures { Reads (spec.after self.now.room (nested self.now.room) a tokens.old) result tokens.new }
-    {
-        let a = chain_from(4, &ComparedRule { grammar: self }, a, tokens)?;
-        let a = chain_from(
-            3,
-            &Chain {
-                level: 4,
-                item: ComparedRule { grammar: self },
-            },
-            a,
-            tokens,
-        )?;
-        let both = Chain {
-            level: 4,
-            item: ComparedRule { grammar: self },
-        };
-        chain_from(
-            2,
-            &Chain {
-                level: 3,
-                item: both,
-            },
-            a,
-            tokens,
-        )
+        chain_from(2, &one, a, tokens)
     }
 
     /// `exists iterators | condition` and the like.
+    #[inline(never)]
     #[tactic(auto, unfolding(setl_parse_reading::specs::code::ReadExpressions::quantified, setl_parse_reading::specs::code::Reading::opening_one_of))]
     fn quantified(&self, tokens: &mut Cursor<'_>) -> Result<Expr, Fault>
         requires { Nests self.now.room (F.pre self.now.inside) (F.post self.now.inside) }
