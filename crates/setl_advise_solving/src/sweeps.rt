@@ -4,18 +4,20 @@ ghost use Rattle.std.specs.Prelude.{◌≡◌, ◌<◌, true, false, IfOk, OnOk}
 ghost use Rattle.setl_program.specs.Formed.{Formed};
 ghost use Rattle.setl_program.specs.code.Plain.{plain_program};
 ghost use Rattle.setl_advise_flows.specs.Flow as plain;
-ghost use Rattle.setl_advise_flows.specs.Expressions.{Solves};
+ghost use Rattle.setl_advise_flows.specs.Expressions.{Flows, Solves};
 ghost use Rattle.setl_advise_conditions.specs.Conditions.{Meets, MeetsAll, target_flow, term_flow};
 ghost use Rattle.setl_advise_conditions.specs.Grown.{Grown, raised_by};
 ghost use Rattle.setl_advise_conditions.specs.Parts.{conditions_of};
 ghost use Rattle.setl_advise_conditions.specs.Rank.{rank, room};
 ghost use Rattle.setl_advise_gathering.specs.code.Plain.{listed, plain_condition};
 ghost use Rattle.setl_advise_terms.specs.code.Plain.{flows_of};
+ghost use Rattle.setl_advise_order.specs.Order.{AreBelow, AreWithin};
 ghost use Rattle.setl_advise_solving.specs.Advised.{NeverUnfit};
 
-use setl_advise_conditions::conditions_are_enough;
+use setl_advise_conditions::{conditions_are_enough, conditions_are_needed};
 use setl_advise_flows::values_stay_in_their_flows;
 use setl_advise_gathering::{Condition, gathered};
+use setl_advise_order::grown_flows_are_least;
 use setl_advise_terms::{Memory, Table, term};
 use setl_program::Program;
 use std::alloc::Global;
@@ -68,14 +70,17 @@ pub fn settled<'p>(alloc: Global, conditions: &[Condition<'p>]) -> Result<Table<
 }
 
 /// The flows of a program: they meet all that a formed program asks, and so no run of it with the modes that are advised for
-/// them ends for a value that doesn't fit. They have no more than what the program's conditions store in turn. An error is
-/// want of memory.
+/// them ends for a value that doesn't fit. They are the least of all such flows of at most three constructors inside one
+/// another, since they have no more than what the program's conditions store in turn. An error is want of memory.
 pub fn solved<'p>(alloc: Global, p: &'p Program) -> Result<Table<'p>, Memory>
     ensures solves { IfOk result (λ t. Formed (plain_program p.now) → Solves (plain_program p.now) (flows_of t)) }
     ensures fits { IfOk result (λ t. Formed (plain_program p.now) → NeverUnfit (plain_program p.now) (flows_of t)) }
+    ensures least { IfOk result (λ t. (u : Flows) → AreWithin u → Solves (plain_program p.now) u → AreBelow (flows_of t) u) }
     ensures grown { IfOk result (λ t. Grown (conditions_of (plain_program p.now)) (flows_of t)) }
 {
     conditions_are_enough();
+    conditions_are_needed();
+    grown_flows_are_least();
     values_stay_in_their_flows();
     let conditions = gathered(alloc, p)?;
     settled(alloc, conditions.as_slice())
