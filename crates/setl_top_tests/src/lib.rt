@@ -30,6 +30,8 @@ mod searches;
 #[cfg(test)]
 mod stops;
 #[cfg(test)]
+mod swept;
+#[cfg(test)]
 mod trials;
 #[cfg(test)]
 mod watchers;
