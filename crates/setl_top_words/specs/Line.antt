@@ -34,8 +34,12 @@ stop_rule = record (new_rule (codes "stop")) { long = Some (codes "stop"); value
 abbrev pub explained_rule : Rule
 explained_rule = record (new_rule (codes "file")) { value_names = 1 }
 
+-- without a word it tells its help
+abbrev pub told_app : App
+told_app = let a = new_app (codes "explain") in record a { top = record a.top { arg_required_else_help = true } }
+
 abbrev pub explain_app : App
-explain_app = with_rule (with_rule (new_app (codes "explain")) stop_rule) explained_rule
+explain_app = with_rule (with_rule told_app stop_rule) explained_rule
 
 abbrev pub trial_app : App
 trial_app = with_rule (with_rule (new_app (codes "trial")) seed_rule) nodes_rule

@@ -1,7 +1,7 @@
 //! The command line as `clap` is told of it.
 ghost use Rattle.std.specs.Prelude.{◌≡◌, false, IfOk};
 ghost use Rattle.clap.specs.Words.{App, Rule, app_of, rule_of, with_rule, with_subcommand};
-ghost use Rattle.setl_top_words.specs.Line.{unbased_rule, turns_rule, watch_rule, file_rule, seed_rule, nodes_rule, stop_rule, explained_rule, run_app, file_app, explain_app, trial_app, empty_app, setl_app};
+ghost use Rattle.setl_top_words.specs.Line.{unbased_rule, turns_rule, watch_rule, file_rule, seed_rule, nodes_rule, stop_rule, explained_rule, run_app, file_app, told_app, explain_app, trial_app, empty_app, setl_app};
 ghost use Rattle.setl_top_words.specs.code.Builds.{Builds};
 
 use clap::{Arg, ArgAction, Command, value_parser};
@@ -141,14 +141,21 @@ fn with_file<'a>(alloc: Global, name: &'a str, about: &'a str) -> Result<Command
     with_arg(Ok(command), file(alloc))
 }
 
-/// The command `explain`.
-fn explain<'a>(alloc: Global) -> Result<Command<'a>, AllocError>
-    ensures { Builds explain_app result }
+/// The command `explain` before its words, which tells its help where none stands behind it.
+fn told<'a>(alloc: Global) -> Result<Command<'a>, AllocError>
+    ensures { Builds told_app result }
 {
     let command = Command::new(alloc, "explain").about(
         "Explain why a source is refused, or what a stop means",
     );
-    let command = with_arg(Ok(command), stop(alloc));
+    Ok(command.arg_required_else_help(true))
+}
+
+/// The command `explain`.
+fn explain<'a>(alloc: Global) -> Result<Command<'a>, AllocError>
+    ensures { Builds explain_app result }
+{
+    let command = with_arg(told(alloc), stop(alloc));
     with_arg(command, explained(alloc))
 }
 
