@@ -54,13 +54,13 @@ has_append z (d ∷ xs) ys = ap (λ t. is_eq (datum_cmp z d) || t) (has_append z
     by true b c = refl
     by false b c = refl
 
-of_both : (z : Datum) (xs ys : List Datum) → has_datum z (xs ++ ys) ≡ true → (has_datum z xs ≡ true) ⊎ (has_datum z ys ≡ true)
+pub of_both : (z : Datum) (xs ys : List Datum) → has_datum z (xs ++ ys) ≡ true → (has_datum z xs ≡ true) ⊎ (has_datum z ys ≡ true)
 of_both z xs ys h = or_cases (has_datum z xs) (has_datum z ys) (sym (has_append z xs ys) ∙ h)
 
-in_first : (z : Datum) (xs ys : List Datum) → has_datum z xs ≡ true → has_datum z (xs ++ ys) ≡ true
+pub in_first : (z : Datum) (xs ys : List Datum) → has_datum z xs ≡ true → has_datum z (xs ++ ys) ≡ true
 in_first z xs ys h = has_append z xs ys ∙ or_left (has_datum z xs) (has_datum z ys) h
 
-in_second : (z : Datum) (xs ys : List Datum) → has_datum z ys ≡ true → has_datum z (xs ++ ys) ≡ true
+pub in_second : (z : Datum) (xs ys : List Datum) → has_datum z ys ≡ true → has_datum z (xs ++ ys) ≡ true
 in_second z xs ys h = has_append z xs ys ∙ or_right (has_datum z xs) (has_datum z ys) h
 
 -- what each member of a list gives, with one member more, and of some members
@@ -151,10 +151,10 @@ pub is_single : (name : ℕ → BaseId) (o : Option (Layout × ℕ)) (P : Form �
 is_single name None P k b many es h = absurd h
 is_single name (Some p) P k b many es h = h.2
 
-pub other_table : (name : ℕ → BaseId) (o : Option (Layout × ℕ)) (P : Form → Type 0) (k l : Layout) (b e : BaseId) (many some : Bool) (es fs : Entries) → l ≡ k → e ≡ b → some ≡ many → (HaveForms P es → HaveForms P fs)
-    → IsMapForm name o false P (table k b many es) → IsMapForm name o false P (table l e some fs)
-other_table name None P k l b e many some es fs lk eb sm go h = absurd h
-other_table name (Some p) P k l b e many some es fs lk eb sm go h = (lk ∙ h.0, eb ∙ h.1, sm ∙ h.2, go h.3)
+pub other_table : (name : ℕ → BaseId) (o : Option (Layout × ℕ)) (sets : Bool) (P : Form → Type 0) (k l : Layout) (b e : BaseId) (many some : Bool) (es fs : Entries) → l ≡ k → e ≡ b → some ≡ many → (HaveForms P es → HaveForms P fs)
+    → IsMapForm name o sets P (table k b many es) → IsMapForm name o sets P (table l e some fs)
+other_table name None sets P k l b e many some es fs lk eb sm go h = absurd h
+other_table name (Some p) sets P k l b e many some es fs lk eb sm go h = (lk ∙ h.0, eb ∙ h.1, sm ∙ h.2, go h.3)
 
 -- the points of a table are elements of its base
 abbrev HasPointsOn : (name : ℕ → BaseId) → Mode → BaseId → Type 0
@@ -302,7 +302,7 @@ module _ (gathers : Gathers) (puts_fit : PutsFit) (forms_stay : FormsStay) (put_
 
     form_then : HasFormOrOm (named cs n) map_mode (table l e some fs)
     form_then =
-        other_table (named cs n) (place_of a d) (HasForm (named cs n) r) k l b e many some es fs p.put.0 p.put.1 p.put.2
+        other_table (named cs n) (place_of a d) false (HasForm (named cs n) r) k l b e many some es fs p.put.0 p.put.1 p.put.2
         (form_put (HasForm (named cs n) r) p.number (Some p.content) es fs p.keyed_then (λ c w. let same : p.content ≡ c = cc in subst (HasForm (named cs n) r) same p.form) p.put.3) then_in_form.form
 
     tables_update : IsUpdate map_mode n (op_of Put (stands bs (table k b many es) ∷ Some x ∷ Some y ∷ [])) bs cs (table k b many es) (table l e some fs) (Ok true)
