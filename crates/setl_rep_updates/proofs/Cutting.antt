@@ -2,9 +2,9 @@
 use Rattle.std.proofs.Common.{◌≡◌, ◌∙◌, ℕ, ◌≤◌, Bool, true, false, not, inl, inr, cond, List, [], ◌∷◌, ◌++◌, Option, None, Some, Ok, refl, sym, ap, subst, arith}
 use Rattle.std.specs.Bool.{if◌then◌else◌}
 use Rattle.std.specs.List.{Contains, filter, filter_map, flat_map, list_all, cons_option}
-use Rattle.std.specs.Option.{is_some, option_map}
+use Rattle.std.specs.Option.{option_map}
 use Rattle.std.specs.Ordering.{is_eq}
-use Rattle.std.proofs.lemmas.Bool.{false≢true, and_parts, and_from}
+use Rattle.std.proofs.lemmas.Bool.{false≢true}
 use Rattle.std.proofs.lemmas.List.Kept.{IsStrictlySortedBy-filter}
 use Rattle.setl_value.specs.Datum.{Datum, bool, depth, set_of, elements_of, element_list-elements_of}
 use Rattle.setl_value.specs.WellFormed.{ElementsAreWellFormed, IsValue}
@@ -41,7 +41,7 @@ use Rattle.setl_rep_updates.specs.Updates.{IsUpdate}
 use Rattle.setl_rep_updates.specs.code.Imaged.{IsPointCut}
 use Rattle.setl_rep_updates.proofs.Including.{value_of_set}
 use Rattle.setl_rep_updates.proofs.Contents.{form_put}
-use Rattle.setl_rep_updates.proofs.Imaging.{at, other, of_both, in_first, in_second, of_kept, depth_kept, formed_kept, other_table}
+use Rattle.setl_rep_updates.proofs.Imaging.{at, all_pairs, other, of_both, in_first, in_second, of_kept, depth_kept, formed_kept, other_table}
 
 -- ---- a value without places lengthens no base
 
@@ -112,14 +112,6 @@ others_stay x z (d ∷ f) h = by (is_datum x (first_of (pair_parts d))) refl (ot
     by false e r = same_front z d (without_point x f) f r
 
 -- ---- modes of maps
-
-all_pairs : (g : Option (Datum × Datum) → Bool) → g None ≡ false → (ds : List Datum) → list_all (λ d. g (pair_parts d)) ds ≡ true → is_map ds ≡ true
-all_pairs g none [] h = refl
-all_pairs g none (d ∷ ds) h = let t = and_parts (g (pair_parts d)) (list_all (λ e. g (pair_parts e)) ds) h in and_from (is_some (pair_parts d)) (is_map ds) (by (pair_parts d) t.0) (all_pairs g none ds t.1)
-  where
-    by : (o : Option (Datum × Datum)) → g o ≡ true → is_some o ≡ true
-    by None e = absurd (false≢true (sym none ∙ e))
-    by (Some o) e = refl
 
 -- the places of the pairs that are kept, with all images of a point
 at_kept : (x : Datum) (first images : Datum → List Datum) (f : List Datum) (o : Option (Datum × Datum)) → not (is_datum x (first_of o)) ≡ true → at_point first images (without_point x f) o ≡ at_point first images f o
