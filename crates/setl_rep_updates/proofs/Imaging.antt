@@ -54,13 +54,13 @@ has_append z (d ∷ xs) ys = ap (λ t. is_eq (datum_cmp z d) || t) (has_append z
     by true b c = refl
     by false b c = refl
 
-of_both : (z : Datum) (xs ys : List Datum) → has_datum z (xs ++ ys) ≡ true → (has_datum z xs ≡ true) ⊎ (has_datum z ys ≡ true)
+pub of_both : (z : Datum) (xs ys : List Datum) → has_datum z (xs ++ ys) ≡ true → (has_datum z xs ≡ true) ⊎ (has_datum z ys ≡ true)
 of_both z xs ys h = or_cases (has_datum z xs) (has_datum z ys) (sym (has_append z xs ys) ∙ h)
 
-in_first : (z : Datum) (xs ys : List Datum) → has_datum z xs ≡ true → has_datum z (xs ++ ys) ≡ true
+pub in_first : (z : Datum) (xs ys : List Datum) → has_datum z xs ≡ true → has_datum z (xs ++ ys) ≡ true
 in_first z xs ys h = has_append z xs ys ∙ or_left (has_datum z xs) (has_datum z ys) h
 
-in_second : (z : Datum) (xs ys : List Datum) → has_datum z ys ≡ true → has_datum z (xs ++ ys) ≡ true
+pub in_second : (z : Datum) (xs ys : List Datum) → has_datum z ys ≡ true → has_datum z (xs ++ ys) ≡ true
 in_second z xs ys h = has_append z xs ys ∙ or_right (has_datum z xs) (has_datum z ys) h
 
 -- what each member of a list gives, with one member more, and of some members
@@ -135,26 +135,25 @@ one_image x y = ap (λ t. length (filter_map (λ d. second_of (pair_parts d)) (i
 pub pair_fits : (m : Mode) (a : Attribute) (d r : Mode) (x y : Datum) → m ≡ SingleMaps a d r → datum_fits d x ≡ true → datum_fits r y ≡ true → datum_fits m (set_of (pair x y ∷ [])) ≡ true
 pair_fits m a d r x y e fx fy = ap (λ z. datum_fits z (set_of (pair x y ∷ []))) e ∙ (λ i. (fx i && one_image x y i == 1 && fy i) && true)
 
-some_fits : (p q : Datum → Bool) (f : List Datum) (o : Option (Datum × Datum)) → single_fits p q f o ≡ true → is_some o ≡ true
-some_fits p q f None h = h
-some_fits p q f (Some o) h = refl
-
-pub map_fits : (p q : Datum → Bool) (f ds : List Datum) → list_all (λ d. single_fits p q f (pair_parts d)) ds ≡ true → is_map ds ≡ true
-map_fits p q f [] h = refl
-map_fits p q f (d ∷ ds) h =
-    let t = and_parts (single_fits p q f (pair_parts d)) (list_all (λ d. single_fits p q f (pair_parts d)) ds) h in
-    and_from (is_some (pair_parts d)) (is_map ds) (some_fits p q f (pair_parts d) t.0) (map_fits p q f ds t.1)
+-- a set is a map where a test of pairs holds of each member
+pub all_pairs : (g : Option (Datum × Datum) → Bool) → g None ≡ false → (ds : List Datum) → list_all (λ d. g (pair_parts d)) ds ≡ true → is_map ds ≡ true
+all_pairs g none [] h = refl
+all_pairs g none (d ∷ ds) h = let t = and_parts (g (pair_parts d)) (list_all (λ e. g (pair_parts e)) ds) h in and_from (is_some (pair_parts d)) (is_map ds) (by (pair_parts d) t.0) (all_pairs g none ds t.1)
+  where
+    by : (o : Option (Datum × Datum)) → g o ≡ true → is_some o ≡ true
+    by None e = absurd (false≢true (sym none ∙ e))
+    by (Some o) e = refl
 
 -- ---- the form of a map
 
-pub is_single : (name : ℕ → BaseId) (o : Option (Layout × ℕ)) (P : Form → Type 0) (k : Layout) (b : BaseId) (many : Bool) (es : Entries) → IsMapForm name o false P (table k b many es) → many ≡ false
+is_single : (name : ℕ → BaseId) (o : Option (Layout × ℕ)) (P : Form → Type 0) (k : Layout) (b : BaseId) (many : Bool) (es : Entries) → IsMapForm name o false P (table k b many es) → many ≡ false
 is_single name None P k b many es h = absurd h
 is_single name (Some p) P k b many es h = h.2
 
-pub other_table : (name : ℕ → BaseId) (o : Option (Layout × ℕ)) (P : Form → Type 0) (k l : Layout) (b e : BaseId) (many some : Bool) (es fs : Entries) → l ≡ k → e ≡ b → some ≡ many → (HaveForms P es → HaveForms P fs)
-    → IsMapForm name o false P (table k b many es) → IsMapForm name o false P (table l e some fs)
-other_table name None P k l b e many some es fs lk eb sm go h = absurd h
-other_table name (Some p) P k l b e many some es fs lk eb sm go h = (lk ∙ h.0, eb ∙ h.1, sm ∙ h.2, go h.3)
+pub other_table : (name : ℕ → BaseId) (o : Option (Layout × ℕ)) (sets : Bool) (P : Form → Type 0) (k l : Layout) (b e : BaseId) (many some : Bool) (es fs : Entries) → l ≡ k → e ≡ b → some ≡ many → (HaveForms P es → HaveForms P fs)
+    → IsMapForm name o sets P (table k b many es) → IsMapForm name o sets P (table l e some fs)
+other_table name None sets P k l b e many some es fs lk eb sm go h = absurd h
+other_table name (Some p) sets P k l b e many some es fs lk eb sm go h = (lk ∙ h.0, eb ∙ h.1, sm ∙ h.2, go h.3)
 
 -- the points of a table are elements of its base
 abbrev HasPointsOn : (name : ℕ → BaseId) → Mode → BaseId → Type 0
@@ -263,7 +262,7 @@ module _ (gathers : Gathers) (puts_fit : PutsFit) (forms_stay : FormsStay) (put_
     formed_then = subst (λ ds. ElementsAreWellFormed (elements_of ds)) (sym with_it) (formed_inserted (pair x y) (without_point x old) ((vx.0, (vy.0, tt)), tt) (formed_kept (other x) old old_value.0.0))
 
     is_a_map : is_map old ≡ true
-    is_a_map = map_fits (datum_fits d) (datum_fits r) old old (sym (ap (λ ms. list_all (λ q. single_fits (datum_fits d) (datum_fits r) ms (pair_parts q)) ms) (element_list-elements_of old)) ∙ then_in_form.fits)
+    is_a_map = all_pairs (single_fits (datum_fits d) (datum_fits r) old) refl old (sym (ap (λ ms. list_all (λ q. single_fits (datum_fits d) (datum_fits r) ms (pair_parts q)) ms) (element_list-elements_of old)) ∙ then_in_form.fits)
 
     gives : (left : ℕ) → op_of Put (Some (set_of old) ∷ Some x ∷ Some y ∷ []) left ≡ Gives (Some (set_of new)) 0
     gives left =
@@ -302,7 +301,7 @@ module _ (gathers : Gathers) (puts_fit : PutsFit) (forms_stay : FormsStay) (put_
 
     form_then : HasFormOrOm (named cs n) map_mode (table l e some fs)
     form_then =
-        other_table (named cs n) (place_of a d) (HasForm (named cs n) r) k l b e many some es fs p.put.0 p.put.1 p.put.2
+        other_table (named cs n) (place_of a d) false (HasForm (named cs n) r) k l b e many some es fs p.put.0 p.put.1 p.put.2
         (form_put (HasForm (named cs n) r) p.number (Some p.content) es fs p.keyed_then (λ c w. let same : p.content ≡ c = cc in subst (HasForm (named cs n) r) same p.form) p.put.3) then_in_form.form
 
     tables_update : IsUpdate map_mode n (op_of Put (stands bs (table k b many es) ∷ Some x ∷ Some y ∷ [])) bs cs (table k b many es) (table l e some fs) (Ok true)

@@ -1,11 +1,10 @@
 -- Updates of values in their declared forms.
-use Rattle.std.specs.Prelude.{◌≡◌, ℕ, nat_lt, Bool, true, false, not, ◌&&◌, Option, Some, None, is_some, Result, IfOk, OnErr}
+use Rattle.std.specs.Prelude.{◌≡◌, ℕ, nat_lt, Bool, true, false, ◌&&◌, Some, is_some, Result, IfOk, OnErr}
 use Rattle.setl_value.specs.Datum.{Datum, depth}
 use Rattle.setl_modes.specs.Modes.{Mode, Sets, SingleMaps}
 use Rattle.setl_modes.specs.Fits.{datum_fits}
 use Rattle.setl_operators_table.specs.Outcome.{Outcome, Gives}
 use Rattle.std.specs.declared.alloc.AllocError.{AllocError}
-use Rattle.setl_rep_bases.specs.declared.BaseId.{BaseId}
 use Rattle.setl_rep_bases.specs.Bases.{BasesState}
 use Rattle.setl_rep_forms.specs.Form.{Form}
 use Rattle.setl_rep_forms.specs.Stands.{stands}
@@ -32,14 +31,6 @@ is_part m d = nat_lt (depth d) 499 && datum_fits m d
 abbrev pub puts : Mode → Form → Datum → Datum → Bool
 puts (SingleMaps a d r) f x y = is_some (table_of f) && (is_part d x && is_part r y)
 puts m f x y = false
-
--- whether a point is taken out of a map: where it is held as a table of one image for each point
-abbrev pub is_single : Option (BaseId × Bool) → Bool
-is_single None = false
-is_single (Some t) = not t.1
-
-abbrev pub cuts : Form → Bool
-cuts f = is_single (table_of f)
 
 -- What an update leaves, where an operator is to give this of what the form f stood for, by the turns that are left, and g is
 -- the form that stands there now. True says that it was made: g stands for what the operator gives, without a charge, and the

@@ -1,6 +1,7 @@
 //! A value comes to a point of a map.
 
 ghost use Rattle.std.specs.Prelude.{◌≡◌, Bool, ℕ, true, ◌<◌, IfOk, OnOk, OnErr, Some, None, IsSome, [], ◌∷◌};
+ghost use Rattle.std.specs.Option.{is_some};
 ghost use Rattle.setl_value.specs.Datum.{depth, set_of};
 ghost use Rattle.setl_value.specs.Pairs.{pair};
 ghost use Rattle.setl_value.specs.code.DatumOf.{datum};
@@ -17,7 +18,7 @@ ghost use Rattle.setl_rep_building.specs.Places.{HasBases, PlacesAreFound};
 ghost use Rattle.setl_rep_maps.specs.Contents.{table_of};
 ghost use Rattle.setl_rep_entering.specs.Entering.{AreLengthened};
 ghost use Rattle.setl_rep_updates.specs.InForm.{IsInForm};
-ghost use Rattle.setl_rep_updates.specs.Updates.{cuts, is_part, puts, IsUpdate};
+ghost use Rattle.setl_rep_updates.specs.Updates.{is_part, puts, IsUpdate};
 ghost use Rattle.setl_rep_updates.specs.code.Imaged.{IsImagePut, IsPointCut};
 
 use crate::Memory;
@@ -181,31 +182,30 @@ fn put_image(
     Ok(())
 }
 
-/// `f(x) := om` and `f lessf:= x`, in place: a map with one image for each point that is held as a table loses that at `x`.
+/// `f(x) := om` and `f lessf:= x`, in place: a map that is held as a table loses its images at `x`.
 ///
 /// Ok(false) comes where the map isn't held so. After that, and after want of memory, which is the error, the map is as before.
 /// Nothing is charged, and no base changes. Where nobody else holds the table, the cost is near linear in the size of `x` alone.
 pub fn cut(f: &mut Held, x: &Value, bases: &Bases) -> Result<bool, Memory>
     requires { IsOver bases.now (form f.old) }
-    ensures kernel { IfOk result (λ t. t ≡ cuts (form f.old)) }
+    ensures kernel { IfOk result (λ t. t ≡ is_some (table_of (form f.old))) }
     ensures update { (m : ModeState) (n : ℕ) → IsInForm bases.now n m (form f.old) → IsUpdate m n (op_of Put (stands bases.now (form f.old) ∷ Some (datum x.now) ∷ None ∷ [])) bases.now bases.now (form f.old) (form f.new) result }
     ensures lessf { (m : ModeState) (n : ℕ) → IsInForm bases.now n m (form f.old) → IsUpdate m n (op_of Lessf (stands bases.now (form f.old) ∷ Some (datum x.now) ∷ [])) bases.now bases.now (form f.old) (form f.new) result }
 {
+    setl_set::laws::rising_lists_agree();
     setl_set::laws::operations_have_their_members();
     setl_modes_parts::parts_decide();
     setl_rep_maps::laws::contents_stand_for_images();
     setl_rep_maps::laws::puts_are_images();
     setl_rep_entering::laws::parts_lengthen_alike();
-    match table_of(f) {
-        Some((b, false)) => {
-            cut_point(b, f, x, bases)?;
-            Ok(true)
-        }
-        _ => Ok(false),
-    }
+    let Some((b, _)) = table_of(f) else {
+        return Ok(false);
+    };
+    cut_point(b, f, x, bases)?;
+    Ok(true)
 }
 
-// Takes the image of a point out of a map on the base `b`. After an error, which is want of memory, the map is as before.
+// Takes the images of a point out of a map on the base `b`. After an error, which is want of memory, the map is as before.
 fn cut_point(b: BaseId, f: &mut Held, x: &Value, bases: &Bases) -> Result<(), Memory>
     requires table { (many : Bool) × (table_of (form f.old) ≡ Some (b, many)) }
     requires over { IsOver bases.now (form f.old) }
