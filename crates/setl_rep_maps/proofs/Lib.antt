@@ -1,5 +1,6 @@
 pub mod Members
 pub mod Entries
+pub mod Changes
 pub mod Tabled
 pub mod Puts
 pub mod Domains

@@ -4,10 +4,12 @@
 //! its images where the map keeps these as sets (`many`).
 #![tactic(auto)]
 
+mod changing;
 mod contents;
 pub mod laws;
 mod putting;
 
+pub use changing::change_content;
 pub use contents::{content, image, learn, table_of};
 pub use putting::put_content;
 pub use std::alloc::AllocError as Memory;
