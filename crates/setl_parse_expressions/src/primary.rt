@@ -1,4 +1,7 @@
 //! Selectors, primary expressions and whole expressions.
+//!
+//! Nestings stand in primary expressions. While one that stands in front is read, only what stands before it is kept on the
+//! stack: what goes on from it is read behind it, in functions that aren't inlined.
 
 ghost use Rattle.std.specs.Prelude.{◌≡◌, ◌-◌, [], suc};
 ghost use Rattle.setl_tree.specs.declared.kind.Kind.TheVariants as k;
