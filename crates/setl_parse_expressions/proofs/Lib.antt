@@ -1,2 +1,3 @@
 pub mod Deeper
 pub mod Slots
+pub mod Many

@@ -7,7 +7,7 @@ ghost use Rattle.setl_parse_reading.specs.code.ReadExpressions as spec;
 use crate::made::chain_of;
 use setl_parse_cursor::{Cursor, Repeated, Rule, op_at, with_many};
 use setl_parse_reading::Fault;
-use setl_tree::{BinaryOp, Expr, Kind};
+use setl_tree::{BinaryOp, Boxed, Expr, Kind};
 
 /// An operator of a level and its right operand.
 #[derive(Drop)]
@@ -49,7 +49,7 @@ impl<'r, R: Rule<Out = Expr>> Repeated for Operand<'r, R> {
 
 /// What goes on from the first operand of a level.
 #[inline(never)]
-#[tactic(auto, unfolding(setl_parse_reading::specs::code::ReadExpressions::operands))]
+#[tactic(auto, using(crate::proofs::Many::none_begins), unfolding(setl_parse_reading::specs::code::ReadExpressions::operands))]
 pub fn chain_from<R: Rule<Out = Expr>>(
     level: u8,
     item: &R,
@@ -59,8 +59,13 @@ pub fn chain_from<R: Rule<Out = Expr>>(
     requires { R.can_read item.now }
     ensures { Reads (spec.chain_from level (R.reader item.now) first tokens.old) result tokens.new }
 {
-    let (first, others) = with_many(first, &Operand { level, item }, tokens)?;
-    chain_of(tokens.alloc(), first, others)
+    let operand = Operand { level, item };
+    if !operand.begins(tokens.kind()) {
+        return Ok(first);
+    }
+    let first = Boxed::new(tokens.alloc(), first)?;
+    let (first, others) = with_many(first, &operand, tokens)?;
+    Ok(chain_of(first, others))
 }
 
 /// A level of operators that group to the left.

@@ -28,14 +28,13 @@ pub fn constant(kind: Kind) -> Option<Expr>
 }
 
 /// A chain of operators of one level, or its one operand alone.
-pub fn chain_of(alloc: Global, first: Expr, others: Items<(BinaryOp, Expr)>) -> Result<Expr, Fault>
-    ensures ok { IfOk result (λ e. e ≡ table.chain_of first others) }
-    ensures err { IfErr result (λ e. e ≡ Fault.Memory) }
+pub fn chain_of(first: Boxed<Expr>, others: Items<(BinaryOp, Expr)>) -> Expr
+    ensures { result ≡ table.chain_of first others }
 {
     if others.is_empty() {
-        return Ok(first);
+        return first.into_inner();
     }
-    Ok(Expr::Chain(Boxed::new(alloc, first)?, others))
+    Expr::Chain(first, others)
 }
 
 /// An operand with its prefixes.
@@ -50,14 +49,13 @@ pub fn prefixed(alloc: Global, prefixes: Items<Prefix>, operand: Expr) -> Result
 }
 
 /// A primary expression with its selectors.
-pub fn selected(alloc: Global, primary: Expr, selectors: Items<Selector>) -> Result<Expr, Fault>
-    ensures ok { IfOk result (λ e. e ≡ table.selected primary selectors) }
-    ensures err { IfErr result (λ e. e ≡ Fault.Memory) }
+pub fn selected(primary: Boxed<Expr>, selectors: Items<Selector>) -> Expr
+    ensures { result ≡ table.selected primary selectors }
 {
     if selectors.is_empty() {
-        return Ok(primary);
+        return primary.into_inner();
     }
-    Ok(Expr::Selected(Boxed::new(alloc, primary)?, selectors))
+    Expr::Selected(primary, selectors)
 }
 
 /// `first .. last`

@@ -1,6 +1,9 @@
 //! Selectors, primary expressions and whole expressions.
+//!
+//! Nestings stand in primary expressions. While one that stands in front is read, only what stands before it is kept on the
+//! stack: what goes on from it is read behind it, in functions that aren't inlined.
 
-ghost use Rattle.std.specs.Prelude.{◌≡◌, ◌-◌, suc};
+ghost use Rattle.std.specs.Prelude.{◌≡◌, ◌-◌, [], suc};
 ghost use Rattle.setl_tree.specs.declared.kind.Kind.TheVariants as k;
 ghost use Rattle.setl_parse_reading.specs.code.Reading.{Reads};
 ghost use Rattle.setl_parse_reading.specs.code.ReadExpressions as spec;
@@ -302,13 +305,18 @@ impl<F: Fn(&mut Cursor<'_>, usize, Part) -> Result<Expr, Fault>> Grammar<F> {
     }
 
     /// A primary expression, from which the selectors behind it select.
-    #[tactic(auto, unfolding(setl_parse_reading::specs::code::ReadExpressions::selectors))]
+    #[inline(never)]
+    #[tactic(auto, using(crate::proofs::Many::none_begins), unfolding(setl_parse_reading::specs::code::ReadExpressions::selectors))]
     fn selection(&self, primary: Expr, tokens: &mut Cursor<'_>) -> Result<Expr, Fault>
         requires { Nests self.now.room (F.pre self.now.inside) (F.post self.now.inside) }
         ensures { Reads (parts.selection self.now.room (nested self.now.room) primary tokens.old) result tokens.new }
     {
+        if !begins_selector(tokens.kind()) {
+            return Ok(primary);
+        }
+        let primary = Boxed::new(tokens.alloc(), primary)?;
         let (primary, selectors) = with_many(primary, &SelectorRule { grammar: self }, tokens)?;
-        selected(tokens.alloc(), primary, selectors)
+        Ok(selected(primary, selectors))
     }
 
     /// An operand from its primary expression on.
@@ -430,8 +438,9 @@ impl<F: Fn(&mut Cursor<'_>, usize, Part) -> Result<Expr, Fault>> Grammar<F> {
             return Ok(a);
         };
         tokens.pass();
+        let a = Boxed::new(tokens.alloc(), a)?;
         let (a, b) = self.compared_with(a, tokens)?;
-        Ok(Expr::Compare(Boxed::new(tokens.alloc(), a)?, op, b))
+        Ok(Expr::Compare(a, op, b))
     }
 
     /// A comparison, or what comparisons compare.
@@ -482,16 +491,60 @@ impl<F: Fn(&mut Cursor<'_>, usize, Part) -> Result<Expr, Fault>> Grammar<F> {
         self.after_comparison(a, tokens)
     }
 
+    /// An expression that is no quantifier, whose primary expression has words or signs before it.
+    #[inline(never)]
+    fn prefixed_expression(&self, tokens: &mut Cursor<'_>) -> Result<Expr, Fault>
+        requires { Nests self.now.room (F.pre self.now.inside) (F.post self.now.inside) }
+        ensures { Reads (parts.expression self.now.room (nested self.now.room) tokens.old) result tokens.new }
+    {
+        let before = self.before_primary(tokens)?;
+        let primary = self.primary(tokens)?;
+        self.go_on(before, primary, tokens)
+    }
+
+    /// An expression that is no quantifier, whose primary expression stands in front.
+    fn bare_expression(&self, tokens: &mut Cursor<'_>) -> Result<Expr, Fault>
+        requires { Nests self.now.room (F.pre self.now.inside) (F.post self.now.inside) }
+        ensures { Reads (parts.bare_expression self.now.room (nested self.now.room) tokens.old) result tokens.new }
+    {
+        let primary = self.primary(tokens)?;
+        self.go_on_bare(primary, tokens)
+    }
+
+    /// What goes on from a primary expression that stands in front.
+    #[inline(never)]
+    fn go_on_bare(&self, primary: Expr, tokens: &mut Cursor<'_>) -> Result<Expr, Fault>
+        requires { Nests self.now.room (F.pre self.now.inside) (F.post self.now.inside) }
+        ensures { Reads (parts.go_on self.now.room (nested self.now.room) (record { nots = []; prefixes = [] }) primary tokens.old) result tokens.new }
+    {
+        let alloc = tokens.alloc();
+        let before = Before {
+            nots: Items::new(alloc),
+            prefixes: Items::new(alloc),
+        };
+        self.go_on(before, primary, tokens)
+    }
+
     /// An expression that is no quantifier. While its primary expression is read, nothing else is kept than what stands
     /// before it.
+    #[tactic(auto, using(crate::proofs::Many::bare_is))]
+    fn expression(&self, tokens: &mut Cursor<'_>) -> Result<Expr, Fault>
+        requires { Nests self.now.room (F.pre self.now.inside) (F.post self.now.inside) }
+        ensures { Reads (parts.expression self.now.room (nested self.now.room) tokens.old) result tokens.new }
+    {
+        if NotRule.begins(tokens.kind()) || PrefixRule.begins(tokens.kind()) {
+            return self.prefixed_expression(tokens);
+        }
+        self.bare_expression(tokens)
+    }
+
+    /// An expression that is no quantifier.
     #[tactic(auto, unfolding(setl_parse_reading::specs::code::ReadExpressions::e2, setl_parse_reading::specs::code::ReadExpressions::e5, setl_parse_reading::specs::code::ReadExpressions::e6, setl_parse_reading::specs::code::ReadExpressions::e7, setl_parse_reading::specs::code::ReadExpressions::e11, setl_parse_reading::specs::code::ReadExpressions::e12, setl_parse_reading::specs::code::ReadExpressions::after))]
     fn e2(&self, tokens: &mut Cursor<'_>) -> Result<Expr, Fault>
         requires { Nests self.now.room (F.pre self.now.inside) (F.post self.now.inside) }
         ensures { Reads (spec.e2 self.now.room (nested self.now.room) tokens.old) result tokens.new }
     {
-        let before = self.before_primary(tokens)?;
-        let primary = self.primary(tokens)?;
-        self.go_on(before, primary, tokens)
+        self.expression(tokens)
     }
 
     /// What goes on from an operand of `and` with operators that bind as `or` or more tightly.

@@ -1,5 +1,5 @@
 -- Parts of expressions that are read together.
-use Rattle.std.specs.Prelude.{ℕ, List, ◌∷◌, Option}
+use Rattle.std.specs.Prelude.{ℕ, List, [], ◌∷◌, Option}
 use Rattle.setl_tree.specs.declared.kind.Kind.TheVariants as k
 use Rattle.setl_tree.specs.declared.expr.Bound.{Bound}
 use Rattle.setl_tree.specs.declared.expr.Expr.{Expr}
@@ -8,7 +8,7 @@ use Rattle.setl_tree.specs.declared.expr.Prefix.{Prefix}
 use Rattle.setl_tree.specs.Operators.{prefixed, selected}
 use Rattle.setl_parse_reading.specs.code.Reading.{Reader, ◌>>=◌, ◌>>◌, pure, expect, is, optional, more}
 use Rattle.setl_parse_expressions.specs.declared.primary.Before.{Before}
-use Rattle.setl_parse_reading.specs.code.ReadExpressions.{Inside, bound, iters, condition, compared, e11, after, levels_from, nots, prefixes, selectors}
+use Rattle.setl_parse_reading.specs.code.ReadExpressions.{Inside, bound, iters, condition, compared, e11, after, levels_from, nots, prefixes, primary, selectors}
 
 -- two parts, and more behind them
 abbrev pub two_and_more : {A : Type 0} → A → A → Reader A → Reader (List A)
@@ -52,3 +52,11 @@ comparison_from room deep b p = do
 -- what goes on from a primary expression
 abbrev pub go_on : ℕ → Inside → Before → Expr → Reader Expr
 go_on room deep b p = do x ← comparison_from room deep b p; after room deep x
+
+-- an expression that is no quantifier
+abbrev pub expression : ℕ → Inside → Reader Expr
+expression room deep = do b ← before_primary; p ← primary room deep; go_on room deep b p
+
+-- the same where nothing stands before its primary expression
+abbrev pub bare_expression : ℕ → Inside → Reader Expr
+bare_expression room deep = do p ← primary room deep; go_on room deep (record { nots = []; prefixes = [] }) p
