@@ -67,6 +67,20 @@ pub content_is_there : (old mid : List (ℕ × Held)) (n : ℕ) → sparse_entri
 content_is_there old mid n same h =
     sym (formed_there (content_at mid n)) ∙ ap is_some (sym (contents mid n) ∙ ap (λ es. content_in es n) same ∙ contents old n) ∙ formed_there (content_at old n) ∙ h
 
+-- ---- the form of a content
+
+pub slot_formed : SlotsAreKeyed → (old mid : List (Option Held)) (n : ℕ) (h : Held) → remote_entries mid ≡ remote_entries old → slot_at mid n ≡ Some h → content_in (remote_entries old) n ≡ Some (form h)
+slot_formed keyed old mid n h same is = ap (λ es. content_in es n) (sym same) ∙ slot_in keyed mid n ∙ ap (option_map form) is
+
+pub content_formed : (old mid : List (ℕ × Held)) (n : ℕ) (h : Held) → sparse_entries mid ≡ sparse_entries old → content_at mid n ≡ Some h → content_in (sparse_entries old) n ≡ Some (form h)
+content_formed old mid n h same is = ap (λ es. content_in es n) (sym same) ∙ contents mid n ∙ ap (option_map form) is
+
+pub remote_formed : (b : BaseId) (many : Bool) (old : Rc (List (Option Held)) Global) (n : ℕ) (h : Held) → content_in (remote_entries old.value) n ≡ Some (form h) → content_of (form (RemoteMap b many old)) n ≡ Some (form h)
+remote_formed b many old n h is = ap (λ z. content_of z n) (of_remote_map b many old) ∙ is
+
+pub sparse_formed : (b : BaseId) (many : Bool) (old : Rc (List (ℕ × Held)) Global) (n : ℕ) (h : Held) → content_in (sparse_entries old.value) n ≡ Some (form h) → content_of (form (SparseMap b many old)) n ≡ Some (form h)
+sparse_formed b many old n h is = ap (λ z. content_of z n) (of_sparse_map b many old) ∙ is
+
 -- ---- a content that a call changed
 
 module _ {F R : Type 0} (g : Once F (MutBor Held × Unit {0}) (R × (MutBor Held × Unit {0}))) (f : F) (n : ℕ) (r : R) where
@@ -74,7 +88,7 @@ module _ {F R : Type 0} (g : Once F (MutBor Held × Unit {0}) (R × (MutBor Held
   slot_changed keyed old mid new v w same was met put = record {
     before = v;
     after = w;
-    was = ap (λ es. content_in es n) (sym same) ∙ slot_in keyed mid n ∙ ap (option_map form) was;
+    was = slot_formed keyed old mid n v same was;
     met = met;
     put = subst (λ es. PutsEntry n (Some (form w)) es (remote_entries new)) same (remote_put keyed mid new n (Some w) put);
   }
@@ -83,7 +97,7 @@ module _ {F R : Type 0} (g : Once F (MutBor Held × Unit {0}) (R × (MutBor Held
   content_changed old mid new v w same was met put = record {
     before = v;
     after = w;
-    was = ap (λ es. content_in es n) (sym same) ∙ contents mid n ∙ ap (option_map form) was;
+    was = content_formed old mid n v same was;
     met = met;
     put = subst (λ es. PutsEntry n (Some (form w)) es (sparse_entries new)) same (sparse_put mid new n (Some w) put);
   }
@@ -92,7 +106,7 @@ module _ {F R : Type 0} (g : Once F (MutBor Held × Unit {0}) (R × (MutBor Held
   remote_changed b many old new e = record {
     before = e.before;
     after = e.after;
-    was = ap (λ z. content_of z n) (of_remote_map b many old) ∙ e.was;
+    was = remote_formed b many old n e.before e.was;
     met = e.met;
     put =
         subst (λ z. PutsContent n (Some (form e.after)) z (form (RemoteMap b many new))) (sym (of_remote_map b many old))
@@ -103,7 +117,7 @@ module _ {F R : Type 0} (g : Once F (MutBor Held × Unit {0}) (R × (MutBor Held
   sparse_changed b many old new e = record {
     before = e.before;
     after = e.after;
-    was = ap (λ z. content_of z n) (of_sparse_map b many old) ∙ e.was;
+    was = sparse_formed b many old n e.before e.was;
     met = e.met;
     put =
         subst (λ z. PutsContent n (Some (form e.after)) z (form (SparseMap b many new))) (sym (of_sparse_map b many old))

@@ -1,7 +1,8 @@
 -- What maps that are held as tables stand for, by their contents.
-use Rattle.std.specs.Prelude.{◌≡◌, ℕ, Bool, false, List, [], Option, Some, None, option_and_then}
+use Rattle.std.specs.Prelude.{◌≡◌, ℕ, Bool, false, [], Option, Some, None, option_and_then}
 use Rattle.setl_value.specs.Datum.{Datum, set_of}
-use Rattle.setl_value.specs.Pairs.{images}
+use Rattle.setl_value.specs.Pairs.{pair, images}
+use Rattle.setl_set.specs.Sets.{insert_datum}
 use Rattle.setl_map.specs.Maps.{image, domain_of, put_image, put_images}
 use Rattle.setl_rep_bases.specs.declared.BaseId.{BaseId}
 use Rattle.setl_base.specs.Base.{find}
@@ -39,6 +40,12 @@ abbrev pub SinglePutsAreImages : Type 0
 SinglePutsAreImages =
     (bs : BasesState) (f g : Form) (b : BaseId) (n : ℕ) (c : Option Form) (x : Datum) → table_of f ≡ Some (b, false) → IsOver bs f → IsKeyedForm f → IsKeyedForm g → HasBase bs f → IsPoint bs f n x → MayHave bs f c → PutsContent n c f g
     → map_pairs bs g ≡ put_image x (option_and_then (stands bs) c) (map_pairs bs f)
+
+-- one more image in the content of a point is one more pair in the map
+abbrev pub ImagesMakePairs : Type 0
+ImagesMakePairs =
+    (bs : BasesState) (f g : Form) (n : ℕ) (c : Option Form) (x y : Datum) → IsOver bs f → IsKeyedForm f → IsKeyedForm g → IsPoint bs f n x → PutsContent n c f g
+    → images_from bs f c ≡ insert_datum y (images_from bs f (content_of f n)) → map_pairs bs g ≡ insert_datum (pair x y) (map_pairs bs f)
 
 -- the set of the numbers with a content stands for the domain
 abbrev pub NumbersAreDomains : Type 0

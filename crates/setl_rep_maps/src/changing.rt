@@ -1,7 +1,7 @@
 //! A content is changed where it stands.
 
 ghost use Rattle.std.specs.Prelude.{◌≡◌, IfOk, IfSome, IfNone, IsSome, OnErr, Some, None};
-ghost use Rattle.std.specs.Fn.{FnOnceReturnsAtMut};
+ghost use Rattle.std.specs.Fn.{FnOnceReturnsAtMut, FnOnceTakesAtMut};
 ghost use Rattle.setl_remote.specs.Slots.{slot_at, PutsSlot};
 ghost use Rattle.setl_sparse.specs.Entries.{content_at, Puts};
 ghost use Rattle.setl_rep_forms.specs.FormOf.{form};
@@ -21,8 +21,9 @@ use std::rc::Rc;
 /// Lets `change` change the content that a map in table form has at the number of a block, where it stands, and answers what
 /// `change` answers. Where nobody else holds the table, this costs the same whatever it holds, but for what `change` does.
 ///
-/// Where the number has no content, the answer is None, and `change` isn't called. The error is want of memory: `change` isn't
-/// called then either, and the map has the form that it had.
+/// `change` must be callable at each content of the form that is there. Where the number has no content, the answer is None,
+/// and `change` isn't called. The error is want of memory: `change` isn't called then either, and the map has the form that it
+/// had.
 #[tactic(auto, using(crate::proofs::Entries::remote_same, crate::proofs::Entries::sparse_same, crate::proofs::Changes::remote_changed, crate::proofs::Changes::sparse_changed))]
 pub fn change_content<R, F: FnOnce(&mut Held) -> R>(
     map: &mut Held,
@@ -30,7 +31,7 @@ pub fn change_content<R, F: FnOnce(&mut Held) -> R>(
     change: F,
 ) -> Result<Option<R>, Memory>
     requires table { IsTable (form map.old) }
-    requires callable { F.IsAlwaysCallable change }
+    requires callable { (h : Held) → content_of (form map.old) block ≡ Some (form h) → FnOnceTakesAtMut F.FnOnce change h }
     ensures changed { IfOk result (λ o. IfSome o (λ r. ChangesContent F.FnOnce change block r (form map.old) (form map.new))) }
     ensures nothing { IfOk result (λ o. IfNone o (content_of (form map.old) block ≡ None)) }
     ensures unchanged { IfOk result (λ o. IfNone o (form map.new ≡ form map.old)) }
@@ -60,7 +61,7 @@ fn change_in_slots<R, F: FnOnce(&mut Held) -> R>(
     block: u64,
     change: F,
 ) -> Result<Option<R>, Memory>
-    requires callable { F.IsAlwaysCallable change }
+    requires callable { (h : Held) → content_in (remote_entries shared.old.value) block ≡ Some (form h) → FnOnceTakesAtMut F.FnOnce change h }
     ensures changed { IfOk result (λ o. IfSome o (λ r. ChangesEntry F.FnOnce change block r (remote_entries shared.old.value) (remote_entries shared.new.value))) }
     ensures nothing { IfOk result (λ o. IfNone o (content_in (remote_entries shared.old.value) block ≡ None)) }
     ensures unchanged { IfOk result (λ o. IfNone o (remote_entries shared.new.value ≡ remote_entries shared.old.value)) }
@@ -75,7 +76,7 @@ fn change_in_slots<R, F: FnOnce(&mut Held) -> R>(
 }
 
 fn change_slot<R, F: FnOnce(&mut Held) -> R>(slots: &mut Slots<Held>, block: u64, change: F) -> R
-    requires callable { F.IsAlwaysCallable change }
+    requires callable { (h : Held) → slot_at slots.old block ≡ Some h → FnOnceTakesAtMut F.FnOnce change h }
     requires there { IsSome (slot_at slots.old block) }
     ensures { (v w : Held) × (slot_at slots.old block ≡ Some v) × FnOnceReturnsAtMut F.FnOnce change v result w × PutsSlot block (Some w) slots.old slots.new }
 {
@@ -91,7 +92,7 @@ fn change_in_table<R, F: FnOnce(&mut Held) -> R>(
     block: u64,
     change: F,
 ) -> Result<Option<R>, Memory>
-    requires callable { F.IsAlwaysCallable change }
+    requires callable { (h : Held) → content_in (sparse_entries shared.old.value) block ≡ Some (form h) → FnOnceTakesAtMut F.FnOnce change h }
     ensures changed { IfOk result (λ o. IfSome o (λ r. ChangesEntry F.FnOnce change block r (sparse_entries shared.old.value) (sparse_entries shared.new.value))) }
     ensures nothing { IfOk result (λ o. IfNone o (content_in (sparse_entries shared.old.value) block ≡ None)) }
     ensures unchanged { IfOk result (λ o. IfNone o (sparse_entries shared.new.value ≡ sparse_entries shared.old.value)) }
@@ -109,7 +110,7 @@ fn change_entry<R, F: FnOnce(&mut Held) -> R>(
     block: u64,
     change: F,
 ) -> R
-    requires callable { F.IsAlwaysCallable change }
+    requires callable { (h : Held) → content_at table.old block ≡ Some h → FnOnceTakesAtMut F.FnOnce change h }
     requires there { IsSome (content_at table.old block) }
     ensures { (v w : Held) × (content_at table.old block ≡ Some v) × FnOnceReturnsAtMut F.FnOnce change v result w × Puts block (Some w) table.old table.new }
 {

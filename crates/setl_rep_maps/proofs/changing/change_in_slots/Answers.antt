@@ -5,7 +5,7 @@ use Rattle.setl_remote.specs.Slots.{slot_at}
 use Rattle.setl_rep_maps.specs.code.Changing.{ChangesEntry}
 use Rattle.setl_rep_maps.specs.code.Entries.{remote_entries}
 use Rattle.setl_rep_maps.proofs.Entries.{at_err, remote_cloned}
-use Rattle.setl_rep_maps.proofs.Changes.{copied_there, slot_is_there, slot_changed}
+use Rattle.setl_rep_maps.proofs.Changes.{copied_there, slot_is_there, slot_formed, slot_changed}
 use Rattle.setl_rep_maps.proofs.changing.change_in_slots.Goals as goal
 
 pub returns-in_err-slots-clause-refused : goal.returns-in_err-slots-clause-refused
@@ -18,6 +18,11 @@ change_slot-requires-clause-there g c =
     let old = c.in_ok-slots.slots.now in
     slot_is_there c.slots_are_keyed.ensures c.args.shared.now.value old n (remote_cloned c.args.shared.now.value old c.in_ok-slots.ensures.value)
     (ap is_some (ap (λ cs. slot_at cs n) (sym c.deref.ensures) ∙ sym c.get.ensures.content) ∙ copied_there c.get.result ∙ c.is_none.ensures ∙ ap not c.if-is_none.false)
+
+pub change_slot-requires-clause-callable : goal.change_slot-requires-clause-callable
+change_slot-requires-clause-callable g c = λ h is.
+    let old = c.in_ok-slots.slots.now in
+    c.requires.callable h (slot_formed c.slots_are_keyed.ensures c.args.shared.now.value old c.args.block h (remote_cloned c.args.shared.now.value old c.in_ok-slots.ensures.value) is)
 
 pub returns-clause-changed : goal.returns-clause-changed
 returns-clause-changed g c =

@@ -5,7 +5,7 @@ use Rattle.setl_sparse.specs.Entries.{content_at}
 use Rattle.setl_rep_maps.specs.code.Changing.{ChangesEntry}
 use Rattle.setl_rep_maps.specs.code.Entries.{sparse_entries}
 use Rattle.setl_rep_maps.proofs.Entries.{at_err, sparse_cloned}
-use Rattle.setl_rep_maps.proofs.Changes.{no_content, content_is_there, content_changed}
+use Rattle.setl_rep_maps.proofs.Changes.{no_content, content_is_there, content_formed, content_changed}
 use Rattle.setl_rep_maps.proofs.changing.change_in_table.Goals as goal
 
 pub returns-then-not-test-clause-nothing : goal.returns-then-not-test-clause-nothing
@@ -23,6 +23,11 @@ change_entry-requires-clause-there g c =
     let old = c.in_ok-table.table.now in
     content_is_there c.args.shared.now.value old n (sparse_cloned c.args.shared.now.value old c.in_ok-table.ensures.value)
     (ap (λ es. is_some (content_at es n)) (sym c.deref.ensures) ∙ sym c.test.ensures ∙ c.if-not-test.false)
+
+pub change_entry-requires-clause-callable : goal.change_entry-requires-clause-callable
+change_entry-requires-clause-callable g c = λ h is.
+    let old = c.in_ok-table.table.now in
+    c.requires.callable h (content_formed c.args.shared.now.value old c.args.block h (sparse_cloned c.args.shared.now.value old c.in_ok-table.ensures.value) is)
 
 pub returns-clause-changed : goal.returns-clause-changed
 returns-clause-changed g c =
