@@ -1,0 +1,13 @@
+mod Lists
+mod Outcomes
+mod SetValues
+mod TupleValues
+mod Numbers
+mod Truths
+mod MapValues
+mod Wholes
+mod Texts
+mod Ranges
+mod Folds
+mod Takes
+mod Operators
