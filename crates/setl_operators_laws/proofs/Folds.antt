@@ -6,10 +6,10 @@ use Rattle.setl_value.specs.WellFormed.{IsValue}
 use Rattle.setl_operators_table.specs.Folds.{combined, fold_on, fold_list, fold_datum, folded}
 use Rattle.setl_operators_table.specs.Outcome.{Outcome, all_values}
 use Rattle.setl_operators_laws.specs.ValueLaws.{IsValueOrOm}
-use Rattle.setl_operators_laws.proofs.Lists.{all_weaker, all_map}
-use Rattle.setl_operators_laws.proofs.Outcomes.{GivesValue, then_gives, operands, unary_gives, binary_gives}
-use Rattle.setl_operators_laws.proofs.SetValues.{Stands, members, higher}
-use Rattle.setl_operators_laws.proofs.TupleValues.{PartStands, components, part_is_value}
+use Rattle.setl_operators_laws.specs.Lists.{all_weaker, all_map}
+use Rattle.setl_operators_laws.specs.Outcomes.{GivesValue, then_gives, operands, unary_gives, binary_gives}
+use Rattle.setl_operators_laws.specs.SetValues.{Stands, members, higher}
+use Rattle.setl_operators_laws.specs.TupleValues.{PartStands, components, part_is_value}
 
 -- it gives values of values
 abbrev pub CombinesValues : (ℕ → Datum → Datum → Outcome) → Type 0

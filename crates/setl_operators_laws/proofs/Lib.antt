@@ -1,7 +1,3 @@
-mod Lists
-mod Outcomes
-mod SetValues
-mod TupleValues
 mod Numbers
 mod Truths
 mod MapValues

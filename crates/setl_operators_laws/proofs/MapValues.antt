@@ -16,8 +16,8 @@ use Rattle.setl_set.specs.Laws.{Inserts, Gathers}
 use Rattle.setl_set.specs.Sets.{insert_datum}
 use Rattle.setl_map.specs.Maps.{only, image, domain_of, range_of, without_point, put_image, put_images}
 use Rattle.setl_operators_laws.specs.ValueLaws.{IsValueOrOm}
-use Rattle.setl_operators_laws.proofs.Lists.{all_append, all_weaker, all_map, all_filter, OfSome, all_filter_map}
-use Rattle.setl_operators_laws.proofs.SetValues.{Stands, set_stands, higher, all_insert, all_set_from, rising_filter}
+use Rattle.setl_operators_laws.specs.Lists.{all_append, all_weaker, all_map, all_filter, OfSome, all_filter_map}
+use Rattle.setl_operators_laws.specs.SetValues.{Stands, set_stands, higher, all_insert, all_set_from, rising_filter}
 
 first_stands : (d : Datum) → Stands 499 d → OfSome (Stands 499) (first_of (pair_parts d))
 first_stands (tuple (part_then x (part_then y no_part))) h = (h.0.0.0, omega (arith, h.1))

@@ -14,10 +14,10 @@ use Rattle.setl_set.specs.Sets.{has_datum, union_of, minus_of, meet_of, symm_of}
 use Rattle.setl_set.specs.Laws.{Gathers}
 use Rattle.setl_operators_table.specs.Numbers.{whole, negate, absolute, is_even, is_odd, raise, divide, greater, lesser, plus, minus, replicated, times, modulo}
 use Rattle.setl_operators_table.specs.Outcome.{value, tuple_value}
-use Rattle.setl_operators_laws.proofs.Lists.{all_append, all_copies, all_filter}
-use Rattle.setl_operators_laws.proofs.Outcomes.{GivesValue, a_boolean, text_value, charging_gives}
-use Rattle.setl_operators_laws.proofs.SetValues.{Stands, members, set_is_value, all_set_from, rising_filter, rising_members}
-use Rattle.setl_operators_laws.proofs.TupleValues.{PartStands, components, trimmed_components, tuple_is_value, trimmed_append, trimmed_copies}
+use Rattle.setl_operators_laws.specs.Lists.{all_append, all_copies, all_filter}
+use Rattle.setl_operators_laws.specs.Outcomes.{GivesValue, a_boolean, text_value, charging_gives}
+use Rattle.setl_operators_laws.specs.SetValues.{Stands, members, set_is_value, all_set_from, rising_filter, rising_members}
+use Rattle.setl_operators_laws.specs.TupleValues.{PartStands, components, trimmed_components, tuple_is_value, trimmed_append, trimmed_copies}
 
 -- a number in range, if there is one
 abbrev IsWideResult : Result ℤ ScalarFault → Type 0

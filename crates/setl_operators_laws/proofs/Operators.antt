@@ -19,7 +19,7 @@ use Rattle.setl_operators_table.specs.Truths.{negation, both, either, is_below, 
 use Rattle.setl_operators_laws.specs.ValueLaws.{IsValueOrOm, CountFits, OperatorsGiveValues}
 use Rattle.setl_operators_laws.proofs.Folds.{folded_gives}
 use Rattle.setl_operators_laws.proofs.Numbers.{negate_gives, absolute_gives, even_gives, odd_gives, raise_gives, divide_gives, greater_gives, lesser_gives, plus_gives, minus_gives, times_gives, modulo_gives}
-use Rattle.setl_operators_laws.proofs.Outcomes.{GivesValue, text_value, operands, unary_gives, binary_gives, ternary_gives}
+use Rattle.setl_operators_laws.specs.Outcomes.{GivesValue, text_value, operands, unary_gives, binary_gives, ternary_gives}
 use Rattle.setl_operators_laws.proofs.Ranges.{set_of_numbers, tuple_of_numbers, range_gives, step_gives}
 use Rattle.setl_operators_laws.proofs.Texts.{whole_text_is_plain}
 use Rattle.setl_operators_laws.proofs.Truths.{negation_gives, both_gives, either_gives, below_gives, at_most_gives, in_gives, subset_gives, opposite_gives, equality_gives, kind_gives}

@@ -13,10 +13,10 @@ use Rattle.setl_set.specs.Sets.{set_from}
 use Rattle.setl_operators_table.specs.Outcome.{Outcome, Fails, ZeroFault, charging}
 use Rattle.setl_operators_table.specs.RangeRows.{as_set, as_tuple, range_of_integers, stepped_integers}
 use Rattle.setl_operators_table.specs.Ranges.{spread, range_size, range_from, is_past, step_size, step_from}
-use Rattle.setl_operators_laws.proofs.Lists.{all_map}
-use Rattle.setl_operators_laws.proofs.Outcomes.{GivesValue, charging_gives}
-use Rattle.setl_operators_laws.proofs.SetValues.{Stands, set_is_value, all_set_from}
-use Rattle.setl_operators_laws.proofs.TupleValues.{PartStands, tuple_is_value, trimmed_some}
+use Rattle.setl_operators_laws.specs.Lists.{all_map}
+use Rattle.setl_operators_laws.specs.Outcomes.{GivesValue, charging_gives}
+use Rattle.setl_operators_laws.specs.SetValues.{Stands, set_is_value, all_set_from}
+use Rattle.setl_operators_laws.specs.TupleValues.{PartStands, tuple_is_value, trimmed_some}
 
 fits_from_wide : (z : ℤ) → IsWide z → FitsSigned w128 z
 fits_from_wide (pos n) h = let k : n < 2 ^ 127 = h in record { sfits = k }

@@ -9,9 +9,9 @@ use Rattle.setl_value.specs.Order.{IsRising}
 use Rattle.setl_value.specs.WellFormed.{EndsIn, IsTrimmed, IsValue, trim}
 use Rattle.setl_operators_table.specs.Takes.{Takeout, TakesOut, IsEmpty, CannotTake, least_of, first_of, last_of, take_least, take_first, take_last}
 use Rattle.setl_operators_laws.specs.ValueLaws.{IsValueOrOm, LeastIsValue, FirstIsValue, LastIsValue}
-use Rattle.setl_operators_laws.proofs.Lists.{all_take, OfSome, all_get}
-use Rattle.setl_operators_laws.proofs.SetValues.{Stands, members, rising_members, set_is_value, higher}
-use Rattle.setl_operators_laws.proofs.TupleValues.{PartStands, components, trimmed_components, tuple_is_value, part_is_value, trim_is_trimmed, all_trim}
+use Rattle.setl_operators_laws.specs.Lists.{all_take, OfSome, all_get}
+use Rattle.setl_operators_laws.specs.SetValues.{Stands, members, rising_members, set_is_value, higher}
+use Rattle.setl_operators_laws.specs.TupleValues.{PartStands, components, trimmed_components, tuple_is_value, part_is_value, trim_is_trimmed, all_trim}
 
 -- it leaves a value and takes out a value or `om`, if it takes something
 abbrev LeavesValues : Takeout → Type 0

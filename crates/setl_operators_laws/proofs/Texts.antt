@@ -6,7 +6,7 @@ use Rattle.std.proofs.lemmas.Fmt.{decimal_by_steps_wide}
 use Rattle.setl_value.specs.Datum.{Datum, bool, int, text, atom, tuple, set, Parts, no_part, om_then, part_then, Elements, no_element, element_then}
 use Rattle.setl_value.specs.WellFormed.{IsTextByte, IsWide, IsWellFormed, PartsAreWellFormed, ElementsAreWellFormed, IsValue}
 use Rattle.setl_text.specs.Texts.{doubled, spaced, enclosed, inner_text, part_texts, element_texts, whole_text}
-use Rattle.setl_operators_laws.proofs.Lists.{all_append}
+use Rattle.setl_operators_laws.specs.Lists.{all_append}
 
 -- bytes as a string may have them
 abbrev IsPlain : List ℕ → Type 0

@@ -4,7 +4,7 @@ use Rattle.setl_value.specs.Datum.{Datum, bool, int, text, tuple, set}
 use Rattle.setl_value.specs.WellFormed.{IsValue}
 use Rattle.setl_operators_table.specs.Outcome.{Outcome, Gives}
 use Rattle.setl_operators_table.specs.Truths.{negation, both, either, is_below, is_at_most, is_in, subset, opposite, equality, kind_test}
-use Rattle.setl_operators_laws.proofs.Outcomes.{GivesValue, a_boolean}
+use Rattle.setl_operators_laws.specs.Outcomes.{GivesValue, a_boolean}
 
 pub negation_gives : (d : Datum) → IsValue d → GivesValue (negation d)
 negation_gives (bool b) h = a_boolean

@@ -22,12 +22,12 @@ use Rattle.setl_operators_table.specs.Outcome.{Gives, Fails, RangeFault, within_
 use Rattle.setl_operators_table.specs.Puts.{put_part, put_value, put, put_set, add_image}
 use Rattle.setl_operators_table.specs.Selections.{component, letter, get, images_of, part_of_tuple, part_of_text, slice, tail}
 use Rattle.setl_operators_laws.specs.ValueLaws.{IsValueOrOm, IsCounted, AddedImagesGiveValues}
-use Rattle.setl_operators_laws.proofs.Lists.{all_append, all_weaker, all_take, all_drop, all_replicate, all_filter, OfSome, all_get}
+use Rattle.setl_operators_laws.specs.Lists.{all_append, all_weaker, all_take, all_drop, all_replicate, all_filter, OfSome, all_get}
 use Rattle.setl_operators_laws.proofs.MapValues.{domain_stands, range_stands, images_stand, rising_images, image_stands, without_stands, rising_without, put_image_stands, put_images_stand}
 use Rattle.setl_operators_laws.proofs.Numbers.{int_value}
-use Rattle.setl_operators_laws.proofs.Outcomes.{GivesValue, AllValues, text_value, charging_gives, within_gives, map_gives}
-use Rattle.setl_operators_laws.proofs.SetValues.{Stands, IsPart, members, rising_members, set_stands, set_is_value, higher, all_higher, all_insert, all_set_from, rising_filter, subsets_are_parts, all_sets}
-use Rattle.setl_operators_laws.proofs.TupleValues.{PartStands, components, trimmed_components, tuple_stands, tuple_is_value, part_higher, part_is_value, trimmed_append, trim_is_trimmed, all_trim}
+use Rattle.setl_operators_laws.specs.Outcomes.{GivesValue, AllValues, text_value, charging_gives, within_gives, map_gives}
+use Rattle.setl_operators_laws.specs.SetValues.{Stands, IsPart, members, rising_members, set_stands, set_is_value, higher, all_higher, all_insert, all_set_from, rising_filter, subsets_are_parts, all_sets}
+use Rattle.setl_operators_laws.specs.TupleValues.{PartStands, components, trimmed_components, tuple_stands, tuple_is_value, part_higher, part_is_value, trimmed_append, trim_is_trimmed, all_trim}
 
 -- ---- sizes, members and subsets
 

@@ -1,1 +1,5 @@
 pub mod ValueLaws
+pub mod Lists
+pub mod Outcomes
+pub mod SetValues
+pub mod TupleValues

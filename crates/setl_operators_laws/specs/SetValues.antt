@@ -11,7 +11,7 @@ use Rattle.setl_value.specs.Order.{datum_cmp, IsRising}
 use Rattle.setl_value.specs.WellFormed.{IsWellFormed, ElementsAreWellFormed, IsValue}
 use Rattle.setl_set.specs.Sets.{insert_datum, insert_by, set_from}
 use Rattle.setl_set.specs.Subsets.{subsets}
-use Rattle.setl_operators_laws.proofs.Lists.{all_append, all_weaker, all_map}
+use Rattle.setl_operators_laws.specs.Lists.{all_append, all_weaker, all_map}
 
 -- well formed, and at most k deep
 abbrev pub Stands : ℕ → Datum → Type 0

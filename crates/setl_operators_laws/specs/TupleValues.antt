@@ -7,7 +7,7 @@ use Rattle.setl_value.specs.Copies.{copies}
 use Rattle.setl_value.specs.Datum.{Datum, tuple, Parts, no_part, om_then, part_then, parts_depth, parts_of, part_list, part_list-parts_of, tuple_of}
 use Rattle.setl_value.specs.WellFormed.{EndsIn, IsTrimmed, PartsAreWellFormed, IsValue, trim, trim_onto}
 use Rattle.setl_operators_laws.specs.ValueLaws.{IsValueOrOm}
-use Rattle.setl_operators_laws.proofs.SetValues.{Stands}
+use Rattle.setl_operators_laws.specs.SetValues.{Stands}
 
 -- a component
 abbrev pub PartStands : ℕ → Option Datum → Type 0
