@@ -1,9 +1,6 @@
 mod Numbers
 mod Truths
-mod MapValues
 mod Wholes
-mod Texts
-mod Ranges
 mod Folds
 mod Takes
 mod Operators

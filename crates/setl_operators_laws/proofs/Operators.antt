@@ -20,8 +20,8 @@ use Rattle.setl_operators_laws.specs.ValueLaws.{IsValueOrOm, CountFits, Operator
 use Rattle.setl_operators_laws.proofs.Folds.{folded_gives}
 use Rattle.setl_operators_laws.proofs.Numbers.{negate_gives, absolute_gives, even_gives, odd_gives, raise_gives, divide_gives, greater_gives, lesser_gives, plus_gives, minus_gives, times_gives, modulo_gives}
 use Rattle.setl_operators_laws.specs.Outcomes.{GivesValue, text_value, operands, unary_gives, binary_gives, ternary_gives}
-use Rattle.setl_operators_laws.proofs.Ranges.{set_of_numbers, tuple_of_numbers, range_gives, step_gives}
-use Rattle.setl_operators_laws.proofs.Texts.{whole_text_is_plain}
+use Rattle.setl_operators_laws.specs.Ranges.{set_of_numbers, tuple_of_numbers, range_gives, step_gives}
+use Rattle.setl_operators_laws.specs.Texts.{whole_text_is_plain}
 use Rattle.setl_operators_laws.proofs.Truths.{negation_gives, both_gives, either_gives, below_gives, at_most_gives, in_gives, subset_gives, opposite_gives, equality_gives, kind_gives}
 use Rattle.setl_operators_laws.proofs.Wholes.{size_gives, least_gives, pow_gives, npow_gives, with_gives, less_gives, set_of_gives, tuple_of_gives, domain_gives, range_of_gives, lessf_gives, get_gives, images_gives, slice_gives, tail_gives, put_gives, put_set_gives}
 

@@ -23,7 +23,7 @@ use Rattle.setl_operators_table.specs.Puts.{put_part, put_value, put, put_set, a
 use Rattle.setl_operators_table.specs.Selections.{component, letter, get, images_of, part_of_tuple, part_of_text, slice, tail}
 use Rattle.setl_operators_laws.specs.ValueLaws.{IsValueOrOm, IsCounted, AddedImagesGiveValues}
 use Rattle.setl_operators_laws.specs.Lists.{all_append, all_weaker, all_take, all_drop, all_replicate, all_filter, OfSome, all_get}
-use Rattle.setl_operators_laws.proofs.MapValues.{domain_stands, range_stands, images_stand, rising_images, image_stands, without_stands, rising_without, put_image_stands, put_images_stand}
+use Rattle.setl_operators_laws.specs.MapValues.{domain_stands, range_stands, images_stand, rising_images, image_stands, without_stands, rising_without, put_image_stands, put_images_stand}
 use Rattle.setl_operators_laws.proofs.Numbers.{int_value}
 use Rattle.setl_operators_laws.specs.Outcomes.{GivesValue, AllValues, text_value, charging_gives, within_gives, map_gives}
 use Rattle.setl_operators_laws.specs.SetValues.{Stands, IsPart, members, rising_members, set_stands, set_is_value, higher, all_higher, all_insert, all_set_from, rising_filter, subsets_are_parts, all_sets}

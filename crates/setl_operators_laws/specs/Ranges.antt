@@ -18,7 +18,7 @@ use Rattle.setl_operators_laws.specs.Outcomes.{GivesValue, charging_gives}
 use Rattle.setl_operators_laws.specs.SetValues.{Stands, set_is_value, all_set_from}
 use Rattle.setl_operators_laws.specs.TupleValues.{PartStands, tuple_is_value, trimmed_some}
 
-fits_from_wide : (z : ℤ) → IsWide z → FitsSigned w128 z
+pub fits_from_wide : (z : ℤ) → IsWide z → FitsSigned w128 z
 fits_from_wide (pos n) h = let k : n < 2 ^ 127 = h in record { sfits = k }
 fits_from_wide (negsuc n) h = let k : n < 2 ^ 127 = h in record { sfits = k }
 
@@ -27,10 +27,10 @@ wide_from_fits (pos n) h = let k : n < 2 ^ 127 = h.sfits in k
 wide_from_fits (negsuc n) h = let k : n < 2 ^ 127 = h.sfits in k
 
 -- each is a value inside a set or a tuple
-abbrev Stand : List Datum → Type 0
+abbrev pub Stand : List Datum → Type 0
 Stand ds = AllByRecursion (Stands 499) ds
 
-a_number : (z : ℤ) → FitsSigned w128 z → Stands 499 (int z)
+pub a_number : (z : ℤ) → FitsSigned w128 z → Stands 499 (int z)
 a_number z f = (wide_from_fits z f, omega arith)
 
 rising : (a by c : ℤ) (n : ℕ) → FitsSigned w128 a → FitsSigned w128 c → pos 0 <ℤ by → a ≤ℤ c → unsigned_abs by * n ≤ unsigned_abs (c -ℤ a) → Stand (spread a by (suc n))
@@ -58,7 +58,7 @@ by_one a b f g h =
     let l : a ≤ℤ b = grind (arith, ints) in
     rising a (pos 1) b (unsigned_abs (b -ℤ a)) f g (omega (arith, ints)) l (omega (arith, ints))
 
-range_stands : (a b : ℤ) → FitsSigned w128 a → FitsSigned w128 b → Stand (range_from a b)
+pub range_stands : (a b : ℤ) → FitsSigned w128 a → FitsSigned w128 b → Stand (range_from a b)
 range_stands a b f g = stand_if (int_le a b) a (pos 1) (unsigned_abs (b -ℤ a)) (by_one a b f g)
 
 past_rising : (a by c : ℤ) → pos 0 <ℤ by → is_past a by c ≡ false → a ≤ℤ c
@@ -75,7 +75,7 @@ by_step a by c f g n h =
     below : (a by : ℤ) → by ≤ℤ pos 0 → (unsigned_abs by ≡ 0 → ⊥) → by <ℤ pos 0
     below a by p n = grind (arith, ints)
 
-steps_stand : (a b c : ℤ) → FitsSigned w128 a → FitsSigned w128 c → (unsigned_abs (b -ℤ a) ≡ 0 → ⊥) → Stand (step_from a b c)
+pub steps_stand : (a b c : ℤ) → FitsSigned w128 a → FitsSigned w128 c → (unsigned_abs (b -ℤ a) ≡ 0 → ⊥) → Stand (step_from a b c)
 steps_stand a b c f g n = stand_unless (is_past a (b -ℤ a) c) a (b -ℤ a) (unsigned_abs (c -ℤ a) / unsigned_abs (b -ℤ a)) (by_step a (b -ℤ a) c f g n)
 
 -- ---- what is made of them

@@ -9,11 +9,11 @@ use Rattle.setl_text.specs.Texts.{doubled, spaced, enclosed, inner_text, part_te
 use Rattle.setl_operators_laws.specs.Lists.{all_append}
 
 -- bytes as a string may have them
-abbrev IsPlain : List ℕ → Type 0
+abbrev pub IsPlain : List ℕ → Type 0
 IsPlain t = AllByRecursion IsTextByte t
 
 -- a byte other than 10
-plain_byte : (b : ℕ) → 10 < b → b < 256 → IsTextByte b
+pub plain_byte : (b : ℕ) → 10 < b → b < 256 → IsTextByte b
 plain_byte b low high = (high, λ e. absurd (omega arith))
 
 plain_digit : (n : ℕ) → n < 10 → IsPlain ((48 + n) ∷ [])
@@ -34,7 +34,7 @@ plain_doubled : (t : List ℕ) → IsPlain t → IsPlain (doubled t)
 plain_doubled [] h = tt
 plain_doubled (b ∷ t) h = plain_doubled_by (nat_eq b 39) b (doubled t) h.0 (plain_doubled t h.1)
 
-plain_spaced : (ts : List (List ℕ)) → AllByRecursion IsPlain ts → IsPlain (spaced ts)
+pub plain_spaced : (ts : List (List ℕ)) → AllByRecursion IsPlain ts → IsPlain (spaced ts)
 plain_spaced [] h = tt
 plain_spaced (t ∷ []) h = h.0
 plain_spaced (t ∷ u ∷ ts) h = all_append IsTextByte t (32 ∷ spaced (u ∷ ts)) h.0 (plain_byte 32 (omega arith) (omega arith), plain_spaced (u ∷ ts) h.1)
