@@ -1,0 +1,3 @@
+mod Readings
+mod Places
+mod Items

@@ -1,0 +1,6 @@
+mod Numbers
+mod Truths
+mod Wholes
+mod Folds
+mod Takes
+mod Operators
