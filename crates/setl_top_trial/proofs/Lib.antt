@@ -1,0 +1,5 @@
+mod Lexing
+mod TrialTree
+mod Reading
+mod Standing
+mod Rules
