@@ -1,5 +1,5 @@
 -- The domain of a table as numbers.
-use Rattle.std.proofs.Common.{◌≡◌, ◌∙◌, ℕ, Bool, true, false, List, [], ◌∷◌, Option, None, Some, IsSome, refl, sym, ap, subst}
+use Rattle.std.proofs.Common.{◌≡◌, ◌∙◌, ℕ, Bool, true, List, Option, None, Some, refl, sym, ap, subst}
 use Rattle.std.proofs.lemmas.Bool.{false≢true}
 use Rattle.std.specs.List.{Contains, filter_map}
 use Rattle.std.specs.Option.{is_some}
@@ -7,18 +7,16 @@ use Rattle.std.specs.Ordering.{nat_cmp}
 use Rattle.std.specs.FinSet as set
 use Rattle.setl_value.specs.Datum.{Datum, set_of}
 use Rattle.setl_value.specs.Pairs.{pair, pair_parts, first_of}
-use Rattle.setl_set.specs.Sets.{has_datum, set_from}
 use Rattle.setl_set.specs.Laws.{RisingListsAgree, TestsMembership, Gathers}
 use Rattle.setl_map.specs.Maps.{domain_of}
 use Rattle.setl_base.specs.Base.{BaseState}
 use Rattle.setl_rep_bases.specs.Bases.{BasesState, base_at, IsThere}
 use Rattle.setl_rep_forms.specs.Form.{Form, Entries, table, numbers}
-use Rattle.setl_rep_forms.specs.Stands.{value_at, members_at, stands, AreOver, AreLiving, IsOver}
+use Rattle.setl_rep_forms.specs.Stands.{members_at, stands, AreOver, AreLiving}
 use Rattle.setl_rep_forms.specs.Laws.{IsAt, SetsHaveTheirMembers}
-use Rattle.setl_rep_tables.specs.Tables.{content_in, IsKeyed, images_of, table_pairs, MembersOfTables}
-use Rattle.setl_rep_maps.specs.Contents.{IsDomain}
+use Rattle.setl_rep_tables.specs.Tables.{content_in, IsKeyed, table_pairs, MembersOfTables}
 use Rattle.setl_rep_maps.specs.Laws.{NumbersAreDomains}
-use Rattle.setl_rep_maps.proofs.Members.{some_same, not_both, has_mapped, was_mapped}
+use Rattle.setl_rep_maps.proofs.Members.{some_same, has_mapped, was_mapped}
 use Rattle.setl_rep_maps.proofs.Tabled.{content_over, has_image}
 
 some_content : (o : Option Form) → is_some o ≡ true → (c : Form) × (o ≡ Some c)

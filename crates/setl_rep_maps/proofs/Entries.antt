@@ -4,7 +4,7 @@ use Rattle.std.specs.Prelude.{option_copied, ◌⊎◌, OnErr, Result, Ok, Err}
 use Rattle.std.specs.Borrow.{Bor}
 use Rattle.std.specs.declared.rc.Rc.{Rc}
 use Rattle.std.specs.declared.alloc.Global.{Global}
-use Rattle.std.specs.List.{AllByRecursion, AllZip, IsDistinct}
+use Rattle.std.specs.List.{AllByRecursion, IsDistinct}
 use Rattle.std.specs.Map.{keys_of, lookup}
 use Rattle.std.specs.Option.{option_map}
 use Rattle.std.proofs.lemmas.Map.Keys.{IsDistinct-head, IsDistinct-tail}
@@ -12,7 +12,7 @@ use Rattle.setl_remote.specs.Slots.{slot_at, PutsSlot, IsSlotCopy, AreSlotCopies
 use Rattle.setl_sparse.specs.Entries.{content_at, Puts, AreCopies}
 use Rattle.setl_rep_forms.specs.declared.held.Held.{Held}
 use Rattle.setl_rep_forms.specs.declared.held.Held.TheVariants.{RemoteMap, SparseMap}
-use Rattle.setl_rep_forms.specs.Form.{Form, Entries, entries_of, slots_from, table, remote, sparse}
+use Rattle.setl_rep_forms.specs.Form.{Form, entries_of, slots_from, table, remote, sparse}
 use Rattle.setl_rep_forms.specs.FormOf.{form, of_remote_map, of_sparse_map}
 use Rattle.setl_rep_tables.specs.Tables.{content_in, IsKeyed, SlotsAreKeyed}
 use Rattle.setl_rep_bases.specs.declared.BaseId.{BaseId}
@@ -34,7 +34,7 @@ contents (e ∷ es) n = by (nat_eq n e.0) (contents es n)
     by true h = refl
     by false h = h
 
-absent : (es : List (ℕ × Held)) (n : ℕ) → AllByRecursion (λ y. nat_eq n y ≡ false) (keys_of es) → content_in (sparse_entries es) n ≡ None
+pub absent : (es : List (ℕ × Held)) (n : ℕ) → AllByRecursion (λ y. nat_eq n y ≡ false) (keys_of es) → content_in (sparse_entries es) n ≡ None
 absent [] n h = refl
 absent (e ∷ es) n h = ap (λ t. cond t (Some (form e.1)) (content_in (sparse_entries es) n)) h.0 ∙ absent es n h.1
 

@@ -1,27 +1,25 @@
 -- A map with another content at one number.
-use Rattle.std.proofs.Common.{◌≡◌, ◌∙◌, ◌⊎◌, inl, inr, ⊎_elim, ℕ, ◌==◌, Bool, true, false, not, cond, List, [], ◌∷◌, ◌++◌, map, Option, None, Some, IsSome, option_and_then, refl, sym, ap, subst, eqb-true, eq-eqb}
-use Rattle.std.proofs.lemmas.Bool.{false≢true, or_left, or_right, or_cases}
+use Rattle.std.proofs.Common.{◌≡◌, ◌∙◌, ◌⊎◌, inl, inr, ⊎_elim, ℕ, ◌==◌, Bool, true, false, not, cond, List, [], ◌∷◌, map, Option, None, Some, option_and_then, refl, sym, ap, subst, eqb-true, eq-eqb}
+use Rattle.std.proofs.lemmas.Bool.{false≢true, or_left, or_cases}
 use Rattle.std.proofs.lemmas.List.Kept.{IsStrictlySortedBy-filter}
-use Rattle.std.specs.Prelude.{◌↔◌}
-use Rattle.std.specs.List.{Contains, filter}
+use Rattle.std.specs.List.{Contains}
 use Rattle.std.specs.Option.{is_some}
 use Rattle.std.specs.Ordering.{is_eq}
 use Rattle.setl_value.specs.Datum.{Datum}
 use Rattle.setl_value.specs.Order.{datum_cmp, IsRising}
 use Rattle.setl_value.specs.OrderLaws.{same_if_eq, eq_iff_same}
 use Rattle.setl_value.specs.Pairs.{pair, pair_parts, first_of, is_datum}
-use Rattle.setl_set.specs.Sets.{has_datum, set_from, insert_datum, union_of}
+use Rattle.setl_set.specs.Sets.{has_datum, insert_datum}
 use Rattle.setl_set.specs.Laws.{RisingListsAgree, TestsMembership, Gathers, Unites, Inserts}
 use Rattle.setl_map.specs.Maps.{without_point, put_image, put_images}
 use Rattle.setl_base.specs.Base.{BaseState, IsBase}
-use Rattle.setl_rep_bases.specs.declared.BaseId.{BaseId}
 use Rattle.setl_rep_bases.specs.Bases.{BasesState, base_at, IsThere}
 use Rattle.setl_rep_forms.specs.Form.{Form, Entries, table}
 use Rattle.setl_rep_forms.specs.Stands.{value_at, stands, pairs_in, AreOver, IsContent, IsOver}
 use Rattle.setl_rep_tables.specs.Tables.{content_in, IsKeyed, images_of, table_pairs, MembersOfTables}
-use Rattle.setl_rep_maps.specs.Contents.{map_pairs, images_from, MayHave, PutsContent}
+use Rattle.setl_rep_maps.specs.Contents.{MayHave}
 use Rattle.setl_rep_maps.specs.Laws.{PutsAreImages, SinglePutsAreImages}
-use Rattle.setl_rep_maps.proofs.Members.{some_same, not_both, itself, has_kept, was_kept, of_pairs, in_pairs, first_same, one_number}
+use Rattle.setl_rep_maps.proofs.Members.{some_same, not_both, itself, has_kept, was_kept, of_pairs, in_pairs, one_number}
 use Rattle.setl_rep_maps.proofs.Tabled.{IsContentOver, content_over, over_from, many_of}
 
 -- whether a pair isn't one of x

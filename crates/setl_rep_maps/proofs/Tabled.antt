@@ -1,11 +1,10 @@
 -- The contents of tables, and the images in them.
-use Rattle.std.proofs.Common.{◌≡◌, ◌∙◌, ℕ, ◌==◌, Bool, true, false, cond, List, [], ◌∷◌, Option, None, Some, IsSome, option_and_then, refl, sym, ap, subst, eqb-true, eq-eqb}
-use Rattle.std.proofs.lemmas.Bool.{false≢true, or_left}
+use Rattle.std.proofs.Common.{◌≡◌, ◌∙◌, ℕ, ◌==◌, Bool, true, false, cond, [], Option, None, Some, IsSome, option_and_then, refl, sym, ap, subst, eqb-true, eq-eqb}
+use Rattle.std.proofs.lemmas.Bool.{or_left}
 use Rattle.std.specs.List.Sorted.{IsStrictlySortedBy}
 use Rattle.std.specs.Ordering.{is_eq}
-use Rattle.setl_value.specs.Datum.{Datum, set, element_then, element_list, set_of}
+use Rattle.setl_value.specs.Datum.{Datum, set, element_then, element_list}
 use Rattle.setl_value.specs.Order.{datum_cmp, IsRising}
-use Rattle.setl_value.specs.Pairs.{images}
 use Rattle.setl_set.specs.Sets.{has_datum}
 use Rattle.setl_map.specs.Maps.{image}
 use Rattle.setl_base.specs.Base.{BaseState, IsBase, find}
@@ -14,7 +13,7 @@ use Rattle.setl_rep_bases.specs.Bases.{BasesState, base_at, IsThere}
 use Rattle.setl_rep_forms.specs.Form.{Form, Entries, no_entry, entry_then, table}
 use Rattle.setl_rep_forms.specs.Stands.{value_at, stands, IsOver, AreOver, IsContent}
 use Rattle.setl_rep_tables.specs.Tables.{content_in, IsKeyed, images_of, AllImagesOfTables, ImagesOfTables, NoImagesElsewhere as NothingOfTables}
-use Rattle.setl_rep_maps.specs.Contents.{table_of, IsTable, content_of, IsKeyedForm, HasBase, IsPoint, map_pairs, images_from}
+use Rattle.setl_rep_maps.specs.Contents.{table_of, HasBase, IsPoint, map_pairs, images_from}
 use Rattle.setl_rep_maps.specs.Laws.{StandsForPairs, ContentsStandForImages, SingleContentsStandForImages, NoImagesElsewhere}
 use Rattle.setl_rep_maps.proofs.Members.{some_same, not_both, itself}
 

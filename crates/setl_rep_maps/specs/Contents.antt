@@ -1,6 +1,5 @@
 -- Maps that are held as tables: their contents by number, and puts of one.
 use Rattle.std.specs.Prelude.{◌≡◌, ℕ, ◌==◌, Bool, cond, List, [], Option, Some, None, is_some, option_and_then}
-use Rattle.std.specs.Ordering.{nat_cmp}
 use Rattle.std.specs.FinSet as set
 use Rattle.setl_value.specs.Datum.{Datum}
 use Rattle.setl_base.specs.Base.{IsBase}

@@ -1,7 +1,9 @@
 //! A content is changed where it stands.
 
-ghost use Rattle.std.specs.Prelude.{◌≡◌, IfOk, IfSome, IfNone, IsSome, OnErr, Some, None};
+ghost use Rattle.std.specs.Prelude.{◌≡◌, nat_eq, IfOk, IfSome, IfNone, IsSome, OnErr, Some, None};
 ghost use Rattle.std.specs.Fn.{FnOnceReturnsAtMut, FnOnceTakesAtMut};
+ghost use Rattle.std.specs.List.{IsDistinct};
+ghost use Rattle.std.specs.Map.{keys_of};
 ghost use Rattle.setl_remote.specs.Slots.{slot_at, PutsSlot};
 ghost use Rattle.setl_sparse.specs.Entries.{content_at, Puts};
 ghost use Rattle.setl_rep_forms.specs.FormOf.{form};
@@ -112,8 +114,11 @@ fn change_entry<R, F: FnOnce(&mut Held) -> R>(
 ) -> R
     requires callable { (h : Held) → content_at table.old block ≡ Some h → FnOnceTakesAtMut F.FnOnce change h }
     requires there { IsSome (content_at table.old block) }
-    ensures { (v w : Held) × (content_at table.old block ≡ Some v) × FnOnceReturnsAtMut F.FnOnce change v result w × Puts block (Some w) table.old table.new }
+    ensures changed { (v w : Held) × (content_at table.old block ≡ Some v) × FnOnceReturnsAtMut F.FnOnce change v result w × Puts block (Some w) table.old table.new }
+    ensures places { keys_of table.new ≡ keys_of table.old }
+    ensures distinct { IsDistinct nat_eq (keys_of table.old) }
 {
+    table.learn();
     let mut content = table.replace(block, Held::Om);
     let answer = change(&mut content);
     table.replace(block, content);

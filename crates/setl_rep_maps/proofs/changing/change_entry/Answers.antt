@@ -3,8 +3,8 @@ use Rattle.setl_rep_forms.specs.declared.held.Held.TheVariants.{Om}
 use Rattle.setl_rep_maps.proofs.Changes.{content_put_again}
 use Rattle.setl_rep_maps.proofs.changing.change_entry.Goals as goal
 
-pub returns : goal.returns
-returns g c = (
+pub returns-clause-changed : goal.returns-clause-changed
+returns-clause-changed g c = (
   c.replace-content.result,
   c.change-answer.new.arg2,
   sym c.replace-content.ensures.old,

@@ -35,6 +35,6 @@ returns-clause-changed g c =
     let r = c.change_entry.result in
     let old = c.in_ok-table.table.now in
     let new = c.change_entry.new.table in
-    let e = c.change_entry.ensures in
+    let e = c.change_entry.ensures.changed in
     subst (λ es. ChangesEntry g.F.FnOnce c.args.change n r (sparse_entries c.args.shared.now.value) (sparse_entries es)) (sym (c.make_mut.follows.holds new (ap is_ok c.in_ok-table.was)))
-    (content_changed g.F.FnOnce c.args.change n r c.args.shared.now.value old new e.0 e.1 (sparse_cloned c.args.shared.now.value old c.in_ok-table.ensures.value) e.2 e.3 e.4)
+    (content_changed g.F.FnOnce c.args.change n r c.args.shared.now.value old new e.0 e.1 c.change_entry.ensures.places c.change_entry.ensures.distinct (sparse_cloned c.args.shared.now.value old c.in_ok-table.ensures.value) e.2 e.3 e.4)

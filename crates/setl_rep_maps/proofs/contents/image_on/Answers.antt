@@ -1,6 +1,6 @@
-use Rattle.std.proofs.Common.{◌≡◌, ◌∙◌, Some, None, sym, ap, subst}
+use Rattle.std.proofs.Common.{◌≡◌, ◌∙◌, Some, sym, ap}
 use Rattle.setl_value.specs.code.DatumOf.{datum}
-use Rattle.setl_base.specs.Base.{IsBase, find}
+use Rattle.setl_base.specs.Base.{find}
 use Rattle.setl_rep_bases.specs.Bases.{base_at}
 use Rattle.setl_rep_forms.specs.FormOf.{form}
 use Rattle.setl_rep_forms.specs.Stands.{value_at}
