@@ -10,12 +10,12 @@ use Rattle.setl_program.specs.Program.{Expr, Literal, Undefined, Name, Apply, Co
 use Rattle.setl_model.specs.Core.{ExprFrame, Operands, ConnectLeft, ConnectRight, ChooseTest, Collect, Select, Decide, CallFrame, Argument, Activation, Frame}
 use Rattle.setl_model.specs.Expressions.{operands, evaluate, connect, result_in_expr}
 use Rattle.setl_model.specs.Calls.{enter, arguments, result_in_call}
-use Rattle.setl_model_turns.proofs.Operators.{op_keeps}
+use Rattle.setl_operators_turns.specs.Operators.{op_keeps}
 use Rattle.setl_model_turns.proofs.Moves.{GoesOn, after_a_turn, delivering, deciding}
 use Rattle.setl_model_turns.proofs.Iterations.{beginning}
 
 in_operands : (es : Exprs) (o : Operator) (got : List (Option Datum)) (work : List Frame) → GoesOn (operands o got es work)
-in_operands no_expr o got work c n h = delivering _ _ work (op_keeps o (reverse got) c.shared.world.left n h) c n h
+in_operands no_expr o got work c n h = delivering _ _ _ work (op_keeps o (reverse got) c.shared.world.left n h) c n h
 in_operands (more_exprs e rest) o got work c n h = (n, h, refl)
 
 connecting : (k : Connective) (b : Expr) (v : Option Datum) (work : List Frame) → GoesOn (connect k b v work)

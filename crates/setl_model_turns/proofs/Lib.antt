@@ -1,5 +1,3 @@
-mod Outcomes
-mod Operators
 mod Moves
 mod Iterations
 mod Expressions

@@ -12,7 +12,7 @@ use Rattle.setl_model.specs.Core.{Hand, Result, Frame, Core, line_of}
 use Rattle.setl_model.specs.World.{branch}
 use Rattle.setl_model.specs.Moves.{go, store_or_bind, turn, with_outcome, deliver}
 use Rattle.setl_model_turns.specs.Laws.{with_turns}
-use Rattle.setl_model_turns.proofs.Outcomes.{Keeps}
+use Rattle.setl_operators_turns.specs.Outcomes.{Keeps}
 
 -- the second end is the first, unless that is for want of turns
 abbrev pub KeepsEnd : End → Move Core → Type 0
@@ -64,13 +64,13 @@ after_a_turn next later c n h = split (nat_le 1 c.shared.world.left) refl
 
 -- ---- outcomes
 
-pub after_outcome : (o o' : Outcome) (line : ℕ) (next : Option Datum → Core → Move Core) → ((v : Option Datum) → GoesOn (next v)) → Keeps o o' → (c : Core) (n : ℕ) → c.shared.world.left ≤ n → Follows (with_outcome o line c next) (with_outcome o' line (with_turns n c) next)
-after_outcome (Gives v m) o' line next later k c n h = rw (k) (later v (with_turns (c.shared.world.left - m) c) (n - m) (omega arith))
-after_outcome (Fails fault) o' line next later k c n h = rw k
-after_outcome Overspends o' line next later k c n h = tt
+pub after_outcome : (left : ℕ) (o o' : Outcome) (line : ℕ) (next : Option Datum → Core → Move Core) → ((v : Option Datum) → GoesOn (next v)) → Keeps left o o' → (c : Core) (n : ℕ) → c.shared.world.left ≤ n → Follows (with_outcome o line c next) (with_outcome o' line (with_turns n c) next)
+after_outcome left (Gives v m) o' line next later k c n h = rw (k.0) (later v (with_turns (c.shared.world.left - m) c) (n - m) (omega arith))
+after_outcome left (Fails fault) o' line next later k c n h = rw k
+after_outcome left Overspends o' line next later k c n h = tt
 
-pub delivering : (o o' : Outcome) (work : List Frame) → Keeps o o' → (c : Core) (n : ℕ) → c.shared.world.left ≤ n → Follows (deliver o work c) (deliver o' work (with_turns n c))
-delivering o o' work k c n h = after_outcome o o' (line_of work) (λ v d. go (Result v) work d) (λ v. going (Result v) work) k c n h
+pub delivering : (left : ℕ) (o o' : Outcome) (work : List Frame) → Keeps left o o' → (c : Core) (n : ℕ) → c.shared.world.left ≤ n → Follows (deliver o work c) (deliver o' work (with_turns n c))
+delivering left o o' work k c n h = after_outcome left o o' (line_of work) (λ v d. go (Result v) work d) (λ v. going (Result v) work) k c n h
 
 -- ---- decisions
 

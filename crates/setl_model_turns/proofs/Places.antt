@@ -11,38 +11,9 @@ use Rattle.setl_model_runs.specs.Variable.{Variable, Global, Own, Bound}
 use Rattle.setl_model.specs.Core.{Execute, Result, Selected, Round, Brace, Change, Puts, Combines, Takes, Dropping, Frame, InStmt, Storing, Core, read_variable}
 use Rattle.setl_model.specs.Places.{part_of, with_part_at, part_at_all, with_part_at_all, combined, Taken, TakesOut, IsEmpty, CannotTake, take_out, take_from, store_whole, update, select, change_place}
 use Rattle.setl_model_turns.specs.Laws.{with_turns}
-use Rattle.setl_model_turns.proofs.Outcomes.{Keeps, then_keeps}
-use Rattle.setl_model_turns.proofs.Operators.{op_keeps}
+use Rattle.setl_operators_turns.specs.Outcomes.{Keeps}
+use Rattle.setl_model_turns.specs.PlaceLaws.{parts_keep, wholes_keep, combined_keep}
 use Rattle.setl_model_turns.proofs.Moves.{GoesOn, Follows, storing, after_outcome}
-
-part_keeps : (s : Selected) (v : Option Datum) (few many : ℕ) → few ≤ many → Keeps (part_of s v few) (part_of s v many)
-part_keeps (Round x) v few many h = op_keeps Get (v ∷ x ∷ []) few many h
-part_keeps (Brace x) v few many h = op_keeps Images (v ∷ x ∷ []) few many h
-
-whole_keeps : (s : Selected) (whole v : Option Datum) (few many : ℕ) → few ≤ many → Keeps (with_part_at s whole v few) (with_part_at s whole v many)
-whole_keeps (Round x) whole v few many h = op_keeps Put (whole ∷ x ∷ v ∷ []) few many h
-whole_keeps (Brace x) whole v few many h = op_keeps PutImages (whole ∷ x ∷ v ∷ []) few many h
-
-parts_keep : (ss : List Selected) (v : Option Datum) (few many : ℕ) → few ≤ many → Keeps (part_at_all ss v few) (part_at_all ss v many)
-parts_keep [] v few many h = refl
-parts_keep (s ∷ ss) v few many h =
-    then_keeps (part_of s v few) (part_of s v many) few many (λ part now. part_at_all ss part now) h (part_keeps s v few many h) (λ part a b k. parts_keep ss part a b k)
-
-wholes_keep : (ss : List Selected) (whole v : Option Datum) (few many : ℕ) → few ≤ many → Keeps (with_part_at_all ss whole v few) (with_part_at_all ss whole v many)
-wholes_keep [] whole v few many h = refl
-wholes_keep (s ∷ []) whole v few many h = whole_keeps s whole v few many h
-wholes_keep (s ∷ t ∷ ss) whole v few many h =
-    then_keeps (part_of s whole few) (part_of s whole many) few many (λ part now. then_with (with_part_at_all (t ∷ ss) part v now) now (λ new later. with_part_at s whole new later)) h (part_keeps s whole few many h)
-    (λ part a b k. then_keeps (with_part_at_all (t ∷ ss) part v a) (with_part_at_all (t ∷ ss) part v b) a b (λ new later. with_part_at s whole new later) k (wholes_keep (t ∷ ss) part v a b k)
-    (λ new x y l. whole_keeps s whole new x y l))
-
-combined_keep : (o : Operator) (v : Option Datum) (ss : List Selected) (whole : Option Datum) (few many : ℕ) → few ≤ many →
-    Keeps (combined ss whole (λ part now. op_of o (part ∷ v ∷ []) now) few) (combined ss whole (λ part now. op_of o (part ∷ v ∷ []) now) many)
-combined_keep o v [] whole few many h = op_keeps o (whole ∷ v ∷ []) few many h
-combined_keep o v (s ∷ ss) whole few many h =
-    then_keeps (part_of s whole few) (part_of s whole many) few many (λ part now. then_with (combined ss part (λ part now. op_of o (part ∷ v ∷ []) now) now) now (λ new later. with_part_at s whole new later)) h (part_keeps s whole few many h)
-    (λ part a b k. then_keeps (combined ss part (λ part now. op_of o (part ∷ v ∷ []) now) a) (combined ss part (λ part now. op_of o (part ∷ v ∷ []) now) b) a b (λ new later. with_part_at s whole new later) k (combined_keep o v ss part a b k)
-    (λ new x y l. whole_keeps s whole new x y l))
 
 -- what a variable holds doesn't rest on the turns
 same_variable : (x : Variable) (c : Core) (n : ℕ) → read_variable x (with_turns n c).shared ≡ read_variable x c.shared
@@ -52,20 +23,20 @@ same_variable (Bound former name) c n = refl
 
 taking_from : (t : Taken) (line : ℕ) (x : Variable) (at : List Selected) (target : Variable) (work : List Frame) → GoesOn (take_from t line x at target work)
 taking_from (TakesOut small v) line x at target work c n h =
-    rw (same_variable x c n) (after_outcome _ _ line _ (λ new. storing line x new (Result None) (Storing ((target, v) ∷ []) ∷ InStmt line Dropping ∷ work)) (wholes_keep at (read_variable x c.shared) (Some small) c.shared.world.left n h) c n h)
+    rw (same_variable x c n) (after_outcome _ _ _ line _ (λ new. storing line x new (Result None) (Storing ((target, v) ∷ []) ∷ InStmt line Dropping ∷ work)) (wholes_keep at (read_variable x c.shared) (Some small) c.shared.world.left n h) c n h)
 taking_from IsEmpty line x at target work c n h = (n, h, refl)
 taking_from (CannotTake fault) line x at target work c n h = refl
 
-storing_whole : (o o' : Outcome) (line : ℕ) (x : Variable) (work : List Frame) → Keeps o o' → (c : Core) (n : ℕ) → c.shared.world.left ≤ n → Follows (store_whole o line x work c) (store_whole o' line x work (with_turns n c))
-storing_whole o o' line x work k c n h = after_outcome o o' line _ (λ new. storing line x new (Execute no_stmt) work) k c n h
+storing_whole : (left : ℕ) (o o' : Outcome) (line : ℕ) (x : Variable) (work : List Frame) → Keeps left o o' → (c : Core) (n : ℕ) → c.shared.world.left ≤ n → Follows (store_whole o line x work c) (store_whole o' line x work (with_turns n c))
+storing_whole left o o' line x work k c n h = after_outcome left o o' line _ (λ new. storing line x new (Execute no_stmt) work) k c n h
 
 updating : (change : Change) (line : ℕ) (x : Variable) (at : List Selected) (work : List Frame) → GoesOn (update change line x at work)
 updating (Puts v) line x at work c n h =
-    rw (same_variable x c n) (storing_whole _ _ line x work (wholes_keep at (read_variable x c.shared) v c.shared.world.left n h) c n h)
+    rw (same_variable x c n) (storing_whole _ _ _ line x work (wholes_keep at (read_variable x c.shared) v c.shared.world.left n h) c n h)
 updating (Combines o v) line x at work c n h =
-    rw (same_variable x c n) (storing_whole _ _ line x work (combined_keep o v at (read_variable x c.shared) c.shared.world.left n h) c n h)
+    rw (same_variable x c n) (storing_whole _ _ _ line x work (combined_keep o v at (read_variable x c.shared) c.shared.world.left n h) c n h)
 updating (Takes k target) line x at work c n h =
-    rw (same_variable x c n) (after_outcome _ _ line _ (λ part. taking_from (take_out k part) line x at target work) (parts_keep at (read_variable x c.shared) c.shared.world.left n h) c n h)
+    rw (same_variable x c n) (after_outcome _ _ _ line _ (λ part. taking_from (take_out k part) line x at target work) (parts_keep at (read_variable x c.shared) c.shared.world.left n h) c n h)
 
 pub selecting : (rest : Selectors) (line : ℕ) (x : Variable) (change : Change) (got : List Selected) (work : List Frame) → GoesOn (select line x change got rest work)
 selecting no_selector line x change got work c n h = updating change line x (reverse got) work c n h

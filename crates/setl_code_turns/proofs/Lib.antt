@@ -1,0 +1,4 @@
+mod Moves
+mod Instructions
+mod Steps
+mod Laws

@@ -1,0 +1,4 @@
+pub mod Outcomes
+pub mod Free
+pub mod Operators
+pub mod Laws
