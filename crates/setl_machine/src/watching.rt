@@ -64,3 +64,42 @@ pub fn run_watched<I: Source, O: Sink>(
     }
     End::NoMemory
 }
+
+/// Does the next instruction and tells the watchers its events, as `run_watched` does. `Paused` comes where the run goes on
+/// behind it.
+///
+/// Where it ends the run the watchers were told all events of the run's last state. `NoMemory` may come when the instruction
+/// was done, and nothing is known of the watchers then.
+pub fn step_watched<I: Source, O: Sink>(
+    declarations: &Declarations<'_>,
+    store: &mut Store<'_>,
+    control: &mut Control,
+    input: &mut I,
+    out: &mut O,
+    watchers: &mut Vec<Box<dyn Watcher>>,
+    reports: &mut Vec<u8>,
+) -> End
+    requires no_fault { control.old.reader.fault ≡ None }
+    requires serves { Serves declarations.now store.old }
+    ensures ran { (rest' : List ℕ) → IsRest (ahead control.new.reader.ended (I.left input.new)) rest' →
+        (rest : List ℕ) × IsRest (ahead control.old.reader.ended (I.left input.old)) rest
+        × (n : ℕ) × (result ≡ End.Paused → n ≡ 1) × Ran (modes_of declarations.now) (plain_code store.old.code) n (stood_for store.old.core control.old rest) (seen (O.held out.old) (O.faults out.old) (I.faults input.old)) (seen (O.held out.new) (O.faults out.new) (I.faults input.new)) (stood_for store.new.core control.new rest') result
+        × ReadsOnly (modes_of declarations.now) (plain_code store.old.code) n (stood_for store.old.core control.old rest) (O.held out.old) (O.held out.new) (I.left input.old) (I.left input.new)
+        × Hears (modes_of declarations.now) (plain_code store.old.code) n (stood_for store.old.core control.old rest) (watched (map (λ w. watch w) watchers.old.items) reports.old.items) (watched (map (λ w. watch w) watchers.new.items) reports.new.items) result }
+    ensures code { result ≡ End.Paused → store.new.code ≡ store.old.code }
+    ensures goes_on { result ≡ End.Paused → control.new.reader.fault ≡ None }
+    ensures took { TakesOff (I.left input.old) (I.left input.new) }
+    ensures honest { StaysHonest control.old.reader.ended (I.left input.old) control.new.reader.ended (I.left input.new) }
+{
+    told_in_parts();
+    events_are();
+    ends_tell_nothing();
+    let events = match step_telling(declarations, store, control, input, out) {
+        Ok(events) => events,
+        Err(end) => return end,
+    };
+    match tell_each(watchers, &events, reports) {
+        Ok(()) => End::Paused,
+        Err(_) => End::NoMemory,
+    }
+}
