@@ -1,9 +1,7 @@
 -- The laws of the bound on turns.
-use Rattle.std.proofs.Common.{arith, ◌≡◌, refl, sym, ap, ◌∙◌, subst, ℕ, zero, suc, List}
-use Rattle.std.specs.Prelude.{◌≤◌, ◌<◌, ◌+◌}
-use Rattle.setl_model_runs.specs.Events.{End, Spent}
-use Rattle.setl_model_runs.specs.Run.{State, Goes, Ends, Test, step, run}
-use Rattle.setl_code.specs.Code.{Code}
+use Rattle.std.proofs.Common.{arith, ◌≡◌, sym, ap, ◌∙◌, subst, zero, suc}
+use Rattle.std.specs.Prelude.{◌+◌}
+use Rattle.setl_model_runs.specs.Run.{State, Goes, Ends, step, run}
 use Rattle.setl_code.specs.CodeCore.{CodeCore}
 use Rattle.setl_code.specs.CodeMeans.{code_first}
 use Rattle.setl_code.specs.Machine.{machine}

@@ -1,14 +1,13 @@
 -- Steps and runs with fewer and with more turns left.
-use Rattle.std.proofs.Common.{arith, ◌≡◌, refl, sym, ap, ◌∙◌, subst, ℕ, zero, suc, Bool, true, false, List, [], ◌∷◌, Option}
+use Rattle.std.proofs.Common.{arith, ◌≡◌, refl, sym, ap, ◌∙◌, subst, ℕ, zero, suc, Bool, true, false, List, [], ◌∷◌}
 use Rattle.std.specs.Prelude.{◌≤◌, ◌<◌, ◌+◌, ◌++◌}
-use Rattle.setl_value.specs.Datum.{Datum}
 use Rattle.setl_model_runs.specs.Variable.{Global, Own, Bound}
 use Rattle.setl_model_runs.specs.Events.{End, Done, Stopped, Unfit, Spent, Stuck}
 use Rattle.setl_model_runs.specs.Run.{Store, Move, Moves, Halts, State, Next, Goes, Ends, Test, stored, if_fits, store_all, settle, step, and_then, run}
 use Rattle.setl_code.specs.Code.{Code}
 use Rattle.setl_code.specs.CodeCore.{CodeCore}
 use Rattle.setl_code.specs.Machine.{machine, fetch}
-use Rattle.setl_code_turns.specs.Laws.{with_more, richer}
+use Rattle.setl_code_turns.specs.Laws.{richer}
 use Rattle.setl_code_turns.proofs.Moves.{Follows, IsPoor}
 use Rattle.setl_code_turns.proofs.Instructions.{stepping}
 

@@ -161,7 +161,12 @@ fn push_names(
 }
 
 /// Adds the lines of the own variables of the body at work. The error is want of memory.
-fn push_body(alloc: Global, store: &Store<'_>, body: &Body, into: &mut Vec<u8>) -> Result<(), Memory>
+fn push_body(
+    alloc: Global,
+    store: &Store<'_>,
+    body: &Body,
+    into: &mut Vec<u8>,
+) -> Result<(), Memory>
     requires there { (x : Variable) → IsThere (held x store.now.core) }
     requires names { (variables store.now.core).own ≡ own_variables store.now.core.now.body body.now.parameters body.now.names }
     ensures { OnOk result (into.new.items ≡ into.old.items ++ held_lines (variables store.now.core).own store.now.core) }

@@ -24,6 +24,6 @@ returns-in-None c =
     let own : (variables k).own ≡ [] = ap (λ v. v.own) c.body-body.ensures.variables ∙ none_of code c.body-body.result none in
     c.in_ok-push_globals.ensures
     ∙ ap (λ ls. c.args.into.now.items ++ ls)
-      (sym (append-nil (held_lines (map Global c.as_slice.result.now) k))
-      ∙ ap (λ xs. held_lines xs k ++ []) (sym globals)
-      ∙ ap (λ xs. held_lines (variables k).global k ++ held_lines xs k) (sym own))
+    (sym (append-nil (held_lines (map Global c.as_slice.result.now) k))
+    ∙ ap (λ xs. held_lines xs k ++ []) (sym globals)
+    ∙ ap (λ xs. held_lines (variables k).global k ++ held_lines xs k) (sym own))
