@@ -22,4 +22,4 @@ pub use laws::ends_write_nothing;
 pub use machine::{run, run_whole};
 pub use setl_machine_control::{Control, End, StopKind};
 pub use setl_machine_variables::Declarations;
-pub use watching::{run_watched, step_watched};
+pub use watching::run_watched;
