@@ -1,26 +1,25 @@
 -- Instructions with fewer and with more turns left.
-use Rattle.std.proofs.Common.{arith, ◌≡◌, refl, ℕ, suc, true, false, List, [], ◌∷◌, Option, Some, None}
+use Rattle.std.proofs.Common.{arith, ◌≡◌, refl, ℕ, suc, false, List, [], ◌∷◌, Option, Some, None}
 use Rattle.std.specs.Prelude.{◌≤◌, ◌<◌, ◌+◌, length, slice_get}
-use Rattle.setl_value.specs.Datum.{Datum, bool, int, text, atom, tuple, set, part_list}
-use Rattle.setl_operators_table.specs.declared.Operator.{Operator}
+use Rattle.setl_value.specs.Datum.{Datum, bool, int, text, atom, tuple, set}
 use Rattle.setl_operators_table.specs.Operators.{op_of}
-use Rattle.setl_operators_table.specs.Outcome.{Outcome, Fault}
+use Rattle.setl_operators_table.specs.Outcome.{Outcome}
 use Rattle.setl_operators_turns.specs.Operators.{op_keeps}
 use Rattle.setl_operators_turns.specs.Outcomes.{Keeps}
 use Rattle.setl_text.specs.Reading.{Reading, Denotes, AtEnd, NotForm, TooWide, TooDeep, read_denotation}
 use Rattle.setl_model_runs.specs.Variable.{Variable, Global, Own, Bound}
 use Rattle.setl_model_runs.specs.Events.{Called, Back}
 use Rattle.setl_model_runs.specs.Run.{Move, Moves}
-use Rattle.setl_program.specs.Program.{Begin, Members, Points}
+use Rattle.setl_program.specs.Program.{Begin}
 use Rattle.setl_program.specs.declared.kinds.Connective.{Connective}
 use Rattle.setl_program.specs.declared.kinds.Connective.TheVariants.{And, Or, Implies}
 use Rattle.setl_model.specs.Calls.{bindings}
-use Rattle.setl_model.specs.Core.{Item, One, Two, Selected}
+use Rattle.setl_model.specs.Core.{One, Two, Selected}
 use Rattle.setl_model.specs.Iterations.{Started, Starts, Refuses, items_of}
-use Rattle.setl_model.specs.Places.{Taken, TakesOut, IsEmpty, CannotTake, take_out, part_at_all, with_part_at_all, combined}
+use Rattle.setl_model.specs.Places.{Taken, TakesOut, IsEmpty, CannotTake, take_out, part_at_all}
 use Rattle.setl_model_turns.specs.PlaceLaws.{parts_keep, wholes_keep, combined_keep}
 use Rattle.setl_code.specs.Code.{Alteration, Putting, Combining, TakingOut, Instr, Push, PushAtom, PushEof, Load, Take, StoreIn, Operate, Alter, Decides, TestBool, Unless, Jump, DropTop, DupTop, PartsOf, BeginOver, NextOr, BeginOf, AddBelow, LeaveAll, PayRound, CallBody, ReturnTop, KeepAll, GoBack, PrintTop, ReadOne, StopRun, Step, Body, Code}
-use Rattle.setl_code.specs.CodeCore.{Held, There, Gone, Operand, Result, Iterator, PairIterator, Collecting, popped, without_iterators, Activation, Copy, CodeCore, held, write, cleared, variables_of}
+use Rattle.setl_code.specs.CodeCore.{Gone, Operand, Result, Iterator, PairIterator, Collecting, popped, without_iterators, Activation, Copy, CodeCore, held, write, cleared, variables_of}
 use Rattle.setl_code.specs.Machine.{go_to, next, store_in, selected_by, store_whole, take_from, alter, begin_over, next_or, Added, Adds, Refused, Nowhere, added, go_added, take_apart, call_body, handed_back, return_to, keep_all, go_back, push_read, print_values, decides, do_instr, do_step}
 use Rattle.setl_code_turns.specs.Laws.{with_more}
 use Rattle.setl_code_turns.proofs.Moves.{Follows, GoesOn, after_a_turn, after_outcome, deciding, on_the_top, on_those_popped, on_what_is_held, on_the_rest}

@@ -1,6 +1,6 @@
 -- Moves with fewer and with more turns left.
 use Rattle.std.proofs.lemmas.Bool.Decides.{nat_tests}
-use Rattle.std.proofs.Common.{arith, ◌≡◌, refl, sym, ap, subst, ℕ, Bool, true, false, List, [], ◌∷◌, Option, Some, None}
+use Rattle.std.proofs.Common.{arith, ◌≡◌, refl, subst, ℕ, Bool, true, false, List, [], ◌∷◌, Option, Some, None}
 use Rattle.std.specs.Prelude.{◌≤◌, ◌<◌, ◌+◌, ◌-◌, nat_le}
 use Rattle.setl_value.specs.Datum.{Datum, bool, int, text, atom, tuple, set}
 use Rattle.setl_operators_table.specs.Outcome.{Outcome, Gives, Fails, Overspends}

@@ -1,14 +1,13 @@
 -- Steps and runs with fewer and with more turns left.
-use Rattle.std.proofs.Common.{arith, ◌≡◌, refl, sym, ap, ◌∙◌, subst, ℕ, zero, suc, Bool, true, false, List, [], ◌∷◌, Option}
+use Rattle.std.proofs.Common.{arith, ◌≡◌, refl, sym, ap, ◌∙◌, subst, ℕ, zero, suc, Bool, true, false, List, [], ◌∷◌}
 use Rattle.std.specs.Prelude.{◌≤◌, ◌<◌, ◌+◌, ◌++◌}
-use Rattle.setl_value.specs.Datum.{Datum}
 use Rattle.setl_model_runs.specs.Variable.{Global, Own, Bound}
 use Rattle.setl_model_runs.specs.Events.{End, Done, Stopped, Unfit, Spent, Stuck}
 use Rattle.setl_model_runs.specs.Run.{Store, Move, Moves, Halts, State, Next, Goes, Ends, Test, stored, if_fits, store_all, settle, step, and_then, run}
 use Rattle.setl_code.specs.Code.{Code}
 use Rattle.setl_code.specs.CodeCore.{CodeCore}
 use Rattle.setl_code.specs.Machine.{machine, fetch}
-use Rattle.setl_code_turns.specs.Laws.{with_more, richer}
+use Rattle.setl_code_turns.specs.Laws.{richer}
 use Rattle.setl_code_turns.proofs.Moves.{Follows, IsPoor}
 use Rattle.setl_code_turns.proofs.Instructions.{stepping}
 
@@ -81,6 +80,19 @@ never_grows c test (suc n) s t e = go (step (machine c) test s) refl e (λ u k. 
     go (Goes u) is e later = omega (arith, never_grows_once c test s u is, later u e)
     go (Ends f u) is e later = absurd (cc)
 
+-- one step more
+no_more : (c : Code) (test : Test) (x : Next CodeCore) → and_then x (run (machine c) test 0) ≡ x
+no_more c test (Goes t) = refl
+no_more c test (Ends e t) = refl
+
+pub one_more : (c : Code) (test : Test) (n : ℕ) (a b : State CodeCore) → run (machine c) test n a ≡ Goes b → run (machine c) test (suc n) a ≡ step (machine c) test b
+one_more c test zero a b h = let same : a ≡ b = cc in subst (λ (s : State CodeCore). run (machine c) test 1 a ≡ step (machine c) test s) same (no_more c test (step (machine c) test a))
+one_more c test (suc n) a b h = go (step (machine c) test a) h (λ d k. one_more c test n d b k)
+  where
+    go : (x : Next CodeCore) → and_then x (run (machine c) test n) ≡ Goes b → ((d : State CodeCore) → run (machine c) test n d ≡ Goes b → run (machine c) test (suc n) d ≡ step (machine c) test b) → and_then x (run (machine c) test (suc n)) ≡ step (machine c) test b
+    go (Goes d) h later = later d h
+    go (Ends e d) h later = absurd (cc)
+
 module _ (c : Code) (test : Test) (d : ℕ) (some : 0 < d) where
   pub reaches : (n : ℕ) (s t : State CodeCore) → run (machine c) test n (richer d s) ≡ Goes t → d ≤ t.core.world.left → (u : State CodeCore) × (run (machine c) test n s ≡ Goes u) × (t ≡ richer d u)
   reaches zero s t e h = let same : richer d s ≡ t = cc in (s, refl, sym same)
@@ -118,3 +130,20 @@ module _ (c : Code) (test : Test) (d : ℕ) (some : 0 < d) where
 
   pub stops : (s t u : State CodeCore) (f : End) → step (machine c) test (richer d s) ≡ Ends f u → step (machine c) test s ≡ Goes t → ⊥
   stops s t u f e g = let come = subst (λ x. Comes d s x (step (machine c) test (richer d s))) g (step_comes c test d some s) in let goes = come.0 in cc
+
+  pub keeps_end : (n : ℕ) (s t : State CodeCore) (e : End) → (e ≡ Spent → ⊥) → run (machine c) test n s ≡ Ends e t → run (machine c) test n (richer d s) ≡ Ends e (richer d t)
+  keeps_end zero s t e other h = absurd (cc)
+  keeps_end (suc n) s t e other h = go (step (machine c) test s) (step_comes c test d some s) h (λ a k. keeps_end n a t e other k)
+    where
+      alike : (f : End) (a : State CodeCore) → step (machine c) test (richer d s) ≡ Ends f (richer d a) → Ends f a ≡ Ends e t → and_then (step (machine c) test (richer d s)) (run (machine c) test n) ≡ Ends e (richer d t)
+      alike f a come k =
+          let end : f ≡ e = cc in
+          let state : a ≡ t = cc in
+          subst (λ y. and_then y (run (machine c) test n) ≡ Ends e (richer d t)) (sym come) (ap (λ g. Ends g (richer d a)) end ∙ ap (λ b. Ends e (richer d b)) state)
+
+      go : (x : Next CodeCore) → Comes d s x (step (machine c) test (richer d s)) → and_then x (run (machine c) test n) ≡ Ends e t → ((a : State CodeCore) → run (machine c) test n a ≡ Ends e t → run (machine c) test n (richer d a) ≡ Ends e (richer d t)) → and_then (step (machine c) test (richer d s)) (run (machine c) test n) ≡ Ends e (richer d t)
+      go (Goes a) come h later = subst (λ y. and_then y (run (machine c) test n) ≡ Ends e (richer d t)) (sym come.0) (later a h)
+      go (Ends Spent a) come h later = let end : Spent ≡ e = cc in absurd (other (sym end))
+      go (Ends Done a) come h later = alike Done a come h
+      go (Ends (Stopped why line) a) come h later = alike (Stopped why line) a come h
+      go (Ends Stuck a) come h later = alike Stuck a come h

@@ -1,5 +1,5 @@
 -- A bound on turns only cuts a run of code.
-use Rattle.std.specs.Prelude.{◌≡◌, ◌≤◌, ◌<◌, ◌+◌, ℕ, List}
+use Rattle.std.specs.Prelude.{◌≡◌, ◌≤◌, ◌<◌, ◌+◌, ℕ, suc, List}
 use Rattle.setl_model_runs.specs.Events.{End, Spent}
 use Rattle.setl_model_runs.specs.Run.{State, Goes, Ends, Test, step, run}
 use Rattle.setl_code.specs.Code.{Code}
@@ -23,6 +23,13 @@ FewerTurnsReach = (c : Code) (test : Test) (input : List ℕ) (turns d n : ℕ) 
 abbrev pub FewerTurnsAreSpent : Type 0
 FewerTurnsAreSpent = (c : Code) (test : Test) (d : ℕ) (s u : State CodeCore) → step (machine c) test (richer d s) ≡ Goes u → u.core.world.left < d → step (machine c) test s ≡ Ends Spent s
 
+-- So where a run with more turns comes to a state that has the difference left, and its next step to one that hasn't, the one
+-- with fewer turns is out of turns at that state, but for these.
+abbrev pub FewerTurnsEndThere : Type 0
+FewerTurnsEndThere = (c : Code) (test : Test) (input : List ℕ) (turns d n : ℕ) (t u : State CodeCore) →
+    run (machine c) test n (code_first c input (turns + d)) ≡ Goes t → d ≤ t.core.world.left → step (machine c) test t ≡ Goes u → u.core.world.left < d →
+    (s : State CodeCore) × (run (machine c) test (suc n) (code_first c input turns) ≡ Ends Spent s) × (t ≡ richer d s)
+
 -- where a step with more turns ends the run, one with fewer turns doesn't go on
 abbrev pub FewerTurnsDontGoOn : Type 0
 FewerTurnsDontGoOn = (c : Code) (test : Test) (d : ℕ) (s t u : State CodeCore) (e : End) → step (machine c) test (richer d s) ≡ Ends e u → step (machine c) test s ≡ Goes t → ⊥
@@ -30,3 +37,8 @@ FewerTurnsDontGoOn = (c : Code) (test : Test) (d : ℕ) (s t u : State CodeCore)
 -- no run has more turns left than it began with
 abbrev pub TurnsNeverGrow : Type 0
 TurnsNeverGrow = (c : Code) (test : Test) (n : ℕ) (s t : State CodeCore) → run (machine c) test n s ≡ Goes t → t.core.world.left ≤ s.core.world.left
+
+-- a run that ended, and not for want of turns, ends alike with more of them
+abbrev pub MoreTurnsKeepCodeEnds : Type 0
+MoreTurnsKeepCodeEnds = (c : Code) (test : Test) (input : List ℕ) (turns d n : ℕ) (t : State CodeCore) (e : End) →
+    (e ≡ Spent → ⊥) → run (machine c) test n (code_first c input turns) ≡ Ends e t → run (machine c) test n (code_first c input (turns + d)) ≡ Ends e (richer d t)

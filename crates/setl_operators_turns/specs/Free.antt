@@ -1,21 +1,20 @@
 -- The operators that charge nothing.
-use Rattle.std.specs.Prelude.{ℕ, zero, suc, ℤ, pos, negsuc, Bool, true, false, nat_le, int_le, unsigned_abs, ◌-◌, List, [], ◌∷◌, length, slice_get, slice_range, Option, Some, None, Result, Ok, Err, if◌then◌else◌}
-use Rattle.std.specs.Option.{option_map, option_flatten}
-use Rattle.setl_value.specs.Copies.{are_places}
-use Rattle.setl_value.specs.Datum.{Datum, bool, int, text, atom, tuple, set, part_list, element_list, set_of, tuple_of, depth}
+use Rattle.std.specs.Prelude.{ℕ, zero, suc, ℤ, pos, Bool, true, false, nat_le, int_le, List, [], ◌∷◌, length, slice_get, Option, Some, None, Result, Ok, Err, if◌then◌else◌}
+use Rattle.std.specs.Option.{option_map}
+use Rattle.setl_value.specs.Datum.{Datum, bool, int, text, tuple, set, part_list, element_list, set_of, tuple_of, depth}
 use Rattle.setl_value.specs.Pairs.{is_map, images}
 use Rattle.setl_value.specs.WellFormed.{trim}
 use Rattle.setl_set.specs.Sets.{insert_datum, set_from}
 use Rattle.setl_scalar.specs.declared.ScalarFault.{ScalarFault}
 use Rattle.setl_scalar.specs.declared.ScalarFault.TheVariants.{Wide, Zero, Range, NoMemory}
-use Rattle.setl_scalar.specs.Integers.{add_of, sub_of, mul_of, neg_of, abs_of, power_of, div_of, mod_of}
+use Rattle.setl_scalar.specs.Integers.{add_of, sub_of, neg_of, abs_of, power_of, div_of, mod_of}
 use Rattle.setl_scalar.specs.Texts.{slice_of as slice_of_text}
 use Rattle.setl_tuple.specs.declared.TupleFault.{TupleFault}
 use Rattle.setl_tuple.specs.Tuples.{index_of, get_of, with_of, slice_of as slice_of_tuple}
-use Rattle.setl_map.specs.Maps.{domain_of, range_of, image, without_point, put_image, put_images}
+use Rattle.setl_map.specs.Maps.{domain_of, range_of, image, without_point, put_images}
 use Rattle.setl_operators_table.specs.Collections.{size, least_member, with_datum, less_datum, enumerate_set, enumerate_tuple, on_map, domain, range, lessf_datum}
 use Rattle.setl_operators_table.specs.Numbers.{whole, negate, absolute, is_even, is_odd, raise, divide, greater, lesser, plus, minus, modulo}
-use Rattle.setl_operators_table.specs.Outcome.{Outcome, Gives, Fails, Overspends, KindFault, RangeFault, DeepFault, value, set_value, within_depth, unary, binary, ternary}
+use Rattle.setl_operators_table.specs.Outcome.{Outcome, Gives, Fails, KindFault, RangeFault, DeepFault, value, set_value, within_depth, unary, binary, ternary}
 use Rattle.setl_operators_table.specs.Puts.{put_set}
 use Rattle.setl_operators_table.specs.Selections.{component, letter, get, images_of, part_of_tuple, part_of_text, slice, tail}
 use Rattle.setl_operators_table.specs.Truths.{negation, both, either, is_below, is_at_most, is_in, subset, opposite, equality, kind_test}

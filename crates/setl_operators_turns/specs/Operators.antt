@@ -5,7 +5,7 @@ use Rattle.setl_value.specs.Datum.{Datum, bool, int, text, atom, tuple, set, par
 use Rattle.setl_set.specs.Subsets.{pow_of, npow_of, subsets_of_size}
 use Rattle.setl_operators_table.specs.declared.Operator.{Operator}
 use Rattle.setl_operators_table.specs.declared.Operator.TheVariants.{Negate, Abs, Even, Odd, Size, Not, Pow, Domain, Range, Arb, Str, IsInteger, IsString, IsBoolean, IsAtom, IsTuple, IsSet, IsMap, FoldAdd, FoldMultiply, FoldMax, FoldMin, FoldAnd, FoldOr, Add, Subtract, Multiply, Power, Divide, Modulo, Max, Min, With, Less, Lessf, Npow, Equal, NotEqual, Below, AtMost, Above, AtLeast, In, NotIn, Subset, Includes, Get, Images, Slice, Tail, SetOf, TupleOf, SetRange, TupleRange, SetStep, TupleStep, Put, PutImages}
-use Rattle.setl_operators_table.specs.Outcome.{Outcome, Fails, ZeroFault, RangeFault, all_values, value, tuple_value, within_depth, charging, unary, binary, ternary}
+use Rattle.setl_operators_table.specs.Outcome.{Outcome, Fails, ZeroFault, RangeFault, all_values, value, tuple_value, within_depth, charging, binary}
 use Rattle.setl_operators_table.specs.Operators.{op_of}
 use Rattle.setl_operators_table.specs.Numbers.{negate, absolute, is_even, is_odd, raise, divide, greater, lesser, plus, minus, times, modulo, replicated}
 use Rattle.setl_operators_table.specs.Truths.{negation, both, either, is_below, is_at_most, is_in, subset, equality, is_integer_datum, is_string_datum, is_boolean_datum, is_atom_datum, is_tuple_datum, is_set_datum, is_map_datum}

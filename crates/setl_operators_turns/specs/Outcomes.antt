@@ -1,6 +1,6 @@
 -- What an operator gives with some turns left, beside what it gives with more of them.
 use Rattle.std.proofs.lemmas.Bool.Decides.{nat_tests}
-use Rattle.std.proofs.Common.{arith, ◌≡◌, refl, ap, ◌∙◌, ℕ, zero, suc, Bool, true, false, List, [], ◌∷◌, Option, Some, None}
+use Rattle.std.proofs.Common.{arith, ◌≡◌, refl, ap, ℕ, zero, suc, Bool, true, false, List, [], ◌∷◌, Option, Some, None}
 use Rattle.std.specs.Prelude.{◌≤◌, ◌<◌, ◌+◌, ◌-◌, nat_le, if◌then◌else◌}
 use Rattle.setl_value.specs.Datum.{Datum}
 use Rattle.setl_operators_table.specs.Outcome.{Outcome, Gives, Fails, Overspends, adding, charging, then_with, unary, binary, ternary}
