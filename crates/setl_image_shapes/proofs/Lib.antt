@@ -1,0 +1,9 @@
+pub mod Stacking
+pub mod Popping
+pub mod Joining
+pub mod Parting
+pub mod Moving
+pub mod Arriving
+pub mod Walking
+pub mod Finding
+pub mod Going
