@@ -20,6 +20,7 @@ use setl_value::Value;
 impl<'c> Store<'c> {
     /// The value on top; None where none is there, or it is `om`, a collection, an iterator, or a set or a tuple in a form. It
     /// takes no memory.
+    #[inline(always)]
     pub fn one(&self) -> Option<&Value>
         ensures { IfSome result (λ value. self.now.core.now.operands ≡ Holds (Some (datum value.now)) ∷ drop 1 self.now.core.now.operands) }
     {
@@ -28,6 +29,7 @@ impl<'c> Store<'c> {
 
     /// The two values on top, the upper one last; None where one of the two isn't there, or is `om`, a collection, an
     /// iterator, or a set or a tuple in a form. It takes no memory.
+    #[inline(always)]
     pub fn two(&self) -> Option<(&Value, &Value)>
         ensures { IfSome result (λ both. self.now.core.now.operands ≡ Holds (Some (datum both.1.now)) ∷ Holds (Some (datum both.0.now)) ∷ drop 2 self.now.core.now.operands) }
     {
@@ -70,6 +72,7 @@ impl<'c> Store<'c> {
 
     // The value that so many operands stand above; None where none is there, or it is `om`, a collection, an iterator, or a
     // set or a tuple in a form.
+    #[inline(always)]
     fn value_below(&self, count: usize) -> Option<&Value>
         ensures { IfSome result (λ value. drop count self.now.core.now.operands ≡ Holds (Some (datum value.now)) ∷ drop (count + 1) self.now.core.now.operands) }
     {

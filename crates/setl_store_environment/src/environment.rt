@@ -768,6 +768,7 @@ fn put_back<S: Drop, O: Drop, A: Drop, M: Drop, F: Drop>(
 }
 
 // Reserves memory for `n` entries, where something is kept.
+#[inline(always)]
 fn reserve_entries<E>(trail: &mut Trail<E>, n: usize) -> Result<(), Memory>
     ensures same { trail.new.items ≡ trail.old.items }
     ensures ready { OnOk result (n ≤ ready_of (mark_count trail.new.items) trail.new.spare) }
