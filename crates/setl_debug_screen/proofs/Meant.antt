@@ -1,10 +1,10 @@
 -- A core that is the same as one of the meaning shows what is meant.
 use Rattle.std.proofs.Common.{◌≡◌, ◌∙◌, refl, sym, ap, subst, ℕ, List, [], ◌∷◌, ◌++◌}
 use Rattle.setl_model_runs.specs.Events.{End}
-use Rattle.setl_model_runs.specs.Variable.{Variable, Environment, Global, Own, Bound, value_in}
+use Rattle.setl_model_runs.specs.Variable.{Variable, Environment, Global, Own, Bound}
 use Rattle.setl_program.specs.Program.{Program}
 use Rattle.setl_model.specs.Core.{Frame, InCall, Activation, Core, read_variable}
-use Rattle.setl_code.specs.CodeCore.{Held, There, CodeCore, held}
+use Rattle.setl_code.specs.CodeCore.{There, CodeCore, held}
 use Rattle.setl_code.specs.CodeOf.{code_of}
 use Rattle.setl_code.specs.Plain.{Variables}
 use Rattle.setl_code_simulation.specs.States.{BodyAtWork, IsBody, bodies_at_work, SameActivation, SameActivations, SameCore}

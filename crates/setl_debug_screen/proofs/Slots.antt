@@ -1,5 +1,5 @@
 -- The variables of slots.
-use Rattle.std.proofs.Common.{arith, ◌≡◌, ◌∙◌, refl, sym, ap, subst, ℕ, zero, suc, List, [], ◌∷◌, ◌++◌, map, length, Option, Some, None}
+use Rattle.std.proofs.Common.{arith, ◌≡◌, ◌∙◌, refl, ap, ℕ, zero, suc, List, [], ◌∷◌, ◌++◌, map, length, Some, None}
 use Rattle.std.specs.Prelude.{◌<◌, ◌+◌, slice_get}
 use Rattle.setl_model_runs.specs.Variable.{Variable, Global, Own}
 use Rattle.std.specs.Option.{option_map}

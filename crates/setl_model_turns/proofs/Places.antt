@@ -1,15 +1,11 @@
 -- Steps of updates.
-use Rattle.std.proofs.Common.{◌≡◌, refl, ℕ, List, [], ◌∷◌, Option, Some, None}
+use Rattle.std.proofs.Common.{◌≡◌, refl, ℕ, List, [], ◌∷◌, Some, None}
 use Rattle.std.specs.Prelude.{◌≤◌, reverse}
-use Rattle.setl_value.specs.Datum.{Datum}
-use Rattle.setl_operators_table.specs.declared.Operator.{Operator}
-use Rattle.setl_operators_table.specs.declared.Operator.TheVariants.{Get, Images, Put, PutImages}
-use Rattle.setl_operators_table.specs.Outcome.{Outcome, then_with}
-use Rattle.setl_operators_table.specs.Operators.{op_of}
+use Rattle.setl_operators_table.specs.Outcome.{Outcome}
 use Rattle.setl_program.specs.Program.{Selectors, no_selector, round_selector, brace_selector, Place, no_stmt}
 use Rattle.setl_model_runs.specs.Variable.{Variable, Global, Own, Bound}
-use Rattle.setl_model.specs.Core.{Execute, Result, Selected, Round, Brace, Change, Puts, Combines, Takes, Dropping, Frame, InStmt, Storing, Core, read_variable}
-use Rattle.setl_model.specs.Places.{part_of, with_part_at, part_at_all, with_part_at_all, combined, Taken, TakesOut, IsEmpty, CannotTake, take_out, take_from, store_whole, update, select, change_place}
+use Rattle.setl_model.specs.Core.{Execute, Result, Selected, Change, Puts, Combines, Takes, Dropping, Frame, InStmt, Storing, Core, read_variable}
+use Rattle.setl_model.specs.Places.{Taken, TakesOut, IsEmpty, CannotTake, take_out, take_from, store_whole, update, select, change_place}
 use Rattle.setl_model_turns.specs.Laws.{with_turns}
 use Rattle.setl_operators_turns.specs.Outcomes.{Keeps}
 use Rattle.setl_model_turns.specs.PlaceLaws.{parts_keep, wholes_keep, combined_keep}

@@ -1,4 +1,4 @@
-use Rattle.std.proofs.Common.{◌≡◌, ◌++◌, subst, sym, map}
+use Rattle.std.proofs.Common.{◌≡◌, subst, sym, map}
 use Rattle.setl_code.specs.Plain.{own_variables, plain_name}
 use Rattle.setl_store.specs.Standing.{variables}
 use Rattle.setl_debug_screen.proofs.variables.push_body.Goals as goal

@@ -1,8 +1,7 @@
-use Rattle.std.proofs.Common.{◌≡◌, ◌∙◌, ◌+◌, ap, subst, sym, map, Some, length, slice_get}
+use Rattle.std.proofs.Common.{◌≡◌, ◌∙◌, ◌+◌, ap, sym, map, Some, length, slice_get}
 use Rattle.std.proofs.lemmas.Option.{slice_get-map, slice_get-get_or}
 use Rattle.std.specs.Option.{option_map}
 use Rattle.setl_code.specs.Plain.{plain_name}
-use Rattle.setl_store.specs.Standing.{variables}
 use Rattle.setl_debug_screen.proofs.Slots.{later}
 use Rattle.setl_debug_screen.proofs.variables.push_names.Goals as goal
 

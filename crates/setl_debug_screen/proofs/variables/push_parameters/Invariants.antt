@@ -1,4 +1,4 @@
-use Rattle.std.proofs.Common.{◌≡◌, ◌+◌, ◌++◌, map, drop}
+use Rattle.std.proofs.Common.{◌≡◌, ◌++◌, map, drop}
 use Rattle.setl_model_runs.specs.Variable.{Own}
 use Rattle.setl_debug_screen.specs.code.Standing.{held_lines}
 use Rattle.setl_debug_screen.proofs.variables.push_parameters.Given as goal
