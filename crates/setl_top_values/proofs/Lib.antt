@@ -1,0 +1,14 @@
+mod Literals
+mod Languages
+mod Standing
+mod Parts
+mod Selections
+mod Trees
+mod Statements
+mod StatementTrees
+mod Grammar
+mod Programs
+mod Pieces
+mod Marking
+mod Whole
+mod Codes
