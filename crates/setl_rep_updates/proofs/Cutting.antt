@@ -96,7 +96,7 @@ not_first x z (Some o) h e = by (is_eq (datum_cmp z o.0)) refl
     by true s = absurd (h (same_if_eq z o.0 s ∙ sym (same_if_eq x o.0 e)))
     by false s = s
 
-same_front : (z d : Datum) (f g : List Datum) → images z f ≡ images z g → images z (d ∷ f) ≡ images z (d ∷ g)
+pub same_front : (z d : Datum) (f g : List Datum) → images z f ≡ images z g → images z (d ∷ f) ≡ images z (d ∷ g)
 same_front z d f g h = by (is_datum z (first_of (pair_parts d)))
   where
     by : (t : Bool) → filter_map second (cond t (d ∷ pairs_at z f) (pairs_at z f)) ≡ filter_map second (cond t (d ∷ pairs_at z g) (pairs_at z g))
@@ -119,7 +119,7 @@ at_kept x first images f None h = refl
 at_kept x first images f (Some o) h =
     ap (λ l. first o.0 ++ images (set_of l)) (others_stay x o.0 f (λ e. false≢true (sym (ap not ((eq_iff_same x o.0).1 (sym e))) ∙ h)))
 
-abbrev at_points : (first images : Datum → List Datum) → List Datum → Datum → List Datum
+abbrev pub at_points : (first images : Datum → List Datum) → List Datum → Datum → List Datum
 at_points first images f p = at_point first images f (pair_parts p)
 
 of_points_kept : (z x : Datum) (first images : Datum → List Datum) (f ds : List Datum) → has_datum z (flat_map (at_points first images (without_point x f)) (filter (other x) ds)) ≡ true → has_datum z (flat_map (at_points first images f) ds) ≡ true

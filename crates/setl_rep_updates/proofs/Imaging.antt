@@ -64,7 +64,7 @@ pub in_second : (z : Datum) (xs ys : List Datum) → has_datum z ys ≡ true →
 in_second z xs ys h = has_append z xs ys ∙ or_right (has_datum z xs) (has_datum z ys) h
 
 -- what each member of a list gives, with one member more, and of some members
-of_inserted : (z : Datum) (g : Datum → List Datum) (p : Datum) (ds : List Datum) → has_datum z (flat_map g (insert_datum p ds)) ≡ true → (has_datum z (g p) ≡ true) ⊎ (has_datum z (flat_map g ds) ≡ true)
+pub of_inserted : (z : Datum) (g : Datum → List Datum) (p : Datum) (ds : List Datum) → has_datum z (flat_map g (insert_datum p ds)) ≡ true → (has_datum z (g p) ≡ true) ⊎ (has_datum z (flat_map g ds) ≡ true)
 of_inserted z g p [] h = of_both z (g p) [] h
 of_inserted z g p (e ∷ es) h = by (datum_cmp p e) h (of_inserted z g p es)
   where
@@ -77,7 +77,7 @@ of_inserted z g p (e ∷ es) h = by (datum_cmp p e) h (of_inserted z g p es)
       | inr q ↦ elim (r q) [ inl s ↦ inl s | inr s ↦ inr (in_second z (g e) (flat_map g es) s) ]
     ]
 
-in_inserted : (z : Datum) (g : Datum → List Datum) (p : Datum) (ds : List Datum) → has_datum z (g p) ≡ true → has_datum z (flat_map g (insert_datum p ds)) ≡ true
+pub in_inserted : (z : Datum) (g : Datum → List Datum) (p : Datum) (ds : List Datum) → has_datum z (g p) ≡ true → has_datum z (flat_map g (insert_datum p ds)) ≡ true
 in_inserted z g p [] h = in_first z (g p) [] h
 in_inserted z g p (e ∷ es) h = by (datum_cmp p e) refl (in_inserted z g p es h)
   where
@@ -156,21 +156,21 @@ other_table name None sets P k l b e many some es fs lk eb sm go h = absurd h
 other_table name (Some p) sets P k l b e many some es fs lk eb sm go h = (lk ∙ h.0, eb ∙ h.1, sm ∙ h.2, go h.3)
 
 -- the points of a table are elements of its base
-abbrev HasPointsOn : (name : ℕ → BaseId) → Mode → BaseId → Type 0
+abbrev pub HasPointsOn : (name : ℕ → BaseId) → Mode → BaseId → Type 0
 HasPointsOn name d b = (c : ℕ) × (m : Mode) × (d ≡ Elements c m) × (b ≡ name c)
 
-points_on : (name : ℕ → BaseId) (o : Option Layout) (d : Mode) (P : Form → Type 0) (k : Layout) (b : BaseId) (many : Bool) (es : Entries) → IsMapForm name (placed o d) false P (table k b many es) → HasPointsOn name d b
-points_on name None d P k b many es h = absurd h
-points_on name (Some l) (Elements c m) P k b many es h = (c, m, refl, h.1)
-points_on name (Some l) General P k b many es h = absurd h
-points_on name (Some l) Integers P k b many es h = absurd h
-points_on name (Some l) Strings P k b many es h = absurd h
-points_on name (Some l) Booleans P k b many es h = absurd h
-points_on name (Some l) Atoms P k b many es h = absurd h
-points_on name (Some l) (Sets a m) P k b many es h = absurd h
-points_on name (Some l) (Tuples m) P k b many es h = absurd h
-points_on name (Some l) (SingleMaps a m r) P k b many es h = absurd h
-points_on name (Some l) (MultiMaps a m s) P k b many es h = absurd h
+pub points_on : (name : ℕ → BaseId) (o : Option Layout) (d : Mode) (sets : Bool) (P : Form → Type 0) (k : Layout) (b : BaseId) (many : Bool) (es : Entries) → IsMapForm name (placed o d) sets P (table k b many es) → HasPointsOn name d b
+points_on name None d sets P k b many es h = absurd h
+points_on name (Some l) (Elements c m) sets P k b many es h = (c, m, refl, h.1)
+points_on name (Some l) General sets P k b many es h = absurd h
+points_on name (Some l) Integers sets P k b many es h = absurd h
+points_on name (Some l) Strings sets P k b many es h = absurd h
+points_on name (Some l) Booleans sets P k b many es h = absurd h
+points_on name (Some l) Atoms sets P k b many es h = absurd h
+points_on name (Some l) (Sets a m) sets P k b many es h = absurd h
+points_on name (Some l) (Tuples m) sets P k b many es h = absurd h
+points_on name (Some l) (SingleMaps a m r) sets P k b many es h = absurd h
+points_on name (Some l) (MultiMaps a m s) sets P k b many es h = absurd h
 
 pub base_of_points : (name : ℕ → BaseId) (m : Mode) (a : Attribute) (d r : Mode) (f : Form) (b : BaseId) (many : Bool) → m ≡ SingleMaps a d r → table_of f ≡ Some (b, many) → HasFormOrOm name m f → HasPointsOn name d b
 base_of_points name m a d r f b many e t h = by f t (subst (λ z. HasFormOrOm name z f) e h)
@@ -178,7 +178,7 @@ base_of_points name m a d r f b many e t h = by f t (subst (λ z. HasFormOrOm na
     by : (f : Form) → table_of f ≡ Some (b, many) → HasFormOrOm name (SingleMaps a d r) f → HasPointsOn name d b
     by (table k c s es) t h =
         let same : ◌≡◌ {A = BaseId × Bool} (c, s) (b, many) = cc in
-        let q = points_on name (layout_of a) d (HasForm name r) k c s es h in
+        let q = points_on name (layout_of a) d false (HasForm name r) k c s es h in
         (q.0, q.1, q.2, sym (ap (λ o. o.0) same) ∙ q.3)
     by om t h = let no : ⊥ = cc in absurd no
     by (plain v) t h = let no : ⊥ = cc in absurd no

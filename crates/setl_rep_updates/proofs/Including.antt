@@ -64,7 +64,7 @@ of_inserted x d (e ∷ es) h = by (datum_cmp d e) h (of_inserted x d es)
       | inr q ↦ elim (r q) [ inl s ↦ inl s | inr s ↦ inr (or_right (is_eq (datum_cmp x e)) (has_datum x es) s) ]
     ]
 
-all_inserted : (p : Datum → Bool) (d : Datum) (es : List Datum) → p d ≡ true → list_all p es ≡ true → list_all p (insert_datum d es) ≡ true
+pub all_inserted : (p : Datum → Bool) (d : Datum) (es : List Datum) → p d ≡ true → list_all p es ≡ true → list_all p (insert_datum d es) ≡ true
 all_inserted p d [] h a = and_from (p d) true h refl
 all_inserted p d (e ∷ es) h a = by (datum_cmp d e) (all_inserted p d es h (and_parts (p e) (list_all p es) a).1)
   where

@@ -3,3 +3,4 @@ pub mod Including
 pub mod Contents
 pub mod Imaging
 pub mod Cutting
+pub mod Adding

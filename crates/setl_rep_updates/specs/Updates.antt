@@ -1,9 +1,11 @@
 -- Updates of values in their declared forms.
-use Rattle.std.specs.Prelude.{◌≡◌, ℕ, nat_lt, Bool, true, false, ◌&&◌, Some, is_some, Result, IfOk, OnErr}
+use Rattle.std.specs.Prelude.{◌≡◌, ℕ, nat_lt, Bool, true, false, ◌&&◌, [], ◌∷◌, Option, Some, is_some, Result, IfOk, OnErr}
 use Rattle.setl_value.specs.Datum.{Datum, depth}
-use Rattle.setl_modes.specs.Modes.{Mode, Sets, SingleMaps}
+use Rattle.setl_modes.specs.Modes.{Mode, Sets, SingleMaps, MultiMaps}
 use Rattle.setl_modes.specs.Fits.{datum_fits}
-use Rattle.setl_operators_table.specs.Outcome.{Outcome, Gives}
+use Rattle.setl_operators_table.specs.declared.Operator.TheVariants.{Images, PutImages, With}
+use Rattle.setl_operators_table.specs.Outcome.{Outcome, Gives, then_with}
+use Rattle.setl_operators_table.specs.Operators.{op_of}
 use Rattle.std.specs.declared.alloc.AllocError.{AllocError}
 use Rattle.setl_rep_bases.specs.Bases.{BasesState}
 use Rattle.setl_rep_forms.specs.Form.{Form}
@@ -31,6 +33,21 @@ is_part m d = nat_lt (depth d) 499 && datum_fits m d
 abbrev pub puts : Mode → Form → Datum → Datum → Bool
 puts (SingleMaps a d r) f x y = is_some (table_of f) && (is_part d x && is_part r y)
 puts m f x y = false
+
+-- whether y comes to the images at x, in a map of this mode: where it has sets of images that are tested one by one and is held
+-- as a table
+abbrev pub adds_to : Mode → Mode → Form → Datum → Datum → Bool
+adds_to d (Sets a k) f x y = is_some (table_of f) && (is_part d x && is_part k y)
+adds_to d s f x y = false
+
+abbrev pub adds_image : Mode → Form → Datum → Datum → Bool
+adds_image (MultiMaps a d s) f x y = adds_to d s f x y
+adds_image m f x y = false
+
+-- what `f{x} with:= y` makes of the whole: the set of the images of x is read, y comes into it, and it is put there
+abbrev pub with_image : Option Datum → Datum → Datum → ℕ → Outcome
+with_image f x y left =
+    then_with (op_of Images (f ∷ Some x ∷ []) left) left (λ s now. then_with (op_of With (s ∷ Some y ∷ []) now) now (λ new later. op_of PutImages (f ∷ Some x ∷ new ∷ []) later))
 
 -- What an update leaves, where an operator is to give this of what the form f stood for, by the turns that are left, and g is
 -- the form that stands there now. True says that it was made: g stands for what the operator gives, without a charge, and the

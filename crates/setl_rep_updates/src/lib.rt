@@ -4,10 +4,13 @@
 //! value. Where it has no such way, it says so and leaves all as it was.
 #![tactic(auto)]
 
+mod images;
 pub mod laws;
 mod maps;
+mod members;
 mod sets;
 
+pub use images::include_image;
 pub use maps::{cut, put};
 pub use sets::include;
 pub use std::alloc::AllocError as Memory;

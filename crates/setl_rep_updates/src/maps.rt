@@ -95,8 +95,8 @@ fn put_in(
     Ok(true)
 }
 
-// Whether a value is put into a map, where its mode is this one. An error is want of memory.
-fn is_part(m: &Mode, x: &Value) -> Result<bool, Memory>
+/// Whether a value is put into a map, where its mode is this one. An error is want of memory.
+pub(crate) fn is_part(m: &Mode, x: &Value) -> Result<bool, Memory>
     ensures { IfOk result (λ t. t ≡ is_part (mode_of m.now) (datum x.now)) }
 {
     if x.depth() < 499 {
@@ -141,8 +141,8 @@ fn put_pair(
     }
 }
 
-// The set of one pair. An error is want of memory.
-fn set_of_pair(alloc: Global, x: &Value, y: &Value) -> Result<Value, Memory>
+/// The set of one pair. An error is want of memory.
+pub(crate) fn set_of_pair(alloc: Global, x: &Value, y: &Value) -> Result<Value, Memory>
     requires { (depth (datum x.now) < 499) × (depth (datum y.now) < 499) }
     ensures { IfOk result (λ v. datum v ≡ set_of (pair (datum x.now) (datum y.now) ∷ [])) }
 {
