@@ -5,3 +5,4 @@ pub mod Parts
 pub mod Places
 pub mod Finding
 pub mod Freely
+pub mod InForm

@@ -217,12 +217,12 @@ rest_taken laws end (Some m) at whole new turns t d formed h f =
 
 -- ---- of a store
 
-mode_is : (modes : Modes) (x : Variable) (d : Option Declaration) → IsDeclared modes x d → declared_mode modes x ≡ mode_by d
+pub mode_is : (modes : Modes) (x : Variable) (d : Option Declaration) → IsDeclared modes x d → declared_mode modes x ≡ mode_by d
 mode_is modes x None h = h
 mode_is modes x (Some d) h = h.0
 
 -- the variable takes the new whole, where its declaration does if it takes what it held
-still_taken : HeldFits → (modes : Modes) (k : CodeCore) (x : Variable) (d : Option Declaration) (whole new : Option Datum) → IsDeclared modes x d → Fitting modes k → held x k ≡ There whole → (is_taken (mode_by d) whole ≡ true → is_taken (mode_by d) new ≡ true) → tested modes x new ≡ true
+pub still_taken : HeldFits → (modes : Modes) (k : CodeCore) (x : Variable) (d : Option Declaration) (whole new : Option Datum) → IsDeclared modes x d → Fitting modes k → held x k ≡ There whole → (is_taken (mode_by d) whole ≡ true → is_taken (mode_by d) new ≡ true) → tested modes x new ≡ true
 still_taken holds modes k x d whole new declared fit was takes =
     let is = mode_is modes x d declared in
     subst (λ m. is_taken m new ≡ true) (sym is) (takes (subst (λ m. is_taken m whole ≡ true) is (holds modes k x whole fit was)))

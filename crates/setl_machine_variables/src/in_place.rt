@@ -13,6 +13,7 @@ ghost use Rattle.setl_code.specs.Code.{Alteration as PlainAlteration, Bracket as
 
 use crate::altering::alter;
 use crate::declarations::Declarations;
+use crate::in_form::include;
 use crate::integers::freely;
 use setl_code::{Alteration, Bracket, Slot};
 use setl_machine_control::{Control, End, go_on};
@@ -45,7 +46,7 @@ pub fn update(
     }
 }
 
-/// Does an update by `alter`. The error is want of memory.
+/// Does an update in the form of what the variable holds, or by `alter`. The error is want of memory.
 #[inline(always)]
 fn update_any(
     what: Alteration,
@@ -63,6 +64,9 @@ fn update_any(
     ensures did { IfOk result (λ end. DoesBy (modes_of declarations.now) store.old control.old line (Alter (plain_alteration what) (plain_slot (variables store.old.core) slot) (map plain_bracket brackets.now)) store.new control.new end) }
     ensures reader { control.new.reader ≡ control.old.reader }
 {
+    if include(what, slot, brackets, declarations, store)? {
+        return Ok(End::Paused);
+    }
     Ok(alter(what, slot, brackets, line, declarations, store, control)?.end)
 }
 

@@ -4,6 +4,7 @@
 mod altering;
 mod deciding;
 mod declarations;
+mod in_form;
 mod in_place;
 mod integers;
 mod variables;

@@ -13,6 +13,7 @@ ghost use Rattle.setl_machine_control.specs.Working.{Works, WorksBy};
 ghost use Rattle.setl_machine_variables.specs.Freely.{WorksOrLeaves};
 
 use crate::declarations::Declarations;
+use crate::in_form::{load_form, put};
 use setl_code::{Literal, Slot};
 use setl_machine_control::{End, StopKind, go_on, pop_top, refusal};
 use setl_store::{Content, Store};
@@ -66,7 +67,7 @@ pub fn load(slot: Slot, store: &mut Store<'_>) -> Result<End, Memory>
         Content::Taken => return Ok(End::Stuck),
         Content::Om => None,
         Content::Value(value) => Some(value.copy()?),
-        Content::Based => store.value(slot)?,
+        Content::Based => return load_form(slot, store),
     };
     store.push(value)?;
     go_on(store);
@@ -115,7 +116,7 @@ pub fn store_in(
             Ok(End::Stopped(StopKind::Unfit(place), line))
         }
         None => {
-            store.set_slot(slot, value)?;
+            put(slot, declared, value, store)?;
             go_on(store);
             Ok(End::Paused)
         }

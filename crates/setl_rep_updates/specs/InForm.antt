@@ -5,6 +5,7 @@ use Rattle.setl_value.specs.WellFormed.{IsValue}
 use Rattle.setl_modes.specs.Modes.{Mode}
 use Rattle.setl_modes.specs.Fits.{fits}
 use Rattle.setl_rep_bases.specs.Bases.{BasesState, named}
+use Rattle.setl_rep_bases.specs.Keeping.{AreKept}
 use Rattle.setl_rep_forms.specs.Form.{Form}
 use Rattle.setl_rep_forms.specs.Stands.{stands, IsOver}
 use Rattle.setl_rep_building.specs.HasForm.{HasFormOrOm}
@@ -33,3 +34,8 @@ pub record IsInForm (bs : BasesState) (n : ℕ) (m : Mode) (f : Form) : Type 0 w
 -- a value is held in the form of its mode as before, once bases were lengthened by a value of any mode
 abbrev pub FormsOfModesStay : Type 0
 FormsOfModesStay = (m k : Mode) (d : Datum) (n i : ℕ) (bs cs : BasesState) (f : Form) → AreLengthened k d i bs cs → IsInForm bs n m f → IsInForm cs n m f
+
+-- a value of the main program is held in the form of its mode as before, and is the same, over all bases in which the instances
+-- and blocks are kept
+abbrev pub FormsOfMainStay : Type 0
+FormsOfMainStay = (m : Mode) (bs cs : BasesState) (f : Form) → AreKept bs cs → IsInForm bs 0 m f → IsInForm cs 0 m f × (stands cs f ≡ stands bs f)

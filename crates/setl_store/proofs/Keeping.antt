@@ -19,7 +19,7 @@ use Rattle.setl_rep_bases.specs.Bases.{BasesState, base_at, instance_at}
 use Rattle.setl_rep_bases.specs.Keeping.{AreKept}
 use Rattle.setl_rep_bases.specs.Marks.{marks_of, as_cut, cut_all, back_all, AreWithin, HaveFewCuts}
 use Rattle.setl_rep_bases.specs.Cutting.{NothingIsCut, GrownBasesAreCutAlike, CountedCutsLeaveTheSame, CountedCutsAreRead}
-use Rattle.setl_rep_forms.specs.Laws.{FormsStay}
+use Rattle.setl_rep_updates.specs.InForm.{FormsOfMainStay}
 use Rattle.setl_store_operands.specs.Laws.{OperandsStay}
 use Rattle.setl_store_kept.specs.Kept.{KeptSound}
 use Rattle.setl_store_kept.specs.Keeping.{ReadsBlocks, one_more_kept, sound_back}
@@ -98,7 +98,7 @@ all_kept none code bs keeps at next e e' kept kept' k s h is there place marked 
     (subst (λ ks. Changed code bs (keeps + 1) n (answering e true) ks s (with_kept s.core)) (sym added) done))
 
 -- what a kept one shows is told by the blocks of its bases
-reads_blocks : FormsStay → OperandsStay → (c : plain.Code) → ReadsBlocks marks_in (copy_of c) (WasSound c)
+pub reads_blocks : FormsOfMainStay → OperandsStay → (c : plain.Code) → ReadsBlocks marks_in (copy_of c) (WasSound c)
 reads_blocks stay too c bs cs k more was =
     let e = k.0 in
     let slots = slots_stay stay bs cs e.slots more was.standing in
@@ -131,7 +131,7 @@ cuts_counted read bs k i =
     subst (λ o. (option_map_or (λ (x : Instance). x.base) o empty).cuts ≤ (base_at bs i).cuts + 1) (sym (read bs k.marks i))
     (cut_once (finmap.get k.marks i) (instance_at bs i))
 
-pub brought_back : FormsStay → OperandsStay → GrownBasesAreCutAlike → CountedCutsAreRead → CountedCutsLeaveTheSame → (code : Code) (bs cs : BasesState) (keeps : ℕ) (at : ℕ) (e e' : Here) (kept kept' : List (Here × Kept)) (k : Kept) (s : Standing) →
+pub brought_back : FormsOfMainStay → OperandsStay → GrownBasesAreCutAlike → CountedCutsAreRead → CountedCutsLeaveTheSame → (code : Code) (bs cs : BasesState) (keeps : ℕ) (at : ℕ) (e e' : Here) (kept kept' : List (Here × Kept)) (k : Kept) (s : Standing) →
     MayRun code × IsSound (plain_code code) bs e × AllSound (plain_code code) bs keeps e.slots kept → stands code bs at e kept ≡ s → kept ≡ (e', k) ∷ kept' →
     cs ≡ back_all bs k.marks → BroughtBack code cs keeps k.at e' kept' s
 brought_back stay too alike read same code bs cs keeps at e e' kept kept' k s h is last back =

@@ -109,8 +109,8 @@ held_too bs (slot.Value v) None xs = refl
 held_too bs (slot.Value v) (Some vs) xs = ap (λ l. Some l) (sym (pushed_last vs (Some (datum v)) xs))
 held_too bs slot.Taken None xs = refl
 held_too bs slot.Taken (Some vs) xs = refl
-held_too bs (slot.Based h) None xs = refl
-held_too bs (slot.Based h) (Some vs) xs = ap (λ l. Some l) (sym (pushed_last vs (held_value bs h) xs))
+held_too bs (slot.Based m h) None xs = refl
+held_too bs (slot.Based m h) (Some vs) xs = ap (λ l. Some l) (sym (pushed_last vs (held_value bs h) xs))
 
 handed_too : (bs : BasesState) (p : Passing) (h : Slot) (o : Option (List (Option Datum))) (xs : List core.Operand) → hand p (held_of bs h) (option_map (λ vs. pushed_on vs xs) o) ≡ option_map (λ vs. pushed_on vs xs) (and_handed bs p h o)
 handed_too bs Rd h o xs = refl

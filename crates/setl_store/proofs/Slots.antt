@@ -293,7 +293,7 @@ slot_stored code bs keeps at e e' kept kept' s x n v h holds is has place stand 
     subst (λ w. Changed code bs keeps at e' kept' s (write (plain_slot (variables s.core) x) w s.core)) stands_for
     (slot_written code bs keeps at e e' kept kept' s x v holds is has stand (now ∙ ap (λ m. with_slot e m v) place) same)
 
-set_same : {A : Type 0} (xs : List A) (n : ℕ) (x : A) → Some x ≡ slice_get xs n → set xs n x ≡ xs
+pub set_same : {A : Type 0} (xs : List A) (n : ℕ) (x : A) → Some x ≡ slice_get xs n → set xs n x ≡ xs
 set_same [] n x e = absurd (cc)
 set_same (y ∷ xs) zero x e = ap (λ z. z ∷ xs) (let same : x ≡ y = cc in same)
 set_same (y ∷ xs) (suc n) x e = ap (λ zs. y ∷ zs) (set_same xs n x e)

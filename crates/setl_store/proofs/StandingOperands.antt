@@ -51,13 +51,13 @@ pub held_over : (bs : BasesState) (h : Held) → IsStanding bs h → IsOperandOv
 held_over bs held.Om one = tt
 held_over bs (held.Value v) one = tt
 held_over bs held.Taken one = tt
-held_over bs (held.Based f) one = one
+held_over bs (held.Based m f) one = one.0
 
 pub held_alone : (h : Held) (os : List Operand) (n : ℕ) → HasMembers os n → HasMembers (operand_in h ∷ os) n
 held_alone held.Om os n has = has
 held_alone (held.Value v) os n has = has
 held_alone held.Taken os n has = has
-held_alone (held.Based f) os n has = has
+held_alone (held.Based m f) os n has = has
 
 -- the value of what is there
 abbrev pub content : core.Held → Option Datum
@@ -68,4 +68,4 @@ pub held_shown : (bs : BasesState) (ms : List Member) (h : Held) → operand_of 
 held_shown bs ms held.Om = refl
 held_shown bs ms (held.Value v) = refl
 held_shown bs ms held.Taken = refl
-held_shown bs ms (held.Based f) = refl
+held_shown bs ms (held.Based m f) = refl

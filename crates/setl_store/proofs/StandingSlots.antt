@@ -8,10 +8,12 @@ use Rattle.setl_value.specs.code.DatumOf.{datum, part}
 use Rattle.setl_value.specs.declared.Value.{Value}
 use Rattle.setl_code.specs.CodeCore.{There}
 use Rattle.setl_code.specs.CodeCore as core
+use Rattle.setl_modes.specs.Modes.{mode_of}
+use Rattle.setl_modes.specs.declared.mode.Mode.{Mode}
 use Rattle.setl_rep_bases.specs.Bases.{BasesState}
 use Rattle.setl_rep_bases.specs.Keeping.{AreKept}
 use Rattle.setl_rep_forms.specs.FormOf.{form}
-use Rattle.setl_rep_forms.specs.Laws.{FormsStay}
+use Rattle.setl_rep_updates.specs.InForm.{FormsOfMainStay}
 use Rattle.setl_rep_forms.specs.declared.held.Held.{Held as Form}
 use Rattle.setl_rep_plain.specs.Standing.{held_value}
 use Rattle.setl_store_slots.specs.Slots.{content_of, IsStanding, AreStanding}
@@ -45,6 +47,10 @@ standing_append bs (h ∷ hs) gs all more = (all.0, standing_append bs hs gs all
 pub value_shown : (bs : BasesState) (v : Option Value) → held_of bs (held_by v) ≡ There (part v)
 value_shown bs None = refl
 value_shown bs (Some v) = refl
+
+pub value_content : (bs : BasesState) (v : Option Value) → content_of bs (held_by v) ≡ Some (part v)
+value_content bs None = refl
+value_content bs (Some v) = refl
 
 pub value_standing : (bs : BasesState) (v : Option Value) → IsStanding bs (held_by v)
 value_standing bs None = tt
@@ -84,20 +90,20 @@ pub there_by_content : (bs : BasesState) (h : Held) (v : Option Datum) → conte
 there_by_content bs held.Om v e = ap (λ w. core.There w) (same_Some None v e)
 there_by_content bs (held.Value w) v e = ap (λ u. core.There u) (same_Some (Some (datum w)) v e)
 there_by_content bs held.Taken v e = absurd (cc)
-there_by_content bs (held.Based f) v e = ap (λ u. core.There u) (same_Some (held_value bs f) v e)
+there_by_content bs (held.Based m f) v e = ap (λ u. core.There u) (same_Some (held_value bs f) v e)
 
 pub gone_by_content : (bs : BasesState) (h : Held) → content_of bs h ≡ None → held_of bs h ≡ core.Gone
 gone_by_content bs held.Om e = absurd (cc)
 gone_by_content bs (held.Value w) e = absurd (cc)
 gone_by_content bs held.Taken e = refl
-gone_by_content bs (held.Based f) e = absurd (cc)
+gone_by_content bs (held.Based m f) e = absurd (cc)
 
 -- what is there and in no form is plain
-pub plain_there : (bs : BasesState) (h : Held) → IsThere (held_of bs h) → ((f : Form) → h ≡ held.Based f → ⊥) → IsPlainSlot h
+pub plain_there : (bs : BasesState) (h : Held) → IsThere (held_of bs h) → ((m : Mode) (f : Form) → h ≡ held.Based m f → ⊥) → IsPlainSlot h
 plain_there bs held.Om there not = tt
 plain_there bs (held.Value w) there not = tt
 plain_there bs held.Taken there not = absurd there
-plain_there bs (held.Based f) there not = absurd (not f refl)
+plain_there bs (held.Based m f) there not = absurd (not m f refl)
 
 -- ---- bases in which those of the slots are kept
 
@@ -105,19 +111,19 @@ pub record SlotStays (bs cs : BasesState) (h : Held) : Type 0 where
   pub same : held_of cs h ≡ held_of bs h
   pub stands : IsStanding cs h
 
-slot_stays : FormsStay → (bs cs : BasesState) (h : Held) → AreKept bs cs → IsStanding bs h → SlotStays bs cs h
+slot_stays : FormsOfMainStay → (bs cs : BasesState) (h : Held) → AreKept bs cs → IsStanding bs h → SlotStays bs cs h
 slot_stays stay bs cs held.Om more h = record { same = refl; stands = tt }
 slot_stays stay bs cs (held.Value v) more h = record { same = refl; stands = tt }
 slot_stays stay bs cs held.Taken more h = record { same = refl; stands = tt }
-slot_stays stay bs cs (held.Based f) more h =
-    let s = stay bs cs (form f) more h.over in
-    record { same = ap (λ v. core.There v) s.1; stands = record { over = s.0; shallow = subst (λ v. part_depth v ≤ 500) (sym s.1) h.shallow } }
+slot_stays stay bs cs (held.Based m f) more h =
+    let s = stay (mode_of m) bs cs (form f) more h.1 in
+    record { same = ap (λ v. core.There v) s.1; stands = (record { over = s.0.over; shallow = subst (λ v. part_depth v ≤ 500) (sym s.1) h.0.shallow }, s.0) }
 
 pub record SlotsStay (bs cs : BasesState) (hs : List Held) : Type 0 where
   pub same : map (held_of cs) hs ≡ map (held_of bs) hs
   pub stand : AreStanding cs hs
 
-pub slots_stay : FormsStay → (bs cs : BasesState) (hs : List Held) → AreKept bs cs → AreStanding bs hs → SlotsStay bs cs hs
+pub slots_stay : FormsOfMainStay → (bs cs : BasesState) (hs : List Held) → AreKept bs cs → AreStanding bs hs → SlotsStay bs cs hs
 slots_stay stay bs cs [] more all = record { same = refl; stand = tt }
 slots_stay stay bs cs (h ∷ hs) more all =
     let here = slot_stays stay bs cs h more all.0 in

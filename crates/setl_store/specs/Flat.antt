@@ -40,14 +40,14 @@ abbrev pub held_of : BasesState → Held → core.Held
 held_of bs held.Om = core.There None
 held_of bs (held.Value v) = core.There (Some (datum v))
 held_of bs held.Taken = core.Gone
-held_of bs (held.Based h) = core.There (held_value bs h)
+held_of bs (held.Based m h) = core.There (held_value bs h)
 
 -- it is a value as it is, or `om`
 abbrev pub IsPlainSlot : Held → Type 0
 IsPlainSlot held.Om = Unit {0}
 IsPlainSlot (held.Value v) = Unit {0}
 IsPlainSlot held.Taken = ⊥
-IsPlainSlot (held.Based h) = ⊥
+IsPlainSlot (held.Based m h) = ⊥
 
 -- variables with what their slots hold
 abbrev pub cells : List Variable → List core.Held → Cells

@@ -5,3 +5,5 @@ pub mod Flat
 pub mod Iterating
 pub mod HasValues
 pub mod Returning
+pub mod Forms
+pub mod Putting

@@ -43,7 +43,7 @@ impl<'c> Store<'c> {
         ensures back { Restored result self.old.core self.new.core }
     {
         setl_rep_bases::laws::cuts_are_exact();
-        setl_rep_forms::laws::forms_stay();
+        setl_rep_updates::laws::forms_of_main_stay();
         setl_store_operands::laws::operands_stay();
         let Some(kept) = self.environment.back() else {
             return false;

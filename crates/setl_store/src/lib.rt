@@ -6,9 +6,11 @@ mod backtracking;
 mod calls;
 mod cells;
 mod changes;
+mod forms;
 mod iterating;
 mod lent;
 mod operands;
+mod putting;
 mod returning;
 mod store;
 

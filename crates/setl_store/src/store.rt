@@ -105,7 +105,7 @@ impl<'c> Store<'c> {
             Held::Om => Content::Om,
             Held::Value(value) => Content::Value(value),
             Held::Taken => Content::Taken,
-            Held::Based(_) => Content::Based,
+            Held::Based(_, _) => Content::Based,
         }
     }
 
@@ -151,7 +151,7 @@ impl<'c> Store<'c> {
     {
         let at = place(&self.environment, slot);
         match self.environment.slot(at) {
-            Held::Based(held) => {
+            Held::Based(_, held) => {
                 let value = plain(self.alloc, held.get(), &self.bases)?;
                 write_slot(&mut self.environment, at, Held::Taken)?;
                 Ok(value)
@@ -256,7 +256,7 @@ fn held_value(held: Held) -> Option<Value>
 {
     match held {
         Held::Value(value) => Some(value),
-        Held::Om | Held::Taken | Held::Based(_) => None,
+        Held::Om | Held::Taken | Held::Based(_, _) => None,
     }
 }
 
@@ -271,7 +271,7 @@ pub(crate) fn lowest(environment: &Contents) -> usize
 }
 
 /// The place of a slot of the body at work.
-fn place(environment: &Contents, slot: Slot) -> usize
+pub(crate) fn place(environment: &Contents, slot: Slot) -> usize
     requires some { 0 < length environment.now.now.activations }
     requires there { place_in (reverse environment.now.now.activations) slot < length environment.now.now.slots }
     ensures { result ≡ place_in (reverse environment.now.now.activations) slot }

@@ -64,7 +64,7 @@ abbrev pub operand_in : Held → Operand
 operand_in slot.Om = operand.Om
 operand_in (slot.Value v) = operand.Value v
 operand_in slot.Taken = operand.Om
-operand_in (slot.Based h) = operand.Based h
+operand_in (slot.Based m h) = operand.Based h
 
 -- it is a value as it is, or `om`
 abbrev pub IsPlain : Operand → Type 0

@@ -37,7 +37,7 @@ pub fn operand_in(slot: &Held) -> Result<Operand, Memory>
     match slot {
         Held::Om | Held::Taken => Ok(Operand::Om),
         Held::Value(value) => Ok(Operand::Value(value.copy()?)),
-        Held::Based(form) => Ok(Operand::Based(form.copy()?)),
+        Held::Based(_, form) => Ok(Operand::Based(form.copy()?)),
     }
 }
 

@@ -1,1 +1,4 @@
 mod Parameters
+mod Growing
+mod Updated
+mod InSlots

@@ -6,6 +6,7 @@ ghost use Rattle.setl_value.specs.code.DatumOf.{part};
 ghost use Rattle.setl_store_slots.specs.Slots.{content_of, IsStanding};
 
 use crate::shared::Shared;
+use setl_modes::Mode;
 use setl_rep_bases::Bases;
 use setl_rep_plain::plain;
 use setl_store_environment::{Copied, Memory};
@@ -19,8 +20,8 @@ pub enum Held {
     Value(Value),
     /// Nothing: its value was taken, and it is stored before it is read again.
     Taken,
-    /// A value, or `om`, in a form over bases.
-    Based(Shared<setl_rep_forms::Held>),
+    /// A value, or `om`, in the form of this mode, over the bases of the main program.
+    Based(Shared<Mode>, Shared<setl_rep_forms::Held>),
 }
 
 impl Copied for Held {
@@ -29,7 +30,7 @@ impl Copied for Held {
             Held::Om => Ok(Held::Om),
             Held::Value(value) => Ok(Held::Value(value.copy()?)),
             Held::Taken => Ok(Held::Taken),
-            Held::Based(held) => Ok(Held::Based(held.copy()?)),
+            Held::Based(mode, held) => Ok(Held::Based(mode.copy()?, held.copy()?)),
         }
     }
 }
@@ -45,6 +46,6 @@ pub fn content(alloc: Global, slot: &Held, bases: &Bases) -> Result<Option<Optio
         Held::Om => Ok(Some(None)),
         Held::Value(value) => Ok(Some(Some(value.copy()?))),
         Held::Taken => Ok(None),
-        Held::Based(held) => Ok(Some(plain(alloc, held.get(), bases)?)),
+        Held::Based(_, held) => Ok(Some(plain(alloc, held.get(), bases)?)),
     }
 }

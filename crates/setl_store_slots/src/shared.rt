@@ -3,13 +3,14 @@
 ghost use Rattle.std.specs.Prelude.{◌≡◌, IfOk};
 
 use setl_store_environment::Memory;
+use std::alloc::Global;
 use std::marker::Model;
 use std::rc::Rc;
 
 /// A value with several owners, which contracts see as itself.
 #[derive(Drop)]
 pub struct Shared<T> {
-    rc: Rc<T>,
+    pub(crate) rc: Rc<T>,
 }
 
 impl<T> Model for Shared<T> {
@@ -30,6 +31,15 @@ impl<T> Shared<T> {
 }
 
 impl<T: Drop> Shared<T> {
+    /// A value with one owner. The error is want of memory.
+    pub fn new(alloc: Global, value: T) -> Result<Shared<T>, Memory>
+        ensures { IfOk result (λ s. s ≡ value) }
+    {
+        Ok(Shared {
+            rc: Rc::new(alloc, value)?,
+        })
+    }
+
     /// One more owner. The error is that there are too many.
     pub fn copy(&self) -> Result<Shared<T>, Memory>
         ensures { IfOk result (λ s. s ≡ self.now) }

@@ -1,8 +1,10 @@
 use Rattle.std.proofs.Common.{Some}
 use Rattle.setl_code.specs.Plain.{plain_slot}
 use Rattle.setl_store.specs.Standing.{variables}
+use Rattle.setl_value.specs.code.DatumOf.{part}
 use Rattle.setl_machine_control.specs.Declaring.{modes_of}
 use Rattle.setl_machine_control.specs.Working.{PopsTop}
+use Rattle.setl_machine_variables.proofs.InForm.{taken_by}
 use Rattle.setl_machine_variables.proofs.Storing.{store_goes, store_stops}
 use Rattle.setl_machine_variables.proofs.variables.store_in.Goals as goal
 
@@ -13,9 +15,15 @@ returns-in-Some-refusal c =
     let pops : PopsTop old (Some c.in-Some.value) c.pop_top.new.store = rw c.in-Some.is at c.in_ok-value.ensures in
     store_stops modes old c.pop_top.new.store c.go_on.new.store c.args.line c.in-Some-refusal.place c.args.slot c.in-Some.value pops (c.in-Some-refusal.ensures modes (plain_slot (variables old.core) c.args.slot) c.of_slot-declared.ensures) c.go_on.ensures
 
-pub returns-in_ok-set_slot-in-None : goal.returns-in_ok-set_slot-in-None
-returns-in_ok-set_slot-in-None c =
+pub returns-in_ok-put-in-None : goal.returns-in_ok-put-in-None
+returns-in_ok-put-in-None c =
     let old = c.args.store.now in
     let modes = modes_of c.args.declarations.now in
     let pops : PopsTop old (Some c.in-Some.value) c.pop_top.new.store = rw c.in-Some.is at c.in_ok-value.ensures in
-    store_goes modes old c.pop_top.new.store c.set_slot.new.self c.go_on-in-None.new.store c.args.line c.args.slot c.in-Some.value pops (c.in-None.ensures modes (plain_slot (variables old.core) c.args.slot) c.of_slot-declared.ensures) c.in_ok-set_slot-in-None.ensures c.go_on-in-None.ensures
+    store_goes modes old c.pop_top.new.store c.put.new.store c.go_on-in-None.new.store c.args.line c.args.slot c.in-Some.value pops (c.in-None.ensures modes (plain_slot (variables old.core) c.args.slot) c.of_slot-declared.ensures) c.in_ok-put-in-None.ensures c.go_on-in-None.ensures
+
+pub put-requires-clause-fits : goal.put-requires-clause-fits
+put-requires-clause-fits c =
+    let x = plain_slot (variables c.args.store.now.core) c.args.slot in
+    let modes = modes_of c.args.declarations.now in
+    taken_by modes x c.of_slot-declared.result (part c.in-Some.value) c.of_slot-declared.ensures (c.in-None.ensures modes x c.of_slot-declared.ensures)

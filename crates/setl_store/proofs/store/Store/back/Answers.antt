@@ -13,7 +13,7 @@ back_to-requires-clause-few_cuts c =
 
 done : (c : After-drop-kept) → BroughtBack c.self.inside.code.now c.back_to.new.self c.self.inside.keeps c.in-Some.kept.at c.back.new.self.now c.back.new.self.kept c.args.self.now
 done c =
-    brought_back c.forms_stay.ensures.kept c.operands_stay.ensures c.cuts_are_exact.ensures.grown c.cuts_are_exact.ensures.counted c.cuts_are_exact.ensures.same c.self.inside.code.now c.self.inside.bases c.back_to.new.self c.self.inside.keeps c.self.inside.at c.self.inside.environment.now c.back.new.self.now c.self.inside.environment.kept c.back.new.self.kept c.in-Some.kept c.args.self.now
+    brought_back c.forms_of_main_stay.ensures c.operands_stay.ensures c.cuts_are_exact.ensures.grown c.cuts_are_exact.ensures.counted c.cuts_are_exact.ensures.same c.self.inside.code.now c.self.inside.bases c.back_to.new.self c.self.inside.keeps c.self.inside.at c.self.inside.environment.now c.back.new.self.now c.self.inside.environment.kept c.back.new.self.kept c.in-Some.kept c.args.self.now
     c.self.invariant c.self.view_is (rw c.in-Some.is at c.back.ensures.back) c.back_to.ensures
 
 pub invariant_of-self-2 : goal.invariant_of-self-2

@@ -3,6 +3,7 @@ use Rattle.std.proofs.lemmas.Option.{same_Some}
 use Rattle.setl_value.specs.code.DatumOf.{part}
 use Rattle.setl_code.specs.CodeCore.{There, Gone, write}
 use Rattle.setl_code.specs.Plain.{plain_slot}
+use Rattle.setl_modes.specs.declared.mode.Mode.{Mode}
 use Rattle.setl_rep_forms.specs.declared.held.Held.{Held as Form}
 use Rattle.setl_rep_plain.specs.Standing.{held_value, IsHeldOver}
 use Rattle.setl_store_slots.specs.Slots.{IsStanding}
@@ -28,8 +29,8 @@ slot-requires c =
 
 standing : (c : After-plain-arg-in-Based-1) → IsHeldOver c.self.inside.bases c.get.result.now
 standing c =
-    let whole : IsStanding c.self.inside.bases (held.Based c.in-Based.held) = subst (IsStanding c.self.inside.bases) c.in-Based.is (standing_at c.self.inside.bases c.self.inside.environment.now.slots c.place-at.result c.slot.result.now c.self.invariant.2.standing c.slot.ensures) in
-    subst (IsHeldOver c.self.inside.bases) (sym c.get.ensures) whole
+    let whole : IsStanding c.self.inside.bases (held.Based c.in-Based.field-0 c.in-Based.held) = subst (IsStanding c.self.inside.bases) c.in-Based.is (standing_at c.self.inside.bases c.self.inside.environment.now.slots c.place-at.result c.slot.result.now c.self.invariant.2.standing c.slot.ensures) in
+    subst (IsHeldOver c.self.inside.bases) (sym c.get.ensures) whole.0
 
 pub plain-requires-clause-over : goal.plain-requires-clause-over
 plain-requires-clause-over c = (standing c).over
@@ -79,7 +80,7 @@ plain_before c =
     plain_there c.self.inside.bases h
     (subst IsThere (slot_at c.self.inside.code.now c.self.inside.bases c.self.inside.keeps c.self.inside.at c.self.inside.environment.now c.self.inside.environment.kept c.args.self.now c.args.slot c.place-at.result c.slot.result.now
     c.self.invariant c.self.view_is c.requires.slot c.place-at.ensures c.slot.ensures ∙ ap (held_of c.self.inside.bases) same) c.requires.there)
-    (λ (f : Form) e. c.in_default.not-Based f (same ∙ e))
+    (λ (m : Mode) (f : Form) e. c.in_default.not-Based m f (same ∙ e))
 
 pub held_value-requires : goal.held_value-requires
 held_value-requires c = plain_before (goal.at.held_value-requires c).In_ok-take_slot-in_default

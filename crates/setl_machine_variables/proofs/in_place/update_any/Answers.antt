@@ -1,0 +1,52 @@
+use Rattle.std.proofs.Common.{◌≡◌, ◌+◌, ◌<◌, ◌^◌, length, map, sym, subst, Ok}
+use Rattle.setl_code.specs.Code.{Alter}
+use Rattle.setl_code.specs.MayRun.{HasSlot}
+use Rattle.setl_code.specs.Plain.{plain_slot, plain_bracket, plain_alteration}
+use Rattle.setl_store.specs.Standing.{Standing, variables}
+use Rattle.setl_machine_control.specs.Declaring.{modes_of, Serves}
+use Rattle.setl_machine_control.specs.Laws.{works_alone_by}
+use Rattle.setl_machine_control.specs.Working.{DoesBy}
+use Rattle.setl_machine_control.specs.declared.end.End.TheVariants as end
+use Rattle.setl_machine_variables.specs.Freely.{WorksOrLeaves}
+use Rattle.setl_machine_variables.proofs.in_place.update_any.Goals as goal
+
+pub returns-then-branch-clause-did : goal.returns-then-branch-clause-did
+returns-then-branch-clause-did c =
+    let old = c.args.store.now in
+    let modes = modes_of c.args.declarations.now in
+    let what = Alter (plain_alteration c.args.what) (plain_slot (variables old.core) c.args.slot) (map plain_bracket c.args.brackets.now) in
+    works_alone_by modes old c.include.new.store c.args.control.now c.args.line what (Ok end.Paused)
+    (subst (WorksOrLeaves modes old c.args.line what c.include.new.store) c.if-branch.true (c.in_ok-include.ensures c.args.line))
+
+pub alter-requires-clause-few : goal.alter-requires-clause-few
+alter-requires-clause-few c =
+    let old = c.args.store.now in
+    let modes = modes_of c.args.declarations.now in
+    let what = Alter (plain_alteration c.args.what) (plain_slot (variables old.core) c.args.slot) (map plain_bracket c.args.brackets.now) in
+    let same : c.include.new.store ≡ old = subst (WorksOrLeaves modes old c.args.line what c.include.new.store) c.if-branch.false (c.in_ok-include.ensures c.args.line) in
+    subst (λ (s : Standing). s.core.now.at + 1 < 2 ^ 64) (sym same) c.requires.few
+
+pub alter-requires-clause-there : goal.alter-requires-clause-there
+alter-requires-clause-there c =
+    let old = c.args.store.now in
+    let modes = modes_of c.args.declarations.now in
+    let what = Alter (plain_alteration c.args.what) (plain_slot (variables old.core) c.args.slot) (map plain_bracket c.args.brackets.now) in
+    let same : c.include.new.store ≡ old = subst (WorksOrLeaves modes old c.args.line what c.include.new.store) c.if-branch.false (c.in_ok-include.ensures c.args.line) in
+    subst (λ (s : Standing). HasSlot (length s.core.globals) (length s.core.now.own) c.args.slot) (sym same) c.requires.there
+
+pub alter-requires-clause-serves : goal.alter-requires-clause-serves
+alter-requires-clause-serves c =
+    let old = c.args.store.now in
+    let modes = modes_of c.args.declarations.now in
+    let what = Alter (plain_alteration c.args.what) (plain_slot (variables old.core) c.args.slot) (map plain_bracket c.args.brackets.now) in
+    let same : c.include.new.store ≡ old = subst (WorksOrLeaves modes old c.args.line what c.include.new.store) c.if-branch.false (c.in_ok-include.ensures c.args.line) in
+    subst (Serves c.args.declarations.now) (sym same) c.requires.serves
+
+pub returns-clause-did : goal.returns-clause-did
+returns-clause-did c =
+    let old = c.args.store.now in
+    let modes = modes_of c.args.declarations.now in
+    let what = Alter (plain_alteration c.args.what) (plain_slot (variables old.core) c.args.slot) (map plain_bracket c.args.brackets.now) in
+    let same : c.include.new.store ≡ old = subst (WorksOrLeaves modes old c.args.line what c.include.new.store) c.if-branch.false (c.in_ok-include.ensures c.args.line) in
+    subst (λ (s : Standing). DoesBy modes s c.args.control.now c.args.line (Alter (plain_alteration c.args.what) (plain_slot (variables s.core) c.args.slot) (map plain_bracket c.args.brackets.now)) c.alter.new.store c.alter.new.control c.in_ok-alter.field-0.end) same
+    c.in_ok-alter.ensures.did

@@ -1,0 +1,219 @@
+//! Variables that hold their values in the forms of their declarations.
+//!
+//! A set on a base that is `remote` or `local` goes into its form where a small set is stored, and stays in it until something
+//! is done to it that has no kernel for forms: then the variable goes on with the plain value. So what is converted costs no more
+//! than what was put in before.
+
+ghost use Rattle.std.specs.Prelude.{◌≡◌, ℕ, ◌<◌, ◌+◌, ◌^◌, true, [], length, map, Some, IfOk, IfSome};
+ghost use Rattle.setl_code.specs.Code.{Load, Alter, Combining};
+ghost use Rattle.setl_model.specs.Step.{declared_mode};
+ghost use Rattle.setl_operators_table.specs.declared.Operator.TheVariants.{With};
+ghost use Rattle.setl_code.specs.CodeCore.{There, held, write};
+ghost use Rattle.setl_code.specs.MayRun.{HasSlot};
+ghost use Rattle.setl_code.specs.Plain.{plain_slot, plain_bracket, plain_alteration};
+ghost use Rattle.setl_machine_control.specs.Declaring.{modes_of, Serves};
+ghost use Rattle.setl_machine_control.specs.Working.{Works};
+ghost use Rattle.setl_machine_variables.specs.Deciding.{mode_by};
+ghost use Rattle.setl_machine_variables.specs.Freely.{WorksOrLeaves};
+ghost use Rattle.setl_modes.specs.Fits.{is_taken};
+ghost use Rattle.setl_modes.specs.Modes.{mode_of};
+ghost use Rattle.setl_store.specs.Operands.{IsThere};
+ghost use Rattle.setl_store.specs.Standing.{variables, Becomes};
+ghost use Rattle.setl_value.specs.code.DatumOf.{part};
+
+use crate::declarations::Declarations;
+use setl_code::{Alteration, Bracket, Instr, Slot};
+use setl_code_declared::declared_variables_fit;
+use setl_machine_control::{Declaration, End, go_on};
+use setl_modes::{Form, Mode};
+use setl_modes_parts::{combines, parts_decide};
+use setl_operators::Operator;
+use setl_store::{Content, Store};
+use setl_store_environment::Memory;
+use setl_value::Value;
+
+// How many members a set has at most that goes into its form as it is stored.
+const MOST_MEMBERS: usize = 16;
+
+/// Stores a value, or `om`, that its declaration takes in a variable's slot: a small set that is declared so in its form. The error is want of
+/// memory, and then all is as before.
+pub(crate) fn put(
+    slot: Slot,
+    declared: Option<Declaration<'_>>,
+    value: Option<Value>,
+    store: &mut Store<'_>,
+) -> Result<(), Memory>
+    requires there { HasSlot (length store.old.core.globals) (length store.old.core.now.own) slot }
+    requires fits { is_taken (mode_by declared) (part value) ≡ true }
+    ensures { Becomes result store.old store.new (record store.old { core = write (plain_slot (variables store.old.core) slot) (There (part value)) store.old.core }) }
+{
+    let Some(mode) = form_of(declared) else {
+        return store.set_slot(slot, value);
+    };
+    let Some(value) = value else {
+        return store.set_slot(slot, None);
+    };
+    if !is_small(&value) {
+        return store.set_slot(slot, Some(value));
+    }
+    store.assign(slot, mode, value)
+}
+
+// Whether a value goes into its form as it is stored.
+fn is_small(value: &Value) -> bool {
+    match value {
+        Value::Set(set) => set.len() <= MOST_MEMBERS,
+        _ => false,
+    }
+}
+
+// The mode of a declaration by which a variable holds a form.
+fn form_of<'p>(declared: Option<Declaration<'p>>) -> Option<&'p Mode>
+    ensures { IfSome result (λ mode. mode_by declared.entry ≡ Some (mode_of mode.now)) }
+{
+    let Some(declaration) = declared else {
+        return None;
+    };
+    if is_held_so(declaration.mode) {
+        return Some(declaration.mode);
+    }
+    None
+}
+
+// Whether values of a mode are held in its form.
+fn is_held_so(mode: &Mode) -> bool {
+    match mode {
+        Mode::Set(Form::Remote, members) | Mode::Set(Form::Local, members) => {
+            matches!(members.get(), Mode::Elmt(_, _))
+        }
+        _ => false,
+    }
+}
+
+/// Pushes what a variable holds in a form: in that form where the next instruction has a kernel for it, and else the plain value,
+/// which the variable then holds too. The error is want of memory.
+#[inline(never)]
+pub(crate) fn load_form(slot: Slot, store: &mut Store<'_>) -> Result<End, Memory>
+    requires few { store.old.core.now.at + 1 < 2 ^ 64 }
+    requires slot { HasSlot (length store.old.core.globals) (length store.old.core.now.own) slot }
+    requires there { IsThere (held (plain_slot (variables store.old.core) slot) store.old.core) }
+    ensures { (line : ℕ) → IfOk result (λ end. Works store.old line (Load (plain_slot (variables store.old.core) slot)) store.new end) }
+{
+    if takes_forms(store) {
+        load_in_form(slot, store)
+    } else {
+        load_plain(slot, store)
+    }
+}
+
+// Pushes what a variable holds in its form.
+fn load_in_form(slot: Slot, store: &mut Store<'_>) -> Result<End, Memory>
+    requires few { store.old.core.now.at + 1 < 2 ^ 64 }
+    requires slot { HasSlot (length store.old.core.globals) (length store.old.core.now.own) slot }
+    requires there { IsThere (held (plain_slot (variables store.old.core) slot) store.old.core) }
+    ensures { (line : ℕ) → IfOk result (λ end. Works store.old line (Load (plain_slot (variables store.old.core) slot)) store.new end) }
+{
+    store.push_slot(slot)?;
+    go_on(store);
+    Ok(End::Paused)
+}
+
+// Pushes what a variable holds as a plain value, which the variable then holds too.
+fn load_plain(slot: Slot, store: &mut Store<'_>) -> Result<End, Memory>
+    requires few { store.old.core.now.at + 1 < 2 ^ 64 }
+    requires slot { HasSlot (length store.old.core.globals) (length store.old.core.now.own) slot }
+    requires there { IsThere (held (plain_slot (variables store.old.core) slot) store.old.core) }
+    ensures { (line : ℕ) → IfOk result (λ end. Works store.old line (Load (plain_slot (variables store.old.core) slot)) store.new end) }
+{
+    store.make_plain(slot)?;
+    let value = store.value(slot)?;
+    store.push(value)?;
+    go_on(store);
+    Ok(End::Paused)
+}
+
+// Whether the instruction behind the one in hand takes a set in a form.
+fn takes_forms(store: &Store<'_>) -> bool
+    requires { store.now.core.now.at + 1 < 2 ^ 64 }
+{
+    let Some(body) = store.code().bodies.as_slice().get(store.body() as usize) else {
+        return false;
+    };
+    let Some(step) = body.steps.as_slice().get(store.at() + 1) else {
+        return false;
+    };
+    match &step.what {
+        Instr::Operate(Operator::In, _) | Instr::Operate(Operator::NotIn, _) => {
+            store.one().is_some()
+        }
+        Instr::Operate(Operator::Size, _) => true,
+        _ => false,
+    }
+}
+
+/// `s with:= x`, where the variable holds a form that takes `x` in where it stands. Its answer is whether this was so, and else all
+/// is as before. The error is want of memory.
+#[inline(never)]
+pub(crate) fn include(
+    what: Alteration,
+    slot: Slot,
+    brackets: &[Bracket],
+    declarations: &Declarations<'_>,
+    store: &mut Store<'_>,
+) -> Result<bool, Memory>
+    requires few { store.old.core.now.at + 1 < 2 ^ 64 }
+    requires there { HasSlot (length store.old.core.globals) (length store.old.core.now.own) slot }
+    requires serves { Serves declarations.now store.old }
+    ensures { (line : ℕ) → IfOk result (λ done. WorksOrLeaves (modes_of declarations.now) store.old line (Alter (plain_alteration what) (plain_slot (variables store.old.core) slot) (map plain_bracket brackets.now)) store.new done) }
+{
+    parts_decide();
+    declared_variables_fit();
+    let Some(mode) = mode_of_form(what, slot, brackets, declarations, store) else {
+        return Ok(false);
+    };
+    let Some(top) = store.one() else {
+        return Ok(false);
+    };
+    let value = top.copy()?;
+    if !combines(Operator::With, mode, &Some(value.copy()?)) {
+        return Ok(false);
+    }
+    if !store.include(slot, &value)? {
+        return Ok(false);
+    }
+    store.drop_top()?;
+    go_on(store);
+    Ok(true)
+}
+
+// The mode of the variable, where an update is `s with:= x` and the variable holds a form.
+fn mode_of_form<'p>(
+    what: Alteration,
+    slot: Slot,
+    brackets: &[Bracket],
+    declarations: &Declarations<'p>,
+    store: &Store<'_>,
+) -> Option<&'p Mode>
+    requires there { HasSlot (length store.now.core.globals) (length store.now.core.now.own) slot }
+    requires serves { Serves declarations.now store.now }
+    ensures { IfSome result (λ mode. (plain_alteration what ≡ Combining With) × (map plain_bracket brackets.now ≡ []) × (declared_mode (modes_of declarations.now) (plain_slot (variables store.now.core) slot) ≡ Some (mode_of mode.now))) }
+{
+    let Alteration::Combine(by) = what else {
+        return None;
+    };
+    let Operator::With = by else {
+        return None;
+    };
+    let count = brackets.len();
+    if count > 0 {
+        return None;
+    }
+    match store.slot(slot) {
+        Content::Based => {}
+        Content::Om | Content::Taken | Content::Value(_) => return None,
+    }
+    let Some(declaration) = declarations.of_slot(slot, store) else {
+        return None;
+    };
+    Some(declaration.mode)
+}

@@ -1,0 +1,16 @@
+-- What the calls on values in forms tell.
+use Rattle.std.specs.Prelude.{◌≡◌, ℕ, Bool, true, false, Option}
+use Rattle.setl_value.specs.Datum.{Datum}
+use Rattle.setl_value.specs.WellFormed.{PartIsWellFormed}
+use Rattle.setl_operators_table.specs.Outcome.{Outcome, Gives}
+use Rattle.setl_model_runs.specs.Variable.{Variable}
+use Rattle.setl_code.specs.CodeCore.{There, held, write}
+use Rattle.setl_store.specs.Standing.{Standing}
+
+-- a variable has what is given of the well-formed value that it held, without a charge, whatever turns are left; or all is as
+-- before
+abbrev pub UpdatesFreely : (gives : Option Datum → ℕ → Outcome) → Variable → Standing → Standing → Bool → Type 0
+UpdatesFreely gives x old new true =
+    (before after : Option Datum) × (held x old.core ≡ There before) × PartIsWellFormed before × ((left : ℕ) → gives before left ≡ Gives after 0)
+    × (new ≡ record old { core = write x (There after) old.core })
+UpdatesFreely gives x old new false = new ≡ old

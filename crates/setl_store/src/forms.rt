@@ -1,0 +1,77 @@
+//! Values of variables in the forms of their modes.
+
+ghost use Rattle.std.specs.Prelude.{◌≡◌, ◌∷◌, [], true, length, Some, IfOk, OnErr};
+ghost use Rattle.setl_code.specs.CodeCore.{There, write};
+ghost use Rattle.setl_code.specs.MayRun.{HasSlot};
+ghost use Rattle.setl_code.specs.Plain.{plain_slot};
+ghost use Rattle.setl_modes.specs.Fits.{datum_fits};
+ghost use Rattle.setl_modes.specs.Modes.{mode_of};
+ghost use Rattle.setl_operators_table.specs.declared.Operator.TheVariants.{With};
+ghost use Rattle.setl_operators_table.specs.Operators.{op_of};
+ghost use Rattle.setl_store.specs.Forms.{UpdatesFreely};
+ghost use Rattle.setl_store.specs.Standing.{variables, Becomes};
+ghost use Rattle.setl_value.specs.code.DatumOf.{datum};
+
+use crate::putting::{include_at, plain_at, put_formed};
+use crate::store::{Store, place};
+use setl_code::Slot;
+use setl_modes::Mode;
+use setl_rep_entering::bases_are_there;
+use setl_store_environment::Memory;
+use setl_value::Value;
+
+impl<'c> Store<'c> {
+    /// Stores a value in a variable's slot, in the form of a mode that it fits, and enters the values at its places into their
+    /// bases. Where the mode names a base that isn't there, the value is stored as it is.
+    ///
+    /// The error is want of memory, and then all is as before. The cost is near linear in the size of the value.
+    pub fn assign(&mut self, slot: Slot, mode: &Mode, value: Value) -> Result<(), Memory>
+        requires slot { HasSlot (length self.old.core.globals) (length self.old.core.now.own) slot }
+        requires fits { datum_fits (mode_of mode.now) (datum value) ≡ true }
+        ensures { Becomes result self.old self.new (record self.old { core = write (plain_slot (variables self.old.core) slot) (There (Some (datum value))) self.old.core }) }
+    {
+        if !bases_are_there(mode, 0, &self.bases) {
+            return self.set_slot(slot, Some(value));
+        }
+        setl_rep_bases::laws::cuts_are_exact();
+        setl_rep_updates::laws::forms_of_main_stay();
+        setl_store_operands::laws::operands_stay();
+        let at = place(&self.environment, slot);
+        put_formed(
+            self.alloc,
+            &mut self.environment,
+            &mut self.bases,
+            at,
+            mode,
+            &value,
+        )
+    }
+
+    /// `s with:= x`, where a variable's slot holds a set in a form that takes `x` in: the set is updated in place, and `x` is
+    /// entered into its base first. The answer is whether this was so, and else all is as before.
+    ///
+    /// The error is want of memory, and then all is as before. Where nobody else holds the set, the cost is near linear in the
+    /// size of `x` alone.
+    pub fn include(&mut self, slot: Slot, x: &Value) -> Result<bool, Memory>
+        requires { HasSlot (length self.old.core.globals) (length self.old.core.now.own) slot }
+        ensures done { IfOk result (UpdatesFreely (λ s. op_of With (s ∷ Some (datum x.now) ∷ [])) (plain_slot (variables self.old.core) slot) self.old self.new) }
+        ensures refused { OnErr result (self.new ≡ self.old) }
+    {
+        setl_rep_bases::laws::cuts_are_exact();
+        setl_rep_updates::laws::forms_of_main_stay();
+        setl_store_operands::laws::operands_stay();
+        let at = place(&self.environment, slot);
+        include_at(self.alloc, &mut self.environment, &mut self.bases, at, x)
+    }
+
+    /// Has a variable's slot hold its value as it is, in no form.
+    ///
+    /// The error is want of memory. The variable has what it had in both cases.
+    pub fn make_plain(&mut self, slot: Slot) -> Result<(), Memory>
+        requires { HasSlot (length self.old.core.globals) (length self.old.core.now.own) slot }
+        ensures { self.new ≡ self.old }
+    {
+        let at = place(&self.environment, slot);
+        plain_at(self.alloc, &mut self.environment, &self.bases, at)
+    }
+}

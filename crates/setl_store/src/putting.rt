@@ -1,0 +1,98 @@
+//! Changes of slots in their forms, with the memory that they take.
+
+ghost use Rattle.std.specs.Prelude.{◌≡◌, ◌∷◌, [], ◌<◌, true, length, Some, OnOk, OnErr};
+ghost use Rattle.setl_modes.specs.Fits.{datum_fits};
+ghost use Rattle.setl_modes.specs.Modes.{mode_of};
+ghost use Rattle.setl_operators_table.specs.declared.Operator.TheVariants.{With};
+ghost use Rattle.setl_operators_table.specs.Operators.{op_of};
+ghost use Rattle.setl_rep_entering.specs.Entering.{BasesAreThere};
+ghost use Rattle.setl_store.specs.Putting.{IsPut, IsPutAgain, IsUpdatedAt};
+ghost use Rattle.setl_store_slots.specs.Slots.{AreStanding};
+ghost use Rattle.setl_store_slots.specs.Updates.{AreGrown};
+ghost use Rattle.setl_value.specs.code.DatumOf.{datum};
+
+use crate::cells::Contents;
+use crate::store::held;
+use setl_modes::Mode;
+use setl_rep_bases::Bases;
+use setl_rep_plain::plain;
+use setl_store_environment::Memory;
+use setl_store_slots::{Held, formed, include};
+use setl_value::Value;
+use std::alloc::Global;
+
+/// Puts a value that fits a mode into a slot, in the form of that mode.
+pub(crate) fn put_formed(
+    alloc: Global,
+    environment: &mut Contents,
+    bases: &mut Bases,
+    at: usize,
+    mode: &Mode,
+    value: &Value,
+) -> Result<(), Memory>
+    requires slot { at < length environment.old.now.slots }
+    requires fits { datum_fits (mode_of mode.now) (datum value.now) ≡ true }
+    requires there { BasesAreThere bases.old 0 (mode_of mode.now) }
+    ensures put { OnOk result (IsPut bases.new at (Some (Some (datum value.now))) environment.old.now environment.new.now) }
+    ensures grown { AreGrown bases.old bases.new }
+    ensures kept { environment.new.kept ≡ environment.old.kept }
+    ensures refused { OnErr result ((bases.new ≡ bases.old) × (environment.new.now ≡ environment.old.now)) }
+{
+    environment.reserve(1)?;
+    let slot = formed(alloc, mode, value, bases)?;
+    environment.set_slot(at, slot);
+    Ok(())
+}
+
+/// `s with:= x`, in the form of what a slot holds. The answer is whether it was done.
+pub(crate) fn include_at(
+    alloc: Global,
+    environment: &mut Contents,
+    bases: &mut Bases,
+    at: usize,
+    x: &Value,
+) -> Result<bool, Memory>
+    requires slot { at < length environment.old.now.slots }
+    requires standing { AreStanding bases.old environment.old.now.slots }
+    ensures updated { IsUpdatedAt (λ s. op_of With (s ∷ Some (datum x.now) ∷ [])) bases.old bases.new at environment.old.now environment.new.now result }
+    ensures kept { environment.new.kept ≡ environment.old.kept }
+{
+    if !is_in_form(environment.slot(at)) {
+        return Ok(false);
+    }
+    if let Err(refused) = environment.reserve(2) {
+        return Err(refused);
+    }
+    let mut slot = match environment.replace_slot(at, Held::Taken) {
+        Ok(slot) => slot,
+        Err(refused) => return Err(refused),
+    };
+    let done = include(alloc, &mut slot, x, bases);
+    environment.set_slot(at, slot);
+    done
+}
+
+fn is_in_form(slot: &Held) -> bool {
+    matches!(slot, Held::Based(_, _))
+}
+
+/// Puts the value of a slot there as it is, in no form.
+pub(crate) fn plain_at(
+    alloc: Global,
+    environment: &mut Contents,
+    bases: &Bases,
+    at: usize,
+) -> Result<(), Memory>
+    requires slot { at < length environment.old.now.slots }
+    requires standing { AreStanding bases.now environment.old.now.slots }
+    ensures again { IsPutAgain bases.now at environment.old.now environment.new.now }
+    ensures kept { environment.new.kept ≡ environment.old.kept }
+{
+    let Held::Based(_, form) = environment.slot(at) else {
+        return Ok(());
+    };
+    let value = plain(alloc, form.get(), bases)?;
+    environment.reserve(1)?;
+    environment.set_slot(at, held(value));
+    Ok(())
+}
