@@ -5,9 +5,9 @@ mod lines;
 mod plain;
 mod sections;
 
-pub use lines::{Numbers, push_base, push_line};
+pub use lines::{Numbers, push_base, push_line, push_name};
 pub use plain::Written;
-pub use sections::{Variable, section};
+pub use sections::{Variable, is_used, section};
 
 /// Want of memory.
 pub use std::alloc::AllocError as Memory;

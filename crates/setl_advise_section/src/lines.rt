@@ -24,7 +24,7 @@ pub struct Numbers {
 
 impl Numbers {
     /// The number of the base of a kind of scalars; booleans have none.
-    fn of(self, k: Kind) -> u64
+    pub fn of(self, k: Kind) -> u64
         ensures { result ≡ bases_of self (kind_of k) }
     {
         match k {
@@ -36,8 +36,8 @@ impl Numbers {
     }
 }
 
-/// Adds the name of a base. The error is want of memory.
-fn push_name(number: u64, into: &mut Vec<u8>) -> Result<(), Memory>
+/// Adds the name of the base with a number. The error is want of memory.
+pub fn push_name(number: u64, into: &mut Vec<u8>) -> Result<(), Memory>
     ensures { OnOk result (into.new.items ≡ into.old.items ++ base_name number) }
 {
     into.extend_from_slice(b"b")?;

@@ -71,7 +71,7 @@ fn uses(k: Kind, f: Flow) -> bool
 }
 
 /// Whether the mode that is advised for one of some variables names the base of a kind.
-fn is_used(k: Kind, variables: &[Variable<'_>]) -> bool
+pub fn is_used(k: Kind, variables: &[Variable<'_>]) -> bool
     ensures { result ≡ is_used (kind_of k) (plain_variables variables.now) }
 {
     for v in variables {

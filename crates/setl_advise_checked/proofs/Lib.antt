@@ -1,0 +1,2 @@
+pub mod ModeCodes
+pub mod Declared
