@@ -1,6 +1,6 @@
 //! Variables that hold their values in the forms of their declarations.
 //!
-//! A set on a base that is `remote` or `local` goes into its form where a small set is stored, and stays in it until something
+//! A set on a base that is `remote` or `local` goes into its form where the empty set is stored, and stays in it until something
 //! is done to it that has no kernel for forms: then the variable goes on with the plain value. So what is converted costs no more
 //! than what was put in before.
 
@@ -32,11 +32,8 @@ use setl_store::{Content, Store};
 use setl_store_environment::Memory;
 use setl_value::Value;
 
-// How many members a set has at most that goes into its form as it is stored.
-const MOST_MEMBERS: usize = 16;
-
-/// Stores a value, or `om`, that its declaration takes in a variable's slot: a small set that is declared so in its form. The error is want of
-/// memory, and then all is as before.
+/// Stores a value, or `om`, that its declaration takes in a variable's slot: the empty set in its form, where it is declared so. The
+/// error is want of memory, and then all is as before.
 pub(crate) fn put(
     slot: Slot,
     declared: Option<Declaration<'_>>,
@@ -53,16 +50,16 @@ pub(crate) fn put(
     let Some(value) = value else {
         return store.set_slot(slot, None);
     };
-    if !is_small(&value) {
+    if !is_empty(&value) {
         return store.set_slot(slot, Some(value));
     }
     store.assign(slot, mode, value)
 }
 
-// Whether a value goes into its form as it is stored.
-fn is_small(value: &Value) -> bool {
+// Whether a value is the empty set.
+fn is_empty(value: &Value) -> bool {
     match value {
-        Value::Set(set) => set.len() <= MOST_MEMBERS,
+        Value::Set(set) => set.len() == 0,
         _ => false,
     }
 }
