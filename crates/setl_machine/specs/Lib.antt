@@ -3,3 +3,4 @@ pub mod Outcome
 pub mod Working
 pub mod Operating
 pub mod Hearing
+pub mod Held

@@ -7,6 +7,7 @@ mod calling;
 mod conditions;
 mod dispatch;
 mod families;
+mod held;
 mod iterating;
 mod laws;
 mod machine;

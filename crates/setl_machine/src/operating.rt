@@ -13,6 +13,7 @@ ghost use Rattle.setl_machine_control.specs.Working.{Does};
 ghost use Rattle.setl_machine.specs.Families.{family_of};
 ghost use Rattle.setl_machine.specs.declared.families.Family.{Family};
 
+use crate::held::{counted_in_form, tested_in_form};
 use setl_code::Instr;
 use setl_machine_control::{Control, End, end_by, go_on};
 use setl_machine_variables::freely_of_top;
@@ -129,7 +130,7 @@ fn operate_on_one(
     ensures reader { control.new.reader ≡ control.old.reader }
 {
     let Some(a) = store.one() else {
-        return operate_listed(what, count, line, store, control);
+        return operate_on_one_held(what, count, line, store, control);
     };
     match op_one(control.alloc(), what, Some(a), control.turns()) {
         Ok(answer) => {
@@ -155,7 +156,7 @@ fn operate_on_two(
     ensures reader { control.new.reader ≡ control.old.reader }
 {
     let Some((a, b)) = store.two() else {
-        return operate_listed(what, count, line, store, control);
+        return operate_on_two_held(what, count, line, store, control);
     };
     match op_two(control.alloc(), what, Some(a), Some(b), control.turns()) {
         Ok(answer) => {
@@ -163,6 +164,54 @@ fn operate_on_two(
             put_for_two(answer.value, store)
         }
         Err(fault) => end_by(fault, line),
+    }
+}
+
+/// The same of one operand that may be held in a form.
+#[inline(never)]
+fn operate_on_one_held(
+    what: Operator,
+    count: u32,
+    line: u32,
+    store: &mut Store<'_>,
+    control: &mut Control,
+) -> Result<End, Memory>
+    requires few { store.old.core.now.at + 1 < 2 ^ 64 }
+    requires fits { TakesOperands what count }
+    requires one { operand_count what ≡ Some 1 }
+    ensures did { IfOk result (λ end. Does store.old control.old line (Operate what count) store.new control.new end) }
+    ensures reader { control.new.reader ≡ control.old.reader }
+{
+    match counted_in_form(what, store) {
+        Some(value) => {
+            control.charge(0);
+            put_for_one(Some(value), store)
+        }
+        None => operate_listed(what, count, line, store, control),
+    }
+}
+
+/// The same of two operands that may be held in forms.
+#[inline(never)]
+fn operate_on_two_held(
+    what: Operator,
+    count: u32,
+    line: u32,
+    store: &mut Store<'_>,
+    control: &mut Control,
+) -> Result<End, Memory>
+    requires few { store.old.core.now.at + 1 < 2 ^ 64 }
+    requires fits { TakesOperands what count }
+    requires two { operand_count what ≡ Some 2 }
+    ensures did { IfOk result (λ end. Does store.old control.old line (Operate what count) store.new control.new end) }
+    ensures reader { control.new.reader ≡ control.old.reader }
+{
+    match tested_in_form(what, store)? {
+        Some(truth) => {
+            control.charge(0);
+            put_for_two(Some(Value::Bool(truth)), store)
+        }
+        None => operate_listed(what, count, line, store, control),
     }
 }
 

@@ -15,6 +15,7 @@ use setl_code::Code;
 use setl_code_declared::declared_variables_fit;
 use setl_io::{Sink, Source};
 use setl_machine::{Control, Declarations, End, run_watched};
+use setl_modes::Mode;
 use setl_program::{Declared, Program};
 use setl_store::Store;
 use setl_top_words::Options;
@@ -51,7 +52,7 @@ fn run_code<I: Source, O: Sink>(
 {
     declared_variables_fit();
     let declarations = Declarations::new(alloc, code, declared)?;
-    let mut store = Store::start(alloc, code, 0)?;
+    let mut store = Store::start(alloc, code, bases_named(declared))?;
     let mut control = Control::new(alloc, turns)?;
     Ok(run_watched(
         &declarations,
@@ -62,6 +63,25 @@ fn run_code<I: Source, O: Sink>(
         watchers,
         reports,
     ))
+}
+
+/// How many bases there are where these variables are declared: one more than the greatest number of one that is named.
+fn bases_named(declared: &[Declared]) -> u32 {
+    let mut count = 0;
+    for variable in declared {
+        count = count.max(bases_of(&variable.mode));
+    }
+    count
+}
+
+/// The same of the bases that a mode names.
+fn bases_of(mode: &Mode) -> u32 {
+    match mode {
+        Mode::Elmt(base, _) => base.saturating_add(1),
+        Mode::Set(_, m) | Mode::Tuple(m) => bases_of(m.get()),
+        Mode::Smap(_, d, r) | Mode::Mmap(_, d, r) => bases_of(d.get()).max(bases_of(r.get())),
+        _ => 0,
+    }
 }
 
 /// Runs the program of an accepted tree, and tells the watchers its events. The error is want of memory, and then nothing
