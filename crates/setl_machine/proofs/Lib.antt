@@ -18,3 +18,4 @@ pub mod Hearing
 pub mod Serving
 pub mod AtOnce
 pub mod ByFamily
+pub mod Members
