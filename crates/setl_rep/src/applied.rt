@@ -1,9 +1,10 @@
 //! Operators on forms.
 
-ghost use Rattle.std.specs.Prelude.{◌≡◌, length, map, IfOk};
+ghost use Rattle.std.specs.Prelude.{◌≡◌, true, length, map, IfOk, IsOk};
 ghost use Rattle.setl_value.specs.code.DatumOf.{part};
 ghost use Rattle.setl_operators_table.specs.Operators.{op_of, TakesOperands};
 ghost use Rattle.setl_rep_plain.specs.Standing.{held_value, IsHeldOver};
+ghost use Rattle.setl_rep.specs.ByKernel.{has_kernel, is_combined, is_told, IsLikeFirst};
 ghost use Rattle.setl_rep.specs.Standing.{AreHeldOver};
 ghost use Rattle.setl_rep.specs.Telling.{TellsHeld};
 ghost use Rattle.setl_rep_forms.specs.FormOf.{form};
@@ -11,6 +12,7 @@ ghost use Rattle.setl_rep_bases.specs.Bases.{BasesState};
 ghost use Rattle.setl_rep_forms.specs.Stands.{IsOver};
 
 use crate::Memory;
+use crate::by_kernel::by_kernel;
 use setl_operators::{Answer, OpFault, Operator, op};
 use setl_rep_bases::Bases;
 use setl_rep_forms::Held;
@@ -29,6 +31,10 @@ pub struct Applied {
 /// The result stands for the value, or `om`, that `op` gives, with its charge, and the faults are those of `op`, where
 /// NoMemory may come at any point.
 ///
+/// No plain value is made of the operands of `in`, `notin`, `#`, `+`, `-`, `*` and `mod` where these have a kernel
+/// (`has_kernel`). There the first three always give a result, so they take no memory, and the result of the others is a remote
+/// set on the base of both operands.
+///
 /// The operands stand over the bases for values at most 500 deep, or for `om`, and are as many as the operator takes. What is
 /// held plain goes to `op` as it is.
 pub fn apply(
@@ -42,7 +48,12 @@ pub fn apply(
     requires over { AreHeldOver bases.now args.items }
     ensures told { TellsHeld bases.now result (op_of what (map (held_value bases.now) args.items) turns) }
     ensures over { IfOk result (λ a. IsOver bases.now (form a.held)) }
+    ensures form { IfOk result (λ a. is_combined what ≡ true → has_kernel what (map form args.items) ≡ true → IsLikeFirst (map form args.items) (form a.held)) }
+    ensures free { is_told what ≡ true → has_kernel what (map form args.items) ≡ true → IsOk result }
 {
+    if let Some(applied) = by_kernel(alloc, what, &args, bases)? {
+        return Ok(applied);
+    }
     let values = values(alloc, args, bases)?;
     let answer = op(alloc, what, values, turns)?;
     Ok(in_a_form(answer))

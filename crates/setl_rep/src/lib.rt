@@ -2,6 +2,7 @@
 #![tactic(auto)]
 
 mod applied;
+mod by_kernel;
 mod conversion;
 
 pub use applied::{Applied, apply};
