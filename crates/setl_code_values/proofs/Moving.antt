@@ -28,7 +28,7 @@ use Rattle.setl_model_values.specs.ModelValues.{AreBytes, SelectorsAreValues, It
 use Rattle.setl_code.specs.Code.{Bracket, InRound, InBrace, Alteration, Putting, Combining, TakingOut, Instr, Push, PushAtom, PushEof, Load, Take, StoreIn, Operate, Alter, Decides, TestBool, Unless, Jump, DropTop, DupTop, PartsOf, BeginOver, NextOr, BeginOf, AddBelow, LeaveAll, PayRound, CallBody, ReturnTop, KeepAll, GoBack, PrintTop, ReadOne, StopRun, Step, Body, Code}
 use Rattle.setl_code.specs.CodeCore.{Held, There, Gone, Cells, held_in, Operand, Result, Iterator, PairIterator, Collecting, value_of, Popped, Pops, Lacks, popped, without_iterators, cleared, variables_of, Activation, Copy, CodeCore, holding, held, write}
 use Rattle.setl_code.specs.Machine.{next, go_to, on_value, on_top, on_popped, on_held, on_rest, turn, with_outcome, store_in, selected_by, store_whole, take_from, alter, iterator, begin_over, next_or, Added, Adds, Refused, Nowhere, add_by, below, added, go_added, first_parts, take_apart, call_body, push_held, hand, handed_back, return_to, go_back, push_read, print_values, decides, do_instr, do_step, body_steps, fetch, machine}
-use Rattle.setl_code_values.specs.Laws.{RunCounts, RunsStand}
+use Rattle.setl_code_values.specs.Laws.{RunCounts, last_state, RunsStand}
 use Rattle.setl_code_values.specs.Standing.{HeldStands, CellsStand, OperandStands, OperandsStand, ActivationStands, CopyStands, CoreStands, EventStands, StateStands, InstrStands, BodyStands, CodeStands, PoppedFit, InstrCounts, StepCounts}
 use Rattle.setl_code_values.proofs.Cells.{cleared_stand, write_stands, held_in_stands, held_stands, operand_value, PoppedStands, popped_stands, line_bytes}
 
@@ -52,28 +52,21 @@ abbrev MoveStands : Move CodeCore → Type 0
 MoveStands (Moves said told to line xs) = AreBytes said × AllByRecursion EventStands told × CoreStands to × StoresStand xs
 MoveStands (Halts e) = Unit {0}
 
-abbrev last_state : Next CodeCore → State CodeCore
-last_state (Goes s) = s
-last_state (Ends e s) = s
-
-no_state : (e : End) (s t : State CodeCore) → Ends e s ≡ Goes t → ⊥
-no_state e s t h = cc
-
 -- ---- stores
 
-store_all_stand : (c : Code) (test : Test) (line : ℕ) (xs : List Store) (s t : State CodeCore) → StateStands s → StoresStand xs → store_all (machine c) test line xs s ≡ Goes t → StateStands t
-store_all_stand c test line [] s t f a e = subst StateStands (ap last_state e) f
-store_all_stand c test line (x ∷ xs) s t f a e = go (test x.0 x.1) (store_all_stand c test line xs (stored (machine c) line x s) t) e
+store_all_stand : (c : Code) (test : Test) (line : ℕ) (xs : List Store) (s : State CodeCore) → StateStands s → StoresStand xs → StateStands (last_state (store_all (machine c) test line xs s))
+store_all_stand c test line [] s f a = f
+store_all_stand c test line (x ∷ xs) s f a = go (test x.0 x.1) (store_all_stand c test line xs (stored (machine c) line x s))
   where
-    go : (b : Bool) → (StateStands (stored (machine c) line x s) → StoresStand xs → store_all (machine c) test line xs (stored (machine c) line x s) ≡ Goes t → StateStands t)
-        → if_fits b (store_all (machine c) test line xs (stored (machine c) line x s)) (Stopped (Unfit x.0) line) s ≡ Goes t → StateStands t
-    go true rest g = rest (write_stands x.0 (There x.1) s.core f.0 a.0, f.1, all_append EventStands s.events (Stored line x.0 x.1 ∷ []) f.2 (a.0, tt)) a.1 g
-    go false rest g = absurd (no_state (Stopped (Unfit x.0) line) s t g)
+    go : (b : Bool) → (StateStands (stored (machine c) line x s) → StoresStand xs → StateStands (last_state (store_all (machine c) test line xs (stored (machine c) line x s))))
+        → StateStands (last_state (if_fits b (store_all (machine c) test line xs (stored (machine c) line x s)) (Stopped (Unfit x.0) line) s))
+    go true rest = rest (write_stands x.0 (There x.1) s.core f.0 a.0, f.1, all_append EventStands s.events (Stored line x.0 x.1 ∷ []) f.2 (a.0, tt)) a.1
+    go false rest = f
 
-settle_stands : (c : Code) (test : Test) (s t : State CodeCore) (m : Move CodeCore) → StateStands s → MoveStands m → settle (machine c) test s m ≡ Goes t → StateStands t
-settle_stands c test s t (Moves said told to line xs) f m e =
-    store_all_stand c test line xs (record { core = to; out = s.out ++ said; events = s.events ++ told }) t (m.2, all_append _ s.out said f.1 m.0, all_append EventStands s.events told f.2 m.1) m.3 e
-settle_stands c test s t (Halts h) f m e = absurd (no_state h s t e)
+settle_stands : (c : Code) (test : Test) (s : State CodeCore) (m : Move CodeCore) → StateStands s → MoveStands m → StateStands (last_state (settle (machine c) test s m))
+settle_stands c test s (Moves said told to line xs) f m =
+    store_all_stand c test line xs (record { core = to; out = s.out ++ said; events = s.events ++ told }) (m.2, all_append _ s.out said f.1 m.0, all_append EventStands s.events told f.2 m.1) m.3
+settle_stands c test s (Halts h) f m = f
 
 -- ---- going on
 
@@ -371,13 +364,12 @@ fetched : (c : Code) (body at : ℕ) → CodeStands c → OfSome (λ s. InstrSta
 fetched c body at h = all_get (λ s. InstrStands s.1) (body_steps (slice_get c.bodies body)) at (steps_stand (slice_get c.bodies body) (all_get BodyStands c.bodies body h))
 
 pub runs_stand : Known → RunsStand
-runs_stand l c test zero s t h p f e = subst StateStands (ap last_state e) f
-runs_stand l c test (suc n) s t h p f e = go (step (machine c) test s) refl (λ u. runs_stand l c test n u t h) e
+runs_stand l c test zero s h p f = f
+runs_stand l c test (suc n) s h p f =
+    go (step (machine c) test s) refl (λ u. runs_stand l c test n u h)
+    (settle_stands c test s (do_step c (fetch c s.core.now.body s.core.now.at) s.core) f (step_goes l c (fetch c s.core.now.body s.core.now.at) s.core (fetched c s.core.now.body s.core.now.at h) (p 0 s refl) f.0))
   where
-    go : (x : Next CodeCore) → step (machine c) test s ≡ x
-        → ((u : State CodeCore) → RunCounts c test u → StateStands u → run (machine c) test n u ≡ Goes t → StateStands t)
-        → and_then x (run (machine c) test n) ≡ Goes t → StateStands t
-    go (Goes u) q later g =
-        later u (λ m w r. p (suc m) w (ap (λ y. and_then y (run (machine c) test m)) q ∙ r))
-        (settle_stands c test s u (do_step c (fetch c s.core.now.body s.core.now.at) s.core) f (step_goes l c (fetch c s.core.now.body s.core.now.at) s.core (fetched c s.core.now.body s.core.now.at h) (p 0 s refl) f.0) q) g
-    go (Ends end u) q later g = absurd (no_state end u t g)
+    go : (x : Next CodeCore) → step (machine c) test s ≡ x → ((u : State CodeCore) → RunCounts c test u → StateStands u → StateStands (last_state (run (machine c) test n u)))
+        → StateStands (last_state x) → StateStands (last_state (and_then x (run (machine c) test n)))
+    go (Goes u) q later g = later u (λ m w r. p (suc m) w (ap (λ y. and_then y (run (machine c) test m)) q ∙ r)) g
+    go (Ends end u) q later g = g

@@ -4,7 +4,7 @@
 
 ghost use Rattle.setl_code_values.specs.Laws.{RunsStand, StartsStand};
 
-/// In each state of a run, what variables hold, operands, members being collected, items, what `fail` brings back and the
+/// In each state of a run, the last one of a run that ended among them, what variables hold, operands, members being collected, items, what `fail` brings back and the
 /// values of events are values or `om`, and the output and the input that is left are bytes. It is so where a run starts,
 /// and each step keeps it, where what `#` counts and the places that an iterator numbers are fewer than 2^127.
 pub fn reached_values_stand()

@@ -33,5 +33,5 @@ module _ (laws : Laws) where
       ]
 
   pub states_stand : ReachedStatesStand
-  states_stand source program code input turns n based t is bytes few counts reached =
-      laws.runs code (test_of program.modes based) n (code_first code input turns) t (code_stands source program code is) counts (laws.starts code input turns bytes few) reached
+  states_stand source program code input turns n based is bytes few counts =
+      laws.runs code (test_of program.modes based) n (code_first code input turns) (code_stands source program code is) counts (laws.starts code input turns bytes few)

@@ -13,7 +13,7 @@ pub fn constants_are_values()
 {}
 
 /// The code of a program whose source is bytes pushes values and `om` alone, and so does its marked code. In each state that
-/// a run of either reaches, on bytes and with fewer than 2^64 turns, what variables hold, operands, members being
+/// a run of either reaches, the last one among them, on bytes and with fewer than 2^64 turns, what variables hold, operands, members being
 /// collected, items, what `fail` brings back and the values of events are values or `om`, and the output and the input that
 /// is left are bytes, where what `#` counts and the places that an iterator numbers are fewer than 2^127.
 pub fn reached_values_are_values()
