@@ -1,2 +1,3 @@
 pub mod Rooms
 pub mod Rounds
+pub mod Works

@@ -17,7 +17,7 @@ pub flow_is : (es : Table) (t : Target) → flow_in es t ≡ target_flow (flows_
 flow_is es (Into x) = refl
 flow_is es (ResultOf f) = refl
 
-among_at : (cs : List Gathered) (k : ℕ) (c : Gathered) → k < length cs → c ≡ get_or cs k c → IsAmong (listed cs) (plain_condition c)
+pub among_at : (cs : List Gathered) (k : ℕ) (c : Gathered) → k < length cs → c ≡ get_or cs k c → IsAmong (listed cs) (plain_condition c)
 among_at [] k c h e = omega (arith, h)
 among_at (d ∷ ds) zero c h e = inl (ap plain_condition (sym e))
 among_at (d ∷ ds) (suc k) c h e = inr (among_at ds k c (omega (arith, h)) e)

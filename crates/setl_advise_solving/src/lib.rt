@@ -1,7 +1,12 @@
-//! Flows that meet all conditions of a program: found by sweeps over the conditions until no flow changes.
+//! Flows that meet all conditions of a program: found by a worklist, and by sweeps over the conditions until no flow changes.
 #![tactic(auto)]
 
+mod looking;
+mod meet;
+mod readers;
+mod reads;
 mod sweeps;
+mod worklist;
 
 pub use setl_advise_terms::{Memory, Table};
 pub use sweeps::{settled, solved};

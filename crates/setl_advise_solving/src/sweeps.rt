@@ -3,37 +3,27 @@
 ghost use Rattle.std.specs.Prelude.{◌≡◌, ◌<◌, true, false, IfOk, OnOk};
 ghost use Rattle.setl_program.specs.Formed.{Formed};
 ghost use Rattle.setl_program.specs.code.Plain.{plain_program};
-ghost use Rattle.setl_advise_flows.specs.Flow as plain;
 ghost use Rattle.setl_advise_flows.specs.Expressions.{Flows, Solves};
-ghost use Rattle.setl_advise_conditions.specs.Conditions.{Meets, MeetsAll, target_flow, term_flow};
-ghost use Rattle.setl_advise_conditions.specs.Grown.{Grown, raised_by};
+ghost use Rattle.setl_advise_conditions.specs.Conditions.{MeetsAll};
+ghost use Rattle.setl_advise_conditions.specs.Grown.{Grown};
 ghost use Rattle.setl_advise_conditions.specs.Parts.{conditions_of};
-ghost use Rattle.setl_advise_conditions.specs.Rank.{rank, room};
-ghost use Rattle.setl_advise_gathering.specs.code.Plain.{listed, plain_condition};
+ghost use Rattle.setl_advise_conditions.specs.Rank.{room};
+ghost use Rattle.setl_advise_gathering.specs.code.Plain.{listed};
 ghost use Rattle.setl_advise_terms.specs.code.Plain.{flows_of};
 ghost use Rattle.setl_advise_order.specs.Order.{AreBelow, AreWithin};
 ghost use Rattle.setl_advise_solving.specs.Advised.{NeverUnfit};
 
+use crate::looking::hastened;
+use crate::meet::meet;
 use setl_advise_conditions::{conditions_are_enough, conditions_are_needed};
 use setl_advise_flows::values_stay_in_their_flows;
 use setl_advise_gathering::{Condition, gathered};
 use setl_advise_order::grown_flows_are_least;
-use setl_advise_terms::{Memory, Table, term};
+use setl_advise_terms::{Memory, Table};
 use setl_program::Program;
 use std::alloc::Global;
 
-/// Lets the target of a condition have what the condition stores, and tells whether it had not. An error is want of memory.
-fn meet<'p>(alloc: Global, table: &mut Table<'p>, c: Condition<'p>) -> Result<bool, Memory>
-    ensures stays { IfOk result (λ rose. rose ≡ false → table.new ≡ table.old) }
-    ensures met { IfOk result (λ rose. rose ≡ false → Meets (flows_of table.old) (plain_condition c.entry)) }
-    ensures raised { IfOk result (λ rose. rose ≡ true → flows_of table.new ≡ raised_by (flows_of table.old) (plain_condition c.entry)) }
-    ensures rises { IfOk result (λ rose. rose ≡ true → rank 3 (target_flow (flows_of table.old) (plain_condition c.entry).target) < rank 3 (plain.join (term_flow (flows_of table.old) (plain_condition c.entry).term) (target_flow (flows_of table.old) (plain_condition c.entry).target))) }
-{
-    let f = term(alloc, table, c.term)?;
-    table.raise(c.target, f)
-}
-
-/// Does so for some conditions, one by one, and tells whether a flow changed. An error is want of memory.
+/// Lets the targets of some conditions have what these store, one by one, and tells whether a flow changed. An error is want of memory.
 fn sweep<'p>(
     alloc: Global,
     conditions: &[Condition<'p>],
@@ -54,13 +44,14 @@ fn sweep<'p>(
 
 /// Flows that meet these conditions, and have no more than what the conditions store in turn. An error is want of memory.
 ///
-/// It sweeps over all conditions until none changes a flow. Each sweep but the last raises a flow, and a flow rises at most
-/// 106 times: so there are at most 106 sweeps and one more for each condition, and mostly a few in all.
+/// The flows come from rounds over conditions whose flows changed. Then it sweeps over all conditions until none changes a
+/// flow, so that nothing rests on what the rounds looked at: where they left nothing out, one sweep is all. Each sweep but the
+/// last raises a flow, and a flow rises at most 106 times.
 pub fn settled<'p>(alloc: Global, conditions: &[Condition<'p>]) -> Result<Table<'p>, Memory>
     ensures met { IfOk result (λ t. MeetsAll (flows_of t) (listed conditions.now)) }
     ensures grown { IfOk result (λ t. Grown (listed conditions.now) (flows_of t)) }
 {
-    let mut table = Table::new(alloc);
+    let mut table = hastened(alloc, conditions)?;
     'sweeps: loop {
         let changed = sweep(alloc, conditions, &mut table)?;
         if !changed {
