@@ -1,3 +1,5 @@
 pub mod Reading
 pub mod Converting
 pub mod ByKernel
+pub mod Ready
+pub mod ModeCodes

@@ -1,9 +1,10 @@
 -- Which operators are applied to forms without a plain value of them.
 use Rattle.std.specs.Prelude.{Bool, true, false, ◌&&◌, List, [], ◌∷◌}
 use Rattle.setl_operators_table.specs.declared.Operator.{Operator}
-use Rattle.setl_operators_table.specs.declared.Operator.TheVariants.{Size, Add, Subtract, Multiply, Modulo, In, NotIn}
+use Rattle.setl_operators_table.specs.declared.Operator.TheVariants.{Size, Add, Subtract, Multiply, Modulo, In, NotIn, With, Less}
 use Rattle.setl_rep_forms.specs.Form.{Form}
-use Rattle.setl_rep_kernels.specs.Kernels.{is_single, is_numbered, is_remote, are_remote_alike, IsAlike}
+use Rattle.setl_rep_bases.specs.Bases.{BasesState}
+use Rattle.setl_rep_kernels.specs.Kernels.{is_single, is_numbered, is_remote, are_remote_alike, has_change, IsAlike}
 
 -- one operand: the size of a remote set
 abbrev pub has_one : Operator → Form → Bool
@@ -25,6 +26,17 @@ abbrev pub has_kernel : Operator → List Form → Bool
 has_kernel o (s ∷ []) = has_one o s
 has_kernel o (a ∷ b ∷ []) = has_two o a b
 has_kernel o fs = false
+
+-- `with`, where `on` is true, and `less`: a set of numbers, and what is held plain or as an element, which for `with` is a member
+-- of the base
+abbrev pub has_first_change : BasesState → (on : Bool) → List Form → Bool
+has_first_change bs on (s ∷ x ∷ []) = has_change bs on s x
+has_first_change bs on fs = false
+
+abbrev pub has_changed : BasesState → Operator → List Form → Bool
+has_changed bs With fs = has_first_change bs true fs
+has_changed bs Less fs = has_first_change bs false fs
+has_changed bs o fs = false
 
 -- the operators that tell a truth value or a number
 abbrev pub is_told : Operator → Bool

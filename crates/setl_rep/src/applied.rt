@@ -4,7 +4,7 @@ ghost use Rattle.std.specs.Prelude.{◌≡◌, true, length, map, IfOk, IsOk};
 ghost use Rattle.setl_value.specs.code.DatumOf.{part};
 ghost use Rattle.setl_operators_table.specs.Operators.{op_of, TakesOperands};
 ghost use Rattle.setl_rep_plain.specs.Standing.{held_value, IsHeldOver};
-ghost use Rattle.setl_rep.specs.ByKernel.{has_kernel, is_combined, is_told, IsLikeFirst};
+ghost use Rattle.setl_rep.specs.ByKernel.{has_changed, has_kernel, is_combined, is_told, IsLikeFirst};
 ghost use Rattle.setl_rep.specs.Standing.{AreHeldOver};
 ghost use Rattle.setl_rep.specs.Telling.{TellsHeld};
 ghost use Rattle.setl_rep_forms.specs.FormOf.{form};
@@ -12,6 +12,7 @@ ghost use Rattle.setl_rep_bases.specs.Bases.{BasesState};
 ghost use Rattle.setl_rep_forms.specs.Stands.{IsOver};
 
 use crate::Memory;
+use crate::by_change::with_or_less;
 use crate::by_kernel::by_kernel;
 use setl_operators::{Answer, OpFault, Operator, op};
 use setl_rep_bases::Bases;
@@ -33,11 +34,36 @@ pub struct Applied {
 ///
 /// No plain value is made of the operands of `in`, `notin`, `#`, `+`, `-`, `*` and `mod` where these have a kernel
 /// (`has_kernel`). There the first three always give a result, so they take no memory, and the result of the others is a remote
-/// set on the base of both operands.
+/// set on the base of both operands. Nor is one made of the operands of `with` and `less` where the first is a set of numbers and
+/// the second is a member of its base, or, for `less`, any value that is held plain or as an element (`has_changed`): there
+/// the result is the set in its form, changed in place where nobody else holds it.
 ///
 /// The operands stand over the bases for values at most 500 deep, or for `om`, and are as many as the operator takes. What is
 /// held plain goes to `op` as it is.
 pub fn apply(
+    alloc: Global,
+    what: Operator,
+    args: Vec<Held>,
+    bases: &Bases,
+    turns: u64,
+) -> Result<Applied, OpFault>
+    requires count { TakesOperands what (length args.items) }
+    requires over { AreHeldOver bases.now args.items }
+    ensures told { TellsHeld bases.now result (op_of what (map (held_value bases.now) args.items) turns) }
+    ensures over { IfOk result (λ a. IsOver bases.now (form a.held)) }
+    ensures form { IfOk result (λ a. is_combined what ≡ true → has_kernel what (map form args.items) ≡ true → IsLikeFirst (map form args.items) (form a.held)) }
+    ensures changed { IfOk result (λ a. has_changed bases.now what (map form args.items) ≡ true → IsLikeFirst (map form args.items) (form a.held)) }
+    ensures free { is_told what ≡ true → has_kernel what (map form args.items) ≡ true → IsOk result }
+{
+    match what {
+        Operator::With => with_or_less(alloc, true, args, bases, turns),
+        Operator::Less => with_or_less(alloc, false, args, bases, turns),
+        _ => by_forms(alloc, what, args, bases, turns),
+    }
+}
+
+// The same of all operators, but for what is said of changes.
+fn by_forms(
     alloc: Global,
     what: Operator,
     args: Vec<Held>,
@@ -71,8 +97,8 @@ fn values(alloc: Global, args: Vec<Held>, bases: &Bases) -> Result<Vec<Option<Va
     Ok(values)
 }
 
-// The value of an operand.
-fn value(alloc: Global, h: Held, bases: &Bases) -> Result<Option<Value>, Memory>
+/// The value of an operand.
+pub(crate) fn value(alloc: Global, h: Held, bases: &Bases) -> Result<Option<Value>, Memory>
     requires { IsHeldOver bases.now h }
     ensures { IfOk result (λ v. part v ≡ held_value bases.now h) }
 {
@@ -82,8 +108,8 @@ fn value(alloc: Global, h: Held, bases: &Bases) -> Result<Option<Value>, Memory>
     }
 }
 
-// An answer in the plain form.
-fn in_a_form(a: Answer) -> Applied
+/// An answer in the plain form.
+pub(crate) fn in_a_form(a: Answer) -> Applied
     ensures value { (bs : BasesState) → held_value bs result.held ≡ part a.value }
     ensures over { (bs : BasesState) → IsOver bs (form result.held) }
     ensures charge { result.charged ≡ a.charged }

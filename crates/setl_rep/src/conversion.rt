@@ -14,6 +14,7 @@ ghost use Rattle.setl_rep.specs.Standing.{AreLengthenedBy};
 ghost use Rattle.setl_rep.specs.declared.conversion.ConvertFault.TheVariants as fault;
 
 use crate::Memory;
+use crate::own_form::is_ready;
 use setl_modes::Mode;
 use setl_modes_fit::fits;
 use setl_rep_bases::Bases;
@@ -47,6 +48,9 @@ impl From<Memory> for ConvertFault {
 /// A value, or `om`, that is held in any form goes into the form of a mode, in the activation with the number `instance`.
 /// Each base that the mode names is lengthened by the values at its places that aren't members yet, in canonical order.
 ///
+/// A set that is held as the numbers that the mode asks for is copied, and shares its numbers: its members are tested one by one,
+/// and no plain set is made.
+///
 /// `Unfit` comes where the value doesn't fit the mode, and want of memory at any point. After an error the bases are as
 /// before.
 pub fn convert(
@@ -66,6 +70,10 @@ pub fn convert(
     ensures unfit { result ≡ Err fault.Unfit → fits (mode_of mode.now) (held_value bases.old h.now) ≡ false }
     ensures refused { OnErr result (bases.new ≡ bases.old) }
 {
+    setl_rep_entering::laws::parts_lengthen_alike();
+    if is_ready(alloc, mode, h, bases, instance)? {
+        return Ok(h.copy()?);
+    }
     let v = plain(alloc, h, bases)?;
     if !fits(mode, &v) {
         return Err(ConvertFault::Unfit);

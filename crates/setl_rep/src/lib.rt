@@ -2,8 +2,10 @@
 #![tactic(auto)]
 
 mod applied;
+mod by_change;
 mod by_kernel;
 mod conversion;
+mod own_form;
 
 pub use applied::{Applied, apply};
 pub use conversion::{ConvertFault, convert};
