@@ -161,8 +161,8 @@ module _ (image : Image) where
         bodies = (ltb-true 0 (length c.bodies) f.0, ltb-true (length c.bodies) (2 ^ 32) f.1);
         names = (
           ltb-true (length c.vars) (2 ^ 32) e.1,
-          (subst (λ n. n < 2 ^ 32) (sym (length_map named_of image.modes.vars)) (ltb-true (length image.modes.vars) (2 ^ 32) d.1),
-           subst (λ n. n < 2 ^ 32) (sym (length_map named_of image.modes.bases)) (ltb-true (length image.modes.bases) (2 ^ 32) b.1)),
+          subst (λ n. n < 2 ^ 32) (sym (length_map named_of image.modes.vars)) (ltb-true (length image.modes.vars) (2 ^ 32) d.1),
+          subst (λ n. n < 2 ^ 32) (sym (length_map named_of image.modes.bases)) (ltb-true (length image.modes.bases) (2 ^ 32) b.1),
         );
         bare = is_bare_main c.bodies a.1;
       }
@@ -171,8 +171,8 @@ module _ (image : Image) where
   to_counts few =
       let f = join (nat_lt 0 (length c.bodies)) (nat_lt (length c.bodies) (2 ^ 32)) (lt-ltb 0 (length c.bodies) few.bodies.0) (lt-ltb (length c.bodies) (2 ^ 32) few.bodies.1) in
       let e = join (nat_lt 0 (length c.bodies) && nat_lt (length c.bodies) (2 ^ 32)) (nat_lt (length c.vars) (2 ^ 32)) f (lt-ltb (length c.vars) (2 ^ 32) few.names.0) in
-      let d = join (nat_lt 0 (length c.bodies) && nat_lt (length c.bodies) (2 ^ 32) && nat_lt (length c.vars) (2 ^ 32)) (nat_lt (length image.modes.vars) (2 ^ 32)) e (lt-ltb (length image.modes.vars) (2 ^ 32) (subst (λ n. n < 2 ^ 32) (length_map named_of image.modes.vars) few.names.1.0)) in
-      let b = join (nat_lt 0 (length c.bodies) && nat_lt (length c.bodies) (2 ^ 32) && nat_lt (length c.vars) (2 ^ 32) && nat_lt (length image.modes.vars) (2 ^ 32)) (nat_lt (length image.modes.bases) (2 ^ 32)) d (lt-ltb (length image.modes.bases) (2 ^ 32) (subst (λ n. n < 2 ^ 32) (length_map named_of image.modes.bases) few.names.1.1)) in
+      let d = join (nat_lt 0 (length c.bodies) && nat_lt (length c.bodies) (2 ^ 32) && nat_lt (length c.vars) (2 ^ 32)) (nat_lt (length image.modes.vars) (2 ^ 32)) e (lt-ltb (length image.modes.vars) (2 ^ 32) (subst (λ n. n < 2 ^ 32) (length_map named_of image.modes.vars) few.names.1)) in
+      let b = join (nat_lt 0 (length c.bodies) && nat_lt (length c.bodies) (2 ^ 32) && nat_lt (length c.vars) (2 ^ 32) && nat_lt (length image.modes.vars) (2 ^ 32)) (nat_lt (length image.modes.bases) (2 ^ 32)) d (lt-ltb (length image.modes.bases) (2 ^ 32) (subst (λ n. n < 2 ^ 32) (length_map named_of image.modes.bases) few.names.2)) in
       join (nat_lt 0 (length c.bodies) && nat_lt (length c.bodies) (2 ^ 32) && nat_lt (length c.vars) (2 ^ 32) && nat_lt (length image.modes.vars) (2 ^ 32) && nat_lt (length image.modes.bases) (2 ^ 32)) (is_bare c.bodies) b (to_bare c.bodies few.bare)
 
   pub counts_tell : (so : Bool) → so ≡ few_in c image.modes → IsTrue so ↔ FewIn i
@@ -184,8 +184,9 @@ module _ (image : Image) where
   few_of_sound s = record {
     bodies = (subst (λ n. 0 < n) (bodies_count vars 0 c.bodies) s.sound.main, subst (λ n. n < 2 ^ 32) (bodies_count vars 0 c.bodies) s.few.counts.0);
     names = (
-      subst (λ n. n < 2 ^ 32) (length_map Global c.vars) s.few.counts.1.0,
-      (subst (λ n. n < 2 ^ 32) (length_map (λ (d : format.Named). variable_of c.vars d.0) i.vars) s.few.counts.1.1, s.few_bases),
+      subst (λ n. n < 2 ^ 32) (length_map Global c.vars) s.few.counts.1,
+      subst (λ n. n < 2 ^ 32) (length_map (λ (d : format.Named). variable_of c.vars d.0) i.vars) s.few.counts.2,
+      s.few_bases,
     );
     bare = s.bare;
   }
@@ -229,24 +230,24 @@ module _ (image : Image) where
           falls = part.falls.1;
           takes = part.takes;
         },
-        (part.closed.closed,
-         (subst (λ k. k < 2 ^ 32) (sym (length_map (plain_step (record { global = vars; own = own_variables n m.body.parameters m.body.names })) m.body.steps)) part.few.0,
-          subst (λ k. k < 2 ^ 32) (sym (names_count n m.body.parameters m.body.names)) part.few.1)),
+        part.closed.closed,
+        (subst (λ k. k < 2 ^ 32) (sym (length_map (plain_step (record { global = vars; own = own_variables n m.body.parameters m.body.names })) m.body.steps)) part.few.0,
+         subst (λ k. k < 2 ^ 32) (sym (names_count n m.body.parameters m.body.names)) part.few.1),
       )
 
   pub sound_of_parts : FewIn i → SoundModes i.bases i.vars → SoundNames i → SoundParts c (declared_of i) → SoundImage i
   sound_of_parts few modes names parts = record {
     sound = record { bodies = λ n b is. (body_of parts n b is).0; main = subst (λ n. 0 < n) (sym (bodies_count vars 0 c.bodies)) few.bodies.0 };
-    closed = record { bodies = λ n b is. (body_of parts n b is).1.0 };
+    closed = record { bodies = λ n b is. (body_of parts n b is).1 };
     few = record {
-      bodies = λ n b is. (body_of parts n b is).1.1;
+      bodies = λ n b is. (body_of parts n b is).2;
       counts = (
         subst (λ n. n < 2 ^ 32) (sym (bodies_count vars 0 c.bodies)) few.bodies.1,
-        (subst (λ n. n < 2 ^ 32) (sym (length_map Global c.vars)) few.names.0,
-         subst (λ n. n < 2 ^ 32) (sym (length_map (λ (d : format.Named). variable_of c.vars d.0) i.vars)) few.names.1.0),
+        subst (λ n. n < 2 ^ 32) (sym (length_map Global c.vars)) few.names.0,
+        subst (λ n. n < 2 ^ 32) (sym (length_map (λ (d : format.Named). variable_of c.vars d.0) i.vars)) few.names.1,
       );
     };
-    few_bases = few.names.1.1;
+    few_bases = few.names.2;
     may_run = (names.differ, bodies_fit (length c.vars) 0 c.bodies (λ k m d at is. (
       let here : k ≡ m = omega arith in
       let part = parts k d is in
@@ -365,12 +366,12 @@ last_part r c declared n b few closed differ last falls h = last_by r (λ table.
 
 -- ---- what was found
 
-pub none_of : {V P : Type 0} {Q : V → Type 0} (o : Option V) → o ≡ None → MatchOption o P Q → P
-none_of None is h = h
-none_of (Some v) is h = cc
+pub none_of : {V : Type 0} (P : Type 0) (Q : V → Type 0) (o : Option V) → o ≡ None → MatchOption o P Q → P
+none_of P Q None is h = h
+none_of P Q (Some v) is h = cc
 
-pub some_of : {V P : Type 0} {Q : V → Type 0} (o : Option V) (v : V) → o ≡ Some v → MatchOption o P Q → Q v
-some_of {V} {P} {Q} o v is h = subst (λ (p : Option V). MatchOption p P Q) is h
+pub some_of : {V : Type 0} (P : Type 0) (Q : V → Type 0) (o : Option V) (v : V) → o ≡ Some v → MatchOption o P Q → Q v
+some_of P Q o v is h = subst (λ p. MatchOption p P Q) is h
 
 pub not_so : {P : Type 0} (so : Bool) → IsTrue so ↔ P → so ≡ false → P → ⊥
 not_so so tells nope p = no (sym nope ∙ tells.1 p)

@@ -11,13 +11,13 @@ pub returns-then-not-modes_are_sound : goal.returns-then-not-modes_are_sound
 returns-then-not-modes_are_sound c = refuse c.modes_are_sound.result c.modes_are_sound.ensures c.if-not-modes_are_sound.true (λ s. s.modes)
 
 pub returns-in-None : goal.returns-in-None
-returns-in-None c = refuse_by (none_of c.in_ok-found.found c.in-None.is c.in_ok-found.ensures) (names_of_sound c.args.image.now)
+returns-in-None c = refuse_by (none_of _ _ c.in_ok-found.found c.in-None.is c.in_ok-found.ensures) (names_of_sound c.args.image.now)
 
 pub are_sound-requires : goal.are_sound-requires
-are_sound-requires c = record { own = (some_of c.in_ok-found.found c.in-Some.own c.in-Some.is c.in_ok-found.ensures).1 }
+are_sound-requires c = record { own = (some_of _ _ c.in_ok-found.found c.in-Some.own c.in-Some.is c.in_ok-found.ensures).1 }
 
 pub returns-in-Some : goal.returns-in-Some
 returns-in-Some c =
     last_by c.are_sound.result
-    (sound_of_parts c.args.image.now ((counts_tell c.args.image.now c.are_few.result c.are_few.ensures).0 c.if-not-are_few.false) (c.modes_are_sound.ensures.0 c.if-not-modes_are_sound.false) (some_of c.in_ok-found.found c.in-Some.own c.in-Some.is c.in_ok-found.ensures).0)
+    (sound_of_parts c.args.image.now ((counts_tell c.args.image.now c.are_few.result c.are_few.ensures).0 c.if-not-are_few.false) (c.modes_are_sound.ensures.0 c.if-not-modes_are_sound.false) (some_of _ _ c.in_ok-found.found c.in-Some.own c.in-Some.is c.in_ok-found.ensures).0)
     (parts_of_sound c.args.image.now) c.are_sound.ensures
