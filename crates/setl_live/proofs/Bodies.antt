@@ -36,7 +36,7 @@ get_mapped f (x ∷ xs) (suc at) = get_mapped f xs at
 pub own_count : (n : ℕ) (ps : List Param) (names : List OwnName) → length (own_variables n ps names) ≡ length ps + length names
 own_count n ps names = simp (length-append, length-map)
 
-globals_stay : (declared : List Variable) (vars : List (List ℕ)) (j : ℕ) → j < length vars → may_take declared (variable_at (map Global vars) j) ≡ false
+pub globals_stay : (declared : List Variable) (vars : List (List ℕ)) (j : ℕ) → j < length vars → may_take declared (variable_at (map Global vars) j) ≡ false
 globals_stay declared [] j within = absurd (omega arith)
 globals_stay declared (v ∷ vars) zero within = refl
 globals_stay declared (v ∷ vars) (suc j) within = let less : j < length vars = omega arith in globals_stay declared vars j less
@@ -185,7 +185,7 @@ none_declared declared only n [] (m ∷ names) (suc k) = none_declared declared 
 none_declared declared only n (p ∷ ps) names zero = only.procedures n p.name
 none_declared declared only n (p ∷ ps) names (suc k) = none_declared declared only n ps names k
 
-table_right : (declared : List Variable) → OnlyMain declared → (table : List Bool) (n : ℕ) (b : Body) → (n ≡ 0 → TellsDeclared declared (Some b) table) → MayTake declared n b (refused_in table n)
+pub table_right : (declared : List Variable) → OnlyMain declared → (table : List Bool) (n : ℕ) (b : Body) → (n ≡ 0 → TellsDeclared declared (Some b) table) → MayTake declared n b (refused_in table n)
 table_right declared only table zero b tells k within = ap not (tells refl k within) ∙ sym (own_may declared 0 b.parameters b.names k)
 table_right declared only table (suc n) b tells k within = ap not (sym (none_declared declared only n b.parameters b.names k)) ∙ sym (own_may declared (suc n) b.parameters b.names k)
 

@@ -30,7 +30,7 @@ fn loaded(what: &Instr) -> Option<u32>
 }
 
 /// What a table says of a slot; behind its end no.
-fn is_true(table: &[bool], k: usize) -> bool
+pub(crate) fn is_true(table: &[bool], k: usize) -> bool
     ensures { result ≡ get_or table.now k false }
 {
     match table.get(k) {
@@ -74,7 +74,7 @@ fn marked_steps(steps: Vec<Step>, marks: &[bool], refused: &[bool]) -> Vec<Step>
 }
 
 /// Whether these counts have 32 bits.
-fn are_few(steps: usize, parameters: usize, names: usize) -> bool
+pub(crate) fn are_few(steps: usize, parameters: usize, names: usize) -> bool
     ensures { result ≡ true → (steps < 2 ^ 32) × (parameters + names < 2 ^ 32) }
 {
     steps < 1 << 32 && parameters < 1 << 31 && names < 1 << 31
@@ -100,7 +100,7 @@ pub(crate) fn mark_body(alloc: Allocator, body: &mut Body, refused: &[bool]) -> 
 }
 
 /// The slots of a body that aren't to be taken.
-fn refused_of(table: &[bool], n: usize) -> &[bool]
+pub(crate) fn refused_of(table: &[bool], n: usize) -> &[bool]
     ensures { result.now ≡ refused_in table.now n }
 {
     if n == 0 { table } else { &[] }

@@ -1,6 +1,7 @@
 //! Which own slots of the main program are declared.
 
-ghost use Rattle.std.specs.Prelude.{◌≡◌, ◌++◌, [], map, slice_get, IfOk, OnOk};
+ghost use Rattle.std.specs.Prelude.{◌≡◌, ◌++◌, List, [], map, slice_get, Some, IfOk, OnOk};
+ghost use Rattle.setl_model_runs.specs.Variable as run;
 ghost use Rattle.setl_code_marked.specs.Marked.{declared_in};
 ghost use Rattle.setl_names.specs.Names.{has};
 ghost use Rattle.setl_program.specs.code.Plain.{plain_declared, plain_variable};
@@ -91,4 +92,14 @@ pub(crate) fn declared_slots(
         None => Ok(Vec::new(alloc)),
         Some(body) => table_by(alloc, &names, body),
     }
+}
+
+/// For each own slot of the main program's body, whether its variable is declared. `names` are the names of the declared
+/// variables that are the main program's own.
+///
+/// The error is want of memory.
+pub fn declared_among(alloc: Global, names: &Names, body: &Body) -> Result<Vec<bool>, Memory>
+    ensures { (declared : List run.Variable) → OnlyMain declared → names.now ≡ with_all_main [] declared → IfOk result (λ table. TellsDeclared declared (Some body.now) table.items) }
+{
+    table_by(alloc, names, body)
 }

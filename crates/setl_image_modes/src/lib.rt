@@ -1,0 +1,7 @@
+//! Whether the modes of bases and declared variables keep the rules of a `repr` section.
+#![tactic(auto)]
+
+mod rules;
+mod same;
+
+pub use rules::modes_are_sound;

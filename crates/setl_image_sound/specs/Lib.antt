@@ -1,0 +1,3 @@
+pub mod SoundImage
+pub mod Counts
+pub mod Laws
