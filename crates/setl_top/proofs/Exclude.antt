@@ -10,11 +10,13 @@ use Rattle.setl_model.specs.Means.{Means, first}
 use Rattle.setl_model.specs.Step.{language, test_of}
 use Rattle.setl_program.specs.Program.{Program}
 use Rattle.setl_program.specs.ProgramOf.{program_of}
+use Rattle.setl_tree.specs.declared.tree.Tree.{Tree}
 use Rattle.setl_top.specs.Accepted.{IsProgram, Accepted, Refusal, IsRefusedFor}
-use Rattle.setl_top.specs.Headline.{AnyRose, ReadCause, load_failed, read_failed, InputLeft, untouched, read_from, WriteCause, print_failed, out_failed, err_failed, faulty_words, no_such_watcher, refused, checked, listed, explained, no_fault, stop_told, run_ended, trial_refused, trial_ended, Job, IsInput, IsToRun, IsTried, TellsRefusal, trial_output}
-use Rattle.setl_top.specs.Laws.{IsComplete, FaultyWordsReadNothing, WordsExactly, RefusesExactly, ChecksExactly, ListsExactly, ExplainsExactly, TrialsReadNothing, TriesExactly, EndsExactly, TellsTexts}
+use Rattle.setl_top.specs.Headline.{AnyRose, ReadCause, load_failed, read_failed, InputLeft, untouched, read_from, WriteCause, print_failed, out_failed, err_failed, faulty_words, no_such_watcher, refused, checked, listed, advised, has_repr, explained, no_fault, stop_told, run_ended, trial_refused, trial_ended, Job, IsInput, IsToRun, IsTried, TellsRefusal, trial_output}
+use Rattle.setl_top.specs.Laws.{IsComplete, FaultyWordsReadNothing, WordsExactly, RefusesExactly, ChecksExactly, ListsExactly, AdvisesExactly, ExplainsExactly, TrialsReadNothing, TriesExactly, EndsExactly, TellsTexts}
 use Rattle.setl_top.specs.Explained.{IsExplained}
 use Rattle.setl_top.specs.Listings.{IsListing}
+use Rattle.setl_top_advice.specs.Advised.{IsAdvised, HasRepr, first_line, has_repr_line}
 use Rattle.setl_top.specs.Outside.{Outside}
 use Rattle.setl_top.specs.Trials.{trial_source, trial_input, trial_line}
 use Rattle.setl_top.specs.Watching.{asked_for, IsThere, IsNoRequest, reports_of}
@@ -22,7 +24,7 @@ use Rattle.setl_top_status.specs.Ends.{status_of, error_line}
 use Rattle.setl_top_status.specs.Reasons.{reason_line}
 use Rattle.setl_top_status.specs.declared.status.Status.{Status}
 use Rattle.setl_top_status.specs.declared.status.Status.TheVariants.{Done, Refused, Words, Stopped, Spent, ReadFault, WriteFault, NoMemory}
-use Rattle.setl_top_words.specs.Words.{Command, Run, Check, Code, Explain, TellStop, Trial, Spells, HasFile, RunsFile, watched_by, OneCommand}
+use Rattle.setl_top_words.specs.Words.{Command, Run, Check, Code, Advise, Explain, TellStop, Trial, Spells, HasFile, RunsFile, watched_by, OneCommand}
 use Rattle.setl_top.proofs.OneReason.{FrontLaws, one_reason, one_program_tree, not_refused}
 
 write_rose : (words : List (List ℕ)) (before after : Outside) (out telling : List ℕ) → WriteCause words before after out telling → AnyRose before after
@@ -83,6 +85,7 @@ abbrev input_for : Command → List ℕ
 input_for (Run o n) = []
 input_for (Check n) = []
 input_for (Code n) = []
+input_for (Advise n) = []
 input_for (Explain n) = []
 input_for (TellStop k) = []
 input_for (Trial a b) = trial_input a b
@@ -91,6 +94,7 @@ abbrev line_for : Command → List ℕ → List ℕ
 line_for (Run o n) printed = []
 line_for (Check n) printed = []
 line_for (Code n) printed = []
+line_for (Advise n) printed = []
 line_for (Explain n) printed = []
 line_for (TellStop k) printed = []
 line_for (Trial a b) printed = trial_line a b printed
@@ -100,6 +104,7 @@ module _ (one_command : OneCommand) where
   one_file (Run o a) n m f g = f ∙ sym g
   one_file (Check a) n m f g = f ∙ sym g
   one_file (Code a) n m f g = f ∙ sym g
+  one_file (Advise a) n m f g = f ∙ sym g
   one_file (Explain a) n m f g = f ∙ sym g
   one_file (TellStop k) n m f g = absurd f
   one_file (Trial a b) n m f g = absurd f
@@ -109,6 +114,7 @@ module _ (one_command : OneCommand) where
   run_file (Run o a) n turns based h = h.0
   run_file (Check a) n turns based h = absurd h
   run_file (Code a) n turns based h = absurd h
+  run_file (Advise a) n turns based h = absurd h
   run_file (Explain a) n turns based h = absurd h
   run_file (TellStop k) n turns based h = absurd h
   run_file (Trial a b) n turns based h = absurd h
@@ -160,6 +166,8 @@ module _ (one_command : OneCommand) where
   words_only words before _ _ _ _ (refused n x l q tells t r) = is_words Refused (λ e. absurd (cc)) (λ no. no q.command q.spelled q.there)
   words_only words before _ _ _ _ (checked n x tree s t p) = is_words Done (λ e. absurd (cc)) (λ no. no (Check n) s tt)
   words_only words before _ _ _ _ (listed text a) = is_words Done (λ e. absurd (cc)) (λ no. no (Code a.name) a.spelled tt)
+  words_only words before _ _ _ _ (advised text a) = is_words Done (λ e. absurd (cc)) (λ no. no (Advise a.name) a.spelled tt)
+  words_only words before _ _ _ _ (has_repr n x l tree s t p has) = is_words Refused (λ e. absurd (cc)) (λ no. no (Advise n) s tt)
   words_only words before _ _ _ _ (explained text a) = is_words Refused (λ e. absurd (cc)) (λ no. no (Explain a.name) a.spelled tt)
   words_only words before _ _ _ _ (no_fault n x tree s t p) = is_words Done (λ e. absurd (cc)) (λ no. no (Explain n) s tt)
   words_only words before _ _ _ _ (stop_told k s) = is_words Done (λ e. absurd (cc)) (λ no. no (TellStop k) s tt)
@@ -193,6 +201,12 @@ module _ (one_command : OneCommand) where
   refused_only laws words before texts c name source line _ _ _ _ t s f w y h r (listed text a) =
       let sources = one_source words before texts t (Code a.name) c a.name name a.source source a.spelled refl a.text s f (told_text before texts t name source h) in
       absurd (not_refused laws source r.reason r.refused a.tree (subst (λ y. IsProgram y a.tree) sources a.is_program))
+  refused_only laws words before texts c name source line _ _ _ _ t s f w y h r (advised text a) =
+      let sources = one_source words before texts t (Advise a.name) c a.name name a.source source a.spelled refl a.text_of s f (told_text before texts t name source h) in
+      absurd (not_refused laws source r.reason r.refused a.tree (subst (λ y. IsProgram y a.tree) sources a.is_program))
+  refused_only laws words before texts c name source line _ _ _ _ t s f w y h r (has_repr n x l tree s' t' p has) =
+      let sources = one_source words before texts t (Advise n) c n name x source s' refl t' s f (told_text before texts t name source h) in
+      absurd (not_refused laws source r.reason r.refused tree (subst (λ z. IsProgram z tree) sources p))
   refused_only laws words before texts c name source line _ _ _ _ t s f w y h r (explained text a) = absurd (subst TellsRefusal (one_command words c (Explain a.name) s a.spelled) y)
   refused_only laws words before texts c name source line _ _ _ _ t s f w y h r (no_fault n x tree s' t' p) = absurd (subst TellsRefusal (one_command words c (Explain n) s s') y)
   refused_only laws words before texts c name source line _ _ _ _ t s f w y h r (stop_told k s') = absurd (subst TellsRefusal (one_command words c (TellStop k) s s') y)
@@ -214,6 +228,8 @@ module _ (one_command : OneCommand) where
       let sources = one_source words before texts t (Check n) (Check name) n name x source s' refl t' s refl (told_text before texts t name source h) in
       (((λ _. (tree, subst (λ y. IsProgram y tree) sources p)), (λ _. refl)), refl, (λ _. refl), refl)
   checks_only laws words before texts name source _ _ _ _ t s h (listed text a) = let same = one_command words (Code a.name) (Check name) a.spelled s in absurd (cc)
+  checks_only laws words before texts name source _ _ _ _ t s h (advised text a) = let same = one_command words (Advise a.name) (Check name) a.spelled s in absurd (cc)
+  checks_only laws words before texts name source _ _ _ _ t s h (has_repr n x l tree s' t' p has) = let same = one_command words (Advise n) (Check name) s' s in absurd (cc)
   checks_only laws words before texts name source _ _ _ _ t s h (explained text a) = let same = one_command words (Explain a.name) (Check name) a.spelled s in absurd (cc)
   checks_only laws words before texts name source _ _ _ _ t s h (no_fault n x tree s' t' p) = let same = one_command words (Explain n) (Check name) s' s in absurd (cc)
   checks_only laws words before texts name source _ _ _ _ t s h (stop_told k s') = let same = one_command words (TellStop k) (Check name) s' s in absurd (cc)
@@ -235,12 +251,63 @@ module _ (one_command : OneCommand) where
       let sources = one_source words before texts t (Code a.name) (Code name) a.name name a.source source a.spelled refl a.text s refl (told_text before texts t name source h) in
       let program = subst (λ y. IsProgram y a.tree) sources a.is_program in
       (((λ _. (a.tree, program)), (λ _. refl)), (λ tree p. (subst (λ y. IsListing y text) (one_program_tree laws source a.tree tree program p) a.is_listing, refl)), inl refl, refl)
+  lists_only laws words before texts name source _ _ _ _ t s h (advised text a) = let same = one_command words (Advise a.name) (Code name) a.spelled s in absurd (cc)
+  lists_only laws words before texts name source _ _ _ _ t s h (has_repr n x l tree s' t' p has) = let same = one_command words (Advise n) (Code name) s' s in absurd (cc)
   lists_only laws words before texts name source _ _ _ _ t s h (explained text a) = let same = one_command words (Explain a.name) (Code name) a.spelled s in absurd (cc)
   lists_only laws words before texts name source _ _ _ _ t s h (no_fault n x tree s' t' p) = let same = one_command words (Explain n) (Code name) s' s in absurd (cc)
   lists_only laws words before texts name source _ _ _ _ t s h (stop_told k s') = let same = one_command words (TellStop k) (Code name) s' s in absurd (cc)
   lists_only laws words before texts name source _ _ _ _ t s h (run_ended out err end status left q how) = absurd (runs_so words before q.job (Code name) q.asked s)
   lists_only laws words before texts name source _ _ _ _ t s h (trial_refused a b l q r) = absurd (no_file words (Code name) name a b q s refl)
   lists_only laws words before texts name source _ _ _ _ t s h (trial_ended l end status a e) = absurd (no_file words (Code name) name a.seed a.nodes a.spelled s refl)
+
+  -- ---- advice
+
+  -- a tree without declarations has none
+  has_none : (tree : Tree) (line : List ℕ) → tree.modes ≡ [] → HasRepr tree line → ⊥
+  has_none tree line bare has = let e = sym (ap first_line bare) ∙ has.first in absurd (cc)
+
+  -- a tree has one first line with declarations
+  one_repr : (one two : Tree) (line told : List ℕ) → one ≡ two → HasRepr one line → HasRepr two told → line ≡ told
+  one_repr one two line told same h k =
+      let lines : Some h.at ≡ Some k.at = sym h.first ∙ ap (λ (t : Tree). first_line t.modes) same ∙ k.first in
+      let at : h.at ≡ k.at = cc in
+      h.tells ∙ ap has_repr_line at ∙ sym k.tells
+
+  pub advises_only : FrontLaws → AdvisesExactly
+  advises_only laws words before texts name source _ _ _ _ t s h (faulty_words told n tells) = absurd (n (Advise name) s)
+  advises_only laws words before texts name source _ _ _ _ t s h (no_such_watcher d s' none) = absurd (not_there words before d (Advise name) s' s none tt)
+  advises_only laws words before texts name source _ _ _ _ t s h (refused n x l q tells t' r) =
+      let sources = one_source words before texts t q.command (Advise name) n name x source q.spelled q.file t' s refl (told_text before texts t name source h) in
+      let moved = subst (λ y. IsRefusedFor y r.reason) sources r.refused in
+      (((λ (e : Refused ≡ Done). absurd (cc)), λ p. absurd (not_refused laws source r.reason moved p.0 p.1)), (λ tree p bare. absurd (not_refused laws source r.reason moved tree p)), (λ tree line p has. absurd (not_refused laws source r.reason moved tree p)), refl)
+  advises_only laws words before texts name source _ _ _ _ t s h (checked n x tree s' t' p) = let same = one_command words (Check n) (Advise name) s' s in absurd (cc)
+  advises_only laws words before texts name source _ _ _ _ t s h (listed text a) = let same = one_command words (Code a.name) (Advise name) a.spelled s in absurd (cc)
+  advises_only laws words before texts name source _ _ _ _ t s h (advised text a) =
+      let sources = one_source words before texts t (Advise a.name) (Advise name) a.name name a.source source a.spelled refl a.text_of s refl (told_text before texts t name source h) in
+      let program = subst (λ y. IsProgram y a.tree) sources a.is_program in
+      let is = subst (λ y. IsAdvised y a.tree text) sources a.is_advised in
+      let one = one_program_tree laws source a.tree in (
+        ((λ _. (a.tree, program, is.bare)), (λ _. refl)),
+        (λ tree p bare. (subst (λ y. IsAdvised source y text) (one tree program p) is, refl)),
+        (λ tree line p has. absurd (has_none tree line (ap (λ (y : Tree). y.modes) (sym (one tree program p)) ∙ is.bare) has)),
+        refl,
+      )
+  advises_only laws words before texts name source _ _ _ _ t s h (has_repr n x l tree s' t' p has) =
+      let sources = one_source words before texts t (Advise n) (Advise name) n name x source s' refl t' s refl (told_text before texts t name source h) in
+      let program = subst (λ y. IsProgram y tree) sources p in
+      let none : (other : Tree) → IsProgram source other → other.modes ≡ [] → ⊥ =
+      λ other q bare. has_none tree l (ap (λ (y : Tree). y.modes) (one_program_tree laws source tree other program q) ∙ bare) has in (
+        ((λ (e : Refused ≡ Done). absurd (cc)), λ q. absurd (none q.0 q.1 q.2)),
+        (λ other q bare. absurd (none other q bare)),
+        (λ other line q k. (refl, refl, ap (λ z. z ++ 10 ∷ []) (one_repr tree other l line (one_program_tree laws source tree other program q) has k))),
+        refl,
+      )
+  advises_only laws words before texts name source _ _ _ _ t s h (explained text a) = let same = one_command words (Explain a.name) (Advise name) a.spelled s in absurd (cc)
+  advises_only laws words before texts name source _ _ _ _ t s h (no_fault n x tree s' t' p) = let same = one_command words (Explain n) (Advise name) s' s in absurd (cc)
+  advises_only laws words before texts name source _ _ _ _ t s h (stop_told k s') = let same = one_command words (TellStop k) (Advise name) s' s in absurd (cc)
+  advises_only laws words before texts name source _ _ _ _ t s h (run_ended out err end status left q how) = absurd (runs_so words before q.job (Advise name) q.asked s)
+  advises_only laws words before texts name source _ _ _ _ t s h (trial_refused a b l q r) = absurd (no_file words (Advise name) name a b q s refl)
+  advises_only laws words before texts name source _ _ _ _ t s h (trial_ended l end status a e) = absurd (no_file words (Advise name) name a.seed a.nodes a.spelled s refl)
 
   -- ---- explanations
 
@@ -250,6 +317,8 @@ module _ (one_command : OneCommand) where
   explains_only laws words before texts name source _ _ _ _ t s h (refused n x l q tells t' r) = absurd (subst TellsRefusal (one_command words q.command (Explain name) q.spelled s) tells)
   explains_only laws words before texts name source _ _ _ _ t s h (checked n x tree s' t' p) = let same = one_command words (Check n) (Explain name) s' s in absurd (cc)
   explains_only laws words before texts name source _ _ _ _ t s h (listed text a) = let same = one_command words (Code a.name) (Explain name) a.spelled s in absurd (cc)
+  explains_only laws words before texts name source _ _ _ _ t s h (advised text a) = let same = one_command words (Advise a.name) (Explain name) a.spelled s in absurd (cc)
+  explains_only laws words before texts name source _ _ _ _ t s h (has_repr n x l tree s' t' p has) = let same = one_command words (Advise n) (Explain name) s' s in absurd (cc)
   explains_only laws words before texts name source _ _ _ _ t s h (explained text a) =
       let sources = one_source words before texts t (Explain a.name) (Explain name) a.name name a.source source a.spelled refl a.text_of s refl (told_text before texts t name source h) in
       let refused_so = subst (λ z. IsRefusedFor z a.reason) sources a.refused_for in
@@ -281,6 +350,7 @@ module _ (one_command : OneCommand) where
   one_turns (Run o x) n m s t a b h k = (h.1 ∙ sym k.1, h.2 ∙ sym k.2)
   one_turns (Check x) n m s t a b h k = absurd h
   one_turns (Code x) n m s t a b h k = absurd h
+  one_turns (Advise x) n m s t a b h k = absurd h
   one_turns (Explain x) n m s t a b h k = absurd h
   one_turns (TellStop x) n m s t a b h k = absurd h
   one_turns (Trial x y) n m s t a b h k = absurd h
@@ -309,6 +379,8 @@ module _ (one_command : OneCommand) where
   ends_only laws meaning words before texts input job said end _ _ _ _ t i a m (refused name source line q tells h r) = absurd (refused_not_run laws words before texts t job a q.command name source line q.spelled q.file h r)
   ends_only laws meaning words before texts input job said end _ _ _ _ t i a m (checked n x tree s' t' p) = absurd (runs_so words before job (Check n) a s')
   ends_only laws meaning words before texts input job said end _ _ _ _ t i a m (listed text l) = absurd (runs_so words before job (Code l.name) a l.spelled)
+  ends_only laws meaning words before texts input job said end _ _ _ _ t i a m (advised text l) = absurd (runs_so words before job (Advise l.name) a l.spelled)
+  ends_only laws meaning words before texts input job said end _ _ _ _ t i a m (has_repr n x k tree s' t' p has) = absurd (runs_so words before job (Advise n) a s')
   ends_only laws meaning words before texts input job said end _ _ _ _ t i a m (explained text l) = absurd (runs_so words before job (Explain l.name) a l.spelled)
   ends_only laws meaning words before texts input job said end _ _ _ _ t i a m (no_fault n x tree s' t' p) = absurd (runs_so words before job (Explain n) a s')
   ends_only laws meaning words before texts input job said end _ _ _ _ t i a m (stop_told k s') = absurd (runs_so words before job (TellStop k) a s')
@@ -349,6 +421,8 @@ module _ (one_command : OneCommand) where
   tries_only laws meaning words before line end _ _ _ _ a (refused name source l q tells t r) = absurd (no_file words q.command name a.seed a.nodes a.spelled q.spelled q.file)
   tries_only laws meaning words before line end _ _ _ _ a (checked name source tree s t p) = absurd (no_file words (Check name) name a.seed a.nodes a.spelled s refl)
   tries_only laws meaning words before line end _ _ _ _ a (listed text l) = absurd (no_file words (Code l.name) l.name a.seed a.nodes a.spelled l.spelled refl)
+  tries_only laws meaning words before line end _ _ _ _ a (advised text l) = absurd (no_file words (Advise l.name) l.name a.seed a.nodes a.spelled l.spelled refl)
+  tries_only laws meaning words before line end _ _ _ _ a (has_repr n x k tree s t p has) = absurd (no_file words (Advise n) n a.seed a.nodes a.spelled s refl)
   tries_only laws meaning words before line end _ _ _ _ a (explained text l) = absurd (no_file words (Explain l.name) l.name a.seed a.nodes a.spelled l.spelled refl)
   tries_only laws meaning words before line end _ _ _ _ a (no_fault n x tree s t p) = absurd (no_file words (Explain n) n a.seed a.nodes a.spelled s refl)
   tries_only laws meaning words before line end _ _ _ _ a (stop_told k s) = let same = one_command words (TellStop k) (Trial a.seed a.nodes) s a.spelled in absurd (cc)

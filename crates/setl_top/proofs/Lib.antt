@@ -15,3 +15,4 @@ pub mod Running
 pub mod Trying
 pub mod Drawing
 pub mod ExplainedFiles
+pub mod AdvisedFiles

@@ -10,6 +10,7 @@ use Rattle.setl_tree.specs.declared.tree.Tree.{Tree}
 use Rattle.setl_explain_words.specs.Texts.{stop_text}
 use Rattle.setl_explain_words.specs.declared.stop.Stop.{Stop}
 use Rattle.setl_top.specs.Accepted.{IsProgram, Accepted, Refusal, IsRefusedFor}
+use Rattle.setl_top_advice.specs.Advised.{IsAdvised, HasRepr}
 use Rattle.setl_top.specs.Explained.{IsExplained}
 use Rattle.setl_top.specs.Listings.{IsListing}
 use Rattle.setl_top.specs.Moments.{AtState, AtPrint, AtRead}
@@ -25,7 +26,7 @@ use Rattle.setl_top_status.specs.declared.reason.Reason.{Reason}
 use Rattle.setl_top_status.specs.declared.status.Status.{Status}
 use Rattle.setl_top_status.specs.declared.status.Status.TheVariants.{Done, Refused, Words, Stopped, Spent, ReadFault, WriteFault, NoMemory}
 use Rattle.setl_watch.specs.Watches.{Watch}
-use Rattle.setl_top_words.specs.Words.{Command, Run, Check, Code, Explain, TellStop, Trial, Spells, HasFile, RunsFile, watched_by, IsFaulty}
+use Rattle.setl_top_words.specs.Words.{Command, Run, Check, Code, Advise, Explain, TellStop, Trial, Spells, HasFile, RunsFile, watched_by, IsFaulty}
 use Rattle.setl_top_words.specs.Told.{TellsFaulty}
 
 -- ---- what the words ask for
@@ -74,11 +75,22 @@ pub record IsToList (words : List (List ℕ)) (before : Outside) (listed : List 
   pub is_program : IsProgram source tree
   pub is_listing : IsListing tree listed
 
+-- the words ask for advice for a program without declarations, and this is it
+pub record IsToAdvise (words : List (List ℕ)) (before : Outside) (text : List ℕ) : Type 0 where
+  pub name : List ℕ
+  pub source : List ℕ
+  pub tree : Tree
+  pub spelled : Spells words (Advise name)
+  pub text_of : IsText before.files.held name source
+  pub is_program : IsProgram source tree
+  pub is_advised : IsAdvised source tree text
+
 -- a command that tells on the error output why a source is refused; an explanation writes it to the output
 abbrev pub TellsRefusal : Command → Type 0
 TellsRefusal (Run options name) = ⊤
 TellsRefusal (Check name) = ⊤
 TellsRefusal (Code name) = ⊤
+TellsRefusal (Advise name) = ⊤
 TellsRefusal (Explain name) = ⊥
 TellsRefusal (TellStop stop) = ⊥
 TellsRefusal (Trial seed nodes) = ⊤
@@ -154,6 +166,8 @@ pub data Answers (words : List (List ℕ)) (before : Outside) : Status → List 
   refused : (name source line : List ℕ) → (asked : IsToLoad words before name) → TellsRefusal asked.command → IsText before.files.held name source → Refusal source line → Answers words before Refused [] (line ++ 10 ∷ []) before.input.held
   checked : (name source : List ℕ) (tree : Tree) → Spells words (Check name) → IsText before.files.held name source → IsProgram source tree → Answers words before Done [] [] before.input.held
   listed : (text : List ℕ) → IsToList words before text → Answers words before Done text [] before.input.held
+  advised : (text : List ℕ) → IsToAdvise words before text → Answers words before Done text [] before.input.held
+  has_repr : (name source line : List ℕ) (tree : Tree) → Spells words (Advise name) → IsText before.files.held name source → IsProgram source tree → HasRepr tree line → Answers words before Refused [] (line ++ 10 ∷ []) before.input.held
   explained : (text : List ℕ) → IsToExplain words before text → Answers words before Refused text [] before.input.held
   no_fault : (name source : List ℕ) (tree : Tree) → Spells words (Explain name) → IsText before.files.held name source → IsProgram source tree → Answers words before Done [] [] before.input.held
   stop_told : (stop : Stop) → Spells words (TellStop stop) → Answers words before Done (stop_text stop) [] before.input.held
@@ -179,9 +193,10 @@ pub record Ended (words : List (List ℕ)) (before after : Outside) (status : St
 
 -- ---- a call that is broken off
 
--- some of a listing, of an explanation, of the text of a stop or of a trial's line, and not all of it
+-- some of a listing, of advice, of an explanation, of the text of a stop or of a trial's line, and not all of it
 pub data UpToWrite (words : List (List ℕ)) (before : Outside) : List ℕ → Type 0 where
   in_listing : (text : List ℕ) (n : ℕ) → IsToList words before text → n < length text → UpToWrite words before (take n text)
+  in_advice : (text : List ℕ) (n : ℕ) → IsToAdvise words before text → n < length text → UpToWrite words before (take n text)
   in_explanation : (text : List ℕ) (n : ℕ) → IsToExplain words before text → n < length text → UpToWrite words before (take n text)
   in_stop : (stop : Stop) (n : ℕ) → Spells words (TellStop stop) → n < length (stop_text stop) → UpToWrite words before (take n (stop_text stop))
   in_trial : (line : List ℕ) (n : ℕ) → IsTried words line run.Done → n < length line → UpToWrite words before (take n line)
@@ -307,6 +322,10 @@ CheckLeavesRest words before after = (name : List ℕ) → Spells words (Check n
 -- a listing leaves the input as it was, however it ends
 abbrev pub ListingLeavesInput : List (List ℕ) → Outside → Outside → Type 0
 ListingLeavesInput words before after = (name : List ℕ) → Spells words (Code name) → after.input ≡ before.input
+
+-- advice leaves the input as it was, however it ends
+abbrev pub AdviceLeavesInput : List (List ℕ) → Outside → Outside → Type 0
+AdviceLeavesInput words before after = (name : List ℕ) → Spells words (Advise name) → after.input ≡ before.input
 
 -- an explanation leaves the input as it was, however it ends
 abbrev pub ExplanationLeavesInput : List (List ℕ) → Outside → Outside → Type 0

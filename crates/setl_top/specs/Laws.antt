@@ -1,12 +1,15 @@
 -- Laws over the headline and the definitions under it.
-use Rattle.std.specs.Prelude.{◌≡◌, ◌<◌, ◌↔◌, ◌⊎◌, ℕ, Bool, List, [], ◌∷◌, ◌++◌, Option, Some}
+use Rattle.std.specs.Prelude.{◌≡◌, ◌<◌, ◌≤◌, ◌^◌, ◌↔◌, ◌⊎◌, ℕ, Bool, true, List, [], ◌∷◌, ◌++◌, length, Option, Some}
 use Rattle.setl_model.specs.Ending.{Ending}
-use Rattle.setl_model_runs.specs.Events.{End, Stuck}
+use Rattle.setl_model_runs.specs.Events.{End, Stopped, Stuck, Unfit}
+use Rattle.setl_model_runs.specs.Variable.{Variable}
 use Rattle.setl_model.specs.Means.{Means}
 use Rattle.setl_program.specs.Program.{Program}
 use Rattle.setl_tree.specs.declared.tree.Tree.{Tree}
 use Rattle.setl_top.specs.Accepted.{IsProgram, Accepted, IsRefusedFor, Refusal}
 use Rattle.setl_top.specs.Headline.{Headline, InputLeft, Ended, AnyRose, Answers, Job, IsToRun, IsTried, TellsRefusal, trial_output}
+use Rattle.setl_top_advice.specs.Advised.{IsAdvised, HasRepr}
+use Rattle.setl_top_advice.specs.Put.{with_section}
 use Rattle.setl_top.specs.Explained.{IsExplained}
 use Rattle.setl_top.specs.Listings.{IsListing}
 use Rattle.setl_top.specs.Outside.{Outside}
@@ -17,7 +20,7 @@ use Rattle.setl_top_status.specs.declared.reason.Reason.{Reason}
 use Rattle.setl_top_status.specs.declared.status.Status.{Status}
 use Rattle.setl_top_status.specs.declared.status.Status.TheVariants.{NoMemory, ReadFault, Refused, WriteFault}
 use Rattle.setl_top_status.specs.declared.status.Status.TheVariants as ended
-use Rattle.setl_top_words.specs.Words.{Command, Check, Code, Explain, Trial, Spells, HasFile, watched_by}
+use Rattle.setl_top_words.specs.Words.{Command, Check, Code, Advise, Explain, Trial, Spells, HasFile, watched_by}
 
 -- ---- sources
 
@@ -98,6 +101,22 @@ ListsExactly = (words : List (List ℕ)) (before : Outside) (texts : List ℕ �
 -- each program has a listing, and only one
 abbrev pub OneListing : Type 0
 OneListing = (tree : Tree) → (text : List ℕ) × IsListing tree text × ((other : List ℕ) → IsListing tree other → other ≡ text)
+
+-- Advice is done exactly where the source is a program without declarations, and what is written is then advice for it; a
+-- program with declarations is refused by the line of the first of them.
+abbrev pub AdvisesExactly : Type 0
+AdvisesExactly = (words : List (List ℕ)) (before : Outside) (texts : List ℕ → Option (List ℕ)) (name source : List ℕ) (status : Status) (out err : List ℕ) (left : Option (List ℕ)) →
+    TellsTexts before texts → Spells words (Advise name) → texts name ≡ Some source → Answers words before status out err left →
+    ((status ≡ ended.Done) ↔ ((tree : Tree) × IsProgram source tree × (tree.modes ≡ []))) × ((tree : Tree) → IsProgram source tree → tree.modes ≡ [] → IsAdvised source tree out × (err ≡ [])) × ((tree : Tree) (line : List ℕ) → IsProgram source tree → HasRepr tree line → (status ≡ Refused) × (out ≡ []) × (err ≡ line ++ 10 ∷ [])) × (left ≡ before.input.held)
+
+-- no run of the program in which its declarations count ends for a value that doesn't fit
+abbrev pub NeverUnfit : Program → Type 0
+NeverUnfit program = (input : List ℕ) (turns : ℕ) (out : List ℕ) (variable : Variable) (line : ℕ) → Means program input turns true out (Stopped (Unfit variable) line) → ⊥
+
+-- The source in which advice stands is accepted, where it has at most 2^24 bytes, and its program never ends so.
+abbrev pub AdvisedSourcesFit : Type 0
+AdvisedSourcesFit = (source : List ℕ) (tree : Tree) (text : List ℕ) → (a : IsAdvised source tree text) → let whole = with_section source text a.from a.to in length whole ≤ 2 ^ 24 →
+    (program : Program) × Accepted whole program × NeverUnfit program
 
 -- An explanation is done exactly where the source is a program, and then writes nothing; otherwise the source is refused, and
 -- what is written is the explanation of its reason. Nothing is told on the error output.

@@ -4,4 +4,5 @@ pub mod Tells
 pub mod Loads
 pub mod Lists
 pub mod Explains
+pub mod Advises
 pub mod Tries

@@ -1,5 +1,5 @@
 //! What follows from the headline and the definitions alone. The functions have no effect: each states a law.
-ghost use Rattle.setl_top.specs.Laws.{IsComplete, FaultyWordsReadNothing, WordsExactly, RefusesExactly, ChecksExactly, ListsExactly, OneListing, ExplainsExactly, TrialsReadNothing, TriesExactly, EndsExactly, AcceptedRunsEnd, NoAcceptedRunIsStuck, EitherProgramOrRefused, NotProgramAndRefused, OneTree, OneReason, FailedLoadEnds, FailedReadEnds, FailedWriteEnds};
+ghost use Rattle.setl_top.specs.Laws.{IsComplete, FaultyWordsReadNothing, WordsExactly, RefusesExactly, ChecksExactly, ListsExactly, OneListing, ExplainsExactly, TrialsReadNothing, TriesExactly, EndsExactly, AcceptedRunsEnd, NoAcceptedRunIsStuck, EitherProgramOrRefused, NotProgramAndRefused, OneTree, OneReason, AdvisedSourcesFit, AdvisesExactly, FailedLoadEnds, FailedReadEnds, FailedWriteEnds};
 
 /// Each source, whatever its bytes, is a program with one tree or is refused for one reason, and not both.
 pub fn program_or_refusal()
@@ -92,6 +92,24 @@ pub fn explains_exactly()
     setl_parse_reading::tree_is_unique();
     setl_parse::one_fault();
 }
+
+/// Where the texts are told, advice that came to its end is done exactly where the source is a program without declarations, and
+/// the output has then gained the advice for it. A program with declarations is refused, by the line of the first, and the
+/// output gains nothing. The input is left as it was.
+pub fn advises_exactly()
+    ensures { AdvisesExactly }
+{
+    setl_top_words::one_command();
+    setl_token::lexing_is_determined();
+    setl_parse_reading::tree_is_unique();
+    setl_parse::one_fault();
+}
+
+/// The source in which advice stands is accepted, where it has at most 2^24 bytes, and no run of it in which its declarations
+/// count ends for a value that doesn't fit, whatever its input and its bound on turns.
+pub fn advised_sources_fit()
+    ensures { AdvisedSourcesFit }
+{}
 
 /// A trial never answers that a read failed.
 pub fn trials_read_nothing()

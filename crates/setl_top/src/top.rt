@@ -1,6 +1,6 @@
 //! The program as one call.
 ghost use Rattle.std.specs.Prelude.{◌≡◌, ℕ, ◌<◌, ◌^◌, List, map, string_bytes};
-ghost use Rattle.setl_top.specs.Headline.{Headline, InputLeft, CheckLeavesRest, ListingLeavesInput, ExplanationLeavesInput, TrialLeavesFilesAndInput};
+ghost use Rattle.setl_top.specs.Headline.{Headline, InputLeft, CheckLeavesRest, ListingLeavesInput, AdviceLeavesInput, ExplanationLeavesInput, TrialLeavesFilesAndInput};
 ghost use Rattle.setl_top.specs.Outside.{outside};
 ghost use Rattle.setl_top.specs.Watching.{asked_for, IsThere};
 ghost use Rattle.setl_top_status.specs.Seen.{seen};
@@ -9,6 +9,7 @@ ghost use Rattle.setl_top_words.specs.code.Commands.{options_now};
 ghost use Rattle.setl_top_words.specs.Words.{Run, Spells};
 
 use crate::Status;
+use crate::advising::advise_file;
 use crate::explaining::{explain_file, tell_stop};
 use crate::listing::list_file;
 use crate::load::{check_file, load_resolved};
@@ -26,10 +27,14 @@ use std::alloc::Global;
 /// Does what the words of the command line ask for, and tells how that ended.
 ///
 /// `words` are those after the program's own name: `run [--unbased] [--turns N] [--watch NAME] FILE`, `check FILE`,
-/// `code FILE` or `trial SEED N`. With `--unbased` the program's declarations don't count, and N from 0 to 2^63 - 1
-/// bounds its turns, which are 2^63 - 1 otherwise. `--watch trace` asks for the watchers with the name 1 and `--watch
-/// cover` for those with the name 2; the others are dropped, and where none has that name the words are refused before
-/// the file is read. `files` has the sources by name, and `input` is what a program reads.
+/// `code FILE`, `advise FILE`, `explain FILE`, `explain --stop NAME` or `trial SEED N`. With `--unbased` the program's
+/// declarations don't count, and N from 0 to 2^63 - 1 bounds its turns, which are 2^63 - 1 otherwise. `--watch trace` asks
+/// for the watchers with the name 1, `--watch cover` for those with the name 2 and `--watch profile` for those with the name
+/// 3; the others are dropped, and where none has that name the words are refused before the file is read. `files` has the
+/// sources by name, and `input` is what a program reads.
+///
+/// Advice for a file writes to `out` a `repr` section with which no run of its program ends for a value that doesn't fit. A
+/// program that has declarations is refused.
 ///
 /// An explanation of a file writes to `out` the line that a check tells, and below it the place and what it means, and
 /// ends refused; of a program it writes nothing. `explain --stop NAME` writes what a stop means.
@@ -44,7 +49,8 @@ use std::alloc::Global;
 /// that wasn't done, if it has one, or what is told of words that are of no such form. Bytes are taken off the front of
 /// `input` only by a run that comes to a `read`, and `out` has then gained what the run had printed there. Where a
 /// `print` failed, `input` has what the run had left at it, but for bytes that were taken ahead. A check leaves `input`
-/// and `out` as they were, however it ends, a listing and an explanation leave `input` as it was, and a trial `files` and `input`.
+/// and `out` as they were, however it ends, a listing, advice and an explanation leave `input` as it was, and a trial
+/// `files` and `input`.
 ///
 /// `ReadFault` comes only where the words name a file and the count of faults of `files` rose in the call, or that of
 /// `input` at a `read`, and `WriteFault` only where the count of `out` or `err` rose. `NoMemory` is the answer to want of
@@ -71,6 +77,9 @@ pub fn setl<F: Files, I: Source, O: Sink, E: Sink>(
     ensures listing { let before = outside (map (λ w. watch w) watchers.items) (seen F.texts F.faults files.old) (seen I.left I.faults input.old) (seen O.held O.faults out.old) (seen E.held E.faults err.old) in
         let after = outside (map (λ w. watch w) watchers.items) (seen F.texts F.faults files.new) (seen I.left I.faults input.new) (seen O.held O.faults out.new) (seen E.held E.faults err.new) in
         ListingLeavesInput (map string_bytes words.now) before after }
+    ensures advice { let before = outside (map (λ w. watch w) watchers.items) (seen F.texts F.faults files.old) (seen I.left I.faults input.old) (seen O.held O.faults out.old) (seen E.held E.faults err.old) in
+        let after = outside (map (λ w. watch w) watchers.items) (seen F.texts F.faults files.new) (seen I.left I.faults input.new) (seen O.held O.faults out.new) (seen E.held E.faults err.new) in
+        AdviceLeavesInput (map string_bytes words.now) before after }
     ensures explanation { let before = outside (map (λ w. watch w) watchers.items) (seen F.texts F.faults files.old) (seen I.left I.faults input.old) (seen O.held O.faults out.old) (seen E.held E.faults err.old) in
         let after = outside (map (λ w. watch w) watchers.items) (seen F.texts F.faults files.new) (seen I.left I.faults input.new) (seen O.held O.faults out.new) (seen E.held E.faults err.new) in
         ExplanationLeavesInput (map string_bytes words.now) before after }
@@ -84,6 +93,7 @@ pub fn setl<F: Files, I: Source, O: Sink, E: Sink>(
         }
         Some(Command::Check(name)) => check_file(alloc, name, files, err),
         Some(Command::Code(name)) => list_file(alloc, name, files, out, err),
+        Some(Command::Advise(name)) => advise_file(alloc, name, files, out, err),
         Some(Command::Explain(name)) => explain_file(alloc, name, files, out, err),
         Some(Command::TellStop(stop)) => tell_stop(stop, out, err),
         Some(Command::Trial(seed, nodes)) => run_trial(alloc, seed, nodes, out, err),

@@ -31,6 +31,7 @@ fn asked(alloc: Global, line: &str) -> Result<String, Fail> {
         }
         Some(Command::Check(file)) => format!(in alloc; "check {file}")?,
         Some(Command::Code(file)) => format!(in alloc; "code {file}")?,
+        Some(Command::Advise(file)) => format!(in alloc; "advise {file}")?,
         Some(Command::Explain(file)) => format!(in alloc; "explain {file}")?,
         Some(Command::TellStop(stop)) => format!(in alloc; "stop {}", stop as u8)?,
         Some(Command::Trial(seed, nodes)) => format!(in alloc; "trial {seed} {nodes}")?,
@@ -50,6 +51,7 @@ run 5 false 2 q.setl: run --turns 5 --watch cover --unbased q.setl
 run 9223372036854775807 false 0 q.setl: run --unbased --turns 9223372036854775807 q.setl
 check q.setl: check q.setl
 code q.setl: code q.setl
+advise q.setl: advise q.setl
 explain q.setl: explain q.setl
 stop 0: explain --stop om
 stop 1: explain --stop kind
@@ -81,6 +83,11 @@ faulty: run\x20
 faulty: run
 faulty: Run q.setl
 faulty: check --unbased q.setl
+faulty: advise
+faulty: advise -q
+faulty: advise q.setl q.setl
+faulty: advise --unbased q.setl
+faulty: Advise q.setl
 faulty: explain
 faulty: explain --stop
 faulty: explain --stop done
@@ -176,6 +183,25 @@ For more information, try '--help'.
 ====
 trial 7 2001
 error: invalid value '2001' for '<N>': 2001 is not in 1..=2000
+
+For more information, try '--help'.
+====
+advise --help
+Advise declarations for a program
+
+Usage: setl advise <FILE>
+
+Arguments:
+  <FILE>  The source
+
+Options:
+  -h, --help  Print help
+====
+advise
+error: the following required arguments were not provided:
+  <FILE>
+
+Usage: setl advise <FILE>
 
 For more information, try '--help'.
 ====

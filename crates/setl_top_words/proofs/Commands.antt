@@ -2,7 +2,7 @@
 use Rattle.std.proofs.Common.{subst, bytes_eq, if◌then◌else◌, ◌≡◌, ◌≢◌, ◌≤◌, ◌∙◌, ℕ, List, [], ◌∷◌, ◌++◌, length, codes, decimal, refl, sym, ap, ap₂, rules, arith}
 use Rattle.std.proofs.lemmas.Fmt.{decimal_injective}
 use Rattle.std.specs.List.{flat_map}
-use Rattle.setl_top_words.specs.Words.{Command, Run, Check, Code, Explain, TellStop, Trial, Options, option_words, options_of, Spells, SpellsRun, SpellsTrial, IsFile, IsFaulty}
+use Rattle.setl_top_words.specs.Words.{Command, Run, Check, Code, Advise, Explain, TellStop, Trial, Options, option_words, options_of, Spells, SpellsRun, SpellsTrial, IsFile, IsFaulty}
 use Rattle.setl_top_words.specs.code.Reading.{Leads, LeadsNowhere}
 use Rattle.setl_explain_words.specs.Stops.{stop_name}
 use Rattle.setl_explain_words.specs.declared.stop.Stop.{Stop}
@@ -29,8 +29,17 @@ run_or_check e = absurd (search (rules, e))
 run_or_code : codes "run" ≢ codes "code"
 run_or_code e = absurd (search (rules, e))
 
+run_or_advise : codes "run" ≢ codes "advise"
+run_or_advise e = absurd (search (rules, e))
+
 check_or_code : codes "check" ≢ codes "code"
 check_or_code e = absurd (search (rules, e))
+
+check_or_advise : codes "check" ≢ codes "advise"
+check_or_advise e = absurd (search (rules, e))
+
+code_or_advise : codes "code" ≢ codes "advise"
+code_or_advise e = absurd (search (rules, e))
 
 pub run_or_trial : codes "run" ≢ codes "trial"
 run_or_trial e = absurd (search (rules, e))
@@ -41,6 +50,9 @@ check_or_trial e = absurd (search (rules, e))
 code_or_trial : codes "code" ≢ codes "trial"
 code_or_trial e = absurd (search (rules, e))
 
+advise_or_trial : codes "advise" ≢ codes "trial"
+advise_or_trial e = absurd (search (rules, e))
+
 pub run_or_explain : codes "run" ≢ codes "explain"
 run_or_explain e = absurd (search (rules, e))
 
@@ -50,6 +62,9 @@ check_or_explain e = absurd (search (rules, e))
 code_or_explain : codes "code" ≢ codes "explain"
 code_or_explain e = absurd (search (rules, e))
 
+advise_or_explain : codes "advise" ≢ codes "explain"
+advise_or_explain e = absurd (search (rules, e))
+
 pub explain_or_trial : codes "explain" ≢ codes "trial"
 explain_or_trial e = absurd (search (rules, e))
 
@@ -57,6 +72,7 @@ pub few_are_faulty : (words : List (List ℕ)) → ((word : List ℕ) (between :
 few_are_faulty words few (Run options name) s = few (codes "run") (flat_map option_words s.given) name s.spelled
 few_are_faulty words few (Check name) s = few (codes "check") [] name s.0
 few_are_faulty words few (Code name) s = few (codes "code") [] name s.0
+few_are_faulty words few (Advise name) s = few (codes "advise") [] name s.0
 few_are_faulty words few (Explain name) s = few (codes "explain") [] name s.0
 few_are_faulty words few (TellStop stop) s = few (codes "explain") (codes "--stop" ∷ []) (stop_name stop) s
 few_are_faulty words few (Trial seed nodes) s = few (codes "trial") (decimal seed ∷ []) (decimal nodes) s.spelled
@@ -72,6 +88,9 @@ dash_is_faulty words word between name e other another none (Check n) s =
 dash_is_faulty words word between name e other another none (Code n) s =
     let parts = one_last between [] name n (tail_of _ _ _ _ (sym e ∙ s.0)) in
     none (subst IsFile (sym parts.1) s.1)
+dash_is_faulty words word between name e other another none (Advise n) s =
+    let parts = one_last between [] name n (tail_of _ _ _ _ (sym e ∙ s.0)) in
+    none (subst IsFile (sym parts.1) s.1)
 dash_is_faulty words word between name e other another none (Explain n) s = another (head_of _ _ _ _ (sym e ∙ s.0))
 dash_is_faulty words word between name e other another none (TellStop stop) s = another (head_of _ _ _ _ (sym e ∙ s))
 dash_is_faulty words word between name e other another none (Trial seed nodes) s = other (head_of _ _ _ _ (sym e ∙ s.spelled))
@@ -82,6 +101,7 @@ run_is_faulty words word between name given e w is none (Run options n) s =
     none s.given (first_gives given is between s.given parts.0 s.valid)
 run_is_faulty words word between name given e w is none (Check n) s = run_or_check (sym w ∙ head_of _ _ _ _ (sym e ∙ s.0))
 run_is_faulty words word between name given e w is none (Code n) s = run_or_code (sym w ∙ head_of _ _ _ _ (sym e ∙ s.0))
+run_is_faulty words word between name given e w is none (Advise n) s = run_or_advise (sym w ∙ head_of _ _ _ _ (sym e ∙ s.0))
 run_is_faulty words word between name given e w is none (Explain n) s = run_or_explain (sym w ∙ head_of _ _ _ _ (sym e ∙ s.0))
 run_is_faulty words word between name given e w is none (TellStop stop) s = run_or_explain (sym w ∙ head_of _ _ _ _ (sym e ∙ s))
 run_is_faulty words word between name given e w is none (Trial seed nodes) s = run_or_trial (sym w ∙ head_of _ _ _ _ (sym e ∙ s.spelled))
@@ -104,6 +124,7 @@ pub trial_is_faulty : (words : List (List ℕ)) (word : List ℕ) (between : Lis
 trial_is_faulty words word between last e w none (Run options n) s = run_or_trial (head_of _ _ _ _ (sym s.spelled ∙ e) ∙ w)
 trial_is_faulty words word between last e w none (Check n) s = check_or_trial (head_of _ _ _ _ (sym s.0 ∙ e) ∙ w)
 trial_is_faulty words word between last e w none (Code n) s = code_or_trial (head_of _ _ _ _ (sym s.0 ∙ e) ∙ w)
+trial_is_faulty words word between last e w none (Advise n) s = advise_or_trial (head_of _ _ _ _ (sym s.0 ∙ e) ∙ w)
 trial_is_faulty words word between last e w none (Explain n) s = explain_or_trial (head_of _ _ _ _ (sym s.0 ∙ e) ∙ w)
 trial_is_faulty words word between last e w none (TellStop stop) s = explain_or_trial (head_of _ _ _ _ (sym s ∙ e) ∙ w)
 trial_is_faulty words word between last e w none (Trial seed nodes) s =
@@ -150,6 +171,7 @@ pub explain_is_faulty : (between : List (List ℕ)) (last : List ℕ) → (betwe
 explain_is_faulty between last no_file no_stop (Run options n) s = run_or_explain (head_of _ _ _ _ (sym s.spelled))
 explain_is_faulty between last no_file no_stop (Check n) s = check_or_explain (head_of _ _ _ _ (sym s.0))
 explain_is_faulty between last no_file no_stop (Code n) s = code_or_explain (head_of _ _ _ _ (sym s.0))
+explain_is_faulty between last no_file no_stop (Advise n) s = advise_or_explain (head_of _ _ _ _ (sym s.0))
 explain_is_faulty between last no_file no_stop (Explain n) s =
     let parts = one_last between [] last n (tail_of _ _ _ _ s.0) in
     no_file parts.0 (subst IsFile (sym parts.1) s.1)
@@ -179,36 +201,49 @@ pub one_command : (words : List (List ℕ)) (a b : Command) → Spells words a �
 one_command words (Run o n) (Run p m) s t = one_run words o p n m s t
 one_command words (Run o n) (Check m) s t = absurd (run_or_check (head_of _ _ _ _ (sym s.spelled ∙ t.0)))
 one_command words (Run o n) (Code m) s t = absurd (run_or_code (head_of _ _ _ _ (sym s.spelled ∙ t.0)))
+one_command words (Run o n) (Advise m) s t = absurd (run_or_advise (head_of _ _ _ _ (sym s.spelled ∙ t.0)))
 one_command words (Run o n) (Explain m) s t = absurd (run_or_explain (head_of _ _ _ _ (sym s.spelled ∙ t.0)))
 one_command words (Run o n) (TellStop k) s t = absurd (run_or_explain (head_of _ _ _ _ (sym s.spelled ∙ t)))
 one_command words (Run o n) (Trial c d) s t = absurd (run_or_trial (head_of _ _ _ _ (sym s.spelled ∙ t.spelled)))
 one_command words (Check n) (Run p m) s t = absurd (run_or_check (head_of _ _ _ _ (sym t.spelled ∙ s.0)))
 one_command words (Check n) (Check m) s t = ap Check (head_of _ _ _ _ (tail_of _ _ _ _ (sym s.0 ∙ t.0)))
 one_command words (Check n) (Code m) s t = absurd (check_or_code (head_of _ _ _ _ (sym s.0 ∙ t.0)))
+one_command words (Check n) (Advise m) s t = absurd (check_or_advise (head_of _ _ _ _ (sym s.0 ∙ t.0)))
 one_command words (Check n) (Explain m) s t = absurd (check_or_explain (head_of _ _ _ _ (sym s.0 ∙ t.0)))
 one_command words (Check n) (TellStop k) s t = absurd (check_or_explain (head_of _ _ _ _ (sym s.0 ∙ t)))
 one_command words (Check n) (Trial c d) s t = absurd (check_or_trial (head_of _ _ _ _ (sym s.0 ∙ t.spelled)))
 one_command words (Code n) (Run p m) s t = absurd (run_or_code (head_of _ _ _ _ (sym t.spelled ∙ s.0)))
 one_command words (Code n) (Check m) s t = absurd (check_or_code (head_of _ _ _ _ (sym t.0 ∙ s.0)))
 one_command words (Code n) (Code m) s t = ap Code (head_of _ _ _ _ (tail_of _ _ _ _ (sym s.0 ∙ t.0)))
+one_command words (Code n) (Advise m) s t = absurd (code_or_advise (head_of _ _ _ _ (sym s.0 ∙ t.0)))
 one_command words (Code n) (Explain m) s t = absurd (code_or_explain (head_of _ _ _ _ (sym s.0 ∙ t.0)))
 one_command words (Code n) (TellStop k) s t = absurd (code_or_explain (head_of _ _ _ _ (sym s.0 ∙ t)))
 one_command words (Code n) (Trial c d) s t = absurd (code_or_trial (head_of _ _ _ _ (sym s.0 ∙ t.spelled)))
+one_command words (Advise n) (Run p m) s t = absurd (run_or_advise (head_of _ _ _ _ (sym t.spelled ∙ s.0)))
+one_command words (Advise n) (Check m) s t = absurd (check_or_advise (head_of _ _ _ _ (sym t.0 ∙ s.0)))
+one_command words (Advise n) (Code m) s t = absurd (code_or_advise (head_of _ _ _ _ (sym t.0 ∙ s.0)))
+one_command words (Advise n) (Advise m) s t = ap Advise (head_of _ _ _ _ (tail_of _ _ _ _ (sym s.0 ∙ t.0)))
+one_command words (Advise n) (Explain m) s t = absurd (advise_or_explain (head_of _ _ _ _ (sym s.0 ∙ t.0)))
+one_command words (Advise n) (TellStop k) s t = absurd (advise_or_explain (head_of _ _ _ _ (sym s.0 ∙ t)))
+one_command words (Advise n) (Trial c d) s t = absurd (advise_or_trial (head_of _ _ _ _ (sym s.0 ∙ t.spelled)))
 one_command words (Explain n) (Run p m) s t = absurd (run_or_explain (head_of _ _ _ _ (sym t.spelled ∙ s.0)))
 one_command words (Explain n) (Check m) s t = absurd (check_or_explain (head_of _ _ _ _ (sym t.0 ∙ s.0)))
 one_command words (Explain n) (Code m) s t = absurd (code_or_explain (head_of _ _ _ _ (sym t.0 ∙ s.0)))
+one_command words (Explain n) (Advise m) s t = absurd (advise_or_explain (head_of _ _ _ _ (sym t.0 ∙ s.0)))
 one_command words (Explain n) (Explain m) s t = ap Explain (head_of _ _ _ _ (tail_of _ _ _ _ (sym s.0 ∙ t.0)))
 one_command words (Explain n) (TellStop k) s t = absurd (omega (arith, ap length (sym s.0 ∙ t)))
 one_command words (Explain n) (Trial c d) s t = absurd (explain_or_trial (head_of _ _ _ _ (sym s.0 ∙ t.spelled)))
 one_command words (TellStop j) (Run p m) s t = absurd (run_or_explain (head_of _ _ _ _ (sym t.spelled ∙ s)))
 one_command words (TellStop j) (Check m) s t = absurd (check_or_explain (head_of _ _ _ _ (sym t.0 ∙ s)))
 one_command words (TellStop j) (Code m) s t = absurd (code_or_explain (head_of _ _ _ _ (sym t.0 ∙ s)))
+one_command words (TellStop j) (Advise m) s t = absurd (advise_or_explain (head_of _ _ _ _ (sym t.0 ∙ s)))
 one_command words (TellStop j) (Explain m) s t = absurd (omega (arith, ap length (sym s ∙ t.0)))
 one_command words (TellStop j) (TellStop k) s t = ap TellStop (one_stop j k (head_of _ _ _ _ (tail_of _ _ _ _ (tail_of _ _ _ _ (sym s ∙ t)))))
 one_command words (TellStop j) (Trial c d) s t = absurd (explain_or_trial (head_of _ _ _ _ (sym s ∙ t.spelled)))
 one_command words (Trial a b) (Run p m) s t = absurd (run_or_trial (head_of _ _ _ _ (sym t.spelled ∙ s.spelled)))
 one_command words (Trial a b) (Check m) s t = absurd (check_or_trial (head_of _ _ _ _ (sym t.0 ∙ s.spelled)))
 one_command words (Trial a b) (Code m) s t = absurd (code_or_trial (head_of _ _ _ _ (sym t.0 ∙ s.spelled)))
+one_command words (Trial a b) (Advise m) s t = absurd (advise_or_trial (head_of _ _ _ _ (sym t.0 ∙ s.spelled)))
 one_command words (Trial a b) (Explain m) s t = absurd (explain_or_trial (head_of _ _ _ _ (sym t.0 ∙ s.spelled)))
 one_command words (Trial a b) (TellStop k) s t = absurd (explain_or_trial (head_of _ _ _ _ (sym t ∙ s.spelled)))
 one_command words (Trial a b) (Trial c d) s t = one_trial words a b c d s t

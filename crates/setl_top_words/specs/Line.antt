@@ -49,4 +49,4 @@ abbrev pub empty_app : App
 empty_app = let a = new_app (codes "setl") in record a { top = record a.top { no_binary_name = true; subcommand_required = true } }
 
 abbrev pub setl_app : App
-setl_app = with_subcommand (with_subcommand (with_subcommand (with_subcommand (with_subcommand empty_app run_app.top) (file_app (codes "check")).top) (file_app (codes "code")).top) explain_app.top) trial_app.top
+setl_app = with_subcommand (with_subcommand (with_subcommand (with_subcommand (with_subcommand (with_subcommand empty_app run_app.top) (file_app (codes "check")).top) (file_app (codes "code")).top) (file_app (codes "advise")).top) explain_app.top) trial_app.top

@@ -71,12 +71,14 @@ options_of given = fold with_option default_options given
 
 -- ---- the commands
 
--- what the words ask for: to run a source, to check it, to list its code, to explain why it is refused, to tell what a
--- stop means, or to try the program of a trial on an input that is drawn from a seed, with so many nodes
+-- what the words ask for: to run a source, to check it, to list its code, to advise declarations for it, to explain why it
+-- is refused, to tell what a stop means, or to try the program of a trial on an input that is drawn from a seed, with so
+-- many nodes
 pub data Command : Type 0 where
   Run : (options : Options) → (name : List ℕ) → Command
   Check : (name : List ℕ) → Command
   Code : (name : List ℕ) → Command
+  Advise : (name : List ℕ) → Command
   Explain : (name : List ℕ) → Command
   TellStop : (stop : Stop) → Command
   Trial : (seed nodes : ℕ) → Command
@@ -101,6 +103,7 @@ abbrev pub Spells : List (List ℕ) → Command → Type 0
 Spells words (Run options name) = SpellsRun words options name
 Spells words (Check name) = (words ≡ codes "check" ∷ name ∷ []) × IsFile name
 Spells words (Code name) = (words ≡ codes "code" ∷ name ∷ []) × IsFile name
+Spells words (Advise name) = (words ≡ codes "advise" ∷ name ∷ []) × IsFile name
 Spells words (Explain name) = (words ≡ codes "explain" ∷ name ∷ []) × IsFile name
 Spells words (TellStop stop) = words ≡ codes "explain" ∷ codes "--stop" ∷ stop_name stop ∷ []
 Spells words (Trial seed nodes) = SpellsTrial words seed nodes
@@ -110,6 +113,7 @@ abbrev pub HasFile : Command → List ℕ → Type 0
 HasFile (Run options name) file = file ≡ name
 HasFile (Check name) file = file ≡ name
 HasFile (Code name) file = file ≡ name
+HasFile (Advise name) file = file ≡ name
 HasFile (Explain name) file = file ≡ name
 HasFile (TellStop stop) file = ⊥
 HasFile (Trial seed nodes) file = ⊥
@@ -120,6 +124,7 @@ abbrev pub RunsFile : Command → List ℕ → ℕ → Bool → Type 0
 RunsFile (Run options name) file turns based = (file ≡ name) × (turns ≡ options.turns) × (based ≡ options.based)
 RunsFile (Check name) file turns based = ⊥
 RunsFile (Code name) file turns based = ⊥
+RunsFile (Advise name) file turns based = ⊥
 RunsFile (Explain name) file turns based = ⊥
 RunsFile (TellStop stop) file turns based = ⊥
 RunsFile (Trial seed nodes) file turns based = ⊥
@@ -129,6 +134,7 @@ abbrev pub watched_by : Command → Option Asked
 watched_by (Run options name) = options.watch
 watched_by (Check name) = None
 watched_by (Code name) = None
+watched_by (Advise name) = None
 watched_by (Explain name) = None
 watched_by (TellStop stop) = None
 watched_by (Trial seed nodes) = None

@@ -1,7 +1,8 @@
 //! The words of the command line: their plain form, and what is told of other words.
 //!
-//! The commands are `run [--unbased] [--turns N] [--watch NAME] FILE`, `check FILE`, `code FILE`, `explain FILE`,
-//! `explain --stop NAME` and `trial SEED N`. `Spells` is their plain form, which `read_words` decides. Of other words `fault_text` tells what `clap` says, where it refuses them.
+//! The commands are `run [--unbased] [--turns N] [--watch NAME] FILE`, `check FILE`, `code FILE`, `advise FILE`, `explain
+//! FILE`, `explain --stop NAME` and `trial SEED N`. `Spells` is their plain form, which `read_words` decides. Of other words
+//! `fault_text` tells what `clap` says, where it refuses them.
 #![tactic(auto)]
 
 mod explain;

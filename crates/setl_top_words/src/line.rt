@@ -188,6 +188,10 @@ pub(crate) fn commands<'a>(alloc: Global) -> Result<Command<'a>, AllocError>
         command,
         with_file(alloc, "code", "List the code of a program"),
     );
+    let command = with_command(
+        command,
+        with_file(alloc, "advise", "Advise declarations for a program"),
+    );
     let command = with_command(command, explain(alloc));
     with_command(command, trial(alloc))
 }

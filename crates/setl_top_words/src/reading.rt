@@ -5,7 +5,7 @@ ghost use Rattle.setl_top_words.specs.Words.{Spells, IsFaulty};
 
 use crate::explain::read_explain;
 use crate::given::read_options;
-use crate::single::{is_check, is_code, is_explain, is_file, is_run, is_trial};
+use crate::single::{is_advise, is_check, is_code, is_explain, is_file, is_run, is_trial};
 use crate::trial::read_trial;
 use setl_explain_words::Stop;
 use setl_top_options::{Given, Options};
@@ -19,6 +19,8 @@ pub enum Command<'a> {
     Check(&'a str),
     /// The code of the program of the file is to be listed.
     Code(&'a str),
+    /// Declarations are to be advised for the program of the file.
+    Advise(&'a str),
     /// Why the source in the file is refused is to be explained.
     Explain(&'a str),
     /// What a stop means is to be told.
@@ -64,6 +66,8 @@ pub fn read_words(words: &[String]) -> Option<Command<'_>>
         Some(Command::Check(name))
     } else if is_code(word) {
         Some(Command::Code(name))
+    } else if is_advise(word) {
+        Some(Command::Advise(name))
     } else {
         None
     }

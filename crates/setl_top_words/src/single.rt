@@ -23,6 +23,13 @@ pub(crate) fn is_code(word: &str) -> bool
     word == "code"
 }
 
+/// Whether a word is that of advice.
+pub(crate) fn is_advise(word: &str) -> bool
+    ensures { IsTrue result ↔ (word.now ≡ codes "advise") }
+{
+    word == "advise"
+}
+
 /// Whether a word is that of an explanation.
 pub(crate) fn is_explain(word: &str) -> bool
     ensures { IsTrue result ↔ (word.now ≡ codes "explain") }

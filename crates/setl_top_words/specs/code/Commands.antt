@@ -11,6 +11,7 @@ abbrev pub command_of : Command → words.Command
 command_of (asked.Run options name) = words.Run (options_now options) name.now
 command_of (asked.Check name) = words.Check name.now
 command_of (asked.Code name) = words.Code name.now
+command_of (asked.Advise name) = words.Advise name.now
 command_of (asked.Explain name) = words.Explain name.now
 command_of (asked.TellStop stop) = words.TellStop stop
 command_of (asked.Trial seed nodes) = words.Trial seed nodes

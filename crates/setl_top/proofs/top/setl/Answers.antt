@@ -1,6 +1,7 @@
 use Rattle.std.proofs.Common.{refl}
 use Rattle.setl_top.specs.Headline.{untouched}
 use Rattle.setl_top.proofs.Ends.{faulty_ends, check_ends, list_ends, explain_ends, stop_ends}
+use Rattle.setl_top.proofs.AdvisedFiles.{advise_ends}
 use Rattle.setl_top.proofs.Asked.{turns_asked}
 use Rattle.setl_top.proofs.Trying.{trial_ends}
 use Rattle.setl_top.proofs.top.setl.Goals as goal
@@ -29,6 +30,10 @@ pub returns-in-Some-Code-clause-headline : goal.returns-in-Some-Code-clause-head
 returns-in-Some-Code-clause-headline g c =
     list_ends _ _ _ _ (rw c.in-Some-Code.field-0-is at c.in-Some-Code.ensures.plain) refl _ c.list_file.ensures
 
+pub returns-in-Some-Advise-clause-headline : goal.returns-in-Some-Advise-clause-headline
+returns-in-Some-Advise-clause-headline g c =
+    advise_ends _ _ _ _ (rw c.in-Some-Advise.field-0-is at c.in-Some-Advise.ensures.plain) refl _ c.advise_file.ensures
+
 pub returns-in-Some-Explain-clause-headline : goal.returns-in-Some-Explain-clause-headline
 returns-in-Some-Explain-clause-headline g c =
     explain_ends _ _ _ _ (rw c.in-Some-Explain.field-0-is at c.in-Some-Explain.ensures.plain) refl _ c.explain_file.ensures
@@ -52,6 +57,9 @@ returns-in-Some-Check-clause-input g c = untouched refl
 
 pub returns-in-Some-Code-clause-input : goal.returns-in-Some-Code-clause-input
 returns-in-Some-Code-clause-input g c = untouched refl
+
+pub returns-in-Some-Advise-clause-input : goal.returns-in-Some-Advise-clause-input
+returns-in-Some-Advise-clause-input g c = untouched refl
 
 pub returns-in-Some-Explain-clause-input : goal.returns-in-Some-Explain-clause-input
 returns-in-Some-Explain-clause-input g c = untouched refl
