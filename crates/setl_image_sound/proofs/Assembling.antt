@@ -231,8 +231,10 @@ module _ (image : Image) where
           takes = part.takes;
         },
         part.closed.closed,
-        (subst (λ k. k < 2 ^ 32) (sym (length_map (plain_step (record { global = vars; own = own_variables n m.body.parameters m.body.names })) m.body.steps)) part.few.0,
-         subst (λ k. k < 2 ^ 32) (sym (names_count n m.body.parameters m.body.names)) part.few.1),
+        (
+          subst (λ k. k < 2 ^ 32) (sym (length_map (plain_step (record { global = vars; own = own_variables n m.body.parameters m.body.names })) m.body.steps)) part.few.0,
+          subst (λ k. k < 2 ^ 32) (sym (names_count n m.body.parameters m.body.names)) part.few.1,
+        ),
       )
 
   pub sound_of_parts : FewIn i → SoundModes i.bases i.vars → SoundNames i → SoundParts c (declared_of i) → SoundImage i
@@ -248,11 +250,14 @@ module _ (image : Image) where
       );
     };
     few_bases = few.names.2;
-    may_run = (names.differ, bodies_fit (length c.vars) 0 c.bodies (λ k m d at is. (
-      let here : k ≡ m = omega arith in
-      let part = parts k d is in
-      subst (λ (j : ℕ). Differ (own_variables j d.parameters d.names) × StepsFit (length c.vars) (length d.parameters + length d.names) d.steps) here (part.differ, part.closed.fits)
-    )));
+    may_run = (
+      names.differ,
+      bodies_fit (length c.vars) 0 c.bodies (λ k m d at is. (
+          let here : k ≡ m = omega arith in
+          let part = parts k d is in
+          subst (λ (j : ℕ). Differ (own_variables j d.parameters d.names) × StepsFit (length c.vars) (length d.parameters + length d.names) d.steps) here (part.differ, part.closed.fits)
+          )),
+    );
     bare = few.bare;
     modes = modes;
     bases_once = names.names.bases_once;
@@ -391,9 +396,9 @@ table_of_body declared bs cs n b table same is tells first =
 pub one_more : (c : Code) (declared : List Variable) (bs : List Body) (n : ℕ) (b : Body) → slice_get bs n ≡ Some b → SoundPart c declared n b → ((k : ℕ) (d : Body) → k < n → slice_get bs k ≡ Some d → SoundPart c declared k d) → (k : ℕ) (d : Body) → k < n + 1 → slice_get bs k ≡ Some d → SoundPart c declared k d
 one_more c declared bs n b is part before k d less there = elim (cases_eq k n) [
   | inl same ↦ (
-    let one : b ≡ d = some_is (sym is ∙ ap (slice_get bs) (sym same) ∙ there) in
-    subst (λ (j : ℕ). SoundPart c declared j d) (sym same) (subst (λ (e : Body). SoundPart c declared n e) one part)
-  )
+      let one : b ≡ d = some_is (sym is ∙ ap (slice_get bs) (sym same) ∙ there) in
+      subst (λ (j : ℕ). SoundPart c declared j d) (sym same) (subst (λ (e : Body). SoundPart c declared n e) one part)
+      )
   | inr other ↦ before k d (omega (arith, less)) there
 ]
   where

@@ -13,9 +13,9 @@ ghost use Rattle.setl_image_sound.specs.SoundImage.{HasHeights, HasTable, SoundP
 use crate::Memory;
 use setl_code::{Body, Code};
 use setl_image::Image;
+use setl_image_closed::is_closed;
 use setl_image_names::own_names_differ;
 use setl_image_operands::{Signature, has_shapes};
-use setl_image_closed::is_closed;
 use setl_image_verify::falling_heights;
 use setl_live::takes_are_last;
 use std::alloc::Global;
