@@ -2,7 +2,7 @@
 use Rattle.std.proofs.Common.{◌≡◌, refl, subst, arith, ℕ, zero, suc, List, [], ◌∷◌, Option, Some, None}
 use Rattle.std.specs.Prelude.{◌+◌, ◌++◌, slice_get}
 use Rattle.setl_model_runs.specs.Variable.{Variable}
-use Rattle.setl_program.specs.Program.{Slots, Binding, Member as MemberOf, Components, Point, begin_of, Expr, Literal, Undefined, Name, Apply, Connect, Choose, Former, Selection, Quantified, Call, Newat, Eof, Ok, Exprs, no_expr, more_exprs, Iterators, no_iterator, more_iterators, Condition as Test, no_condition, only_if, Arguments, no_argument, rd_argument, wr_argument, rw_argument, Selectors, no_selector, round_selector, brace_selector, Stmt, Assign, Update, AssignParts, TakeFrom, Perform, If, For, While, Quit, Continue, Fail, Stop, Pass, Return, Print, Read, Block, no_stmt, more_stmts, Parameter, Procedure, Program}
+use Rattle.setl_program.specs.Program.{Slots, Binding, Member as MemberOf, Components, Point, begin_of, Expr, Literal, Undefined, Name, Apply, Connect, Choose, Former, Selection, Quantified, Call, Newat, Eof, Ok, Exprs, no_expr, more_exprs, Iterators, no_iterator, more_iterators, Condition as Test, no_condition, only_if, Arguments, no_argument, rd_argument, wr_argument, rw_argument, Selectors, no_selector, round_selector, brace_selector, Stmt, Assign, Update, AssignParts, TakeFrom, Perform, If, For, While, Quit, Continue, Fail, Succeed, Stop, Pass, Return, Print, Read, Block, no_stmt, more_stmts, Parameter, Procedure, Program}
 use Rattle.setl_model.specs.Calls.{hand_backs}
 use Rattle.setl_advise_flows.specs.Flow.{Flow, Any, Below}
 use Rattle.setl_advise_flows.specs.Operators.{flows}
@@ -110,6 +110,7 @@ module _ (s : Flows) where
       stmt_needed n Quit h = cc
       stmt_needed n Continue h = cc
       stmt_needed n Fail h = cc
+      stmt_needed n Succeed h = cc
       stmt_needed n Stop h = cc
       stmt_needed n Pass h = cc
       stmt_needed n (Return e) h = join (return_conditions p.procedures n e) _ (return_needed n e h.1) (expr_needed e h.0)

@@ -1,7 +1,7 @@
 -- The conditions of a program, in the order of its parts.
 use Rattle.std.specs.Prelude.{ℕ, zero, suc, List, [], ◌∷◌, ◌++◌, slice_get, Option, Some, None}
 use Rattle.setl_model_runs.specs.Variable.{Variable}
-use Rattle.setl_program.specs.Program.{Slots, Binding, Member as MemberOf, Components, Point, begin_of, Expr, Literal, Undefined, Name, Apply, Connect, Choose, Former, Selection, Quantified, Call, Newat, Eof, Ok, Exprs, no_expr, more_exprs, Iterators, no_iterator, more_iterators, Condition as Test, no_condition, only_if, Arguments, no_argument, rd_argument, wr_argument, rw_argument, Selectors, no_selector, round_selector, brace_selector, Stmt, Assign, Update, AssignParts, TakeFrom, Perform, If, For, While, Quit, Continue, Fail, Stop, Pass, Return, Print, Read, Block, no_stmt, more_stmts, Parameter, Procedure, Program}
+use Rattle.setl_program.specs.Program.{Slots, Binding, Member as MemberOf, Components, Point, begin_of, Expr, Literal, Undefined, Name, Apply, Connect, Choose, Former, Selection, Quantified, Call, Newat, Eof, Ok, Exprs, no_expr, more_exprs, Iterators, no_iterator, more_iterators, Condition as Test, no_condition, only_if, Arguments, no_argument, rd_argument, wr_argument, rw_argument, Selectors, no_selector, round_selector, brace_selector, Stmt, Assign, Update, AssignParts, TakeFrom, Perform, If, For, While, Quit, Continue, Fail, Succeed, Stop, Pass, Return, Print, Read, Block, no_stmt, more_stmts, Parameter, Procedure, Program}
 use Rattle.setl_model.specs.Calls.{parameter}
 use Rattle.setl_advise_conditions.specs.Conditions.{Term, Anything, Unset, Held, Value, Component, Member, MemberComponent, Argument, Image, Assigned, Updated, Taken, Remaining, Into, ResultOf, Condition}
 
@@ -95,6 +95,7 @@ module _ (procedures : List Procedure) where
     stmt_conditions n Quit = []
     stmt_conditions n Continue = []
     stmt_conditions n Fail = []
+    stmt_conditions n Succeed = []
     stmt_conditions n Stop = []
     stmt_conditions n Pass = []
     stmt_conditions n (Return e) = return_conditions n e ++ expr_conditions e

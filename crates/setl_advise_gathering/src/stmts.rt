@@ -175,6 +175,7 @@ fn kind<'p>(
         StmtKind::Quit => Ok(()),
         StmtKind::Continue => Ok(()),
         StmtKind::Fail => Ok(()),
+        StmtKind::Succeed => Ok(()),
         StmtKind::Stop => Ok(()),
         StmtKind::Pass => Ok(()),
         StmtKind::Return(e) => {

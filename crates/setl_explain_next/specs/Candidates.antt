@@ -65,6 +65,7 @@ candidates =
     k.Continue ∷
     k.Stop ∷
     k.Fail ∷
+    k.Succeed ∷
     k.Pass ∷
     k.Ok ∷
     k.Exists ∷

@@ -6,7 +6,7 @@ use setl_tree::Kind;
 
 /// All kinds of tokens: first what most often is missing, then what begins an expression or a statement, then signs and
 /// words of operators, and last the words of rare use.
-const CANDIDATES: [Kind; 108] = [
+const CANDIDATES: [Kind; 109] = [
     Kind::Semicolon,
     Kind::RightParen,
     Kind::RightBracket,
@@ -66,6 +66,7 @@ const CANDIDATES: [Kind; 108] = [
     Kind::Continue,
     Kind::Stop,
     Kind::Fail,
+    Kind::Succeed,
     Kind::Pass,
     Kind::Ok,
     Kind::Exists,

@@ -78,6 +78,7 @@ kind_step (StmtKind-F.While c body) p a = while_loop c body p a
 kind_step StmtKind-F.Quit p a = quit a p
 kind_step StmtKind-F.Continue p a = quit a p
 kind_step StmtKind-F.Fail p a = []
+kind_step StmtKind-F.Succeed p a = []
 kind_step StmtKind-F.Stop p a = []
 kind_step StmtKind-F.Pass p a = []
 kind_step (StmtKind-F.Return x) p a = return_ a x p

@@ -76,6 +76,7 @@ fn kind<'t>(
         StmtKind::Quit => quit(line, around, walk),
         StmtKind::Continue => quit(line, around, walk),
         StmtKind::Fail => Ok(()),
+        StmtKind::Succeed => Ok(()),
         StmtKind::Stop => Ok(()),
         StmtKind::Pass => Ok(()),
         StmtKind::Return(x) => return_(x, line, around, walk),

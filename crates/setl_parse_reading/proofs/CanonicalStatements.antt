@@ -225,6 +225,7 @@ unfolding simple
 simple_good k.Quit y h = simple_made k.Quit st.Quit y refl (some_is h) forms.quit_
 simple_good k.Continue y h = simple_made k.Continue st.Continue y refl (some_is h) forms.continue_
 simple_good k.Fail y h = simple_made k.Fail st.Fail y refl (some_is h) forms.fail_
+simple_good k.Succeed y h = simple_made k.Succeed st.Succeed y refl (some_is h) forms.succeed_
 simple_good k.Stop y h = simple_made k.Stop st.Stop y refl (some_is h) forms.stop_
 simple_good k.Pass y h = simple_made k.Pass st.Pass y refl (some_is h) forms.pass_
 simple_good _ y h = absurd cc

@@ -21,7 +21,7 @@ kinds =
     k.General ∷ k.If ∷ k.Impl ∷ k.In ∷ k.Incs ∷ k.Int ∷ k.Integer ∷ k.IsAtom ∷ k.IsBoolean ∷ k.IsInteger ∷ k.IsMap ∷ k.IsSet ∷ k.IsString ∷
     k.IsTuple ∷ k.Less ∷ k.Lessf ∷ k.Local ∷ k.Max ∷ k.Min ∷ k.Mmap ∷ k.Mod ∷ k.Newat ∷ k.Not ∷ k.Notexists ∷ k.Notin ∷ k.Npow ∷ k.Odd ∷
     k.Ok ∷ k.Om ∷ k.Or ∷ k.Pass ∷ k.Pow ∷ k.Print ∷ k.Proc ∷ k.Procedure ∷ k.Program ∷ k.Quit ∷ k.Range ∷ k.Rd ∷ k.Read ∷ k.Remote ∷ k.Repr ∷
-    k.Return ∷ k.Rw ∷ k.Set ∷ k.Smap ∷ k.Sparse ∷ k.Stop ∷ k.Str ∷ k.String ∷ k.Subset ∷ k.Then ∷ k.True ∷ k.Tuple ∷ k.Var ∷ k.While ∷
+    k.Return ∷ k.Rw ∷ k.Set ∷ k.Smap ∷ k.Sparse ∷ k.Stop ∷ k.Str ∷ k.String ∷ k.Subset ∷ k.Succeed ∷ k.Then ∷ k.True ∷ k.Tuple ∷ k.Var ∷ k.While ∷
     k.With ∷ k.Wr ∷ k.Assign ∷ k.Dots ∷ k.NotEqual ∷ k.AtMost ∷ k.AtLeast ∷ k.Power ∷ k.Semicolon ∷ k.Colon ∷ k.Comma ∷ k.LeftParen ∷
     k.RightParen ∷ k.LeftBrace ∷ k.RightBrace ∷ k.LeftBracket ∷ k.RightBracket ∷ k.Bar ∷ k.Equal ∷ k.LessThan ∷ k.GreaterThan ∷ k.Plus ∷
     k.Minus ∷ k.Star ∷ k.Slash ∷ k.Hash ∷ []

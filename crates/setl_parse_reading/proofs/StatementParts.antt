@@ -67,6 +67,9 @@ continue_ line = at_line (ap kind_tokens (sym st.rolls-Continue) ∙ fold-roll-S
 pub fail_ : (line : ℕ) → kind_tokens st.Fail line ≡ sign_at line k.Fail ∷ sign k.Semicolon ∷ []
 fail_ line = at_line (ap kind_tokens (sym st.rolls-Fail) ∙ fold-roll-StmtKind (ℕ → Tokens) Tokens Tokens kind_step branch_step stmt_step StmtKind-F.Fail) line
 
+pub succeed_ : (line : ℕ) → kind_tokens st.Succeed line ≡ sign_at line k.Succeed ∷ sign k.Semicolon ∷ []
+succeed_ line = at_line (ap kind_tokens (sym st.rolls-Succeed) ∙ fold-roll-StmtKind (ℕ → Tokens) Tokens Tokens kind_step branch_step stmt_step StmtKind-F.Succeed) line
+
 pub stop_ : (line : ℕ) → kind_tokens st.Stop line ≡ sign_at line k.Stop ∷ sign k.Semicolon ∷ []
 stop_ line = at_line (ap kind_tokens (sym st.rolls-Stop) ∙ fold-roll-StmtKind (ℕ → Tokens) Tokens Tokens kind_step branch_step stmt_step StmtKind-F.Stop) line
 

@@ -38,6 +38,7 @@ fn begins_stmt(kind: Kind) -> bool
             | Kind::Quit
             | Kind::Continue
             | Kind::Fail
+            | Kind::Succeed
             | Kind::Stop
             | Kind::Pass
             | Kind::Return

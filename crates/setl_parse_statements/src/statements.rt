@@ -60,6 +60,7 @@ fn simple(kind: Kind) -> Option<StmtKind>
         Kind::Quit => Some(StmtKind::Quit),
         Kind::Continue => Some(StmtKind::Continue),
         Kind::Fail => Some(StmtKind::Fail),
+        Kind::Succeed => Some(StmtKind::Succeed),
         Kind::Stop => Some(StmtKind::Stop),
         Kind::Pass => Some(StmtKind::Pass),
         _ => None,
@@ -73,7 +74,7 @@ fn is_simple(kind: Kind) -> bool
 {
     matches!(
         kind,
-        Kind::Quit | Kind::Continue | Kind::Fail | Kind::Stop | Kind::Pass
+        Kind::Quit | Kind::Continue | Kind::Fail | Kind::Succeed | Kind::Stop | Kind::Pass
     )
 }
 

@@ -3,7 +3,7 @@ use Rattle.std.specs.Prelude.{◌≡◌, ◌≤◌, true, false, List, [], ◌�
 use Rattle.setl_names.specs.Names.{Name as Word, has}
 use Rattle.setl_model_runs.specs.Variable.{Variable, Global, Own, Bound}
 use Rattle.setl_operators_table.specs.Operators.{operand_count, TakesOperands}
-use Rattle.setl_program.specs.Program.{Slots, Binding, Member, Components, Point, Expr, Literal, Undefined, Name, Apply, Connect, Choose, Former, Selection, Quantified, Call, Newat, Eof, Ok, Exprs, no_expr, more_exprs, Iterators, no_iterator, more_iterators, Condition, no_condition, only_if, Arguments, no_argument, rd_argument, wr_argument, rw_argument, Selectors, no_selector, round_selector, brace_selector, Place, Stmt, Assign, Update, AssignParts, TakeFrom, Perform, If, For, While, Quit, Continue, Fail, Stop, Pass, Return, Print, Read, Block, no_stmt, more_stmts, Procedure, Program}
+use Rattle.setl_program.specs.Program.{Slots, Binding, Member, Components, Point, Expr, Literal, Undefined, Name, Apply, Connect, Choose, Former, Selection, Quantified, Call, Newat, Eof, Ok, Exprs, no_expr, more_exprs, Iterators, no_iterator, more_iterators, Condition, no_condition, only_if, Arguments, no_argument, rd_argument, wr_argument, rw_argument, Selectors, no_selector, round_selector, brace_selector, Place, Stmt, Assign, Update, AssignParts, TakeFrom, Perform, If, For, While, Quit, Continue, Fail, Succeed, Stop, Pass, Return, Print, Read, Block, no_stmt, more_stmts, Procedure, Program}
 use Rattle.setl_program.specs.Formed.{number_of}
 
 -- no name stands twice
@@ -88,6 +88,7 @@ module _ (vars : List Word) where
     PlacedStmt Quit = Unit {0}
     PlacedStmt Continue = Unit {0}
     PlacedStmt Fail = Unit {0}
+    PlacedStmt Succeed = Unit {0}
     PlacedStmt Stop = Unit {0}
     PlacedStmt Pass = Unit {0}
     PlacedStmt (Return e) = PlacedExpr e

@@ -98,7 +98,7 @@ mutual
     If : Expr → Block → Block → Stmt
     For : Iterators → Condition → Block → Stmt
     While : Expr → Block → Stmt
-    Quit Continue Fail Stop Pass : Stmt
+    Quit Continue Fail Succeed Stop Pass : Stmt
     -- `return` without an expression returns `om`
     Return : Expr → Stmt
     -- print(e, ..)

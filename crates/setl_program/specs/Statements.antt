@@ -11,7 +11,7 @@ use Rattle.setl_tree.specs.declared.stmt.StmtKind.{StmtKind as KindTree, fold-St
 use Rattle.setl_tree.specs.declared.stmt.StmtKind.TheOpen.{StmtKind-F, Branch-F, Stmt-F}
 use Rattle.setl_tree.specs.declared.tree.Param.{Param}
 use Rattle.setl_names.specs.Names.{Name}
-use Rattle.setl_program.specs.Program.{Expr, Undefined, Selectors, Place, Stmt, Assign, Update, AssignParts, TakeFrom, Perform, If, For, While, Quit, Continue, Fail, Stop, Pass, Return, Print, Read, Block, no_stmt, more_stmts}
+use Rattle.setl_program.specs.Program.{Expr, Undefined, Selectors, Place, Stmt, Assign, Update, AssignParts, TakeFrom, Perform, If, For, While, Quit, Continue, Fail, Succeed, Stop, Pass, Return, Print, Read, Block, no_stmt, more_stmts}
 use Rattle.setl_program.specs.Lists.{exprs_of, iterators_of, condition_of, all_selectors, block_of, otherwise}
 use Rattle.setl_program.specs.Numbered.{Numbered, pure, ◌>>=◌}
 use Rattle.setl_program.specs.Scope.{Scope, variable_of, slot_variable, procedure_of}
@@ -125,6 +125,7 @@ kind_step (StmtKind-F.While c body) line = while_loop (part_of c) body
 kind_step StmtKind-F.Quit line = λ s. pure Quit
 kind_step StmtKind-F.Continue line = λ s. pure Continue
 kind_step StmtKind-F.Fail line = λ s. pure Fail
+kind_step StmtKind-F.Succeed line = λ s. pure Succeed
 kind_step StmtKind-F.Stop line = λ s. pure Stop
 kind_step StmtKind-F.Pass line = λ s. pure Pass
 kind_step (StmtKind-F.Return x) line = return_of (option_map part_of x)

@@ -58,6 +58,7 @@ pub enum StmtKind {
     Quit,
     Continue,
     Fail,
+    Succeed,
     Stop,
     Pass,
     /// `return`; without an expression it returns `om`.

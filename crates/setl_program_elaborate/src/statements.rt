@@ -179,6 +179,7 @@ impl Elaborator<'_> {
             TreeKind::Quit => Ok(StmtKind::Quit),
             TreeKind::Continue => Ok(StmtKind::Continue),
             TreeKind::Fail => Ok(StmtKind::Fail),
+            TreeKind::Succeed => Ok(StmtKind::Succeed),
             TreeKind::Stop => Ok(StmtKind::Stop),
             TreeKind::Pass => Ok(StmtKind::Pass),
             TreeKind::Return(value) => self.return_of(value),

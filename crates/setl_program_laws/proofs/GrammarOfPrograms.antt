@@ -18,7 +18,7 @@ use Rattle.setl_program_laws.proofs.Languages.{Each, Maybe, Keeps, k_any, k_pure
 use Rattle.setl_program_laws.proofs.Fine.{Context}
 use Rattle.setl_program_laws.proofs.Trees.{Good, GoodSelector, selector_round, selector_braces}
 use Rattle.setl_program_laws.proofs.GrammarOfExpressions.{iters_keeps, nested_keeps, expr_keeps}
-use Rattle.setl_program_laws.proofs.StatementTrees.{GoodKind, GoodStmt, GoodBranch, GoodPlace, good_stmt, good_branch, is_assign, is_update, is_tuple_assign, is_take, is_call, is_if, is_for, is_while, is_quit, is_continue, is_fail, is_stop, is_pass, is_return, is_print, is_read}
+use Rattle.setl_program_laws.proofs.StatementTrees.{GoodKind, GoodStmt, GoodBranch, GoodPlace, good_stmt, good_branch, is_assign, is_update, is_tuple_assign, is_take, is_call, is_if, is_for, is_while, is_quit, is_continue, is_fail, is_succeed, is_stop, is_pass, is_return, is_print, is_read}
 
 -- the operators that the grammar has in an update
 abbrev MayUpdate : BinaryOp → Type 0
@@ -46,6 +46,7 @@ module _ (c : Context) where
   simple_good k.Quit = is_quit c
   simple_good k.Continue = is_continue c
   simple_good k.Fail = is_fail c
+  simple_good k.Succeed = is_succeed c
   simple_good k.Stop = is_stop c
   simple_good k.Pass = is_pass c
   simple_good _ = tt

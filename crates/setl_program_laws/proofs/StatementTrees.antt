@@ -25,7 +25,7 @@ use Rattle.setl_program_laws.proofs.Kept.{first, second}
 use Rattle.setl_program_laws.proofs.Fine.{Context}
 use Rattle.setl_program_laws.proofs.Trees.{Good, GoodIter, GoodSelector, all_good, option_good, turns_good, selectors_good}
 use Rattle.setl_program_laws.proofs.Agreeing.{carried}
-use Rattle.setl_program_laws.proofs.Statements.{AgreeKind, AgreeStmt, AgreeGuarded, AllStmts, AllGuarded, statements_fine, assignment_agrees, update_agrees, parts_agree, taking_agrees, performance_agrees, choice_agrees, for_agrees, while_agrees, quit_agrees, continue_agrees, fail_agrees, stop_agrees, pass_agrees, return_agrees, print_agrees, read_agrees}
+use Rattle.setl_program_laws.proofs.Statements.{AgreeKind, AgreeStmt, AgreeGuarded, AllStmts, AllGuarded, statements_fine, assignment_agrees, update_agrees, parts_agree, taking_agrees, performance_agrees, choice_agrees, for_agrees, while_agrees, quit_agrees, continue_agrees, fail_agrees, succeed_agrees, stop_agrees, pass_agrees, return_agrees, print_agrees, read_agrees}
 
 module _ (c : Context) where
   abbrev pub GoodKind : StmtKind → Type 0
@@ -101,6 +101,9 @@ module _ (c : Context) where
 
   pub is_fail : GoodKind st.Fail
   is_fail = carried (AgreeKind c) (ap ns.kind_told (sym st.rolls-Fail) ∙ fold-roll-StmtKind ns.Placed ns.Placed ns.Told ns.kind_step ns.branch_step ns.stmt_step StmtKind-F.Fail) (ap qs.kind_of (sym st.rolls-Fail) ∙ fold-roll-StmtKind qs.Kind qs.Guarded qs.Lined qs.kind_step qs.branch_step qs.stmt_step StmtKind-F.Fail) (fail_agrees)
+
+  pub is_succeed : GoodKind st.Succeed
+  is_succeed = carried (AgreeKind c) (ap ns.kind_told (sym st.rolls-Succeed) ∙ fold-roll-StmtKind ns.Placed ns.Placed ns.Told ns.kind_step ns.branch_step ns.stmt_step StmtKind-F.Succeed) (ap qs.kind_of (sym st.rolls-Succeed) ∙ fold-roll-StmtKind qs.Kind qs.Guarded qs.Lined qs.kind_step qs.branch_step qs.stmt_step StmtKind-F.Succeed) (succeed_agrees)
 
   pub is_stop : GoodKind st.Stop
   is_stop = carried (AgreeKind c) (ap ns.kind_told (sym st.rolls-Stop) ∙ fold-roll-StmtKind ns.Placed ns.Placed ns.Told ns.kind_step ns.branch_step ns.stmt_step StmtKind-F.Stop) (ap qs.kind_of (sym st.rolls-Stop) ∙ fold-roll-StmtKind qs.Kind qs.Guarded qs.Lined qs.kind_step qs.branch_step qs.stmt_step StmtKind-F.Stop) (stop_agrees)

@@ -13,7 +13,7 @@ use Rattle.setl_names.specs.Places.{Place, in_a_loop}
 use Rattle.setl_names.specs.Procedures.{found_procedure}
 use Rattle.setl_names.specs.Occurrences as n
 use Rattle.setl_names.specs.Statements as ns
-use Rattle.setl_program.specs.Program.{Place as Changed, Stmt, Quit, Continue, Fail, Stop, Pass, Block, Expr}
+use Rattle.setl_program.specs.Program.{Place as Changed, Stmt, Quit, Continue, Fail, Succeed, Stop, Pass, Block, Expr}
 use Rattle.setl_program.specs.Formed.{FormedStmt, FormedBlock, FormedVariables, InProcedure, IsInLoop}
 use Rattle.setl_program.specs.Placed.{PlacedStmt, PlacedBlock, PlacedVariables}
 use Rattle.setl_program.specs.Updating.{is_updating, UpdatingStmt, UpdatingBlock}
@@ -240,6 +240,9 @@ module _ {c : Context} where
 
   pub fail_agrees : AgreeKind c (λ p w. []) (λ line s m. (Fail, m))
   fail_agrees = record { at = λ p w k i line s v m. record { formed = tt; placed = tt; updating = tt } }
+
+  pub succeed_agrees : AgreeKind c (λ p w. []) (λ line s m. (Succeed, m))
+  succeed_agrees = record { at = λ p w k i line s v m. record { formed = tt; placed = tt; updating = tt } }
 
   pub stop_agrees : AgreeKind c (λ p w. []) (λ line s m. (Stop, m))
   stop_agrees = record { at = λ p w k i line s v m. record { formed = tt; placed = tt; updating = tt } }

@@ -71,6 +71,7 @@ fn stmt_kind(x: &StmtKind, to: &mut Writer) -> Result<(), AllocError>
         StmtKind::Quit => word(Kind::Quit, to),
         StmtKind::Continue => word(Kind::Continue, to),
         StmtKind::Fail => word(Kind::Fail, to),
+        StmtKind::Succeed => word(Kind::Succeed, to),
         StmtKind::Stop => word(Kind::Stop, to),
         StmtKind::Pass => word(Kind::Pass, to),
         StmtKind::Return(x) => return_result(x, to),

@@ -112,6 +112,7 @@ spellings =
     (codes "integer", k.Integer) ∷
     (codes "is_atom", k.IsAtom) ∷
     (codes "program", k.Program) ∷
+    (codes "succeed", k.Succeed) ∷
     (codes "continue", k.Continue) ∷
     (codes "is_tuple", k.IsTuple) ∷
     (codes "is_string", k.IsString) ∷

@@ -9,7 +9,7 @@ ghost use Rattle.setl_token.specs.Spellings.{is_reserved, spellings, kind_in};
 use setl_tree::Kind;
 
 /// The reserved words and the signs, the shortest first.
-const SPELLINGS: [(&str, Kind); 105] = [
+const SPELLINGS: [(&str, Kind); 106] = [
     (";", Kind::Semicolon),
     (":", Kind::Colon),
     (",", Kind::Comma),
@@ -108,6 +108,7 @@ const SPELLINGS: [(&str, Kind); 105] = [
     ("integer", Kind::Integer),
     ("is_atom", Kind::IsAtom),
     ("program", Kind::Program),
+    ("succeed", Kind::Succeed),
     ("continue", Kind::Continue),
     ("is_tuple", Kind::IsTuple),
     ("is_string", Kind::IsString),
@@ -130,10 +131,10 @@ fn spellings_of_len(len: usize) -> &'static [(&'static str, Kind)]
         4 => &all[49..71],
         5 => &all[71..82],
         6 => &all[82..93],
-        7 => &all[93..98],
-        8 => &all[98..100],
-        9 => &all[100..103],
-        10 => &all[103..105],
+        7 => &all[93..99],
+        8 => &all[99..101],
+        9 => &all[101..104],
+        10 => &all[104..106],
         _ => &[],
     }
 }

@@ -5,7 +5,7 @@ use Rattle.setl_model_runs.specs.Variable.{Variable}
 use Rattle.setl_operators_laws.specs.Lists.{all_append}
 use Rattle.setl_program.specs.declared.kinds.Quantifier.{Quantifier}
 use Rattle.setl_program.specs.declared.kinds.Quantifier.TheVariants.{Exists, Forall, NotExists}
-use Rattle.setl_program.specs.Program.{Slots, Binding, Member, Components, Point, Expr, Literal, Undefined, Name, Apply, Connect, Choose, Former, Selection, Quantified, Call, Newat, Eof, Ok, Exprs, no_expr, more_exprs, Iterators, no_iterator, more_iterators, Condition, no_condition, only_if, Arguments, no_argument, rd_argument, wr_argument, rw_argument, Selectors, no_selector, round_selector, brace_selector, Stmt, Assign, Update, AssignParts, TakeFrom, Perform, If, For, While, Quit, Continue, Fail, Stop, Pass, Return, Print, Read, Block, no_stmt, more_stmts}
+use Rattle.setl_program.specs.Program.{Slots, Binding, Member, Components, Point, Expr, Literal, Undefined, Name, Apply, Connect, Choose, Former, Selection, Quantified, Call, Newat, Eof, Ok, Exprs, no_expr, more_exprs, Iterators, no_iterator, more_iterators, Condition, no_condition, only_if, Arguments, no_argument, rd_argument, wr_argument, rw_argument, Selectors, no_selector, round_selector, brace_selector, Stmt, Assign, Update, AssignParts, TakeFrom, Perform, If, For, While, Quit, Continue, Fail, Succeed, Stop, Pass, Return, Print, Read, Block, no_stmt, more_stmts}
 use Rattle.setl_model.specs.Iterations.{all_bound}
 use Rattle.setl_code.specs.Code.{Alteration, Putting, Combining, TakingOut, Step}
 use Rattle.setl_code.specs.Piece.{Piece, empty, step, jump_out, jump_on, join, ending_at, going_on_at, Labels, steps_of, Laid, nothing}
@@ -132,6 +132,7 @@ mutual
   stmt_stands Quit leaves line at g = quit_stands leaves line at
   stmt_stands Continue leaves line at g = tt
   stmt_stands Fail leaves line at g = tt
+  stmt_stands Succeed leaves line at g = tt
   stmt_stands Stop leaves line at g = tt
   stmt_stands Pass leaves line at g = tt
   stmt_stands (Return e) leaves line at g = (expr_stands e line at g, tt)

@@ -13,13 +13,14 @@ use Rattle.setl_tree.specs.Programs as p
 use Rattle.setl_top_values.proofs.Languages.{Each, Maybe, Keeps, k_any, k_pure, k_never, k_then, k_or, k_one_of, k_many, k_optional, k_past, k_separated, k_listed, k_lined}
 use Rattle.setl_top_values.proofs.Trees.{Good, GoodSelector, selector_round, selector_braces}
 use Rattle.setl_top_values.proofs.Grammar.{iters_keeps, nested_keeps, expr_keeps}
-use Rattle.setl_top_values.proofs.StatementTrees.{GoodKind, GoodStmt, GoodBranch, GoodPlace, good_stmt, good_branch, is_assign, is_update, is_tuple_assign, is_take, is_call, is_if, is_for, is_while, is_quit, is_continue, is_fail, is_stop, is_pass, is_return, is_print, is_read}
+use Rattle.setl_top_values.proofs.StatementTrees.{GoodKind, GoodStmt, GoodBranch, GoodPlace, good_stmt, good_branch, is_assign, is_update, is_tuple_assign, is_take, is_call, is_if, is_for, is_while, is_quit, is_continue, is_fail, is_succeed, is_stop, is_pass, is_return, is_print, is_read}
 
 simple_good : (kind : Kind) → Maybe GoodKind (simple kind)
 unfolding simple
 simple_good k.Quit = is_quit
 simple_good k.Continue = is_continue
 simple_good k.Fail = is_fail
+simple_good k.Succeed = is_succeed
 simple_good k.Stop = is_stop
 simple_good k.Pass = is_pass
 simple_good _ = tt

@@ -5,7 +5,7 @@ use Rattle.setl_tree.specs.declared.expr.BinaryOp.{BinaryOp}
 use Rattle.setl_tree.specs.declared.expr.Prefix.{Prefix}
 use Rattle.setl_operators_table.specs.declared.Operator.{Operator}
 use Rattle.setl_program.specs.declared.kinds.Connective.{Connective}
-use Rattle.setl_program.specs.Program.{Binding, Expr, Literal, Undefined, Name, Apply, Connect, Choose, Former, Selection, Quantified, Call, Newat, Eof, Ok, Exprs, no_expr, more_exprs, Iterators, no_iterator, more_iterators, Condition, no_condition, only_if, Arguments, no_argument, rd_argument, wr_argument, rw_argument, Selectors, no_selector, round_selector, brace_selector, Place, Stmt, Assign, Update, AssignParts, TakeFrom, Perform, If, For, While, Quit, Continue, Fail, Stop, Pass, Return, Print, Read, Block, no_stmt, more_stmts}
+use Rattle.setl_program.specs.Program.{Binding, Expr, Literal, Undefined, Name, Apply, Connect, Choose, Former, Selection, Quantified, Call, Newat, Eof, Ok, Exprs, no_expr, more_exprs, Iterators, no_iterator, more_iterators, Condition, no_condition, only_if, Arguments, no_argument, rd_argument, wr_argument, rw_argument, Selectors, no_selector, round_selector, brace_selector, Place, Stmt, Assign, Update, AssignParts, TakeFrom, Perform, If, For, While, Quit, Continue, Fail, Succeed, Stop, Pass, Return, Print, Read, Block, no_stmt, more_stmts}
 use Rattle.setl_program.specs.Lists.{exprs_of, iterators_of, condition_of, arguments_of, all_selectors, block_of, otherwise}
 use Rattle.setl_program.specs.Operators.{joined, binary, connective, updating}
 use Rattle.setl_program.specs.Expressions as q
@@ -66,6 +66,7 @@ abbrev mutual
   StmtStands Quit = Unit {0}
   StmtStands Continue = Unit {0}
   StmtStands Fail = Unit {0}
+  StmtStands Succeed = Unit {0}
   StmtStands Stop = Unit {0}
   StmtStands Pass = Unit {0}
   StmtStands (Return e) = ExprStands e

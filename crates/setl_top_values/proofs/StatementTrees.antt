@@ -83,6 +83,9 @@ is_continue = carried KindStands (ap qs.kind_of (sym st.rolls-Continue) ∙ fold
 pub is_fail : GoodKind st.Fail
 is_fail = carried KindStands (ap qs.kind_of (sym st.rolls-Fail) ∙ fold-roll-StmtKind qs.Kind qs.Guarded qs.Lined qs.kind_step qs.branch_step qs.stmt_step StmtKind-F.Fail) (simple_stands program.Fail tt)
 
+pub is_succeed : GoodKind st.Succeed
+is_succeed = carried KindStands (ap qs.kind_of (sym st.rolls-Succeed) ∙ fold-roll-StmtKind qs.Kind qs.Guarded qs.Lined qs.kind_step qs.branch_step qs.stmt_step StmtKind-F.Succeed) (simple_stands program.Succeed tt)
+
 pub is_stop : GoodKind st.Stop
 is_stop = carried KindStands (ap qs.kind_of (sym st.rolls-Stop) ∙ fold-roll-StmtKind qs.Kind qs.Guarded qs.Lined qs.kind_step qs.branch_step qs.stmt_step StmtKind-F.Stop) (simple_stands program.Stop tt)
 

@@ -292,6 +292,7 @@ kind_step (StmtKind-F.While c body) line = sign_at line k.LeftParen ∷ sign k.W
 kind_step StmtKind-F.Quit line = sign_at line k.Quit ∷ sign k.Semicolon ∷ []
 kind_step StmtKind-F.Continue line = sign_at line k.Continue ∷ sign k.Semicolon ∷ []
 kind_step StmtKind-F.Fail line = sign_at line k.Fail ∷ sign k.Semicolon ∷ []
+kind_step StmtKind-F.Succeed line = sign_at line k.Succeed ∷ sign k.Semicolon ∷ []
 kind_step StmtKind-F.Stop line = sign_at line k.Stop ∷ sign k.Semicolon ∷ []
 kind_step StmtKind-F.Pass line = sign_at line k.Pass ∷ sign k.Semicolon ∷ []
 kind_step (StmtKind-F.Return x) line = sign_at line k.Return ∷ (result_tokens x ++ sign k.Semicolon ∷ [])

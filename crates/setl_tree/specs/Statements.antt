@@ -28,6 +28,7 @@ unfoldable pub simple : Kind → Option StmtKind
 simple k.Quit = Some st.Quit
 simple k.Continue = Some st.Continue
 simple k.Fail = Some st.Fail
+simple k.Succeed = Some st.Succeed
 simple k.Stop = Some st.Stop
 simple k.Pass = Some st.Pass
 simple _ = None

@@ -84,6 +84,7 @@ pub enum Kind {
     Str,
     String,
     Subset,
+    Succeed,
     Then,
     True,
     Tuple,

@@ -58,6 +58,7 @@ pub enum StmtKind {
     Quit,
     Continue,
     Fail,
+    Succeed,
     Stop,
     Pass,
     Return(Option<Expr>),

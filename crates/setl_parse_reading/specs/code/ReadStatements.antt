@@ -29,6 +29,7 @@ begins_stmt k.LeftParen = true
 begins_stmt k.Quit = true
 begins_stmt k.Continue = true
 begins_stmt k.Fail = true
+begins_stmt k.Succeed = true
 begins_stmt k.Stop = true
 begins_stmt k.Pass = true
 begins_stmt k.Return = true

@@ -123,6 +123,7 @@ kind_step (StmtKind-F.While e x) = plain.While (plain_expr e) (block_of x)
 kind_step StmtKind-F.Quit = plain.Quit
 kind_step StmtKind-F.Continue = plain.Continue
 kind_step StmtKind-F.Fail = plain.Fail
+kind_step StmtKind-F.Succeed = plain.Succeed
 kind_step StmtKind-F.Stop = plain.Stop
 kind_step StmtKind-F.Pass = plain.Pass
 kind_step (StmtKind-F.Return e) = plain.Return (plain_expr e)
