@@ -47,7 +47,7 @@ pub data Instr : Type 0 where
   PayRound : Instr
   -- a body by its number
   CallBody : ℕ → Instr
-  ReturnTop KeepAll GoBack : Instr
+  ReturnTop KeepAll GoBack ForgetKept : Instr
   PrintTop : ℕ → Instr
   ReadOne StopRun : Instr
 

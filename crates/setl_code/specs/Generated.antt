@@ -5,9 +5,9 @@ use Rattle.setl_model_runs.specs.Variable.{Variable}
 use Rattle.setl_operators_table.specs.declared.Operator.TheVariants.{Not}
 use Rattle.setl_program.specs.declared.kinds.Quantifier.{Quantifier}
 use Rattle.setl_program.specs.declared.kinds.Quantifier.TheVariants.{Exists, Forall, NotExists}
-use Rattle.setl_program.specs.Program.{Slots, Binding, Member, Components, Point, begin_of, Expr, Literal, Undefined, Name, Apply, Connect, Choose, Former, Selection, Quantified, Call, Newat, Eof, Ok, Exprs, no_expr, more_exprs, Iterators, no_iterator, more_iterators, Condition, no_condition, only_if, Arguments, no_argument, rd_argument, wr_argument, rw_argument, Selectors, no_selector, round_selector, brace_selector, Stmt, Assign, Update, AssignParts, TakeFrom, Perform, If, For, While, Quit, Continue, Fail, Stop, Pass, Return, Print, Read, Block, no_stmt, more_stmts}
+use Rattle.setl_program.specs.Program.{Slots, Binding, Member, Components, Point, begin_of, Expr, Literal, Undefined, Name, Apply, Connect, Choose, Former, Selection, Quantified, Call, Newat, Eof, Ok, Exprs, no_expr, more_exprs, Iterators, no_iterator, more_iterators, Condition, no_condition, only_if, Arguments, no_argument, rd_argument, wr_argument, rw_argument, Selectors, no_selector, round_selector, brace_selector, Stmt, Assign, Update, AssignParts, TakeFrom, Perform, If, For, While, Quit, Continue, Fail, Succeed, Stop, Pass, Return, Print, Read, Block, no_stmt, more_stmts}
 use Rattle.setl_model.specs.Iterations.{decided, undecided, all_bound}
-use Rattle.setl_code.specs.Code.{Bracket, InRound, InBrace, Alteration, Putting, Combining, TakingOut, Push, PushAtom, PushEof, Load, StoreIn, Operate, Alter, Decides, TestBool, Unless, Jump, DropTop, DupTop, PartsOf, BeginOver, NextOr, BeginOf, AddBelow, LeaveAll, PayRound, CallBody, ReturnTop, KeepAll, GoBack, PrintTop, ReadOne, StopRun}
+use Rattle.setl_code.specs.Code.{Bracket, InRound, InBrace, Alteration, Putting, Combining, TakingOut, Push, PushAtom, PushEof, Load, StoreIn, Operate, Alter, Decides, TestBool, Unless, Jump, DropTop, DupTop, PartsOf, BeginOver, NextOr, BeginOf, AddBelow, LeaveAll, PayRound, CallBody, ReturnTop, KeepAll, GoBack, ForgetKept, PrintTop, ReadOne, StopRun}
 use Rattle.setl_code.specs.Piece.{Laid, ◌⨾◌, nothing, one, jumps_out, jumps_on, over, either, ending, going_on, leaving, with_end, with_start}
 
 -- ---- stores
@@ -157,6 +157,7 @@ abbrev mutual
   stmt leaves line Quit = quit line leaves
   stmt leaves line Continue = jumps_on line
   stmt leaves line Fail = one line GoBack
+  stmt leaves line Succeed = one line ForgetKept
   stmt leaves line Stop = one line StopRun
   stmt leaves line Pass = nothing
   stmt leaves line (Return e) = expr line e ⨾ one line ReturnTop

@@ -12,7 +12,7 @@ use Rattle.setl_program.specs.declared.kinds.Connective.TheVariants.{And, Or, Im
 use Rattle.setl_program.specs.declared.kinds.Source.TheVariants.{Values, Between, SetSteps, TupleSteps}
 use Rattle.setl_program.specs.declared.kinds.Taking.TheVariants.{TakeLeast, TakeFirst, TakeLast}
 use Rattle.setl_program.specs.Program.{Begin, Members, Points}
-use Rattle.setl_code.specs.Code.{Bracket, InRound, InBrace, Alteration, Putting, Combining, TakingOut, Instr, Push, PushAtom, PushEof, Load, Take, StoreIn, Operate, Alter, Decides, TestBool, Unless, Jump, DropTop, DupTop, PartsOf, BeginOver, NextOr, BeginOf, AddBelow, LeaveAll, PayRound, CallBody, ReturnTop, KeepAll, GoBack, PrintTop, ReadOne, StopRun, Step, Body, Code}
+use Rattle.setl_code.specs.Code.{Bracket, InRound, InBrace, Alteration, Putting, Combining, TakingOut, Instr, Push, PushAtom, PushEof, Load, Take, StoreIn, Operate, Alter, Decides, TestBool, Unless, Jump, DropTop, DupTop, PartsOf, BeginOver, NextOr, BeginOf, AddBelow, LeaveAll, PayRound, CallBody, ReturnTop, KeepAll, GoBack, ForgetKept, PrintTop, ReadOne, StopRun, Step, Body, Code}
 
 -- ---- words
 
@@ -159,6 +159,7 @@ instr_text bs (CallBody n) = codes "call " ++ name_at n bs
 instr_text bs ReturnTop = codes "return"
 instr_text bs KeepAll = codes "ok"
 instr_text bs GoBack = codes "fail"
+instr_text bs ForgetKept = codes "succeed"
 instr_text bs (PrintTop n) = numbered (codes "print") n
 instr_text bs ReadOne = codes "read"
 instr_text bs StopRun = codes "stop"

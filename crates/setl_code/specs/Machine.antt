@@ -6,7 +6,7 @@ use Rattle.setl_operators_table.specs.Operators.{op_of}
 use Rattle.setl_text.specs.Texts.{print_line}
 use Rattle.setl_text.specs.Reading.{Reading, Denotes, AtEnd, NotForm, TooWide, TooDeep, read_denotation}
 use Rattle.setl_model_runs.specs.Variable.{Variable, Bound}
-use Rattle.setl_model_runs.specs.Events.{Called, Returned, Printed, Kept, Back, Form, Wide, Deep, Nothing, Done, Stopped, Stuck}
+use Rattle.setl_model_runs.specs.Events.{Called, Returned, Printed, Kept, Back, Forgot, Form, Wide, Deep, Nothing, Done, Stopped, Stuck}
 use Rattle.setl_model_runs.specs.Run.{Move, Moves, Halts, Machine}
 use Rattle.setl_program.specs.declared.kinds.Connective.{Connective}
 use Rattle.setl_program.specs.declared.kinds.Connective.TheVariants.{And, Or, Implies}
@@ -20,7 +20,7 @@ use Rattle.setl_model.specs.Collections.{refusal}
 use Rattle.setl_model.specs.Iterations.{Started, Starts, Refuses, items_of}
 use Rattle.setl_model.specs.Calls.{parameter, bindings}
 use Rattle.setl_model.specs.Places.{with_part_at_all, part_at_all, combined, Taken, TakesOut, IsEmpty, CannotTake, take_out}
-use Rattle.setl_code.specs.Code.{Bracket, InRound, InBrace, Alteration, Putting, Combining, TakingOut, Instr, Push, PushAtom, PushEof, Load, Take, StoreIn, Operate, Alter, Decides, TestBool, Unless, Jump, DropTop, DupTop, PartsOf, BeginOver, NextOr, BeginOf, AddBelow, LeaveAll, PayRound, CallBody, ReturnTop, KeepAll, GoBack, PrintTop, ReadOne, StopRun, Step, Body, Code}
+use Rattle.setl_code.specs.Code.{Bracket, InRound, InBrace, Alteration, Putting, Combining, TakingOut, Instr, Push, PushAtom, PushEof, Load, Take, StoreIn, Operate, Alter, Decides, TestBool, Unless, Jump, DropTop, DupTop, PartsOf, BeginOver, NextOr, BeginOf, AddBelow, LeaveAll, PayRound, CallBody, ReturnTop, KeepAll, GoBack, ForgetKept, PrintTop, ReadOne, StopRun, Step, Body, Code}
 use Rattle.setl_code.specs.CodeCore.{Held, There, Gone, Cells, held_in, cleared, variables_of, Operand, Result, Iterator, PairIterator, Collecting, value_of, Popped, Pops, Lacks, popped, without_iterators, Activation, Copy, CodeCore, holding, held, write}
 
 -- ---- going on
@@ -217,6 +217,11 @@ go_back line (c ∷ older) k =
     })
     0 [])
 
+-- the latest copy leaves what is kept, and all changes stay
+abbrev pub forget_kept : ℕ → List Copy → CodeCore → Move CodeCore
+forget_kept line [] k = Halts (Stopped Nothing line)
+forget_kept line (c ∷ older) k = Moves [] (Forgot ∷ []) (record k { now = record k.now { at = suc k.now.at }; kept = older }) 0 []
+
 -- ---- reading and writing
 
 abbrev pub push_read : Reading → ℕ → CodeCore → Move CodeCore
@@ -266,6 +271,7 @@ do_instr c line (CallBody n) k = call_body n (slice_get c.bodies n) line k
 do_instr c line ReturnTop k = on_top k.now.operands (λ v xs. return_to (slice_get c.bodies k.now.body) v k k.callers)
 do_instr c line KeepAll k = keep_all k
 do_instr c line GoBack k = go_back line k.kept k
+do_instr c line ForgetKept k = forget_kept line k.kept k
 do_instr c line (PrintTop n) k = on_popped (popped n [] k.now.operands) (λ vs xs. print_values vs xs k)
 do_instr c line ReadOne k = push_read (read_denotation k.world.input) line k
 do_instr c line StopRun k = Halts Done

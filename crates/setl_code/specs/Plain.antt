@@ -91,6 +91,7 @@ plain_instr xs (i.Call n) = plain.CallBody n
 plain_instr xs i.Return = plain.ReturnTop
 plain_instr xs i.Keep = plain.KeepAll
 plain_instr xs i.Back = plain.GoBack
+plain_instr xs i.Forget = plain.ForgetKept
 plain_instr xs (i.Print n) = plain.PrintTop n
 plain_instr xs i.Read = plain.ReadOne
 plain_instr xs i.Stop = plain.StopRun

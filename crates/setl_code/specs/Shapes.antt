@@ -3,7 +3,7 @@ use Rattle.std.specs.Prelude.{ℕ, zero, suc, Bool, true, false, ◌&&◌, List,
 use Rattle.setl_tree.specs.declared.tree.Passing.{Passing}
 use Rattle.setl_tree.specs.declared.tree.Passing.TheVariants.{Rd, Wr, Rw}
 use Rattle.setl_program.specs.Program.{Begin, Members, Points, Parameter}
-use Rattle.setl_code.specs.Code.{Alteration, Putting, Combining, TakingOut, Instr, Push, PushAtom, PushEof, Load, Take, StoreIn, Operate, Alter, Decides, TestBool, Unless, Jump, DropTop, DupTop, PartsOf, BeginOver, NextOr, BeginOf, AddBelow, LeaveAll, PayRound, CallBody, ReturnTop, KeepAll, GoBack, PrintTop, ReadOne, StopRun, Body}
+use Rattle.setl_code.specs.Code.{Alteration, Putting, Combining, TakingOut, Instr, Push, PushAtom, PushEof, Load, Take, StoreIn, Operate, Alter, Decides, TestBool, Unless, Jump, DropTop, DupTop, PartsOf, BeginOver, NextOr, BeginOf, AddBelow, LeaveAll, PayRound, CallBody, ReturnTop, KeepAll, GoBack, ForgetKept, PrintTop, ReadOne, StopRun, Body}
 
 pub data Kind : Type 0 where
   AResult ACollection AnIterator APairIterator : Kind
@@ -125,6 +125,7 @@ outs bs (CallBody n) at s = call_outs (slice_get bs n) at s
 outs bs ReturnTop at s = lead (without_results 1 s) (λ t. [])
 outs bs KeepAll at s = on_to at 1 (Some s)
 outs bs GoBack at s = Some []
+outs bs ForgetKept at s = on_to at 0 (Some s)
 outs bs (PrintTop n) at s = on_to at 0 (without_results n s)
 outs bs ReadOne at s = on_to at 1 (Some s)
 outs bs StopRun at s = Some []

@@ -110,6 +110,8 @@ pub enum Instr {
     Keep,
     /// `fail`
     Back,
+    /// `succeed`
+    Forget,
     /// Prints so many operands, the last one on top, and pops them.
     Print(u32),
     /// Pushes a value that was read, or `om`.

@@ -20,9 +20,9 @@ use Rattle.setl_model.specs.Step.{test_of, declared_mode}
 use Rattle.setl_model.specs.Calls.{bindings}
 use Rattle.setl_model.specs.Iterations.{Started, Starts, Refuses, items_of}
 use Rattle.setl_model.specs.Places.{with_part_at_all, part_at_all, combined, Taken, TakesOut, IsEmpty, CannotTake, take_out}
-use Rattle.setl_code.specs.Code.{Bracket, Alteration, Putting, Combining, TakingOut, Instr, Push, PushAtom, PushEof, Load, Take, StoreIn, Operate, Alter, Decides, TestBool, Unless, Jump, DropTop, DupTop, PartsOf, BeginOver, NextOr, BeginOf, AddBelow, LeaveAll, PayRound, CallBody, ReturnTop, KeepAll, GoBack, PrintTop, ReadOne, StopRun, Step, Body, Code}
+use Rattle.setl_code.specs.Code.{Bracket, Alteration, Putting, Combining, TakingOut, Instr, Push, PushAtom, PushEof, Load, Take, StoreIn, Operate, Alter, Decides, TestBool, Unless, Jump, DropTop, DupTop, PartsOf, BeginOver, NextOr, BeginOf, AddBelow, LeaveAll, PayRound, CallBody, ReturnTop, KeepAll, GoBack, ForgetKept, PrintTop, ReadOne, StopRun, Step, Body, Code}
 use Rattle.setl_code.specs.CodeCore.{Held, There, Gone, Operand, Result, Iterator, PairIterator, Collecting, value_of, Popped, Pops, Lacks, popped, without_iterators, cleared, variables_of, Activation, Copy, CodeCore, holding, held, write}
-use Rattle.setl_code.specs.Machine.{next, go_to, on_value, on_top, on_popped, on_held, on_rest, turn, with_outcome, store_in, selected_by, store_whole, take_from, alter, iterator, begin_over, next_or, Added, Adds, Refused, Nowhere, added, go_added, first_parts, take_apart, call_body, handed_back, return_to, keep_all, go_back, push_read, print_values, decides, do_instr, do_step, fetch, machine}
+use Rattle.setl_code.specs.Machine.{next, go_to, on_value, on_top, on_popped, on_held, on_rest, turn, with_outcome, store_in, selected_by, store_whole, take_from, alter, iterator, begin_over, next_or, Added, Adds, Refused, Nowhere, added, go_added, first_parts, take_apart, call_body, handed_back, return_to, keep_all, go_back, forget_kept, push_read, print_values, decides, do_instr, do_step, fetch, machine}
 use Rattle.setl_code_declared.specs.Fitting.{Modes, IsFitting, CellsFit, ActivationsFit, CopyFits, Fitting, NoFormers}
 use Rattle.setl_code_declared.specs.Laws.{RunsFit}
 use Rattle.setl_code_declared.proofs.Cells.{cleared_fit, write_fits}
@@ -188,6 +188,10 @@ back_fits modes line (c ∷ older) k f g =
     0 [])
     (λ n. (g.0.0, g.0.1, g.0.2, g.1))
 
+forget_fits : (modes : Modes) (line : ℕ) (copies : List Copy) (k : CodeCore) → Fitting modes k → AllByRecursion (CopyFits modes) copies → MoveFits modes (forget_kept line copies k)
+forget_fits modes line [] k f g = tt
+forget_fits modes line (c ∷ older) k f g = (f.0, f.1, f.2, g.1)
+
 read_fits : (modes : Modes) (r : Reading) (line : ℕ) (k : CodeCore) → Fitting modes k → MoveFits modes (push_read r line k)
 read_fits modes (Denotes v rest) line k f = f
 read_fits modes AtEnd line k f = f
@@ -235,6 +239,7 @@ instr_fits modes none c line ReturnTop k f =
     top_fits modes k.now.operands (λ v xs. return_to (slice_get c.bodies k.now.body) v k k.callers) (λ v xs. return_fits modes (slice_get c.bodies k.now.body) v k k.callers f f.2)
 instr_fits modes none c line KeepAll k f = (f.0, f.1, f.2, ((f.0, f.1, f.2), f.3))
 instr_fits modes none c line GoBack k f = back_fits modes line k.kept k f f.3
+instr_fits modes none c line ForgetKept k f = forget_fits modes line k.kept k f f.3
 instr_fits modes none c line (PrintTop n) k f = popped_fits modes (popped n [] k.now.operands) (λ vs xs. print_values vs xs k) (λ vs xs. f)
 instr_fits modes none c line ReadOne k f = read_fits modes (read_denotation k.world.input) line k f
 instr_fits modes none c line StopRun k f = tt

@@ -16,9 +16,9 @@ use Rattle.setl_model.specs.Calls.{bindings}
 use Rattle.setl_model.specs.Core.{One, Two, Selected}
 use Rattle.setl_model.specs.Iterations.{Started, Starts, Refuses, items_of}
 use Rattle.setl_model.specs.Places.{Taken, TakesOut, IsEmpty, CannotTake, part_at_all, take_out}
-use Rattle.setl_code.specs.Code.{Alteration, Putting, Combining, TakingOut, Body, Code, Instr, Push, PushAtom, PushEof, Load, Take, StoreIn, Operate, Alter, Decides, TestBool, Unless, Jump, DropTop, DupTop, PartsOf, BeginOver, NextOr, BeginOf, AddBelow, LeaveAll, PayRound, CallBody, ReturnTop, KeepAll, GoBack, PrintTop, ReadOne, StopRun}
+use Rattle.setl_code.specs.Code.{Alteration, Putting, Combining, TakingOut, Body, Code, Instr, Push, PushAtom, PushEof, Load, Take, StoreIn, Operate, Alter, Decides, TestBool, Unless, Jump, DropTop, DupTop, PartsOf, BeginOver, NextOr, BeginOf, AddBelow, LeaveAll, PayRound, CallBody, ReturnTop, KeepAll, GoBack, ForgetKept, PrintTop, ReadOne, StopRun}
 use Rattle.setl_code.specs.CodeCore.{Operand, Result, Iterator, PairIterator, Collecting, popped, without_iterators, Activation, Copy, CodeCore, held}
-use Rattle.setl_code.specs.Machine.{store_in, store_whole, take_from, selected_by, alter, begin_over, next_or, Added, Adds, Refused, Nowhere, added, go_added, take_apart, call_body, handed_back, return_to, go_back, push_read, decides, do_instr, machine}
+use Rattle.setl_code.specs.Machine.{store_in, store_whole, take_from, selected_by, alter, begin_over, next_or, Added, Adds, Refused, Nowhere, added, go_added, take_apart, call_body, handed_back, return_to, go_back, forget_kept, push_read, decides, do_instr, machine}
 use Rattle.setl_code_events.specs.Told.{AllFit, BindingsFit, EndsTellNothing}
 use Rattle.setl_code_events.proofs.Cases.{by_top, by_popped, by_held, by_rest, by_turn, by_outcome, by_branch}
 
@@ -121,6 +121,10 @@ module _ (test : Test) where
   back_calm line [] k = tt
   back_calm line (c ∷ older) k = by_turn Calm (λ e. tt) k _ (λ n. inl refl)
 
+  forget_calm : (line : ℕ) (cs : List Copy) (k : CodeCore) → Calm (forget_kept line cs k)
+  forget_calm line [] k = tt
+  forget_calm line (c ∷ older) k = inl refl
+
   instr_calm : (c : Code) (line : ℕ) (i : Instr) (k : CodeCore) → BindingsFit c test i → Calm (do_instr c line i k)
   instr_calm c line (Push v) k f = inl refl
   instr_calm c line PushAtom k f = by_turn Calm (λ e. tt) k _ (λ n. inl refl)
@@ -147,6 +151,7 @@ module _ (test : Test) where
   instr_calm c line ReturnTop k f = by_top Calm (λ e. tt) k.now.operands _ (λ v xs. return_calm (slice_get c.bodies k.now.body) v k k.callers)
   instr_calm c line KeepAll k f = inl refl
   instr_calm c line GoBack k f = back_calm line k.kept k
+  instr_calm c line ForgetKept k f = forget_calm line k.kept k
   instr_calm c line (PrintTop n) k f = by_popped Calm (λ e. tt) (popped n [] k.now.operands) _ (λ vs xs e. inl refl)
   instr_calm c line ReadOne k f = read_calm (read_denotation k.world.input) line k
   instr_calm c line StopRun k f = tt

@@ -10,7 +10,7 @@ use Rattle.setl_program.specs.declared.kinds.Connective.TheVariants.{And, Or, Im
 use Rattle.setl_program.specs.Program.{Begin}
 use Rattle.setl_text.specs.Texts.{print_line}
 use Rattle.setl_text.specs.Reading.{Reading, Denotes, AtEnd, NotForm, TooWide, TooDeep, read_denotation}
-use Rattle.setl_model_runs.specs.Events.{Event, Called, Printed, Back, Stored, Stopped, Unfit}
+use Rattle.setl_model_runs.specs.Events.{Event, Called, Printed, Back, Forgot, Stored, Stopped, Unfit}
 use Rattle.setl_model_runs.specs.Run.{Store, State, Goes, Test, Move, Moves, Halts, if_fits, store_all, stored, settle}
 use Rattle.setl_model_runs.specs.Variable.{Variable, Global, Own, Bound, is_variable}
 use Rattle.setl_model_runs.specs.VariableLaws.{variable_itself}
@@ -18,9 +18,9 @@ use Rattle.setl_model.specs.Calls.{bindings}
 use Rattle.setl_model.specs.Core.{One, Two, Selected}
 use Rattle.setl_model.specs.Iterations.{Started, Starts, Refuses, items_of}
 use Rattle.setl_model.specs.Places.{Taken, TakesOut, IsEmpty, CannotTake, part_at_all, take_out}
-use Rattle.setl_code.specs.Code.{Bracket, Alteration, Putting, Combining, TakingOut, Body, Code, Instr, Push, PushAtom, PushEof, Load, Take, StoreIn, Operate, Alter, Decides, TestBool, Unless, Jump, DropTop, DupTop, PartsOf, BeginOver, NextOr, BeginOf, AddBelow, LeaveAll, PayRound, CallBody, ReturnTop, KeepAll, GoBack, PrintTop, ReadOne, StopRun}
+use Rattle.setl_code.specs.Code.{Bracket, Alteration, Putting, Combining, TakingOut, Body, Code, Instr, Push, PushAtom, PushEof, Load, Take, StoreIn, Operate, Alter, Decides, TestBool, Unless, Jump, DropTop, DupTop, PartsOf, BeginOver, NextOr, BeginOf, AddBelow, LeaveAll, PayRound, CallBody, ReturnTop, KeepAll, GoBack, ForgetKept, PrintTop, ReadOne, StopRun}
 use Rattle.setl_code.specs.CodeCore.{Held, There, Cells, held_in, with_held, write, Operand, Result, Iterator, PairIterator, Collecting, popped, without_iterators, Activation, Copy, CodeCore, held}
-use Rattle.setl_code.specs.Machine.{on_popped, on_held, store_in, store_whole, take_from, selected_by, alter, begin_over, next_or, Added, Adds, Refused, Nowhere, added, go_added, take_apart, call_body, handed_back, return_to, go_back, push_read, decides, do_instr, machine}
+use Rattle.setl_code.specs.Machine.{on_popped, on_held, store_in, store_whole, take_from, selected_by, alter, begin_over, next_or, Added, Adds, Refused, Nowhere, added, go_added, take_apart, call_body, handed_back, return_to, go_back, forget_kept, push_read, decides, do_instr, machine}
 use Rattle.setl_code_events.specs.Told.{value_held, store_told, stores_told, popped_values, takes_none, none_taken, alter_told, call_told, return_told, events_of, EventsAre}
 use Rattle.setl_code_events.proofs.Cases.{by_top, by_popped, by_held, by_rest, by_turn, by_outcome, by_branch}
 
@@ -142,6 +142,10 @@ back_tells : (line : ℕ) (cs : List Copy) (k : CodeCore) → TellsBy (λ d. Bac
 back_tells line [] k = tt
 back_tells line (c ∷ older) k = by_turn (TellsBy (λ d. Back ∷ [])) (λ e. tt) k _ (λ n. refl)
 
+forget_tells : (line : ℕ) (cs : List Copy) (k : CodeCore) → TellsBy (λ d. Forgot ∷ []) (forget_kept line cs k)
+forget_tells line [] k = tt
+forget_tells line (c ∷ older) k = refl
+
 alter_in : (a : Alteration) (line : ℕ) (x : Variable) (bs : List Bracket) (k : CodeCore) → TellsBy (alter_told a line x (value_held (held x k)) (selected_by bs (popped_values (popped (length bs) [] k.now.operands))) k) (on_popped (popped (length bs) [] k.now.operands) (λ vs xs. on_held (held x k) (λ whole. alter a line x whole (selected_by bs vs) xs k)))
 alter_in a line x bs k =
     let f : List (Option Datum) → Option Datum → CodeCore → List Event = λ vs whole d. alter_told a line x whole (selected_by bs vs) k d in
@@ -176,6 +180,7 @@ instr_tells c line (CallBody n) k = call_tells n (slice_get c.bodies n) line k
 instr_tells c line ReturnTop k = by_top (TellsBy (λ d. return_told (slice_get c.bodies k.now.body))) (λ e. tt) k.now.operands _ (λ v xs. return_tells (slice_get c.bodies k.now.body) v k k.callers)
 instr_tells c line KeepAll k = refl
 instr_tells c line GoBack k = back_tells line k.kept k
+instr_tells c line ForgetKept k = forget_tells line k.kept k
 instr_tells c line (PrintTop n) k = by_popped (TellsBy (λ d. Printed (print_line (popped_values (popped n [] k.now.operands))) ∷ [])) (λ e. tt) (popped n [] k.now.operands) _ (λ vs xs e. ap (λ p. Printed (print_line (popped_values p)) ∷ []) (sym e))
 instr_tells c line ReadOne k = read_untold (read_denotation k.world.input) line k
 instr_tells c line StopRun k = tt

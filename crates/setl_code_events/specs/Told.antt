@@ -4,13 +4,13 @@ use Rattle.setl_value.specs.Datum.{Datum}
 use Rattle.setl_operators_table.specs.Outcome.{Outcome, Gives, Fails, Overspends}
 use Rattle.setl_text.specs.Texts.{print_line}
 use Rattle.setl_model_runs.specs.Variable.{Variable, Global, Own, Bound}
-use Rattle.setl_model_runs.specs.Events.{Event, End, Called, Returned, Stored, Printed, Kept, Back}
+use Rattle.setl_model_runs.specs.Events.{Event, End, Called, Returned, Stored, Printed, Kept, Back, Forgot}
 use Rattle.setl_model_runs.specs.Run.{Store, State, Goes, Ends, Test, settle}
 use Rattle.setl_program.specs.declared.kinds.Taking.{Taking}
 use Rattle.setl_model.specs.Core.{Selected}
 use Rattle.setl_model.specs.Calls.{bindings}
 use Rattle.setl_model.specs.Places.{Taken, TakesOut, IsEmpty, CannotTake, part_at_all, take_out}
-use Rattle.setl_code.specs.Code.{Alteration, Putting, Combining, TakingOut, Body, Code, Instr, StoreIn, Alter, CallBody, ReturnTop, KeepAll, GoBack, PrintTop}
+use Rattle.setl_code.specs.Code.{Alteration, Putting, Combining, TakingOut, Body, Code, Instr, StoreIn, Alter, CallBody, ReturnTop, KeepAll, GoBack, ForgetKept, PrintTop}
 use Rattle.setl_code.specs.CodeCore.{Held, There, Gone, held, Popped, Pops, Lacks, popped, CodeCore}
 use Rattle.setl_code.specs.Machine.{machine, do_instr, selected_by}
 
@@ -71,6 +71,7 @@ events_of c line (CallBody n) k d = call_told n (slice_get c.bodies n) line k
 events_of c line ReturnTop k d = return_told (slice_get c.bodies k.now.body)
 events_of c line KeepAll k d = Kept ∷ []
 events_of c line GoBack k d = Back ∷ []
+events_of c line ForgetKept k d = Forgot ∷ []
 events_of c line (PrintTop n) k d = Printed (print_line (popped_values (popped n [] k.now.operands))) ∷ []
 events_of c line i k d = []
 

@@ -50,6 +50,7 @@ pub fn push_instr(into: &mut Vec<u8>, code: &Code, body: &Body, what: &Instr) ->
         Instr::Return => push_word(into, "return"),
         Instr::Keep => push_word(into, "ok"),
         Instr::Back => push_word(into, "fail"),
+        Instr::Forget => push_word(into, "succeed"),
         Instr::Print(n) => push_numbered(into, "print", *n),
         Instr::Read => push_word(into, "read"),
         Instr::Stop => push_word(into, "stop"),

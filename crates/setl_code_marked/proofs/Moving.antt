@@ -14,17 +14,17 @@ use Rattle.setl_program.specs.Program.{Begin}
 use Rattle.setl_model_runs.specs.Variable.{Variable, Global, Own, Bound, is_variable}
 use Rattle.setl_model_runs.specs.VariableLaws.{same_variable, variable_itself}
 use Rattle.setl_model_runs.specs.Turns.{left_after}
-use Rattle.setl_model_runs.specs.Events.{Event, End, Returned, Printed, Kept, Back}
+use Rattle.setl_model_runs.specs.Events.{Event, End, Returned, Printed, Kept, Back, Forgot}
 use Rattle.setl_model_runs.specs.Run.{Store, Move, Moves, Halts}
 use Rattle.setl_model.specs.World.{World, branch, go_with}
 use Rattle.setl_model.specs.Core.{One, Two, Selected}
 use Rattle.setl_model.specs.Iterations.{Started, Starts, Refuses, items_of}
 use Rattle.setl_model.specs.Calls.{bindings}
 use Rattle.setl_model.specs.Places.{with_part_at_all, part_at_all, combined, Taken, TakesOut, IsEmpty, CannotTake, take_out}
-use Rattle.setl_code.specs.Code.{Bracket, Alteration, Putting, Combining, TakingOut, Instr, Push, PushAtom, PushEof, Load, Take, StoreIn, Operate, Alter, Decides, TestBool, Unless, Jump, DropTop, DupTop, PartsOf, BeginOver, NextOr, BeginOf, AddBelow, LeaveAll, PayRound, CallBody, ReturnTop, KeepAll, GoBack, PrintTop, ReadOne, StopRun, Step, Body, Code}
+use Rattle.setl_code.specs.Code.{Bracket, Alteration, Putting, Combining, TakingOut, Instr, Push, PushAtom, PushEof, Load, Take, StoreIn, Operate, Alter, Decides, TestBool, Unless, Jump, DropTop, DupTop, PartsOf, BeginOver, NextOr, BeginOf, AddBelow, LeaveAll, PayRound, CallBody, ReturnTop, KeepAll, GoBack, ForgetKept, PrintTop, ReadOne, StopRun, Step, Body, Code}
 use Rattle.setl_code.specs.Piece.{Is}
 use Rattle.setl_code.specs.CodeCore.{Held, There, Gone, Cells, held_in, Operand, Result, Iterator, PairIterator, Collecting, value_of, Popped, Pops, Lacks, popped, without_iterators, Activation, Copy, CodeCore, holding, held, write}
-use Rattle.setl_code.specs.Machine.{at_step, go_to, next, on_value, on_top, on_popped, on_held, on_rest, turn, with_outcome, store_in, store_whole, take_from, selected_by, alter, iterator, begin_over, next_or, Added, Adds, Refused, Nowhere, added, go_added, first_parts, take_apart, call_body, handed_back, return_to, go_back, push_read, decides, do_instr}
+use Rattle.setl_code.specs.Machine.{at_step, go_to, next, on_value, on_top, on_popped, on_held, on_rest, turn, with_outcome, store_in, store_whole, take_from, selected_by, alter, iterator, begin_over, next_or, Added, Adds, Refused, Nowhere, added, go_added, first_parts, take_apart, call_body, handed_back, return_to, go_back, forget_kept, push_read, decides, do_instr}
 use Rattle.setl_code.specs.Shapes.{successors}
 use Rattle.setl_code.specs.Sound.{ReadLater, reads, later, is_read, is_written, may_take}
 use Rattle.setl_code_marked.specs.Marked.{MarksBodies, Marked}
@@ -344,6 +344,12 @@ module _ (declared : List Variable) (c m : Code) (marking : Marked declared c m)
       backing_alike (k ∷ ks) [] xs w h = absurd h
       backing_alike (k ∷ ks) (l ∷ ls) xs w h = turns xs w _ _ (λ r. silent [] (Back ∷ []) _ _ (record { globals = h.0.globals; world = refl; now = record { same = ap (λ (a : Activation). record a { operands = Result (Some (bool false)) ∷ a.operands }) h.0.now.same; own = h.0.now.own }; callers = h.0.callers; kept = h.1 }))
 
+      forget_alike : (ks ls : List Copy) (xs : List Operand) (w : World) → Is b.steps at line ForgetKept → AlikeCopies (Dead declared c) ks ls → Both (forget_kept line ks (one xs w)) (forget_kept line ls (two xs w))
+      forget_alike [] [] xs w is h = halt
+      forget_alike [] (l ∷ ls) xs w is h = absurd h
+      forget_alike (k ∷ ks) [] xs w is h = absurd h
+      forget_alike (k ∷ ks) (l ∷ ls) xs w is h = silent [] (Forgot ∷ []) _ _ (record { globals = refl; world = refl; now = waits ForgetKept is xs (first []) (λ y. refl); callers = callers; kept = h.1 })
+
       -- ---- all
 
       pub instr_alike : (i : Instr) → Is b.steps at line i → Alike i
@@ -372,6 +378,7 @@ module _ (declared : List Variable) (c m : Code) (marking : Marked declared c m)
       instr_alike ReturnTop is xs w = return_alike is xs w
       instr_alike KeepAll is xs w = keep_alike is xs w
       instr_alike GoBack is xs w = backing_alike cs ds xs w kept
+      instr_alike ForgetKept is xs w = forget_alike cs ds xs w is kept
       instr_alike (PrintTop k) is xs w = pops (popped k [] xs) _ _ (λ vs ys. lands (PrintTop k) is (print_line vs) (Printed (print_line vs) ∷ []) (suc at) xs ys w (first []) (λ y. refl))
       instr_alike ReadOne is xs w = read_alike (read_denotation w.input) xs w is
       instr_alike StopRun is xs w = halt

@@ -1,7 +1,7 @@
 -- The code of statements and bodies is placed.
 use Rattle.std.proofs.Common.{ℕ, zero, suc, List}
 use Rattle.setl_model_runs.specs.Variable.{Variable}
-use Rattle.setl_program.specs.Program.{Selectors, no_selector, round_selector, brace_selector, Stmt, Assign, Update, AssignParts, TakeFrom, Perform, If, For, While, Quit, Continue, Fail, Stop, Pass, Return, Print, Read, Block, no_stmt, more_stmts}
+use Rattle.setl_program.specs.Program.{Selectors, no_selector, round_selector, brace_selector, Stmt, Assign, Update, AssignParts, TakeFrom, Perform, If, For, While, Quit, Continue, Fail, Succeed, Stop, Pass, Return, Print, Read, Block, no_stmt, more_stmts}
 use Rattle.setl_program.specs.Placed.{PlacedVariable, PlacedSelectors, PlacedStmt, PlacedBlock}
 use Rattle.setl_code.specs.Code.{Alteration, Putting, Combining, TakingOut}
 use Rattle.setl_code.specs.Generated.{selectors, alter, put, quit, stmt, block, main_code, procedure_code}
@@ -41,6 +41,7 @@ module _ (vars : List (List ℕ)) where
     stmt_placed Quit leaves line at g = quit_placed leaves line at
     stmt_placed Continue leaves line at g = tt
     stmt_placed Fail leaves line at g = tt
+    stmt_placed Succeed leaves line at g = tt
     stmt_placed Stop leaves line at g = tt
     stmt_placed Pass leaves line at g = tt
     stmt_placed (Return e) leaves line at g = (expr_placed vars e line at g, tt)

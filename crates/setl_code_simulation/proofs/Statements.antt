@@ -4,15 +4,15 @@ use Rattle.std.specs.Prelude.{slice_get}
 use Rattle.setl_value.specs.Datum.{Datum, bool, tuple, part_list}
 use Rattle.setl_text.specs.Reading.{Reading, Denotes, AtEnd, NotForm, TooWide, TooDeep, read_denotation}
 use Rattle.setl_model_runs.specs.Variable.{Variable}
-use Rattle.setl_program.specs.Program.{Slots, Expr, Exprs, no_expr, more_exprs, Iterators, no_iterator, more_iterators, Condition, no_condition, only_if, Stmt, Assign, Update, AssignParts, TakeFrom, Perform, If, For, While, Quit, Continue, Fail, Stop, Pass, Return, Print, Read, Block, no_stmt, more_stmts, Program}
+use Rattle.setl_program.specs.Program.{Slots, Expr, Exprs, no_expr, more_exprs, Iterators, no_iterator, more_iterators, Condition, no_condition, only_if, Stmt, Assign, Update, AssignParts, TakeFrom, Perform, If, For, While, Quit, Continue, Fail, Succeed, Stop, Pass, Return, Print, Read, Block, no_stmt, more_stmts, Program}
 use Rattle.setl_program.specs.Formed.{FormedExprs, FormedStmt, FormedBlock, Formed, FormedExpr, FormedVariables, IsInLoop}
 use Rattle.setl_model.specs.Core.{Shared, Hand, Execute, Evaluate, Result, Repeat, Sources, Takes, AssignRight, UpdateRight, PartsRight, IfTest, WhileTest, PrintParts, Returning, Dropping, Frame, InIteration, InStmt, Then, Snapshot}
-use Rattle.setl_model.specs.Statements.{fail, take_reading}
+use Rattle.setl_model.specs.Statements.{fail, succeed, take_reading}
 use Rattle.setl_code.specs.Code.{PrintTop, Code, TakingOut}
 use Rattle.setl_code.specs.Piece.{Labels, past, Stands, ◌⨾◌, one, either, nothing}
 use Rattle.setl_code.specs.Generated.{store_slots, parts, levels, count_from, expr, exprs, iterators, stmt, block, read_all, quit}
 use Rattle.setl_code.specs.CodeCore.{Cells, Operand, value_of, Copy, without_iterators}
-use Rattle.setl_code.specs.Machine.{go_back, push_read, go_to}
+use Rattle.setl_code.specs.Machine.{go_back, forget_kept, push_read, go_to}
 use Rattle.setl_code_simulation.specs.Follow.{Related, moves, halts, by_step, after_step, by_none}
 use Rattle.setl_code_simulation.specs.Matches.{Where, steps_in, around, Loop, in_loop, Holds, none, more, filled, fills, inside, FormedWaiting, putting, combining, parting_right, printing, if_test, while_test, dropped, returned, returning, source, AfterBlock, last, ends, rest, loop, body, block_jumps, Levels, outside, repeating, stmt_done, Copies, no_copy, more_copy, got, evaluating, executing, rounding, storing, iterating, Matches, rank_block, takes, past_rest}
 use Rattle.setl_code_simulation.specs.States.{without_arguments, with_arguments}
@@ -74,6 +74,12 @@ module _ (c : Code) (pr : Program) (coded : Coded c pr) (formed : Formed pr) whe
   failed line g o s p at xs ks ls hand w ss zs no_copy = halts
   failed line g o s p at xs ks ls hand w ss zs (more_copy globals own next kept) =
       turns c pr.procedures (code_core g o s.world p at xs ls) (core s hand w zs) refl _ _ (λ n. moves (record { world = refl; globals = globals; own = own; kept = kept; place = got refl next }))
+
+  -- the latest copy is forgotten
+  succeeded : (line : ℕ) (q : Loop) (g o : Cells) (s : Shared) (p : Where) (at : ℕ) (xs : List Operand) (ks ls : List Copy) (hand : Hand) (u w : List Frame) (ss zs : List Snapshot) → Same c pr.procedures g o s ls zs → Copies c pr.procedures ks ss → AfterBlock c pr.procedures p q (suc at) xs w → Related (Matches c pr.procedures) (forget_kept line ks (code_core g o s.world p at xs ls)) (succeed line ss w (core s hand u zs))
+  succeeded line q g o s p at xs ks ls hand u w ss zs same no_copy after = halts
+  succeeded line q g o s p at xs ks ls hand u w ss zs same (more_copy globals own next kept) after =
+      moves (matched c pr.procedures (record { globals = same.globals; own = same.own; kept = kept }) (executing {b = no_stmt} q tt tt after))
 
   -- a value is read, or the input has none
   read_one : (r : Reading) (line : ℕ) (x : Variable) (xs : List Variable) (q : Loop) (g o : Cells) (s : Shared) (p : Where) (at : ℕ) (ys : List Operand) (ks : List Copy) (hand : Hand) (u w : List Frame) (ss : List Snapshot) → Same c pr.procedures g o s ks ss → Stands (steps_in c p) q.labels (suc at) ((store_slots line (Some x ∷ []) ⨾ read_all line xs) (suc at)) → AfterBlock c pr.procedures p q (past (suc at) ((store_slots line (Some x ∷ []) ⨾ read_all line xs) (suc at))) ys w → FormedVariables p.body xs → Related (Matches c pr.procedures) (push_read r line (code_core g o s.world p at ys ks)) (take_reading r line x xs w (core s hand u ss))
@@ -139,6 +145,8 @@ module _ (c : Code) (pr : Program) (coded : Coded c pr) (formed : Formed pr) whe
       rw here.0 (by_step tt (subst (λ m. Related (Matches c pr.procedures) (go_to q.labels.again xs (code_core g o s.world p at xs ks)) m) (sym (to.goes (core s (Execute (more_stmts line Continue r)) w ss))) (moves (matched c pr.procedures same to.place))))
   stmt_answered Fail line r q g o s p at xs ks w ss same f fr here after later =
       rw here.0 (by_step tt (failed line g o s p at xs ks ks (Execute (more_stmts line Fail r)) w ss ss same.kept))
+  stmt_answered Succeed line r q g o s p at xs ks w ss same f fr here after later =
+      rw here.0 (by_step tt (succeeded line q g o s p at xs ks ks (Execute (more_stmts line Succeed r)) w (Then r ∷ w) ss ss same same.kept (rest fr here.1 after)))
   stmt_answered Stop line r q g o s p at xs ks w ss same f fr here after later = rw here.0 (by_step tt halts)
   stmt_answered Pass line r q g o s p at xs ks w ss same f fr here after later =
       after_step {r' = 0} (core s (Execute no_stmt) (Then r ∷ w) ss) refl (refl, refl) (after_step {r' = _} (core s (Execute r) w ss) refl (refl, refl) later)

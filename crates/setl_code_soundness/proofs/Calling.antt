@@ -1,4 +1,4 @@
--- Calls, returns, `ok`, `fail` and takes of sound code.
+-- Calls, returns, `ok`, `fail`, `succeed` and takes of sound code.
 use Rattle.std.proofs.Common.{◌≡◌, ◌<◌, ℕ, suc, Bool, true, false, List, [], ◌∷◌, ◌⊎◌, inl, inr, length, Option, Some, None, refl, sym, ap, ◌∙◌, subst, arith}
 use Rattle.std.specs.Prelude.{slice_get, cond}
 use Rattle.setl_value.specs.Datum.{Datum}
@@ -6,10 +6,10 @@ use Rattle.setl_model_runs.specs.Variable.{Variable, Global, Own, Bound, is_vari
 use Rattle.setl_model_runs.specs.VariableLaws.{same_variable, variable_itself}
 use Rattle.setl_program.specs.Program.{Parameter}
 use Rattle.setl_model.specs.Calls.{parameter, bindings}
-use Rattle.setl_code.specs.Code.{Take, CallBody, ReturnTop, KeepAll, GoBack, Body, Code}
+use Rattle.setl_code.specs.Code.{Take, CallBody, ReturnTop, KeepAll, GoBack, ForgetKept, Body, Code}
 use Rattle.setl_code.specs.CodeCore.{There, Gone, Cells, held_in, with_held, cleared, variables_of, Operand, Result, Activation, Copy, CodeCore, write}
 use Rattle.setl_code.specs.CellLaws.{held_after}
-use Rattle.setl_code.specs.Machine.{do_instr, call_body, return_to, go_back}
+use Rattle.setl_code.specs.Machine.{do_instr, call_body, return_to, go_back, forget_kept}
 use Rattle.setl_code.specs.Shapes.{AResult, Shape, call_outs, without_results, results, handed}
 use Rattle.setl_code.specs.Sound.{all_said, is_fine, ReadLater}
 use Rattle.setl_code.specs.Ready.{HaveShape, IsOwn, AtWork, Waiting, AllKept, Ready}
@@ -130,7 +130,7 @@ module _ (c : Code) (declared : List Variable) (k : CodeCore) (r : Ready c decla
       let top = topped k.now.operands r.now.shape t.0 (here c declared k r line) t.1 in
       rw (top.is, r.now.is) (returning is top.value k.callers refl r.callers)
 
-  -- ---- `ok` and `fail`
+  -- ---- `ok`, `fail` and `succeed`
 
   pub keep_fine : Here c declared k r line KeepAll → FineMove c declared k r (do_instr c line KeepAll k)
   keep_fine is =
@@ -164,6 +164,25 @@ module _ (c : Code) (declared : List Variable) (k : CodeCore) (r : Ready c decla
 
   pub back_fine : Here c declared k r line GoBack → FineMove c declared k r (do_instr c line GoBack k)
   back_fine is = backing k.kept r.kept
+
+  forgetting : (ks : List Copy) → AllKept c declared ks → Here c declared k r line ForgetKept → FineMove c declared k r (forget_kept line ks k)
+  forgetting [] kept is = tt
+  forgetting (copy ∷ older) kept is =
+      let s = there (T c declared k r line) (suc k.now.at) r.now.shape (parts _ true (fine c declared k r line ForgetKept is)).0 in
+      let unread : (y : Variable) → IsOwn y → held_in k.now.own y ≡ Gone → ReadLater k.now.body r.now.body y (suc k.now.at) → ⊥ = λ y mine gone. still c declared k r line ForgetKept is (suc k.now.at) (first []) y refl mine gone in
+      let down = (lower c declared k r line ForgetKept is).0 in (
+        record {
+          sound = r.sound;
+          globals = r.globals;
+          now = record { body = r.now.body; is = r.now.is; sound = r.now.sound; shape = s.0; reached = s.1; below = r.now.shape; operands = here c declared k r line; fits = s.2; taken = unread };
+          callers = r.callers;
+          kept = kept.3;
+        },
+        moves_on (same_turns c declared k r line) (omega arith) down,
+      )
+
+  pub forget_fine : Here c declared k r line ForgetKept → FineMove c declared k r (do_instr c line ForgetKept k)
+  forget_fine is = forgetting k.kept r.kept is
 
   -- ---- takes
 

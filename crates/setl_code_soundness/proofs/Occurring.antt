@@ -1,7 +1,7 @@
 -- The variables that stand in a formed body are of that body, or of the whole program.
 use Rattle.std.proofs.Common.{Bool, List, [], ◌∷◌, ◌++◌, Some, None}
 use Rattle.setl_model_runs.specs.Variable.{Variable}
-use Rattle.setl_program.specs.Program.{Slots, Binding, Member, Components, Point, Expr, Literal, Undefined, Name, Apply, Connect, Choose, Former, Selection, Quantified, Call, Newat, Eof, Ok, Exprs, no_expr, more_exprs, Iterators, no_iterator, more_iterators, Condition, no_condition, only_if, Arguments, no_argument, rd_argument, wr_argument, rw_argument, Selectors, no_selector, round_selector, brace_selector, Stmt, Assign, Update, AssignParts, TakeFrom, Perform, If, For, While, Quit, Continue, Fail, Stop, Pass, Return, Print, Read, Block, no_stmt, more_stmts}
+use Rattle.setl_program.specs.Program.{Slots, Binding, Member, Components, Point, Expr, Literal, Undefined, Name, Apply, Connect, Choose, Former, Selection, Quantified, Call, Newat, Eof, Ok, Exprs, no_expr, more_exprs, Iterators, no_iterator, more_iterators, Condition, no_condition, only_if, Arguments, no_argument, rd_argument, wr_argument, rw_argument, Selectors, no_selector, round_selector, brace_selector, Stmt, Assign, Update, AssignParts, TakeFrom, Perform, If, For, While, Quit, Continue, Fail, Succeed, Stop, Pass, Return, Print, Read, Block, no_stmt, more_stmts}
 use Rattle.setl_program.specs.Formed.{Around, FormedVariable, FormedSlots, FormedBinding, FormedExpr, FormedExprs, FormedIterators, FormedCondition, FormedArguments, FormedSelectors, FormedVariables, FormedStmt, FormedBlock}
 use Rattle.setl_model.specs.Slots.{variables_in}
 use Rattle.setl_code.specs.Names.{around, in_expr, in_exprs, in_iterators, in_condition, in_arguments, in_selectors, in_stmt, in_block}
@@ -78,6 +78,7 @@ module _ (a : Around) where
     of_stmt Quit l f = tt
     of_stmt Continue l f = tt
     of_stmt Fail l f = tt
+    of_stmt Succeed l f = tt
     of_stmt Stop l f = tt
     of_stmt Pass l f = tt
     of_stmt (Return e) l f = of_expr e f.1

@@ -5,7 +5,7 @@ use Rattle.setl_model_runs.specs.Variable.{Variable, Global, Own, Bound}
 use Rattle.setl_model_runs.specs.Events.{Unfit, End, Stopped, Stuck}
 use Rattle.setl_model_runs.specs.Run.{Store, Move, Moves, Halts, State, Next, Goes, Ends, Test, if_fits, stored, store_all, settle, step, and_then, run}
 use Rattle.setl_model.specs.Step.{test_of}
-use Rattle.setl_code.specs.Code.{Instr, Push, PushAtom, PushEof, Load, Take, StoreIn, Operate, Alter, Decides, TestBool, Unless, Jump, DropTop, DupTop, PartsOf, BeginOver, NextOr, BeginOf, AddBelow, LeaveAll, PayRound, CallBody, ReturnTop, KeepAll, GoBack, PrintTop, ReadOne, StopRun, Step, Body, Code}
+use Rattle.setl_code.specs.Code.{Instr, Push, PushAtom, PushEof, Load, Take, StoreIn, Operate, Alter, Decides, TestBool, Unless, Jump, DropTop, DupTop, PartsOf, BeginOver, NextOr, BeginOf, AddBelow, LeaveAll, PayRound, CallBody, ReturnTop, KeepAll, GoBack, ForgetKept, PrintTop, ReadOne, StopRun, Step, Body, Code}
 use Rattle.setl_code.specs.Piece.{Is}
 use Rattle.setl_code.specs.CodeCore.{Gone, variables_of, CodeCore, held}
 use Rattle.setl_code.specs.Machine.{do_instr, body_steps, machine}
@@ -16,7 +16,7 @@ use Rattle.setl_code.specs.Ready.{Ready}
 use Rattle.setl_code_soundness.specs.Claims.{IsNotStuck, GoesOn, StartsReady, StaysReady, ReachedAreReady, ReadyFinds, EveryCodeRunEnds, NoCodeIsStuck}
 use Rattle.setl_code_soundness.proofs.Moving.{not_taken, write_all, takes_turn, returns, moves_on, height, Leads, FineMove}
 use Rattle.setl_code_soundness.proofs.Instructions.{T, Here, fine, here, push_fine, eof_fine, atom_fine, load_fine, begin_of_fine, read_fine, store_fine, drop_fine, dup_fine, operate_fine, print_fine, parts_fine, jump_fine, test_fine, unless_fine, decides_fine, alter_fine, begin_fine, next_fine, add_fine, leave_fine, round_fine}
-use Rattle.setl_code_soundness.proofs.Calling.{NoneGone, all_there, call_fine, return_fine, keep_fine, back_fine, take_fine}
+use Rattle.setl_code_soundness.proofs.Calling.{NoneGone, all_there, call_fine, return_fine, keep_fine, back_fine, forget_fine, take_fine}
 
 -- a place that the table of a body knows has a step
 step_there : (T : Table) (ss : List Step) (at : ℕ) (s : Shape) → length T ≡ length ss → shape_at T at ≡ Some s → (st : Step) × (slice_get ss at ≡ Some st)
@@ -54,6 +54,7 @@ module _ (c : Code) (declared : List Variable) where
   instr_fine ReturnTop k r line is = return_fine c declared k r line is
   instr_fine KeepAll k r line is = keep_fine c declared k r line is
   instr_fine GoBack k r line is = back_fine c declared k r line is
+  instr_fine ForgetKept k r line is = forget_fine c declared k r line is
   instr_fine (PrintTop n) k r line is = print_fine c declared k r line n is
   instr_fine ReadOne k r line is = read_fine c declared k r line is
   instr_fine StopRun k r line is = tt

@@ -1,9 +1,9 @@
 -- The code of statements and of bodies keeps shapes and falls in height.
 use Rattle.std.proofs.Common.{◌≡◌, ◌<◌, ℕ, zero, suc, Bool, true, false, List, [], ◌∷◌, length, Option, Some, refl, sym, ap, ◌∙◌, subst, arith}
 use Rattle.setl_model_runs.specs.Variable.{Variable}
-use Rattle.setl_program.specs.Program.{Selectors, no_selector, round_selector, brace_selector, Stmt, Assign, Update, AssignParts, TakeFrom, Perform, If, For, While, Quit, Continue, Fail, Stop, Pass, Return, Print, Read, Block, no_stmt, more_stmts, Procedure}
+use Rattle.setl_program.specs.Program.{Selectors, no_selector, round_selector, brace_selector, Stmt, Assign, Update, AssignParts, TakeFrom, Perform, If, For, While, Quit, Continue, Fail, Succeed, Stop, Pass, Return, Print, Read, Block, no_stmt, more_stmts, Procedure}
 use Rattle.setl_program.specs.Formed.{FormedSelectors, InProcedure, FormedStmt, FormedBlock}
-use Rattle.setl_code.specs.Code.{Alteration, Putting, Combining, TakingOut, Alter, LeaveAll, ReturnTop, GoBack, PrintTop, ReadOne, StopRun, Body}
+use Rattle.setl_code.specs.Code.{Alteration, Putting, Combining, TakingOut, Alter, LeaveAll, ReturnTop, GoBack, ForgetKept, PrintTop, ReadOne, StopRun, Body}
 use Rattle.setl_code.specs.Piece.{jumps_on}
 use Rattle.setl_code.specs.Generated.{count, levels, selectors, brackets, alter, put, read_all, quit, stmt, block}
 use Rattle.setl_code.specs.Shapes.{AResult, Shape, on_to, alter_outs, without_levels, results}
@@ -90,6 +90,7 @@ module _ (bs : List Body) (n : ℕ) (ps : List Procedure) (has : HasBodies bs ps
     stmt_checked true leaves line Continue f loop = continue_checked line leaves loop
     stmt_checked false leaves line Continue f loop = absurd f
     stmt_checked l leaves line Fail f loop = stops GoBack (λ at. refl) (λ at. refl) tt tt
+    stmt_checked l leaves line Succeed f loop = goes ForgetKept (λ at. refl) (λ hs h at less. (less, tt)) tt tt
     stmt_checked l leaves line Stop f loop = stops StopRun (λ at. refl) (λ at. refl) tt tt
     stmt_checked l leaves line Pass f loop = no_code
     stmt_checked l leaves line (Return e) f loop = then_ (expr_checked bs n ps has line e f.1) (stops ReturnTop (λ at. refl) (λ at. refl) (in_procedure n f.0) tt)

@@ -18,9 +18,9 @@ use Rattle.setl_model.specs.Core.{One, Two, Selected}
 use Rattle.setl_model.specs.Iterations.{Started, Starts, Refuses, items_of}
 use Rattle.setl_model.specs.Places.{Taken, TakesOut, IsEmpty, CannotTake, take_out, part_at_all}
 use Rattle.setl_model_turns.specs.PlaceLaws.{parts_keep, wholes_keep, combined_keep}
-use Rattle.setl_code.specs.Code.{Alteration, Putting, Combining, TakingOut, Instr, Push, PushAtom, PushEof, Load, Take, StoreIn, Operate, Alter, Decides, TestBool, Unless, Jump, DropTop, DupTop, PartsOf, BeginOver, NextOr, BeginOf, AddBelow, LeaveAll, PayRound, CallBody, ReturnTop, KeepAll, GoBack, PrintTop, ReadOne, StopRun, Step, Body, Code}
+use Rattle.setl_code.specs.Code.{Alteration, Putting, Combining, TakingOut, Instr, Push, PushAtom, PushEof, Load, Take, StoreIn, Operate, Alter, Decides, TestBool, Unless, Jump, DropTop, DupTop, PartsOf, BeginOver, NextOr, BeginOf, AddBelow, LeaveAll, PayRound, CallBody, ReturnTop, KeepAll, GoBack, ForgetKept, PrintTop, ReadOne, StopRun, Step, Body, Code}
 use Rattle.setl_code.specs.CodeCore.{Gone, Operand, Result, Iterator, PairIterator, Collecting, popped, without_iterators, Activation, Copy, CodeCore, held, write, cleared, variables_of}
-use Rattle.setl_code.specs.Machine.{go_to, next, store_in, selected_by, store_whole, take_from, alter, begin_over, next_or, Added, Adds, Refused, Nowhere, added, go_added, take_apart, call_body, handed_back, return_to, keep_all, go_back, push_read, print_values, decides, do_instr, do_step}
+use Rattle.setl_code.specs.Machine.{go_to, next, store_in, selected_by, store_whole, take_from, alter, begin_over, next_or, Added, Adds, Refused, Nowhere, added, go_added, take_apart, call_body, handed_back, return_to, keep_all, go_back, forget_kept, push_read, print_values, decides, do_instr, do_step}
 use Rattle.setl_code_turns.specs.Laws.{with_more}
 use Rattle.setl_code_turns.proofs.Moves.{Follows, GoesOn, after_a_turn, after_outcome, deciding, on_the_top, on_those_popped, on_what_is_held, on_the_rest}
 
@@ -135,6 +135,10 @@ module _ (d : ℕ) (some : 0 < d) where
       0 [])
       (λ e. (refl, omega arith)) k
 
+  forgetting : (line : ℕ) (cs : List Copy) → GoesOn d (forget_kept line cs)
+  forgetting line [] k = refl
+  forgetting line (c ∷ older) k = (refl, omega arith)
+
   -- ---- reading
 
   reading : (r : Reading) (line : ℕ) → GoesOn d (push_read r line)
@@ -181,6 +185,7 @@ module _ (d : ℕ) (some : 0 < d) where
   doing c line ReturnTop k = on_the_top k.world.left d k.now.operands _ _ (λ v xs. returning (slice_get c.bodies k.now.body) v k.callers k)
   doing c line KeepAll k = (refl, omega arith)
   doing c line GoBack k = going_back line k.kept k
+  doing c line ForgetKept k = forgetting line k.kept k
   doing c line (PrintTop n) k = on_those_popped k.world.left d (popped n [] k.now.operands) _ _ (λ vs xs. (refl, omega arith))
   doing c line ReadOne k = reading (read_denotation k.world.input) line k
   doing c line StopRun k = refl

@@ -25,9 +25,9 @@ use Rattle.setl_model.specs.Iterations.{Started, Starts, Refuses, items_of}
 use Rattle.setl_model.specs.Places.{with_part_at_all, part_at_all, combined, Taken, TakesOut, IsEmpty, CannotTake, take_out}
 use Rattle.setl_model.specs.World.{branch, go_with}
 use Rattle.setl_model_values.specs.ModelValues.{AreBytes, SelectorsAreValues, ItemIsValue, PlacesFit, ReadingsGiveValues, PartsGiveValues, WholesGiveValues, CombinationsGiveValues, TakingsGiveValues, ItemsAreValues, AreAdmitted, CollectionsAreValues}
-use Rattle.setl_code.specs.Code.{Bracket, InRound, InBrace, Alteration, Putting, Combining, TakingOut, Instr, Push, PushAtom, PushEof, Load, Take, StoreIn, Operate, Alter, Decides, TestBool, Unless, Jump, DropTop, DupTop, PartsOf, BeginOver, NextOr, BeginOf, AddBelow, LeaveAll, PayRound, CallBody, ReturnTop, KeepAll, GoBack, PrintTop, ReadOne, StopRun, Step, Body, Code}
+use Rattle.setl_code.specs.Code.{Bracket, InRound, InBrace, Alteration, Putting, Combining, TakingOut, Instr, Push, PushAtom, PushEof, Load, Take, StoreIn, Operate, Alter, Decides, TestBool, Unless, Jump, DropTop, DupTop, PartsOf, BeginOver, NextOr, BeginOf, AddBelow, LeaveAll, PayRound, CallBody, ReturnTop, KeepAll, GoBack, ForgetKept, PrintTop, ReadOne, StopRun, Step, Body, Code}
 use Rattle.setl_code.specs.CodeCore.{Held, There, Gone, Cells, held_in, Operand, Result, Iterator, PairIterator, Collecting, value_of, Popped, Pops, Lacks, popped, without_iterators, cleared, variables_of, Activation, Copy, CodeCore, holding, held, write}
-use Rattle.setl_code.specs.Machine.{next, go_to, on_value, on_top, on_popped, on_held, on_rest, turn, with_outcome, store_in, selected_by, store_whole, take_from, alter, iterator, begin_over, next_or, Added, Adds, Refused, Nowhere, add_by, below, added, go_added, first_parts, take_apart, call_body, push_held, hand, handed_back, return_to, go_back, push_read, print_values, decides, do_instr, do_step, body_steps, fetch, machine}
+use Rattle.setl_code.specs.Machine.{next, go_to, on_value, on_top, on_popped, on_held, on_rest, turn, with_outcome, store_in, selected_by, store_whole, take_from, alter, iterator, begin_over, next_or, Added, Adds, Refused, Nowhere, add_by, below, added, go_added, first_parts, take_apart, call_body, push_held, hand, handed_back, return_to, go_back, forget_kept, push_read, print_values, decides, do_instr, do_step, body_steps, fetch, machine}
 use Rattle.setl_code_values.specs.Laws.{RunCounts, last_state, RunsStand}
 use Rattle.setl_code_values.specs.Standing.{HeldStands, CellsStand, OperandStands, OperandsStand, ActivationStands, CopyStands, CoreStands, EventStands, StateStands, InstrStands, BodyStands, CodeStands, PoppedFit, InstrCounts, StepCounts}
 use Rattle.setl_code_values.proofs.Cells.{cleared_stand, write_stands, held_in_stands, held_stands, operand_value, PoppedStands, popped_stands, line_bytes}
@@ -287,6 +287,10 @@ go_back_goes line (c ∷ older) k f g =
     0 [])
     (λ n p. (tt, (tt, tt), (g.0.0, (g.0.1.0, (a_boolean false, g.0.1.1)), g.0.2, g.1, (f.4.0, omega (arith, p, f.4.1))), tt))
 
+forget_goes : (line : ℕ) (copies : List Copy) (k : CodeCore) → CoreStands k → AllByRecursion CopyStands copies → MoveStands (forget_kept line copies k)
+forget_goes line [] k f g = tt
+forget_goes line (c ∷ older) k f g = (tt, (tt, tt), (f.0, f.1, f.2, g.1, f.4), tt)
+
 read_goes : (r : Reading) (line : ℕ) (k : CodeCore) → CoreStands k → ((v : Option Datum) (rest : List ℕ) → r ≡ Denotes v rest → IsValueOrOm v × AreBytes rest) → MoveStands (push_read r line k)
 read_goes (Denotes v rest) line k f h = let r = h v rest refl in (tt, tt, (f.0, (f.1.0, (r.0, f.1.1)), f.2, f.3, (r.1, f.4.1)), tt)
 read_goes AtEnd line k f h = (tt, tt, (f.0, (f.1.0, (tt, f.1.1)), f.2, f.3, (tt, f.4.1)), tt)
@@ -344,6 +348,7 @@ instr_goes l c line ReturnTop k s p f =
     top_goes l k.now.operands (λ v xs. return_to (slice_get c.bodies k.now.body) v k k.callers) f.1.1 (λ v xs h a. return_goes (slice_get c.bodies k.now.body) v k k.callers f h f.2)
 instr_goes l c line KeepAll k s p f = (tt, (tt, tt), (f.0, (f.1.0, (a_boolean true, f.1.1)), f.2, ((f.0, f.1, f.2), f.3), f.4), tt)
 instr_goes l c line GoBack k s p f = go_back_goes line k.kept k f f.3
+instr_goes l c line ForgetKept k s p f = forget_goes line k.kept k f f.3
 instr_goes l c line (PrintTop n) k s p f =
     any_popped (popped n [] k.now.operands) (λ vs xs. print_values vs xs k) (popped_stands l.collected n [] k.now.operands tt f.1.1)
     (λ vs xs h a. let said = line_bytes vs h in (said, (said, tt), (f.0, (f.1.0, a), f.2, f.3, f.4), tt))

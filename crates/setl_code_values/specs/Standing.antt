@@ -4,7 +4,7 @@ use Rattle.std.specs.List.{AllByRecursion}
 use Rattle.setl_value.specs.Datum.{Datum}
 use Rattle.setl_operators_laws.specs.TupleValues.{PartStands}
 use Rattle.setl_operators_laws.specs.ValueLaws.{IsValueOrOm, CountFits}
-use Rattle.setl_model_runs.specs.Events.{Event, Called, Returned, Stored, Printed, Kept, Back}
+use Rattle.setl_model_runs.specs.Events.{Event, Called, Returned, Stored, Printed, Kept, Back, Forgot}
 use Rattle.setl_model_runs.specs.Run.{State}
 use Rattle.setl_model.specs.World.{World}
 use Rattle.setl_model_values.specs.ModelValues.{AreBytes, ItemIsValue, PlacesFit}
@@ -49,6 +49,7 @@ EventStands (Called line name) = Unit {0}
 EventStands (Returned name) = Unit {0}
 EventStands Kept = Unit {0}
 EventStands Back = Unit {0}
+EventStands Forgot = Unit {0}
 
 abbrev pub StateStands : State CodeCore → Type 0
 StateStands s = CoreStands s.core × AreBytes s.out × AllByRecursion EventStands s.events

@@ -1,12 +1,12 @@
 -- Which values the stores of a run enter into a base.
-use Rattle.std.specs.Prelude.{◌≡◌, refl, pos, ℕ, List, [], ◌∷◌, length, take, Option, Some, None}
+use Rattle.std.specs.Prelude.{◌≡◌, refl, pos, ℕ, List, [], ◌∷◌, length, take, drop, Option, Some, None}
 use Rattle.setl_value.specs.Datum.{Datum, int, set_of}
 use Rattle.setl_value.specs.Pairs.{pair}
 use Rattle.setl_modes.specs.declared.mode.Form.TheVariants.{Sparse, Remote}
 use Rattle.setl_model_runs.specs.Variable.{Variable}
 use Rattle.setl_modes.specs.Modes.{Mode, Integers, Elements, Sets, MultiMaps}
 use Rattle.setl_modes_places.specs.Places.{places_of, lengthened}
-use Rattle.setl_model_runs.specs.Events.{Event, Stored, Kept, Back}
+use Rattle.setl_model_runs.specs.Events.{Event, Stored, Kept, Back, Forgot}
 use Rattle.setl_model.specs.Step.{declared_mode}
 
 -- ---- the values that a store enters
@@ -19,8 +19,8 @@ elements_of_store b (Some m) (Some d) = places_of b m d
 
 -- ---- the members of a base by the events of a run
 
--- The members of a base, by their block numbers from 1, and how many it had at each `ok` to which no `fail` has gone
--- back yet, the latest first.
+-- The members of a base, by their block numbers from 1, and how many it had at each `ok` that is still kept, the latest
+-- first.
 pub record Base : Type 0 where
   pub members : List Datum
   pub kept : List ℕ
@@ -34,6 +34,7 @@ abbrev pub with_event : List (Variable × Mode) → ℕ → Base → Event → B
 with_event modes b s (Stored line x v) = record s { members = lengthened s.members (elements_of_store b (declared_mode modes x) v) }
 with_event modes b s Kept = record s { kept = length s.members ∷ s.kept }
 with_event modes b s Back = cut_back s.kept s
+with_event modes b s Forgot = record s { kept = drop 1 s.kept }
 with_event modes b s e = s
 
 abbrev pub after_events : List (Variable × Mode) → ℕ → Base → List Event → Base

@@ -3,8 +3,8 @@ use Rattle.std.specs.Prelude.{ℕ, true, false, List, [], ◌∷◌, reverse, Op
 use Rattle.setl_value.specs.Datum.{Datum, bool}
 use Rattle.setl_model_runs.specs.Variable.{Variable}
 use Rattle.setl_text.specs.Reading.{Reading, Denotes, AtEnd, NotForm, TooWide, TooDeep, read_denotation}
-use Rattle.setl_program.specs.Program.{Exprs, no_expr, more_exprs, Stmt, Assign, Update, AssignParts, TakeFrom, Perform, If, For, While, Quit, Continue, Fail, Stop, Pass, Return, Print, Read, Block, no_stmt, more_stmts}
-use Rattle.setl_model_runs.specs.Events.{Printed, Back, Done, Stuck, Stopped, Form, Wide, Deep, Nothing}
+use Rattle.setl_program.specs.Program.{Exprs, no_expr, more_exprs, Stmt, Assign, Update, AssignParts, TakeFrom, Perform, If, For, While, Quit, Continue, Fail, Succeed, Stop, Pass, Return, Print, Read, Block, no_stmt, more_stmts}
+use Rattle.setl_model_runs.specs.Events.{Printed, Back, Forgot, Done, Stuck, Stopped, Form, Wide, Deep, Nothing}
 use Rattle.setl_model_runs.specs.Run.{Move, Moves, Halts}
 use Rattle.setl_model.specs.Core.{Execute, Evaluate, Result, Iterate, Goal, Repeat, Iteration, Body, Paused, Activation, Puts, Combines, Takes, StmtFrame, AssignRight, UpdateRight, PartsRight, RoundSelector, BraceSelector, IfTest, WhileTest, WhileBody, PrintParts, Returning, Dropping, Round, Brace, Frame, InIteration, InCall, InStmt, Storing, Then, Snapshot, Core}
 use Rattle.setl_model.specs.World.{World, stop, branch}
@@ -80,6 +80,11 @@ fail line (s ∷ older) c =
     })
     0 [])
 
+-- `succeed`: the latest snapshot leaves what is kept, and all changes stay
+abbrev pub succeed : ℕ → List Snapshot → List Frame → Core → Move Core
+succeed line [] work c = Halts (Stopped Nothing line)
+succeed line (s ∷ older) work c = Moves [] (Forgot ∷ []) (record c { hand = Execute no_stmt; work = work; kept = older }) 0 []
+
 -- a statement in hand, over the frames that wait for its end
 abbrev pub perform : ℕ → Stmt → List Frame → Core → Move Core
 perform line (Assign p e) work c = go (Evaluate e) (InStmt line (AssignRight p) ∷ work) c
@@ -93,6 +98,7 @@ perform line (While e b) work c = go (Evaluate e) (InStmt line (WhileTest e b) �
 perform line Quit work c = quit work c
 perform line Continue work c = continue_loop work c
 perform line Fail work c = fail line c.kept c
+perform line Succeed work c = succeed line c.kept work c
 perform line Stop work c = Halts Done
 perform line Pass work c = go (Execute no_stmt) work c
 perform line (Return e) work c = go (Evaluate e) (InStmt line Returning ∷ work) c

@@ -9,7 +9,7 @@ pub data Event : Type 0 where
   Returned : (name : List ℕ) → Event
   Stored : (line : ℕ) (variable : Variable) (value : Option Datum) → Event
   Printed : (bytes : List ℕ) → Event
-  Kept Back : Event
+  Kept Back Forgot : Event
 
 -- Why a run stops.
 pub data StopKind : Type 0 where
@@ -18,7 +18,7 @@ pub data StopKind : Type 0 where
   Form : StopKind
   -- a value doesn't fit the declaration of this variable
   Unfit : Variable → StopKind
-  -- `fail` with nothing kept
+  -- `fail` or `succeed` with nothing kept
   Nothing : StopKind
 
 -- How a run ends. No accepted program is stuck.

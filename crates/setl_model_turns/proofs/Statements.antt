@@ -2,11 +2,11 @@
 use Rattle.std.proofs.Common.{refl, ℕ, List, [], ◌∷◌, Option}
 use Rattle.setl_value.specs.Datum.{Datum}
 use Rattle.setl_text.specs.Reading.{Reading, Denotes, AtEnd, NotForm, TooWide, TooDeep, read_denotation}
-use Rattle.setl_program.specs.Program.{Exprs, no_expr, more_exprs, Stmt, Assign, Update, AssignParts, TakeFrom, Perform, If, For, While, Quit, Continue, Fail, Stop, Pass, Return, Print, Read, Block, no_stmt, more_stmts}
+use Rattle.setl_program.specs.Program.{Exprs, no_expr, more_exprs, Stmt, Assign, Update, AssignParts, TakeFrom, Perform, If, For, While, Quit, Continue, Fail, Succeed, Stop, Pass, Return, Print, Read, Block, no_stmt, more_stmts}
 use Rattle.setl_model_runs.specs.Variable.{Variable}
 use Rattle.setl_model.specs.Core.{Execute, Goal, Collect, Select, Decide, Repeat, Iteration, Sources, ToBind, IsBound, Testing, Body, Paused, Argument, Activation, Puts, Combines, Takes, StmtFrame, AssignRight, UpdateRight, PartsRight, RoundSelector, BraceSelector, IfTest, WhileTest, WhileBody, PrintParts, Returning, Dropping, Round, Brace, Frame, InExpr, InIteration, InCall, InStmt, Storing, Then, Snapshot}
 use Rattle.setl_model.specs.Slots.{Parting, Parted, NotParted, parting}
-use Rattle.setl_model.specs.Statements.{print_parts, take_reading, read_values, take_apart, quit, continue_loop, return_value, fail, perform, end_of_body, after_all, execute, result_in_stmt}
+use Rattle.setl_model.specs.Statements.{print_parts, take_reading, read_values, take_apart, quit, continue_loop, return_value, fail, succeed, perform, end_of_body, after_all, execute, result_in_stmt}
 use Rattle.setl_model_turns.proofs.Moves.{GoesOn, going, after_a_turn, deciding}
 use Rattle.setl_model_turns.proofs.Iterations.{beginning}
 use Rattle.setl_model_turns.proofs.Places.{selecting, changing}
@@ -107,6 +107,10 @@ failing : (line : ℕ) (kept : List Snapshot) → GoesOn (fail line kept)
 failing line [] c n h = refl
 failing line (s ∷ older) c n h = after_a_turn _ (λ d m k. (m, k, refl)) c n h
 
+succeeding : (line : ℕ) (kept : List Snapshot) (work : List Frame) → GoesOn (succeed line kept work)
+succeeding line [] work c n h = refl
+succeeding line (s ∷ older) work c n h = (n, h, refl)
+
 performing : (line : ℕ) (s : Stmt) (work : List Frame) → GoesOn (perform line s work)
 performing line (Assign p e) work c n h = (n, h, refl)
 performing line (Update o p e) work c n h = (n, h, refl)
@@ -119,6 +123,7 @@ performing line (While e b) work c n h = (n, h, refl)
 performing line Quit work c n h = quitting work c n h
 performing line Continue work c n h = continuing work c n h
 performing line Fail work c n h = failing line c.kept c n h
+performing line Succeed work c n h = succeeding line c.kept work c n h
 performing line Stop work c n h = refl
 performing line Pass work c n h = (n, h, refl)
 performing line (Return e) work c n h = (n, h, refl)

@@ -1,6 +1,6 @@
 -- The cover: how many stores each line made.
 use Rattle.std.specs.Prelude.{◌≡◌, refl, ℕ, suc, ◌+◌, Bool, List, [], ◌∷◌, ◌++◌, cond, nat_eq, nat_lt, false, codes, decimal}
-use Rattle.setl_watch.specs.Notices.{Notice, Called, Returned, Stored, Printed, Kept, Back}
+use Rattle.setl_watch.specs.Notices.{Notice, Called, Returned, Stored, Printed, Kept, Back, Forgot}
 use Rattle.setl_watch.specs.Watches.{Watch, no_notes}
 
 -- Lines with their counts, the lines rising.
@@ -20,6 +20,7 @@ covered (Returned name) cs = cs
 covered (Printed bytes) cs = cs
 covered Kept cs = cs
 covered Back cs = cs
+covered Forgot cs = cs
 
 -- a line for each line with stores
 abbrev pub cover_report : Counts → List ℕ

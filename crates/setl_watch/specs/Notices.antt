@@ -10,7 +10,7 @@ pub data Notice : Type 0 where
   Returned : (name : List ℕ) → Notice
   Stored : (line : ℕ) (name : List ℕ) (value : Option Datum) → Notice
   Printed : (bytes : List ℕ) → Notice
-  Kept Back : Notice
+  Kept Back Forgot : Notice
 
 -- the list without its last member
 abbrev pub without_last : List ℕ → List ℕ
@@ -26,6 +26,7 @@ noticed (run.Stored line x v) = Stored line (name_of x) v
 noticed (run.Printed bytes) = Printed (without_last bytes)
 noticed run.Kept = Kept
 noticed run.Back = Back
+noticed run.Forgot = Forgot
 
 -- a store is told by the name that the source has, and a line without byte 10
 a_store : noticed (run.Stored 3 (Own 1 (codes "a")) (Some (int (pos 5)))) ≡ Stored 3 (codes "a") (Some (int (pos 5)))

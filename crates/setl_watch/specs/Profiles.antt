@@ -1,7 +1,7 @@
 -- The profile: how often each procedure was called.
 use Rattle.std.specs.Prelude.{◌≡◌, refl, ℕ, suc, ◌+◌, List, [], ◌∷◌, ◌++◌, map, cond, nat_eq, bytes_eq, false, codes, decimal}
 use Rattle.setl_watch.specs.Covers.{Counts, all_counted}
-use Rattle.setl_watch.specs.Notices.{Notice, Called, Returned, Stored, Printed, Kept, Back}
+use Rattle.setl_watch.specs.Notices.{Notice, Called, Returned, Stored, Printed, Kept, Back, Forgot}
 use Rattle.setl_watch.specs.Watches.{Watch, Notes, no_notes}
 
 -- the name of the procedure that a call is of
@@ -32,6 +32,7 @@ profiled (Stored line name value) n = n
 profiled (Printed bytes) n = n
 profiled Kept n = n
 profiled Back n = n
+profiled Forgot n = n
 
 -- a line for each procedure, by its first call
 abbrev pub profile_report : List Notice → Counts → List ℕ

@@ -2,7 +2,7 @@
 use Rattle.std.specs.Prelude.{◌≡◌, refl, ℕ, List, [], ◌∷◌, ◌++◌, cond, length, nat_le, codes, decimal, Option, Some, None}
 use Rattle.setl_value.specs.Datum.{Datum}
 use Rattle.setl_text.specs.Texts.{inner_text}
-use Rattle.setl_watch.specs.Notices.{Notice, Called, Returned, Stored, Printed, Kept, Back}
+use Rattle.setl_watch.specs.Notices.{Notice, Called, Returned, Stored, Printed, Kept, Back, Forgot}
 use Rattle.setl_watch.specs.Watches.{Watch, no_notes}
 
 -- how many events a trace keeps
@@ -22,6 +22,7 @@ event_text (Stored line name v) = codes "store " ++ decimal line ++ 32 ∷ name 
 event_text (Printed bytes) = codes "print " ++ bytes
 event_text Kept = codes "keep"
 event_text Back = codes "back"
+event_text Forgot = codes "succeed"
 
 -- a line for each event
 abbrev pub trace_report : List Notice → List ℕ
@@ -44,5 +45,5 @@ trace events = record {
 }
 
 -- a line for each event
-lines : trace_report (Kept ∷ Returned (codes "p") ∷ Printed (codes "1 a") ∷ Printed [] ∷ Back ∷ []) ≡ codes "keep\nreturn p\nprint 1 a\nprint \nback\n"
+lines : trace_report (Kept ∷ Returned (codes "p") ∷ Printed (codes "1 a") ∷ Printed [] ∷ Back ∷ Forgot ∷ []) ≡ codes "keep\nreturn p\nprint 1 a\nprint \nback\nsucceed\n"
 lines = refl

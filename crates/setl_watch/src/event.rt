@@ -36,6 +36,8 @@ pub enum Event {
     Kept,
     /// `fail` brought a kept state back.
     Back,
+    /// `succeed` forgot a kept state.
+    Forgot,
 }
 
 impl Event {
@@ -55,6 +57,7 @@ impl Event {
             }),
             Event::Kept => Ok(Event::Kept),
             Event::Back => Ok(Event::Back),
+            Event::Forgot => Ok(Event::Forgot),
         }
     }
 }

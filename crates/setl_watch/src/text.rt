@@ -39,6 +39,7 @@ pub(crate) fn push_event(into: &mut Vec<u8>, e: &Event, alloc: Global) -> Result
         }
         Event::Kept => push_word(into, "keep"),
         Event::Back => push_word(into, "back"),
+        Event::Forgot => push_word(into, "succeed"),
     }
 }
 
