@@ -4,15 +4,15 @@ use Rattle.std.specs.List.{AllByRecursion}
 use Rattle.setl_value.specs.Datum.{Datum, bool, int, text, atom, tuple, set, part_list}
 use Rattle.setl_model_runs.specs.Variable.{Variable}
 use Rattle.setl_model_runs.specs.Turns.{left_after}
-use Rattle.setl_model_runs.specs.Events.{Back}
+use Rattle.setl_model_runs.specs.Events.{Back, Forgot}
 use Rattle.setl_model_runs.specs.Run.{Moves}
 use Rattle.setl_text.specs.Reading.{Reading, Denotes, AtEnd, NotForm, TooWide, TooDeep, read_denotation}
-use Rattle.setl_program.specs.Program.{Slots, Exprs, no_expr, more_exprs, Stmt, Assign, Update, AssignParts, TakeFrom, Perform, If, For, While, Quit, Continue, Fail, Stop, Pass, Return, Print, Read, Block, no_stmt, more_stmts, Program}
+use Rattle.setl_program.specs.Program.{Slots, Exprs, no_expr, more_exprs, Stmt, Assign, Update, AssignParts, TakeFrom, Perform, If, For, While, Quit, Continue, Fail, Succeed, Stop, Pass, Return, Print, Read, Block, no_stmt, more_stmts, Program}
 use Rattle.setl_model.specs.Slots.{Parting, Parted, NotParted, slot_stores, parting}
 use Rattle.setl_model.specs.Core.{Execute, Evaluate, Result, Iterate, Goal, Collect, Select, Decide, Repeat, Iteration, Sources, ToBind, IsBound, Testing, Body, Paused, Argument, Activation, Puts, Combines, Takes, StmtFrame, AssignRight, UpdateRight, PartsRight, RoundSelector, BraceSelector, IfTest, WhileTest, WhileBody, PrintParts, Returning, Dropping, Round, Brace, Frame, InExpr, InIteration, InCall, InStmt, Storing, Then, Snapshot, Core}
 use Rattle.setl_model.specs.World.{with_left}
 use Rattle.setl_model.specs.Moves.{holding, go, turn}
-use Rattle.setl_model.specs.Statements.{print_parts, take_reading, read_values, take_apart, quit, continue_loop, return_value, fail, perform, end_of_body, after_all, execute, result_in_stmt}
+use Rattle.setl_model.specs.Statements.{print_parts, take_reading, read_values, take_apart, quit, continue_loop, return_value, fail, succeed, perform, end_of_body, after_all, execute, result_in_stmt}
 use Rattle.setl_advise_flows.specs.Flow.{Flow, Tuple, Nothing, Scalar, Set, Map, Any}
 use Rattle.setl_advise_flows.specs.Has.{Has, HasAt, HasPart}
 use Rattle.setl_advise_flows.specs.Operators.{part, Shape, Plain, flow_of, HasShape, OperatorsIn}
@@ -96,6 +96,10 @@ module _ (p : Program) (s : Flows) (solves : Solves p s) (ops : OperatorsIn) (ta
       })
       0 [])
       (λ n. (record { globals = k.0.0; own = k.0.1; result = k.0.2.0; hand = (k.0.2.1, k.0.2.2 (Some (bool false)) tt, (true, k.0.2.3)); kept = k.1 }, tt))
+
+  succeeds : (line : ℕ) (ks : List Snapshot) (r : Flow) (work : List Frame) (c : Core) → CoreIn p s c → AllByRecursion (SnapshotIn p s) ks → Waits p s r false nothing work → MoveIn p s (succeed line ks work c)
+  succeeds line [] r work c h k a = tt
+  succeeds line (q ∷ older) r work c h k a = (record { globals = h.globals; own = h.own; result = r; hand = (tt, a); kept = k.1 }, tt)
 
   quits : (work : List Frame) (w : Shape) (r : Flow) (c : Core) → CoreIn p s c → Waits p s r false w work → MoveIn p s (quit work c)
   quits (Then b ∷ work) w r c h a = quits work nothing r c h a.1
@@ -221,6 +225,7 @@ module _ (p : Program) (s : Flows) (solves : Solves p s) (ops : OperatorsIn) (ta
   performs Quit line r work c h fl a = quits work nothing r c h a
   performs Continue line r work c h fl a = continues work false nothing r c h a
   performs Fail line r work c h fl a = fails line c.kept c h h.kept
+  performs Succeed line r work c h fl a = succeeds line c.kept r work c h h.kept a
   performs Stop line r work c h fl a = tt
   performs Pass line r work c h fl a = ends r work c h a
   performs (Return e) line r work c h fl a = going p s c h r (Evaluate e) (InStmt line Returning ∷ work) (shape_of s e, fl.0, itself (shape_of s e), (below_shape (shape_of s e) r fl.1, a))

@@ -340,6 +340,7 @@ fn kind<'p>(k: &'p StmtKind, all: &mut Found<'p>) -> Result<(), Memory>
         StmtKind::Quit => Ok(()),
         StmtKind::Continue => Ok(()),
         StmtKind::Fail => Ok(()),
+        StmtKind::Succeed => Ok(()),
         StmtKind::Stop => Ok(()),
         StmtKind::Pass => Ok(()),
         StmtKind::Return(e) => expr(e, all),

@@ -71,6 +71,7 @@ fn kind<'p>(
         StmtKind::Quit => quit(emitter, leaves, line),
         StmtKind::Continue => emitter.jump_on(line),
         StmtKind::Fail => emitter.put(line, Instr::Back),
+        StmtKind::Succeed => emitter.put(line, Instr::Forget),
         StmtKind::Stop => emitter.put(line, Instr::Stop),
         StmtKind::Pass => Ok(()),
         StmtKind::Return(e) => give_back(emitter, line, e),

@@ -76,6 +76,7 @@ form r.Back = Alone i.Back
 form r.Print = Counted i.Print
 form r.Read = Alone i.Read
 form r.Stop = Alone i.Stop
+form r.Forget = Alone i.Forget
 
 -- the operators by their bytes, from 0 on
 abbrev pub operators : List Operator
@@ -138,6 +139,7 @@ rows =
     r.Print ∷
     r.Read ∷
     r.Stop ∷
+    r.Forget ∷
     []
 
 -- the row of a byte
@@ -250,6 +252,7 @@ tag i.Back = 108
 tag (i.Print n) = 109
 tag i.Read = 110
 tag i.Stop = 111
+tag i.Forget = 112
 
 -- ---- the operands of an instruction
 

@@ -43,4 +43,5 @@ pub enum Row {
     Print,
     Read,
     Stop,
+    Forget,
 }

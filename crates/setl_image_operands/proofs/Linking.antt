@@ -56,6 +56,7 @@ same_outs bodies xs what at s = go what
     go (i.Call n) = call_same bodies n at s
     go i.Return = refl
     go i.Back = refl
+    go i.Forget = refl
     go (i.Print n) = refl
     go i.Stop = refl
     go w = refl

@@ -55,6 +55,7 @@ effect_of calls i.Round = e.Results 0 0
 effect_of calls (i.Call n) = call_effect (slice_get calls n)
 effect_of calls i.Return = e.Ends 1
 effect_of calls i.Back = e.Ends 0
+effect_of calls i.Forget = e.Results 0 0
 effect_of calls (i.Print n) = e.Results n 0
 effect_of calls i.Stop = e.Ends 0
 effect_of calls what = e.Results 0 1

@@ -118,7 +118,7 @@ fn effect_of(calls: &[Signature], what: &Instr) -> Result<Effect, Memory>
         Instr::Collect(_) => Effect::Begins(0, Kind::Collection),
         Instr::Add(n) => Effect::Adds(*n),
         Instr::Leave(n) => Effect::Leaves(*n),
-        Instr::Round => Effect::Results(0, 0),
+        Instr::Round | Instr::Forget => Effect::Results(0, 0),
         Instr::Call(n) => call_effect(calls, *n),
         Instr::Return => Effect::Ends(1),
         Instr::Back | Instr::Stop => Effect::Ends(0),

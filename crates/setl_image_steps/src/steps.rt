@@ -267,6 +267,7 @@ fn read_row(
         }
         Row::Read => Ok((Instr::Read, bytes)),
         Row::Stop => Ok((Instr::Stop, bytes)),
+        Row::Forget => Ok((Instr::Forget, bytes)),
     }
 }
 
@@ -457,6 +458,7 @@ fn push_operands(into: &mut Vec<u8>, globals: usize, own: u128, what: &Instr) ->
         Instr::Back => Ok(()),
         Instr::Read => Ok(()),
         Instr::Stop => Ok(()),
+        Instr::Forget => Ok(()),
     }
 }
 

@@ -112,6 +112,7 @@ const ROWS: &[Row] = &[
     Row::Print,
     Row::Read,
     Row::Stop,
+    Row::Forget,
 ];
 
 /// The row of a byte.
@@ -274,5 +275,6 @@ pub fn tag(what: &Instr) -> u8
         Instr::Print(_) => 109,
         Instr::Read => 110,
         Instr::Stop => 111,
+        Instr::Forget => 112,
     }
 }

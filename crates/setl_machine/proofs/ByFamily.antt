@@ -45,6 +45,7 @@ told_alone (i.Call n) v k o = k refl
 told_alone i.Return v k o = tt
 told_alone i.Keep v k o = tt
 told_alone i.Back v k o = tt
+told_alone i.Forget v k o = tt
 told_alone (i.Print n) v k o = o refl
 told_alone i.Read v k o = tt
 
@@ -79,10 +80,11 @@ tells_return (i.Call m) c n line xs k d events e t b h = absurd t
 tells_return i.Return c n line xs k d events e t b h = h ∙ ap (λ j. map noticed (return_told (slice_get c.bodies j))) (sym b)
 tells_return i.Keep c n line xs k d events e t b h = absurd (cc)
 tells_return i.Back c n line xs k d events e t b h = absurd (cc)
+tells_return i.Forget c n line xs k d events e t b h = absurd (cc)
 tells_return (i.Print m) c n line xs k d events e t b h = absurd (cc)
 tells_return i.Read c n line xs k d events e t b h = absurd (cc)
 
--- all others but `ok` and `fail` tell nothing
+-- all others but `ok`, `fail` and `succeed` tell nothing
 pub tells_nothing : (what : Instr) → (family_of what ≡ Calls → ⊥) → (family_of what ≡ Backtracking → ⊥) → IsToldAlone what → (c : Code) (line : ℕ) (xs : Names) (k d : CodeCore) → Tells c line (plain_instr xs what) k d []
 tells_nothing (i.Integer n) j b t c line xs k d = refl
 tells_nothing (i.Text s) j b t c line xs k d = refl
@@ -113,5 +115,6 @@ tells_nothing (i.Call n) j b t c line xs k d = absurd t
 tells_nothing i.Return j b t c line xs k d = absurd (j refl)
 tells_nothing i.Keep j b t c line xs k d = absurd (b refl)
 tells_nothing i.Back j b t c line xs k d = absurd (b refl)
+tells_nothing i.Forget j b t c line xs k d = absurd (b refl)
 tells_nothing (i.Print n) j b t c line xs k d = absurd t
 tells_nothing i.Read j b t c line xs k d = refl

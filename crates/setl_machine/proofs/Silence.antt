@@ -14,9 +14,9 @@ use Rattle.setl_model_runs.specs.Variable.{Variable, Global, Own, Bound}
 use Rattle.setl_model.specs.Core.{One, Two, Selected}
 use Rattle.setl_model.specs.Iterations.{Started, Starts, Refuses, items_of}
 use Rattle.setl_model.specs.Places.{Taken, TakesOut, IsEmpty, CannotTake, part_at_all, take_out}
-use Rattle.setl_code.specs.Code.{Alteration, Putting, Combining, TakingOut, Body, Code, Step, Instr, Push, PushAtom, PushEof, Load, Take, StoreIn, Operate, Alter, Decides, TestBool, Unless, Jump, DropTop, DupTop, PartsOf, BeginOver, NextOr, BeginOf, AddBelow, LeaveAll, PayRound, CallBody, ReturnTop, KeepAll, GoBack, PrintTop, ReadOne, StopRun}
+use Rattle.setl_code.specs.Code.{Alteration, Putting, Combining, TakingOut, Body, Code, Step, Instr, Push, PushAtom, PushEof, Load, Take, StoreIn, Operate, Alter, Decides, TestBool, Unless, Jump, DropTop, DupTop, PartsOf, BeginOver, NextOr, BeginOf, AddBelow, LeaveAll, PayRound, CallBody, ReturnTop, KeepAll, GoBack, ForgetKept, PrintTop, ReadOne, StopRun}
 use Rattle.setl_code.specs.CodeCore.{Operand, Result, Iterator, PairIterator, Collecting, popped, without_iterators, Activation, Copy, CodeCore, held}
-use Rattle.setl_code.specs.Machine.{store_in, store_whole, take_from, selected_by, alter, begin_over, next_or, Added, Adds, Refused, Nowhere, added, go_added, take_apart, call_body, handed_back, return_to, go_back, push_read, decides, do_instr, do_step, fetch, machine}
+use Rattle.setl_code.specs.Machine.{store_in, store_whole, take_from, selected_by, alter, begin_over, next_or, Added, Adds, Refused, Nowhere, added, go_added, take_apart, call_body, handed_back, return_to, go_back, forget_kept, push_read, decides, do_instr, do_step, fetch, machine}
 use Rattle.setl_machine_control.specs.Declaring.{Modes, tested}
 use Rattle.setl_machine_control.specs.Answers.{start, said}
 use Rattle.setl_machine.specs.Outcome.{AtPrint}
@@ -109,6 +109,10 @@ back_mute : (line : ℕ) (cs : List Copy) (k : CodeCore) → Mute (go_back line 
 back_mute line [] k = refl
 back_mute line (c ∷ older) k = by_turn Mute silent k _ (λ d. refl)
 
+forget_mute : (line : ℕ) (cs : List Copy) (k : CodeCore) → Mute (forget_kept line cs k)
+forget_mute line [] k = refl
+forget_mute line (c ∷ older) k = refl
+
 read_mute : (r : Reading) (line : ℕ) (k : CodeCore) → Mute (push_read r line k)
 read_mute (Denotes v rest) line k = refl
 read_mute AtEnd line k = refl
@@ -155,6 +159,7 @@ instr_mute c line (CallBody n) k = inl (call_mute n (slice_get c.bodies n) line 
 instr_mute c line ReturnTop k = inl (by_top Mute silent k.now.operands _ (λ v xs. return_mute (slice_get c.bodies k.now.body) v k k.callers))
 instr_mute c line KeepAll k = inl refl
 instr_mute c line GoBack k = inl (back_mute line k.kept k)
+instr_mute c line ForgetKept k = inl (forget_mute line k.kept k)
 instr_mute c line (PrintTop n) k = inr (n, refl)
 instr_mute c line ReadOne k = inl (read_mute (read_denotation k.world.input) line k)
 instr_mute c line StopRun k = inl refl

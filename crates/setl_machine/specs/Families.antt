@@ -34,6 +34,7 @@ family_of (i.Call n) = Calls
 family_of i.Return = Calls
 family_of i.Keep = Backtracking
 family_of i.Back = Backtracking
+family_of i.Forget = Backtracking
 family_of (i.Print n) = Outside
 family_of i.Read = Outside
 

@@ -1,4 +1,4 @@
-//! `ok` and `fail`.
+//! `ok`, `fail` and `succeed`.
 
 ghost use Rattle.std.specs.Prelude.{◌≡◌, ℕ, ◌<◌, ◌+◌, ◌^◌, IfOk};
 ghost use Rattle.setl_code.specs.CodeCore.{CodeCore};
@@ -12,13 +12,13 @@ ghost use Rattle.setl_machine.specs.declared.families.Family.{Family};
 
 use crate::telling::one;
 use setl_code::Instr;
-use setl_machine_control::{Control, End, back, keep};
+use setl_machine_control::{Control, End, back, forget, keep};
 use setl_store::Store;
 use setl_store_environment::Memory;
 use setl_watch::Event;
 use std::alloc::Global;
 
-/// Does `ok` or `fail`. The error is want of memory.
+/// Does `ok`, `fail` or `succeed`. The error is want of memory.
 pub(crate) fn do_backtracking(
     what: &Instr,
     line: u32,
@@ -33,11 +33,12 @@ pub(crate) fn do_backtracking(
     match what {
         Instr::Keep => keep(store),
         Instr::Back => back(line, store, control),
+        Instr::Forget => forget(line, store),
         _ => unreachable!(),
     }
 }
 
-/// The event of `ok` or `fail`.
+/// The event of `ok`, `fail` or `succeed`.
 pub(crate) fn backtracking_events(what: &Instr, alloc: Global) -> Result<Vec<Event>, Memory>
     requires is { family_of what.now ≡ Family.Backtracking }
     ensures { (code : Code) (line : ℕ) (xs : Variables) (k d : CodeCore) → IfOk result (λ es. Tells code line (plain_instr xs what.now) k d es.items) }
@@ -45,6 +46,7 @@ pub(crate) fn backtracking_events(what: &Instr, alloc: Global) -> Result<Vec<Eve
     match what {
         Instr::Keep => one(alloc, Event::Kept),
         Instr::Back => one(alloc, Event::Back),
+        Instr::Forget => one(alloc, Event::Forgot),
         _ => unreachable!(),
     }
 }

@@ -20,7 +20,7 @@ pub(crate) enum Family {
     Iteration,
     /// Calls and returns: `calling`.
     Calls,
-    /// `ok` and `fail`: `backtracking`.
+    /// `ok`, `fail` and `succeed`: `backtracking`.
     Backtracking,
     /// `print` and `read`: `outside`.
     Outside,
@@ -52,7 +52,7 @@ pub(crate) fn family_of(what: &Instr) -> Family
         | Instr::Leave(_)
         | Instr::Round => Family::Iteration,
         Instr::Call(_) | Instr::Return => Family::Calls,
-        Instr::Keep | Instr::Back => Family::Backtracking,
+        Instr::Keep | Instr::Back | Instr::Forget => Family::Backtracking,
         Instr::Print(_) | Instr::Read => Family::Outside,
     }
 }

@@ -1,7 +1,7 @@
-//! `ok` and `fail`.
+//! `ok`, `fail` and `succeed`.
 
 ghost use Rattle.std.specs.Prelude.{◌≡◌, ℕ, ◌<◌, ◌+◌, ◌^◌, IfOk, IsOk};
-ghost use Rattle.setl_code.specs.Code.{KeepAll, GoBack};
+ghost use Rattle.setl_code.specs.Code.{KeepAll, GoBack, ForgetKept};
 ghost use Rattle.setl_machine_control.specs.Working.{Works, Does};
 
 use crate::control::Control;
@@ -36,5 +36,20 @@ pub fn back(line: u32, store: &mut Store<'_>, control: &mut Control) -> Result<E
         Ok(End::Paused)
     } else {
         Ok(End::Stuck)
+    }
+}
+
+/// `succeed`: forgets what was kept last and keeps all changes; where nothing is kept, the run stops at this line. No error
+/// comes.
+#[inline(never)]
+pub fn forget(line: u32, store: &mut Store<'_>) -> Result<End, Memory>
+    requires { store.old.core.now.at + 1 < 2 ^ 64 }
+    ensures did { IfOk result (λ end. Works store.old line ForgetKept store.new end) }
+    ensures sure { IsOk result }
+{
+    if store.forget() {
+        Ok(End::Paused)
+    } else {
+        Ok(End::Stopped(StopKind::Nothing, line))
     }
 }

@@ -1,5 +1,5 @@
 //! The control of a run, which `fail` doesn't bring back (turns, atoms and the reader of the input), how a run ends,
-//! the tests of declared variables, and the instructions `ok` and `fail`.
+//! the tests of declared variables, and the instructions `ok`, `fail` and `succeed`.
 #![tactic(auto)]
 
 mod backtracking;
@@ -9,7 +9,7 @@ mod end;
 mod operands;
 mod updating;
 
-pub use backtracking::{back, keep};
+pub use backtracking::{back, forget, keep};
 pub use control::Control;
 pub use declaration::{Declaration, refusal};
 pub use end::{End, StopKind};

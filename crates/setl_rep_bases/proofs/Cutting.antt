@@ -15,7 +15,7 @@ use Rattle.setl_rep_bases.specs.BaseId.{id_cmp}
 use Rattle.setl_rep_bases.specs.Bases.{instance_at, base_at}
 use Rattle.setl_rep_bases.specs.Tables.{brought}
 use Rattle.setl_rep_bases.specs.Marks.{Marks, mark_of, marks_of, as_marked, as_cut, marked, cut_all, back_all}
-use Rattle.setl_rep_bases.specs.Cutting.{MarksAreRead, CutsAreRead, CountedCutsAreRead, NothingIsCut, GrownBasesAreCutAlike, CountedCutsLeaveTheSame}
+use Rattle.setl_rep_bases.specs.Cutting.{MarksAreRead, CutsAreRead, CountedCutsAreRead, NothingIsCut, GrownBasesAreCutAlike, CountedCutsLeaveTheSame, CutBlocksWereThere}
 use Rattle.setl_rep_bases.proofs.Ids.{id_total, same_id}
 
 same_name : (i j : BaseId) → eq_by_cmp id_cmp i j ≡ true → i ≡ j
@@ -164,6 +164,27 @@ grown_alike bs cs ms more h = (
   },
   λ i m e. let w = h i m e in (more.there i w.0, as_long (base_at bs i) (base_at cs i) m.count (more.members i) w.1),
 )
+
+-- ---- what was there before a cut
+
+there_before : (w : Option Mark) (o : Option Instance) → IsSome (brought as_marked w o) → IsSome o
+there_before w None h = h
+there_before w (Some x) h = refl
+
+cut_was_there : (x : Instance) (m : Mark) → Keeps (as_marked x m).base x.base
+cut_was_there x m zero l e = absurd (cc)
+cut_was_there x m (suc i) l e = (get_taken m.count x.base.members i l e).1
+
+members_before : (w : Option Mark) (o : Option Instance) → Keeps (base_of (brought as_marked w o)) (base_of o)
+members_before w None = nothing_at empty
+members_before None (Some x) = nothing_at x.base
+members_before (Some m) (Some x) = cut_was_there x m
+
+pub cut_blocks_were_there : CutBlocksWereThere
+cut_blocks_were_there bs ms = record {
+  there = λ i t. there_before (finmap.get ms i) (instance_at bs i) (subst (λ o. IsSome o) (cuts_are_read bs ms i) t);
+  members = λ i. subst (λ o. Keeps (base_of o) (base_of (instance_at bs i))) (sym (cuts_are_read bs ms i)) (members_before (finmap.get ms i) (instance_at bs i));
+}
 
 -- ---- cuts that count
 

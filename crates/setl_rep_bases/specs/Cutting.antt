@@ -27,3 +27,7 @@ GrownBasesAreCutAlike = (bs cs : BasesState) (ms : Marks) → AreKept bs cs → 
 -- cuts that count leave the same blocks as those that don't
 abbrev pub CountedCutsLeaveTheSame : Type 0
 CountedCutsLeaveTheSame = (bs : BasesState) (ms : Marks) → AreKept (cut_all bs ms) (back_all bs ms) × AreKept (back_all bs ms) (cut_all bs ms)
+
+-- the blocks that a cut leaves were there before it
+abbrev pub CutBlocksWereThere : Type 0
+CutBlocksWereThere = (bs : BasesState) (ms : Marks) → AreKept (cut_all bs ms) bs

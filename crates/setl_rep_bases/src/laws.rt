@@ -1,6 +1,6 @@
 //! Laws of bases that change. The functions have no effect: each hands a proof the laws that it is named for.
 
-ghost use Rattle.setl_rep_bases.specs.Cutting.{MarksAreRead, CutsAreRead, CountedCutsAreRead, NothingIsCut, GrownBasesAreCutAlike, CountedCutsLeaveTheSame};
+ghost use Rattle.setl_rep_bases.specs.Cutting.{MarksAreRead, CutsAreRead, CountedCutsAreRead, NothingIsCut, GrownBasesAreCutAlike, CountedCutsLeaveTheSame, CutBlocksWereThere};
 ghost use Rattle.setl_rep_bases.specs.Keeping.{EnteringKeepsMembers, EnteringKeepsBlocks, CutsKeepBlocks, InstancesKeepBlocks, RemovalsKeepBlocks};
 ghost use Rattle.setl_rep_bases.specs.Reading.{InstancesArePut, InstancesAreTaken, GoneAreTaken, MainInstancesAreFresh, NamesAreExact, BasesAgree};
 
@@ -24,7 +24,7 @@ pub fn instances_are_read()
 {}
 
 /// What marks tell, and what is there after a cut to them: of bases as they are nothing is cut, bases that grew are cut to
-/// the same blocks, and cuts that count leave the same blocks.
+/// the same blocks, cuts that count leave the same blocks, and what a cut leaves was there before it.
 pub fn cuts_are_exact()
     ensures marks { MarksAreRead }
     ensures cuts { CutsAreRead }
@@ -32,4 +32,5 @@ pub fn cuts_are_exact()
     ensures whole { NothingIsCut }
     ensures grown { GrownBasesAreCutAlike }
     ensures same { CountedCutsLeaveTheSame }
+    ensures before { CutBlocksWereThere }
 {}

@@ -1,6 +1,6 @@
--- What `ok` keeps, and what `fail` brings back.
+-- What `ok` keeps, what `fail` brings back, and what `succeed` forgets.
 use Rattle.std.proofs.Common.{◌≡◌, ℕ, suc, ◌+◌, ◌<◌, ◌≤◌, ◌^◌, List, [], ◌∷◌, ◌++◌, length, drop, reverse, set, refl, sym, ap, ◌∙◌, subst, arith, Bool, true, false, Some}
-use Rattle.std.specs.Prelude.{Option, None, option_and_then}
+use Rattle.std.specs.Prelude.{Option, None, option_and_then, nat_lt}
 use Rattle.std.specs.Option.{option_map, option_map_or}
 use Rattle.std.specs.FinMap as finmap
 use Rattle.setl_base.specs.Base.{empty}
@@ -18,16 +18,16 @@ use Rattle.setl_rep_bases.specs.declared.marks.Mark.{Mark}
 use Rattle.setl_rep_bases.specs.Bases.{BasesState, base_at, instance_at}
 use Rattle.setl_rep_bases.specs.Keeping.{AreKept}
 use Rattle.setl_rep_bases.specs.Marks.{marks_of, as_cut, cut_all, back_all, AreWithin, HaveFewCuts}
-use Rattle.setl_rep_bases.specs.Cutting.{NothingIsCut, GrownBasesAreCutAlike, CountedCutsLeaveTheSame, CountedCutsAreRead}
+use Rattle.setl_rep_bases.specs.Cutting.{NothingIsCut, GrownBasesAreCutAlike, CountedCutsLeaveTheSame, CountedCutsAreRead, CutBlocksWereThere}
 use Rattle.setl_rep_updates.specs.InForm.{FormsOfMainStay}
 use Rattle.setl_store_operands.specs.Laws.{OperandsStay}
 use Rattle.setl_store_kept.specs.Kept.{KeptSound}
-use Rattle.setl_store_kept.specs.Keeping.{ReadsBlocks, one_more_kept, sound_back}
+use Rattle.setl_store_kept.specs.Keeping.{ReadsBlocks, kept_same, one_more_kept, sound_back}
 use Rattle.setl_store_slots.specs.declared.cells.Held.{Held}
 use Rattle.setl_store.specs.declared.cells.Kept.{Kept}
 use Rattle.setl_store_operands.specs.declared.cells.Operand.{Operand}
 use Rattle.setl_store_operands.specs.declared.cells.Operand.TheVariants as operand
-use Rattle.setl_store.specs.Standing.{Standing, over, kept as with_kept, restored}
+use Rattle.setl_store.specs.Standing.{Standing, over, kept as with_kept, restored, forgotten}
 use Rattle.setl_store.specs.Flat.{Here, AllGot, body_in, cells, own_in, operands_in, callers, marks_in, copy_of, copies_of, core_of, stands, IsSound, WasSound, AllSound, answering, now_operands}
 use Rattle.setl_store.proofs.OperandLists.{Changed, pushes}
 use Rattle.setl_store.proofs.StandingSlots.{slots_stay}
@@ -166,3 +166,37 @@ kept_counted code bs at e kept s is = sym (ap (λ (x : Standing). length x.core.
 -- nothing is kept
 pub nothing_kept : (code : Code) (bs : BasesState) (at : ℕ) (e : Here) (kept : List (Here × Kept)) (s : Standing) → stands code bs at e kept ≡ s → kept ≡ [] → s.core.kept ≡ []
 nothing_kept code bs at e kept s is none = sym (ap (λ (x : Standing). x.core.kept) is) ∙ ap (copies_of (plain_code code) bs) none
+
+-- the store over the older ones of what was kept, where all else stays
+pub record ForgotLast (code : Code) (bs : BasesState) (keeps : ℕ) (at : ℕ) (e : Here) (kept : List (Here × Kept)) (s : Standing) : Type 0 where
+  pub forgotten_to : forgotten s.core.kept s.core ≡ Some (stands code bs at e kept).core
+  pub holds : MayRun code × IsSound (plain_code code) bs e × AllSound (plain_code code) bs keeps e.slots kept
+
+forgot_first : FormsOfMainStay → OperandsStay → GrownBasesAreCutAlike → CutBlocksWereThere → (code : Code) (bs : BasesState) (keeps at : ℕ) (e : Here) (k : Here × Kept) (ks : List (Here × Kept)) (s : Standing) →
+    MayRun code × IsSound (plain_code code) bs e × AllSound (plain_code code) bs keeps e.slots (k ∷ ks) → stands code bs at e (k ∷ ks) ≡ s → ForgotLast code bs keeps (suc at) e ks s
+forgot_first stay too alike were code bs keeps at e k ks s h is =
+    let c = plain_code code in
+    let rest = kept_same marks_in (copy_of c) (WasSound c) alike (reads_blocks stay too c) (cut_all bs k.1.marks) bs ks (were bs k.1.marks) h.2.older.2 in
+    let from = core_of c bs at e (k ∷ ks) in
+    record {
+      forgotten_to =
+          subst (λ (t : Standing). forgotten t.core.kept t.core ≡ Some (core_of c bs (suc at) e ks)) is
+          (λ i. Some (record from { now = record from.now { at = suc at }; kept = sym rest.same i }));
+      holds = (h.0, h.1, record { standing = h.2.standing; older = rest.still; cuts = λ i. (omega (arith, h.2.cuts i)); few = h.2.few });
+    }
+
+-- what was kept last is forgotten, the older ones are read over all that is there, and the next step is in hand
+pub forgot_last : FormsOfMainStay → OperandsStay → GrownBasesAreCutAlike → CutBlocksWereThere → (code : Code) (bs : BasesState) (keeps at next : ℕ) (e e' : Here) (kept kept' : List (Here × Kept)) (s : Standing) →
+    MayRun code × IsSound (plain_code code) bs e × AllSound (plain_code code) bs keeps e.slots kept → stands code bs at e kept ≡ s →
+    next ≡ at + 1 → e' ≡ e → kept' ≡ drop 1 kept → nat_lt 0 (length kept) ≡ true → ForgotLast code bs keeps next e' kept' s
+forgot_last stay too alike were code bs keeps at next e e' [] kept' s h is up same less some = absurd (cc)
+forgot_last stay too alike were code bs keeps at next e e' (k ∷ ks) kept' s h is up same less some =
+    let n : next ≡ suc at = omega (arith, up) in
+    subst (λ m. ForgotLast code bs keeps m e' kept' s) (sym n)
+    (subst (λ x. ForgotLast code bs keeps (suc at) x kept' s) (sym same)
+    (subst (λ l. ForgotLast code bs keeps (suc at) e l s) (sym less) (forgot_first stay too alike were code bs keeps at e k ks s h is)))
+
+-- nothing was there to be forgotten
+pub none_forgotten : (code : Code) (bs : BasesState) (at : ℕ) (e : Here) (kept : List (Here × Kept)) (s : Standing) → stands code bs at e kept ≡ s → nat_lt 0 (length kept) ≡ false → s.core.kept ≡ []
+none_forgotten code bs at e [] s is none = nothing_kept code bs at e [] s is refl
+none_forgotten code bs at e (k ∷ ks) s is none = absurd (cc)

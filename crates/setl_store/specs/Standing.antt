@@ -82,6 +82,16 @@ abbrev pub Restored : Bool → CodeCore → CodeCore → Type 0
 Restored true old new = restored old.kept old ≡ Some new
 Restored false old new = (old.kept ≡ []) × (new ≡ old)
 
+-- the first of these is forgotten, all changes stay, and `succeed` goes on behind it
+abbrev pub forgotten : List Copy → CodeCore → Option CodeCore
+forgotten [] k = None
+forgotten (c ∷ older) k = Some (record k { now = record k.now { at = suc k.now.at }; kept = older })
+
+-- it is forgotten, or nothing is kept and nothing changes
+abbrev pub Forgotten : Bool → CodeCore → CodeCore → Type 0
+Forgotten true old new = forgotten old.kept old ≡ Some new
+Forgotten false old new = (old.kept ≡ []) × (new ≡ old)
+
 -- the value that the top operand serves as, and the operands below it
 abbrev pub top_of : List Operand → Option (Option Datum × List Operand)
 top_of [] = None

@@ -1,10 +1,10 @@
-//! `ok` and `fail`.
+//! `ok`, `fail` and `succeed`.
 
 ghost use Rattle.std.specs.Prelude.{◌≡◌, ◌<◌, ◌+◌, ◌^◌, ◌∷◌, length, nat_lt, true, false, OnOk, OnErr};
 ghost use Rattle.setl_value.specs.declared.Value.TheVariants as value;
 ghost use Rattle.setl_store_operands.specs.declared.cells.Operand.TheVariants as operand;
 ghost use Rattle.setl_store.specs.Flat.{answering};
-ghost use Rattle.setl_store.specs.Standing.{kept, Restored, Becomes};
+ghost use Rattle.setl_store.specs.Standing.{kept, Restored, Forgotten, Becomes};
 
 use crate::cells::{Contents, Kept};
 use crate::store::Store;
@@ -50,6 +50,23 @@ impl<'c> Store<'c> {
         };
         self.bases.back_to(&kept.marks);
         self.at = kept.at;
+        true
+    }
+
+    /// Forgets what was kept last, as `succeed` does, and goes on behind the step in hand; all changes stay. Its answer is
+    /// whether anything was kept, and else all is as before. It takes no memory.
+    pub fn forget(&mut self) -> bool
+        requires { self.old.core.now.at + 1 < 2 ^ 64 }
+        ensures code { self.new.code ≡ self.old.code }
+        ensures forgotten { Forgotten result self.old.core self.new.core }
+    {
+        setl_rep_bases::laws::cuts_are_exact();
+        setl_rep_updates::laws::forms_of_main_stay();
+        setl_store_operands::laws::operands_stay();
+        if !self.environment.forget() {
+            return false;
+        }
+        self.at += 1;
         true
     }
 

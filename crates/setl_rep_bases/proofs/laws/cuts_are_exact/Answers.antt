@@ -1,4 +1,4 @@
-use Rattle.setl_rep_bases.proofs.Cutting.{marks_are_read, cuts_are_read, counted_cuts_are_read, nothing_is_cut, grown_alike, counted_cuts_leave_the_same}
+use Rattle.setl_rep_bases.proofs.Cutting.{marks_are_read, cuts_are_read, counted_cuts_are_read, nothing_is_cut, grown_alike, counted_cuts_leave_the_same, cut_blocks_were_there}
 use Rattle.setl_rep_bases.proofs.laws.cuts_are_exact.Goals as goal
 
 pub returns-clause-marks : goal.returns-clause-marks
@@ -18,3 +18,6 @@ returns-clause-grown c = grown_alike
 
 pub returns-clause-same : goal.returns-clause-same
 returns-clause-same c = counted_cuts_leave_the_same
+
+pub returns-clause-before : goal.returns-clause-before
+returns-clause-before c = cut_blocks_were_there
