@@ -121,6 +121,7 @@ is_continue : GoodKind st.Continue
 is_continue = from_kind_tokens st.Continue _ (ap kind_tokens (sym st.rolls-Continue) ∙ fold-roll-StmtKind (ℕ → Tokens) Tokens Tokens kind_step branch_step stmt_step StmtKind-F.Continue) (λ line. word_at line k.Continue tt (word k.Semicolon tt none))
 
 is_fail : GoodKind st.Fail
+
 is_succeed : GoodKind st.Succeed
 is_fail = from_kind_tokens st.Fail _ (ap kind_tokens (sym st.rolls-Fail) ∙ fold-roll-StmtKind (ℕ → Tokens) Tokens Tokens kind_step branch_step stmt_step StmtKind-F.Fail) (λ line. word_at line k.Fail tt (word k.Semicolon tt none))
 
