@@ -332,7 +332,8 @@ stop_text stop.Form = text_of
     ∷ codes "strings of the lines of a text."
     ∷ [])
 stop_text stop.Nothing = text_of
-    (codes "nothing to go back to: A `fail` was met, and no `ok` is left that it could go back to."
+    (codes "nothing to go back to: A `fail` was met, and no `ok` is left that it could go back to; or a"
+    ∷ codes "`succeed`, and none is left that it could forget."
     ∷ codes ""
     ∷ codes "    program nothing;"
     ∷ codes "    x := 3;"
@@ -346,7 +347,8 @@ stop_text stop.Nothing = text_of
     ∷ codes "    line 4: nothing to go back to"
     ∷ codes ""
     ∷ codes "Instead: Around the search `if ok then .. else .. end if;`: when all choices failed, this `ok` is"
-    ∷ codes "false and the `else` part runs. To end a run use `stop;`."
+    ∷ codes "false and the `else` part runs. A `succeed` stands where its `ok` is still remembered. To end a run"
+    ∷ codes "use `stop;`."
     ∷ [])
 stop_text stop.Value = text_of
     (codes "value does not fit NAME: A value was to be stored in the declared variable NAME, and its mode"

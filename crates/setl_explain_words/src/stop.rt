@@ -19,7 +19,7 @@ pub enum Stop {
     Deep,
     /// The input holds no value.
     Form,
-    /// `fail` has nothing to go back to.
+    /// `fail` has nothing to go back to, or `succeed` nothing to forget.
     Nothing,
     /// A value doesn't fit the mode of a declared variable.
     Value,

@@ -357,7 +357,8 @@ strings of the lines of a text.
 "
         }
         Stop::Nothing => {
-            b"nothing to go back to: A `fail` was met, and no `ok` is left that it could go back to.
+            b"nothing to go back to: A `fail` was met, and no `ok` is left that it could go back to; or a
+`succeed`, and none is left that it could forget.
 
     program nothing;
     x := 3;
@@ -371,7 +372,8 @@ tells
     line 4: nothing to go back to
 
 Instead: Around the search `if ok then .. else .. end if;`: when all choices failed, this `ok` is
-false and the `else` part runs. To end a run use `stop;`.
+false and the `else` part runs. A `succeed` stands where its `ok` is still remembered. To end a run
+use `stop;`.
 "
         }
         Stop::Value => {

@@ -2,8 +2,8 @@
 
 use setl_store_environment::Memory;
 
-/// Why a run stops: an operator's fault, an input without a denotation (`Form`), `fail` with nothing kept, or a value that
-/// doesn't fit the declaration of its variable.
+/// Why a run stops: an operator's fault, an input without a denotation (`Form`), `fail` or `succeed` with nothing kept, or
+/// a value that doesn't fit the declaration of its variable.
 #[derive(Clone, Copy, Debug, PartialEq, Eq)]
 pub enum StopKind {
     Om,

@@ -5,7 +5,7 @@ use Rattle.setl_operators_table.specs.declared.Operator.TheVariants.{With, Add, 
 use Rattle.setl_program.specs.declared.kinds.Collection.TheVariants.{OfSet}
 use Rattle.setl_program.specs.declared.kinds.Connective.TheVariants.{Or}
 use Rattle.setl_program.specs.declared.kinds.Quantifier.TheVariants.{Exists}
-use Rattle.setl_program.specs.Program.{Name, Connect, Quantified, Call, Newat, Eof, Ok, no_condition, no_argument, rd_argument, rw_argument, Perform, If, For, Quit, Fail, Stop, Return, Read, no_stmt}
+use Rattle.setl_program.specs.Program.{Name, Connect, Quantified, Call, Newat, Eof, Ok, no_condition, no_argument, rd_argument, rw_argument, Perform, If, For, Quit, Fail, Succeed, Stop, Return, Read, no_stmt}
 use Rattle.setl_model_runs.specs.Events.{Nothing, Done, Stopped, Spent}
 use Rattle.setl_program.specs.Source.{its, i, j, k, n, q, s, x, y, number, one, two, tuple_of, enumeration, row_of, at_round, over, between, assign, combine, print, on_line, at, alone, lines_from, just, with_procedures, procedure, select_over, rd_parameter, rw_parameter}
 use Rattle.setl_model.specs.Table.{Row, does, ends, reads}
@@ -39,6 +39,23 @@ back_rows =
     ∷ does 2 (just (alone 2 (If Ok (on_line 2 (print (number 1 ∷ []) ∷ If Ok (on_line 2 (print (number 2 ∷ []) ∷ Fail
     ∷ [])) (on_line 2 (print (number 3 ∷ []) ∷ Fail ∷ [])) ∷ [])) (alone 2 (print (number 4 ∷ []))))))
     (codes "1\n2\n3\n4\n")
+    -- `succeed` forgets the latest kept environment and keeps all changes:
+    -- s := {1};
+    -- if ok then s with:= 2; succeed; print(s); else print(0); end if;
+    -- fail;
+    ∷ ends (Stopped Nothing 4) 0 (just (lines_from 2 (assign s (enumeration (1 ∷ [])) ∷ If Ok (on_line 3
+    (combine With s (number 2) ∷ Succeed ∷ print (Name s ∷ []) ∷ [])) (alone 3 (print (number 0 ∷ []))) ∷ Fail ∷ [])))
+    (codes "{1 2}\n")
+    -- x := 0; if ok then x := 1; if ok then x := 2; succeed; end if; print(x); fail; else print(x); end if;
+    ∷ does 1 (just (on_line 2 (assign x (number 0) ∷ If Ok (on_line 2 (assign x (number 1) ∷ If Ok (on_line 2
+    (assign x (number 2) ∷ Succeed ∷ [])) no_stmt ∷ print (Name x ∷ []) ∷ Fail ∷ [])) (alone 2 (print (Name x ∷ [])))
+    ∷ []))) (codes "2\n0\n")
+    -- it takes no turn:
+    -- if ok then succeed; end if;
+    -- with 0 turns
+    ∷ does 0 (just (alone 2 (If Ok (alone 2 Succeed) no_stmt))) []
+    -- succeed;
+    ∷ ends (Stopped Nothing 2) 0 (just (alone 2 Succeed)) []
     -- the operands in hand are kept:
     -- x := [newat, ok]; print(x); if x(2) then fail; end if;
     ∷ does 2 (just (on_line 2 (assign x (tuple_of (Newat ∷ Ok ∷ [])) ∷ print (Name x ∷ []) ∷ If (at_round (Name x)

@@ -6,7 +6,7 @@ use Rattle.setl_modes.specs.Modes.{General, Integers, Strings, Elements, Sets, T
 use Rattle.setl_modes.specs.declared.mode.Form.TheVariants.{Plain, Local, Remote, Sparse}
 use Rattle.setl_program.specs.declared.kinds.Collection.TheVariants.{OfTuple}
 use Rattle.setl_program.specs.declared.kinds.Taking.TheVariants.{TakeFirst}
-use Rattle.setl_program.specs.Program.{Undefined, Name, Former, Call, Ok, no_condition, no_argument, no_selector, TakeFrom, Perform, If, For, While, Fail, no_stmt}
+use Rattle.setl_program.specs.Program.{Undefined, Name, Former, Call, Ok, no_condition, no_argument, no_selector, TakeFrom, Perform, If, For, While, Fail, Succeed, no_stmt}
 use Rattle.setl_program.specs.Source.{own, its, f, g, s, t, x, y, z, number, quoted, two, set_of, tuple_of, enumeration, row_of, at_brace, over, assign, put, combine, print, on_line, at, alone, lines_from, just, with_modes, procedure}
 use Rattle.setl_model.specs.Table.{DumpRow, dumps}
 
@@ -114,6 +114,23 @@ dump_rows =
     (combine With s (number 4) ∷ Fail ∷ [])) ∷ [])) no_stmt) (at 4 (combine With s
     (number 5)) no_stmt))) [] ((s, Sets Sparse (Elements 0 Integers)) ∷ [])))
     (codes "base b 2: 3 5\ns sparse 1 2\n")
+    -- a `succeed` leaves the base, and the next `fail` cuts it to the `ok` before:
+    -- repr base b: int; s: sparse set(elmt b); end repr;
+    -- s := {3}; if ok then s with:= 1; if ok then s with:= 2; succeed; end if; s with:= 4; fail; end if;
+    -- s with:= 5;
+    ∷ dumps 9 (codes "b" ∷ []) ((with_modes (at 3 (assign s (enumeration (3 ∷ []))) (at 3 (If Ok (on_line 3
+    (combine With s (number 1) ∷ If Ok (on_line 3 (combine With s (number 2) ∷ Succeed ∷ [])) no_stmt
+    ∷ combine With s (number 4) ∷ Fail ∷ [])) no_stmt) (at 4 (combine With s
+    (number 5)) no_stmt))) [] ((s, Sets Sparse (Elements 0 Integers)) ∷ [])))
+    (codes "base b 2: 3 5\ns sparse 1 2\n")
+    -- repr base b: int; s: sparse set(elmt b); end repr;
+    -- s := {3}; if ok then s with:= 1; succeed; end if; s with:= 2;
+    ∷ dumps 9 (codes "b" ∷ []) ((with_modes (on_line 3 (assign s (enumeration (3 ∷ [])) ∷ If Ok (on_line 3
+    (combine With s (number 1) ∷ Succeed ∷ [])) no_stmt ∷ combine With s (number 2) ∷ [])) [] ((
+      s,
+      Sets Sparse
+          (Elements 0 Integers),
+    ) ∷ []))) (codes "base b 3: 3 1 2\ns sparse 1 2 3\n")
     -- at a stop inside a procedure; its own names are not the declared ones:
     -- repr base b: int; x: int; s: sparse set(elmt b); end repr;
     -- x := 1; s := {2}; p();

@@ -8,12 +8,12 @@ use Rattle.setl_program.specs.declared.kinds.Collection.TheVariants.{OfSet}
 use Rattle.setl_program.specs.declared.kinds.Quantifier.TheVariants.{Exists, Forall}
 use Rattle.setl_program.specs.declared.kinds.Source.TheVariants.{Values}
 use Rattle.setl_program.specs.declared.kinds.Taking.TheVariants.{TakeLeast, TakeFirst}
-use Rattle.setl_program.specs.Program.{Member, Point, Undefined, Name, Former, Quantified, Call, Ok, no_iterator, more_iterators, no_condition, no_argument, rd_argument, wr_argument, rw_argument, no_selector, AssignParts, TakeFrom, Perform, If, For, Fail, Return, no_stmt}
-use Rattle.setl_model_runs.specs.Events.{Called, Returned, Stored, Printed, Kept, Back}
+use Rattle.setl_program.specs.Program.{Member, Point, Undefined, Name, Former, Quantified, Call, Ok, no_iterator, more_iterators, no_condition, no_argument, rd_argument, wr_argument, rw_argument, no_selector, AssignParts, TakeFrom, Perform, If, For, Fail, Succeed, Return, no_stmt}
+use Rattle.setl_model_runs.specs.Events.{Called, Returned, Stored, Printed, Kept, Back, Forgot}
 use Rattle.setl_program.specs.Source.{its, f, s, t, x, y, z, number, quoted, exprs, two, set_of, tuple_of, enumeration, row_of, over, assign, put, combine, print, on_line, at, alone, lines_from, just, with_procedures, procedure, wr_parameter, rd_parameter, with_modes, rw_parameter}
 use Rattle.setl_model.specs.Table.{EventRow, tells}
 
--- what each store, call, return, line, `ok` and `fail` tells, in their order
+-- what each store, call, return, line, `ok`, `fail` and `succeed` tells, in their order
 abbrev pub event_rows : List EventRow
 event_rows =
     -- x := p(); print(x); if x = 1 then fail; end if;
@@ -138,6 +138,16 @@ event_rows =
     ∷ Stored 2 x (Some (int (pos 1)))
     ∷ Kept
     ∷ Back
+    ∷ Back
+    ∷ [])
+    -- if ok then x := 1; if ok then succeed; end if; fail; end if;
+    -- tells: keep; store 2 x 1; keep; succeed; back
+    ∷ tells 9 (just (alone 2 (If Ok (on_line 2 (assign x (number 1) ∷ If Ok (alone 2 Succeed) no_stmt ∷ Fail
+    ∷ [])) no_stmt))) (
+    Kept
+    ∷ Stored 2 x (Some (int (pos 1)))
+    ∷ Kept
+    ∷ Forgot
     ∷ Back
     ∷ [])
     -- x := forall y in [1, 2] | y < 2; [x, -, y] := [3];
