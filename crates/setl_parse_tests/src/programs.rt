@@ -5,7 +5,7 @@ pub const PROGRAMS: &str = "program p; print({3,1,2,1}, [1,om,2], 'it''s'); end 
 program p; end; => 0 0 0 0
 PROGRAM p; VAR x, y; var z; x(1){2} := 3; [y, -] := x; End Program p; => 3 0 2 0
 program p; x with := 1; x less := 1; x lessf := 1; x npow := 1; x + := 1; x - := 1; x max := 1; x min := 1; x * := 1; x div := 1; x mod := 1; x ** := 1; end; => 0 0 12 0
-program p; x from y; x fromb y(1){2, 3}; x frome y; f(); f(1, 2); f(1)(2) := 3; f{1}(2) +:= 3; quit; continue; fail; stop; pass; return; return 1; print(); print(1, 2); read(x); read(x, y); end; => 0 0 18 0
+program p; x from y; x fromb y(1){2, 3}; x frome y; f(); f(1, 2); f(1)(2) := 3; f{1}(2) +:= 3; quit; continue; fail; succeed; stop; pass; return; return 1; print(); print(1, 2); read(x); read(x, y); end; => 0 0 19 0
 program p; if a then pass; end; if a then elseif b then quit; elseif c then else stop; end if; end; => 0 0 2 0
 program p; (for x in s) end; (for x in s, [y, -] in t, z = f(x) | x > y) x from s; end for; (while true) continue; end while; end program; => 0 0 3 0
 program p; repr base b; base c, d : int; x, y : local set(elmt b); f : sparse smap(int) mmap{general} remote set(integer); g : tuple(string); h : smap(boolean) atom; end repr; end; => 0 6 0 0

@@ -13,7 +13,7 @@ g(1){2} := n;
 g with:= a;
 x frome g(1);
 p();
-if ok then pass; else fail; end if;
+if ok then pass; succeed; else fail; end if;
 (for i in [1..n] | i /= 3) if i = 2 then continue; end if; quit; end for;
 (while n > 0) n -:= 1; end while;
 print(n, om);
@@ -41,40 +41,41 @@ const LISTED: &str = "main:
 15 call p
 16 drop
 17 ok
-18 unless 20
-19 jump 21
-20 fail
-21 int 1
-22 load n
-23 begin range
-24 next 39
-25 store i
-26 load i
-27 int 3
-28 /=
-29 unless 24
-30 take i
-31 int 2
-32 =
-33 unless 36
-34 jump 24
-35 jump 36
-36 leave 1
-37 jump 39
-38 jump 24
-39 load n
-40 int 0
-41 >
-42 unless 47
-43 round
-44 int 1
-45 - n
-46 jump 39
-47 take n
-48 om
-49 print 2
-50 stop
+18 unless 21
+19 succeed
+20 jump 22
+21 fail
+22 int 1
+23 load n
+24 begin range
+25 next 40
+26 store i
+27 load i
+28 int 3
+29 /=
+30 unless 25
+31 take i
+32 int 2
+33 =
+34 unless 37
+35 jump 25
+36 jump 37
+37 leave 1
+38 jump 40
+39 jump 25
+40 load n
+41 int 0
+42 >
+43 unless 48
+44 round
+45 int 1
+46 - n
+47 jump 40
+48 take n
+49 om
+50 print 2
 51 stop
+52 stop
 proc p:
 0 int 1
 1 return

@@ -142,6 +142,13 @@ proc f(a,
 --
 --
 line 1: rule 13
+====
+check a
+--
+program p; succeed := 1; end program;
+--
+--
+at 19: syntax
 ";
 
 #[test]

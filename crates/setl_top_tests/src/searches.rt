@@ -1,4 +1,4 @@
-//! `ok` and `fail`: across calls, inside formers, and inside iterators.
+//! `ok`, `fail` and `succeed`: across calls, inside formers, and inside iterators.
 
 use crate::calls::expect;
 use setl_top::Status;
@@ -128,5 +128,55 @@ s := {2,1}; if ok then x from s; x from s; print(x, s); fail; end if; print(x, s
 #[test]
 fn a_fail_goes_back_to_the_latest_ok(rt: HostRuntime) -> Result<(), Fail> {
     expect(&rt, rt.alloc(), Status::Done, SEARCHES)?;
+    Ok(())
+}
+
+/// Bodies of programs with `succeed`, and what they print.
+const COMMITTED: &str =
+    "x := 0; if ok then x := 1; if ok then x := 2; succeed; end if; print(x); fail; else print(x); end if;
+--
+2
+0
+====
+s := {3..20}; if exists x in s | ok then if x mod 5 /= 0 then fail; end if; succeed; print(x); end if; print(x);
+--
+5
+5
+====
+x := first([4,6,9,10]); print(x); if ok then print(1); fail; else print(2); end if;
+proc first(t); if exists y in t | ok then if odd y then succeed; return y; end if; end if; fail; end proc;
+--
+9
+1
+2
+====
+n := 0; if ok then (for i in [1..5]) if ok then n +:= i; succeed; else n := -1; end if; end for; print(n); fail; end if;
+print(n);
+--
+15
+0
+====
+f := {}; t := [1,2,3]; if ok then if ok then f(1) := 2; t(2) := 7; x := 5; succeed; f(3) := 4; end if; print(f, t, x);
+fail; end if; print(f, t, x);
+--
+{[1 2] [3 4]} [1 7 3] 5
+{} [1 2 3] *
+====
+if ok then f(1); print('in'); fail; else print('out'); end if; proc f(n); if ok then n +:= 1; succeed; end if; print(n);
+end proc;
+--
+2
+in
+out
+====
+s := {x : x in {1..3} | ok}; succeed; succeed; print(s); if #s > 2 then fail; end if;
+--
+{1 2 3}
+{2 3}
+";
+
+#[test]
+fn a_succeed_keeps_all_changes(rt: HostRuntime) -> Result<(), Fail> {
+    expect(&rt, rt.alloc(), Status::Done, COMMITTED)?;
     Ok(())
 }

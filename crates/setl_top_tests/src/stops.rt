@@ -162,6 +162,20 @@ end proc;
 1
 --
 line 6: nothing to go back to
+====
+s := {1};
+if ok then s with:= 2; succeed; print(s); else print('no'); end if;
+fail;
+--
+{1 2}
+--
+line 3: nothing to go back to
+====
+
+succeed;
+--
+--
+line 2: nothing to go back to
 ";
 
 #[test]

@@ -34,6 +34,22 @@ return p
 store 2 x 2
 print 2
 ====
+run --watch trace a
+--
+program q;
+if ok then x := 1; if ok then x := 2; succeed; end if; else print(x); stop; end if;
+fail; end program;
+--
+*
+--
+keep
+store 2 x 1
+keep
+store 2 x 2
+succeed
+back
+print *
+====
 run --turns 99 --watch cover --unbased a
 --
 program q;

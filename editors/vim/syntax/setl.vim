@@ -8,7 +8,7 @@ syntax iskeyword @,48-57,_
 syntax keyword setlStructure program procedure proc var repr end base
 syntax keyword setlConditional if then elseif else
 syntax keyword setlRepeat for while quit continue
-syntax keyword setlStatement return stop fail pass from fromb frome
+syntax keyword setlStatement return stop fail succeed pass from fromb frome
 syntax keyword setlInOut print read
 syntax keyword setlPassing rd wr rw local remote sparse
 syntax keyword setlMode general int integer string boolean atom elmt set tuple smap mmap
