@@ -163,10 +163,6 @@ copies_counted c bs (k ∷ ks) = ap suc (copies_counted c (cut_all bs k.1.marks)
 pub kept_counted : (code : Code) (bs : BasesState) (at : ℕ) (e : Here) (kept : List (Here × Kept)) (s : Standing) → stands code bs at e kept ≡ s → length s.core.kept ≡ length kept
 kept_counted code bs at e kept s is = sym (ap (λ (x : Standing). length x.core.kept) is) ∙ copies_counted (plain_code code) bs kept
 
--- nothing is kept
-pub nothing_kept : (code : Code) (bs : BasesState) (at : ℕ) (e : Here) (kept : List (Here × Kept)) (s : Standing) → stands code bs at e kept ≡ s → kept ≡ [] → s.core.kept ≡ []
-nothing_kept code bs at e kept s is none = sym (ap (λ (x : Standing). x.core.kept) is) ∙ ap (copies_of (plain_code code) bs) none
-
 -- the store over the older ones of what was kept, where all else stays
 pub record ForgotLast (code : Code) (bs : BasesState) (keeps : ℕ) (at : ℕ) (e : Here) (kept : List (Here × Kept)) (s : Standing) : Type 0 where
   pub forgotten_to : forgotten s.core.kept s.core ≡ Some (stands code bs at e kept).core
@@ -195,8 +191,3 @@ forgot_last stay too alike were code bs keeps at next e e' (k ∷ ks) kept' s h 
     subst (λ m. ForgotLast code bs keeps m e' kept' s) (sym n)
     (subst (λ x. ForgotLast code bs keeps (suc at) x kept' s) (sym same)
     (subst (λ l. ForgotLast code bs keeps (suc at) e l s) (sym less) (forgot_first stay too alike were code bs keeps at e k ks s h is)))
-
--- nothing was there to be forgotten
-pub none_forgotten : (code : Code) (bs : BasesState) (at : ℕ) (e : Here) (kept : List (Here × Kept)) (s : Standing) → stands code bs at e kept ≡ s → nat_lt 0 (length kept) ≡ false → s.core.kept ≡ []
-none_forgotten code bs at e [] s is none = nothing_kept code bs at e [] s is refl
-none_forgotten code bs at e (k ∷ ks) s is none = absurd (cc)
