@@ -110,7 +110,7 @@ operators_placed : Placed 0 (map r.Operate operators)
 operators_placed = (refl, (refl, (refl, (refl, (refl, (refl, (refl, (refl, (refl, (refl, (refl, (refl, (refl, (refl, (refl, (refl, (refl, (refl, (refl, (refl, (refl, (refl, (refl, (refl, (refl, (refl, (refl, (refl, (refl, (refl, (refl, (refl, (refl, (refl, (refl, (refl, (refl, (refl, (refl, (refl, (refl, (refl, (refl, (refl, (refl, (refl, (refl, (refl, (refl, (refl, tt))))))))))))))))))))))))))))))))))))))))))))))))))
 
 rows_placed : Placed 64 rows
-rows_placed = (refl, (refl, (refl, (refl, (refl, (refl, (refl, ((λ x. (refl, refl)), ((λ x. (refl, refl)), ((λ x. (refl, refl)), ((λ n. (refl, refl)), ((λ n. (refl, refl)), (refl, (refl, (refl, (refl, ((λ x ks. refl), (refl, ((λ x ks. refl), ((λ x ks. refl), ((λ x ks. refl), ((λ n. (refl, refl)), ((λ n. (refl, refl)), ((λ n. (refl, refl)), (refl, ((λ n. (refl, refl)), ((λ n. (refl, refl)), (refl, (refl, ((λ n. (refl, refl)), (refl, (refl, (refl, (refl, (refl, ((λ n. (refl, refl)), (refl, (refl, ((λ n. (refl, refl)), ((λ n. (refl, refl)), (refl, ((λ n. (refl, refl)), (refl, (refl, (refl, ((λ n. (refl, refl)), (refl, (refl, tt))))))))))))))))))))))))))))))))))))))))))))))))
+rows_placed = (refl, (refl, (refl, (refl, (refl, (refl, (refl, ((λ x. (refl, refl)), ((λ x. (refl, refl)), ((λ x. (refl, refl)), ((λ n. (refl, refl)), ((λ n. (refl, refl)), (refl, (refl, (refl, (refl, ((λ x ks. refl), (refl, ((λ x ks. refl), ((λ x ks. refl), ((λ x ks. refl), ((λ n. (refl, refl)), ((λ n. (refl, refl)), ((λ n. (refl, refl)), (refl, ((λ n. (refl, refl)), ((λ n. (refl, refl)), (refl, (refl, ((λ n. (refl, refl)), (refl, (refl, (refl, (refl, (refl, ((λ n. (refl, refl)), (refl, (refl, ((λ n. (refl, refl)), ((λ n. (refl, refl)), (refl, ((λ n. (refl, refl)), (refl, (refl, (refl, ((λ n. (refl, refl)), (refl, (refl, (refl, tt)))))))))))))))))))))))))))))))))))))))))))))))))
 
 row_is : (b : ℕ) (x : Row) → row_at b ≡ Some x → IsRow b (form x)
 row_is b x is = elim (cases_lt b 50) [
