@@ -121,9 +121,10 @@ is_continue : GoodKind st.Continue
 is_continue = from_kind_tokens st.Continue _ (ap kind_tokens (sym st.rolls-Continue) ∙ fold-roll-StmtKind (ℕ → Tokens) Tokens Tokens kind_step branch_step stmt_step StmtKind-F.Continue) (λ line. word_at line k.Continue tt (word k.Semicolon tt none))
 
 is_fail : GoodKind st.Fail
+is_fail = from_kind_tokens st.Fail _ (ap kind_tokens (sym st.rolls-Fail) ∙ fold-roll-StmtKind (ℕ → Tokens) Tokens Tokens kind_step branch_step stmt_step StmtKind-F.Fail) (λ line. word_at line k.Fail tt (word k.Semicolon tt none))
 
 is_succeed : GoodKind st.Succeed
-is_fail = from_kind_tokens st.Fail _ (ap kind_tokens (sym st.rolls-Fail) ∙ fold-roll-StmtKind (ℕ → Tokens) Tokens Tokens kind_step branch_step stmt_step StmtKind-F.Fail) (λ line. word_at line k.Fail tt (word k.Semicolon tt none))
+is_succeed = from_kind_tokens st.Succeed _ (ap kind_tokens (sym st.rolls-Succeed) ∙ fold-roll-StmtKind (ℕ → Tokens) Tokens Tokens kind_step branch_step stmt_step StmtKind-F.Succeed) (λ line. word_at line k.Succeed tt (word k.Semicolon tt none))
 
 is_stop : GoodKind st.Stop
 is_stop = from_kind_tokens st.Stop _ (ap kind_tokens (sym st.rolls-Stop) ∙ fold-roll-StmtKind (ℕ → Tokens) Tokens Tokens kind_step branch_step stmt_step StmtKind-F.Stop) (λ line. word_at line k.Stop tt (word k.Semicolon tt none))
