@@ -95,8 +95,8 @@ fn is_count(operator: Operator, n: u32) -> bool
     }
 }
 
-// Whether an update may do this.
-fn can_alter(alteration: Alteration) -> bool
+/// Whether an update may do this: put, take out, or combine by an operator that an update may have.
+pub fn can_alter(alteration: Alteration) -> bool
     ensures { result ≡ can_alter alteration }
 {
     match alteration {

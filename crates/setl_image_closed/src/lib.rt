@@ -3,4 +3,4 @@
 
 mod closed;
 
-pub use closed::is_closed;
+pub use closed::{can_alter, is_closed};

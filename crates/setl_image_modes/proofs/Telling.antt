@@ -1,7 +1,7 @@
 -- What the tests of modes tell.
-use Rattle.std.proofs.Common.{◌≡◌, ◌∙◌, ℕ, zero, suc, Bool, true, false, List, [], ◌∷◌, map, nat_eq, Option, Some, None, refl, sym, ap, subst, eq-eqb, eqb-true}
+use Rattle.std.proofs.Common.{◌≡◌, ℕ, zero, suc, Bool, true, false, List, [], ◌∷◌, map, nat_eq, Option, Some, None, refl, sym, ap, subst, eq-eqb, eqb-true}
 use Rattle.std.specs.Prelude.{slice_get, not, ◌&&◌, ◌↔◌, IsTrue}
-use Rattle.std.specs.List.{AllByRecursion, list_all}
+use Rattle.std.specs.List.{AllByRecursion}
 use Rattle.setl_modes.specs.declared.mode.NamedMode.{NamedMode}
 use Rattle.setl_modes.specs.declared.mode.Form.{Form}
 use Rattle.setl_modes.specs.declared.mode.Form.TheVariants.{Plain, Local, Remote, Sparse}
@@ -71,6 +71,9 @@ of_base (Some n) m h = ap Some (mode_is n m h)
 to_base : (o : Option Mode) (m : Mode) → o ≡ Some m → is_of_base o m ≡ true
 to_base None m h = cc
 to_base (Some n) m h = let same : n ≡ m = cc in subst (λ (k : Mode). same_mode k m ≡ true) (sym same) (mode_itself m)
+
+pub told : (o : Option Mode) (m : Mode) → IsTrue (is_of_base o m) ↔ (o ≡ Some m)
+told o m = (of_base o m, to_base o m)
 
 names_of : (bases : List Mode) (m : Mode) → names_bases bases m ≡ true → NamesBases bases m
 names_of bases (Elements k m) h = of_base (slice_get bases k) m h

@@ -1,5 +1,5 @@
 -- Bases and declared variables whose modes keep the rules of a `repr` section.
-use Rattle.std.specs.Prelude.{◌≡◌, refl, ℕ, Bool, true, false, not, ◌&&◌, ◌||◌, nat_eq, List, map, slice_get, Option, Some, None}
+use Rattle.std.specs.Prelude.{◌≡◌, ◌↔◌, IsTrue, refl, ℕ, Bool, true, false, not, ◌&&◌, ◌||◌, nat_eq, List, map, slice_get, Option, Some, None}
 use Rattle.std.specs.List.{AllByRecursion, list_all}
 use Rattle.setl_modes.specs.declared.mode.NamedMode.{NamedMode}
 use Rattle.setl_modes.specs.declared.mode.Form.{Form}
@@ -96,6 +96,10 @@ same_mode m n = false
 abbrev pub is_of_base : Option Mode → Mode → Bool
 is_of_base None m = false
 is_of_base (Some n) m = same_mode n m
+
+-- the test says yes exactly of a base that is there and has the mode
+abbrev pub BasesAreTold : Type 0
+BasesAreTold = (base : Option Mode) (m : Mode) → IsTrue (is_of_base base m) ↔ (base ≡ Some m)
 
 abbrev pub names_bases : (bases : List Mode) → Mode → Bool
 names_bases bases (Elements k m) = is_of_base (slice_get bases k) m

@@ -4,4 +4,4 @@
 mod rules;
 mod same;
 
-pub use rules::modes_are_sound;
+pub use rules::{bases_are_told, is_of_base, modes_are_sound};

@@ -3,7 +3,7 @@
 ghost use Rattle.std.specs.Prelude.{◌≡◌, ◌↔◌, ◌&&◌, ◌||◌, not, IsTrue, map};
 ghost use Rattle.setl_modes.specs.Modes.{mode_of};
 ghost use Rattle.setl_modes.specs.Modes as plain;
-ghost use Rattle.setl_image_modes.specs.SoundModes.{SoundModes, named_of, is_element, is_set, has_element, form_fits, keeps_rules, names_bases, bases_fit, vars_fit, modes_of};
+ghost use Rattle.setl_image_modes.specs.SoundModes.{SoundModes, BasesAreTold, named_of, is_element, is_set, has_element, form_fits, keeps_rules, names_bases, bases_fit, vars_fit, modes_of};
 
 use crate::same::same_mode;
 use setl_modes::{Form, Mode, ModeTable, NamedMode};
@@ -62,8 +62,8 @@ fn names_bases(bases: &[NamedMode], mode: &Mode) -> bool
     }
 }
 
-// Whether the base of this number is there and has this mode.
-fn is_of_base(bases: &[NamedMode], k: u32, mode: &Mode) -> bool
+/// Whether the base of this number, counted from 0, is there and has this mode.
+pub fn is_of_base(bases: &[NamedMode], k: u32, mode: &Mode) -> bool
     ensures { result ≡ names_bases (modes_of bases.now) (plain.Elements k (mode_of mode.now)) }
 {
     match bases.get(k as usize) {
@@ -71,6 +71,11 @@ fn is_of_base(bases: &[NamedMode], k: u32, mode: &Mode) -> bool
         Some(base) => same_mode(&base.mode, mode),
     }
 }
+
+/// The test of one base in definitions tells whether it is there and has a mode.
+pub fn bases_are_told()
+    ensures { BasesAreTold }
+{}
 
 // What is seen of a mode: whether an `elmt` stands in it, and whether it keeps the rules.
 #[derive(Clone, Copy)]

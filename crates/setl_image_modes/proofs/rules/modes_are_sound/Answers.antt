@@ -1,4 +1,4 @@
-use Rattle.std.proofs.Common.{◌≡◌, ◌∙◌, List, ap}
+use Rattle.std.proofs.Common.{◌∙◌, List, ap}
 use Rattle.setl_modes.specs.declared.mode.NamedMode.{NamedMode}
 use Rattle.setl_image_modes.specs.SoundModes.{bases_fit, vars_fit, modes_of}
 use Rattle.setl_image_modes.proofs.Telling.{sound_then, sound_else}

@@ -1,0 +1,2 @@
+pub mod CodeFiles
+pub mod Laws
