@@ -16,3 +16,4 @@ mod taken;
 
 pub use breaking::breaking_name;
 pub use program::modes;
+pub use table::mode_table;

@@ -1,5 +1,5 @@
 -- What becomes of advice.
-use Rattle.std.proofs.Common.{◌≡◌, ◌<◌, ℕ, List, [], ◌∷◌, ◌++◌, length, take, refl, subst}
+use Rattle.std.proofs.Common.{◌≡◌, ◌^◌, ℕ, List, [], ◌∷◌, ◌++◌, refl, subst}
 use Rattle.setl_io.specs.Files.{IsText}
 use Rattle.setl_tree.specs.declared.tree.Tree.{Tree}
 use Rattle.setl_top_status.specs.Reasons.{reason_line}
@@ -8,15 +8,14 @@ use Rattle.setl_top_status.specs.code.Loads.{SeenFiles, HasText, IsStill}
 use Rattle.setl_top_status.specs.declared.status.Status.{Status}
 use Rattle.setl_top_status.specs.declared.status.Status.TheVariants.{Refused}
 use Rattle.setl_top.specs.Accepted.{IsProgram}
-use Rattle.setl_top_advice.specs.Advised.{IsAdvised}
-use Rattle.setl_top.specs.Headline.{IsToAdvise, IsToLoad, Answers, refused, advised, has_repr, in_advice, LeavesRest, Headline}
+use Rattle.setl_top.specs.Headline.{IsToAdvise, IsToLoad, refused, advised, has_repr, in_advice, Headline}
 use Rattle.setl_top.specs.Outside.{Outside}
 use Rattle.setl_top.specs.code.Advises.{WritesAdvice, advised_so, starved_of_advice, AdvisesText, of_program, of_declared, of_refused, not_read_through, Advises, of_source, no_source}
 use Rattle.setl_top.proofs.Ends.{starved, told_alone, written_ends, not_loaded}
 use Rattle.setl_top_words.specs.Words.{Spells, Advise}
 
 -- after a load that told nothing
-pub advised_then : (name : List ℕ) (files files' : SeenFiles) (out out' err mid err' : Seen (List ℕ)) → IsStill files files' err mid → (source : List ℕ) → HasText files.held name source → (ends : Status) → AdvisesText source out out' mid err' ends → Advises name files files' out out' err err' ends
+pub advised_then : (name : List ℕ) (files files' : SeenFiles) (out out' err mid err' : Seen (List ℕ)) → IsStill files files' err mid → (source : List ℕ) → HasText (2 ^ 24) files.held name source → (ends : Status) → AdvisesText source out out' mid err' ends → Advises name files files' out out' err err' ends
 advised_then name files files' out out' err mid err' still source t ends w =
     of_source source ends t.text still.count (subst (λ (o : Seen (List ℕ)). AdvisesText source out out' o err' ends) still.same w)
 

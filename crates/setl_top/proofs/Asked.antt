@@ -5,6 +5,7 @@ use Rattle.setl_top_options.specs.declared.given.RunOption.{RunOption}
 use Rattle.setl_top_options.specs.declared.given.RunOption.TheVariants.{Unbased, Turns, Watch}
 use Rattle.setl_top_words.specs.Words.{Options, AreOptions, with_option, default_options, Run, Spells}
 use Rattle.setl_top_words.specs.Told.{TellsFaulty}
+use Rattle.setl_top_words.specs.declared.reading.FileKind.{FileKind}
 
 bounded : (xs : List RunOption) (o : Options) → AreOptions xs → o.turns < 2 ^ 63 → (fold with_option o xs).turns < 2 ^ 63
 bounded [] o v h = h
@@ -13,8 +14,8 @@ bounded (Turns n ∷ xs) o v h = bounded xs (record o { turns = n }) v.2 v.0
 bounded (Watch a ∷ xs) o v h = bounded xs (record o { watch = Some a }) v.2 h
 
 -- it is below 2^63
-pub turns_asked : (words : List (List ℕ)) (o : Options) (name : List ℕ) → Spells words (Run o name) → o.turns < 2 ^ 63
-turns_asked words o name s = subst (λ (x : Options). x.turns < 2 ^ 63) (sym s.means) (bounded s.given default_options s.valid (omega arith))
+pub turns_asked : (words : List (List ℕ)) (kind : FileKind) (o : Options) (name : List ℕ) → Spells words (Run kind o name) → o.turns < 2 ^ 63
+turns_asked words kind o name s = subst (λ (x : Options). x.turns < 2 ^ 63) (sym s.means) (bounded s.given default_options s.valid (omega arith))
 
 -- the line serves in any case
 pub line_told : (words : List (List ℕ)) → TellsFaulty words (codes "not of the plain form" ++ 10 ∷ [])

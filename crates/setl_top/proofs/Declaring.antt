@@ -25,6 +25,7 @@ use Rattle.setl_code_declared.specs.Laws.{StartsFit}
 use Rattle.setl_store.specs.Standing.{Standing, no_world, started}
 use Rattle.setl_machine_control.specs.Declaring.{Modes, DeclarationTable, modes_of, IsOfMain, AreOfMain, IsBare, Serves}
 use Rattle.setl_top.specs.Listings.{IsMarked}
+use Rattle.setl_top.specs.Runnable.{Runnable, declared_by}
 use Rattle.setl_top.specs.code.Runs.{IsMeant, counted}
 use Rattle.setl_top_words.specs.Words.{Options}
 
@@ -40,15 +41,15 @@ are_of_main : (t : Tree) (ds : List (Name × Mode)) → AreOfMain (map (declarat
 are_of_main t [] = tt
 are_of_main t (d ∷ ds) = (of_main t d.0, are_of_main t ds)
 
-modes_of_main : (p : Program) → IsMeant p → AreOfMain p.modes
+pub modes_of_main : (p : Program) → IsMeant p → AreOfMain p.modes
 modes_of_main p m = subst AreOfMain (sym (ap (λ (q : Program). q.modes) m.meaning)) (are_of_main m.tree (variables_of m.tree.modes))
 
 -- those that count are so
-pub counted_of_main : (asked : Options) (p : Program) → IsMeant p → AreOfMain (counted asked p)
-counted_of_main asked p m = go asked.based
+pub counted_of_main : (asked : Options) (r : Runnable) → AreOfMain (declared_by r) → AreOfMain (counted asked r)
+counted_of_main asked r main = go asked.based
   where
-    go : (b : Bool) → AreOfMain (if b then p.modes else [])
-    go true = modes_of_main p m
+    go : (b : Bool) → AreOfMain (if b then declared_by r else [])
+    go true = main
     go false = tt
 
 -- a marked body has the parameters of the body

@@ -3,7 +3,6 @@ use Rattle.std.proofs.Common.{◌≡◌, ◌⊎◌, inl, inr, ◌<◌, ℕ, List
 use Rattle.std.specs.Io.KnownBytes.{Appends}
 use Rattle.setl_io.specs.Files.{IsText}
 use Rattle.setl_model_runs.specs.Events as run
-use Rattle.setl_program.specs.ProgramOf.{program_of}
 use Rattle.setl_tree.specs.declared.tree.Tree.{Tree}
 use Rattle.setl_machine_control.specs.Declaring.{Modes}
 use Rattle.setl_machine_control.specs.Answers.{kind_of}
@@ -32,12 +31,21 @@ use Rattle.setl_top.specs.code.Explains.{WritesExplanation, explained_so, starve
 use Rattle.setl_top.specs.code.Lists.{Lists, listed_so, not_listed}
 use Rattle.setl_top.specs.code.Loads.{Loaded, NotLoaded, not_accepted, not_read, no_room, Checks, checked_so, not_checked}
 use Rattle.setl_top.specs.code.Runs.{Streams, streams, counted, RunsTo, RunsInto, WritesInto, RunsToRead, RunsUpTo, Runs, TakesInput}
+use Rattle.setl_top.specs.code.Builds.{code_written, code_too_long, code_starved, Builds, built_so, not_built}
+use Rattle.setl_top.specs.code.Ready.{LoadedReady, NotReady, NotCode, flawed_so, unread_so}
+use Rattle.setl_top.specs.declared.ready.Ready.{Ready}
+use Rattle.setl_top.specs.Built.{IsBuilt}
+use Rattle.setl_top.specs.Runnable.{Runnable}
+use Rattle.setl_top_images.specs.CodeFiles.{flaw_line}
+use Rattle.setl_top_images.specs.declared.images.Flaw.TheVariants.{TooLong}
+use Rattle.setl_top_words.specs.declared.reading.FileKind.{FileKind}
+use Rattle.setl_top_words.specs.declared.reading.FileKind.TheVariants.{Source, CodeFile}
 use Rattle.setl_top.specs.code.Tells.{TellsEnd}
-use Rattle.setl_top.specs.Headline.{Job, IsInput, IsToLoad, IsToRun, IsToList, IsToExplain, TellsRefusal, Answers, faulty_words, refused, checked, listed, explained, no_fault, stop_told, run_ended, UpToWrite, no_program, at_state, in_print, in_write, in_listing, in_explanation, in_stop, load_failed, read_failed, no_such_watcher, TellsFault, LeavesRest, IsQuiet, at_work, at_end, Ended, ReadFailed, WriteFailed, MemoryFailed, print_failed, out_failed, err_failed, InputLeft, untouched, read_from, Headline}
+use Rattle.setl_top.specs.Headline.{Job, IsInput, IsToLoad, IsToRun, IsToList, IsToBuild, IsToExplain, TellsRefusal, Answers, faulty_words, refused, code_refused, checked, listed, built, too_long_built, explained, no_fault, stop_told, run_ended, UpToWrite, no_program, at_state, in_print, in_write, in_listing, in_code_file, in_explanation, in_stop, load_failed, read_failed, no_such_watcher, TellsFault, LeavesRest, IsQuiet, at_work, at_end, Ended, ReadFailed, WriteFailed, MemoryFailed, print_failed, out_failed, err_failed, InputLeft, untouched, read_from, Headline}
 use Rattle.setl_top.specs.Outside.{Outside}
 use Rattle.setl_top.specs.Watching.{asked_for, IsThere, no_watcher_line, all_told, reports_of}
 use Rattle.setl_watch.specs.Watches.{Watched, watched}
-use Rattle.setl_top_words.specs.Words.{Options, IsFaulty, Spells, HasFile, watched_by, Command, Run, Check, Code, Explain, TellStop}
+use Rattle.setl_top_words.specs.Words.{Options, IsFaulty, Spells, HasFile, watched_by, Command, Run, Check, Code, Build, Explain, TellStop}
 use Rattle.setl_top_words.specs.Told.{TellsFaulty}
 
 -- a fault's own line, and nothing before it
@@ -133,68 +141,68 @@ tells_then modes others h k e err mid err' r same heard still told =
 abbrev pub listening : Options → Outside → Watched
 listening asked before = watched (asked_for asked.watch before.watchers) []
 
-abbrev pub job_of : Options → Tree → List ℕ → Outside → Job
-job_of asked tree input before = record { program = program_of tree; input = input; turns = asked.turns; based = asked.based; watchers = asked_for asked.watch before.watchers }
+abbrev pub job_of : Options → Runnable → List ℕ → Outside → Job
+job_of asked r input before = record { runnable = r; input = input; turns = asked.turns; based = asked.based; watchers = asked_for asked.watch before.watchers }
 
--- a program that was loaded is to be run
-pub to_run : (words : List (List ℕ)) (before : Outside) (asked : Options) (name : List ℕ) (tree : Tree) (input : List ℕ) → Spells words (Run asked name) → IsThere asked.watch before.watchers → Loaded before.files.held name tree → IsInput before.input.held input → IsToRun words before (job_of asked tree input before)
-to_run words before asked name tree input s there l known = record {
-  command = Run asked name;
-  name = name;
-  source = l.source;
-  spelled = s;
-  runs = (refl, refl, refl);
-  text = l.text;
-  accepted = record { tree = tree; is_program = l.is_program; meaning = refl };
-  input = known;
-  there = there;
-  watched = refl;
-}
-
-module _ (words : List (List ℕ)) (before after : Outside) (heard : Watched) (asked : Options) (name : List ℕ) (tree : Tree) (s : Spells words (Run asked name)) (there : IsThere asked.watch before.watchers) (l : Loaded before.files.held name tree) where
+module _ (words : List (List ℕ)) (before after : Outside) (heard : Watched) (kind : FileKind) (asked : Options) (name : List ℕ) (ready : Ready) (s : Spells words (Run kind asked name)) (there : IsThere asked.watch before.watchers) (l : LoadedReady kind before.files.held name ready) where
   abbrev from : Streams
   from = streams before.input before.output (listening asked before)
 
   abbrev to : Streams
   to = streams after.input after.output heard
 
-  to_be_run : (input : List ℕ) → IsInput before.input.held input → IsToRun words before (job_of asked tree input before)
-  to_be_run input known = to_run words before asked name tree input s there l known
+  abbrev job : List ℕ → Job
+  job input = job_of asked l.runnable input before
+
+  -- what was loaded is to be run
+  to_be_run : (input : List ℕ) → IsInput before.input.held input → IsToRun words before (job input)
+  to_be_run input known = record {
+    command = Run kind asked name;
+    kind = kind;
+    name = name;
+    bytes = l.bytes;
+    spelled = s;
+    runs = (refl, refl, refl, refl);
+    text = l.text;
+    holds = l.holds;
+    input = known;
+    there = there;
+    watched = refl;
+  }
 
   -- a run came to its end
-  run_told : (end : run.End) (status : Status) → status_of end ≡ Some status → RunsTo (program_of tree) asked from to end → (Ended words before after status → Headline words before after status) → CountStays before.files after.files → (r : Status) → Tells status (all_told heard ++ error_line end) before.error_output after.error_output r → Headline words before after r
+  run_told : (end : run.End) (status : Status) → status_of end ≡ Some status → RunsTo l.runnable asked from to end → (Ended words before after status → Headline words before after status) → CountStays before.files after.files → (r : Status) → Tells status (all_told heard ++ error_line end) before.error_output after.error_output r → Headline words before after r
   run_told end status how x ends f r t =
-      let job = job_of asked tree x.input before in
       let a = to_be_run x.input x.known in
-      let line : List ℕ = reports_of job.watchers x.means.last.events ++ error_line end in
+      let line : List ℕ = reports_of (job x.input).watchers x.means.events ++ error_line end in
       let same = subst (λ h. Tells status (all_told h ++ error_line end) before.error_output after.error_output r) x.told t in
-      told words before after status x.out line ends (run_ended x.out line end status after.input.held (record { job = job; asked = a; means = x.means; leaves = x.left; tells = refl }) how) x.gained (record { files = f; input = x.input_count; output = x.out_count }) r same
+      told words before after status x.out line ends (run_ended x.out line end status after.input.held (record { job = job x.input; asked = a; means = x.means; leaves = x.left; tells = refl }) how) x.gained (record { files = f; input = x.input_count; output = x.out_count }) r same
 
   -- it was broken off
-  run_unread : RunsToRead (program_of tree) asked from to → CountRose before.input after.input → CountStays before.output after.output → CountStays before.files after.files → AppendsFront before.error_output.held after.error_output.held (fault_line fault.Read) → ReadFailed words before after
+  run_unread : RunsToRead l.runnable asked from to → CountRose before.input after.input → CountStays before.output after.output → CountStays before.files after.files → AppendsFront before.error_output.held after.error_output.held (fault_line fault.Read) → ReadFailed words before after
   run_unread x rose still f h = record {
     out = x.out;
-    cause = read_failed x.out (record { rose = rose; reading = record { job = job_of asked tree x.input before; asked = to_be_run x.input x.known; at = x.at }; files = f; output = still });
+    cause = read_failed x.out (record { rose = rose; reading = record { job = job x.input; asked = to_be_run x.input x.known; at = x.at }; files = f; output = still });
     out_gained = x.gained;
     err_gained = fault_alone before after fault.Read h;
   }
 
-  run_unwritten : WritesInto (program_of tree) asked from to → CountRose before.output after.output → CountStays before.input after.input → CountStays before.files after.files → AppendsFront before.error_output.held after.error_output.held (fault_line fault.Write) → WriteFailed words before after
+  run_unwritten : WritesInto l.runnable asked from to → CountRose before.output after.output → CountStays before.input after.input → CountStays before.files after.files → AppendsFront before.error_output.held after.error_output.held (fault_line fault.Write) → WriteFailed words before after
   run_unwritten w rose still f h =
       let x = w.into in
       record {
         out = x.out ++ take x.n x.line;
         telling = [];
-        cause = print_failed x.out x.line x.n (record { rose = rose; printing = record { job = job_of asked tree x.input before; asked = to_be_run x.input x.known; at = x.at }; part = x.part; leaves = w.left; files = f; input = still });
+        cause = print_failed x.out x.line x.n (record { rose = rose; printing = record { job = job x.input; asked = to_be_run x.input x.known; left = x.still; at = x.at }; part = x.part; leaves = w.left; files = f; input = still });
         out_gained = x.gained;
         err_gained = fault_alone before after fault.Write h;
       }
 
-  run_starved : RunsInto (program_of tree) asked from to ⊎ RunsUpTo (program_of tree) asked from to → IsQuiet before after → AppendsFront before.error_output.held after.error_output.held (fault_line fault.NoMemory) → MemoryFailed words before after
+  run_starved : RunsInto l.runnable asked from to ⊎ RunsUpTo l.runnable asked from to → IsQuiet before after → AppendsFront before.error_output.held after.error_output.held (fault_line fault.NoMemory) → MemoryFailed words before after
   run_starved (inl x) quiet h = record {
     out = x.out ++ take x.n x.line;
     telling = [];
-    cause = at_work (x.out ++ take x.n x.line) (in_print x.out x.line x.n (record { job = job_of asked tree x.input before; asked = to_be_run x.input x.known; at = x.at }) x.part);
+    cause = at_work (x.out ++ take x.n x.line) (in_print x.out x.line x.n (record { job = job x.input; asked = to_be_run x.input x.known; left = x.still; at = x.at }) x.part);
     out_gained = x.gained;
     err_gained = fault_alone before after fault.NoMemory h;
     quiet = quiet;
@@ -202,16 +210,16 @@ module _ (words : List (List ℕ)) (before after : Outside) (heard : Watched) (a
   run_starved (inr x) quiet h = record {
     out = x.out;
     telling = [];
-    cause = at_work x.out (at_state x.out (record { job = job_of asked tree x.input before; asked = to_be_run x.input x.known; at = x.at }));
+    cause = at_work x.out (at_state x.out (record { job = job x.input; asked = to_be_run x.input x.known; at = x.at }));
     out_gained = x.gained;
     err_gained = fault_alone before after fault.NoMemory h;
     quiet = quiet;
   }
 
-  -- the run of a program, and the line that tells its end
-  pub run_ends : (e : End) → Runs (program_of tree) asked from to e → CountStays before.files after.files → (r : Status) → TellsEnd (counted asked (program_of tree)) heard e before.error_output after.error_output r → Headline words before after r
+  -- the run of what was loaded, and the line that tells its end
+  pub run_ends : (e : End) → Runs l.runnable asked from to e → CountStays before.files after.files → (r : Status) → TellsEnd (counted asked l.runnable) heard e before.error_output after.error_output r → Headline words before after r
   run_ends end.Done x f r t = run_told run.Done Done refl x (λ y. y) f r t
-  run_ends (end.Stopped why line) x f r t = run_told (run.Stopped (kind_of (counted asked (program_of tree)) why) line) Stopped refl x (λ y. y) f r t
+  run_ends (end.Stopped why line) x f r t = run_told (run.Stopped (kind_of (counted asked l.runnable) why) line) Stopped refl x (λ y. y) f r t
   run_ends end.Spent x f r t = run_told run.Spent Spent refl x (λ y. y) f r t
   run_ends end.ReadFault x f r t = subst (Headline words before after) (sym t.0) (run_unread x.0 x.1 x.2 f t.1)
   run_ends end.WriteFault x f r t = subst (Headline words before after) (sym t.0) (run_unwritten x.0 x.1 x.2 f t.1)
@@ -220,11 +228,28 @@ module _ (words : List (List ℕ)) (before after : Outside) (heard : Watched) (a
   run_ends end.Stuck x f r t = absurd x
 
   -- what it took of the input
-  pub run_takes : TakesInput (program_of tree) asked from to → InputLeft words before after
+  pub run_takes : TakesInput l.runnable asked from to → InputLeft words before after
   run_takes (inl same) = untouched same
-  run_takes (inr x) = read_from x.out x.more x.taken (record { job = job_of asked tree x.input before; asked = to_be_run x.input x.known; at = x.at }) x.gained x.consumed
+  run_takes (inr x) = read_from x.out x.more x.taken (record { job = job x.input; asked = to_be_run x.input x.known; at = x.at }) x.gained x.consumed
 
--- ---- checks, listings and trials
+-- a code file wasn't made ready
+not_code : (words : List (List ℕ)) (before after : Outside) (asked : Options) (name : List ℕ) → Spells words (Run CodeFile asked name) → IsThere asked.watch before.watchers → LeavesRest before after → (r : Status) → NotCode name before.files after.files before.error_output after.error_output r → Headline words before after r
+not_code words before after asked name s there rest _ (flawed_so bytes flaw r t why e h) =
+    told_alone words before after Refused (flaw_line flaw ++ 10 ∷ []) (λ x. x) (code_refused asked name bytes (flaw_line flaw) s there t (record { flaw = flaw; flawed = why; tells = refl })) e rest r h
+not_code words before after asked name s there rest _ (unread_so _ (failed_read rose h)) = record {
+  out = [];
+  cause = load_failed (record { name = name; asked = record { command = Run CodeFile asked name; spelled = s; file = refl; there = there }; rose = rose; input = rest.input; output = rest.output });
+  out_gained = appends_same before.output after.output rest.output;
+  err_gained = fault_alone before after fault.Read h;
+}
+not_code words before after asked name s there rest _ (unread_so _ (starved_read e h)) = starved words before after e rest h
+
+-- what a file holds wasn't made ready
+pub not_ready : (words : List (List ℕ)) (before after : Outside) (kind : FileKind) (asked : Options) (name : List ℕ) → Spells words (Run kind asked name) → IsThere asked.watch before.watchers → LeavesRest before after → (r : Status) → NotReady kind name before.files after.files before.error_output after.error_output r → Headline words before after r
+not_ready words before after Source asked name s there rest r h = not_loaded words before after (Run Source asked name) name s refl tt there rest r h
+not_ready words before after CodeFile asked name s there rest r h = not_code words before after asked name s there rest r h
+
+-- ---- checks, listings, builds and trials
 
 -- a check of a file, which leaves the input and the output alone
 pub check_ends : (words : List (List ℕ)) (before after : Outside) (name : List ℕ) → Spells words (Check name) → LeavesRest before after → (r : Status) → Checks name before.files after.files before.error_output after.error_output r → Headline words before after r
@@ -277,6 +302,20 @@ list_ends words before after name s same r (listed_so tree _ l files w) =
     let a = to_list words before name tree w.text s l w.is_listing in
     written_ends words before after w.text (listed w.text a) (λ n. in_listing w.text n a) same files r w.written
 list_ends words before after name s same r (not_listed _ h still) = not_loaded words before after (Code name) name s refl tt tt (record { input = same; output = still }) r h
+
+-- the code file of the program of a file is to be built
+to_build : (words : List (List ℕ)) (before : Outside) (name : List ℕ) (tree : Tree) (bytes : List ℕ) → Spells words (Build name) → Loaded before.files.held name tree → IsBuilt tree bytes → IsToBuild words before bytes
+to_build words before name tree bytes s l is = record { name = name; source = l.source; tree = tree; spelled = s; text = l.text; is_program = l.is_program; is_built = is }
+
+-- a build of a file, which leaves the input alone
+pub build_ends : (words : List (List ℕ)) (before after : Outside) (name : List ℕ) → Spells words (Build name) → after.input ≡ before.input → (r : Status) → Builds name before.files after.files before.output after.output before.error_output after.error_output r → Headline words before after r
+build_ends words before after name s same r (built_so tree _ l files (code_written bytes _ is w)) =
+    let a = to_build words before name tree bytes s l is in
+    written_ends words before after bytes (built bytes a) (λ n. in_code_file bytes n a) same files r w
+build_ends words before after name s same r (built_so tree _ l files (code_too_long _ long still t)) =
+    told_alone words before after Refused (flaw_line TooLong ++ 10 ∷ []) (λ x. x) (too_long_built name l.source tree s l.text l.is_program long) files (record { input = same; output = still }) r t
+build_ends words before after name s same _ (built_so tree _ l files (code_starved still h)) = starved words before after files (record { input = same; output = still }) h
+build_ends words before after name s same r (not_built _ h still) = not_loaded words before after (Build name) name s refl tt tt (record { input = same; output = still }) r h
 
 -- ---- explanations
 

@@ -1,5 +1,5 @@
 -- Which answers exclude which.
-use Rattle.std.proofs.Common.{◌≡◌, ◌↔◌, ◌∙◌, ◌^◌, ◌-◌, inl, inr, ℕ, zero, suc, Bool, true, List, [], ◌∷◌, ◌++◌, Option, Some, refl, sym, ap, ap₂, subst}
+use Rattle.std.proofs.Common.{◌≡◌, ◌↔◌, ◌∙◌, ◌^◌, ◌-◌, inl, inr, ℕ, zero, suc, Bool, true, List, [], ◌∷◌, ◌++◌, Option, Some, refl, sym, ap, ap₂, subst, arith}
 use Rattle.setl_io.specs.Files.{IsText}
 use Rattle.setl_model_runs.specs.Events.{Event, End}
 use Rattle.setl_model_runs.specs.Events as events
@@ -12,8 +12,8 @@ use Rattle.setl_program.specs.Program.{Program}
 use Rattle.setl_program.specs.ProgramOf.{program_of}
 use Rattle.setl_tree.specs.declared.tree.Tree.{Tree}
 use Rattle.setl_top.specs.Accepted.{IsProgram, Accepted, Refusal, IsRefusedFor}
-use Rattle.setl_top.specs.Headline.{AnyRose, ReadCause, load_failed, read_failed, InputLeft, untouched, read_from, WriteCause, print_failed, out_failed, err_failed, faulty_words, no_such_watcher, refused, checked, listed, advised, has_repr, explained, no_fault, stop_told, run_ended, trial_refused, trial_ended, Job, IsInput, IsToRun, IsTried, TellsRefusal, trial_output}
-use Rattle.setl_top.specs.Laws.{IsComplete, FaultyWordsReadNothing, WordsExactly, RefusesExactly, ChecksExactly, ListsExactly, AdvisesExactly, ExplainsExactly, TrialsReadNothing, TriesExactly, EndsExactly, TellsTexts}
+use Rattle.setl_top.specs.Headline.{AnyRose, ReadCause, load_failed, read_failed, InputLeft, untouched, read_from, WriteCause, print_failed, out_failed, err_failed, faulty_words, no_such_watcher, refused, checked, listed, advised, has_repr, code_refused, built, too_long_built, explained, no_fault, stop_told, run_ended, trial_refused, trial_ended, Answers, Job, IsInput, IsToRun, IsTried, TellsRefusal, trial_output}
+use Rattle.setl_top.specs.Laws.{IsComplete, FaultyWordsReadNothing, WordsExactly, RefusesExactly, RefusesCodeExactly, ChecksExactly, ListsExactly, AdvisesExactly, ExplainsExactly, TrialsReadNothing, TriesExactly, EndsExactly, TellsTexts}
 use Rattle.setl_top.specs.Explained.{IsExplained}
 use Rattle.setl_top.specs.Listings.{IsListing}
 use Rattle.setl_top_advice.specs.Advised.{IsAdvised, HasRepr, first_line, has_repr_line}
@@ -24,7 +24,16 @@ use Rattle.setl_top_status.specs.Ends.{status_of, error_line}
 use Rattle.setl_top_status.specs.Reasons.{reason_line}
 use Rattle.setl_top_status.specs.declared.status.Status.{Status}
 use Rattle.setl_top_status.specs.declared.status.Status.TheVariants.{Done, Refused, Words, Stopped, Spent, ReadFault, WriteFault, NoMemory}
-use Rattle.setl_top_words.specs.Words.{Command, Run, Check, Code, Advise, Explain, TellStop, Trial, Spells, HasFile, RunsFile, watched_by, OneCommand}
+use Rattle.setl_top_words.specs.Words.{Options, Command, Run, Check, Code, Build, Advise, Explain, TellStop, Trial, Spells, HasFile, RunsFile, watched_by, OneCommand}
+use Rattle.setl_top_words.specs.declared.reading.FileKind.{FileKind}
+use Rattle.setl_top_words.specs.declared.reading.FileKind.TheVariants.{Source, CodeFile}
+use Rattle.setl_code.specs.CodeCore.{CodeCore}
+use Rattle.setl_code.specs.CodeMeans.{CodeMeans, code_first}
+use Rattle.setl_code.specs.Machine.{machine}
+use Rattle.setl_top_images.specs.CodeFiles.{IsFlawed, flaw_line}
+use Rattle.setl_top_images.specs.Laws.{OneImage, OneFlaw, NotCodeAndFlawed}
+use Rattle.setl_top.specs.Built.{CodeRefusal}
+use Rattle.setl_top.specs.Runnable.{Runnable, OfProgram, OfCode, of_image, Holds, Meant}
 use Rattle.setl_top.proofs.OneReason.{FrontLaws, one_reason, one_program_tree, not_refused}
 
 write_rose : (words : List (List ℕ)) (before after : Outside) (out telling : List ℕ) → WriteCause words before after out telling → AnyRose before after
@@ -62,70 +71,95 @@ faulty_reads_nothing words before after faulty = ((λ h. no_read words before af
 -- ---- the last state
 
 module _ {C : Type 0} (m : Machine C) (test : Test) where
-  -- a run has one last state
-  same_last : (n k : ℕ) (s a b : State C) (e f : End) → run m test n s ≡ Ends e a → run m test k s ≡ Ends f b → a ≡ b
-  same_last zero k s a b e f h i = absurd (cc)
-  same_last (suc n) zero s a b e f h i = absurd (cc)
-  same_last (suc n) (suc k) s a b e f h i = go (step m test s) (λ t. same_last n k t a b e f) h i
+  -- a run has one end, and one last state
+  same_end : (n k : ℕ) (s a b : State C) (e f : End) → run m test n s ≡ Ends e a → run m test k s ≡ Ends f b → (e ≡ f) × (a ≡ b)
+  same_end zero k s a b e f h i = absurd (cc)
+  same_end (suc n) zero s a b e f h i = absurd (cc)
+  same_end (suc n) (suc k) s a b e f h i = go (step m test s) (λ t. same_end n k t a b e f) h i
     where
-      go : (y : Next C) → ((t : State C) → run m test n t ≡ Ends e a → run m test k t ≡ Ends f b → a ≡ b) → and_then y (run m test n) ≡ Ends e a → and_then y (run m test k) ≡ Ends f b → a ≡ b
+      go : (y : Next C) → ((t : State C) → run m test n t ≡ Ends e a → run m test k t ≡ Ends f b → (e ≡ f) × (a ≡ b)) → and_then y (run m test n) ≡ Ends e a → and_then y (run m test k) ≡ Ends f b → (e ≡ f) × (a ≡ b)
       go (Goes t) ih h i = ih t h i
       go (Ends g t) ih h i =
           let first : t ≡ a = cc in
           let second : t ≡ b = cc in
-          sym first ∙ second
+          let one : g ≡ e = cc in
+          let other : g ≡ f = cc in
+          (sym one ∙ other, sym first ∙ second)
 
--- so a meaning has one list of events
-one_last : (p : Program) (input : List ℕ) (turns : ℕ) (based : Bool) (o o' : List ℕ) (e e' : End) (m : Means p input turns based o e) (n : Means p input turns based o' e') → m.last.events ≡ n.last.events
-one_last p input turns based o o' e e' m n =
-    ap (λ (s : State Core). s.events) (same_last (language p) (test_of p.modes based) m.steps n.steps (first p input turns) m.last n.last e e' m.ends n.ends)
+-- so what is run has one output, one end and one list of events
+one_meant : (r : Runnable) (input : List ℕ) (turns : ℕ) (based : Bool) (o o' : List ℕ) (e e' : End) (m : Meant r input turns based o e) (n : Meant r input turns based o' e') → (o ≡ o') × (e ≡ e') × (m.events ≡ n.events)
+one_meant (OfProgram p) input turns based o o' e e' m n =
+    let a : Means p input turns based o e = m.so.0 in
+    let b : Means p input turns based o' e' = n.so.0 in
+    let same = same_end (language p) (test_of p.modes based) a.steps b.steps (first p input turns) a.last b.last e e' a.ends b.ends in
+    (sym a.written ∙ ap (λ (s : State Core). s.out) same.1 ∙ b.written, same.0, m.so.1 ∙ ap (λ (s : State Core). s.events) same.1 ∙ sym n.so.1)
+one_meant (OfCode c modes) input turns based o o' e e' m n =
+    let a : CodeMeans c modes input turns based o e = m.so.0 in
+    let b : CodeMeans c modes input turns based o' e' = n.so.0 in
+    let same = same_end (machine c) (test_of modes based) a.steps b.steps (code_first c input turns) a.last b.last e e' a.ends b.ends in
+    (sym a.written ∙ ap (λ (s : State CodeCore). s.out) same.1 ∙ b.written, same.0, m.so.1 ∙ ap (λ (s : State CodeCore). s.events) same.1 ∙ sym n.so.1)
 
 -- the input of the trial that a command asks for, and its line
 abbrev input_for : Command → List ℕ
-input_for (Run o n) = []
+input_for (Run k o n) = []
 input_for (Check n) = []
 input_for (Code n) = []
+input_for (Build n) = []
 input_for (Advise n) = []
 input_for (Explain n) = []
 input_for (TellStop k) = []
 input_for (Trial a b) = trial_input a b
 
 abbrev line_for : Command → List ℕ → List ℕ
-line_for (Run o n) printed = []
+line_for (Run k o n) printed = []
 line_for (Check n) printed = []
 line_for (Code n) printed = []
+line_for (Build n) printed = []
 line_for (Advise n) printed = []
 line_for (Explain n) printed = []
 line_for (TellStop k) printed = []
 line_for (Trial a b) printed = trial_line a b printed
 
+-- commands by numbers
+abbrev pub number_of : Command → ℕ
+number_of (Run kind options name) = 1
+number_of (Check name) = 2
+number_of (Code name) = 3
+number_of (Build name) = 4
+number_of (Advise name) = 5
+number_of (Explain name) = 6
+number_of (TellStop stop) = 7
+number_of (Trial seed nodes) = 8
+
 module _ (one_command : OneCommand) where
   one_file : (c : Command) (n m : List ℕ) → HasFile c n → HasFile c m → n ≡ m
-  one_file (Run o a) n m f g = f ∙ sym g
+  one_file (Run k o a) n m f g = f ∙ sym g
   one_file (Check a) n m f g = f ∙ sym g
   one_file (Code a) n m f g = f ∙ sym g
+  one_file (Build a) n m f g = f ∙ sym g
   one_file (Advise a) n m f g = f ∙ sym g
   one_file (Explain a) n m f g = f ∙ sym g
   one_file (TellStop k) n m f g = absurd f
   one_file (Trial a b) n m f g = absurd f
 
   -- a run's file is its command's
-  run_file : (c : Command) (n : List ℕ) (turns : ℕ) (based : Bool) → RunsFile c n turns based → HasFile c n
-  run_file (Run o a) n turns based h = h.0
-  run_file (Check a) n turns based h = absurd h
-  run_file (Code a) n turns based h = absurd h
-  run_file (Advise a) n turns based h = absurd h
-  run_file (Explain a) n turns based h = absurd h
-  run_file (TellStop k) n turns based h = absurd h
-  run_file (Trial a b) n turns based h = absurd h
+  run_file : (c : Command) (kind : FileKind) (n : List ℕ) (turns : ℕ) (based : Bool) → RunsFile c kind n turns based → HasFile c n
+  run_file (Run k o a) kind n turns based h = h.1
+  run_file (Check a) kind n turns based h = absurd h
+  run_file (Code a) kind n turns based h = absurd h
+  run_file (Build a) kind n turns based h = absurd h
+  run_file (Advise a) kind n turns based h = absurd h
+  run_file (Explain a) kind n turns based h = absurd h
+  run_file (TellStop k) kind n turns based h = absurd h
+  run_file (Trial a b) kind n turns based h = absurd h
 
   -- what is to be run is what the command runs
-  runs_so : (words : List (List ℕ)) (before : Outside) (job : Job) (c : Command) (a : IsToRun words before job) → Spells words c → RunsFile c a.name job.turns job.based
+  pub runs_so : (words : List (List ℕ)) (before : Outside) (job : Job) (c : Command) (a : IsToRun words before job) → Spells words c → RunsFile c a.kind a.name job.turns job.based
   runs_so words before job c a s =
-      subst (λ d. RunsFile d a.name job.turns job.based) (one_command words a.command c a.spelled s) a.runs
+      subst (λ d. RunsFile d a.kind a.name job.turns job.based) (one_command words a.command c a.spelled s) a.runs
 
   -- a command whose watcher is there isn't one whose watcher isn't
-  not_there : (words : List (List ℕ)) (before : Outside) (c d : Command) → Spells words c → Spells words d → (IsThere (watched_by c) before.watchers → ⊥) → IsThere (watched_by d) before.watchers → ⊥
+  pub not_there : (words : List (List ℕ)) (before : Outside) (c d : Command) → Spells words c → Spells words d → (IsThere (watched_by c) before.watchers → ⊥) → IsThere (watched_by d) before.watchers → ⊥
   not_there words before c d s t none there = none (subst (λ x. IsThere (watched_by x) before.watchers) (one_command words d c t s) there)
 
   -- a trial reads no file
@@ -140,13 +174,53 @@ module _ (one_command : OneCommand) where
       let r = ap texts e in
       cc
 
-  told_text : (before : Outside) (texts : List ℕ → Option (List ℕ)) → TellsTexts before texts → (n a : List ℕ) → texts n ≡ Some a → IsText before.files.held n a
+  pub told_text : (before : Outside) (texts : List ℕ → Option (List ℕ)) → TellsTexts before texts → (n a : List ℕ) → texts n ≡ Some a → IsText before.files.held n a
   told_text before texts t n a h = subst (λ x. IsText x n a) (sym t) h
 
   -- two commands of the same words have one source
-  one_source : (words : List (List ℕ)) (before : Outside) (texts : List ℕ → Option (List ℕ)) → TellsTexts before texts → (c d : Command) (n m a b : List ℕ) → Spells words c → HasFile c n → IsText before.files.held n a → Spells words d → HasFile d m → IsText before.files.held m b → a ≡ b
+  pub one_source : (words : List (List ℕ)) (before : Outside) (texts : List ℕ → Option (List ℕ)) → TellsTexts before texts → (c d : Command) (n m a b : List ℕ) → Spells words c → HasFile c n → IsText before.files.held n a → Spells words d → HasFile d m → IsText before.files.held m b → a ≡ b
   one_source words before texts t c d n m a b s f h s' f' h' =
       one_text before texts t n m a b (one_file c n m f (subst (λ x. HasFile x m) (one_command words d c s' s) f')) h h'
+
+  -- ---- what an answer answers
+
+  -- the number of the command that it answers
+  abbrev number_by : {words : List (List ℕ)} {before : Outside} {status : Status} {out err : List ℕ} {left : Option (List ℕ)} → Answers words before status out err left → ℕ
+  number_by (faulty_words told n tells) = 0
+  number_by (no_such_watcher c s none) = number_of c
+  number_by (refused n x l q tells t r) = number_of q.command
+  number_by (code_refused o n x l s there t r) = number_of (Run CodeFile o n)
+  number_by (checked n x tree s t p) = number_of (Check n)
+  number_by (listed text a) = number_of (Code a.name)
+  number_by (built bytes a) = number_of (Build a.name)
+  number_by (too_long_built n x tree s t p long) = number_of (Build n)
+  number_by (advised text a) = number_of (Advise a.name)
+  number_by (has_repr n x l tree s t p has) = number_of (Advise n)
+  number_by (explained text a) = number_of (Explain a.name)
+  number_by (no_fault n x tree s t p) = number_of (Explain n)
+  number_by (stop_told k s) = number_of (TellStop k)
+  number_by (run_ended out err end status left r how) = number_of r.asked.command
+  number_by (trial_refused a b l s r) = number_of (Trial a b)
+  number_by (trial_ended line end status a how) = number_of (Trial a.seed a.nodes)
+
+  -- words of a command are answered as it
+  pub answers_it : (words : List (List ℕ)) (before : Outside) (status : Status) (out err : List ℕ) (left : Option (List ℕ)) (a : Answers words before status out err left) (c : Command) → Spells words c → number_by a ≡ number_of c
+  answers_it words before _ _ _ _ (faulty_words told n tells) c s = absurd (n c s)
+  answers_it words before _ _ _ _ (no_such_watcher d t none) c s = ap number_of (one_command words d c t s)
+  answers_it words before _ _ _ _ (refused n x l q tells t r) c s = ap number_of (one_command words q.command c q.spelled s)
+  answers_it words before _ _ _ _ (code_refused o n x l t there h r) c s = ap number_of (one_command words (Run CodeFile o n) c t s)
+  answers_it words before _ _ _ _ (checked n x tree t h p) c s = ap number_of (one_command words (Check n) c t s)
+  answers_it words before _ _ _ _ (listed text a) c s = ap number_of (one_command words (Code a.name) c a.spelled s)
+  answers_it words before _ _ _ _ (built bytes a) c s = ap number_of (one_command words (Build a.name) c a.spelled s)
+  answers_it words before _ _ _ _ (too_long_built n x tree t h p long) c s = ap number_of (one_command words (Build n) c t s)
+  answers_it words before _ _ _ _ (advised text a) c s = ap number_of (one_command words (Advise a.name) c a.spelled s)
+  answers_it words before _ _ _ _ (has_repr n x l tree t h p has) c s = ap number_of (one_command words (Advise n) c t s)
+  answers_it words before _ _ _ _ (explained text a) c s = ap number_of (one_command words (Explain a.name) c a.spelled s)
+  answers_it words before _ _ _ _ (no_fault n x tree t h p) c s = ap number_of (one_command words (Explain n) c t s)
+  answers_it words before _ _ _ _ (stop_told k t) c s = ap number_of (one_command words (TellStop k) c t s)
+  answers_it words before _ _ _ _ (run_ended out err end status left r how) c s = ap number_of (one_command words r.asked.command c r.asked.spelled s)
+  answers_it words before _ _ _ _ (trial_refused a b l t r) c s = ap number_of (one_command words (Trial a b) c t s)
+  answers_it words before _ _ _ _ (trial_ended line end status a how) c s = ap number_of (one_command words (Trial a.seed a.nodes) c a.spelled s)
 
   -- ---- faulty words
 
@@ -166,6 +240,9 @@ module _ (one_command : OneCommand) where
   words_only words before _ _ _ _ (refused n x l q tells t r) = is_words Refused (λ e. absurd (cc)) (λ no. no q.command q.spelled q.there)
   words_only words before _ _ _ _ (checked n x tree s t p) = is_words Done (λ e. absurd (cc)) (λ no. no (Check n) s tt)
   words_only words before _ _ _ _ (listed text a) = is_words Done (λ e. absurd (cc)) (λ no. no (Code a.name) a.spelled tt)
+  words_only words before _ _ _ _ (code_refused o n x l s there t r) = is_words Refused (λ e. absurd (cc)) (λ no. no (Run CodeFile o n) s there)
+  words_only words before _ _ _ _ (built bytes a) = is_words Done (λ e. absurd (cc)) (λ no. no (Build a.name) a.spelled tt)
+  words_only words before _ _ _ _ (too_long_built n x tree s t p long) = is_words Refused (λ e. absurd (cc)) (λ no. no (Build n) s tt)
   words_only words before _ _ _ _ (advised text a) = is_words Done (λ e. absurd (cc)) (λ no. no (Advise a.name) a.spelled tt)
   words_only words before _ _ _ _ (has_repr n x l tree s t p has) = is_words Refused (λ e. absurd (cc)) (λ no. no (Advise n) s tt)
   words_only words before _ _ _ _ (explained text a) = is_words Refused (λ e. absurd (cc)) (λ no. no (Explain a.name) a.spelled tt)
@@ -178,10 +255,31 @@ module _ (one_command : OneCommand) where
   -- ---- refusals
 
   -- a source that is refused isn't run
-  refused_not_run : FrontLaws → (words : List (List ℕ)) (before : Outside) (texts : List ℕ → Option (List ℕ)) → TellsTexts before texts → (job : Job) → IsToRun words before job → (c : Command) (name source line : List ℕ) → Spells words c → HasFile c name → IsText before.files.held name source → Refusal source line → ⊥
-  refused_not_run laws words before texts t job a c name source line s f h r =
-      let sources = one_source words before texts t a.command c a.name name a.source source a.spelled (run_file a.command a.name job.turns job.based a.runs) a.text s f h in
-      not_refused laws source r.reason r.refused a.accepted.tree (subst (λ x. IsProgram x a.accepted.tree) sources a.accepted.is_program)
+  refused_not_held : FrontLaws → (c : Command) (kind : FileKind) (n bytes line : List ℕ) (turns : ℕ) (based : Bool) (r : Runnable) → TellsRefusal c → RunsFile c kind n turns based → Holds kind bytes r → Refusal bytes line → ⊥
+  refused_not_held laws (Run Source o a) kind n bytes line turns based r tells runs holds why =
+      let h = subst (λ k. Holds k bytes r) runs.0 holds in
+      not_refused laws bytes why.reason why.refused h.1.tree h.1.is_program
+  refused_not_held laws (Run CodeFile o a) kind n bytes line turns based r tells runs holds why = tells
+  refused_not_held laws (Check a) kind n bytes line turns based r tells runs holds why = runs
+  refused_not_held laws (Code a) kind n bytes line turns based r tells runs holds why = runs
+  refused_not_held laws (Build a) kind n bytes line turns based r tells runs holds why = runs
+  refused_not_held laws (Advise a) kind n bytes line turns based r tells runs holds why = runs
+  refused_not_held laws (Explain a) kind n bytes line turns based r tells runs holds why = runs
+  refused_not_held laws (TellStop k) kind n bytes line turns based r tells runs holds why = runs
+  refused_not_held laws (Trial a b) kind n bytes line turns based r tells runs holds why = runs
+
+  refused_not_run : FrontLaws → (words : List (List ℕ)) (before : Outside) (texts : List ℕ → Option (List ℕ)) → TellsTexts before texts → (job : Job) → IsToRun words before job → (c : Command) (name source line : List ℕ) → Spells words c → HasFile c name → TellsRefusal c → IsText before.files.held name source → Refusal source line → ⊥
+  refused_not_run laws words before texts t job a c name source line s f tells h r =
+      let sources = one_source words before texts t a.command c a.name name a.bytes source a.spelled (run_file a.command a.kind a.name job.turns job.based a.runs) a.text s f h in
+      refused_not_held laws c a.kind a.name source line job.turns job.based job.runnable tells (runs_so words before job c a s) (subst (λ x. Holds a.kind x job.runnable) sources a.holds) r
+
+  -- nor are bytes that are no code file
+  code_not_run : NotCodeAndFlawed → (words : List (List ℕ)) (before : Outside) (texts : List ℕ → Option (List ℕ)) → TellsTexts before texts → (job : Job) → IsToRun words before job → (o : Options) (name bytes line : List ℕ) → Spells words (Run CodeFile o name) → IsText before.files.held name bytes → CodeRefusal bytes line → ⊥
+  code_not_run not_both words before texts t job a o name bytes line s h r =
+      let sources = one_source words before texts t a.command (Run CodeFile o name) a.name name a.bytes bytes a.spelled (run_file a.command a.kind a.name job.turns job.based a.runs) a.text s refl h in
+      let runs = runs_so words before job (Run CodeFile o name) a s in
+      let holds = subst (λ x. Holds CodeFile x job.runnable) sources (subst (λ k. Holds k a.bytes job.runnable) runs.0 a.holds) in
+      not_both bytes holds.0 r.flaw holds.1 r.flawed
 
   -- a source is refused by one line
   one_line : FrontLaws → (source other line told : List ℕ) → source ≡ other → Refusal source line → Refusal other told → line ≡ told
@@ -201,6 +299,13 @@ module _ (one_command : OneCommand) where
   refused_only laws words before texts c name source line _ _ _ _ t s f w y h r (listed text a) =
       let sources = one_source words before texts t (Code a.name) c a.name name a.source source a.spelled refl a.text s f (told_text before texts t name source h) in
       absurd (not_refused laws source r.reason r.refused a.tree (subst (λ y. IsProgram y a.tree) sources a.is_program))
+  refused_only laws words before texts c name source line _ _ _ _ t s f w y h r (code_refused o n x l s' there t' r') = absurd (subst TellsRefusal (one_command words c (Run CodeFile o n) s s') y)
+  refused_only laws words before texts c name source line _ _ _ _ t s f w y h r (built bytes a) =
+      let sources = one_source words before texts t (Build a.name) c a.name name a.source source a.spelled refl a.text s f (told_text before texts t name source h) in
+      absurd (not_refused laws source r.reason r.refused a.tree (subst (λ y. IsProgram y a.tree) sources a.is_program))
+  refused_only laws words before texts c name source line _ _ _ _ t s f w y h r (too_long_built n x tree s' t' p long) =
+      let sources = one_source words before texts t (Build n) c n name x source s' refl t' s f (told_text before texts t name source h) in
+      absurd (not_refused laws source r.reason r.refused tree (subst (λ z. IsProgram z tree) sources p))
   refused_only laws words before texts c name source line _ _ _ _ t s f w y h r (advised text a) =
       let sources = one_source words before texts t (Advise a.name) c a.name name a.source source a.spelled refl a.text_of s f (told_text before texts t name source h) in
       absurd (not_refused laws source r.reason r.refused a.tree (subst (λ y. IsProgram y a.tree) sources a.is_program))
@@ -211,14 +316,29 @@ module _ (one_command : OneCommand) where
   refused_only laws words before texts c name source line _ _ _ _ t s f w y h r (no_fault n x tree s' t' p) = absurd (subst TellsRefusal (one_command words c (Explain n) s s') y)
   refused_only laws words before texts c name source line _ _ _ _ t s f w y h r (stop_told k s') = absurd (subst TellsRefusal (one_command words c (TellStop k) s s') y)
   refused_only laws words before texts c name source line _ _ _ _ t s f w y h r (run_ended out err end status left q how) =
-      absurd (refused_not_run laws words before texts t q.job q.asked c name source line s f (told_text before texts t name source h) r)
+      absurd (refused_not_run laws words before texts t q.job q.asked c name source line s f y (told_text before texts t name source h) r)
   refused_only laws words before texts c name source line _ _ _ _ t s f w y h r (trial_refused a b l q x) = absurd (no_file words c name a b q s f)
   refused_only laws words before texts c name source line _ _ _ _ t s f w y h r (trial_ended l end status a x) = absurd (no_file words c name a.seed a.nodes a.spelled s f)
+
+  -- bytes are refused by one line
+  one_flaw_line : OneFlaw → (bytes other line told : List ℕ) → bytes ≡ other → CodeRefusal bytes line → CodeRefusal other told → line ≡ told
+  one_flaw_line one bytes other line told same r q =
+      let flaw = one bytes r.flaw q.flaw r.flawed (subst (λ x. IsFlawed x q.flaw) (sym same) q.flawed) in
+      r.tells ∙ ap flaw_line flaw ∙ sym q.tells
+
+  pub code_refused_only : OneFlaw → NotCodeAndFlawed → RefusesCodeExactly
+  code_refused_only one not_both words before texts o name bytes line _ _ _ _ t s there h r (no_such_watcher d s' none) = absurd (not_there words before d (Run CodeFile o name) s' s none there)
+  code_refused_only one not_both words before texts o name bytes line _ _ _ _ t s there h r (refused n x l q tells t' r') = absurd (subst TellsRefusal (one_command words q.command (Run CodeFile o name) q.spelled s) tells)
+  code_refused_only one not_both words before texts o name bytes line _ _ _ _ t s there h r (code_refused p n x l s' w t' r') =
+      let sources = one_source words before texts t (Run CodeFile p n) (Run CodeFile o name) n name x bytes s' refl t' s refl (told_text before texts t name bytes h) in
+      (refl, refl, ap (λ z. z ++ 10 ∷ []) (one_flaw_line one x bytes l line sources r' r), refl)
+  code_refused_only one not_both words before texts o name bytes line _ _ _ _ t s there h r (run_ended out err end status left q how) =
+      absurd (code_not_run not_both words before texts t q.job q.asked o name bytes line s (told_text before texts t name bytes h) r)
+  code_refused_only one not_both words before texts o name bytes line st out e left t s there h r a = let number = answers_it words before st out e left a (Run CodeFile o name) s in absurd (omega (arith, number))
 
   -- ---- checks
 
   pub checks_only : FrontLaws → ChecksExactly
-  checks_only laws words before texts name source _ _ _ _ t s h (faulty_words told n tells) = absurd (n (Check name) s)
   checks_only laws words before texts name source _ _ _ _ t s h (no_such_watcher d s' none) = absurd (not_there words before d (Check name) s' s none tt)
   checks_only laws words before texts name source _ _ _ _ t s h (refused n x l q tells t' r) =
       let sources = one_source words before texts t q.command (Check name) n name x source q.spelled q.file t' s refl (told_text before texts t name source h) in
@@ -227,38 +347,23 @@ module _ (one_command : OneCommand) where
   checks_only laws words before texts name source _ _ _ _ t s h (checked n x tree s' t' p) =
       let sources = one_source words before texts t (Check n) (Check name) n name x source s' refl t' s refl (told_text before texts t name source h) in
       (((λ _. (tree, subst (λ y. IsProgram y tree) sources p)), (λ _. refl)), refl, (λ _. refl), refl)
-  checks_only laws words before texts name source _ _ _ _ t s h (listed text a) = let same = one_command words (Code a.name) (Check name) a.spelled s in absurd (cc)
-  checks_only laws words before texts name source _ _ _ _ t s h (advised text a) = let same = one_command words (Advise a.name) (Check name) a.spelled s in absurd (cc)
-  checks_only laws words before texts name source _ _ _ _ t s h (has_repr n x l tree s' t' p has) = let same = one_command words (Advise n) (Check name) s' s in absurd (cc)
-  checks_only laws words before texts name source _ _ _ _ t s h (explained text a) = let same = one_command words (Explain a.name) (Check name) a.spelled s in absurd (cc)
-  checks_only laws words before texts name source _ _ _ _ t s h (no_fault n x tree s' t' p) = let same = one_command words (Explain n) (Check name) s' s in absurd (cc)
-  checks_only laws words before texts name source _ _ _ _ t s h (stop_told k s') = let same = one_command words (TellStop k) (Check name) s' s in absurd (cc)
   checks_only laws words before texts name source _ _ _ _ t s h (run_ended out err end status left q how) = absurd (runs_so words before q.job (Check name) q.asked s)
-  checks_only laws words before texts name source _ _ _ _ t s h (trial_refused a b l q r) = absurd (no_file words (Check name) name a b q s refl)
-  checks_only laws words before texts name source _ _ _ _ t s h (trial_ended l end status a e) = absurd (no_file words (Check name) name a.seed a.nodes a.spelled s refl)
+  checks_only laws words before texts name source st out e left t s h a = let number = answers_it words before st out e left a (Check name) s in absurd (omega (arith, number))
 
   -- ---- listings
 
   pub lists_only : FrontLaws → ListsExactly
-  lists_only laws words before texts name source _ _ _ _ t s h (faulty_words told n tells) = absurd (n (Code name) s)
   lists_only laws words before texts name source _ _ _ _ t s h (no_such_watcher d s' none) = absurd (not_there words before d (Code name) s' s none tt)
   lists_only laws words before texts name source _ _ _ _ t s h (refused n x l q tells t' r) =
       let sources = one_source words before texts t q.command (Code name) n name x source q.spelled q.file t' s refl (told_text before texts t name source h) in
       let moved = subst (λ y. IsRefusedFor y r.reason) sources r.refused in
       (((λ (e : Refused ≡ Done). absurd (cc)), λ p. absurd (not_refused laws source r.reason moved p.0 p.1)), (λ tree p. absurd (not_refused laws source r.reason moved tree p)), inr (refl, refl), refl)
-  lists_only laws words before texts name source _ _ _ _ t s h (checked n x tree s' t' p) = let same = one_command words (Check n) (Code name) s' s in absurd (cc)
   lists_only laws words before texts name source _ _ _ _ t s h (listed text a) =
       let sources = one_source words before texts t (Code a.name) (Code name) a.name name a.source source a.spelled refl a.text s refl (told_text before texts t name source h) in
       let program = subst (λ y. IsProgram y a.tree) sources a.is_program in
       (((λ _. (a.tree, program)), (λ _. refl)), (λ tree p. (subst (λ y. IsListing y text) (one_program_tree laws source a.tree tree program p) a.is_listing, refl)), inl refl, refl)
-  lists_only laws words before texts name source _ _ _ _ t s h (advised text a) = let same = one_command words (Advise a.name) (Code name) a.spelled s in absurd (cc)
-  lists_only laws words before texts name source _ _ _ _ t s h (has_repr n x l tree s' t' p has) = let same = one_command words (Advise n) (Code name) s' s in absurd (cc)
-  lists_only laws words before texts name source _ _ _ _ t s h (explained text a) = let same = one_command words (Explain a.name) (Code name) a.spelled s in absurd (cc)
-  lists_only laws words before texts name source _ _ _ _ t s h (no_fault n x tree s' t' p) = let same = one_command words (Explain n) (Code name) s' s in absurd (cc)
-  lists_only laws words before texts name source _ _ _ _ t s h (stop_told k s') = let same = one_command words (TellStop k) (Code name) s' s in absurd (cc)
   lists_only laws words before texts name source _ _ _ _ t s h (run_ended out err end status left q how) = absurd (runs_so words before q.job (Code name) q.asked s)
-  lists_only laws words before texts name source _ _ _ _ t s h (trial_refused a b l q r) = absurd (no_file words (Code name) name a b q s refl)
-  lists_only laws words before texts name source _ _ _ _ t s h (trial_ended l end status a e) = absurd (no_file words (Code name) name a.seed a.nodes a.spelled s refl)
+  lists_only laws words before texts name source st out e left t s h a = let number = answers_it words before st out e left a (Code name) s in absurd (omega (arith, number))
 
   -- ---- advice
 
@@ -274,14 +379,11 @@ module _ (one_command : OneCommand) where
       h.tells ∙ ap has_repr_line at ∙ sym k.tells
 
   pub advises_only : FrontLaws → AdvisesExactly
-  advises_only laws words before texts name source _ _ _ _ t s h (faulty_words told n tells) = absurd (n (Advise name) s)
   advises_only laws words before texts name source _ _ _ _ t s h (no_such_watcher d s' none) = absurd (not_there words before d (Advise name) s' s none tt)
   advises_only laws words before texts name source _ _ _ _ t s h (refused n x l q tells t' r) =
       let sources = one_source words before texts t q.command (Advise name) n name x source q.spelled q.file t' s refl (told_text before texts t name source h) in
       let moved = subst (λ y. IsRefusedFor y r.reason) sources r.refused in
       (((λ (e : Refused ≡ Done). absurd (cc)), λ p. absurd (not_refused laws source r.reason moved p.0 p.1)), (λ tree p bare. absurd (not_refused laws source r.reason moved tree p)), (λ tree line p has. absurd (not_refused laws source r.reason moved tree p)), refl)
-  advises_only laws words before texts name source _ _ _ _ t s h (checked n x tree s' t' p) = let same = one_command words (Check n) (Advise name) s' s in absurd (cc)
-  advises_only laws words before texts name source _ _ _ _ t s h (listed text a) = let same = one_command words (Code a.name) (Advise name) a.spelled s in absurd (cc)
   advises_only laws words before texts name source _ _ _ _ t s h (advised text a) =
       let sources = one_source words before texts t (Advise a.name) (Advise name) a.name name a.source source a.spelled refl a.text_of s refl (told_text before texts t name source h) in
       let program = subst (λ y. IsProgram y a.tree) sources a.is_program in
@@ -302,23 +404,14 @@ module _ (one_command : OneCommand) where
         (λ other line q k. (refl, refl, ap (λ z. z ++ 10 ∷ []) (one_repr tree other l line (one_program_tree laws source tree other program q) has k))),
         refl,
       )
-  advises_only laws words before texts name source _ _ _ _ t s h (explained text a) = let same = one_command words (Explain a.name) (Advise name) a.spelled s in absurd (cc)
-  advises_only laws words before texts name source _ _ _ _ t s h (no_fault n x tree s' t' p) = let same = one_command words (Explain n) (Advise name) s' s in absurd (cc)
-  advises_only laws words before texts name source _ _ _ _ t s h (stop_told k s') = let same = one_command words (TellStop k) (Advise name) s' s in absurd (cc)
   advises_only laws words before texts name source _ _ _ _ t s h (run_ended out err end status left q how) = absurd (runs_so words before q.job (Advise name) q.asked s)
-  advises_only laws words before texts name source _ _ _ _ t s h (trial_refused a b l q r) = absurd (no_file words (Advise name) name a b q s refl)
-  advises_only laws words before texts name source _ _ _ _ t s h (trial_ended l end status a e) = absurd (no_file words (Advise name) name a.seed a.nodes a.spelled s refl)
+  advises_only laws words before texts name source st out e left t s h a = let number = answers_it words before st out e left a (Advise name) s in absurd (omega (arith, number))
 
   -- ---- explanations
 
   pub explains_only : FrontLaws → ExplainsExactly
-  explains_only laws words before texts name source _ _ _ _ t s h (faulty_words told n tells) = absurd (n (Explain name) s)
   explains_only laws words before texts name source _ _ _ _ t s h (no_such_watcher d s' none) = absurd (not_there words before d (Explain name) s' s none tt)
   explains_only laws words before texts name source _ _ _ _ t s h (refused n x l q tells t' r) = absurd (subst TellsRefusal (one_command words q.command (Explain name) q.spelled s) tells)
-  explains_only laws words before texts name source _ _ _ _ t s h (checked n x tree s' t' p) = let same = one_command words (Check n) (Explain name) s' s in absurd (cc)
-  explains_only laws words before texts name source _ _ _ _ t s h (listed text a) = let same = one_command words (Code a.name) (Explain name) a.spelled s in absurd (cc)
-  explains_only laws words before texts name source _ _ _ _ t s h (advised text a) = let same = one_command words (Advise a.name) (Explain name) a.spelled s in absurd (cc)
-  explains_only laws words before texts name source _ _ _ _ t s h (has_repr n x l tree s' t' p has) = let same = one_command words (Advise n) (Explain name) s' s in absurd (cc)
   explains_only laws words before texts name source _ _ _ _ t s h (explained text a) =
       let sources = one_source words before texts t (Explain a.name) (Explain name) a.name name a.source source a.spelled refl a.text_of s refl (told_text before texts t name source h) in
       let refused_so = subst (λ z. IsRefusedFor z a.reason) sources a.refused_for in
@@ -328,10 +421,8 @@ module _ (one_command : OneCommand) where
       let sources = one_source words before texts t (Explain n) (Explain name) n name x source s' refl t' s refl (told_text before texts t name source h) in
       let program = subst (λ z. IsProgram z tree) sources p in
       ((λ _ _. (refl, refl)), (λ why q. absurd (not_refused laws source why q tree program)), refl, refl)
-  explains_only laws words before texts name source _ _ _ _ t s h (stop_told k s') = let same = one_command words (TellStop k) (Explain name) s' s in absurd (cc)
   explains_only laws words before texts name source _ _ _ _ t s h (run_ended out err end status left q how) = absurd (runs_so words before q.job (Explain name) q.asked s)
-  explains_only laws words before texts name source _ _ _ _ t s h (trial_refused a b l q r) = absurd (no_file words (Explain name) name a b q s refl)
-  explains_only laws words before texts name source _ _ _ _ t s h (trial_ended l end status a e) = absurd (no_file words (Explain name) name a.seed a.nodes a.spelled s refl)
+  explains_only laws words before texts name source st out e left t s h a = let number = answers_it words before st out e left a (Explain name) s in absurd (omega (arith, number))
 
   -- ---- runs
 
@@ -346,54 +437,63 @@ module _ (one_command : OneCommand) where
       let q : input ≡ b = subst (λ x. IsInput x b) t k in
       sym p ∙ q
 
-  one_turns : (c : Command) (n m : List ℕ) (s t : ℕ) (a b : Bool) → RunsFile c n s a → RunsFile c m t b → (s ≡ t) × (a ≡ b)
-  one_turns (Run o x) n m s t a b h k = (h.1 ∙ sym k.1, h.2 ∙ sym k.2)
-  one_turns (Check x) n m s t a b h k = absurd h
-  one_turns (Code x) n m s t a b h k = absurd h
-  one_turns (Advise x) n m s t a b h k = absurd h
-  one_turns (Explain x) n m s t a b h k = absurd h
-  one_turns (TellStop x) n m s t a b h k = absurd h
-  one_turns (Trial x y) n m s t a b h k = absurd h
+  one_turns : (c : Command) (k l : FileKind) (n m : List ℕ) (s t : ℕ) (a b : Bool) → RunsFile c k n s a → RunsFile c l m t b → (k ≡ l) × (s ≡ t) × (a ≡ b)
+  one_turns (Run d o x) k l n m s t a b h i = (h.0 ∙ sym i.0, h.2 ∙ sym i.2, h.3 ∙ sym i.3)
+  one_turns (Check x) k l n m s t a b h i = absurd h
+  one_turns (Code x) k l n m s t a b h i = absurd h
+  one_turns (Build x) k l n m s t a b h i = absurd h
+  one_turns (Advise x) k l n m s t a b h i = absurd h
+  one_turns (Explain x) k l n m s t a b h i = absurd h
+  one_turns (TellStop x) k l n m s t a b h i = absurd h
+  one_turns (Trial x y) k l n m s t a b h i = absurd h
+
+  -- bytes hold one thing
+  one_runnable : FrontLaws → OneImage → (kind : FileKind) (bytes : List ℕ) (r q : Runnable) → Holds kind bytes r → Holds kind bytes q → r ≡ q
+  one_runnable laws images Source bytes r q h k = h.2 ∙ ap OfProgram (one_program laws bytes h.0 k.0 h.1 k.1) ∙ sym k.2
+  one_runnable laws images CodeFile bytes r q h k = h.2 ∙ ap of_image (images bytes h.0 k.0 h.1 k.1) ∙ sym k.2
 
   -- the words ask for one run
-  one_job : FrontLaws → (words : List (List ℕ)) (before : Outside) (texts : List ℕ → Option (List ℕ)) (input : List ℕ) → TellsTexts before texts → before.input.held ≡ Some input → (j k : Job) → IsToRun words before j → IsToRun words before k → j ≡ k
-  one_job laws words before texts input t i j k a b =
-      let f = run_file a.command a.name j.turns j.based a.runs in
-      let g = run_file b.command b.name k.turns k.based b.runs in
-      let sources = one_source words before texts t a.command b.command a.name b.name a.source b.source a.spelled f a.text b.spelled g b.text in
-      let program = one_program laws b.source j.program k.program (subst (λ y. Accepted y j.program) sources a.accepted) b.accepted in
+  one_job : FrontLaws → OneImage → (words : List (List ℕ)) (before : Outside) (texts : List ℕ → Option (List ℕ)) (input : List ℕ) → TellsTexts before texts → before.input.held ≡ Some input → (j k : Job) → IsToRun words before j → IsToRun words before k → j ≡ k
+  one_job laws images words before texts input t i j k a b =
+      let f = run_file a.command a.kind a.name j.turns j.based a.runs in
+      let g = run_file b.command b.kind b.name k.turns k.based b.runs in
+      let sources = one_source words before texts t a.command b.command a.name b.name a.bytes b.bytes a.spelled f a.text b.spelled g b.text in
       let left = one_input before input i j.input k.input a.input b.input in
-      let runs = subst (λ c. RunsFile c b.name k.turns k.based) (one_command words b.command a.command b.spelled a.spelled) b.runs in
-      let bounds = one_turns a.command a.name b.name j.turns k.turns j.based k.based a.runs runs in
+      let runs = subst (λ c. RunsFile c b.kind b.name k.turns k.based) (one_command words b.command a.command b.spelled a.spelled) b.runs in
+      let bounds = one_turns a.command a.kind b.kind a.name b.name j.turns k.turns j.based k.based a.runs runs in
+      let here : Holds b.kind b.bytes j.runnable = subst (λ d. Holds d b.bytes j.runnable) bounds.0 (subst (λ y. Holds a.kind y j.runnable) sources a.holds) in
+      let runnable = one_runnable laws images b.kind b.bytes j.runnable k.runnable here b.holds in
       let watchers : j.watchers ≡ k.watchers = a.watched ∙ ap (λ c. asked_for (watched_by c) before.watchers) (one_command words a.command b.command a.spelled b.spelled) ∙ sym b.watched in
-      λ x. record { program = program x; input = left x; turns = bounds.0 x; based = bounds.1 x; watchers = watchers x }
+      λ x. record { runnable = runnable x; input = left x; turns = bounds.1 x; based = bounds.2 x; watchers = watchers x }
 
   -- the run that is asked for ends so, and these are its events
   record Ended (job : Job) (out : List ℕ) (end : End) (events : List Event) : Type 0 where
-    pub means : Means job.program job.input job.turns job.based out end
-    pub told : means.last.events ≡ events
+    pub means : Meant job.runnable job.input job.turns job.based out end
+    pub told : means.events ≡ events
 
-  pub ends_only : FrontLaws → OneMeaning → EndsExactly
-  ends_only laws meaning words before texts input job said end _ _ _ _ t i a m (faulty_words told n tells) = absurd (n a.command a.spelled)
-  ends_only laws meaning words before texts input job said end _ _ _ _ t i a m (no_such_watcher d s' none) = absurd (not_there words before d a.command s' a.spelled none a.there)
-  ends_only laws meaning words before texts input job said end _ _ _ _ t i a m (refused name source line q tells h r) = absurd (refused_not_run laws words before texts t job a q.command name source line q.spelled q.file h r)
-  ends_only laws meaning words before texts input job said end _ _ _ _ t i a m (checked n x tree s' t' p) = absurd (runs_so words before job (Check n) a s')
-  ends_only laws meaning words before texts input job said end _ _ _ _ t i a m (listed text l) = absurd (runs_so words before job (Code l.name) a l.spelled)
-  ends_only laws meaning words before texts input job said end _ _ _ _ t i a m (advised text l) = absurd (runs_so words before job (Advise l.name) a l.spelled)
-  ends_only laws meaning words before texts input job said end _ _ _ _ t i a m (has_repr n x k tree s' t' p has) = absurd (runs_so words before job (Advise n) a s')
-  ends_only laws meaning words before texts input job said end _ _ _ _ t i a m (explained text l) = absurd (runs_so words before job (Explain l.name) a l.spelled)
-  ends_only laws meaning words before texts input job said end _ _ _ _ t i a m (no_fault n x tree s' t' p) = absurd (runs_so words before job (Explain n) a s')
-  ends_only laws meaning words before texts input job said end _ _ _ _ t i a m (stop_told k s') = absurd (runs_so words before job (TellStop k) a s')
-  ends_only laws meaning words before texts input job said end _ _ _ _ t i a m (trial_refused n k l q r) = absurd (runs_so words before job (Trial n k) a q)
-  ends_only laws meaning words before texts input job said end _ _ _ _ t i a m (trial_ended l last how b e) = absurd (runs_so words before job (Trial b.seed b.nodes) a b.spelled)
-  ends_only laws meaning words before texts input job said end _ _ _ _ t i a m (run_ended out err last status left r how) =
-      let same = one_job laws words before texts input t i r.job job r.asked a in
-      let moved = subst (λ (j : Job). Ended j out last r.means.last.events) same (record { means = r.means; told = refl }) in
-      let both = meaning job.program job.input job.turns job.based out said last end moved.means m in
-      let told = one_last job.program job.input job.turns job.based out said last end moved.means m in (
+  pub ends_only : FrontLaws → OneImage → NotCodeAndFlawed → EndsExactly
+  ends_only laws images not_both words before texts input job said end _ _ _ _ t i a m (faulty_words told n tells) = absurd (n a.command a.spelled)
+  ends_only laws images not_both words before texts input job said end _ _ _ _ t i a m (no_such_watcher d s' none) = absurd (not_there words before d a.command s' a.spelled none a.there)
+  ends_only laws images not_both words before texts input job said end _ _ _ _ t i a m (refused name source line q tells h r) = absurd (refused_not_run laws words before texts t job a q.command name source line q.spelled q.file tells h r)
+  ends_only laws images not_both words before texts input job said end _ _ _ _ t i a m (code_refused o n x l s' there t' r) = absurd (code_not_run not_both words before texts t job a o n x l s' t' r)
+  ends_only laws images not_both words before texts input job said end _ _ _ _ t i a m (checked n x tree s' t' p) = absurd (runs_so words before job (Check n) a s')
+  ends_only laws images not_both words before texts input job said end _ _ _ _ t i a m (listed text l) = absurd (runs_so words before job (Code l.name) a l.spelled)
+  ends_only laws images not_both words before texts input job said end _ _ _ _ t i a m (built bytes l) = absurd (runs_so words before job (Build l.name) a l.spelled)
+  ends_only laws images not_both words before texts input job said end _ _ _ _ t i a m (too_long_built n x tree s' t' p long) = absurd (runs_so words before job (Build n) a s')
+  ends_only laws images not_both words before texts input job said end _ _ _ _ t i a m (advised text l) = absurd (runs_so words before job (Advise l.name) a l.spelled)
+  ends_only laws images not_both words before texts input job said end _ _ _ _ t i a m (has_repr n x k tree s' t' p has) = absurd (runs_so words before job (Advise n) a s')
+  ends_only laws images not_both words before texts input job said end _ _ _ _ t i a m (explained text l) = absurd (runs_so words before job (Explain l.name) a l.spelled)
+  ends_only laws images not_both words before texts input job said end _ _ _ _ t i a m (no_fault n x tree s' t' p) = absurd (runs_so words before job (Explain n) a s')
+  ends_only laws images not_both words before texts input job said end _ _ _ _ t i a m (stop_told k s') = absurd (runs_so words before job (TellStop k) a s')
+  ends_only laws images not_both words before texts input job said end _ _ _ _ t i a m (trial_refused n k l q r) = absurd (runs_so words before job (Trial n k) a q)
+  ends_only laws images not_both words before texts input job said end _ _ _ _ t i a m (trial_ended l last how b e) = absurd (runs_so words before job (Trial b.seed b.nodes) a b.spelled)
+  ends_only laws images not_both words before texts input job said end _ _ _ _ t i a m (run_ended out err last status left r how) =
+      let same = one_job laws images words before texts input t i r.job job r.asked a in
+      let moved = subst (λ (j : Job). Ended j out last r.means.events) same (record { means = r.means; told = refl }) in
+      let both = one_meant job.runnable job.input job.turns job.based out said last end moved.means m in (
         sym (ap status_of both.1) ∙ how,
         both.0,
-        r.tells ∙ (λ x. reports_of ((ap (λ (j : Job). j.watchers) same) x) ((sym moved.told ∙ told) x) ++ error_line (both.1 x)),
+        r.tells ∙ (λ x. reports_of ((ap (λ (j : Job). j.watchers) same) x) ((sym moved.told ∙ both.2) x) ++ error_line (both.1 x)),
       )
 
   -- ---- trials
@@ -416,18 +516,11 @@ module _ (one_command : OneCommand) where
       (a.is_line ∙ ap₂ line_for same both.0 ∙ sym b.is_line, both.1)
 
   pub tries_only : FrontLaws → OneMeaning → TriesExactly
-  tries_only laws meaning words before line end _ _ _ _ a (faulty_words told n tells) = absurd (n (Trial a.seed a.nodes) a.spelled)
   tries_only laws meaning words before line end _ _ _ _ a (no_such_watcher d s none) = absurd (not_there words before d (Trial a.seed a.nodes) s a.spelled none tt)
   tries_only laws meaning words before line end _ _ _ _ a (refused name source l q tells t r) = absurd (no_file words q.command name a.seed a.nodes a.spelled q.spelled q.file)
-  tries_only laws meaning words before line end _ _ _ _ a (checked name source tree s t p) = absurd (no_file words (Check name) name a.seed a.nodes a.spelled s refl)
-  tries_only laws meaning words before line end _ _ _ _ a (listed text l) = absurd (no_file words (Code l.name) l.name a.seed a.nodes a.spelled l.spelled refl)
-  tries_only laws meaning words before line end _ _ _ _ a (advised text l) = absurd (no_file words (Advise l.name) l.name a.seed a.nodes a.spelled l.spelled refl)
-  tries_only laws meaning words before line end _ _ _ _ a (has_repr n x k tree s t p has) = absurd (no_file words (Advise n) n a.seed a.nodes a.spelled s refl)
-  tries_only laws meaning words before line end _ _ _ _ a (explained text l) = absurd (no_file words (Explain l.name) l.name a.seed a.nodes a.spelled l.spelled refl)
-  tries_only laws meaning words before line end _ _ _ _ a (no_fault n x tree s t p) = absurd (no_file words (Explain n) n a.seed a.nodes a.spelled s refl)
-  tries_only laws meaning words before line end _ _ _ _ a (stop_told k s) = let same = one_command words (TellStop k) (Trial a.seed a.nodes) s a.spelled in absurd (cc)
   tries_only laws meaning words before line end _ _ _ _ a (run_ended out err last status left q how) = absurd (runs_so words before q.job (Trial a.seed a.nodes) q.asked a.spelled)
   tries_only laws meaning words before line end _ _ _ _ a (trial_refused n k l s r) = absurd (not_refused laws trial_source r.reason r.refused a.accepted.tree a.accepted.is_program)
   tries_only laws meaning words before line end _ _ _ _ a (trial_ended l last status b how) =
       let same = one_trial laws meaning words l line last end b a in
       (sym (ap status_of same.1) ∙ how, ap₂ trial_output same.1 same.0, ap error_line same.1, refl)
+  tries_only laws meaning words before line end st out e left a b = let number = answers_it words before st out e left b (Trial a.seed a.nodes) a.spelled in absurd (omega (arith, number))

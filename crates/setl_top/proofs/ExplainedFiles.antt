@@ -27,7 +27,7 @@ written_of_each source other out out' err err' _ (starved_of none h) = starved_o
 -- after a load that told nothing
 module _ (name : List ℕ) (files files' : SeenFiles) (out out' err mid err' : Seen (List ℕ)) (still : IsStill files files' err mid) where
   -- a source was explained then
-  pub text_then : (source : List ℕ) → HasText files.held name source → (ends : Status) → ExplainsText source out out' mid err' ends → Explains name files files' out out' err err' ends
+  pub text_then : (source : List ℕ) → HasText (2 ^ 24) files.held name source → (ends : Status) → ExplainsText source out out' mid err' ends → Explains name files files' out out' err err' ends
   text_then source t ends w = of_text source ends t.text still.count (subst (λ (o : Seen (List ℕ)). ExplainsText source out out' o err' ends) still.same w)
 
   -- or it was told that it is too long

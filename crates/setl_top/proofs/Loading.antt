@@ -8,7 +8,11 @@ use Rattle.setl_top.specs.code.Loads.{Loaded, NotLoaded, not_accepted, not_read,
 use Rattle.setl_top_status.specs.Lines.{AppendsFront, fault_line}
 use Rattle.setl_top_status.specs.Reasons.{reason_line}
 use Rattle.setl_top_status.specs.Seen.{Seen}
-use Rattle.setl_top_status.specs.code.Loads.{SeenFiles, IsStill, NoText}
+use Rattle.setl_top.specs.code.Builds.{WritesCode, Builds, built_so}
+use Rattle.setl_top.specs.code.Ready.{NotCode, flawed_so, unread_so}
+use Rattle.setl_top_images.specs.CodeFiles.{IsFlawed, flaw_line}
+use Rattle.setl_top_images.specs.declared.images.Flaw.{Flaw}
+use Rattle.setl_top_status.specs.code.Loads.{SeenFiles, IsStill, NoText, starved_read}
 use Rattle.setl_top_status.specs.code.Loads as loads
 use Rattle.setl_top_status.specs.code.Tells.{Tells}
 use Rattle.setl_top_status.specs.declared.fault.Fault.TheVariants as fault
@@ -38,3 +42,17 @@ module _ (name : List ℕ) (files files' : SeenFiles) where
     pub listed_then : (tree : Tree) (out out' : Seen (List ℕ)) → Loaded files.held name tree → (ends : Status) → WritesListing tree out out' mid err' ends → Lists name files files' out out' err err' ends
     listed_then tree out out' loaded ends w =
         listed_so tree ends loaded still.count (subst (λ (o : Seen (List ℕ)). WritesListing tree out out' o err' ends) still.same w)
+
+    -- a code file that was to be written then
+    pub built_then : (tree : Tree) (out out' : Seen (List ℕ)) → Loaded files.held name tree → (ends : Status) → WritesCode tree out out' mid err' ends → Builds name files files' out out' err err' ends
+    built_then tree out out' loaded ends w =
+        built_so tree ends loaded still.count (subst (λ (o : Seen (List ℕ)). WritesCode tree out out' o err' ends) still.same w)
+
+    -- a code file that was refused then
+    pub flawed_then : (bytes : List ℕ) (flaw : Flaw) (ends : Status) → IsText files.held name bytes → IsFlawed bytes flaw → Tells status.Refused (flaw_line flaw ++ 10 ∷ []) mid err' ends → NotCode name files files' err err' ends
+    flawed_then bytes flaw ends text why told =
+        flawed_so bytes flaw ends text why still.count (subst (λ (o : Seen (List ℕ)). Tells status.Refused (flaw_line flaw ++ 10 ∷ []) o err' ends) still.same told)
+
+    -- want of memory for it
+    pub code_starved_then : AppendsFront mid.held err'.held (fault_line fault.NoMemory) → NotCode name files files' err err' status.NoMemory
+    code_starved_then told = unread_so status.NoMemory (starved_read still.count (subst (λ (o : Seen (List ℕ)). AppendsFront o.held err'.held (fault_line fault.NoMemory)) still.same told))

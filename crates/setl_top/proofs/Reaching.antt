@@ -1,28 +1,28 @@
--- States that the marked code of a program reaches, and what the program has written there.
-use Rattle.std.proofs.Common.{◌≡◌, ◌∙◌, ℕ, zero, suc, Bool, true, false, List, [], ◌∷◌, ◌++◌, Option, Some, if◌then◌else◌, refl, sym, ap, subst}
+-- The states of the run of the marked code of a program are states of the program.
+use Rattle.std.proofs.Common.{◌≡◌, ◌∙◌, ℕ, zero, suc, Bool, true, false, List, [], ◌∷◌, ◌++◌, Option, Some, refl, sym, ap, subst}
 use Rattle.std.proofs.lemmas.List.{append-nil}
 use Rattle.setl_value.specs.Datum.{Datum}
 use Rattle.setl_text.specs.Texts.{print_line}
-use Rattle.setl_model_runs.specs.Events.{End, Stopped, Unfit}
+use Rattle.setl_model_runs.specs.Events.{End, Stopped, Unfit, Stuck}
 use Rattle.setl_model_runs.specs.Run.{Store, Move, Moves, Halts, State, Next, Goes, Ends, Machine, Test, if_fits, store_all, stored, settle, step, and_then, run}
 use Rattle.setl_program.specs.Program.{Program}
 use Rattle.setl_program.specs.Formed.{Formed}
 use Rattle.setl_model.specs.Ending.{NoneIsStuck}
-use Rattle.setl_model.specs.Means.{HasPrint}
-use Rattle.setl_model.specs.Step.{test_of}
+use Rattle.setl_model.specs.Means.{Means, HasPrint}
 use Rattle.setl_code.specs.Code.{Code, PrintTop}
 use Rattle.setl_code.specs.CodeCore.{Operand, Pops, popped, CodeCore}
-use Rattle.setl_code.specs.CodeMeans.{code_first}
+use Rattle.setl_code.specs.CodeMeans.{CodeMeans}
 use Rattle.setl_code.specs.Machine.{machine, fetch, do_step, on_popped, print_values}
-use Rattle.setl_machine_control.specs.Declaring.{tested}
+use Rattle.setl_code_simulation.specs.Claims.{Ended}
 use Rattle.setl_machine_control.specs.Answers.{said, start}
-use Rattle.setl_machine.specs.Outcome.{AtPrint, AtRead, EndsWriteNothing}
+use Rattle.setl_machine.specs.Outcome.{AtPrint, AtRead}
 use Rattle.setl_code_marked.specs.Marked.{declared_in}
 use Rattle.setl_code_marked_simulation.specs.Claims.{MarkedEndsAlike, MarkedMeansWhatTheProgramMeans, MarkedEndsInTheSameState, MarkedReaches, MarkedReachesTheSameStates, MarkedReadsWhereMeant, MarkedPrintsWhereMeant}
 use Rattle.setl_top.specs.Moments.{AtState}
 use Rattle.setl_top.specs.Moments as moments
 use Rattle.setl_top.specs.Listings.{IsMarked}
-use Rattle.setl_top.specs.code.Runs.{counted}
+use Rattle.setl_top.specs.Runnable.{OfProgram}
+use Rattle.setl_top.proofs.Stands.{coded, as_meant, Taken, Came, PrintsThere, EndsThere, Stands}
 use Rattle.setl_top_words.specs.Words.{Options}
 
 -- ---- the end of a run
@@ -66,7 +66,7 @@ module _ (m : Machine CodeCore) (test : Test) where
             (0, s, refl, sym (leaves_output s d f is) ∙ ap (λ (z : State CodeCore). z.out) state)
 
 -- what a `print` of these operands writes
-said_at_print : (c : Code) (test : Test) (k : CodeCore) (line n : ℕ) (vs : List (Option Datum)) (xs : List Operand) → fetch c k.now.body k.now.at ≡ Some (line, PrintTop n) → popped n [] k.now.operands ≡ Pops vs xs → said (step (machine c) test (start k)) ≡ print_line vs
+pub said_at_print : (c : Code) (test : Test) (k : CodeCore) (line n : ℕ) (vs : List (Option Datum)) (xs : List Operand) → fetch c k.now.body k.now.at ≡ Some (line, PrintTop n) → popped n [] k.now.operands ≡ Pops vs xs → said (step (machine c) test (start k)) ≡ print_line vs
 said_at_print c test k line n vs xs next ops =
     ap (λ f. said (settle (machine c) test (start k) (do_step c f k))) next
     ∙ ap (λ f. said (settle (machine c) test (start k) (on_popped f (λ us ys. print_values us ys k)))) ops
@@ -82,57 +82,58 @@ pub record CodeLaws : Type 0 where
   pub reads : MarkedReadsWhereMeant
   pub prints : MarkedPrintsWhereMeant
   pub not_stuck : NoneIsStuck
-  pub silent : EndsWriteNothing
 
--- the declarations that count make the test of the meaning
-counts : (asked : Options) (p : Program) → tested (counted asked p) ≡ test_of p.modes asked.based
-counts asked p = go asked.based
-  where
-    go : (b : Bool) → tested (if b then p.modes else []) ≡ test_of p.modes b
-    go true = refl
-    go false = refl
+module _ (laws : CodeLaws) (p : Program) (formed : Formed p) (c : Code) (marked : IsMarked p c) (asked : Options) (input : List ℕ) where
+  comes : (s : State CodeCore) → Came (OfProgram p) c asked input s → MarkedReaches c p input asked.turns asked.based s
+  comes s h = (h.0, as_meant (OfProgram p) c asked input h.0 (Goes s) h.1)
 
-module _ (p : Program) (c : Code) (asked : Options) (input : List ℕ) where
-  -- which values each variable takes
-  abbrev pub Taken : Test
-  Taken = tested (counted asked p)
+  at_state : (s : State CodeCore) → Came (OfProgram p) c asked input s → AtState p input asked.turns asked.based s.out
+  at_state s came =
+      let r = laws.reached p formed (declared_in p.modes) c marked input asked.turns asked.based s (comes s came) in
+      record { state = r.state; reached = r.reached; printed = r.same.out }
 
-  -- the code's run so far
-  abbrev pub coded : ℕ → Next CodeCore
-  coded n = run (machine c) Taken n (code_first c input asked.turns)
+  at_read : (s : State CodeCore) → Came (OfProgram p) c asked input s → AtRead c s.core → moments.AtRead p input asked.turns asked.based s.out
+  at_read s came next =
+      let r = laws.reads p formed (declared_in p.modes) c marked input asked.turns asked.based s next.0 (comes s came) next.1 in
+      record { state = r.there.state; reached = r.there.reached; printed = r.there.same.out; in_hand = r.in_hand }
 
-  -- it tests as the meaning does
-  pub as_meant : (n : ℕ) (x : Next CodeCore) → coded n ≡ x → run (machine c) (test_of p.modes asked.based) n (code_first c input asked.turns) ≡ x
-  as_meant n x h = subst (λ t. run (machine c) t n (code_first c input asked.turns) ≡ x) (counts asked p) h
-
-  abbrev pub Came : State CodeCore → Type 0
-  Came s = (n : ℕ) × (coded n ≡ Goes s)
-
-  comes : (s : State CodeCore) → Came s → MarkedReaches c p input asked.turns asked.based s
-  comes s h = (h.0, as_meant h.0 (Goes s) h.1)
-
-  module _ (laws : CodeLaws) (formed : Formed p) (marked : IsMarked p c) (s : State CodeCore) (came : Came s) where
-    pub came_at_state : AtState p input asked.turns asked.based s.out
-    came_at_state =
-        let r = laws.reached p formed (declared_in p.modes) c marked input asked.turns asked.based s (comes s came) in
-        record { state = r.state; reached = r.reached; printed = r.same.out }
-
-    pub came_at_read : AtRead c s.core → moments.AtRead p input asked.turns asked.based s.out
-    came_at_read next =
-        let r = laws.reads p formed (declared_in p.modes) c marked input asked.turns asked.based s next.0 (comes s came) next.1 in
-        record { state = r.there.state; reached = r.there.reached; printed = r.there.same.out; in_hand = r.in_hand }
-
-    -- the world is the same there
-    pub came_at_print : (line : List ℕ) → line ≡ said (step (machine c) Taken (start s.core)) → AtPrint c s.core →
-        (at : moments.AtPrint p input asked.turns asked.based s.out line) × (s.core.world ≡ at.state.core.shared.world)
-    came_at_print line says next =
-        let r = laws.prints p formed (declared_in p.modes) c marked input asked.turns asked.based s next.0 next.1 (comes s came) next.2 in
-        let text = said_at_print c Taken s.core next.0 next.1 r.values r.others next.2 r.operands in (
+  -- the world is the same there
+  at_print : (s : State CodeCore) → Came (OfProgram p) c asked input s → AtPrint c s.core → (line : List ℕ) → line ≡ said (step (machine c) (Taken (OfProgram p) c asked input) (start s.core)) → PrintsThere (OfProgram p) c asked input s line
+  at_print s came next line says =
+      let r = laws.prints p formed (declared_in p.modes) c marked input asked.turns asked.based s next.0 next.1 (comes s came) next.2 in
+      let text = said_at_print c (Taken (OfProgram p) c asked input) s.core next.0 next.1 r.values r.others next.2 r.operands in
+      record {
+        still = r.there.state.core.shared.world.input;
+        at = (
           record {
             state = r.there.state;
             reached = r.there.reached;
             printed = r.there.same.out;
             in_hand = subst (HasPrint p r.there.state) (sym (says ∙ text)) r.in_hand;
           },
-          r.there.same.core.world,
-        )
+          refl,
+        );
+        same = ap (λ w. w.input) r.there.same.core.world;
+      }
+
+  at_end : (n : ℕ) (e : End) (s : State CodeCore) → coded (OfProgram p) c asked input n ≡ Ends e s → EndsThere (OfProgram p) c asked input s e
+  at_end n e s is =
+      let ends = as_meant (OfProgram p) c asked input n (Ends e s) is in
+      let code : CodeMeans c p.modes input asked.turns asked.based s.out e = record { steps = n; last = s; ends = ends; written = refl } in
+      let meant : Ended p input asked.turns asked.based s.out s.events e = (laws.ends p formed (declared_in p.modes) c marked input asked.turns asked.based s.out s.events e).1 (record { steps = n; last = s; ends = ends; written = refl; told = refl }) in
+      let means : Means p input asked.turns asked.based s.out e = record { steps = meant.steps; last = meant.last; ends = meant.ends; written = meant.written } in
+      let same = laws.last p formed (declared_in p.modes) c marked input asked.turns asked.based s.out s.out e e means code in
+      record {
+        means = record { events = meant.last.events; left = meant.last.core.shared.world.input; so = (means, refl, refl) };
+        events = meant.told;
+        left = ap (λ w. w.input) (sym same.core.world);
+      }
+
+  -- no run is stuck
+  never_stuck : (n : ℕ) (s : State CodeCore) → coded (OfProgram p) c asked input n ≡ Ends Stuck s → ⊥
+  never_stuck n s is =
+      let code : CodeMeans c p.modes input asked.turns asked.based s.out Stuck = record { steps = n; last = s; ends = as_meant (OfProgram p) c asked input n (Ends Stuck s) is; written = refl } in
+      laws.not_stuck p formed input asked.turns asked.based s.out ((laws.means p formed (declared_in p.modes) c marked input asked.turns asked.based s.out Stuck).1 code)
+
+  pub program_stands : Stands (OfProgram p) c asked input
+  program_stands = record { state = at_state; read = at_read; print = λ s came next line says some. at_print s came next line says; ends = at_end; never = never_stuck }

@@ -13,6 +13,7 @@ use Rattle.setl_top.specs.Headline.{IsInput, IsTried, trial_output, Answers, tri
 use Rattle.setl_top.specs.Headline as headline
 use Rattle.setl_top.specs.Outside.{Outside}
 use Rattle.setl_top.specs.Trials.{trial_source, trial_input, trial_line}
+use Rattle.setl_top.specs.Runnable.{OfProgram}
 use Rattle.setl_top.specs.code.Runs.{Streams, counted, RunsTo, Runs}
 use Rattle.setl_top.specs.code.Tells.{TellsEnd}
 use Rattle.setl_top.specs.code.Tries.{trial_options, RunEnds, TrialRuns, Tries, trial_refused, trial_done, trial_stopped, trial_spent, trial_starved}
@@ -28,12 +29,12 @@ use Rattle.setl_top.proofs.Ends.{count_same, told_alone, starved, written_ends}
 
 -- ---- runs in memory
 
-run_so : (program : Program) (based : Bool) (s t : Streams) (input printed : List ℕ) → s.input.held ≡ Some input → s.output.held ≡ Some [] → t.output.held ≡ Some printed → (e : run.End) → RunsTo program (trial_options based) s t e → Means program input (2 ^ 63 - 1) based printed e
+run_so : (program : Program) (based : Bool) (s t : Streams) (input printed : List ℕ) → s.input.held ≡ Some input → s.output.held ≡ Some [] → t.output.held ≡ Some printed → (e : run.End) → RunsTo (OfProgram program) (trial_options based) s t e → Means program input (2 ^ 63 - 1) based printed e
 run_so program based s t input printed i o n e x =
     let known : input ≡ x.input = subst (λ (k : Option (List ℕ)). IsInput k x.input) i x.known in
     let gained : printed ≡ [] ++ x.out = subst (λ (b : Option (List ℕ)). Appends (Some []) b x.out) n (subst (λ (a : Option (List ℕ)). Appends a t.output.held x.out) o x.gained) in
     subst (λ (k : List ℕ). Means program k (2 ^ 63 - 1) based printed e) (sym known)
-    (subst (λ (k : List ℕ). Means program x.input (2 ^ 63 - 1) based k e) (sym gained) x.means)
+    (subst (λ (k : List ℕ). Means program x.input (2 ^ 63 - 1) based k e) (sym gained) x.means.so.0)
 
 no_rise : (before now : ℕ) → before ≡ 0 → now ≡ 0 → Rose before now → ⊥
 no_rise before now b n h =
@@ -41,10 +42,10 @@ no_rise before now b n h =
     omega (arith, rose)
 
 -- a run over an outside in memory, where no count of faults rises
-pub run_in_memory : (program : Program) (based : Bool) (s t : Streams) (input printed : List ℕ) → s.input.held ≡ Some input → s.output.held ≡ Some [] → t.output.held ≡ Some printed → s.input.faults ≡ 0 → t.input.faults ≡ 0 → s.output.faults ≡ 0 → t.output.faults ≡ 0 → (e : End) → (e ≡ end.NoMemory → ⊥) → Runs program (trial_options based) s t e → RunEnds program input based printed e
+pub run_in_memory : (program : Program) (based : Bool) (s t : Streams) (input printed : List ℕ) → s.input.held ≡ Some input → s.output.held ≡ Some [] → t.output.held ≡ Some printed → s.input.faults ≡ 0 → t.input.faults ≡ 0 → s.output.faults ≡ 0 → t.output.faults ≡ 0 → (e : End) → (e ≡ end.NoMemory → ⊥) → Runs (OfProgram program) (trial_options based) s t e → RunEnds program input based printed e
 run_in_memory program based s t input printed i o n j k l m end.Done some x = run_so program based s t input printed i o n run.Done x
 run_in_memory program based s t input printed i o n j k l m (end.Stopped why line) some x =
-    run_so program based s t input printed i o n (run.Stopped (kind_of (counted (trial_options based) program) why) line) x
+    run_so program based s t input printed i o n (run.Stopped (kind_of (counted (trial_options based) (OfProgram program)) why) line) x
 run_in_memory program based s t input printed i o n j k l m end.Spent some x = run_so program based s t input printed i o n run.Spent x
 run_in_memory program based s t input printed i o n j k l m end.ReadFault some x = no_rise s.input.faults t.input.faults j k x.1
 run_in_memory program based s t input printed i o n j k l m end.WriteFault some x = no_rise s.output.faults t.output.faults l m x.1

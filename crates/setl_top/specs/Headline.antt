@@ -1,120 +1,32 @@
 -- What a call of the program answers, and what it does to the outside.
-use Rattle.std.specs.Prelude.{◌≡◌, ◌⊎◌, ◌<◌, ◌-◌, ◌^◌, ℕ, Bool, true, List, [], ◌∷◌, ◌++◌, length, take, Option, None, Some, ⊤}
+use Rattle.std.specs.Prelude.{◌≡◌, ◌⊎◌, ◌<◌, ℕ, List, [], ◌∷◌, ◌++◌, length, take, Option, None, Some, ⊤}
 use Rattle.std.specs.Io.KnownBytes.{Appends, Consumes, prepend_known}
 use Rattle.setl_io.specs.Files.{IsText}
 use Rattle.setl_model_runs.specs.Events.{End}
 use Rattle.setl_model_runs.specs.Events as run
-use Rattle.setl_model.specs.Means.{Means}
-use Rattle.setl_program.specs.Program.{Program}
 use Rattle.setl_tree.specs.declared.tree.Tree.{Tree}
 use Rattle.setl_explain_words.specs.Texts.{stop_text}
 use Rattle.setl_explain_words.specs.declared.stop.Stop.{Stop}
-use Rattle.setl_top.specs.Accepted.{IsProgram, Accepted, Refusal, IsRefusedFor}
-use Rattle.setl_top_advice.specs.Advised.{IsAdvised, HasRepr}
-use Rattle.setl_top.specs.Explained.{IsExplained}
-use Rattle.setl_top.specs.Listings.{IsListing}
-use Rattle.setl_top.specs.Moments.{AtState, AtPrint, AtRead}
+use Rattle.setl_top.specs.Accepted.{IsProgram, Refusal}
+use Rattle.setl_top_advice.specs.Advised.{HasRepr}
+use Rattle.setl_top.specs.Built.{IsLongCode, CodeRefusal}
 use Rattle.setl_top.specs.Outside.{Outside}
-use Rattle.setl_top.specs.Trials.{trial_source, trial_input, trial_line}
-use Rattle.setl_top.specs.Watching.{asked_for, IsThere, no_watcher_line, reports_of}
+pub use Rattle.setl_top.specs.Requests.{IsToLoad, Job, IsInput, IsToRun, IsToList, IsToBuild, IsToAdvise, TellsRefusal, IsToExplain, IsTried}
+use Rattle.setl_top.specs.Runnable.{Meant, IsAt, Printing, Reading}
+use Rattle.setl_top.specs.Trials.{trial_source}
+use Rattle.setl_top.specs.Watching.{IsThere, no_watcher_line, reports_of}
+use Rattle.setl_top_images.specs.CodeFiles.{flaw_line}
+use Rattle.setl_top_images.specs.declared.images.Flaw.TheVariants.{TooLong}
 use Rattle.setl_top_status.specs.Ends.{status_of, error_line}
 use Rattle.setl_top_status.specs.Lines.{AppendsFronts, fault_line}
 use Rattle.setl_top_status.specs.Seen.{CountRose, CountStays}
 use Rattle.setl_top_status.specs.declared.fault.Fault.{Fault}
 use Rattle.setl_top_status.specs.declared.fault.Fault.TheVariants as fault
-use Rattle.setl_top_status.specs.declared.reason.Reason.{Reason}
 use Rattle.setl_top_status.specs.declared.status.Status.{Status}
 use Rattle.setl_top_status.specs.declared.status.Status.TheVariants.{Done, Refused, Words, Stopped, Spent, ReadFault, WriteFault, NoMemory}
-use Rattle.setl_watch.specs.Watches.{Watch}
-use Rattle.setl_top_words.specs.Words.{Command, Run, Check, Code, Advise, Explain, TellStop, Trial, Spells, HasFile, RunsFile, watched_by, IsFaulty}
+use Rattle.setl_top_words.specs.Words.{Options, Command, Run, Check, Code, Build, Advise, Explain, TellStop, Trial, Spells, watched_by, IsFaulty}
 use Rattle.setl_top_words.specs.Told.{TellsFaulty}
-
--- ---- what the words ask for
-
--- the words ask for the text of this file, and for a watcher that is there or for none
-pub record IsToLoad (words : List (List ℕ)) (before : Outside) (name : List ℕ) : Type 0 where
-  pub command : Command
-  pub spelled : Spells words command
-  pub file : HasFile command name
-  pub there : IsThere (watched_by command) before.watchers
-
--- what is run: a program, the bytes of its input, its bound on turns, whether its declarations count, and the watchers that
--- are told its events
-pub record Job : Type 0 where
-  pub program : Program
-  pub input : List ℕ
-  pub turns : ℕ
-  pub based : Bool
-  pub watchers : List Watch
-
--- where the bytes left of an input are told, they are these
-abbrev pub IsInput : Option (List ℕ) → List ℕ → Type 0
-IsInput None bytes = ⊤
-IsInput (Some left) bytes = left ≡ bytes
-
--- the words ask for this to be run
-pub record IsToRun (words : List (List ℕ)) (before : Outside) (job : Job) : Type 0 where
-  pub command : Command
-  pub name : List ℕ
-  pub source : List ℕ
-  pub spelled : Spells words command
-  pub runs : RunsFile command name job.turns job.based
-  pub text : IsText before.files.held name source
-  pub accepted : Accepted source job.program
-  pub input : IsInput before.input.held job.input
-  pub there : IsThere (watched_by command) before.watchers
-  pub watched : job.watchers ≡ asked_for (watched_by command) before.watchers
-
--- the words ask for the code of a program, and this is its listing
-pub record IsToList (words : List (List ℕ)) (before : Outside) (listed : List ℕ) : Type 0 where
-  pub name : List ℕ
-  pub source : List ℕ
-  pub tree : Tree
-  pub spelled : Spells words (Code name)
-  pub text : IsText before.files.held name source
-  pub is_program : IsProgram source tree
-  pub is_listing : IsListing tree listed
-
--- the words ask for advice for a program without declarations, and this is it
-pub record IsToAdvise (words : List (List ℕ)) (before : Outside) (text : List ℕ) : Type 0 where
-  pub name : List ℕ
-  pub source : List ℕ
-  pub tree : Tree
-  pub spelled : Spells words (Advise name)
-  pub text_of : IsText before.files.held name source
-  pub is_program : IsProgram source tree
-  pub is_advised : IsAdvised source tree text
-
--- a command that tells on the error output why a source is refused; an explanation writes it to the output
-abbrev pub TellsRefusal : Command → Type 0
-TellsRefusal (Run options name) = ⊤
-TellsRefusal (Check name) = ⊤
-TellsRefusal (Code name) = ⊤
-TellsRefusal (Advise name) = ⊤
-TellsRefusal (Explain name) = ⊥
-TellsRefusal (TellStop stop) = ⊥
-TellsRefusal (Trial seed nodes) = ⊤
-
--- the words ask for the explanation of a source that is refused, and this is it
-pub record IsToExplain (words : List (List ℕ)) (before : Outside) (text : List ℕ) : Type 0 where
-  pub name : List ℕ
-  pub source : List ℕ
-  pub reason : Reason
-  pub spelled : Spells words (Explain name)
-  pub text_of : IsText before.files.held name source
-  pub refused_for : IsRefusedFor source reason
-  pub is_explained : IsExplained source reason text
-
--- the words ask for a trial, the run of its program on its input ends so with its declarations, and this is the trial's line
-pub record IsTried (words : List (List ℕ)) (line : List ℕ) (end : End) : Type 0 where
-  pub seed : ℕ
-  pub nodes : ℕ
-  pub program : Program
-  pub printed : List ℕ
-  pub spelled : Spells words (Trial seed nodes)
-  pub accepted : Accepted trial_source program
-  pub means : Means program (trial_input seed nodes) (2 ^ 63 - 1) true printed end
-  pub is_line : line ≡ trial_line seed nodes printed
+use Rattle.setl_top_words.specs.declared.reading.FileKind.TheVariants.{CodeFile}
 
 -- ---- what a run does that the words ask for
 
@@ -128,27 +40,28 @@ IsLeft (Some input) left bytes = (kept : List ℕ) × (prepend_known kept left �
 pub record IsRun (words : List (List ℕ)) (before : Outside) (out err : List ℕ) (end : End) (left : Option (List ℕ)) : Type 0 where
   pub job : Job
   pub asked : IsToRun words before job
-  pub means : Means job.program job.input job.turns job.based out end
-  pub leaves : IsLeft before.input.held left means.last.core.shared.world.input
-  pub tells : err ≡ reports_of job.watchers means.last.events ++ error_line end
+  pub means : Meant job.runnable job.input job.turns job.based out end
+  pub leaves : IsLeft before.input.held left means.left
+  pub tells : err ≡ reports_of job.watchers means.events ++ error_line end
 
 -- it has written this at one of its states
 pub record IsAtState (words : List (List ℕ)) (before : Outside) (out : List ℕ) : Type 0 where
   pub job : Job
   pub asked : IsToRun words before job
-  pub at : AtState job.program job.input job.turns job.based out
+  pub at : IsAt job.runnable job.input job.turns job.based out
 
--- it has written this when a `print` of that line is in hand
+-- it has written this when a `print` of that line is in hand, and has this left of its input there
 pub record IsAtPrint (words : List (List ℕ)) (before : Outside) (out line : List ℕ) : Type 0 where
   pub job : Job
   pub asked : IsToRun words before job
-  pub at : AtPrint job.program job.input job.turns job.based out line
+  pub left : List ℕ
+  pub at : Printing job.runnable job.input job.turns job.based out line left
 
 -- it has written this when a `read` is in hand
 pub record IsAtRead (words : List (List ℕ)) (before : Outside) (out : List ℕ) : Type 0 where
   pub job : Job
   pub asked : IsToRun words before job
-  pub at : AtRead job.program job.input job.turns job.based out
+  pub at : Reading job.runnable job.input job.turns job.based out
 
 -- ---- a call that comes to its end
 
@@ -165,7 +78,10 @@ pub data Answers (words : List (List ℕ)) (before : Outside) : Status → List 
   no_such_watcher : (command : Command) → Spells words command → (IsThere (watched_by command) before.watchers → ⊥) → Answers words before Words [] no_watcher_line before.input.held
   refused : (name source line : List ℕ) → (asked : IsToLoad words before name) → TellsRefusal asked.command → IsText before.files.held name source → Refusal source line → Answers words before Refused [] (line ++ 10 ∷ []) before.input.held
   checked : (name source : List ℕ) (tree : Tree) → Spells words (Check name) → IsText before.files.held name source → IsProgram source tree → Answers words before Done [] [] before.input.held
+  code_refused : (options : Options) (name bytes line : List ℕ) → Spells words (Run CodeFile options name) → IsThere options.watch before.watchers → IsText before.files.held name bytes → CodeRefusal bytes line → Answers words before Refused [] (line ++ 10 ∷ []) before.input.held
   listed : (text : List ℕ) → IsToList words before text → Answers words before Done text [] before.input.held
+  built : (bytes : List ℕ) → IsToBuild words before bytes → Answers words before Done bytes [] before.input.held
+  too_long_built : (name source : List ℕ) (tree : Tree) → Spells words (Build name) → IsText before.files.held name source → IsProgram source tree → IsLongCode tree → Answers words before Refused [] (flaw_line TooLong ++ 10 ∷ []) before.input.held
   advised : (text : List ℕ) → IsToAdvise words before text → Answers words before Done text [] before.input.held
   has_repr : (name source line : List ℕ) (tree : Tree) → Spells words (Advise name) → IsText before.files.held name source → IsProgram source tree → HasRepr tree line → Answers words before Refused [] (line ++ 10 ∷ []) before.input.held
   explained : (text : List ℕ) → IsToExplain words before text → Answers words before Refused text [] before.input.held
@@ -193,9 +109,10 @@ pub record Ended (words : List (List ℕ)) (before after : Outside) (status : St
 
 -- ---- a call that is broken off
 
--- some of a listing, of advice, of an explanation, of the text of a stop or of a trial's line, and not all of it
+-- some of a listing, of a code file, of advice, of an explanation, of the text of a stop or of a trial's line, and not all of it
 pub data UpToWrite (words : List (List ℕ)) (before : Outside) : List ℕ → Type 0 where
   in_listing : (text : List ℕ) (n : ℕ) → IsToList words before text → n < length text → UpToWrite words before (take n text)
+  in_code_file : (bytes : List ℕ) (n : ℕ) → IsToBuild words before bytes → n < length bytes → UpToWrite words before (take n bytes)
   in_advice : (text : List ℕ) (n : ℕ) → IsToAdvise words before text → n < length text → UpToWrite words before (take n text)
   in_explanation : (text : List ℕ) (n : ℕ) → IsToExplain words before text → n < length text → UpToWrite words before (take n text)
   in_stop : (stop : Stop) (n : ℕ) → Spells words (TellStop stop) → n < length (stop_text stop) → UpToWrite words before (take n (stop_text stop))
@@ -247,7 +164,7 @@ pub record PrintFailed (words : List (List ℕ)) (before after : Outside) (out l
   pub rose : CountRose before.output after.output
   pub printing : IsAtPrint words before out line
   pub part : n < length line
-  pub leaves : IsLeft before.input.held after.input.held printing.at.state.core.shared.world.input
+  pub leaves : IsLeft before.input.held after.input.held printing.left
   pub files : CountStays before.files after.files
   pub input : CountStays before.input after.input
 
@@ -322,6 +239,10 @@ CheckLeavesRest words before after = (name : List ℕ) → Spells words (Check n
 -- a listing leaves the input as it was, however it ends
 abbrev pub ListingLeavesInput : List (List ℕ) → Outside → Outside → Type 0
 ListingLeavesInput words before after = (name : List ℕ) → Spells words (Code name) → after.input ≡ before.input
+
+-- a code file that is built leaves the input as it was, however it ends
+abbrev pub BuildLeavesInput : List (List ℕ) → Outside → Outside → Type 0
+BuildLeavesInput words before after = (name : List ℕ) → Spells words (Build name) → after.input ≡ before.input
 
 -- advice leaves the input as it was, however it ends
 abbrev pub AdviceLeavesInput : List (List ℕ) → Outside → Outside → Type 0

@@ -5,9 +5,15 @@ use Rattle.setl_model_runs.specs.Events.{End, Stopped, Stuck, Unfit}
 use Rattle.setl_model_runs.specs.Variable.{Variable}
 use Rattle.setl_model.specs.Means.{Means}
 use Rattle.setl_program.specs.Program.{Program}
+use Rattle.setl_program.specs.ProgramOf.{program_of}
 use Rattle.setl_tree.specs.declared.tree.Tree.{Tree}
 use Rattle.setl_top.specs.Accepted.{IsProgram, Accepted, IsRefusedFor, Refusal}
 use Rattle.setl_top.specs.Headline.{Headline, InputLeft, Ended, AnyRose, Answers, Job, IsToRun, IsTried, TellsRefusal, trial_output}
+use Rattle.setl_top.specs.Built.{IsBuilt, IsLongCode, CodeRefusal}
+use Rattle.setl_top.specs.Runnable.{Meant, OfProgram, of_image, RunsAlike}
+use Rattle.setl_image_format.specs.ImageCodec.{Image}
+use Rattle.setl_top_images.specs.CodeFiles.{IsCodeFile, flaw_line}
+use Rattle.setl_top_images.specs.declared.images.Flaw.TheVariants.{TooLong}
 use Rattle.setl_top_advice.specs.Advised.{IsAdvised, HasRepr}
 use Rattle.setl_top_advice.specs.Put.{with_section}
 use Rattle.setl_top.specs.Explained.{IsExplained}
@@ -20,7 +26,8 @@ use Rattle.setl_top_status.specs.declared.reason.Reason.{Reason}
 use Rattle.setl_top_status.specs.declared.status.Status.{Status}
 use Rattle.setl_top_status.specs.declared.status.Status.TheVariants.{NoMemory, ReadFault, Refused, WriteFault}
 use Rattle.setl_top_status.specs.declared.status.Status.TheVariants as ended
-use Rattle.setl_top_words.specs.Words.{Command, Check, Code, Advise, Explain, Trial, Spells, HasFile, watched_by}
+use Rattle.setl_top_words.specs.Words.{Options, Command, Run, Check, Code, Build, Advise, Explain, Trial, Spells, HasFile, watched_by}
+use Rattle.setl_top_words.specs.declared.reading.FileKind.TheVariants.{CodeFile}
 
 -- ---- sources
 
@@ -102,6 +109,25 @@ ListsExactly = (words : List (List ℕ)) (before : Outside) (texts : List ℕ �
 abbrev pub OneListing : Type 0
 OneListing = (tree : Tree) → (text : List ℕ) × IsListing tree text × ((other : List ℕ) → IsListing tree other → other ≡ text)
 
+-- Bytes that are no code file are refused by the line of their flaw, and write nothing.
+abbrev pub RefusesCodeExactly : Type 0
+RefusesCodeExactly = (words : List (List ℕ)) (before : Outside) (texts : List ℕ → Option (List ℕ)) (options : Options) (name bytes line : List ℕ) (status : Status) (out err : List ℕ) (left : Option (List ℕ)) →
+    TellsTexts before texts → Spells words (Run CodeFile options name) → IsThere options.watch before.watchers → texts name ≡ Some bytes → CodeRefusal bytes line → Answers words before status out err left →
+    (status ≡ Refused) × (out ≡ []) × (err ≡ line ++ 10 ∷ []) × (left ≡ before.input.held)
+
+-- A code file is built only where the source is a program, and what is written is then a code file of that program, unless
+-- its spelling is too long, which is refused; any other source is refused and writes nothing.
+abbrev pub BuildsExactly : Type 0
+BuildsExactly = (words : List (List ℕ)) (before : Outside) (texts : List ℕ → Option (List ℕ)) (name source : List ℕ) (status : Status) (out err : List ℕ) (left : Option (List ℕ)) →
+    TellsTexts before texts → Spells words (Build name) → texts name ≡ Some source → Answers words before status out err left →
+    (status ≡ ended.Done → (tree : Tree) × IsProgram source tree) × ((tree : Tree) → IsProgram source tree → ((status ≡ ended.Done) × IsBuilt tree out × (err ≡ [])) ⊎ ((status ≡ Refused) × (out ≡ []) × IsLongCode tree × (err ≡ flaw_line TooLong ++ 10 ∷ []))) × ((status ≡ ended.Done) ⊎ ((status ≡ Refused) × (out ≡ []))) × (left ≡ before.input.held)
+
+-- The code file that is built of a source runs as the source does: each run of the one ends as that of the other, with the
+-- same output and the same events, and leaves the same of its input.
+abbrev pub CodeFilesRunAlike : Type 0
+CodeFilesRunAlike = (source bytes : List ℕ) (tree : Tree) (i : Image) → IsProgram source tree → IsBuilt tree bytes → IsCodeFile bytes i →
+    RunsAlike (OfProgram (program_of tree)) (of_image i) × RunsAlike (of_image i) (OfProgram (program_of tree))
+
 -- Advice is done exactly where the source is a program without declarations, and what is written is then advice for it; a
 -- program with declarations is refused by the line of the first of them.
 abbrev pub AdvisesExactly : Type 0
@@ -138,8 +164,8 @@ TriesExactly = (words : List (List ℕ)) (before : Outside) (line : List ℕ) (e
 
 abbrev pub EndsExactly : Type 0
 EndsExactly = (words : List (List ℕ)) (before : Outside) (texts : List ℕ → Option (List ℕ)) (input : List ℕ) (job : Job) (said : List ℕ) (end : End) (status : Status) (out err : List ℕ) (left : Option (List ℕ)) →
-    TellsTexts before texts → before.input.held ≡ Some input → IsToRun words before job → (means : Means job.program job.input job.turns job.based said end) → Answers words before status out err left →
-    (status_of end ≡ Some status) × (out ≡ said) × (err ≡ reports_of job.watchers means.last.events ++ error_line end)
+    TellsTexts before texts → before.input.held ≡ Some input → IsToRun words before job → (means : Meant job.runnable job.input job.turns job.based said end) → Answers words before status out err left →
+    (status_of end ≡ Some status) × (out ≡ said) × (err ≡ reports_of job.watchers means.events ++ error_line end)
 
 -- every run of an accepted program ends, for every input and bound on turns, whether declarations count or not
 abbrev pub AcceptedRunsEnd : Type 0

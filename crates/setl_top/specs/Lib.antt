@@ -1,10 +1,13 @@
 pub mod Accepted
 pub mod Moments
 pub mod Listings
+pub mod Runnable
+pub mod Built
 pub mod Explained
 pub mod Trials
 pub mod Watching
 pub mod Outside
+pub mod Requests
 pub mod Headline
 pub mod Laws
 pub mod code

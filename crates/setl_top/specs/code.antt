@@ -2,7 +2,9 @@ pub mod Runs
 pub mod CodeRuns
 pub mod Tells
 pub mod Loads
+pub mod Ready
 pub mod Lists
+pub mod Builds
 pub mod Explains
 pub mod Advises
 pub mod Tries

@@ -77,7 +77,7 @@ pub fn explain_file<F: Files, O: Sink, E: Sink>(
 ) -> Status
     ensures { Explains name.now (seen F.texts F.faults files.old) (seen F.texts F.faults files.new) (seen O.held O.faults out.old) (seen O.held O.faults out.new) (seen E.held E.faults err.old) (seen E.held E.faults err.new) result }
 {
-    match load_text(alloc, name, files, err) {
+    match load_text(alloc, name, 1 << 24, files, err) {
         Ok(Some(source)) => explain_text(alloc, &source, out, err),
         Ok(None) => write_explanation(alloc, &[], Reason::TooLong, out, err),
         Err(status) => status,

@@ -1,5 +1,37 @@
 //! What follows from the headline and the definitions alone. The functions have no effect: each states a law.
-ghost use Rattle.setl_top.specs.Laws.{IsComplete, FaultyWordsReadNothing, WordsExactly, RefusesExactly, ChecksExactly, ListsExactly, OneListing, ExplainsExactly, TrialsReadNothing, TriesExactly, EndsExactly, AcceptedRunsEnd, NoAcceptedRunIsStuck, EitherProgramOrRefused, NotProgramAndRefused, OneTree, OneReason, AdvisedSourcesFit, AdvisesExactly, FailedLoadEnds, FailedReadEnds, FailedWriteEnds};
+ghost use Rattle.setl_top.specs.Laws.{IsComplete, FaultyWordsReadNothing, WordsExactly, RefusesExactly, RefusesCodeExactly, ChecksExactly, ListsExactly, BuildsExactly, CodeFilesRunAlike, OneListing, ExplainsExactly, TrialsReadNothing, TriesExactly, EndsExactly, AcceptedRunsEnd, NoAcceptedRunIsStuck, EitherProgramOrRefused, NotProgramAndRefused, OneTree, OneReason, AdvisedSourcesFit, AdvisesExactly, FailedLoadEnds, FailedReadEnds, FailedWriteEnds};
+
+/// Where the texts are told, an `exec` of bytes that are no code file is refused by the line of their first flaw by length,
+/// spelling and soundness, the output has gained nothing, and the input is left as it was.
+pub fn code_refused_exactly()
+    ensures { RefusesCodeExactly }
+{
+    setl_top_words::one_command();
+    setl_top_images::one_code();
+}
+
+/// Where the texts are told, a build that came to its end was of a program where it is done, and the output has then gained a
+/// code file of that program; it is refused where that would be too long. A source that is no program is refused, too, and
+/// then the output has gained nothing. The input is left as it was.
+pub fn builds_exactly()
+    ensures { BuildsExactly }
+{
+    setl_top_words::one_command();
+    setl_token::lexing_is_determined();
+    setl_parse_reading::tree_is_unique();
+    setl_parse::one_fault();
+}
+
+/// The code file that is built of a source runs as the source does: each run of the one ends as that of the other, with the
+/// same output and the same events, and leaves the same of its input.
+pub fn code_files_run_alike()
+    ensures { CodeFilesRunAlike }
+{
+    setl_top_images::one_code();
+    setl_program_laws::accepted_is_formed();
+    setl_code_marked_simulation::marked_code_means_what_the_program_means();
+    setl_code_marked_simulation::marked_code_reaches_the_same_states();
+}
 
 /// Each source, whatever its bytes, is a program with one tree or is refused for one reason, and not both.
 pub fn program_or_refusal()
@@ -131,8 +163,9 @@ pub fn tries_exactly()
     setl_model::one_meaning();
 }
 
-/// Where the texts and the input are told and the program ends so, a call that came to its end has that end's status and
-/// output; the error output has gained what the watchers that were asked for report of its events, and then its error line.
+/// Where the texts and the input are told and the program or the code ends so, a call that came to its end has that end's
+/// status and output; the error output has gained what the watchers that were asked for report of its events, and then its
+/// error line.
 pub fn ends_exactly()
     ensures { EndsExactly }
 {
@@ -141,6 +174,7 @@ pub fn ends_exactly()
     setl_parse_reading::tree_is_unique();
     setl_parse::one_fault();
     setl_model::one_meaning();
+    setl_top_images::one_code();
 }
 
 /// Every run of an accepted program ends, for every input and bound on turns, whether declarations count or not, and none

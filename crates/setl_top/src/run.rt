@@ -1,32 +1,34 @@
-//! Runs of programs.
+//! Runs of programs and of code files.
 ghost use Rattle.std.specs.Prelude.{◌≡◌, ◌<◌, ◌^◌, map, IfOk, OnErr};
 ghost use Rattle.setl_code.specs.MayRun.{MayRun};
 ghost use Rattle.setl_code.specs.Plain.{plain_code};
 ghost use Rattle.setl_machine_control.specs.Declaring.{IsBare, AreOfMain};
-ghost use Rattle.setl_program.specs.code.Plain.{plain_declared, plain_program};
+ghost use Rattle.setl_program.specs.code.Plain.{plain_declared};
+ghost use Rattle.setl_top.specs.Runnable.{Runnable, declared_by};
 ghost use Rattle.setl_top.specs.code.CodeRuns.{RunsCode};
-ghost use Rattle.setl_top.specs.code.Runs.{IsMeant, Runs, TakesInput, counted, streams};
+ghost use Rattle.setl_top.specs.code.Ready.{IsReady};
+ghost use Rattle.setl_top.specs.code.Runs.{Runs, TakesInput, counted, streams};
 ghost use Rattle.setl_top_status.specs.Seen.{seen};
 ghost use Rattle.setl_watch.specs.Watches.{watched};
 ghost use Rattle.setl_top_words.specs.code.Commands.{options_now};
 
-use crate::coding::code_of_program;
+use crate::ready::Ready;
 use setl_code::Code;
 use setl_code_declared::declared_variables_fit;
 use setl_io::{Sink, Source};
 use setl_machine::{Control, Declarations, End, run_watched};
 use setl_modes::Mode;
-use setl_program::{Declared, Program};
+use setl_program::Declared;
 use setl_store::Store;
 use setl_top_words::Options;
 use setl_watch::Watcher;
 use std::alloc::{AllocError, Global};
 
-/// The declarations of a program that count in a run.
-pub fn counted(asked: Options, program: &Program) -> &[Declared]
-    ensures { map plain_declared result.now ≡ counted (options_now asked) (plain_program program.now) }
+/// The declarations that count in a run of this.
+pub fn counted(asked: Options, ready: &Ready) -> &[Declared]
+    ensures { (r : Runnable) → map plain_declared ready.now.declared ≡ declared_by r → map plain_declared result.now ≡ counted (options_now asked) r }
 {
-    asked.counted(program.declared.as_slice())
+    asked.counted(ready.declared.as_slice())
 }
 
 /// Runs a code from its first step, with so many turns, where these variables are declared, and tells the watchers its
@@ -84,21 +86,20 @@ fn bases_of(mode: &Mode) -> u32 {
     }
 }
 
-/// Runs the program of an accepted tree, and tells the watchers its events. The error is want of memory, and then nothing
-/// was done.
-pub fn run_program<I: Source, O: Sink>(
+/// Runs what is ready to run, and tells the watchers its events. The error is want of memory, and then nothing was done.
+pub fn run_ready<I: Source, O: Sink>(
     alloc: Global,
-    program: &Program,
+    ready: &Ready,
     asked: Options,
     input: &mut I,
     out: &mut O,
     watchers: &mut Vec<Box<dyn Watcher>>,
     reports: &mut Vec<u8>,
 ) -> Result<End, AllocError>
-    requires meant { IsMeant (plain_program program.now) }
+    requires is { (r : Runnable) × IsReady r ready.now }
     requires turns { asked.turns < 2 ^ 63 }
-    ensures ran { IfOk result (Runs (plain_program program.now) (options_now asked) (streams (seen I.left I.faults input.old) (seen O.held O.faults out.old) (watched (map (λ w. watch w) watchers.old.items) reports.old.items)) (streams (seen I.left I.faults input.new) (seen O.held O.faults out.new) (watched (map (λ w. watch w) watchers.new.items) reports.new.items))) }
-    ensures input { TakesInput (plain_program program.now) (options_now asked) (streams (seen I.left I.faults input.old) (seen O.held O.faults out.old) (watched (map (λ w. watch w) watchers.old.items) reports.old.items)) (streams (seen I.left I.faults input.new) (seen O.held O.faults out.new) (watched (map (λ w. watch w) watchers.new.items) reports.new.items)) }
+    ensures ran { (r : Runnable) → IsReady r ready.now → IfOk result (Runs r (options_now asked) (streams (seen I.left I.faults input.old) (seen O.held O.faults out.old) (watched (map (λ w. watch w) watchers.old.items) reports.old.items)) (streams (seen I.left I.faults input.new) (seen O.held O.faults out.new) (watched (map (λ w. watch w) watchers.new.items) reports.new.items))) }
+    ensures input { (r : Runnable) → IsReady r ready.now → TakesInput r (options_now asked) (streams (seen I.left I.faults input.old) (seen O.held O.faults out.old) (watched (map (λ w. watch w) watchers.old.items) reports.old.items)) (streams (seen I.left I.faults input.new) (seen O.held O.faults out.new) (watched (map (λ w. watch w) watchers.new.items) reports.new.items)) }
     ensures unread { OnErr result (seen I.left I.faults input.new ≡ seen I.left I.faults input.old) }
     ensures out { OnErr result (seen O.held O.faults out.new ≡ seen O.held O.faults out.old) }
 {
@@ -106,12 +107,12 @@ pub fn run_program<I: Source, O: Sink>(
     setl_code_marked_simulation::marked_code_means_what_the_program_means();
     setl_code_marked_simulation::marked_code_reaches_the_same_states();
     setl_code_simulation::every_run_ends();
+    setl_image_sound::sound_images_run();
     setl_machine::ends_write_nothing();
-    let code = code_of_program(alloc, program)?;
     run_code(
         alloc,
-        &code,
-        counted(asked, program),
+        &ready.code,
+        counted(asked, ready),
         asked.turns,
         input,
         out,

@@ -1,6 +1,6 @@
 //! The program as one call.
 ghost use Rattle.std.specs.Prelude.{◌≡◌, ℕ, ◌<◌, ◌^◌, List, map, string_bytes};
-ghost use Rattle.setl_top.specs.Headline.{Headline, InputLeft, CheckLeavesRest, ListingLeavesInput, AdviceLeavesInput, ExplanationLeavesInput, TrialLeavesFilesAndInput};
+ghost use Rattle.setl_top.specs.Headline.{Headline, InputLeft, CheckLeavesRest, ListingLeavesInput, BuildLeavesInput, AdviceLeavesInput, ExplanationLeavesInput, TrialLeavesFilesAndInput};
 ghost use Rattle.setl_top.specs.Outside.{outside};
 ghost use Rattle.setl_top.specs.Watching.{asked_for, IsThere};
 ghost use Rattle.setl_top_status.specs.Seen.{seen};
@@ -10,28 +10,34 @@ ghost use Rattle.setl_top_words.specs.Words.{Run, Spells};
 
 use crate::Status;
 use crate::advising::advise_file;
+use crate::building::build_file;
 use crate::explaining::{explain_file, tell_stop};
 use crate::listing::list_file;
-use crate::load::{check_file, load_resolved};
-use crate::run::{counted, run_program};
+use crate::load::{check_file, load_ready};
+use crate::run::{counted, run_ready};
 use crate::tell::{tell_end, tell_faulty};
 use crate::trial::run_trial;
 use crate::watching::keep_asked;
 use setl_io::{Files, Sink, Source};
 use setl_machine::End;
 use setl_top_status::tell;
-use setl_top_words::{Command, Options, read_words};
+use setl_top_words::{Command, FileKind, Options, read_words};
 use setl_watch::Watcher;
 use std::alloc::Global;
 
 /// Does what the words of the command line ask for, and tells how that ended.
 ///
-/// `words` are those after the program's own name: `run [--unbased] [--turns N] [--watch NAME] FILE`, `check FILE`,
-/// `code FILE`, `advise FILE`, `explain FILE`, `explain --stop NAME` or `trial SEED N`. With `--unbased` the program's
-/// declarations don't count, and N from 0 to 2^63 - 1 bounds its turns, which are 2^63 - 1 otherwise. `--watch trace` asks
-/// for the watchers with the name 1, `--watch cover` for those with the name 2 and `--watch profile` for those with the name
-/// 3; the others are dropped, and where none has that name the words are refused before the file is read. `files` has the
-/// sources by name, and `input` is what a program reads.
+/// `words` are those after the program's own name: `run [--unbased] [--turns N] [--watch NAME] FILE`, `exec` with the same
+/// options, `check FILE`, `code FILE`, `build FILE`, `advise FILE`, `explain FILE`, `explain --stop NAME` or `trial SEED N`.
+/// `run` runs the program of a source and `exec` the code of a code file. With `--unbased` its declarations don't count, and
+/// N from 0 to 2^63 - 1 bounds its turns, which are 2^63 - 1 otherwise. `--watch trace` asks for the watchers with the name 1,
+/// `--watch cover` for those with the name 2 and `--watch profile` for those with the name 3; the others are dropped, and
+/// where none has that name the words are refused before the file is read. `files` has the sources and the code files by
+/// name, and `input` is what a run reads.
+///
+/// A build of a file writes to `out` a code file of its program, which `exec` runs as `run` runs the source; one with more
+/// than 2^26 bytes is refused. So is a code file with more, one that spells no image, and one whose code isn't sound, in this
+/// order, with a line that tells which; such code is never run.
 ///
 /// Advice for a file writes to `out` a `repr` section with which no run of its program ends for a value that doesn't fit. A
 /// program that has declarations is refused.
@@ -49,7 +55,7 @@ use std::alloc::Global;
 /// that wasn't done, if it has one, or what is told of words that are of no such form. Bytes are taken off the front of
 /// `input` only by a run that comes to a `read`, and `out` has then gained what the run had printed there. Where a
 /// `print` failed, `input` has what the run had left at it, but for bytes that were taken ahead. A check leaves `input`
-/// and `out` as they were, however it ends, a listing, advice and an explanation leave `input` as it was, and a trial
+/// and `out` as they were, however it ends, a listing, a build, advice and an explanation leave `input` as it was, and a trial
 /// `files` and `input`.
 ///
 /// `ReadFault` comes only where the words name a file and the count of faults of `files` rose in the call, or that of
@@ -77,6 +83,9 @@ pub fn setl<F: Files, I: Source, O: Sink, E: Sink>(
     ensures listing { let before = outside (map (λ w. watch w) watchers.items) (seen F.texts F.faults files.old) (seen I.left I.faults input.old) (seen O.held O.faults out.old) (seen E.held E.faults err.old) in
         let after = outside (map (λ w. watch w) watchers.items) (seen F.texts F.faults files.new) (seen I.left I.faults input.new) (seen O.held O.faults out.new) (seen E.held E.faults err.new) in
         ListingLeavesInput (map string_bytes words.now) before after }
+    ensures build { let before = outside (map (λ w. watch w) watchers.items) (seen F.texts F.faults files.old) (seen I.left I.faults input.old) (seen O.held O.faults out.old) (seen E.held E.faults err.old) in
+        let after = outside (map (λ w. watch w) watchers.items) (seen F.texts F.faults files.new) (seen I.left I.faults input.new) (seen O.held O.faults out.new) (seen E.held E.faults err.new) in
+        BuildLeavesInput (map string_bytes words.now) before after }
     ensures advice { let before = outside (map (λ w. watch w) watchers.items) (seen F.texts F.faults files.old) (seen I.left I.faults input.old) (seen O.held O.faults out.old) (seen E.held E.faults err.old) in
         let after = outside (map (λ w. watch w) watchers.items) (seen F.texts F.faults files.new) (seen I.left I.faults input.new) (seen O.held O.faults out.new) (seen E.held E.faults err.new) in
         AdviceLeavesInput (map string_bytes words.now) before after }
@@ -88,11 +97,12 @@ pub fn setl<F: Files, I: Source, O: Sink, E: Sink>(
         TrialLeavesFilesAndInput (map string_bytes words.now) before after }
 {
     match read_words(words) {
-        Some(Command::Run(asked, name)) => {
-            run_asked(alloc, asked, name, watchers, files, input, out, err)
+        Some(Command::Run(kind, asked, name)) => {
+            run_asked(alloc, kind, asked, name, watchers, files, input, out, err)
         }
         Some(Command::Check(name)) => check_file(alloc, name, files, err),
         Some(Command::Code(name)) => list_file(alloc, name, files, out, err),
+        Some(Command::Build(name)) => build_file(alloc, name, files, out, err),
         Some(Command::Advise(name)) => advise_file(alloc, name, files, out, err),
         Some(Command::Explain(name)) => explain_file(alloc, name, files, out, err),
         Some(Command::TellStop(stop)) => tell_stop(stop, out, err),
@@ -101,9 +111,10 @@ pub fn setl<F: Files, I: Source, O: Sink, E: Sink>(
     }
 }
 
-/// Runs the program of a file and tells its events those of the watchers that are asked for.
+/// Runs what a file holds and tells its events those of the watchers that are asked for.
 fn run_asked<F: Files, I: Source, O: Sink, E: Sink>(
     alloc: Global,
+    kind: FileKind,
     asked: Options,
     name: &str,
     watchers: Vec<Box<dyn Watcher>>,
@@ -115,21 +126,32 @@ fn run_asked<F: Files, I: Source, O: Sink, E: Sink>(
     requires { asked.turns < 2 ^ 63 }
     ensures headline { let before = outside (map (λ w. watch w) watchers.items) (seen F.texts F.faults files.old) (seen I.left I.faults input.old) (seen O.held O.faults out.old) (seen E.held E.faults err.old) in
         let after = outside (map (λ w. watch w) watchers.items) (seen F.texts F.faults files.new) (seen I.left I.faults input.new) (seen O.held O.faults out.new) (seen E.held E.faults err.new) in
-        (words : List (List ℕ)) → Spells words (Run (options_now asked) name.now) → Headline words before after result }
+        (words : List (List ℕ)) → Spells words (Run kind (options_now asked) name.now) → Headline words before after result }
     ensures input { let before = outside (map (λ w. watch w) watchers.items) (seen F.texts F.faults files.old) (seen I.left I.faults input.old) (seen O.held O.faults out.old) (seen E.held E.faults err.old) in
         let after = outside (map (λ w. watch w) watchers.items) (seen F.texts F.faults files.new) (seen I.left I.faults input.new) (seen O.held O.faults out.new) (seen E.held E.faults err.new) in
-        (words : List (List ℕ)) → Spells words (Run (options_now asked) name.now) → InputLeft words before after }
+        (words : List (List ℕ)) → Spells words (Run kind (options_now asked) name.now) → InputLeft words before after }
 {
     let mut watchers = watchers;
     if !keep_asked(&mut watchers, asked.watch) {
         return tell(err, b"no such watcher\n", Status::Words);
     }
-    run_file(alloc, asked, name, &mut watchers, files, input, out, err)
+    run_file(
+        alloc,
+        kind,
+        asked,
+        name,
+        &mut watchers,
+        files,
+        input,
+        out,
+        err,
+    )
 }
 
-/// Runs the program of a file and tells its events the watchers, which are those that are asked for.
+/// Runs what a file holds and tells its events the watchers, which are those that are asked for.
 fn run_file<F: Files, I: Source, O: Sink, E: Sink>(
     alloc: Global,
+    kind: FileKind,
     asked: Options,
     name: &str,
     watchers: &mut Vec<Box<dyn Watcher>>,
@@ -141,18 +163,18 @@ fn run_file<F: Files, I: Source, O: Sink, E: Sink>(
     requires { asked.turns < 2 ^ 63 }
     ensures headline { (words : List (List ℕ)) (handed : List Watch) → let before = outside handed (seen F.texts F.faults files.old) (seen I.left I.faults input.old) (seen O.held O.faults out.old) (seen E.held E.faults err.old) in
         let after = outside handed (seen F.texts F.faults files.new) (seen I.left I.faults input.new) (seen O.held O.faults out.new) (seen E.held E.faults err.new) in
-        Spells words (Run (options_now asked) name.now) → IsThere asked.watch handed → map (λ w. watch w) watchers.old.items ≡ asked_for asked.watch handed → Headline words before after result }
+        Spells words (Run kind (options_now asked) name.now) → IsThere asked.watch handed → map (λ w. watch w) watchers.old.items ≡ asked_for asked.watch handed → Headline words before after result }
     ensures input { (words : List (List ℕ)) (handed : List Watch) → let before = outside handed (seen F.texts F.faults files.old) (seen I.left I.faults input.old) (seen O.held O.faults out.old) (seen E.held E.faults err.old) in
         let after = outside handed (seen F.texts F.faults files.new) (seen I.left I.faults input.new) (seen O.held O.faults out.new) (seen E.held E.faults err.new) in
-        Spells words (Run (options_now asked) name.now) → IsThere asked.watch handed → map (λ w. watch w) watchers.old.items ≡ asked_for asked.watch handed → InputLeft words before after }
+        Spells words (Run kind (options_now asked) name.now) → IsThere asked.watch handed → map (λ w. watch w) watchers.old.items ≡ asked_for asked.watch handed → InputLeft words before after }
 {
-    let program = match load_resolved(alloc, name, files, err) {
-        Ok(program) => program,
+    let ready = match load_ready(alloc, kind, name, files, err) {
+        Ok(ready) => ready,
         Err(status) => return status,
     };
     let mut reports = Vec::new(alloc);
-    let end = run_program(alloc, &program, asked, input, out, watchers, &mut reports).unwrap_or(
+    let end = run_ready(alloc, &ready, asked, input, out, watchers, &mut reports).unwrap_or(
         End::NoMemory,
     );
-    tell_end(alloc, err, counted(asked, &program), end, watchers, reports)
+    tell_end(alloc, err, counted(asked, &ready), end, watchers, reports)
 }

@@ -1,22 +1,21 @@
 //! Trials: a fixed program on an input that is drawn, with its declarations and without.
 ghost use Rattle.std.specs.Prelude.{◌≡◌, ◌≤◌, ◌↔◌, true, IsTrue, IfOk};
-ghost use Rattle.setl_program.specs.code.Plain.{plain_program};
-ghost use Rattle.setl_top.specs.Accepted.{Accepted};
+ghost use Rattle.setl_program.specs.Program.{Program};
 ghost use Rattle.setl_top.specs.Trials.{trial_source, trial_input, trial_line};
 ghost use Rattle.setl_top_status.specs.Seen.{seen};
 ghost use Rattle.setl_top_status.specs.code.Writes.{Written};
-ghost use Rattle.setl_top.specs.code.Runs.{IsMeant};
-ghost use Rattle.setl_top.specs.code.Tries.{RunEnds, Tries};
+ghost use Rattle.setl_top.specs.Runnable.{OfProgram};
+ghost use Rattle.setl_top.specs.code.Ready.{IsReady};
+ghost use Rattle.setl_top.specs.code.Tries.{IsTrial, RunEnds, Tries};
 
 use crate::Status;
-use crate::coding::program_of_source;
 use crate::front::{Unread, read_program};
 use crate::generated::{trial_input, trial_line, trial_source};
-use crate::run::run_program;
+use crate::ready::{Ready, ready_of_source};
+use crate::run::run_ready;
 use crate::tell::tell_end;
 use setl_io::{Sink, SureSink, SureSource};
 use setl_machine::End;
-use setl_program::Program;
 use setl_top_status::{Fault, break_off, refuse, write_text};
 use setl_top_words::Options;
 use std::alloc::{AllocError, Global};
@@ -48,15 +47,15 @@ fn is_done(end: End) -> bool
 /// Runs the program of a trial on its input, with its declarations or without. The error is want of memory.
 fn run_on_input(
     alloc: Global,
-    program: &Program,
+    ready: &Ready,
     seed: u64,
     nodes: u64,
     based: bool,
 ) -> Result<TrialRun, AllocError>
-    requires meant { IsMeant (plain_program program.now) }
+    requires trial { IsTrial ready.now }
     requires some { 1 ≤ nodes }
     requires few { nodes ≤ 2000 }
-    ensures { IfOk result (λ run. RunEnds (plain_program program.now) (trial_input seed nodes) based run.printed run.end) }
+    ensures { IfOk result (λ run. (p : Program) → IsReady (OfProgram p) ready.now → RunEnds p (trial_input seed nodes) based run.printed run.end) }
 {
     let mut input = SureSource::new(trial_input(alloc, seed, nodes)?);
     let mut printed = SureSink::new(alloc)?;
@@ -67,9 +66,9 @@ fn run_on_input(
         based,
         watch: None,
     };
-    let end = run_program(
+    let end = run_ready(
         alloc,
-        program,
+        ready,
         asked,
         &mut input,
         &mut printed,
@@ -84,19 +83,14 @@ fn run_on_input(
 
 /// Runs the program of a trial on its input with its declarations, and again without. The answer is that of the run with
 /// them; the other ends in the same way as long as each value fits. The error is want of memory.
-fn run_twice(
-    alloc: Global,
-    program: &Program,
-    seed: u64,
-    nodes: u64,
-) -> Result<TrialRun, AllocError>
-    requires meant { IsMeant (plain_program program.now) }
+fn run_twice(alloc: Global, ready: &Ready, seed: u64, nodes: u64) -> Result<TrialRun, AllocError>
+    requires trial { IsTrial ready.now }
     requires some { 1 ≤ nodes }
     requires few { nodes ≤ 2000 }
-    ensures { IfOk result (λ run. RunEnds (plain_program program.now) (trial_input seed nodes) true run.printed run.end) }
+    ensures { IfOk result (λ run. (p : Program) → IsReady (OfProgram p) ready.now → RunEnds p (trial_input seed nodes) true run.printed run.end) }
 {
-    let based = run_on_input(alloc, program, seed, nodes, true)?;
-    let _unbased = run_on_input(alloc, program, seed, nodes, false)?;
+    let based = run_on_input(alloc, ready, seed, nodes, true)?;
+    let _unbased = run_on_input(alloc, ready, seed, nodes, false)?;
     Ok(based)
 }
 
@@ -120,40 +114,40 @@ fn write_trial<O: Sink, E: Sink>(
 /// Tells how a run of the program of a trial ended, in which its declarations counted.
 fn tell_trial<O: Sink, E: Sink>(
     alloc: Global,
-    program: &Program,
+    ready: &Ready,
     seed: u64,
     nodes: u64,
     run: TrialRun,
     out: &mut O,
     err: &mut E,
 ) -> Status
-    requires accepted { Accepted trial_source (plain_program program.now) }
-    requires ran { RunEnds (plain_program program.now) (trial_input seed nodes) true run.printed run.end }
+    requires trial { IsTrial ready.now }
+    requires ran { (p : Program) → IsReady (OfProgram p) ready.now → RunEnds p (trial_input seed nodes) true run.printed run.end }
     ensures { Tries seed nodes (seen O.held O.faults out.old) (seen O.held O.faults out.new) (seen E.held E.faults err.old) (seen E.held E.faults err.new) result }
 {
     if is_done(run.end) {
         return write_trial(alloc, seed, nodes, run.printed.held(), out, err);
     }
-    let declared = program.declared.as_slice();
+    let declared = ready.declared.as_slice();
     tell_end(alloc, err, declared, run.end, &[], Vec::new(alloc))
 }
 
 /// Runs the program of a trial twice, and tells how the run with its declarations ended.
 fn try_program<O: Sink, E: Sink>(
     alloc: Global,
-    program: &Program,
+    ready: &Ready,
     seed: u64,
     nodes: u64,
     out: &mut O,
     err: &mut E,
 ) -> Status
-    requires accepted { Accepted trial_source (plain_program program.now) }
+    requires trial { IsTrial ready.now }
     requires some { 1 ≤ nodes }
     requires few { nodes ≤ 2000 }
     ensures { Tries seed nodes (seen O.held O.faults out.old) (seen O.held O.faults out.new) (seen E.held E.faults err.old) (seen E.held E.faults err.new) result }
 {
-    match run_twice(alloc, program, seed, nodes) {
-        Ok(run) => tell_trial(alloc, program, seed, nodes, run, out, err),
+    match run_twice(alloc, ready, seed, nodes) {
+        Ok(run) => tell_trial(alloc, ready, seed, nodes, run, out, err),
         Err(_) => break_off(err, Fault::NoMemory),
     }
 }
@@ -176,8 +170,8 @@ pub fn run_trial<O: Sink, E: Sink>(
         Err(Unread::Refused(reason)) => return refuse(alloc, err, reason),
         Err(Unread::NoMemory) => return break_off(err, Fault::NoMemory),
     };
-    match program_of_source(alloc, source) {
-        Ok(program) => try_program(alloc, &program, seed, nodes, out, err),
+    match ready_of_source(alloc, source) {
+        Ok(ready) => try_program(alloc, &ready, seed, nodes, out, err),
         Err(_) => break_off(err, Fault::NoMemory),
     }
 }

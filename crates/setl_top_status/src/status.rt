@@ -5,7 +5,7 @@
 pub enum Status {
     /// The command did all of its work.
     Done,
-    /// The source is too long or isn't a program.
+    /// The source is too long or isn't a program, or a code file is too long or isn't one.
     Refused,
     /// The words aren't of the plain form of a command.
     Words,

@@ -1,5 +1,5 @@
 //! The text of a source that is loaded, and a text that is written.
-ghost use Rattle.std.specs.Prelude.{vec_items, IfOk, IfErr, OnOk};
+ghost use Rattle.std.specs.Prelude.{◌^◌, vec_items, IfOk, IfErr, OnOk};
 ghost use Rattle.setl_top_status.specs.Seen.{seen};
 ghost use Rattle.setl_top_status.specs.code.Loads.{FoundText, HasText, IsStill, NotRead, NoText};
 ghost use Rattle.setl_top_status.specs.code.Writes.{Written};
@@ -21,7 +21,7 @@ pub fn load_source<F: Files, E: Sink>(
     files: &mut F,
     err: &mut E,
 ) -> Result<Vec<u8>, Status>
-    ensures loaded { IfOk result (λ source. HasText (F.texts files.old) name.now source.items) }
+    ensures loaded { IfOk result (λ source. HasText (2 ^ 24) (F.texts files.old) name.now source.items) }
     ensures still { OnOk result (IsStill (seen F.texts F.faults files.old) (seen F.texts F.faults files.new) (seen E.held E.faults err.old) (seen E.held E.faults err.new)) }
     ensures not_loaded { IfErr result (NoText name.now (seen F.texts F.faults files.old) (seen F.texts F.faults files.new) (seen E.held E.faults err.old) (seen E.held E.faults err.new)) }
 {
@@ -34,19 +34,21 @@ pub fn load_source<F: Files, E: Sink>(
     }
 }
 
-/// Loads the text of a file; none where it is too long, which isn't told. At `Err` the fault's line was tried.
+/// Loads the text of a file with at most so many bytes; none where it is longer, which isn't told. At `Err` the fault's line
+/// was tried.
 pub fn load_text<F: Files, E: Sink>(
     alloc: Global,
     name: &str,
+    most: u64,
     files: &mut F,
     err: &mut E,
 ) -> Result<Option<Vec<u8>>, Status>
-    ensures loaded { IfOk result (λ text. FoundText vec_items (F.texts files.old) name.now text) }
+    ensures loaded { IfOk result (λ text. FoundText vec_items most (F.texts files.old) name.now text) }
     ensures still { OnOk result (IsStill (seen F.texts F.faults files.old) (seen F.texts F.faults files.new) (seen E.held E.faults err.old) (seen E.held E.faults err.new)) }
     ensures not_read { IfErr result (NotRead (seen F.texts F.faults files.old) (seen F.texts F.faults files.new) (seen E.held E.faults err.old) (seen E.held E.faults err.new)) }
 {
     let mut source = Vec::new(alloc);
-    match files.load(name, MAX_SOURCE, &mut source) {
+    match files.load(name, most, &mut source) {
         Load::Loaded => Ok(Some(source)),
         Load::TooLong => Ok(None),
         Load::Failed => Err(break_off(err, Fault::Read)),

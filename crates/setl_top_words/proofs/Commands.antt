@@ -1,9 +1,11 @@
 -- The words of a command in parts: the first, those between, and the last.
-use Rattle.std.proofs.Common.{subst, bytes_eq, if◌then◌else◌, ◌≡◌, ◌≢◌, ◌≤◌, ◌∙◌, ℕ, List, [], ◌∷◌, ◌++◌, length, codes, decimal, refl, sym, ap, ap₂, rules, arith}
+use Rattle.std.proofs.Common.{subst, bytes_eq, if◌then◌else◌, ◌≡◌, ◌≢◌, ◌<◌, ◌≤◌, ◌∙◌, ℕ, List, [], ◌∷◌, ◌++◌, length, codes, decimal, refl, sym, ap, ap₂, rules, arith}
 use Rattle.std.proofs.lemmas.Fmt.{decimal_injective}
 use Rattle.std.specs.List.{flat_map}
-use Rattle.setl_top_words.specs.Words.{Command, Run, Check, Code, Advise, Explain, TellStop, Trial, Options, option_words, options_of, Spells, SpellsRun, SpellsTrial, IsFile, IsFaulty}
+use Rattle.setl_top_words.specs.Words.{Command, Run, Check, Code, Build, Advise, Explain, TellStop, Trial, run_word, Options, option_words, options_of, Spells, SpellsRun, SpellsTrial, IsFile, IsFaulty}
 use Rattle.setl_top_words.specs.code.Reading.{Leads, LeadsNowhere}
+use Rattle.setl_top_words.specs.declared.reading.FileKind.{FileKind}
+use Rattle.setl_top_words.specs.declared.reading.FileKind.TheVariants.{Source, CodeFile}
 use Rattle.setl_explain_words.specs.Stops.{stop_name}
 use Rattle.setl_explain_words.specs.declared.stop.Stop.{Stop}
 use Rattle.setl_explain_words.specs.declared.stop.Stop.TheVariants as stop
@@ -23,55 +25,70 @@ one_last (z ∷ xs) (w ∷ ys) x y e =
     let (others, last) = one_last xs ys x y (tail_of z w _ _ e) in
     (ap₂ (λ a b. a ∷ b) (head_of z w _ _ e) others, last)
 
-run_or_check : codes "run" ≢ codes "check"
-run_or_check e = absurd (search (rules, e))
+-- ---- first words
 
-run_or_code : codes "run" ≢ codes "code"
-run_or_code e = absurd (search (rules, e))
+-- commands by their first words
+abbrev kind_number : FileKind → ℕ
+kind_number Source = 0
+kind_number CodeFile = 1
 
-run_or_advise : codes "run" ≢ codes "advise"
-run_or_advise e = absurd (search (rules, e))
+abbrev number_of : Command → ℕ
+number_of (Run kind options name) = kind_number kind
+number_of (Check name) = 2
+number_of (Code name) = 3
+number_of (Build name) = 4
+number_of (Advise name) = 5
+number_of (Explain name) = 6
+number_of (TellStop stop) = 6
+number_of (Trial seed nodes) = 7
 
-check_or_code : codes "check" ≢ codes "code"
-check_or_code e = absurd (search (rules, e))
+abbrev word_number : List ℕ → ℕ
+word_number w =
+    if bytes_eq w (codes "run") then 0 else if bytes_eq w (codes "exec") then 1 else if bytes_eq w (codes "check") then 2
+    else if bytes_eq w (codes "code") then 3 else if bytes_eq w (codes "build") then 4 else if bytes_eq w (codes "advise") then 5
+    else if bytes_eq w (codes "explain") then 6 else 7
 
-check_or_advise : codes "check" ≢ codes "advise"
-check_or_advise e = absurd (search (rules, e))
+few_kinds : (kind : FileKind) → kind_number kind < 2
+few_kinds Source = omega arith
+few_kinds CodeFile = omega arith
 
-code_or_advise : codes "code" ≢ codes "advise"
-code_or_advise e = absurd (search (rules, e))
+kind_word : (kind : FileKind) → word_number (run_word kind) ≡ kind_number kind
+kind_word Source = refl
+kind_word CodeFile = refl
 
-pub run_or_trial : codes "run" ≢ codes "trial"
-run_or_trial e = absurd (search (rules, e))
+one_kind : (a b : FileKind) → kind_number a ≡ kind_number b → a ≡ b
+one_kind Source Source e = refl
+one_kind Source CodeFile e = absurd (omega (arith, e))
+one_kind CodeFile Source e = absurd (omega (arith, e))
+one_kind CodeFile CodeFile e = refl
 
-check_or_trial : codes "check" ≢ codes "trial"
-check_or_trial e = absurd (search (rules, e))
+-- the first word of a command tells its number
+numbered : (word : List ℕ) (rest : List (List ℕ)) (c : Command) → Spells (word ∷ rest) c → word_number word ≡ number_of c
+numbered word rest (Run kind options name) s = ap word_number (head_of _ _ _ _ s.spelled) ∙ kind_word kind
+numbered word rest (Check name) s = ap word_number (head_of word (codes "check") _ _ s.0)
+numbered word rest (Code name) s = ap word_number (head_of word (codes "code") _ _ s.0)
+numbered word rest (Build name) s = ap word_number (head_of word (codes "build") _ _ s.0)
+numbered word rest (Advise name) s = ap word_number (head_of word (codes "advise") _ _ s.0)
+numbered word rest (Explain name) s = ap word_number (head_of word (codes "explain") _ _ s.0)
+numbered word rest (TellStop stop) s = ap word_number (head_of word (codes "explain") _ _ s)
+numbered word rest (Trial seed nodes) s = ap word_number (head_of word (codes "trial") _ _ s.spelled)
 
-code_or_trial : codes "code" ≢ codes "trial"
-code_or_trial e = absurd (search (rules, e))
+of_run : (kind : FileKind) (rest : List (List ℕ)) (c : Command) → Spells (run_word kind ∷ rest) c → kind_number kind ≡ number_of c
+of_run kind rest c s = sym (kind_word kind) ∙ numbered (run_word kind) rest c s
 
-advise_or_trial : codes "advise" ≢ codes "trial"
-advise_or_trial e = absurd (search (rules, e))
+of_explain : (rest : List (List ℕ)) (c : Command) → Spells (codes "explain" ∷ rest) c → 6 ≡ number_of c
+of_explain rest c s = numbered (codes "explain") rest c s
 
-pub run_or_explain : codes "run" ≢ codes "explain"
-run_or_explain e = absurd (search (rules, e))
+of_trial : (words : List (List ℕ)) (word : List ℕ) (rest : List (List ℕ)) (c : Command) → words ≡ word ∷ rest → word ≡ codes "trial" → Spells words c → 7 ≡ number_of c
+of_trial words word rest c e w s = numbered (codes "trial") rest c (subst (λ ws. Spells ws c) (e ∙ ap (λ x. x ∷ rest) w) s)
 
-check_or_explain : codes "check" ≢ codes "explain"
-check_or_explain e = absurd (search (rules, e))
-
-code_or_explain : codes "code" ≢ codes "explain"
-code_or_explain e = absurd (search (rules, e))
-
-advise_or_explain : codes "advise" ≢ codes "explain"
-advise_or_explain e = absurd (search (rules, e))
-
-pub explain_or_trial : codes "explain" ≢ codes "trial"
-explain_or_trial e = absurd (search (rules, e))
+-- ---- faulty words
 
 pub few_are_faulty : (words : List (List ℕ)) → ((word : List ℕ) (between : List (List ℕ)) (name : List ℕ) → words ≢ word ∷ between ++ name ∷ []) → IsFaulty words
-few_are_faulty words few (Run options name) s = few (codes "run") (flat_map option_words s.given) name s.spelled
+few_are_faulty words few (Run kind options name) s = few (run_word kind) (flat_map option_words s.given) name s.spelled
 few_are_faulty words few (Check name) s = few (codes "check") [] name s.0
 few_are_faulty words few (Code name) s = few (codes "code") [] name s.0
+few_are_faulty words few (Build name) s = few (codes "build") [] name s.0
 few_are_faulty words few (Advise name) s = few (codes "advise") [] name s.0
 few_are_faulty words few (Explain name) s = few (codes "explain") [] name s.0
 few_are_faulty words few (TellStop stop) s = few (codes "explain") (codes "--stop" ∷ []) (stop_name stop) s
@@ -79,13 +96,16 @@ few_are_faulty words few (Trial seed nodes) s = few (codes "trial") (decimal see
 
 -- the last word is a file, but for a trial and a stop
 pub dash_is_faulty : (words : List (List ℕ)) (word : List ℕ) (between : List (List ℕ)) (name : List ℕ) → words ≡ word ∷ between ++ name ∷ [] → word ≢ codes "trial" → word ≢ codes "explain" → (IsFile name → ⊥) → IsFaulty words
-dash_is_faulty words word between name e other another none (Run options n) s =
+dash_is_faulty words word between name e other another none (Run kind options n) s =
     let parts = one_last between (flat_map option_words s.given) name n (tail_of _ _ _ _ (sym e ∙ s.spelled)) in
     none (subst IsFile (sym parts.1) s.file)
 dash_is_faulty words word between name e other another none (Check n) s =
     let parts = one_last between [] name n (tail_of _ _ _ _ (sym e ∙ s.0)) in
     none (subst IsFile (sym parts.1) s.1)
 dash_is_faulty words word between name e other another none (Code n) s =
+    let parts = one_last between [] name n (tail_of _ _ _ _ (sym e ∙ s.0)) in
+    none (subst IsFile (sym parts.1) s.1)
+dash_is_faulty words word between name e other another none (Build n) s =
     let parts = one_last between [] name n (tail_of _ _ _ _ (sym e ∙ s.0)) in
     none (subst IsFile (sym parts.1) s.1)
 dash_is_faulty words word between name e other another none (Advise n) s =
@@ -95,16 +115,17 @@ dash_is_faulty words word between name e other another none (Explain n) s = anot
 dash_is_faulty words word between name e other another none (TellStop stop) s = another (head_of _ _ _ _ (sym e ∙ s))
 dash_is_faulty words word between name e other another none (Trial seed nodes) s = other (head_of _ _ _ _ (sym e ∙ s.spelled))
 
-pub run_is_faulty : (words : List (List ℕ)) (word : List ℕ) (between : List (List ℕ)) (name : List ℕ) (given : Given) → words ≡ word ∷ between ++ name ∷ [] → word ≡ codes "run" → given ≡ is_nothing → LeadsNowhere given between → IsFaulty words
-run_is_faulty words word between name given e w is none (Run options n) s =
-    let parts = one_last between (flat_map option_words s.given) name n (tail_of _ _ _ _ (sym e ∙ s.spelled)) in
+pub run_is_faulty : (kind : FileKind) (between : List (List ℕ)) (name : List ℕ) (given : Given) → given ≡ is_nothing → LeadsNowhere given between → IsFaulty (run_word kind ∷ between ++ name ∷ [])
+run_is_faulty kind between name given is none (Run other options n) s =
+    let parts = one_last between (flat_map option_words s.given) name n (tail_of _ _ _ _ s.spelled) in
     none s.given (first_gives given is between s.given parts.0 s.valid)
-run_is_faulty words word between name given e w is none (Check n) s = run_or_check (sym w ∙ head_of _ _ _ _ (sym e ∙ s.0))
-run_is_faulty words word between name given e w is none (Code n) s = run_or_code (sym w ∙ head_of _ _ _ _ (sym e ∙ s.0))
-run_is_faulty words word between name given e w is none (Advise n) s = run_or_advise (sym w ∙ head_of _ _ _ _ (sym e ∙ s.0))
-run_is_faulty words word between name given e w is none (Explain n) s = run_or_explain (sym w ∙ head_of _ _ _ _ (sym e ∙ s.0))
-run_is_faulty words word between name given e w is none (TellStop stop) s = run_or_explain (sym w ∙ head_of _ _ _ _ (sym e ∙ s))
-run_is_faulty words word between name given e w is none (Trial seed nodes) s = run_or_trial (sym w ∙ head_of _ _ _ _ (sym e ∙ s.spelled))
+run_is_faulty kind between name given is none (Check n) s = absurd (omega (arith, few_kinds kind, of_run kind _ (Check n) s))
+run_is_faulty kind between name given is none (Code n) s = absurd (omega (arith, few_kinds kind, of_run kind _ (Code n) s))
+run_is_faulty kind between name given is none (Build n) s = absurd (omega (arith, few_kinds kind, of_run kind _ (Build n) s))
+run_is_faulty kind between name given is none (Advise n) s = absurd (omega (arith, few_kinds kind, of_run kind _ (Advise n) s))
+run_is_faulty kind between name given is none (Explain n) s = absurd (omega (arith, few_kinds kind, of_run kind _ (Explain n) s))
+run_is_faulty kind between name given is none (TellStop stop) s = absurd (omega (arith, few_kinds kind, of_run kind _ (TellStop stop) s))
+run_is_faulty kind between name given is none (Trial seed nodes) s = absurd (omega (arith, few_kinds kind, of_run kind _ (Trial seed nodes) s))
 
 -- ---- the words of a trial
 
@@ -121,12 +142,13 @@ as_trial : (words : List (List ℕ)) (word : List ℕ) (between : List (List ℕ
 as_trial words word between last e w = e ∙ ap (λ x. x ∷ between ++ last ∷ []) w
 
 pub trial_is_faulty : (words : List (List ℕ)) (word : List ℕ) (between : List (List ℕ)) (last : List ℕ) → words ≡ word ∷ between ++ last ∷ [] → word ≡ codes "trial" → ((seed nodes : ℕ) → SpellsTrial (codes "trial" ∷ between ++ last ∷ []) seed nodes → ⊥) → IsFaulty words
-trial_is_faulty words word between last e w none (Run options n) s = run_or_trial (head_of _ _ _ _ (sym s.spelled ∙ e) ∙ w)
-trial_is_faulty words word between last e w none (Check n) s = check_or_trial (head_of _ _ _ _ (sym s.0 ∙ e) ∙ w)
-trial_is_faulty words word between last e w none (Code n) s = code_or_trial (head_of _ _ _ _ (sym s.0 ∙ e) ∙ w)
-trial_is_faulty words word between last e w none (Advise n) s = advise_or_trial (head_of _ _ _ _ (sym s.0 ∙ e) ∙ w)
-trial_is_faulty words word between last e w none (Explain n) s = explain_or_trial (head_of _ _ _ _ (sym s.0 ∙ e) ∙ w)
-trial_is_faulty words word between last e w none (TellStop stop) s = explain_or_trial (head_of _ _ _ _ (sym s ∙ e) ∙ w)
+trial_is_faulty words word between last e w none (Run kind options n) s = absurd (omega (arith, few_kinds kind, of_trial words word _ (Run kind options n) e w s))
+trial_is_faulty words word between last e w none (Check n) s = absurd (omega (arith, of_trial words word _ (Check n) e w s))
+trial_is_faulty words word between last e w none (Code n) s = absurd (omega (arith, of_trial words word _ (Code n) e w s))
+trial_is_faulty words word between last e w none (Build n) s = absurd (omega (arith, of_trial words word _ (Build n) e w s))
+trial_is_faulty words word between last e w none (Advise n) s = absurd (omega (arith, of_trial words word _ (Advise n) e w s))
+trial_is_faulty words word between last e w none (Explain n) s = absurd (omega (arith, of_trial words word _ (Explain n) e w s))
+trial_is_faulty words word between last e w none (TellStop stop) s = absurd (omega (arith, of_trial words word _ (TellStop stop) e w s))
 trial_is_faulty words word between last e w none (Trial seed nodes) s =
     none seed nodes (subst (λ ws. SpellsTrial ws seed nodes) (as_trial words word between last e w) s)
 
@@ -168,82 +190,77 @@ one_stop a b e = sym (has_name a) ∙ ap stop_with e ∙ has_name b
 
 -- behind the word of an explanation stands neither a file alone nor `--stop` and a stop
 pub explain_is_faulty : (between : List (List ℕ)) (last : List ℕ) → (between ≡ [] → IsFile last → ⊥) → ((a : Stop) → between ≡ codes "--stop" ∷ [] → last ≡ stop_name a → ⊥) → IsFaulty (codes "explain" ∷ between ++ last ∷ [])
-explain_is_faulty between last no_file no_stop (Run options n) s = run_or_explain (head_of _ _ _ _ (sym s.spelled))
-explain_is_faulty between last no_file no_stop (Check n) s = check_or_explain (head_of _ _ _ _ (sym s.0))
-explain_is_faulty between last no_file no_stop (Code n) s = code_or_explain (head_of _ _ _ _ (sym s.0))
-explain_is_faulty between last no_file no_stop (Advise n) s = advise_or_explain (head_of _ _ _ _ (sym s.0))
+explain_is_faulty between last no_file no_stop (Run kind options n) s = absurd (omega (arith, few_kinds kind, of_explain _ (Run kind options n) s))
+explain_is_faulty between last no_file no_stop (Check n) s = absurd (omega (arith, of_explain _ (Check n) s))
+explain_is_faulty between last no_file no_stop (Code n) s = absurd (omega (arith, of_explain _ (Code n) s))
+explain_is_faulty between last no_file no_stop (Build n) s = absurd (omega (arith, of_explain _ (Build n) s))
+explain_is_faulty between last no_file no_stop (Advise n) s = absurd (omega (arith, of_explain _ (Advise n) s))
 explain_is_faulty between last no_file no_stop (Explain n) s =
     let parts = one_last between [] last n (tail_of _ _ _ _ s.0) in
     no_file parts.0 (subst IsFile (sym parts.1) s.1)
 explain_is_faulty between last no_file no_stop (TellStop j) s =
     let parts = one_last between (codes "--stop" ∷ []) last (stop_name j) (tail_of _ _ _ _ s) in
     no_stop j parts.0 parts.1
-explain_is_faulty between last no_file no_stop (Trial seed nodes) s = explain_or_trial (head_of _ _ _ _ s.spelled)
+explain_is_faulty between last no_file no_stop (Trial seed nodes) s = absurd (omega (arith, of_explain _ (Trial seed nodes) s))
 
 -- ---- the words of a run
 
-pub spells_run : (words : List (List ℕ)) (word : List ℕ) (between : List (List ℕ)) (name : List ℕ) (given all : Given) (options : Options) → words ≡ word ∷ between ++ name ∷ [] → word ≡ codes "run" → IsFile name → given ≡ is_nothing → Leads given between all → options ≡ options_from all → SpellsRun words options name
-spells_run words word between name given all options e w f is l o = record {
+pub spells_run : (kind : FileKind) (between : List (List ℕ)) (name : List ℕ) (given all : Given) (options : Options) → IsFile name → given ≡ is_nothing → Leads given between all → options ≡ options_from all → SpellsRun (run_word kind ∷ between ++ name ∷ []) kind options name
+spells_run kind between name given all options f is l o = record {
   given = l.options;
-  spelled = e ∙ ap₂ (λ x xs. x ∷ xs ++ name ∷ []) w l.gives.spelled;
+  spelled = ap (λ xs. run_word kind ∷ xs ++ name ∷ []) l.gives.spelled;
   valid = l.gives.valid;
   file = f;
   means = o ∙ ap options_from l.comes_to ∙ comes_to given l.options is;
 }
 
-one_run : (words : List (List ℕ)) (o p : Options) (n m : List ℕ) → SpellsRun words o n → SpellsRun words p m → Run o n ≡ Run p m
-one_run words o p n m s t =
+one_run : (words : List (List ℕ)) (k l : FileKind) (o p : Options) (n m : List ℕ) → k ≡ l → SpellsRun words k o n → SpellsRun words l p m → Run k o n ≡ Run l p m
+one_run words k l o p n m kinds s t =
     let parts = one_last (flat_map option_words s.given) (flat_map option_words t.given) n m (tail_of _ _ _ _ (sym s.spelled ∙ t.spelled)) in
     let same = one_list s.given t.given s.valid t.valid parts.0 in
-    ap₂ (λ x y. Run x y) (s.means ∙ ap options_of same ∙ sym t.means) parts.1
+    (λ i. Run (kinds i) ((s.means ∙ ap options_of same ∙ sym t.means) i) (parts.1 i))
+
+-- ---- one command
+
+-- the number of the command that words spell
+abbrev number_in : List (List ℕ) → ℕ
+number_in [] = 0
+number_in (w ∷ ws) = word_number w
+
+number_is : (words : List (List ℕ)) (c : Command) → Spells words c → number_in words ≡ number_of c
+number_is [] (Run kind options name) s = absurd (omega (arith, ap length s.spelled))
+number_is [] (Check name) s = absurd (omega (arith, ap length s.0))
+number_is [] (Code name) s = absurd (omega (arith, ap length s.0))
+number_is [] (Build name) s = absurd (omega (arith, ap length s.0))
+number_is [] (Advise name) s = absurd (omega (arith, ap length s.0))
+number_is [] (Explain name) s = absurd (omega (arith, ap length s.0))
+number_is [] (TellStop stop) s = absurd (omega (arith, ap length s))
+number_is [] (Trial seed nodes) s = absurd (omega (arith, ap length s.spelled))
+number_is (w ∷ ws) c s = numbered w ws c s
+
+-- the word behind the first
+abbrev second : List (List ℕ) → List ℕ
+second [] = []
+second (x ∷ []) = []
+second (x ∷ y ∷ ws) = y
+
+named : (words : List (List ℕ)) (a b : List ℕ) (n m : List ℕ) → words ≡ a ∷ n ∷ [] → words ≡ b ∷ m ∷ [] → n ≡ m
+named words a b n m s t = ap second (sym s ∙ t)
+
+same_by : (words : List (List ℕ)) (a b : Command) → Spells words a → Spells words b → number_of a ≡ number_of b → a ≡ b
+same_by words (Run k o n) (Run l p m) s t e = one_run words k l o p n m (one_kind k l e) s t
+same_by words (Check n) (Check m) s t e = ap Check (named words _ _ n m s.0 t.0)
+same_by words (Code n) (Code m) s t e = ap Code (named words _ _ n m s.0 t.0)
+same_by words (Build n) (Build m) s t e = ap Build (named words _ _ n m s.0 t.0)
+same_by words (Advise n) (Advise m) s t e = ap Advise (named words _ _ n m s.0 t.0)
+same_by words (Explain n) (Explain m) s t e = ap Explain (named words _ _ n m s.0 t.0)
+same_by words (Explain n) (TellStop k) s t e = absurd (omega (arith, ap length (sym s.0 ∙ t)))
+same_by words (TellStop j) (Explain m) s t e = absurd (omega (arith, ap length (sym s ∙ t.0)))
+same_by words (TellStop j) (TellStop k) s t e = ap TellStop (one_stop j k (head_of _ _ _ _ (tail_of _ _ _ _ (tail_of _ _ _ _ (sym s ∙ t)))))
+same_by words (Trial a b) (Trial c d) s t e = one_trial words a b c d s t
+same_by words (Run k o n) b s t e = absurd (omega (arith, few_kinds k, e))
+same_by words a (Run k o n) s t e = absurd (omega (arith, few_kinds k, e))
+same_by words a b s t e = absurd (omega (arith, e))
 
 pub one_command : (words : List (List ℕ)) (a b : Command) → Spells words a → Spells words b → a ≡ b
-one_command words (Run o n) (Run p m) s t = one_run words o p n m s t
-one_command words (Run o n) (Check m) s t = absurd (run_or_check (head_of _ _ _ _ (sym s.spelled ∙ t.0)))
-one_command words (Run o n) (Code m) s t = absurd (run_or_code (head_of _ _ _ _ (sym s.spelled ∙ t.0)))
-one_command words (Run o n) (Advise m) s t = absurd (run_or_advise (head_of _ _ _ _ (sym s.spelled ∙ t.0)))
-one_command words (Run o n) (Explain m) s t = absurd (run_or_explain (head_of _ _ _ _ (sym s.spelled ∙ t.0)))
-one_command words (Run o n) (TellStop k) s t = absurd (run_or_explain (head_of _ _ _ _ (sym s.spelled ∙ t)))
-one_command words (Run o n) (Trial c d) s t = absurd (run_or_trial (head_of _ _ _ _ (sym s.spelled ∙ t.spelled)))
-one_command words (Check n) (Run p m) s t = absurd (run_or_check (head_of _ _ _ _ (sym t.spelled ∙ s.0)))
-one_command words (Check n) (Check m) s t = ap Check (head_of _ _ _ _ (tail_of _ _ _ _ (sym s.0 ∙ t.0)))
-one_command words (Check n) (Code m) s t = absurd (check_or_code (head_of _ _ _ _ (sym s.0 ∙ t.0)))
-one_command words (Check n) (Advise m) s t = absurd (check_or_advise (head_of _ _ _ _ (sym s.0 ∙ t.0)))
-one_command words (Check n) (Explain m) s t = absurd (check_or_explain (head_of _ _ _ _ (sym s.0 ∙ t.0)))
-one_command words (Check n) (TellStop k) s t = absurd (check_or_explain (head_of _ _ _ _ (sym s.0 ∙ t)))
-one_command words (Check n) (Trial c d) s t = absurd (check_or_trial (head_of _ _ _ _ (sym s.0 ∙ t.spelled)))
-one_command words (Code n) (Run p m) s t = absurd (run_or_code (head_of _ _ _ _ (sym t.spelled ∙ s.0)))
-one_command words (Code n) (Check m) s t = absurd (check_or_code (head_of _ _ _ _ (sym t.0 ∙ s.0)))
-one_command words (Code n) (Code m) s t = ap Code (head_of _ _ _ _ (tail_of _ _ _ _ (sym s.0 ∙ t.0)))
-one_command words (Code n) (Advise m) s t = absurd (code_or_advise (head_of _ _ _ _ (sym s.0 ∙ t.0)))
-one_command words (Code n) (Explain m) s t = absurd (code_or_explain (head_of _ _ _ _ (sym s.0 ∙ t.0)))
-one_command words (Code n) (TellStop k) s t = absurd (code_or_explain (head_of _ _ _ _ (sym s.0 ∙ t)))
-one_command words (Code n) (Trial c d) s t = absurd (code_or_trial (head_of _ _ _ _ (sym s.0 ∙ t.spelled)))
-one_command words (Advise n) (Run p m) s t = absurd (run_or_advise (head_of _ _ _ _ (sym t.spelled ∙ s.0)))
-one_command words (Advise n) (Check m) s t = absurd (check_or_advise (head_of _ _ _ _ (sym t.0 ∙ s.0)))
-one_command words (Advise n) (Code m) s t = absurd (code_or_advise (head_of _ _ _ _ (sym t.0 ∙ s.0)))
-one_command words (Advise n) (Advise m) s t = ap Advise (head_of _ _ _ _ (tail_of _ _ _ _ (sym s.0 ∙ t.0)))
-one_command words (Advise n) (Explain m) s t = absurd (advise_or_explain (head_of _ _ _ _ (sym s.0 ∙ t.0)))
-one_command words (Advise n) (TellStop k) s t = absurd (advise_or_explain (head_of _ _ _ _ (sym s.0 ∙ t)))
-one_command words (Advise n) (Trial c d) s t = absurd (advise_or_trial (head_of _ _ _ _ (sym s.0 ∙ t.spelled)))
-one_command words (Explain n) (Run p m) s t = absurd (run_or_explain (head_of _ _ _ _ (sym t.spelled ∙ s.0)))
-one_command words (Explain n) (Check m) s t = absurd (check_or_explain (head_of _ _ _ _ (sym t.0 ∙ s.0)))
-one_command words (Explain n) (Code m) s t = absurd (code_or_explain (head_of _ _ _ _ (sym t.0 ∙ s.0)))
-one_command words (Explain n) (Advise m) s t = absurd (advise_or_explain (head_of _ _ _ _ (sym t.0 ∙ s.0)))
-one_command words (Explain n) (Explain m) s t = ap Explain (head_of _ _ _ _ (tail_of _ _ _ _ (sym s.0 ∙ t.0)))
-one_command words (Explain n) (TellStop k) s t = absurd (omega (arith, ap length (sym s.0 ∙ t)))
-one_command words (Explain n) (Trial c d) s t = absurd (explain_or_trial (head_of _ _ _ _ (sym s.0 ∙ t.spelled)))
-one_command words (TellStop j) (Run p m) s t = absurd (run_or_explain (head_of _ _ _ _ (sym t.spelled ∙ s)))
-one_command words (TellStop j) (Check m) s t = absurd (check_or_explain (head_of _ _ _ _ (sym t.0 ∙ s)))
-one_command words (TellStop j) (Code m) s t = absurd (code_or_explain (head_of _ _ _ _ (sym t.0 ∙ s)))
-one_command words (TellStop j) (Advise m) s t = absurd (advise_or_explain (head_of _ _ _ _ (sym t.0 ∙ s)))
-one_command words (TellStop j) (Explain m) s t = absurd (omega (arith, ap length (sym s ∙ t.0)))
-one_command words (TellStop j) (TellStop k) s t = ap TellStop (one_stop j k (head_of _ _ _ _ (tail_of _ _ _ _ (tail_of _ _ _ _ (sym s ∙ t)))))
-one_command words (TellStop j) (Trial c d) s t = absurd (explain_or_trial (head_of _ _ _ _ (sym s ∙ t.spelled)))
-one_command words (Trial a b) (Run p m) s t = absurd (run_or_trial (head_of _ _ _ _ (sym t.spelled ∙ s.spelled)))
-one_command words (Trial a b) (Check m) s t = absurd (check_or_trial (head_of _ _ _ _ (sym t.0 ∙ s.spelled)))
-one_command words (Trial a b) (Code m) s t = absurd (code_or_trial (head_of _ _ _ _ (sym t.0 ∙ s.spelled)))
-one_command words (Trial a b) (Advise m) s t = absurd (advise_or_trial (head_of _ _ _ _ (sym t.0 ∙ s.spelled)))
-one_command words (Trial a b) (Explain m) s t = absurd (explain_or_trial (head_of _ _ _ _ (sym t.0 ∙ s.spelled)))
-one_command words (Trial a b) (TellStop k) s t = absurd (explain_or_trial (head_of _ _ _ _ (sym t ∙ s.spelled)))
-one_command words (Trial a b) (Trial c d) s t = one_trial words a b c d s t
+one_command words a b s t = same_by words a b s t (sym (number_is words a s) ∙ number_is words b t)

@@ -22,8 +22,9 @@ seed_rule = record (new_rule (codes "seed")) { value_names = 1; required = true;
 abbrev pub nodes_rule : Rule
 nodes_rule = record (new_rule (codes "nodes")) { value_names = 1; required = true; parser = Some (Signed (pos 1) (pos 2000)) }
 
-abbrev pub run_app : App
-run_app = with_rule (with_rule (with_rule (with_rule (new_app (codes "run")) unbased_rule) turns_rule) watch_rule) file_rule
+-- a command that runs what a file holds
+abbrev pub run_app : List ℕ → App
+run_app name = with_rule (with_rule (with_rule (with_rule (new_app name) unbased_rule) turns_rule) watch_rule) file_rule
 
 abbrev pub file_app : List ℕ → App
 file_app name = with_rule (new_app name) file_rule
@@ -49,4 +50,4 @@ abbrev pub empty_app : App
 empty_app = let a = new_app (codes "setl") in record a { top = record a.top { no_binary_name = true; subcommand_required = true } }
 
 abbrev pub setl_app : App
-setl_app = with_subcommand (with_subcommand (with_subcommand (with_subcommand (with_subcommand (with_subcommand empty_app run_app.top) (file_app (codes "check")).top) (file_app (codes "code")).top) (file_app (codes "advise")).top) explain_app.top) trial_app.top
+setl_app = with_subcommand (with_subcommand (with_subcommand (with_subcommand (with_subcommand (with_subcommand (with_subcommand (with_subcommand empty_app (run_app (codes "run")).top) (run_app (codes "exec")).top) (file_app (codes "check")).top) (file_app (codes "code")).top) (file_app (codes "build")).top) (file_app (codes "advise")).top) explain_app.top) trial_app.top

@@ -1,11 +1,13 @@
--- The plain form of the words: a command, the options of a run and the file whose text the command reads, or the two
--- numbers of a trial.
+-- The plain form of the words: a command, the options of a run and the file that the command reads, or the two numbers of a
+-- trial.
 use Rattle.std.specs.Prelude.{◌≡◌, ◌≢◌, ◌<◌, ◌≤◌, ◌-◌, ◌^◌, ℕ, Bool, true, false, List, [], ◌∷◌, ◌++◌, Option, Some, None, ⊤, codes, decimal}
 use Rattle.std.specs.List.{flat_map, fold}
 use Rattle.setl_top_options.specs.declared.given.RunOption.{RunOption}
 use Rattle.setl_top_options.specs.declared.given.RunOption.TheVariants.{Unbased, Turns, Watch}
 use Rattle.setl_top_options.specs.declared.watching.Asked.{Asked}
 use Rattle.setl_top_options.specs.declared.watching.Asked.TheVariants.{Trace, Cover, Profile}
+use Rattle.setl_top_words.specs.declared.reading.FileKind.{FileKind}
+use Rattle.setl_top_words.specs.declared.reading.FileKind.TheVariants.{Source, CodeFile}
 use Rattle.setl_explain_words.specs.Stops.{stop_name}
 use Rattle.setl_explain_words.specs.declared.stop.Stop.{Stop}
 
@@ -71,22 +73,28 @@ options_of given = fold with_option default_options given
 
 -- ---- the commands
 
--- what the words ask for: to run a source, to check it, to list its code, to advise declarations for it, to explain why it
--- is refused, to tell what a stop means, or to try the program of a trial on an input that is drawn from a seed, with so
--- many nodes
+-- the word that asks for a run of a source or of a code file
+abbrev pub run_word : FileKind → List ℕ
+run_word Source = codes "run"
+run_word CodeFile = codes "exec"
+
+-- what the words ask for: to run a source or a code file, to check a source, to list its code, to build its code file, to
+-- advise declarations for it, to explain why it is refused, to tell what a stop means, or to try the program of a trial on
+-- an input that is drawn from a seed, with so many nodes
 pub data Command : Type 0 where
-  Run : (options : Options) → (name : List ℕ) → Command
+  Run : (kind : FileKind) → (options : Options) → (name : List ℕ) → Command
   Check : (name : List ℕ) → Command
   Code : (name : List ℕ) → Command
+  Build : (name : List ℕ) → Command
   Advise : (name : List ℕ) → Command
   Explain : (name : List ℕ) → Command
   TellStop : (stop : Stop) → Command
   Trial : (seed nodes : ℕ) → Command
 
 -- the words of a run: its options in any order, and last the file
-pub record SpellsRun (words : List (List ℕ)) (options : Options) (name : List ℕ) : Type 0 where
+pub record SpellsRun (words : List (List ℕ)) (kind : FileKind) (options : Options) (name : List ℕ) : Type 0 where
   pub given : List RunOption
-  pub spelled : words ≡ codes "run" ∷ flat_map option_words given ++ name ∷ []
+  pub spelled : words ≡ run_word kind ∷ flat_map option_words given ++ name ∷ []
   pub valid : AreOptions given
   pub file : IsFile name
   pub means : options ≡ options_of given
@@ -100,40 +108,44 @@ pub record SpellsTrial (words : List (List ℕ)) (seed nodes : ℕ) : Type 0 whe
 
 -- the words are the plain form of a command
 abbrev pub Spells : List (List ℕ) → Command → Type 0
-Spells words (Run options name) = SpellsRun words options name
+Spells words (Run kind options name) = SpellsRun words kind options name
 Spells words (Check name) = (words ≡ codes "check" ∷ name ∷ []) × IsFile name
 Spells words (Code name) = (words ≡ codes "code" ∷ name ∷ []) × IsFile name
+Spells words (Build name) = (words ≡ codes "build" ∷ name ∷ []) × IsFile name
 Spells words (Advise name) = (words ≡ codes "advise" ∷ name ∷ []) × IsFile name
 Spells words (Explain name) = (words ≡ codes "explain" ∷ name ∷ []) × IsFile name
 Spells words (TellStop stop) = words ≡ codes "explain" ∷ codes "--stop" ∷ stop_name stop ∷ []
 Spells words (Trial seed nodes) = SpellsTrial words seed nodes
 
--- the file whose text a command reads, if it reads one
+-- the file that a command reads, if it reads one
 abbrev pub HasFile : Command → List ℕ → Type 0
-HasFile (Run options name) file = file ≡ name
+HasFile (Run kind options name) file = file ≡ name
 HasFile (Check name) file = file ≡ name
 HasFile (Code name) file = file ≡ name
+HasFile (Build name) file = file ≡ name
 HasFile (Advise name) file = file ≡ name
 HasFile (Explain name) file = file ≡ name
 HasFile (TellStop stop) file = ⊥
 HasFile (Trial seed nodes) file = ⊥
 
--- A command runs the program of this file. `turns` bounds the turns of the run, and `based` says whether the
--- program's declarations count.
-abbrev pub RunsFile : Command → List ℕ → ℕ → Bool → Type 0
-RunsFile (Run options name) file turns based = (file ≡ name) × (turns ≡ options.turns) × (based ≡ options.based)
-RunsFile (Check name) file turns based = ⊥
-RunsFile (Code name) file turns based = ⊥
-RunsFile (Advise name) file turns based = ⊥
-RunsFile (Explain name) file turns based = ⊥
-RunsFile (TellStop stop) file turns based = ⊥
-RunsFile (Trial seed nodes) file turns based = ⊥
+-- A command runs what this file holds, a source or code. `turns` bounds the turns of the run, and `based` says whether
+-- declarations count.
+abbrev pub RunsFile : Command → FileKind → List ℕ → ℕ → Bool → Type 0
+RunsFile (Run kind options name) what file turns based = (what ≡ kind) × (file ≡ name) × (turns ≡ options.turns) × (based ≡ options.based)
+RunsFile (Check name) what file turns based = ⊥
+RunsFile (Code name) what file turns based = ⊥
+RunsFile (Build name) what file turns based = ⊥
+RunsFile (Advise name) what file turns based = ⊥
+RunsFile (Explain name) what file turns based = ⊥
+RunsFile (TellStop stop) what file turns based = ⊥
+RunsFile (Trial seed nodes) what file turns based = ⊥
 
 -- the watcher that a command asks for, if it asks for one
 abbrev pub watched_by : Command → Option Asked
-watched_by (Run options name) = options.watch
+watched_by (Run kind options name) = options.watch
 watched_by (Check name) = None
 watched_by (Code name) = None
+watched_by (Build name) = None
 watched_by (Advise name) = None
 watched_by (Explain name) = None
 watched_by (TellStop stop) = None

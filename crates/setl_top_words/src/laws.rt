@@ -1,6 +1,7 @@
 //! What follows from the definitions alone. The functions have no effect: each states a law.
 ghost use Rattle.std.specs.Prelude.{◌∷◌, ◌-◌, ◌^◌, [], codes, true, false, Some, None};
 ghost use Rattle.setl_top_words.specs.Words.{OneCommand, Run, Check, Trial, Spells, IsFaulty};
+ghost use Rattle.setl_top_words.specs.declared.reading.FileKind.TheVariants.{Source, CodeFile};
 ghost use Rattle.setl_top_options.specs.declared.watching.Asked.TheVariants.{Trace, Cover, Profile};
 
 /// Words spell at most one command.
@@ -10,12 +11,13 @@ pub fn one_command()
 
 /// Words of the plain form, and what they spell.
 pub fn plain_words()
-    ensures run { Spells (codes "run" ∷ codes "q" ∷ []) (Run (record { turns = 2 ^ 63 - 1; based = true; watch = None }) (codes "q")) }
-    ensures both { Spells (codes "run" ∷ codes "--turns" ∷ codes "50" ∷ codes "--unbased" ∷ codes "q" ∷ []) (Run (record { turns = 50; based = false; watch = None }) (codes "q")) }
-    ensures swapped { Spells (codes "run" ∷ codes "--unbased" ∷ codes "--turns" ∷ codes "0" ∷ codes "q" ∷ []) (Run (record { turns = 0; based = false; watch = None }) (codes "q")) }
-    ensures trace { Spells (codes "run" ∷ codes "--watch" ∷ codes "trace" ∷ codes "q" ∷ []) (Run (record { turns = 2 ^ 63 - 1; based = true; watch = Some Trace }) (codes "q")) }
-    ensures profile { Spells (codes "run" ∷ codes "--watch" ∷ codes "profile" ∷ codes "q" ∷ []) (Run (record { turns = 2 ^ 63 - 1; based = true; watch = Some Profile }) (codes "q")) }
-    ensures cover { Spells (codes "run" ∷ codes "--unbased" ∷ codes "--watch" ∷ codes "cover" ∷ codes "q" ∷ []) (Run (record { turns = 2 ^ 63 - 1; based = false; watch = Some Cover }) (codes "q")) }
+    ensures run { Spells (codes "run" ∷ codes "q" ∷ []) (Run Source (record { turns = 2 ^ 63 - 1; based = true; watch = None }) (codes "q")) }
+    ensures both { Spells (codes "run" ∷ codes "--turns" ∷ codes "50" ∷ codes "--unbased" ∷ codes "q" ∷ []) (Run Source (record { turns = 50; based = false; watch = None }) (codes "q")) }
+    ensures swapped { Spells (codes "run" ∷ codes "--unbased" ∷ codes "--turns" ∷ codes "0" ∷ codes "q" ∷ []) (Run Source (record { turns = 0; based = false; watch = None }) (codes "q")) }
+    ensures trace { Spells (codes "run" ∷ codes "--watch" ∷ codes "trace" ∷ codes "q" ∷ []) (Run Source (record { turns = 2 ^ 63 - 1; based = true; watch = Some Trace }) (codes "q")) }
+    ensures profile { Spells (codes "run" ∷ codes "--watch" ∷ codes "profile" ∷ codes "q" ∷ []) (Run Source (record { turns = 2 ^ 63 - 1; based = true; watch = Some Profile }) (codes "q")) }
+    ensures cover { Spells (codes "run" ∷ codes "--unbased" ∷ codes "--watch" ∷ codes "cover" ∷ codes "q" ∷ []) (Run Source (record { turns = 2 ^ 63 - 1; based = false; watch = Some Cover }) (codes "q")) }
+    ensures code_file { Spells (codes "exec" ∷ codes "--turns" ∷ codes "50" ∷ codes "q" ∷ []) (Run CodeFile (record { turns = 50; based = true; watch = None }) (codes "q")) }
     ensures check { Spells (codes "check" ∷ codes "q" ∷ []) (Check (codes "q")) }
     ensures trial { Spells (codes "trial" ∷ codes "7" ∷ codes "2000" ∷ []) (Trial 7 2000) }
 {}

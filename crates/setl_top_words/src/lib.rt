@@ -1,8 +1,8 @@
 //! The words of the command line: their plain form, and what is told of other words.
 //!
-//! The commands are `run [--unbased] [--turns N] [--watch NAME] FILE`, `check FILE`, `code FILE`, `advise FILE`, `explain
-//! FILE`, `explain --stop NAME` and `trial SEED N`. `Spells` is their plain form, which `read_words` decides. Of other words
-//! `fault_text` tells what `clap` says, where it refuses them.
+//! The commands are `run [--unbased] [--turns N] [--watch NAME] FILE`, `exec` with the same options, `check FILE`, `code
+//! FILE`, `build FILE`, `advise FILE`, `explain FILE`, `explain --stop NAME` and `trial SEED N`. `Spells` is their plain form,
+//! which `read_words` decides. Of other words `fault_text` tells what `clap` says, where it refuses them.
 #![tactic(auto)]
 
 mod explain;
@@ -17,7 +17,7 @@ mod trial;
 mod watching;
 
 pub use laws::{faulty_words, one_command, plain_words};
-pub use reading::{Command, read_words};
+pub use reading::{Command, FileKind, read_words};
 pub use setl_top_options::{Asked, Options};
 pub use std::alloc::AllocError as Memory;
 pub use told::fault_text;

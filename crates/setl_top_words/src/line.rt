@@ -41,15 +41,15 @@ fn watch<'a>(alloc: Global) -> Arg<'a>
         .help("Report what a watcher saw of the run: trace, cover or profile")
 }
 
-/// The file that each command reads.
-fn file<'a>(alloc: Global) -> Arg<'a>
+/// The file that each command reads, with what it holds.
+fn file<'a>(alloc: Global, holds: &'a str) -> Arg<'a>
     ensures rule { rule_of result ≡ file_rule }
     ensures local { result.global ≡ false }
 {
     Arg::new(alloc, "file")
         .value_name("FILE")
         .required(true)
-        .help("The source")
+        .help(holds)
 }
 
 /// The option `--stop`.
@@ -122,15 +122,20 @@ fn with_command<'a>(
     }
 }
 
-/// The command `run`.
-fn run<'a>(alloc: Global) -> Result<Command<'a>, AllocError>
-    ensures { Builds run_app result }
+/// A command that runs what a file holds.
+fn run<'a>(
+    alloc: Global,
+    name: &'a str,
+    about: &'a str,
+    holds: &'a str,
+) -> Result<Command<'a>, AllocError>
+    ensures { Builds (run_app name.entry.now) result }
 {
-    let command = Command::new(alloc, "run").about("Run a program");
+    let command = Command::new(alloc, name).about(about);
     let command = with_arg(Ok(command), unbased(alloc));
     let command = with_arg(command, turns(alloc));
     let command = with_arg(command, watch(alloc));
-    with_arg(command, file(alloc))
+    with_arg(command, file(alloc, holds))
 }
 
 /// A command that reads a file and has no options.
@@ -138,7 +143,7 @@ fn with_file<'a>(alloc: Global, name: &'a str, about: &'a str) -> Result<Command
     ensures { Builds (file_app name.entry.now) result }
 {
     let command = Command::new(alloc, name).about(about);
-    with_arg(Ok(command), file(alloc))
+    with_arg(Ok(command), file(alloc, "The source"))
 }
 
 /// The command `explain` before its words, which tells its help where none stands behind it.
@@ -182,11 +187,22 @@ fn program<'a>(alloc: Global) -> Result<Command<'a>, AllocError>
 pub(crate) fn commands<'a>(alloc: Global) -> Result<Command<'a>, AllocError>
     ensures { IfOk result (λ c. app_of c ≡ setl_app) }
 {
-    let command = with_command(program(alloc), run(alloc));
+    let command = with_command(
+        program(alloc),
+        run(alloc, "run", "Run a program", "The source"),
+    );
+    let command = with_command(
+        command,
+        run(alloc, "exec", "Run a code file", "The code file"),
+    );
     let command = with_command(command, with_file(alloc, "check", "Check a source"));
     let command = with_command(
         command,
         with_file(alloc, "code", "List the code of a program"),
+    );
+    let command = with_command(
+        command,
+        with_file(alloc, "build", "Write the code file of a program"),
     );
     let command = with_command(
         command,

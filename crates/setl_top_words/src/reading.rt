@@ -1,24 +1,37 @@
 //! What the words ask for.
 ghost use Rattle.std.specs.Prelude.{◌≡◌, ◌≢◌, ◌∷◌, ◌++◌, [], List, ℕ, map, string_bytes, IfSome, IfNone};
 ghost use Rattle.setl_top_words.specs.code.Commands.{command_of};
-ghost use Rattle.setl_top_words.specs.Words.{Spells, IsFaulty};
+ghost use Rattle.setl_top_words.specs.Words.{Spells, IsFaulty, IsFile, run_word};
 
 use crate::explain::read_explain;
 use crate::given::read_options;
-use crate::single::{is_advise, is_check, is_code, is_explain, is_file, is_run, is_trial};
+use crate::single::{
+    is_advise, is_build, is_check, is_code, is_exec, is_explain, is_file, is_run, is_trial,
+};
 use crate::trial::read_trial;
 use setl_explain_words::Stop;
 use setl_top_options::{Given, Options};
 
+/// What a file holds that is run.
+#[derive(Clone, Copy, Debug, PartialEq, Eq)]
+pub enum FileKind {
+    /// A source, as `run` asks for.
+    Source,
+    /// Code, as `exec` asks for.
+    CodeFile,
+}
+
 /// What the words ask for, with the name of the file, with a stop, or with the numbers of a trial.
 #[derive(Clone, Copy, Debug, PartialEq, Eq)]
 pub enum Command<'a> {
-    /// The program of the file is to be run.
-    Run(Options, &'a str),
+    /// What the file holds is to be run.
+    Run(FileKind, Options, &'a str),
     /// The source in the file is to be checked.
     Check(&'a str),
     /// The code of the program of the file is to be listed.
     Code(&'a str),
+    /// The code of the program of the file is to be written as a code file.
+    Build(&'a str),
     /// Declarations are to be advised for the program of the file.
     Advise(&'a str),
     /// Why the source in the file is refused is to be explained.
@@ -39,6 +52,16 @@ fn parts(words: &[String]) -> Option<(&str, &[String], &str)>
     Some((word.as_str(), between, name.as_str()))
 }
 
+/// Reads the words of a run behind the first. `None` comes exactly where they are of no plain form.
+fn read_run<'a>(kind: FileKind, between: &[String], name: &'a str) -> Option<Command<'a>>
+    requires file { IsFile name.now }
+    ensures plain { IfSome result (λ command. Spells (run_word kind ∷ map string_bytes between.now ++ name.now ∷ []) (command_of command)) }
+    ensures faulty { IfNone result (IsFaulty (run_word kind ∷ map string_bytes between.now ++ name.now ∷ [])) }
+{
+    let given = read_options(between, Given::none())?;
+    Some(Command::Run(kind, given.options(), name))
+}
+
 /// Reads the words, which are those after the program's own name. `None` comes exactly where they are of no plain form.
 pub fn read_words(words: &[String]) -> Option<Command<'_>>
     ensures plain { IfSome result (λ command. Spells (map string_bytes words.now) (command_of command)) }
@@ -56,8 +79,10 @@ pub fn read_words(words: &[String]) -> Option<Command<'_>>
         return None;
     }
     if is_run(word) {
-        let given = read_options(between, Given::none())?;
-        return Some(Command::Run(given.options(), name));
+        return read_run(FileKind::Source, between, name);
+    }
+    if is_exec(word) {
+        return read_run(FileKind::CodeFile, between, name);
     }
     if !between.is_empty() {
         return None;
@@ -66,6 +91,8 @@ pub fn read_words(words: &[String]) -> Option<Command<'_>>
         Some(Command::Check(name))
     } else if is_code(word) {
         Some(Command::Code(name))
+    } else if is_build(word) {
+        Some(Command::Build(name))
     } else if is_advise(word) {
         Some(Command::Advise(name))
     } else {

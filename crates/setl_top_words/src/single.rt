@@ -2,11 +2,18 @@
 ghost use Rattle.std.specs.Prelude.{◌≡◌, ◌↔◌, codes, IsTrue};
 ghost use Rattle.setl_top_words.specs.Words.{IsFile};
 
-/// Whether a word is that of a run.
+/// Whether a word is that of a run of a source.
 pub(crate) fn is_run(word: &str) -> bool
     ensures { IsTrue result ↔ (word.now ≡ codes "run") }
 {
     word == "run"
+}
+
+/// Whether a word is that of a run of a code file.
+pub(crate) fn is_exec(word: &str) -> bool
+    ensures { IsTrue result ↔ (word.now ≡ codes "exec") }
+{
+    word == "exec"
 }
 
 /// Whether a word is that of a check.
@@ -21,6 +28,13 @@ pub(crate) fn is_code(word: &str) -> bool
     ensures { IsTrue result ↔ (word.now ≡ codes "code") }
 {
     word == "code"
+}
+
+/// Whether a word is that of a code file that is to be built.
+pub(crate) fn is_build(word: &str) -> bool
+    ensures { IsTrue result ↔ (word.now ≡ codes "build") }
+{
+    word == "build"
 }
 
 /// Whether a word is that of advice.

@@ -1,8 +1,6 @@
 -- What becomes of a source.
-use Rattle.std.specs.Prelude.{◌≡◌, ℕ, List, [], ◌∷◌, ◌++◌}
+use Rattle.std.specs.Prelude.{ℕ, List, [], ◌∷◌, ◌++◌}
 use Rattle.setl_io.specs.Files.{Texts, IsText}
-use Rattle.setl_program.specs.Program.{Program}
-use Rattle.setl_program.specs.ProgramOf.{program_of}
 use Rattle.setl_tree.specs.declared.tree.Tree.{Tree}
 use Rattle.setl_top.specs.Accepted.{IsProgram, IsRefusedFor}
 use Rattle.setl_top_status.specs.Lines.{AppendsFront, fault_line}
@@ -34,12 +32,6 @@ pub record Loaded (texts : Texts) (name : List ℕ) (tree : Tree) : Type 0 where
   pub source : List ℕ
   pub text : IsText texts name source
   pub is_program : IsProgram source tree
-
--- the file that was loaded means this program
-pub record LoadedAs (texts : Texts) (name : List ℕ) (program : Program) : Type 0 where
-  pub tree : Tree
-  pub loaded : Loaded texts name tree
-  pub meaning : program ≡ program_of tree
 
 -- why there is no program to work on, and what was told of it, by what is seen of the files and of the error output before
 -- and after

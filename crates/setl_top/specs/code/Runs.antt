@@ -1,9 +1,8 @@
--- What a run of a program does to its input and its output, and what its watchers are told, by what the words ask for: its
+-- What a run of a program or of code does to its input and its output, and what its watchers are told, by what the words ask for: its
 -- bound on turns, and whether declarations count.
 use Rattle.std.specs.Prelude.{◌≡◌, ◌⊎◌, ◌<◌, ℕ, List, [], ◌++◌, length, take, if◌then◌else◌}
 use Rattle.std.specs.Io.KnownBytes.{Appends, Consumes}
 use Rattle.setl_model_runs.specs.Events as run
-use Rattle.setl_model.specs.Means.{Means}
 use Rattle.setl_program.specs.Program.{Program}
 use Rattle.setl_program.specs.ProgramOf.{program_of}
 use Rattle.setl_tree.specs.declared.tree.Tree.{Tree}
@@ -13,7 +12,7 @@ use Rattle.setl_machine_control.specs.Answers.{kind_of}
 use Rattle.setl_machine_control.specs.declared.end.End.{End}
 use Rattle.setl_machine_control.specs.declared.end.End.TheVariants as end
 use Rattle.setl_top.specs.Headline.{IsInput, IsLeft}
-use Rattle.setl_top.specs.Moments.{AtState, AtPrint, AtRead}
+use Rattle.setl_top.specs.Runnable.{Runnable, declared_by, Meant, IsAt, Printing, Reading}
 use Rattle.setl_top_status.specs.Seen.{Seen, CountRose, CountStays}
 use Rattle.setl_watch.specs.Watches.{Watched, told_all}
 use Rattle.setl_top_words.specs.Words.{Options}
@@ -34,77 +33,78 @@ pub record IsMeant (program : Program) : Type 0 where
   pub meaning : program ≡ program_of tree
 
 -- the declarations that count in a run
-abbrev pub counted : Options → Program → Modes
-counted asked program = if asked.based then program.modes else []
+abbrev pub counted : Options → Runnable → Modes
+counted asked r = if asked.based then declared_by r else []
 
 -- the run came to this end of the meaning, whose output is added, and left what the meaning's last state has of the
 -- input, which is a state that it reaches; the watchers were told its events
-pub record RunsTo (program : Program) (asked : Options) (before after : Streams) (end : run.End) : Type 0 where
+pub record RunsTo (r : Runnable) (asked : Options) (before after : Streams) (end : run.End) : Type 0 where
   pub input : List ℕ
   pub known : IsInput before.input.held input
   pub out : List ℕ
-  pub means : Means program input asked.turns asked.based out end
-  pub at_end : AtState program input asked.turns asked.based out
-  pub left : IsLeft before.input.held after.input.held means.last.core.shared.world.input
+  pub means : Meant r input asked.turns asked.based out end
+  pub at_end : IsAt r input asked.turns asked.based out
+  pub left : IsLeft before.input.held after.input.held means.left
   pub gained : Appends before.output.held after.output.held out
   pub input_count : CountStays before.input after.input
   pub out_count : CountStays before.output after.output
-  pub told : after.watchers ≡ told_all means.last.events before.watchers
+  pub told : after.watchers ≡ told_all means.events before.watchers
 
 -- the run was broken off in a print: the output up to it is added, and some of its line
-pub record RunsInto (program : Program) (asked : Options) (before after : Streams) : Type 0 where
+pub record RunsInto (r : Runnable) (asked : Options) (before after : Streams) : Type 0 where
   pub input : List ℕ
   pub known : IsInput before.input.held input
   pub out : List ℕ
   pub line : List ℕ
   pub n : ℕ
-  pub at : AtPrint program input asked.turns asked.based out line
+  pub still : List ℕ
+  pub at : Printing r input asked.turns asked.based out line still
   pub part : n < length line
   pub gained : Appends before.output.held after.output.held (out ++ take n line)
 
 -- a write failed there, and the input has what the run had left at that print
-pub record WritesInto (program : Program) (asked : Options) (before after : Streams) : Type 0 where
-  pub into : RunsInto program asked before after
-  pub left : IsLeft before.input.held after.input.held into.at.state.core.shared.world.input
+pub record WritesInto (r : Runnable) (asked : Options) (before after : Streams) : Type 0 where
+  pub into : RunsInto r asked before after
+  pub left : IsLeft before.input.held after.input.held into.still
 
 -- the run was broken off at a read, before which this output was added
-pub record RunsToRead (program : Program) (asked : Options) (before after : Streams) : Type 0 where
+pub record RunsToRead (r : Runnable) (asked : Options) (before after : Streams) : Type 0 where
   pub input : List ℕ
   pub known : IsInput before.input.held input
   pub out : List ℕ
-  pub at : AtRead program input asked.turns asked.based out
+  pub at : Reading r input asked.turns asked.based out
   pub gained : Appends before.output.held after.output.held out
 
 -- the run was broken off at a state, whose output is added
-pub record RunsUpTo (program : Program) (asked : Options) (before after : Streams) : Type 0 where
+pub record RunsUpTo (r : Runnable) (asked : Options) (before after : Streams) : Type 0 where
   pub input : List ℕ
   pub known : IsInput before.input.held input
   pub out : List ℕ
-  pub at : AtState program input asked.turns asked.based out
+  pub at : IsAt r input asked.turns asked.based out
   pub gained : Appends before.output.held after.output.held out
 
 -- the machine ended so
-abbrev pub Runs : Program → Options → (before after : Streams) → End → Type 0
-Runs program asked before after end.Done = RunsTo program asked before after run.Done
-Runs program asked before after (end.Stopped why line) = RunsTo program asked before after (run.Stopped (kind_of (counted asked program) why) line)
-Runs program asked before after end.Spent = RunsTo program asked before after run.Spent
-Runs program asked before after end.ReadFault = RunsToRead program asked before after × CountRose before.input after.input × CountStays before.output after.output
-Runs program asked before after end.WriteFault = WritesInto program asked before after × CountRose before.output after.output × CountStays before.input after.input
-Runs program asked before after end.NoMemory = (RunsInto program asked before after ⊎ RunsUpTo program asked before after) × CountStays before.input after.input × CountStays before.output after.output
-Runs program asked before after end.Paused = ⊥
-Runs program asked before after end.Stuck = ⊥
+abbrev pub Runs : Runnable → Options → (before after : Streams) → End → Type 0
+Runs r asked before after end.Done = RunsTo r asked before after run.Done
+Runs r asked before after (end.Stopped why line) = RunsTo r asked before after (run.Stopped (kind_of (counted asked r) why) line)
+Runs r asked before after end.Spent = RunsTo r asked before after run.Spent
+Runs r asked before after end.ReadFault = RunsToRead r asked before after × CountRose before.input after.input × CountStays before.output after.output
+Runs r asked before after end.WriteFault = WritesInto r asked before after × CountRose before.output after.output × CountStays before.input after.input
+Runs r asked before after end.NoMemory = (RunsInto r asked before after ⊎ RunsUpTo r asked before after) × CountStays before.input after.input × CountStays before.output after.output
+Runs r asked before after end.Paused = ⊥
+Runs r asked before after end.Stuck = ⊥
 
 -- bytes were taken off the input of a run that has a `read` in hand at one of its states, and the output up to it is added
-pub record TakesAtRead (program : Program) (asked : Options) (before after : Streams) : Type 0 where
+pub record TakesAtRead (r : Runnable) (asked : Options) (before after : Streams) : Type 0 where
   pub input : List ℕ
   pub known : IsInput before.input.held input
   pub out : List ℕ
   pub more : List ℕ
   pub taken : List ℕ
-  pub at : AtRead program input asked.turns asked.based out
+  pub at : Reading r input asked.turns asked.based out
   pub gained : Appends before.output.held after.output.held (out ++ more)
   pub consumed : Consumes before.input.held after.input.held taken
 
 -- no byte was taken of the input, or a `read` took them
-abbrev pub TakesInput : Program → Options → (before after : Streams) → Type 0
-TakesInput program asked before after = (after.input.held ≡ before.input.held) ⊎ TakesAtRead program asked before after
+abbrev pub TakesInput : Runnable → Options → (before after : Streams) → Type 0
+TakesInput r asked before after = (after.input.held ≡ before.input.held) ⊎ TakesAtRead r asked before after

@@ -13,7 +13,10 @@ use Rattle.setl_top_status.specs.Reasons.{reason_line}
 use Rattle.setl_top.specs.Trials.{trial_source, trial_input, trial_line}
 use Rattle.setl_top_status.specs.Seen.{Seen}
 use Rattle.setl_top_status.specs.code.Writes.{Written}
+use Rattle.setl_top.specs.Runnable.{OfProgram}
+use Rattle.setl_top.specs.code.Ready.{IsReady}
 use Rattle.setl_top.specs.code.Runs.{counted}
+use Rattle.setl_top.specs.declared.ready.Ready.{Ready}
 use Rattle.setl_top_status.specs.code.Tells.{Tells}
 use Rattle.setl_top_status.specs.declared.fault.Fault.TheVariants as fault
 use Rattle.setl_top_status.specs.declared.reason.Reason.{Reason}
@@ -25,10 +28,16 @@ use Rattle.setl_top_words.specs.Words.{Options}
 abbrev pub trial_options : Bool → Options
 trial_options based = record { turns = 2 ^ 63 - 1; based = based; watch = None }
 
+-- the program of a trial is ready to run
+pub record IsTrial (ready : Ready) : Type 0 where
+  pub program : Program
+  pub accepted : Accepted trial_source program
+  pub is_ready : IsReady (OfProgram program) ready
+
 -- a run of this program on an input in memory, with its declarations or without, printed this and ended so in the machine
 abbrev pub RunEnds : Program → List ℕ → Bool → List ℕ → End → Type 0
 RunEnds program input based printed end.Done = Means program input (2 ^ 63 - 1) based printed run.Done
-RunEnds program input based printed (end.Stopped why line) = Means program input (2 ^ 63 - 1) based printed (run.Stopped (kind_of (counted (trial_options based) program) why) line)
+RunEnds program input based printed (end.Stopped why line) = Means program input (2 ^ 63 - 1) based printed (run.Stopped (kind_of (counted (trial_options based) (OfProgram program)) why) line)
 RunEnds program input based printed end.Spent = Means program input (2 ^ 63 - 1) based printed run.Spent
 RunEnds program input based printed end.ReadFault = ⊥
 RunEnds program input based printed end.WriteFault = ⊥

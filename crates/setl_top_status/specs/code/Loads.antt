@@ -14,10 +14,10 @@ use Rattle.setl_top_status.specs.declared.status.Status.TheVariants as status
 abbrev pub SeenFiles : Type 0
 SeenFiles = Seen (List ℕ → Option (List ℕ))
 
--- the text of a file that was loaded
-pub record HasText (texts : Texts) (name source : List ℕ) : Type 0 where
+-- the text of a file that was loaded, which has at most so many bytes
+pub record HasText (most : ℕ) (texts : Texts) (name source : List ℕ) : Type 0 where
   pub text : IsText texts name source
-  pub short : length source ≤ 2 ^ 24
+  pub short : length source ≤ most
 
 -- nothing failed, and nothing was told
 pub record IsStill (files files' : SeenFiles) (err err' : Seen (List ℕ)) : Type 0 where
@@ -25,9 +25,9 @@ pub record IsStill (files files' : SeenFiles) (err err' : Seen (List ℕ)) : Typ
   pub same : err' ≡ err
 
 -- the text of a file that was loaded, or that it is too long
-abbrev pub FoundText : {T : Type 0} → (T → List ℕ) → Texts → (name : List ℕ) → Option T → Type 0
-FoundText items texts name (Some source) = HasText texts name (items source)
-FoundText items texts name None = (source : List ℕ) × IsText texts name source × (2 ^ 24 < length source)
+abbrev pub FoundText : {T : Type 0} → (T → List ℕ) → (most : ℕ) → Texts → (name : List ℕ) → Option T → Type 0
+FoundText items most texts name (Some source) = HasText most texts name (items source)
+FoundText items most texts name None = (source : List ℕ) × IsText texts name source × (most < length source)
 
 -- why a text wasn't read, and what was told of it
 pub data NotRead (files files' : SeenFiles) (err err' : Seen (List ℕ)) : Status → Type 0 where

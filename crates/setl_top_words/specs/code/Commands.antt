@@ -8,9 +8,10 @@ abbrev pub options_now : Options → words.Options
 options_now options = record { turns = options.turns; based = options.based; watch = options.watch }
 
 abbrev pub command_of : Command → words.Command
-command_of (asked.Run options name) = words.Run (options_now options) name.now
+command_of (asked.Run kind options name) = words.Run kind (options_now options) name.now
 command_of (asked.Check name) = words.Check name.now
 command_of (asked.Code name) = words.Code name.now
+command_of (asked.Build name) = words.Build name.now
 command_of (asked.Advise name) = words.Advise name.now
 command_of (asked.Explain name) = words.Explain name.now
 command_of (asked.TellStop stop) = words.TellStop stop

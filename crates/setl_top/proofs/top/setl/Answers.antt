@@ -1,13 +1,13 @@
 use Rattle.std.proofs.Common.{refl}
 use Rattle.setl_top.specs.Headline.{untouched}
-use Rattle.setl_top.proofs.Ends.{faulty_ends, check_ends, list_ends, explain_ends, stop_ends}
+use Rattle.setl_top.proofs.Ends.{faulty_ends, check_ends, list_ends, build_ends, explain_ends, stop_ends}
 use Rattle.setl_top.proofs.AdvisedFiles.{advise_ends}
 use Rattle.setl_top.proofs.Asked.{turns_asked}
 use Rattle.setl_top.proofs.Trying.{trial_ends}
 use Rattle.setl_top.proofs.top.setl.Goals as goal
 
 pub run_asked-requires : goal.run_asked-requires
-run_asked-requires g c = turns_asked _ _ _ (rw c.in-Some-Run.field-0-is at c.in-Some-Run.ensures.plain)
+run_asked-requires g c = turns_asked _ _ _ _ (rw c.in-Some-Run.field-0-is at c.in-Some-Run.ensures.plain)
 
 pub run_trial-requires : goal.run_trial-requires
 run_trial-requires g c =
@@ -29,6 +29,10 @@ returns-in-Some-Check-clause-headline g c =
 pub returns-in-Some-Code-clause-headline : goal.returns-in-Some-Code-clause-headline
 returns-in-Some-Code-clause-headline g c =
     list_ends _ _ _ _ (rw c.in-Some-Code.field-0-is at c.in-Some-Code.ensures.plain) refl _ c.list_file.ensures
+
+pub returns-in-Some-Build-clause-headline : goal.returns-in-Some-Build-clause-headline
+returns-in-Some-Build-clause-headline g c =
+    build_ends _ _ _ _ (rw c.in-Some-Build.field-0-is at c.in-Some-Build.ensures.plain) refl _ c.build_file.ensures
 
 pub returns-in-Some-Advise-clause-headline : goal.returns-in-Some-Advise-clause-headline
 returns-in-Some-Advise-clause-headline g c =
@@ -57,6 +61,9 @@ returns-in-Some-Check-clause-input g c = untouched refl
 
 pub returns-in-Some-Code-clause-input : goal.returns-in-Some-Code-clause-input
 returns-in-Some-Code-clause-input g c = untouched refl
+
+pub returns-in-Some-Build-clause-input : goal.returns-in-Some-Build-clause-input
+returns-in-Some-Build-clause-input g c = untouched refl
 
 pub returns-in-Some-Advise-clause-input : goal.returns-in-Some-Advise-clause-input
 returns-in-Some-Advise-clause-input g c = untouched refl

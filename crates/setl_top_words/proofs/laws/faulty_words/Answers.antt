@@ -3,6 +3,7 @@ use Rattle.std.proofs.lemmas.Fmt.{decimal_digit, decimal_injective, decimal_is_I
 use Rattle.std.specs.Fmt.{digits}
 use Rattle.std.specs.Str.Parse.{digits_value}
 use Rattle.setl_top_words.specs.Words.{IsInRange, IsFaulty, SpellsTrial, option_words, watcher_word}
+use Rattle.setl_top_words.specs.declared.reading.FileKind.TheVariants.{Source}
 use Rattle.setl_top_options.specs.code.Given.{with_given, is_nothing}
 use Rattle.setl_top_options.specs.declared.given.RunOption.{RunOption}
 use Rattle.setl_top_options.specs.declared.given.RunOption.TheVariants.{Unbased, Turns, Watch}
@@ -10,11 +11,17 @@ use Rattle.setl_top_options.specs.declared.watching.Asked.{Asked}
 use Rattle.setl_top_options.specs.declared.watching.Asked.TheVariants.{Trace, Cover, Profile}
 use Rattle.setl_top_words.specs.code.Reading.{LeadsNowhere}
 use Rattle.setl_top_words.proofs.Order.{turns_or_watch, head_of, tail_of, nowhere_on, nowhere_again, nowhere_else}
-use Rattle.setl_top_words.proofs.Commands.{no_end, few_are_faulty, run_is_faulty, dash_is_faulty, run_or_trial, run_or_explain, trial_is_faulty, two_numbers}
+use Rattle.setl_top_words.proofs.Commands.{no_end, few_are_faulty, run_is_faulty, dash_is_faulty, trial_is_faulty, two_numbers}
 use Rattle.setl_top_words.proofs.laws.faulty_words.Goals as goal
 
 run_with : (between : List (List ℕ)) → LeadsNowhere is_nothing between → IsFaulty (codes "run" ∷ between ++ codes "q" ∷ [])
-run_with between none = run_is_faulty _ (codes "run") between (codes "q") is_nothing refl refl refl none
+run_with between none = run_is_faulty Source between (codes "q") is_nothing refl none
+
+run_or_trial : codes "run" ≢ codes "trial"
+run_or_trial e = absurd (search (rules, e))
+
+run_or_explain : codes "run" ≢ codes "explain"
+run_or_explain e = absurd (search (rules, e))
 
 again : LeadsNowhere is_nothing (codes "--unbased" ∷ codes "--unbased" ∷ [])
 again = nowhere_on is_nothing (with_given is_nothing Unbased) _ (codes "--unbased" ∷ []) Unbased refl tt refl

@@ -17,6 +17,10 @@ swapped : codes "run" ∷ codes "--unbased" ∷ codes "--turns" ∷ codes "0" �
 unfolding digits
 swapped = refl
 
+code_file : codes "exec" ∷ codes "--turns" ∷ codes "50" ∷ codes "q" ∷ [] ≡ codes "exec" ∷ flat_map option_words (Turns 50 ∷ []) ++ codes "q" ∷ []
+unfolding digits
+code_file = refl
+
 trial : codes "trial" ∷ codes "7" ∷ codes "2000" ∷ [] ≡ codes "trial" ∷ decimal 7 ∷ decimal 2000 ∷ []
 unfolding digits
 trial = refl
@@ -29,6 +33,7 @@ returns c = record {
   trace = record { given = Watch Trace ∷ []; spelled = refl; valid = (tt, tt, tt); file = is_file; means = refl };
   profile = record { given = Watch Profile ∷ []; spelled = refl; valid = (tt, tt, tt); file = is_file; means = refl };
   cover = record { given = Unbased ∷ Watch Cover ∷ []; spelled = refl; valid = (tt, (λ x. x, tt), (tt, tt, tt)); file = is_file; means = refl };
+  code_file = record { given = Turns 50 ∷ []; spelled = code_file; valid = (omega arith, tt, tt); file = is_file; means = refl };
   check = (refl, is_file);
   trial = record { spelled = trial; seed_in_range = omega arith; some_nodes = omega arith; few_nodes = omega arith };
 }

@@ -1,6 +1,6 @@
 use Rattle.std.proofs.Common.{rules}
 use Rattle.setl_top_words.proofs.Order.{always}
-use Rattle.setl_top_words.proofs.Commands.{few_are_faulty, run_is_faulty, spells_run, trial_is_faulty, spells_trial}
+use Rattle.setl_top_words.proofs.Commands.{few_are_faulty, trial_is_faulty, spells_trial}
 use Rattle.setl_top_words.proofs.reading.read_words.Goals as goal
 
 pub returns-in_err-word-clause-faulty : goal.returns-in_err-word-clause-faulty
@@ -13,11 +13,3 @@ returns-in_err-seed-clause-faulty c =
 pub returns-then-is_trial-clause-plain : goal.returns-then-is_trial-clause-plain
 returns-then-is_trial-clause-plain c =
     spells_trial _ c.in_ok-word.word.now _ c.in_ok-word.name.now _ _ c.in_ok-word.ensures.parts (search rules) c.in_ok-seed.ensures.read
-
-pub returns-in_err-given-clause-faulty : goal.returns-in_err-given-clause-faulty
-returns-in_err-given-clause-faulty c =
-    always _ (run_is_faulty _ c.in_ok-word.word.now _ c.in_ok-word.name.now c.none.result c.in_ok-word.ensures.parts (search rules) c.none.ensures c.in_err-given.ensures.none)
-
-pub returns-then-is_run-clause-plain : goal.returns-then-is_run-clause-plain
-returns-then-is_run-clause-plain c =
-    spells_run _ c.in_ok-word.word.now _ c.in_ok-word.name.now c.none.result c.in_ok-given.given _ c.in_ok-word.ensures.parts (search rules) (search rules) c.none.ensures c.in_ok-given.ensures.read (search rules)

@@ -1,0 +1,119 @@
+-- What the words of a call ask for, where the outside is so before it.
+use Rattle.std.specs.Prelude.{◌≡◌, ◌-◌, ◌^◌, ℕ, Bool, true, List, Option, None, Some, ⊤}
+use Rattle.setl_io.specs.Files.{IsText}
+use Rattle.setl_model_runs.specs.Events.{End}
+use Rattle.setl_model.specs.Means.{Means}
+use Rattle.setl_program.specs.Program.{Program}
+use Rattle.setl_tree.specs.declared.tree.Tree.{Tree}
+use Rattle.setl_top.specs.Accepted.{IsProgram, Accepted, IsRefusedFor}
+use Rattle.setl_top_advice.specs.Advised.{IsAdvised}
+use Rattle.setl_top.specs.Built.{IsBuilt}
+use Rattle.setl_top.specs.Explained.{IsExplained}
+use Rattle.setl_top.specs.Listings.{IsListing}
+use Rattle.setl_top.specs.Outside.{Outside}
+use Rattle.setl_top.specs.Runnable.{Runnable, Holds}
+use Rattle.setl_top.specs.Trials.{trial_source, trial_input, trial_line}
+use Rattle.setl_top.specs.Watching.{asked_for, IsThere}
+use Rattle.setl_top_status.specs.declared.reason.Reason.{Reason}
+use Rattle.setl_watch.specs.Watches.{Watch}
+use Rattle.setl_top_words.specs.Words.{Command, Run, Check, Code, Build, Advise, Explain, TellStop, Trial, Spells, HasFile, RunsFile, watched_by}
+use Rattle.setl_top_words.specs.declared.reading.FileKind.{FileKind}
+use Rattle.setl_top_words.specs.declared.reading.FileKind.TheVariants.{Source, CodeFile}
+
+-- the words ask for the text of this file, and for a watcher that is there or for none
+pub record IsToLoad (words : List (List ℕ)) (before : Outside) (name : List ℕ) : Type 0 where
+  pub command : Command
+  pub spelled : Spells words command
+  pub file : HasFile command name
+  pub there : IsThere (watched_by command) before.watchers
+
+-- what is run: a program or code, the bytes of its input, its bound on turns, whether its declarations count, and the
+-- watchers that are told its events
+pub record Job : Type 0 where
+  pub runnable : Runnable
+  pub input : List ℕ
+  pub turns : ℕ
+  pub based : Bool
+  pub watchers : List Watch
+
+-- where the bytes left of an input are told, they are these
+abbrev pub IsInput : Option (List ℕ) → List ℕ → Type 0
+IsInput None bytes = ⊤
+IsInput (Some left) bytes = left ≡ bytes
+
+-- the words ask for this to be run
+pub record IsToRun (words : List (List ℕ)) (before : Outside) (job : Job) : Type 0 where
+  pub command : Command
+  pub kind : FileKind
+  pub name : List ℕ
+  pub bytes : List ℕ
+  pub spelled : Spells words command
+  pub runs : RunsFile command kind name job.turns job.based
+  pub text : IsText before.files.held name bytes
+  pub holds : Holds kind bytes job.runnable
+  pub input : IsInput before.input.held job.input
+  pub there : IsThere (watched_by command) before.watchers
+  pub watched : job.watchers ≡ asked_for (watched_by command) before.watchers
+
+-- the words ask for the code of a program, and this is its listing
+pub record IsToList (words : List (List ℕ)) (before : Outside) (listed : List ℕ) : Type 0 where
+  pub name : List ℕ
+  pub source : List ℕ
+  pub tree : Tree
+  pub spelled : Spells words (Code name)
+  pub text : IsText before.files.held name source
+  pub is_program : IsProgram source tree
+  pub is_listing : IsListing tree listed
+
+-- the words ask for the code file of a program, and it is this
+pub record IsToBuild (words : List (List ℕ)) (before : Outside) (bytes : List ℕ) : Type 0 where
+  pub name : List ℕ
+  pub source : List ℕ
+  pub tree : Tree
+  pub spelled : Spells words (Build name)
+  pub text : IsText before.files.held name source
+  pub is_program : IsProgram source tree
+  pub is_built : IsBuilt tree bytes
+
+-- the words ask for advice for a program without declarations, and this is it
+pub record IsToAdvise (words : List (List ℕ)) (before : Outside) (text : List ℕ) : Type 0 where
+  pub name : List ℕ
+  pub source : List ℕ
+  pub tree : Tree
+  pub spelled : Spells words (Advise name)
+  pub text_of : IsText before.files.held name source
+  pub is_program : IsProgram source tree
+  pub is_advised : IsAdvised source tree text
+
+-- a command that tells on the error output why a source is refused; an explanation writes it to the output
+abbrev pub TellsRefusal : Command → Type 0
+TellsRefusal (Run Source options name) = ⊤
+TellsRefusal (Run CodeFile options name) = ⊥
+TellsRefusal (Check name) = ⊤
+TellsRefusal (Code name) = ⊤
+TellsRefusal (Build name) = ⊤
+TellsRefusal (Advise name) = ⊤
+TellsRefusal (Explain name) = ⊥
+TellsRefusal (TellStop stop) = ⊥
+TellsRefusal (Trial seed nodes) = ⊤
+
+-- the words ask for the explanation of a source that is refused, and this is it
+pub record IsToExplain (words : List (List ℕ)) (before : Outside) (text : List ℕ) : Type 0 where
+  pub name : List ℕ
+  pub source : List ℕ
+  pub reason : Reason
+  pub spelled : Spells words (Explain name)
+  pub text_of : IsText before.files.held name source
+  pub refused_for : IsRefusedFor source reason
+  pub is_explained : IsExplained source reason text
+
+-- the words ask for a trial, the run of its program on its input ends so with its declarations, and this is the trial's line
+pub record IsTried (words : List (List ℕ)) (line : List ℕ) (end : End) : Type 0 where
+  pub seed : ℕ
+  pub nodes : ℕ
+  pub program : Program
+  pub printed : List ℕ
+  pub spelled : Spells words (Trial seed nodes)
+  pub accepted : Accepted trial_source program
+  pub means : Means program (trial_input seed nodes) (2 ^ 63 - 1) true printed end
+  pub is_line : line ≡ trial_line seed nodes printed
