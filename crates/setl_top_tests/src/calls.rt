@@ -33,11 +33,20 @@ pub struct Left {
 }
 
 impl Left {
-    /// Whether the call answered so, and its outputs gained these texts.
-    pub fn is(&self, status: Status, out: &str, err: &str) -> bool {
-        let printed = self.out.as_slice() == out.as_bytes();
+    /// What the output gained.
+    pub fn out(&self) -> &[u8] {
+        self.out.as_slice()
+    }
+
+    /// Whether the call answered so, the output gained these bytes, and the error output this text.
+    pub fn gave(&self, status: Status, out: &[u8], err: &str) -> bool {
         let told = self.err.as_slice() == err.as_bytes();
-        self.status == status && printed && told
+        self.status == status && self.out.as_slice() == out && told
+    }
+
+    /// The same for an output that gained a text.
+    pub fn is(&self, status: Status, out: &str, err: &str) -> bool {
+        self.gave(status, out.as_bytes(), err)
     }
 
     /// Whether the call answered so, the output gained nothing, and the error output gained some other text.

@@ -27,12 +27,26 @@ pub fn expect_faults(
     source: &str,
     table: &str,
 ) -> Result<(), Memory> {
+    expect_faults_of(rt, alloc, source.as_bytes(), table)
+}
+
+/// The same for a file that may hold code.
+pub fn expect_faults_of(
+    rt: &impl Abort,
+    alloc: Global,
+    file: &[u8],
+    table: &str,
+) -> Result<(), Memory> {
     for row in table.split(BETWEEN) {
         let [head, words, out, err, own] = fields(row);
         let [load, write, most, tell, status] = numbers(head);
         let faults = faults_of(load, write, most, tell);
-        let source = if own.is_empty() { source } else { text(own) };
-        let left = call(alloc, words, source.as_bytes(), faults)?;
+        let file = if own.is_empty() {
+            file
+        } else {
+            text(own).as_bytes()
+        };
+        let left = call(alloc, words, file, faults)?;
         assert!(rt; left.ends(status, cut(out), err), "at {row}");
     }
     Ok(())

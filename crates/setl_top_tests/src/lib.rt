@@ -1,5 +1,5 @@
-//! Tests of the program as one call: sources, words, inputs and faults of the outside, and what a call answers and writes
-//! then.
+//! Tests of the program as one call: sources, code files, words, inputs and faults of the outside, and what a call answers
+//! and writes then.
 //!
 //! Nothing stands on this crate. Each call is made over an outside in memory, and its answer is compared with worked
 //! rows.
@@ -9,6 +9,8 @@
 mod advice;
 #[cfg(test)]
 mod calls;
+#[cfg(test)]
+mod code_files;
 #[cfg(test)]
 mod declarations;
 #[cfg(test)]

@@ -1,7 +1,8 @@
 //! Lines of words, what they ask for, and what is told of those that are faulty.
 
 use setl_top_words::{
-    Asked, Command, Options, fault_text, faulty_words, one_command, plain_words, read_words,
+    Asked, Command, FileKind, Options, fault_text, faulty_words, one_command, plain_words,
+    read_words,
 };
 use std::alloc::Global;
 use std::test::Fail;
@@ -20,17 +21,30 @@ fn watcher(options: Options) -> u8 {
     options.watch.map_or(0, Asked::name)
 }
 
-/// The command of a line as a text: of a run its bound on turns, whether declarations count, the name of the watcher that is
-/// asked for, and its file; of a stop and of a trial the numbers.
+/// The word of the command that runs what a file of this kind holds.
+fn word_of(kind: FileKind) -> &'static str {
+    match kind {
+        FileKind::Source => "run",
+        FileKind::CodeFile => "exec",
+    }
+}
+
+/// The command of a line as a text: of a run what its file holds, its bound on turns, whether declarations count, the name of
+/// the watcher that is asked for, and its file; of a stop and of a trial the numbers.
 fn asked(alloc: Global, line: &str) -> Result<String, Fail> {
     let words = words_of(alloc, line)?;
     let text = match read_words(words.as_slice()) {
-        Some(Command::Run(options, file)) => {
+        Some(Command::Run(kind, options, file)) => {
+            let word = word_of(kind);
             let watcher = watcher(options);
-            format!(in alloc; "run {} {} {watcher} {file}", options.turns, options.based)?
+            format!(in alloc;
+                "{word} {} {} {watcher} {file}",
+                options.turns, options.based
+            )?
         }
         Some(Command::Check(file)) => format!(in alloc; "check {file}")?,
         Some(Command::Code(file)) => format!(in alloc; "code {file}")?,
+        Some(Command::Build(file)) => format!(in alloc; "build {file}")?,
         Some(Command::Advise(file)) => format!(in alloc; "advise {file}")?,
         Some(Command::Explain(file)) => format!(in alloc; "explain {file}")?,
         Some(Command::TellStop(stop)) => format!(in alloc; "stop {}", stop as u8)?,
@@ -49,8 +63,14 @@ run 9223372036854775807 true 1 q.setl: run --watch trace q.setl
 run 9223372036854775807 true 2 q.setl: run --watch cover q.setl
 run 5 false 2 q.setl: run --turns 5 --watch cover --unbased q.setl
 run 9223372036854775807 false 0 q.setl: run --unbased --turns 9223372036854775807 q.setl
+exec 9223372036854775807 true 0 q.code: exec q.code
+exec 50 false 0 q.code: exec --turns 50 --unbased q.code
+exec 9223372036854775807 true 1 q.code: exec --watch trace q.code
+exec 5 false 3 exec: exec --unbased --watch profile --turns 5 exec
 check q.setl: check q.setl
 code q.setl: code q.setl
+build q.setl: build q.setl
+build build: build build
 advise q.setl: advise q.setl
 explain q.setl: explain q.setl
 stop 0: explain --stop om
@@ -82,7 +102,30 @@ faulty: run -
 faulty: run\x20
 faulty: run
 faulty: Run q.setl
+faulty: exec
+faulty: exec --turns 07 q.code
+faulty: exec --turns 9223372036854775808 q.code
+faulty: exec --turns=5 q.code
+faulty: exec --unbased --unbased q.code
+faulty: exec --watch
+faulty: exec --watch profiles q.code
+faulty: exec q.code --unbased
+faulty: exec q.code q.code
+faulty: exec -- q.code
+faulty: exec -q
+faulty: exec\x20
+faulty: Exec q.code
+faulty: execs q.code
 faulty: check --unbased q.setl
+faulty: build
+faulty: build -q
+faulty: build\x20
+faulty: build --unbased q.setl
+faulty: build --turns 5 q.setl
+faulty: build q.setl q.code
+faulty: build -- q.setl
+faulty: Build q.setl
+faulty: built q.setl
 faulty: advise
 faulty: advise -q
 faulty: advise q.setl q.setl
@@ -169,6 +212,64 @@ error: the argument '--unbased' cannot be used multiple times
 Usage: setl run [OPTIONS] <FILE>
 
 For more information, try '--help'.
+====
+exec --turns 07 q
+not of the plain form
+====
+exec q --unbased
+not of the plain form
+====
+exec --watch trace
+error: the following required arguments were not provided:
+  <FILE>
+
+Usage: setl exec --watch <NAME> <FILE>
+
+For more information, try '--help'.
+====
+exec
+error: the following required arguments were not provided:
+  <FILE>
+
+Usage: setl exec <FILE>
+
+For more information, try '--help'.
+====
+exec --help
+Run a code file
+
+Usage: setl exec [OPTIONS] <FILE>
+
+Arguments:
+  <FILE>  The code file
+
+Options:
+      --unbased       Leave all declarations out of account
+      --turns <N>     Stop the run after so many turns
+      --watch <NAME>  Report what a watcher saw of the run: trace, cover or profile
+  -h, --help          Print help
+====
+build -- q
+not of the plain form
+====
+build
+error: the following required arguments were not provided:
+  <FILE>
+
+Usage: setl build <FILE>
+
+For more information, try '--help'.
+====
+build --help
+Write the code file of a program
+
+Usage: setl build <FILE>
+
+Arguments:
+  <FILE>  The source
+
+Options:
+  -h, --help  Print help
 ====
 trial 07 1
 not of the plain form
