@@ -1,70 +1,31 @@
 -- A change of one part of an environment.
-use Rattle.std.proofs.Common.{◌≡◌, ℕ, zero, suc, ◌+◌, ◌-◌, ◌<◌, ◌≤◌, List, [], ◌∷◌, ◌++◌, length, set, drop, refl, ap, sym, subst, ◌∙◌, arith, take, min, ltb, Bool, true, false, Option, Some, None, Ok, Err}
-use Rattle.std.proofs.lemmas.Bool.{ltb-true, ltb-false, true≢false}
+use Rattle.std.proofs.Common.{◌≡◌, ℕ, zero, suc, ◌+◌, ◌-◌, ◌<◌, ◌≤◌, List, [], ◌∷◌, ◌++◌, length, set, drop, refl, ap, sym, subst, ◌∙◌, arith, take, get_or, ltb, cond, ◌&&◌, ◌||◌, Bool, true, false, Some, None, Ok, Err}
+use Rattle.std.proofs.lemmas.Bool.{ltb-true, ltb-false, leb-false, eq-eqb, eqb-true, true≢false}
+use Rattle.std.proofs.lemmas.Option.{none-some}
+use Rattle.std.proofs.Math.Seq.{take-set-lt}
+use Rattle.std.specs.Option.{unwrap_or}
 use Rattle.std.proofs.lemmas.List.{length-set, length_push, length-take, length-take-le, take-append-le, take-set-le, take-take, take_all}
-use Rattle.std.specs.Prelude.{Result, OnOk, OnErr, IsTrue}
-use Rattle.setl_trail.specs.Trail.{Item, entry, mark, mark_count, latest, without_latest, forgotten}
+use Rattle.std.specs.Prelude.{Result, OnOk, OnErr, IsTrue, nat_lt, nat_le, eqb}
+use Rattle.setl_trail.specs.Trail.{Item, entry, mark, mark_count, latest, without_latest, without_mark, forgotten}
 use Rattle.setl_store_environment.specs.declared.environment.Old.{Old}
 use Rattle.setl_store_environment.specs.declared.environment.Old.TheVariants as old
 use Rattle.setl_store_environment.specs.declared.stack.Place.{Place}
-use Rattle.setl_store_environment.specs.Stack.{StackState, LeadsBack, Fits, IsNear, placed, placed_at}
+use Rattle.setl_store_environment.specs.Stack.{StackState, LeadsBack, Fits, placed}
 use Rattle.setl_local.specs.FieldState.{FieldState}
 use Rattle.std.specs.FinSet as set
 use Rattle.std.specs.FinMap as map
 use Rattle.setl_local.specs.Place.{place_cmp}
 use Rattle.setl_store_environment.specs.declared.fields.Field.{Field}
-use Rattle.setl_store_environment.specs.Places.{FieldsNow, fields_now, LeadsFieldsBack}
+use Rattle.setl_store_environment.specs.Places.{FieldsNow, fields_now, with, LeadsFieldsBack}
 use Rattle.setl_store_environment.specs.Environment.{Contents, Room, EnvironmentState}
 use Rattle.setl_store_environment.specs.Kept.{base_of, nowhere, noted, IsUndoable, kept_of}
 use Rattle.setl_store_environment.specs.declared.environment.Base.{Base}
-use Rattle.setl_store_environment.specs.Undo.{Parts, contents_of, undone, cut, Reaches, FitsIn, IsTrailOf, kept_contents, HasMore, lower, needed}
-use Rattle.setl_store_environment.proofs.Undoing.{IsBelow, changed, undoable_still, unmarked_base, kept_counted, mark_latest, Serves, forgot}
-
--- the lowest n with one of them put back
-cut_placed : {T : Type 0} (n at : ℕ) (o : Option T) (xs : List T) → at < n → at < length xs → placed_at (take n xs) at o ≡ take n (placed_at xs at o)
-cut_placed n at None xs low there =
-    take-take at n xs (omega (arith, low)) ∙ sym (take_all n (take at xs) (omega (arith, low, there, length-take-le at xs)))
-cut_placed n at (Some x) [] low there = absurd (omega (arith, there))
-cut_placed zero at (Some x) (y ∷ xs) low there = absurd (omega (arith, low))
-cut_placed (suc n) zero (Some x) (y ∷ xs) low there = refl
-cut_placed (suc n) (suc at) (Some x) (y ∷ xs) low there = ap (λ l. y ∷ l) (cut_placed n at (Some x) xs (omega (arith, low)) (omega (arith, there)))
-
-cut_near : {T : Type 0} (n at : ℕ) (o : Option T) (xs : List T) → at < n → n ≤ length xs → IsNear xs at o → IsNear (take n xs) at o
-cut_near n at None xs low there near = omega (arith, low, there, near, length-take-le n xs there)
-cut_near n at (Some x) xs low there near = omega (arith, low, there, length-take-le n xs there)
-
--- the lowest n and k with one of the lowest k put back, and with another
-over_placed : {T : Type 0} (k at : ℕ) (o : Option T) (xs : List T) → at < k → IsNear xs at o → placed_at (take k xs) at o ≡ take k (placed_at xs at o)
-over_placed k at None xs low near = cut_placed k at None xs low (omega (arith, near))
-over_placed zero at (Some x) xs low near = absurd (omega (arith, low))
-over_placed (suc k) zero (Some x) [] low near = ap (λ l. x ∷ l) (sym (take_all k [] (omega arith)))
-over_placed (suc k) zero (Some x) (y ∷ xs) low near = refl
-over_placed (suc k) (suc at) (Some x) [] low near = absurd (omega (arith, near))
-over_placed (suc k) (suc at) (Some x) (y ∷ xs) low near = ap (λ l. y ∷ l) (over_placed k at (Some x) xs (omega (arith, low)) (omega (arith, near)))
-
-over_near : {T : Type 0} (k at : ℕ) (o : Option T) (xs : List T) → at < k → IsNear xs at o → IsNear (take k xs) at o
-over_near k at None xs low near = near ∙ ap length (sym (take_all k xs (omega (arith, low, near))))
-over_near zero at (Some x) xs low near = absurd (omega (arith, low))
-over_near (suc k) at (Some x) [] low near = near
-over_near (suc k) zero (Some x) (y ∷ xs) low near = omega arith
-over_near (suc k) (suc at) (Some x) (y ∷ xs) low near = omega (arith, over_near k at (Some x) xs (omega (arith, low)) (omega (arith, near)))
-
-past_placed : {T : Type 0} (k at : ℕ) (o : Option T) (xs : List T) → k ≤ at → IsNear xs at o → take k (placed_at xs at o) ≡ take k xs
-past_placed k at None xs past near = take-take k at xs past
-past_placed zero at (Some x) xs past near = refl
-past_placed (suc k) zero (Some x) xs past near = absurd (omega (arith, past))
-past_placed (suc k) (suc at) (Some x) [] past near = absurd (omega (arith, near))
-past_placed (suc k) (suc at) (Some x) (y ∷ xs) past near = ap (λ l. y ∷ l) (past_placed k at (Some x) xs (omega (arith, past)) (omega (arith, near)))
-
--- the lowest values up to the lower of two numbers
-take_lower_by : {T : Type 0} (b : Bool) (n k : ℕ) (xs : List T) → ltb n k ≡ b → take (min n k) xs ≡ take k (take n xs)
-take_lower_by true n k xs is =
-    let lower : min n k ≡ n = omega (arith, ltb-true n k is) in
-    let few : length (take n xs) ≤ k = omega (arith, ltb-true n k is, length-take n xs) in
-    ap (λ m. take m xs) lower ∙ sym (take_all k (take n xs) few)
-take_lower_by false n k xs is =
-    let lower : min n k ≡ k = omega (arith, ltb-false n k is) in
-    ap (λ m. take m xs) lower ∙ sym (take-take k n xs (omega (arith, ltb-false n k is)))
+use Rattle.setl_store_environment.specs.Undo.{Parts, contents_of, undone, cut, Reaches, FitsIn, IsTrailOf, AreStamped, kept_contents, HasMore, lower, is_needed_at, needed, slot_stamp, operand_stamp, slots_restamped, operands_restamped}
+use Rattle.setl_store_environment.specs.declared.environment.Bases.{Bases}
+use Rattle.setl_store_environment.specs.Stamps.{is_noted, IsStamped}
+use Rattle.setl_store_environment.proofs.Places.{some_same, set_read, over_placed, past_placed, placed_length, take_lower, Similar, similar_same, similar_all, similar_placed, similar_past, similar_set}
+use Rattle.setl_store_environment.proofs.Undoing.{IsBelow, changed, undoable_still, unmarked_base, kept_counted, mark_latest, both_spared, Agrees, alike_undoable, alike_kept, Serves, forgot}
+use Rattle.setl_store_environment.proofs.Stamps.{Drops, IsSpared, spares, stamps_forgot}
 
 abbrev pub pair_of : {F : Type 0} → set.FinSet place_cmp → map.FinMap place_cmp F → FieldsNow F
 pair_of a c = record { bits = a; contents = c }
@@ -75,8 +36,8 @@ fields_of a b c d x y = ap (λ l. pair_of l c) x ∙ ap (pair_of b) y
 
 module _ {S O A M F : Type 0} where
   still_fits : (q r : Parts S O A M F) → HasMore q r → (c : Contents S O A M F) (e : Old S O A M F) → FitsIn q c e → FitsIn r c e
-  still_fits q r m c (old.Slot p) h = record { inside = omega (arith, h.inside, m.slots); near = h.near }
-  still_fits q r m c (old.Operand p) h = record { inside = omega (arith, h.inside, m.operands); near = h.near }
+  still_fits q r m c (old.Slot p stamp) h = record { inside = omega (arith, h.inside, m.slots); near = h.near }
+  still_fits q r m c (old.Operand p stamp) h = record { inside = omega (arith, h.inside, m.operands); near = h.near }
   still_fits q r m c (old.Activation p) h = record { inside = omega (arith, h.inside, m.activations); near = h.near }
   still_fits q r m c (old.Member p) h = record { inside = omega (arith, h.inside, m.members); near = h.near }
   still_fits q r m c (old.Field p) h = m.fields (p.object, p.block) h
@@ -98,6 +59,69 @@ module _ {S O A M F : Type 0} where
 
   abbrev pub with_members : Contents S O A M F → List M → Contents S O A M F
   with_members c xs = record c { members = xs }
+
+  -- one list is another in the same memory
+  slots_room : (q : Parts S O A M F) (new : StackState S) → new.room ≡ q.slots.room → HasMore q (record q { slots = new })
+  slots_room q new is = record { slots = omega (arith, is); operands = omega arith; activations = omega arith; members = omega arith; fields = λ k there. there }
+
+  operands_room : (q : Parts S O A M F) (new : StackState O) → new.room ≡ q.operands.room → HasMore q (record q { operands = new })
+  operands_room q new is = record { slots = omega arith; operands = omega (arith, is); activations = omega arith; members = omega arith; fields = λ k there. there }
+
+  activations_room : (q : Parts S O A M F) (new : StackState A) → new.room ≡ q.activations.room → HasMore q (record q { activations = new })
+  activations_room q new is = record { slots = omega arith; operands = omega arith; activations = omega (arith, is); members = omega arith; fields = λ k there. there }
+
+  members_room : (q : Parts S O A M F) (new : StackState M) → new.room ≡ q.members.room → HasMore q (record q { members = new })
+  members_room q new is = record { slots = omega arith; operands = omega arith; activations = omega arith; members = omega (arith, is); fields = λ k there. there }
+
+  -- Alike but for the slots and operands that are noted.
+  pub record Alike (c d : Contents S O A M F) (items : List (Item (Old S O A M F))) : Type 0 where
+    pub slots : Similar (λ at. is_noted slot_stamp at items) c.slots d.slots
+    pub operands : Similar (λ at. is_noted operand_stamp at items) c.operands d.operands
+    pub activations : c.activations ≡ d.activations
+    pub members : c.members ≡ d.members
+    pub fields : c.fields ≡ d.fields
+
+  alike_same : (c d : Contents S O A M F) (items : List (Item (Old S O A M F))) → c ≡ d → Alike c d items
+  alike_same c d items is = record {
+    slots = similar_same (λ at. is_noted slot_stamp at items) c.slots d.slots (ap (λ x. x.slots) is);
+    operands = similar_same (λ at. is_noted operand_stamp at items) c.operands d.operands (ap (λ x. x.operands) is);
+    activations = ap (λ x. x.activations) is;
+    members = ap (λ x. x.members) is;
+    fields = ap (λ x. x.fields) is;
+  }
+
+  alike_entry : (q : Parts S O A M F) (c d : Contents S O A M F) (e : Old S O A M F) (items : List (Item (Old S O A M F))) → Alike c d (entry e ∷ items) → FitsIn q c e → FitsIn q d e × Alike (undone c e) (undone d e) items
+  alike_entry q c d (old.Slot p stamp) items a h = (
+    record { inside = h.inside; near = omega (arith, h.near, a.slots.long) },
+    record { slots = similar_placed (λ at. is_noted slot_stamp at items) c.slots d.slots p.at stamp p.content h.near a.slots; operands = a.operands; activations = a.activations; members = a.members; fields = a.fields },
+  )
+  alike_entry q c d (old.Operand p stamp) items a h = (
+    record { inside = h.inside; near = omega (arith, h.near, a.operands.long) },
+    record { slots = a.slots; operands = similar_placed (λ at. is_noted operand_stamp at items) c.operands d.operands p.at stamp p.content h.near a.operands; activations = a.activations; members = a.members; fields = a.fields },
+  )
+  alike_entry q c d (old.Activation p) items a h = (
+    subst (λ l. Fits A l q.activations.room p) a.activations h,
+    record { slots = a.slots; operands = a.operands; activations = ap (λ l. placed l p) a.activations; members = a.members; fields = a.fields },
+  )
+  alike_entry q c d (old.Member p) items a h = (
+    subst (λ l. Fits M l q.members.room p) a.members h,
+    record { slots = a.slots; operands = a.operands; activations = a.activations; members = ap (λ l. placed l p) a.members; fields = a.fields },
+  )
+  alike_entry q c d (old.Field p) items a h = (
+    h,
+    record { slots = a.slots; operands = a.operands; activations = a.activations; members = a.members; fields = ap (λ f. with f p) a.fields },
+  )
+
+  alike_mark : (c d : Contents S O A M F) (items : List (Item (Old S O A M F))) → Alike c d (mark ∷ items) → c ≡ d
+  alike_mark c d items a =
+      ap (λ l. contents l c.operands c.activations c.members c.fields) (similar_all c.slots d.slots a.slots)
+      ∙ ap (λ l. contents d.slots l c.activations c.members c.fields) (similar_all c.operands d.operands a.operands)
+      ∙ ap (λ l. contents d.slots d.operands l c.members c.fields) a.activations
+      ∙ ap (λ l. contents d.slots d.operands d.activations l c.fields) a.members
+      ∙ ap (λ f. contents d.slots d.operands d.activations d.members f) a.fields
+
+  agrees : (q : Parts S O A M F) → Agrees undone cut Reaches (FitsIn q) Alike
+  agrees q = record { over_entry = alike_entry q; at_mark = alike_mark }
 
   -- the trail after more memory was reserved
   pub roomier : (q r : Parts S O A M F) (n : Base) (ns : List Base) (items : List (Item (Old S O A M F))) → HasMore q r → contents_of r ≡ contents_of q → IsTrailOf q n ns items → IsTrailOf r n ns items
@@ -172,8 +196,8 @@ module _ {T : Type 0} where
     room = back.room;
     less = omega arith;
     there = omega (arith, there, long);
-    fits = record { inside = back.fits.inside; near = cut_near n p.at p.content new.items low (omega (arith, there, long)) back.fits.near };
-    undone = cut_placed n p.at p.content new.items low (omega (arith, low, there, long)) ∙ ap (take n) back.undone;
+    fits = record { inside = back.fits.inside; near = omega (arith, low, there, long, length-take-le n new.items) };
+    undone = over_placed n p.at p.content new.items low back.fits.near ∙ ap (take n) back.undone;
   }
 
   -- the last of the lowest n is taken off, and nothing is above it
@@ -207,53 +231,86 @@ module _ {S O A M F K : Type 0} where
       (undoable_still undone cut Reaches (FitsIn q) (FitsIn r) n (cut n (contents_of q)) items ns (still_fits q r more) h.1) in
       record { undoable = (there, done.undoable); kept = done.kept; marks = done.marks }
 
-  -- a change above the base
-  part_unseen : (q r : Parts S O A M F) (n : Base) (ns : List Base) (items : List (Item (Old S O A M F))) (ks : List K) → HasMore q r → Reaches n (contents_of r) → cut n (contents_of r) ≡ cut n (contents_of q) → IsTrailOf q n ns items → IsNoted q r n n ns items items ks
-  part_unseen q r n ns items ks more there same h = record {
-    undoable = (there, subst (λ c. IsUndoable undone cut Reaches (FitsIn r) n c items ns) (sym same) (undoable_still undone cut Reaches (FitsIn q) (FitsIn r) n (cut n (contents_of q)) items ns (still_fits q r more) h.1));
-    kept = ap (λ c. kept_of undone cut c items ns ks) same;
-    marks = refl;
-  }
+  -- a change above the base, or of what is noted already
+  part_unseen : (q r : Parts S O A M F) (n : Base) (ns : List Base) (items : List (Item (Old S O A M F))) (ks : List K) → HasMore q r → Reaches n (contents_of r) → Alike (cut n (contents_of q)) (cut n (contents_of r)) items → IsTrailOf q n ns items → IsNoted q r n n ns items items ks
+  part_unseen q r n ns items ks more there alike h =
+      let below = undoable_still undone cut Reaches (FitsIn q) (FitsIn r) n (cut n (contents_of q)) items ns (still_fits q r more) h.1 in
+      record {
+        undoable = (there, alike_undoable undone cut Reaches (FitsIn r) Alike n (cut n (contents_of q)) (cut n (contents_of r)) items ns (agrees r) alike below);
+        kept = alike_kept undone cut Reaches (FitsIn r) Alike n (cut n (contents_of q)) (cut n (contents_of r)) items ns ks (agrees r) alike below;
+        marks = refl;
+      }
 
   pub slots_unseen : (q : Parts S O A M F) (n : Base) (ns : List Base) (new : StackState S) (items : List (Item (Old S O A M F))) (ks : List K) → Unseen n.slots q.slots new → IsTrailOf q n ns items → IsNoted q (record q { slots = new }) n n ns items items ks
   slots_unseen q n ns new items ks u h =
-      part_unseen q (record q { slots = new }) n ns items ks (record { slots = omega (arith, u.room); operands = omega arith; activations = omega arith; members = omega arith; fields = λ k there. there }) (u.there, h.0.1)
-      (ap (λ l. contents l (take n.operands q.operands.items) q.activations.items q.members.items (fields_now q.fields)) u.same) h
+      part_unseen q (record q { slots = new }) n ns items ks (slots_room q new u.room) (record { slots = u.there; operands = h.0.operands; activations = h.0.activations; members = h.0.members })
+      (alike_same (cut n (contents_of q)) (cut n (contents_of (record q { slots = new }))) items (ap (λ l. contents l (take n.operands q.operands.items) (take n.activations q.activations.items) (take n.members q.members.items) (fields_now q.fields)) (sym u.same))) h
 
   pub operands_unseen : (q : Parts S O A M F) (n : Base) (ns : List Base) (new : StackState O) (items : List (Item (Old S O A M F))) (ks : List K) → Unseen n.operands q.operands new → IsTrailOf q n ns items → IsNoted q (record q { operands = new }) n n ns items items ks
   operands_unseen q n ns new items ks u h =
-      part_unseen q (record q { operands = new }) n ns items ks (record { slots = omega arith; operands = omega (arith, u.room); activations = omega arith; members = omega arith; fields = λ k there. there }) (h.0.0, u.there)
-      (ap (λ l. contents (take n.slots q.slots.items) l q.activations.items q.members.items (fields_now q.fields)) u.same) h
+      part_unseen q (record q { operands = new }) n ns items ks (operands_room q new u.room) (record { slots = h.0.slots; operands = u.there; activations = h.0.activations; members = h.0.members })
+      (alike_same (cut n (contents_of q)) (cut n (contents_of (record q { operands = new }))) items (ap (λ l. contents (take n.slots q.slots.items) l (take n.activations q.activations.items) (take n.members q.members.items) (fields_now q.fields)) (sym u.same))) h
 
-  pub slot_noted : (q : Parts S O A M F) (n : Base) (m : ℕ) (ns : List Base) (new : StackState S) (p : Place S) (items now : List (Item (Old S O A M F))) (ks : List K) → Led n.slots m q.slots new p → now ≡ noted (old.Slot p) items → IsTrailOf q n ns items → IsNoted q (record q { slots = new }) n (record n { slots = m }) ns items now ks
-  slot_noted q n m ns new p items now ks l is h =
-      part_changed q (record q { slots = new }) n (record n { slots = m }) ns (old.Slot p) items now ks (record { slots = omega (arith, l.room); operands = omega arith; activations = omega arith; members = omega arith; fields = λ k there. there }) (l.less, omega arith) (l.there, h.0.1) l.fits
-      (ap (λ xs. contents xs (take n.operands q.operands.items) q.activations.items q.members.items (fields_now q.fields)) l.undone) is h
+  pub activations_unseen : (q : Parts S O A M F) (n : Base) (ns : List Base) (new : StackState A) (items : List (Item (Old S O A M F))) (ks : List K) → Unseen n.activations q.activations new → IsTrailOf q n ns items → IsNoted q (record q { activations = new }) n n ns items items ks
+  activations_unseen q n ns new items ks u h =
+      part_unseen q (record q { activations = new }) n ns items ks (activations_room q new u.room) (record { slots = h.0.slots; operands = h.0.operands; activations = u.there; members = h.0.members })
+      (alike_same (cut n (contents_of q)) (cut n (contents_of (record q { activations = new }))) items (ap (λ l. contents (take n.slots q.slots.items) (take n.operands q.operands.items) l (take n.members q.members.items) (fields_now q.fields)) (sym u.same))) h
 
-  pub operand_noted : (q : Parts S O A M F) (n : Base) (m : ℕ) (ns : List Base) (new : StackState O) (p : Place O) (items now : List (Item (Old S O A M F))) (ks : List K) → Led n.operands m q.operands new p → now ≡ noted (old.Operand p) items → IsTrailOf q n ns items → IsNoted q (record q { operands = new }) n (record n { operands = m }) ns items now ks
-  operand_noted q n m ns new p items now ks l is h =
-      part_changed q (record q { operands = new }) n (record n { operands = m }) ns (old.Operand p) items now ks (record { slots = omega arith; operands = omega (arith, l.room); activations = omega arith; members = omega arith; fields = λ k there. there }) (omega arith, l.less) (h.0.0, l.there) l.fits
-      (ap (λ xs. contents (take n.slots q.slots.items) xs q.activations.items q.members.items (fields_now q.fields)) l.undone) is h
+  pub members_unseen : (q : Parts S O A M F) (n : Base) (ns : List Base) (new : StackState M) (items : List (Item (Old S O A M F))) (ks : List K) → Unseen n.members q.members new → IsTrailOf q n ns items → IsNoted q (record q { members = new }) n n ns items items ks
+  members_unseen q n ns new items ks u h =
+      part_unseen q (record q { members = new }) n ns items ks (members_room q new u.room) (record { slots = h.0.slots; operands = h.0.operands; activations = h.0.activations; members = u.there })
+      (alike_same (cut n (contents_of q)) (cut n (contents_of (record q { members = new }))) items (ap (λ l. contents (take n.slots q.slots.items) (take n.operands q.operands.items) (take n.activations q.activations.items) l (fields_now q.fields)) (sym u.same))) h
+
+  pub slot_noted : (q : Parts S O A M F) (n : Base) (m : ℕ) (ns : List Base) (new : StackState S) (p : Place S) (stamp : ℕ) (items now : List (Item (Old S O A M F))) (ks : List K) → Led n.slots m q.slots new p → now ≡ noted (old.Slot p stamp) items → IsTrailOf q n ns items → IsNoted q (record q { slots = new }) n (record n { slots = m }) ns items now ks
+  slot_noted q n m ns new p stamp items now ks l is h =
+      part_changed q (record q { slots = new }) n (record n { slots = m }) ns (old.Slot p stamp) items now ks (slots_room q new l.room) (record { slots = l.less; operands = omega arith; activations = omega arith; members = omega arith; since = refl }) (record { slots = l.there; operands = h.0.operands; activations = h.0.activations; members = h.0.members }) l.fits
+      (ap (λ xs. contents xs (take n.operands q.operands.items) (take n.activations q.activations.items) (take n.members q.members.items) (fields_now q.fields)) l.undone) is h
+
+  pub operand_noted : (q : Parts S O A M F) (n : Base) (m : ℕ) (ns : List Base) (new : StackState O) (p : Place O) (stamp : ℕ) (items now : List (Item (Old S O A M F))) (ks : List K) → Led n.operands m q.operands new p → now ≡ noted (old.Operand p stamp) items → IsTrailOf q n ns items → IsNoted q (record q { operands = new }) n (record n { operands = m }) ns items now ks
+  operand_noted q n m ns new p stamp items now ks l is h =
+      part_changed q (record q { operands = new }) n (record n { operands = m }) ns (old.Operand p stamp) items now ks (operands_room q new l.room) (record { slots = omega arith; operands = l.less; activations = omega arith; members = omega arith; since = refl }) (record { slots = h.0.slots; operands = l.there; activations = h.0.activations; members = h.0.members }) l.fits
+      (ap (λ xs. contents (take n.slots q.slots.items) xs (take n.activations q.activations.items) (take n.members q.members.items) (fields_now q.fields)) l.undone) is h
+
+  pub activation_noted : (q : Parts S O A M F) (n : Base) (m : ℕ) (ns : List Base) (new : StackState A) (p : Place A) (items now : List (Item (Old S O A M F))) (ks : List K) → Led n.activations m q.activations new p → now ≡ noted (old.Activation p) items → IsTrailOf q n ns items → IsNoted q (record q { activations = new }) n (record n { activations = m }) ns items now ks
+  activation_noted q n m ns new p items now ks l is h =
+      part_changed q (record q { activations = new }) n (record n { activations = m }) ns (old.Activation p) items now ks (activations_room q new l.room) (record { slots = omega arith; operands = omega arith; activations = l.less; members = omega arith; since = refl }) (record { slots = h.0.slots; operands = h.0.operands; activations = l.there; members = h.0.members }) l.fits
+      (ap (λ xs. contents (take n.slots q.slots.items) (take n.operands q.operands.items) xs (take n.members q.members.items) (fields_now q.fields)) l.undone) is h
+
+  pub member_noted : (q : Parts S O A M F) (n : Base) (m : ℕ) (ns : List Base) (new : StackState M) (p : Place M) (items now : List (Item (Old S O A M F))) (ks : List K) → Led n.members m q.members new p → now ≡ noted (old.Member p) items → IsTrailOf q n ns items → IsNoted q (record q { members = new }) n (record n { members = m }) ns items now ks
+  member_noted q n m ns new p items now ks l is h =
+      part_changed q (record q { members = new }) n (record n { members = m }) ns (old.Member p) items now ks (members_room q new l.room) (record { slots = omega arith; operands = omega arith; activations = omega arith; members = l.less; since = refl }) (record { slots = h.0.slots; operands = h.0.operands; activations = h.0.activations; members = l.there }) l.fits
+      (ap (λ xs. contents (take n.slots q.slots.items) (take n.operands q.operands.items) (take n.activations q.activations.items) xs (fields_now q.fields)) l.undone) is h
+
+  -- one that is noted already is another now
+  pub slot_again : (q : Parts S O A M F) (n : Base) (at : ℕ) (value : S) (ns : List Base) (new : StackState S) (items : List (Item (Old S O A M F))) (ks : List K) → at < n.slots → is_noted slot_stamp at items ≡ true → new.items ≡ set q.slots.items at value → new.room ≡ q.slots.room → IsTrailOf q n ns items → IsNoted q (record q { slots = new }) n n ns items items ks
+  slot_again q n at value ns new items ks low there is room h =
+      let long : n.slots ≤ length q.slots.items = h.0.slots in
+      let again : Similar (λ p. is_noted slot_stamp p items) (take n.slots q.slots.items) (take n.slots new.items) =
+      subst (Similar (λ p. is_noted slot_stamp p items) (take n.slots q.slots.items)) (sym (ap (take n.slots) is ∙ take-set-lt n.slots q.slots.items at value low))
+      (similar_set (λ p. is_noted slot_stamp p items) (take n.slots q.slots.items) at value (omega (arith, low, length-take-le n.slots q.slots.items long)) there) in
+      part_unseen q (record q { slots = new }) n ns items ks (slots_room q new room) (record { slots = omega (arith, long, ap length is, length-set q.slots.items at value); operands = h.0.operands; activations = h.0.activations; members = h.0.members })
+      (record { slots = again; operands = similar_same (λ p. is_noted operand_stamp p items) (take n.operands q.operands.items) (take n.operands q.operands.items) refl; activations = refl; members = refl; fields = refl }) h
+
+  -- one that is noted already is another now
+  pub operand_again : (q : Parts S O A M F) (n : Base) (at : ℕ) (value : O) (ns : List Base) (new : StackState O) (items : List (Item (Old S O A M F))) (ks : List K) → at < n.operands → is_noted operand_stamp at items ≡ true → new.items ≡ set q.operands.items at value → new.room ≡ q.operands.room → IsTrailOf q n ns items → IsNoted q (record q { operands = new }) n n ns items items ks
+  operand_again q n at value ns new items ks low there is room h =
+      let long : n.operands ≤ length q.operands.items = h.0.operands in
+      let again : Similar (λ p. is_noted operand_stamp p items) (take n.operands q.operands.items) (take n.operands new.items) =
+      subst (Similar (λ p. is_noted operand_stamp p items) (take n.operands q.operands.items)) (sym (ap (take n.operands) is ∙ take-set-lt n.operands q.operands.items at value low))
+      (similar_set (λ p. is_noted operand_stamp p items) (take n.operands q.operands.items) at value (omega (arith, low, length-take-le n.operands q.operands.items long)) there) in
+      part_unseen q (record q { operands = new }) n ns items ks (operands_room q new room) (record { slots = h.0.slots; operands = omega (arith, long, ap length is, length-set q.operands.items at value); activations = h.0.activations; members = h.0.members })
+      (record { slots = similar_same (λ p. is_noted slot_stamp p items) (take n.slots q.slots.items) (take n.slots q.slots.items) refl; operands = again; activations = refl; members = refl; fields = refl }) h
 
   -- where nothing is kept nothing needs a note
   pub unkept_base : (q : Parts S O A M F) (n : Base) (ns : List Base) (items : List (Item (Old S O A M F))) (ks : List K) → length (kept_contents q n ns items ks) ≡ 0 → mark_count items ≡ length ks → IsTrailOf q n ns items → n ≡ nowhere
   unkept_base q n ns items ks none counted h =
       unmarked_base undone cut Reaches (FitsIn q) n (cut n (contents_of q)) items ns h.1 (sym (kept_counted undone cut (cut n (contents_of q)) items ns ks counted) ∙ none)
 
-  pub activation_changed : (q : Parts S O A M F) (n : Base) (ns : List Base) (new : StackState A) (p : Place A) (items now : List (Item (Old S O A M F))) (ks : List K) → LeadsBack A q.activations new p → now ≡ noted (old.Activation p) items → IsTrailOf q n ns items → IsNoted q (record q { activations = new }) n n ns items now ks
-  activation_changed q n ns new p items now ks back is h =
-      part_changed q (record q { activations = new }) n n ns (old.Activation p) items now ks (record { slots = omega arith; operands = omega arith; activations = omega (arith, back.room); members = omega arith; fields = λ k there. there }) (omega arith, omega arith) h.0 back.fits
-      (ap (λ l. contents (take n.slots q.slots.items) (take n.operands q.operands.items) l q.members.items (fields_now q.fields)) back.undone) is h
-
-  pub member_changed : (q : Parts S O A M F) (n : Base) (ns : List Base) (new : StackState M) (p : Place M) (items now : List (Item (Old S O A M F))) (ks : List K) → LeadsBack M q.members new p → now ≡ noted (old.Member p) items → IsTrailOf q n ns items → IsNoted q (record q { members = new }) n n ns items now ks
-  member_changed q n ns new p items now ks back is h =
-      part_changed q (record q { members = new }) n n ns (old.Member p) items now ks (record { slots = omega arith; operands = omega arith; activations = omega arith; members = omega (arith, back.room); fields = λ k there. there }) (omega arith, omega arith) h.0 back.fits
-      (ap (λ l. contents (take n.slots q.slots.items) (take n.operands q.operands.items) q.activations.items l (fields_now q.fields)) back.undone) is h
-
   pub field_changed : (q : Parts S O A M F) (n : Base) (ns : List Base) (new : FieldState F) (p : Field F) (items now : List (Item (Old S O A M F))) (ks : List K) → LeadsFieldsBack q.fields new p → now ≡ noted (old.Field p) items → IsTrailOf q n ns items → IsNoted q (record q { fields = new }) n n ns items now ks
   field_changed q n ns new p items now ks back is h =
-      part_changed q (record q { fields = new }) n n ns (old.Field p) items now ks (record { slots = omega arith; operands = omega arith; activations = omega arith; members = omega arith; fields = λ k there. subst (λ r. IsTrue (set.contains r k)) (sym back.room) there }) (omega arith, omega arith) h.0 back.fits
-      (ap (λ l. contents (take n.slots q.slots.items) (take n.operands q.operands.items) q.activations.items q.members.items l) back.undone) is h
+      part_changed q (record q { fields = new }) n n ns (old.Field p) items now ks (record { slots = omega arith; operands = omega arith; activations = omega arith; members = omega arith; fields = λ k there. subst (λ r. IsTrue (set.contains r k)) (sym back.room) there })
+      (record { slots = omega arith; operands = omega arith; activations = omega arith; members = omega arith; since = refl }) (record { slots = h.0.slots; operands = h.0.operands; activations = h.0.activations; members = h.0.members }) back.fits
+      (ap (λ l. contents (take n.slots q.slots.items) (take n.operands q.operands.items) (take n.activations q.activations.items) (take n.members q.members.items) l) back.undone) is h
 
   -- after the latest entry was put back into q, which makes r, the rest of the trail leads on
   pub record StepBack (q r : Parts S O A M F) (n : Base) (ns : List Base) (items rest : List (Item (Old S O A M F))) (ks : List K) : Type 0 where
@@ -266,14 +323,19 @@ module _ {S O A M F K : Type 0} where
     pub undoable : IsUndoable undone cut Reaches (FitsIn r) n (contents_of r) items ns
     pub kept : kept_of undone cut (contents_of r) items ns ks ≡ kept_contents q n ns items ks
 
-  -- once the slots and operands of which nothing is noted were cut off
-  pub step_begun : (q : Parts S O A M F) (n : Base) (ns : List Base) (slots : StackState S) (operands : StackState O) (items : List (Item (Old S O A M F))) (ks : List K) → slots.items ≡ take n.slots q.slots.items → slots.room ≡ q.slots.room →
-      operands.items ≡ take n.operands q.operands.items → operands.room ≡ q.operands.room → IsTrailOf q n ns items → StepBegun q (record q { slots = slots; operands = operands }) n ns items ks
-  step_begun q n ns slots operands items ks s s_room o o_room h =
-      let r = record q { slots = slots; operands = operands } in
-      let same : contents_of r ≡ cut n (contents_of q) = ap (λ l. contents l operands.items q.activations.items q.members.items (fields_now q.fields)) s ∙ ap (λ l. contents (take n.slots q.slots.items) l q.activations.items q.members.items (fields_now q.fields)) o in
+  -- once what came later was cut off
+  pub step_begun : (q : Parts S O A M F) (n : Base) (ns : List Base) (slots : StackState S) (operands : StackState O) (activations : StackState A) (members : StackState M) (items : List (Item (Old S O A M F))) (ks : List K) → slots.items ≡ take n.slots q.slots.items → slots.room ≡ q.slots.room →
+      operands.items ≡ take n.operands q.operands.items → operands.room ≡ q.operands.room → activations.items ≡ take n.activations q.activations.items → activations.room ≡ q.activations.room → members.items ≡ take n.members q.members.items → members.room ≡ q.members.room →
+      IsTrailOf q n ns items → StepBegun q (record q { slots = slots; operands = operands; activations = activations; members = members }) n ns items ks
+  step_begun q n ns slots operands activations members items ks s s_room o o_room a a_room m m_room h =
+      let r = record q { slots = slots; operands = operands; activations = activations; members = members } in
+      let same : contents_of r ≡ cut n (contents_of q) =
+      ap (λ l. contents l operands.items activations.items members.items (fields_now q.fields)) s
+      ∙ ap (λ l. contents (take n.slots q.slots.items) l activations.items members.items (fields_now q.fields)) o
+      ∙ ap (λ l. contents (take n.slots q.slots.items) (take n.operands q.operands.items) l members.items (fields_now q.fields)) a
+      ∙ ap (λ l. contents (take n.slots q.slots.items) (take n.operands q.operands.items) (take n.activations q.activations.items) l (fields_now q.fields)) m in
       record {
-        undoable = subst (λ c. IsUndoable undone cut Reaches (FitsIn r) n c items ns) (sym same) (undoable_still undone cut Reaches (FitsIn q) (FitsIn r) n (cut n (contents_of q)) items ns (still_fits q r (record { slots = omega (arith, s_room); operands = omega (arith, o_room); activations = omega arith; members = omega arith; fields = λ k there. there })) h.1);
+        undoable = subst (λ c. IsUndoable undone cut Reaches (FitsIn r) n c items ns) (sym same) (undoable_still undone cut Reaches (FitsIn q) (FitsIn r) n (cut n (contents_of q)) items ns (still_fits q r (record { slots = omega (arith, s_room); operands = omega (arith, o_room); activations = omega (arith, a_room); members = omega (arith, m_room); fields = λ k there. there })) h.1);
         kept = ap (λ c. kept_of undone cut c items ns ks) same;
       }
 
@@ -307,52 +369,173 @@ one_less xs n m h less =
     let long : length (take n xs) - 1 ≡ m = omega (arith, length-take-le n xs h, less) in
     ap (λ k. take k (take n xs)) long ∙ take-take m n xs (omega (arith, less))
 
+-- what isn't needed at a place below the older base wasn't taken off, and the older copy has a note for it
+unneeded_by : (a b c : Bool) (latest older since at stamp : ℕ) → nat_lt at older ≡ a → nat_le latest at ≡ b → nat_lt stamp since ≡ c → (a && (b || c)) ≡ false → at < older → (at < latest) × (since ≤ stamp)
+unneeded_by false b c latest older since at stamp low past new off under = absurd (omega (arith, under, ltb-false at older low))
+unneeded_by true true c latest older since at stamp low past new off under = absurd (true≢false off)
+unneeded_by true false true latest older since at stamp low past new off under = absurd (true≢false off)
+unneeded_by true false false latest older since at stamp low past new off under = (leb-false latest at past, ltb-false stamp since new)
+
+unneeded : (latest older since at stamp : ℕ) → is_needed_at latest older since at stamp ≡ false → at < older → (at < latest) × (since ≤ stamp)
+unneeded latest older since at stamp off under = unneeded_by (nat_lt at older) (nat_le latest at) (nat_lt stamp since) latest older since at stamp refl refl refl off under
+
+-- what is needed is at a place below the older base
+needed_low_by : (a b : Bool) (older at : ℕ) → nat_lt at older ≡ a → (a && b) ≡ true → at < older
+needed_low_by true b older at low is = ltb-true at older low
+needed_low_by false b older at low is = absurd (true≢false (sym is))
+
+needed_low : (latest older since at stamp : ℕ) → is_needed_at latest older since at stamp ≡ true → at < older
+needed_low latest older since at stamp is = needed_low_by (nat_lt at older) (nat_le latest at || nat_lt stamp since) older at refl is
+
+-- the stamp at a place is that of an entry at this place
+stamp_there : (b : Bool) (p at stamp k : ℕ) → eqb p at ≡ b → cond b (Some stamp) None ≡ Some k → (p ≡ at) × (stamp ≡ k)
+stamp_there true p at stamp k is there = (eqb-true p at is, some_same stamp k there)
+stamp_there false p at stamp k is there = absurd (none-some k there)
+
+drops_there : (latest older since p at stamp k : ℕ) → cond (eqb p at) (Some stamp) None ≡ Some k → is_needed_at latest older since p stamp ≡ false → at < older → since ≤ k
+drops_there latest older since p at stamp k there off low =
+    let same = stamp_there (eqb p at) p at stamp k refl there in
+    omega (arith, same.1, (unneeded latest older since p stamp off (omega (arith, same.0, low))).1)
+
 module _ {S O A M F : Type 0} where
-  passes : (q : Parts S O A M F) (k : Base) (d : Contents S O A M F) (e : Old S O A M F) → needed k e ≡ true → FitsIn q d e → FitsIn q (cut k d) e × (undone (cut k d) e ≡ cut k (undone d e))
-  passes q k d (old.Slot p) is h =
+  passes : (q : Parts S O A M F) (b : Bases) (d : Contents S O A M F) (e : Old S O A M F) → needed b e ≡ true → FitsIn q d e → FitsIn q (cut b.older d) e × (undone (cut b.older d) e ≡ cut b.older (undone d e))
+  passes q b d (old.Slot p stamp) is h =
+      let k = b.older in
+      let low : p.at < k.slots = needed_low b.latest.slots k.slots k.since p.at stamp is in
+      (record { inside = h.inside; near = omega (arith, low, h.near, length-take k.slots d.slots) }, ap (λ l. contents l (take k.operands d.operands) (take k.activations d.activations) (take k.members d.members) d.fields) (over_placed k.slots p.at p.content d.slots low h.near))
+  passes q b d (old.Operand p stamp) is h =
+      let k = b.older in
+      let low : p.at < k.operands = needed_low b.latest.operands k.operands k.since p.at stamp is in
+      (record { inside = h.inside; near = omega (arith, low, h.near, length-take k.operands d.operands) }, ap (λ l. contents (take k.slots d.slots) l (take k.activations d.activations) (take k.members d.members) d.fields) (over_placed k.operands p.at p.content d.operands low h.near))
+  passes q b d (old.Activation p) is h =
+      let k = b.older in
+      let low : p.at < k.activations = ltb-true p.at k.activations is in
+      (record { inside = h.inside; near = omega (arith, low, h.near, length-take k.activations d.activations) }, ap (λ l. contents (take k.slots d.slots) (take k.operands d.operands) l (take k.members d.members) d.fields) (over_placed k.activations p.at p.content d.activations low h.near))
+  passes q b d (old.Member p) is h =
+      let k = b.older in
+      let low : p.at < k.members = ltb-true p.at k.members is in
+      (record { inside = h.inside; near = omega (arith, low, h.near, length-take k.members d.members) }, ap (λ l. contents (take k.slots d.slots) (take k.operands d.operands) (take k.activations d.activations) l d.fields) (over_placed k.members p.at p.content d.members low h.near))
+  passes q b d (old.Field p) is h = (h, refl)
+
+  -- what is left puts something back where this entry would have
+  abbrev IsSparedBy : Base → Old S O A M F → List (Item (Old S O A M F)) → Type 0
+  IsSparedBy m e rest = IsSpared slot_stamp (λ b. b.slots) m e rest × IsSpared operand_stamp (λ b. b.operands) m e rest
+
+  other_slot : (q : Parts S O A M F) (b : Bases) (t : Bool) (c d : Contents S O A M F) (p : Place S) (stamp : ℕ) (rest : List (Item (Old S O A M F))) → ltb p.at b.older.slots ≡ t → is_needed_at b.latest.slots b.older.slots b.older.since p.at stamp ≡ false → IsSparedBy (lower b.latest b.older) (old.Slot p stamp) rest →
+      Reaches (lower b.latest b.older) c → Fits S c.slots q.slots.room p → Alike (cut b.older c) d rest → Similar (λ at. is_noted slot_stamp at rest) (take b.older.slots (placed c.slots p)) d.slots
+  other_slot q b true c d p stamp rest is off spared reach h a =
+      let k = b.older in
       let low : p.at < k.slots = ltb-true p.at k.slots is in
-      (record { inside = h.inside; near = over_near k.slots p.at p.content d.slots low h.near }, ap (λ l. contents l (take k.operands d.operands) d.activations d.members d.fields) (over_placed k.slots p.at p.content d.slots low h.near))
-  passes q k d (old.Operand p) is h =
+      let under : p.at < b.latest.slots = (unneeded b.latest.slots k.slots k.since p.at stamp off low).0 in
+      subst (λ l. Similar (λ at. is_noted slot_stamp at rest) l d.slots) (over_placed k.slots p.at p.content c.slots low h.near)
+      (similar_past (λ at. is_noted slot_stamp at rest) (take k.slots c.slots) d.slots p.at p.content (omega (arith, low, under, reach.slots, length-take k.slots c.slots)) (spared.0 p.at stamp (ap (λ t. cond t (Some stamp) None) (eq-eqb p.at p.at refl)) (omega (arith, low, under))) a.slots)
+  other_slot q b false c d p stamp rest is off spared reach h a =
+      subst (λ l. Similar (λ at. is_noted slot_stamp at rest) l d.slots) (sym (past_placed b.older.slots p.at p.content c.slots (ltb-false p.at b.older.slots is) h.near)) a.slots
+
+  other_operand : (q : Parts S O A M F) (b : Bases) (t : Bool) (c d : Contents S O A M F) (p : Place O) (stamp : ℕ) (rest : List (Item (Old S O A M F))) → ltb p.at b.older.operands ≡ t → is_needed_at b.latest.operands b.older.operands b.older.since p.at stamp ≡ false → IsSparedBy (lower b.latest b.older) (old.Operand p stamp) rest →
+      Reaches (lower b.latest b.older) c → Fits O c.operands q.operands.room p → Alike (cut b.older c) d rest → Similar (λ at. is_noted operand_stamp at rest) (take b.older.operands (placed c.operands p)) d.operands
+  other_operand q b true c d p stamp rest is off spared reach h a =
+      let k = b.older in
       let low : p.at < k.operands = ltb-true p.at k.operands is in
-      (record { inside = h.inside; near = over_near k.operands p.at p.content d.operands low h.near }, ap (λ l. contents (take k.slots d.slots) l d.activations d.members d.fields) (over_placed k.operands p.at p.content d.operands low h.near))
-  passes q k d (old.Activation p) is h = (h, refl)
-  passes q k d (old.Member p) is h = (h, refl)
-  passes q k d (old.Field p) is h = (h, refl)
+      let under : p.at < b.latest.operands = (unneeded b.latest.operands k.operands k.since p.at stamp off low).0 in
+      subst (λ l. Similar (λ at. is_noted operand_stamp at rest) l d.operands) (over_placed k.operands p.at p.content c.operands low h.near)
+      (similar_past (λ at. is_noted operand_stamp at rest) (take k.operands c.operands) d.operands p.at p.content (omega (arith, low, under, reach.operands, length-take k.operands c.operands)) (spared.1 p.at stamp (ap (λ t. cond t (Some stamp) None) (eq-eqb p.at p.at refl)) (omega (arith, low, under))) a.operands)
+  other_operand q b false c d p stamp rest is off spared reach h a =
+      subst (λ l. Similar (λ at. is_noted operand_stamp at rest) l d.operands) (sym (past_placed b.older.operands p.at p.content c.operands (ltb-false p.at b.older.operands is) h.near)) a.operands
 
-  others : (q : Parts S O A M F) (k : Base) (d : Contents S O A M F) (e : Old S O A M F) → needed k e ≡ false → FitsIn q d e → cut k (undone d e) ≡ cut k d
-  others q k d (old.Slot p) is h = ap (λ l. contents l (take k.operands d.operands) d.activations d.members d.fields) (past_placed k.slots p.at p.content d.slots (ltb-false p.at k.slots is) h.near)
-  others q k d (old.Operand p) is h = ap (λ l. contents (take k.slots d.slots) l d.activations d.members d.fields) (past_placed k.operands p.at p.content d.operands (ltb-false p.at k.operands is) h.near)
-  others q k d (old.Activation p) is h = absurd (true≢false is)
-  others q k d (old.Member p) is h = absurd (true≢false is)
-  others q k d (old.Field p) is h = absurd (true≢false is)
+  others : (q : Parts S O A M F) (b : Bases) (c d : Contents S O A M F) (e : Old S O A M F) (rest : List (Item (Old S O A M F))) → needed b e ≡ false → IsSparedBy (lower b.latest b.older) e rest → Reaches (lower b.latest b.older) c → FitsIn q c e → Alike (cut b.older c) d rest → Alike (cut b.older (undone c e)) d rest
+  others q b c d (old.Slot p stamp) rest off spared reach h a = record { slots = other_slot q b (ltb p.at b.older.slots) c d p stamp rest refl off spared reach h a; operands = a.operands; activations = a.activations; members = a.members; fields = a.fields }
+  others q b c d (old.Operand p stamp) rest off spared reach h a = record { slots = a.slots; operands = other_operand q b (ltb p.at b.older.operands) c d p stamp rest refl off spared reach h a; activations = a.activations; members = a.members; fields = a.fields }
+  others q b c d (old.Activation p) rest off spared reach h a =
+      record { slots = a.slots; operands = a.operands; activations = past_placed b.older.activations p.at p.content c.activations (ltb-false p.at b.older.activations off) h.near ∙ a.activations; members = a.members; fields = a.fields }
+  others q b c d (old.Member p) rest off spared reach h a =
+      record { slots = a.slots; operands = a.operands; activations = a.activations; members = past_placed b.older.members p.at p.content c.members (ltb-false p.at b.older.members off) h.near ∙ a.members; fields = a.fields }
+  others q b c d (old.Field p) rest off spared reach h a = absurd (true≢false off)
 
-  serves : (q : Parts S O A M F) (k : Base) → Serves undone cut Reaches (FitsIn q) k (needed k)
-  serves q k = record {
-    passed = passes q k;
-    other = others q k;
-  }
+  grows : (q : Parts S O A M F) (m : Base) (c : Contents S O A M F) (e : Old S O A M F) → Reaches m c → FitsIn q c e → Reaches m (undone c e)
+  grows q m c (old.Slot p stamp) reach h = record { slots = omega (arith, reach.slots, h.near, placed_length c.slots p.at p.content); operands = reach.operands; activations = reach.activations; members = reach.members }
+  grows q m c (old.Operand p stamp) reach h = record { slots = reach.slots; operands = omega (arith, reach.operands, h.near, placed_length c.operands p.at p.content); activations = reach.activations; members = reach.members }
+  grows q m c (old.Activation p) reach h = record { slots = reach.slots; operands = reach.operands; activations = omega (arith, reach.activations, h.near, placed_length c.activations p.at p.content); members = reach.members }
+  grows q m c (old.Member p) reach h = record { slots = reach.slots; operands = reach.operands; activations = reach.activations; members = omega (arith, reach.members, h.near, placed_length c.members p.at p.content) }
+  grows q m c (old.Field p) reach h = record { slots = reach.slots; operands = reach.operands; activations = reach.activations; members = reach.members }
+
+  serves : (q : Parts S O A M F) (b : Bases) → Serves undone cut Reaches (FitsIn q) b.older (lower b.latest b.older) (needed b) (IsSparedBy (lower b.latest b.older)) Alike
+  serves q b = record { agrees = agrees q; passed = passes q b; other = others q b; grows = grows q (lower b.latest b.older) }
+
+  slot_drops : (b : Bases) (at : ℕ) → Drops {E = Old S O A M F} slot_stamp (λ n. n.slots) at b.older (needed b)
+  slot_drops b at (old.Slot p stamp) k is off low = drops_there b.latest.slots b.older.slots b.older.since p.at at stamp k is off low
+  slot_drops b at (old.Operand p stamp) k is off low = absurd (none-some k is)
+  slot_drops b at (old.Activation p) k is off low = absurd (none-some k is)
+  slot_drops b at (old.Member p) k is off low = absurd (none-some k is)
+  slot_drops b at (old.Field p) k is off low = absurd (none-some k is)
+
+  operand_drops : (b : Bases) (at : ℕ) → Drops {E = Old S O A M F} operand_stamp (λ n. n.operands) at b.older (needed b)
+  operand_drops b at (old.Slot p stamp) k is off low = absurd (none-some k is)
+  operand_drops b at (old.Operand p stamp) k is off low = drops_there b.latest.operands b.older.operands b.older.since p.at at stamp k is off low
+  operand_drops b at (old.Activation p) k is off low = absurd (none-some k is)
+  operand_drops b at (old.Member p) k is off low = absurd (none-some k is)
+  operand_drops b at (old.Field p) k is off low = absurd (none-some k is)
 
 module _ {S O A M F K : Type 0} where
   -- after the latest mark was forgotten, over the lower of its base and the older one
-  pub record IsForgotten (q : Parts S O A M F) (n m : Base) (ms ns : List Base) (items now : List (Item (Old S O A M F))) (k : K) (ks : List K) : Type 0 where
+  pub record IsForgotten (q : Parts S O A M F) (clock : ℕ) (slots operands : List ℕ) (n m : Base) (ms ns : List Base) (items now : List (Item (Old S O A M F))) (k : K) (ks : List K) : Type 0 where
     pub undoable : IsTrailOf q m ms now
     pub kept : kept_contents q m ms now ks ≡ drop 1 (kept_contents q n ns items (k ∷ ks))
     pub marks : suc (mark_count now) ≡ mark_count items
+    pub stamped : AreStamped clock m ms now slots operands
 
-  forgotten_there : (q : Parts S O A M F) (n : Base) (ns : List Base) (items now : List (Item (Old S O A M F))) (k : K) (ks : List K) → 0 < mark_count items → now ≡ forgotten (needed (base_of ns)) items → IsTrailOf q n ns items →
-      IsForgotten q n (lower n (base_of ns)) (drop 1 ns) ns items now k ks
-  forgotten_there q n ns items now k ks some is h =
-      let older = base_of ns in
-      let m = lower n older in
+  forgotten_there : (q : Parts S O A M F) (clock : ℕ) (slots operands : List ℕ) (n : Base) (ns : List Base) (items now : List (Item (Old S O A M F))) (k : K) (ks : List K) → 0 < mark_count items → now ≡ forgotten (needed (record { latest = n; older = base_of ns })) items → IsTrailOf q n ns items → AreStamped clock n ns items slots operands →
+      IsForgotten q clock slots operands n (lower n (base_of ns)) (drop 1 ns) ns items now k ks
+  forgotten_there q clock slots operands n ns items now k ks some is h stamped =
+      let b : Bases = record { latest = n; older = base_of ns } in
+      let m = lower n (base_of ns) in
       let c = contents_of q in
-      let same : cut m c ≡ cut older (cut n c) =
-      ap (λ l. contents l (take m.operands c.operands) c.activations c.members c.fields) (take_lower_by (ltb n.slots older.slots) n.slots older.slots c.slots refl)
-      ∙ ap (λ l. contents (take older.slots (take n.slots c.slots)) l c.activations c.members c.fields) (take_lower_by (ltb n.operands older.operands) n.operands older.operands c.operands refl) in
-      let done = forgot undone cut Reaches (FitsIn q) n m (cut n c) (cut m c) items now ns (needed older) k ks some (omega arith, omega arith) (serves q older) same is h.1 in
-      record { undoable = ((omega (arith, h.0.0), omega (arith, h.0.1)), done.undoable); kept = done.kept; marks = done.marks }
+      let older = base_of ns in
+      let same : cut older (cut n c) ≡ cut m c = sym (
+      ap (λ l. contents l (take m.operands c.operands) (take m.activations c.activations) (take m.members c.members) c.fields) (take_lower n.slots older.slots c.slots)
+      ∙ ap (λ l. contents (take older.slots (take n.slots c.slots)) l (take m.activations c.activations) (take m.members c.members) c.fields) (take_lower n.operands older.operands c.operands)
+      ∙ ap (λ l. contents (take older.slots (take n.slots c.slots)) (take older.operands (take n.operands c.operands)) l (take m.members c.members) c.fields) (take_lower n.activations older.activations c.activations)
+      ∙ ap (λ l. contents (take older.slots (take n.slots c.slots)) (take older.operands (take n.operands c.operands)) (take older.activations (take n.activations c.activations)) l c.fields) (take_lower n.members older.members c.members)
+      ) in
+      let done = forgot undone cut Reaches (FitsIn q) n m (cut n c) (cut m c) items now ns (needed b) (IsSparedBy m) Alike k ks some
+      (record { slots = omega arith; operands = omega arith; activations = omega arith; members = omega arith; since = refl }) (serves q b)
+      (λ more. both_spared (needed b) (IsSpared slot_stamp (λ b. b.slots) m) (IsSpared operand_stamp (λ b. b.operands) m) items
+      (spares slot_stamp (λ b. b.slots) clock items n m ns (needed b) (λ at. get_or slots at 0) more (omega arith) (slot_drops b) (λ at. stamped.0.tells at (get_or slots at 0) (λ low. omega arith)))
+      (spares operand_stamp (λ b. b.operands) clock items n m ns (needed b) (λ at. get_or operands at 0) more (omega arith) (operand_drops b) (λ at. stamped.1.tells at (get_or operands at 0) (λ low. omega arith))))
+      (record {
+        slots = omega (arith, h.0.slots, length-take-le n.slots c.slots);
+        operands = omega (arith, h.0.operands, length-take-le n.operands c.operands);
+        activations = omega (arith, h.0.activations, length-take-le n.activations c.activations);
+        members = omega (arith, h.0.members, length-take-le n.members c.members);
+      }) (alike_same (cut older (cut n c)) (cut m c) (without_mark (needed b) items) same) is h.1 in
+      record {
+        undoable = (record { slots = omega (arith, h.0.slots); operands = omega (arith, h.0.operands); activations = omega (arith, h.0.activations); members = omega (arith, h.0.members) }, done.undoable);
+        kept = done.kept;
+        marks = done.marks;
+        stamped = (
+          stamps_forgot slot_stamp (λ b. b.slots) clock items now n m ns (needed b) slots some is (omega arith) refl (λ at low under. omega (arith, low, under)) (slot_drops b) stamped.0,
+          stamps_forgot operand_stamp (λ b. b.operands) clock items now n m ns (needed b) operands some is (omega arith) refl (λ at low under. omega (arith, low, under)) (operand_drops b) stamped.1,
+        );
+      }
 
-  pub forgotten_part : (q : Parts S O A M F) (n m older : Base) (ms ns : List Base) (items now : List (Item (Old S O A M F))) (k : K) (ks : List K) → 0 < mark_count items → now ≡ forgotten (needed older) items → older ≡ base_of ns → ms ≡ drop 1 ns → m ≡ lower n older →
-      IsTrailOf q n ns items → IsForgotten q n m ms ns items now k ks
-  forgotten_part q n m older ms ns items now k ks some is base bases low h =
-      let there = forgotten_there q n ns items now k ks some (is ∙ ap (λ b. forgotten (needed b) items) base) h in
-      subst (λ b. IsForgotten q n b ms ns items now k ks) (sym (low ∙ ap (lower n) base)) (subst (λ b. IsForgotten q n (lower n (base_of ns)) b ns items now k ks) (sym bases) there)
+  pub forgotten_part : (q : Parts S O A M F) (clock : ℕ) (slots operands : List ℕ) (n m older : Base) (ms ns : List Base) (items now : List (Item (Old S O A M F))) (k : K) (ks : List K) → 0 < mark_count items → now ≡ forgotten (needed (record { latest = n; older = older })) items → older ≡ base_of ns → ms ≡ drop 1 ns → m ≡ lower n older →
+      IsTrailOf q n ns items → AreStamped clock n ns items slots operands → IsForgotten q clock slots operands n m ms ns items now k ks
+  forgotten_part q clock slots operands n m older ms ns items now k ks some is base bases low h stamped =
+      let there = forgotten_there q clock slots operands n ns items now k ks some (is ∙ ap (λ b. forgotten (needed (record { latest = n; older = b })) items) base) h stamped in
+      subst (λ b. IsForgotten q clock slots operands n b ms ns items now k ks) (sym (low ∙ ap (lower n) base)) (subst (λ b. IsForgotten q clock slots operands n (lower n (base_of ns)) b ns items now k ks) (sym bases) there)
+
+module _ {S O A M F : Type 0} where
+  -- the stamps after an entry was put back
+  pub slots_back : (e : Old S O A M F) (stamps now : List ℕ) (at : ℕ) → now ≡ slots_restamped stamps e → get_or now at 0 ≤ unwrap_or (slot_stamp e at) (get_or stamps at 0)
+  slots_back (old.Slot p stamp) stamps now at is = omega (arith, ap (λ l. get_or l at 0) is, set_read stamps p.at stamp at)
+  slots_back (old.Operand p stamp) stamps now at is = omega (arith, ap (λ l. get_or l at 0) is)
+  slots_back (old.Activation p) stamps now at is = omega (arith, ap (λ l. get_or l at 0) is)
+  slots_back (old.Member p) stamps now at is = omega (arith, ap (λ l. get_or l at 0) is)
+  slots_back (old.Field p) stamps now at is = omega (arith, ap (λ l. get_or l at 0) is)
+
+  pub operands_back : (e : Old S O A M F) (stamps now : List ℕ) (at : ℕ) → now ≡ operands_restamped stamps e → get_or now at 0 ≤ unwrap_or (operand_stamp e at) (get_or stamps at 0)
+  operands_back (old.Slot p stamp) stamps now at is = omega (arith, ap (λ l. get_or l at 0) is)
+  operands_back (old.Operand p stamp) stamps now at is = omega (arith, ap (λ l. get_or l at 0) is, set_read stamps p.at stamp at)
+  operands_back (old.Activation p) stamps now at is = omega (arith, ap (λ l. get_or l at 0) is)
+  operands_back (old.Member p) stamps now at is = omega (arith, ap (λ l. get_or l at 0) is)
+  operands_back (old.Field p) stamps now at is = omega (arith, ap (λ l. get_or l at 0) is)

@@ -8,7 +8,7 @@ use Rattle.setl_store_environment.specs.declared.environment.Base.{Base}
 
 -- where nothing is kept
 abbrev pub nowhere : Base
-nowhere = record { slots = 0; operands = 0 }
+nowhere = record { slots = 0; operands = 0; activations = 0; members = 0; since = 0 }
 
 -- the base of the latest mark
 abbrev pub base_of : List Base → Base

@@ -1,5 +1,5 @@
 -- What contracts see of a list whose memory is never given back.
-use Rattle.std.specs.Prelude.{◌≡◌, ℕ, suc, ◌+◌, ◌<◌, ◌≤◌, List, ◌∷◌, ◌++◌, Option, Some, None, length, take, drop, refl}
+use Rattle.std.specs.Prelude.{◌≡◌, ℕ, suc, ◌+◌, ◌<◌, ◌≤◌, List, ◌∷◌, ◌++◌, length, take, drop, refl}
 use Rattle.std.specs.Coded.{Coded, code_by, coded×, coded_ℕ, coded_list}
 use Rattle.setl_store_environment.specs.declared.stack.Place.{Place}
 
@@ -19,24 +19,18 @@ module _ {T : Type 0} where
       (λ p. record { items = p.0; room = p.1 })
       (λ _. refl)
 
-  -- the list with this content at a place; where it has none, the list ends there
-  abbrev pub placed_at : List T → ℕ → Option T → List T
-  placed_at xs at (Some x) = take at xs ++ x ∷ drop (suc at) xs
-  placed_at xs at None = take at xs
+  -- the list with this value at a place
+  abbrev pub placed_at : List T → ℕ → T → List T
+  placed_at xs at x = take at xs ++ x ∷ drop (suc at) xs
 
   -- the list after a place gets its content
   abbrev pub placed : List T → Place T → List T
   placed xs p = placed_at xs p.at p.content
 
-  -- a value may stand in the list or behind its last one, and only the last one may be taken off
-  abbrev pub IsNear : List T → ℕ → Option T → Type 0
-  IsNear xs at (Some x) = at ≤ length xs
-  IsNear xs at None = at + 1 ≡ length xs
-
--- the place may get its content: there is memory for it, and it stands in the list or next to its end
+-- the place may get its content: there is memory for it, and it stands in the list or behind its last value
 pub record Fits (T : Type 0) (xs : List T) (room : ℕ) (p : Place T) : Type 0 where
   pub inside : p.at < room
-  pub near : IsNear xs p.at p.content
+  pub near : p.at ≤ length xs
 
 -- this place leads from the new list back to the old one, in the same memory
 pub record LeadsBack (T : Type 0) (old new : StackState T) (p : Place T) : Type 0 where

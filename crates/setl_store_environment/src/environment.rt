@@ -1,14 +1,14 @@
 //! Slots, operands, activations, members of collections and fields of element blocks, with a trail: to keep them puts a
 //! mark on it, and each later change of what was kept notes what it replaced.
 
-ghost use Rattle.std.specs.Prelude.{◌≡◌, ◌+◌, ◌-◌, false, ◌<◌, ◌≤◌, [], ◌∷◌, ◌++◌, nat_lt, length, take, drop, reverse, Some, IfOk, IsOk, OnOk, OnErr, IfSome, IfNone, slice_get, slice_set};
+ghost use Rattle.std.specs.Prelude.{◌≡◌, ◌+◌, ◌-◌, false, ◌<◌, ◌≤◌, [], ◌∷◌, ◌++◌, nat_lt, length, take, drop, reverse, Some, IfOk, IsOk, OnOk, OnErr, IfSome, IfNone, ℕ, ◌&&◌, get_or, slice_get, slice_set};
 ghost use Rattle.setl_trail.specs.Trail.{mark_count};
 ghost use Rattle.std.specs.Prelude.{IsTrue, option_copied};
 ghost use Rattle.std.specs.FinSet as set;
 ghost use Rattle.std.specs.FinMap as map;
 ghost use Rattle.setl_store_environment.specs.Places.{with, no_fields, HasRoom};
 ghost use Rattle.setl_store_environment.specs.Kept.{base_of, noted};
-ghost use Rattle.setl_store_environment.specs.Undo.{undone, FitsIn, parts, contents_of, ready_of, lower, needed};
+ghost use Rattle.setl_store_environment.specs.Undo.{undone, FitsIn, parts, contents_of, ready_of, lower, needed, slots_restamped, operands_restamped};
 
 use crate::fields::{Field, put_field};
 use crate::stack::{Place, Stack};
@@ -18,32 +18,49 @@ use setl_trail::{Needed, Trail};
 use std::alloc::Global;
 use std::marker::Model;
 
-/// What a change replaced: one place of one of the four lists, or one field, with its old content.
+/// What a change replaced: one place of one of the four lists, or one field, with its old content. A slot and an operand
+/// come with the stamp that their place had.
 #[derive(Drop)]
 pub enum Old<S, O, A, M, F> {
-    Slot(Place<S>),
-    Operand(Place<O>),
+    Slot(Place<S>, u64),
+    Operand(Place<O>, u64),
     Activation(Place<A>),
     Member(Place<M>),
     Field(Field<F>),
 }
 
-/// How many of the lowest slots, and of the lowest operands.
+/// How many of the lowest values of each list a kept copy still has in common with what is there, but for those that are
+/// noted; and the copy's number.
 #[derive(Clone, Copy)]
 pub(crate) struct Base {
     pub(crate) slots: usize,
     pub(crate) operands: usize,
+    pub(crate) activations: usize,
+    pub(crate) members: usize,
+    pub(crate) since: u64,
 }
 
-impl<S, O, A, M, F> Needed<Base> for Old<S, O, A, M, F> {
+/// The base of the copy that is forgotten, and that of the one before it.
+#[derive(Clone, Copy)]
+pub(crate) struct Bases {
+    pub(crate) latest: Base,
+    pub(crate) older: Base,
+}
+
+impl<S, O, A, M, F> Needed<Bases> for Old<S, O, A, M, F> {
     ghost needed = { needed };
 
-    fn is_needed(&self, base: &Base) -> bool {
+    fn is_needed(&self, bases: &Bases) -> bool {
+        let Bases { latest, older } = bases;
         match self {
-            Old::Slot(place) => place.at < base.slots,
-            Old::Operand(place) => place.at < base.operands,
-            Old::Activation(_) => true,
-            Old::Member(_) => true,
+            Old::Slot(place, stamp) => {
+                place.at < older.slots && (latest.slots <= place.at || *stamp < older.since)
+            }
+            Old::Operand(place, stamp) => {
+                place.at < older.operands && (latest.operands <= place.at || *stamp < older.since)
+            }
+            Old::Activation(place) => place.at < older.activations,
+            Old::Member(place) => place.at < older.members,
             Old::Field(_) => true,
         }
     }
@@ -63,11 +80,17 @@ pub struct Environment<S, O, A, M, F, K> {
     members: Stack<M>,
     fields: Fields<F>,
     trail: Trail<Old<S, O, A, M, F>>,
-    // How many of the lowest slots and operands are as they were last kept, or have what they were in the trail. Those
-    // above came later, so nothing of them is noted; where nothing is kept both are 0.
+    // How many of the lowest values of each list are as they were last kept, or have what they were in the trail. Those
+    // above came later, so nothing of them is noted; where nothing is kept all numbers are 0.
     base: Base,
-    // The same numbers of each mark of the trail below the latest one, and below these 0.
+    // The same of each mark of the trail below the latest one, and below these 0.
     bases: Vec<Base>,
+    // By the place of a slot, and of an operand: the number of the copy under which it was last noted, and past the end
+    // and where it was never noted 0. Where that is not below `base.since`, the latest copy has a note of it.
+    slot_stamps: Vec<u64>,
+    operand_stamps: Vec<u64>,
+    // The number of the next copy, from 1 on.
+    clock: u64,
     // What was kept beside them, one record for each mark of the trail.
     records: Vec<K>,
 }
@@ -81,7 +104,7 @@ impl<S, O, A, M, F, K> Model for Environment<S, O, A, M, F, K> {
 
     ghost use Rattle.std.specs.Prelude.{◌≡◌, reverse, length};
     ghost use Rattle.setl_trail.specs.Trail.{mark_count};
-    ghost use Rattle.setl_store_environment.specs.Undo.{parts, contents_of, room_of, ready_of, kept_contents, IsTrailOf};
+    ghost use Rattle.setl_store_environment.specs.Undo.{parts, contents_of, room_of, ready_of, kept_contents, IsTrailOf, AreStamped};
 
     ghost view = { λ e. record {
       now = contents_of (parts e.slots e.operands e.activations e.members e.fields);
@@ -92,7 +115,8 @@ impl<S, O, A, M, F, K> Model for Environment<S, O, A, M, F, K> {
 
     ghost invariant = { λ e.
         IsTrailOf (parts e.slots e.operands e.activations e.members e.fields) e.base (reverse e.bases.items) e.trail.items
-        × (mark_count e.trail.items ≡ length e.records.items) };
+        × (mark_count e.trail.items ≡ length e.records.items)
+        × AreStamped e.clock e.base (reverse e.bases.items) e.trail.items e.slot_stamps.items e.operand_stamps.items };
 }
 
 impl<S: Drop, O: Drop, A: Drop, M: Drop, F: Drop, K: Drop> Environment<S, O, A, M, F, K> {
@@ -110,11 +134,11 @@ impl<S: Drop, O: Drop, A: Drop, M: Drop, F: Drop, K: Drop> Environment<S, O, A, 
             members: Stack::new(alloc)?,
             fields: Fields::new(alloc)?,
             trail: Trail::new(alloc)?,
-            base: Base {
-                slots: 0,
-                operands: 0,
-            },
+            base: NOWHERE,
             bases: Vec::with_capacity(alloc, 1)?,
+            slot_stamps: Vec::with_capacity(alloc, 1)?,
+            operand_stamps: Vec::with_capacity(alloc, 1)?,
+            clock: 1,
             records: Vec::with_capacity(alloc, 1)?,
         })
     }
@@ -179,15 +203,17 @@ impl<S: Drop, O: Drop, A: Drop, M: Drop, F: Drop, K: Drop> Environment<S, O, A, 
         ensures ready { self.old.ready ≤ self.new.ready + 1 }
         ensures room { self.new.room ≡ self.old.room }
     {
-        if at < self.base.slots {
+        if is_unnoted(&self.slot_stamps, at, self.base.slots, self.base.since) {
+            let stamp = stamp(&self.slot_stamps, at);
             let before = self.slots.set(at, value);
-            note(&mut self.trail, Old::Slot(before));
+            restamp(&mut self.slot_stamps, at, self.base.since);
+            note(&mut self.trail, Old::Slot(before, stamp));
         } else {
             self.slots.put(at, value);
         }
     }
 
-    /// Puts a value in the place of a slot, and gives what was there: a copy where that is kept, else moved out.
+    /// Puts a value in the place of a slot, and gives what was there: a copy where it is noted, else moved out.
     ///
     /// The error is want of memory, and then all is as before. Where nothing is kept, it takes none.
     pub fn replace_slot(&mut self, at: usize, value: S) -> Result<S, Memory>
@@ -203,7 +229,7 @@ impl<S: Drop, O: Drop, A: Drop, M: Drop, F: Drop, K: Drop> Environment<S, O, A, 
         ensures unkept { length self.old.kept ≡ 0 → IsOk result }
         ensures refused { OnErr result (self.new ≡ self.old) }
     {
-        if at < self.base.slots {
+        if is_unnoted(&self.slot_stamps, at, self.base.slots, self.base.since) {
             let before = self.slot(at).copied()?;
             self.set_slot(at, value);
             Ok(before)
@@ -263,9 +289,10 @@ impl<S: Drop, O: Drop, A: Drop, M: Drop, F: Drop, K: Drop> Environment<S, O, A, 
     {
         let last = self.slots.len() - 1;
         if last < self.base.slots {
+            let stamp = stamp(&self.slot_stamps, last);
             let before = self.slots.pop();
             self.base.slots = last;
-            note(&mut self.trail, Old::Slot(before));
+            note(&mut self.trail, Old::Slot(before, stamp));
         } else {
             self.slots.drop_last();
         }
@@ -315,15 +342,22 @@ impl<S: Drop, O: Drop, A: Drop, M: Drop, F: Drop, K: Drop> Environment<S, O, A, 
         ensures ready { self.old.ready ≤ self.new.ready + 1 }
         ensures room { self.new.room ≡ self.old.room }
     {
-        if at < self.base.operands {
+        if is_unnoted(
+            &self.operand_stamps,
+            at,
+            self.base.operands,
+            self.base.since,
+        ) {
+            let stamp = stamp(&self.operand_stamps, at);
             let before = self.operands.set(at, value);
-            note(&mut self.trail, Old::Operand(before));
+            restamp(&mut self.operand_stamps, at, self.base.since);
+            note(&mut self.trail, Old::Operand(before, stamp));
         } else {
             self.operands.put(at, value);
         }
     }
 
-    /// Puts a value in the place of an operand, and gives what was there: a copy where that is kept, else moved out.
+    /// Puts a value in the place of an operand, and gives what was there: a copy where it is noted, else moved out.
     ///
     /// The error is want of memory, and then all is as before. Where nothing is kept, it takes none.
     #[inline(always)]
@@ -340,7 +374,12 @@ impl<S: Drop, O: Drop, A: Drop, M: Drop, F: Drop, K: Drop> Environment<S, O, A, 
         ensures unkept { length self.old.kept ≡ 0 → IsOk result }
         ensures refused { OnErr result (self.new ≡ self.old) }
     {
-        if at < self.base.operands {
+        if is_unnoted(
+            &self.operand_stamps,
+            at,
+            self.base.operands,
+            self.base.since,
+        ) {
             let before = self.operand(at).copied()?;
             self.set_operand(at, value);
             Ok(before)
@@ -401,9 +440,10 @@ impl<S: Drop, O: Drop, A: Drop, M: Drop, F: Drop, K: Drop> Environment<S, O, A, 
     {
         let last = self.operands.len() - 1;
         if last < self.base.operands {
+            let stamp = stamp(&self.operand_stamps, last);
             let before = self.operands.pop();
             self.base.operands = last;
-            note(&mut self.trail, Old::Operand(before));
+            note(&mut self.trail, Old::Operand(before, stamp));
         } else {
             self.operands.drop_last();
         }
@@ -500,8 +540,7 @@ impl<S: Drop, O: Drop, A: Drop, M: Drop, F: Drop, K: Drop> Environment<S, O, A, 
         ensures ready { self.old.ready ≤ self.new.ready + 1 }
         ensures room { self.new.room ≡ record self.old.room { activations = self.old.room.activations - 1 } }
     {
-        let before = self.activations.push(value);
-        note(&mut self.trail, Old::Activation(before));
+        self.activations.add(value);
     }
 
     /// Drops the last activation. It takes no memory.
@@ -513,8 +552,14 @@ impl<S: Drop, O: Drop, A: Drop, M: Drop, F: Drop, K: Drop> Environment<S, O, A, 
         ensures ready { self.old.ready ≤ self.new.ready + 1 }
         ensures room { self.new.room ≡ record self.old.room { activations = self.old.room.activations + 1 } }
     {
-        let before = self.activations.pop();
-        note(&mut self.trail, Old::Activation(before));
+        let last = self.activations.len() - 1;
+        if last < self.base.activations {
+            let before = self.activations.pop();
+            self.base.activations = last;
+            note(&mut self.trail, Old::Activation(before));
+        } else {
+            self.activations.drop_last();
+        }
     }
 
     /// The number of members. It takes no memory.
@@ -550,8 +595,7 @@ impl<S: Drop, O: Drop, A: Drop, M: Drop, F: Drop, K: Drop> Environment<S, O, A, 
         ensures ready { self.old.ready ≤ self.new.ready + 1 }
         ensures room { self.new.room ≡ record self.old.room { members = self.old.room.members - 1 } }
     {
-        let before = self.members.push(value);
-        note(&mut self.trail, Old::Member(before));
+        self.members.add(value);
     }
 
     /// Copies of `count` members from the place `lowest` on, in their order.
@@ -590,8 +634,14 @@ impl<S: Drop, O: Drop, A: Drop, M: Drop, F: Drop, K: Drop> Environment<S, O, A, 
         ensures ready { self.old.ready ≤ self.new.ready + 1 }
         ensures room { self.new.room ≡ record self.old.room { members = self.old.room.members + 1 } }
     {
-        let before = self.members.pop();
-        note(&mut self.trail, Old::Member(before));
+        let last = self.members.len() - 1;
+        if last < self.base.members {
+            let before = self.members.pop();
+            self.base.members = last;
+            note(&mut self.trail, Old::Member(before));
+        } else {
+            self.members.drop_last();
+        }
     }
 
     /// Whether the bit of an object's field in a block is on. It takes no memory.
@@ -658,12 +708,19 @@ impl<S: Drop, O: Drop, A: Drop, M: Drop, F: Drop, K: Drop> Environment<S, O, A, 
         self.records.reserve(1)?;
         self.bases.reserve(1)?;
         self.trail.reserve(n)?;
+        let next = count_up(self.clock)?;
+        fill(&mut self.slot_stamps, self.slots.len())?;
+        fill(&mut self.operand_stamps, self.operands.len())?;
         self.trail.mark()?;
         self.bases.push_reserved(self.base);
         self.base = Base {
             slots: self.slots.len(),
             operands: self.operands.len(),
+            activations: self.activations.len(),
+            members: self.members.len(),
+            since: self.clock,
         };
+        self.clock = next;
         self.records.push_reserved(beside);
         Ok(())
     }
@@ -679,6 +736,8 @@ impl<S: Drop, O: Drop, A: Drop, M: Drop, F: Drop, K: Drop> Environment<S, O, A, 
         };
         self.slots.cut(self.base.slots);
         self.operands.cut(self.base.operands);
+        self.activations.cut(self.base.activations);
+        self.members.cut(self.base.members);
         while let Some(old) = self.trail.pop() {
             put_back(
                 &mut self.slots,
@@ -686,6 +745,8 @@ impl<S: Drop, O: Drop, A: Drop, M: Drop, F: Drop, K: Drop> Environment<S, O, A, 
                 &mut self.activations,
                 &mut self.members,
                 &mut self.fields,
+                &mut self.slot_stamps,
+                &mut self.operand_stamps,
                 old,
             );
         }
@@ -697,7 +758,7 @@ impl<S: Drop, O: Drop, A: Drop, M: Drop, F: Drop, K: Drop> Environment<S, O, A, 
     /// whether something was kept, and else all is as before.
     ///
     /// It takes no memory, and its work is in proportion to the notes since that copy. Of them, those stay on the trail
-    /// that the copy before needs, which are those that it would have if the forgotten one hadn't been kept.
+    /// that the copy before needs.
     pub fn forget(&mut self) -> bool
         ensures now { self.new.now ≡ self.old.now }
         ensures kept { self.new.kept ≡ drop 1 self.old.kept }
@@ -709,34 +770,86 @@ impl<S: Drop, O: Drop, A: Drop, M: Drop, F: Drop, K: Drop> Environment<S, O, A, 
             return false;
         };
         let older = pop_base(&mut self.bases);
-        self.trail.forget(&older);
+        self.trail.forget(&Bases {
+            latest: self.base,
+            older,
+        });
         self.base = lower(self.base, older);
         true
     }
 }
 
-// The lower of two bases, slots and operands each.
+// The base where nothing is kept.
+const NOWHERE: Base = Base {
+    slots: 0,
+    operands: 0,
+    activations: 0,
+    members: 0,
+    since: 0,
+};
+
+// The lower of two bases, each list by itself, with the number of the second one.
 fn lower(m: Base, n: Base) -> Base
     ensures { result ≡ lower m n }
 {
     Base {
         slots: m.slots.min(n.slots),
         operands: m.operands.min(n.operands),
+        activations: m.activations.min(n.activations),
+        members: m.members.min(n.members),
+        since: n.since,
     }
 }
 
-// Takes the last number off, and gives it; where there is none it is 0.
+// Takes the last base off, and gives it; where there is none it is that of nothing.
 fn pop_base(bases: &mut Vec<Base>) -> Base
     ensures base { result ≡ base_of (reverse bases.old.items) }
     ensures rest { reverse bases.new.items ≡ drop 1 (reverse bases.old.items) }
 {
     match bases.pop() {
         Some(base) => base,
-        None => Base {
-            slots: 0,
-            operands: 0,
-        },
+        None => NOWHERE,
     }
+}
+
+// The stamp of a place.
+fn stamp(stamps: &Vec<u64>, at: usize) -> u64
+    ensures { result ≡ get_or stamps.now.items at 0 }
+{
+    if at < stamps.len() { stamps[at] } else { 0 }
+}
+
+// Whether a place below the base `lowest` has no note since the copy of this number.
+fn is_unnoted(stamps: &Vec<u64>, at: usize, lowest: usize, since: u64) -> bool
+    ensures { result ≡ (nat_lt at lowest && nat_lt (get_or stamps.now.items at 0) since) }
+{
+    at < lowest && stamp(stamps, at) < since
+}
+
+// Gives a place a stamp, where there is memory for it.
+fn restamp(stamps: &mut Vec<u64>, at: usize, stamp: u64)
+    ensures { stamps.new.items ≡ slice_set stamps.old.items at stamp }
+{
+    if at < stamps.len() {
+        stamps[at] = stamp;
+    }
+}
+
+// The next number.
+fn count_up(clock: u64) -> Result<u64, Memory>
+    ensures { IfOk result (λ next. next ≡ clock + 1) }
+{
+    clock.checked_add(1).ok_or(Memory)
+}
+
+// Makes sure of memory for the stamps of the lowest `n` places.
+fn fill(stamps: &mut Vec<u64>, n: usize) -> Result<(), Memory>
+    ensures { (at : ℕ) → get_or stamps.new.items at 0 ≡ get_or stamps.old.items at 0 }
+{
+    while stamps.len() < n {
+        stamps.push(0)?;
+    }
+    Ok(())
 }
 
 // Puts back what a change replaced.
@@ -746,6 +859,8 @@ fn put_back<S: Drop, O: Drop, A: Drop, M: Drop, F: Drop>(
     activations: &mut Stack<A>,
     members: &mut Stack<M>,
     fields: &mut Fields<F>,
+    slot_stamps: &mut Vec<u64>,
+    operand_stamps: &mut Vec<u64>,
     old: Old<S, O, A, M, F>,
 )
     requires { FitsIn (parts slots.old operands.old activations.old members.old fields.old) (contents_of (parts slots.old operands.old activations.old members.old fields.old)) old }
@@ -755,10 +870,18 @@ fn put_back<S: Drop, O: Drop, A: Drop, M: Drop, F: Drop>(
     ensures activations { activations.new.room ≡ activations.old.room }
     ensures members { members.new.room ≡ members.old.room }
     ensures fields { fields.new.room ≡ fields.old.room }
+    ensures slot_stamps { slot_stamps.new.items ≡ slots_restamped slot_stamps.old.items old }
+    ensures operand_stamps { operand_stamps.new.items ≡ operands_restamped operand_stamps.old.items old }
 {
     match old {
-        Old::Slot(place) => slots.place(place),
-        Old::Operand(place) => operands.place(place),
+        Old::Slot(place, stamp) => {
+            restamp(slot_stamps, place.at, stamp);
+            slots.place(place);
+        }
+        Old::Operand(place, stamp) => {
+            restamp(operand_stamps, place.at, stamp);
+            operands.place(place);
+        }
         Old::Activation(place) => activations.place(place),
         Old::Member(place) => members.place(place),
         Old::Field(field) => {

@@ -9,11 +9,11 @@ use std::alloc::Global;
 use std::marker::Model;
 use std::mem;
 
-/// A place of a list with its content: none where the list ends below the place.
+/// A place of a list with its content.
 #[derive(Drop)]
 pub struct Place<T> {
     pub at: usize,
-    pub content: Option<T>,
+    pub content: T,
 }
 
 /// A list whose memory is never given back.
@@ -81,11 +81,8 @@ impl<T> Stack<T> {
         ensures back { LeadsBack T self.old self.new result }
         ensures at { result.at ≡ at }
     {
-        let before = replaced(&mut self.items, at, value);
-        Place {
-            at,
-            content: Some(before),
-        }
+        let content = replaced(&mut self.items, at, value);
+        Place { at, content }
     }
 
     /// Puts a value in the place of another, and gives that. It takes no memory.
@@ -97,18 +94,6 @@ impl<T> Stack<T> {
         ensures room { self.new.room ≡ self.old.room }
     {
         replaced(&mut self.items, at, value)
-    }
-
-    /// Adds a value at the end, where there is room. Its answer leads back. It takes no memory.
-    #[inline(always)]
-    pub fn push(&mut self, value: T) -> Place<T>
-        requires { length self.old.items < self.old.room }
-        ensures pushed { self.new.items ≡ self.old.items ++ value ∷ [] }
-        ensures back { LeadsBack T self.old self.new result }
-    {
-        let at = self.items.len();
-        self.items.push_reserved(value);
-        Place { at, content: None }
     }
 
     /// Adds a value at the end, where there is room. It takes no memory.
@@ -129,10 +114,10 @@ impl<T> Stack<T> {
         ensures back { LeadsBack T self.old self.new result }
         ensures at { result.at ≡ length self.new.items }
     {
-        let last = self.items.take_last();
+        let content = self.items.take_last();
         Place {
             at: self.items.len(),
-            content: Some(last),
+            content,
         }
     }
 
@@ -199,11 +184,7 @@ impl<T: Drop> Stack<T> {
         ensures placed { self.new.items ≡ placed self.old.items p }
         ensures room { self.new.room ≡ self.old.room }
     {
-        let Place { at, content } = p;
-        match content {
-            None => self.items.truncate(at),
-            Some(value) => put(&mut self.items, at, value),
-        }
+        put(&mut self.items, p.at, p.content);
     }
 }
 

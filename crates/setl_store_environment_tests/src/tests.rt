@@ -64,6 +64,24 @@ back: 21 | 1 2 3 | 1 2 | 1 2 | 2
 field: false | 1 2 3 | 1 2 | 1 2 | 2
 forget: false | 1 2 3 | 1 2 | 1 2 | 2";
 
+// Two turns of keep, set and forget under an older copy; then one that takes off what was set.
+const TURNS: &str = "keep 21: | 1 2 3 | 1 2 | 1 2 | 2
+set: | 11 2 3 | 12 2 | 1 2 | 2
+keep 22: | 11 2 3 | 12 2 | 1 2 | 2
+set: | 11 2 3 | 12 2 | 1 2 | 2
+forget: true | 11 2 3 | 12 2 | 1 2 | 2
+keep 22: | 11 2 3 | 12 2 | 1 2 | 2
+set: | 11 2 3 | 12 2 | 1 2 | 2
+forget: true | 11 2 3 | 12 2 | 1 2 | 2
+keep 22: | 11 2 3 | 12 2 | 1 2 | 2
+cut: | | | 1 2 | 0
+add 6: | 6 | 6 | 1 2 6 | 1
+keep 23: | 6 | 6 | 1 2 6 | 1
+set: | 11 | 12 | 1 2 6 | 1
+back: 23 | 6 | 6 | 1 2 6 | 1
+forget: true | 6 | 6 | 1 2 6 | 1
+back: 21 | 1 2 3 | 1 2 | 1 2 | 2";
+
 // A slot, an operand, an activation and a member more, with this number.
 fn add(env: &mut Env, n: u64) -> Result<(), Memory> {
     env.reserve(4)?;
@@ -320,4 +338,9 @@ fn back_puts_a_field_back(rt: HostRuntime) -> Result<(), Fail> {
 #[test]
 fn back_goes_past_what_was_forgotten(rt: HostRuntime) -> Result<(), Fail> {
     run(&rt, rt.alloc(), [FILLED, FORGOTTEN, UNKEPT])
+}
+
+#[test]
+fn back_goes_past_many_turns(rt: HostRuntime) -> Result<(), Fail> {
+    run(&rt, rt.alloc(), [FILLED, TURNS, UNKEPT])
 }

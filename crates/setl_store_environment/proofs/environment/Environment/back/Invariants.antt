@@ -2,6 +2,7 @@ use Rattle.std.proofs.Common.{◌≡◌, suc, ◌∷◌, length, reverse}
 use Rattle.setl_trail.specs.Trail.{mark_count}
 use Rattle.setl_store_environment.specs.Kept.{IsUndoable, kept_of}
 use Rattle.setl_store_environment.specs.Undo.{parts, contents_of, undone, cut, Reaches, FitsIn}
+use Rattle.setl_store_environment.proofs.Stamping.{StampsLeadOn}
 use Rattle.setl_store_environment.proofs.environment.Environment.back.Given as goal
 
 -- the entries left lead to what was kept, and the mark of the record that was taken off is among the items
@@ -13,6 +14,7 @@ invariant-loop-old g l =
       undoable : IsUndoable undone cut Reaches (FitsIn q) e.base (contents_of q) e.trail.items (reverse e.bases.items);
       marks : mark_count e.trail.items ≡ suc (length e.records.items);
       kept : kept_of undone cut (contents_of q) e.trail.items (reverse e.bases.items) (l.beside ∷ reverse e.records.items) ≡ l.fn.self.kept;
+      stamps : StampsLeadOn e.clock e.base (reverse e.bases.items) e.trail.items e.slot_stamps.items e.operand_stamps.items;
     }
 
 abbrev pub decreases-loop-old : goal.decreases-loop-old

@@ -26,18 +26,18 @@ returns-in_default-clause-some g c =
     let q = parts t.slots t.operands t.activations t.members t.fields in
     sym (ap (λ l. nat_lt 0 (length l)) (sym (ap (λ e. e.kept) c.self.view_is) ∙ ap (λ ks. kept_contents q t.base (reverse t.bases.items) t.trail.items (reverse ks)) before ∙ none_kept undone cut _ (cut t.base (contents_of q)) t.trail.items (reverse t.bases.items)))
 
-here : (g : _) (c : After-drop-beside g) → IsForgotten (parts c.self.inside.slots c.self.inside.operands c.self.inside.activations c.self.inside.members c.self.inside.fields) c.self.inside.base c.lower-self-inside.result (reverse c.pop_base-older.new.bases.items) (reverse c.self.inside.bases.items) c.self.inside.trail.items c.forget.new.self.items c.in-Some._beside (reverse c.pop.new.self.items)
+here : (g : _) (c : After-drop-beside g) → IsForgotten (parts c.self.inside.slots c.self.inside.operands c.self.inside.activations c.self.inside.members c.self.inside.fields) c.self.inside.clock c.self.inside.slot_stamps.items c.self.inside.operand_stamps.items c.self.inside.base c.lower-self-inside.result (reverse c.pop_base-older.new.bases.items) (reverse c.self.inside.bases.items) c.self.inside.trail.items c.forget.new.self.items c.in-Some._beside (reverse c.pop.new.self.items)
 here g c =
     let t = c.self.inside in
     let records : t.records.items ≡ c.pop.new.self.items ++ c.in-Some._beside ∷ [] = c.in-Some.ensures.items in
     let some : 0 < mark_count t.trail.items = omega (arith, c.self.invariant.1, ap length records, length_push c.pop.new.self.items c.in-Some._beside) in
-    forgotten_part (parts t.slots t.operands t.activations t.members t.fields) t.base c.lower-self-inside.result c.pop_base-older.result (reverse c.pop_base-older.new.bases.items) (reverse t.bases.items) t.trail.items c.forget.new.self.items c.in-Some._beside (reverse c.pop.new.self.items)
-    some c.forget.ensures.forgotten c.pop_base-older.ensures.base c.pop_base-older.ensures.rest c.lower-self-inside.ensures c.self.invariant.0
+    forgotten_part (parts t.slots t.operands t.activations t.members t.fields) t.clock t.slot_stamps.items t.operand_stamps.items t.base c.lower-self-inside.result c.pop_base-older.result (reverse c.pop_base-older.new.bases.items) (reverse t.bases.items) t.trail.items c.forget.new.self.items c.in-Some._beside (reverse c.pop.new.self.items)
+    some c.forget.ensures.forgotten c.pop_base-older.ensures.base c.pop_base-older.ensures.rest c.lower-self-inside.ensures c.self.invariant.0 c.self.invariant.2
 
 pub invariant_of-self-2 : goal.invariant_of-self-2
 invariant_of-self-2 g c =
     let records : c.self.inside.records.items ≡ c.pop.new.self.items ++ c.in-Some._beside ∷ [] = c.in-Some.ensures.items in
-    ((here g c).undoable, omega (arith, (here g c).marks, c.self.invariant.1, ap length records, length_push c.pop.new.self.items c.in-Some._beside))
+    ((here g c).undoable, omega (arith, (here g c).marks, c.self.invariant.1, ap length records, length_push c.pop.new.self.items c.in-Some._beside), (here g c).stamped)
 
 pub returns-clause-kept : goal.returns-clause-kept
 returns-clause-kept g c =

@@ -20,7 +20,7 @@ here g c =
     (cut_unseen t.base.operands (length t.operands.items - 1) t.operands c.take_last.new.self c.take_last.ensures.taken c.take_last.ensures.room (omega (arith, count, c.operands-last.ensures, c.if-last-self.false)) (omega arith)) c.self.invariant.0
 
 pub invariant_of-self : goal.invariant_of-self
-invariant_of-self g c = ((here g c).undoable, c.self.invariant.1)
+invariant_of-self g c = ((here g c).undoable, c.self.invariant.1, c.self.invariant.2)
 
 pub returns-else-last-self-clause-kept : goal.returns-else-last-self-clause-kept
 returns-else-last-self-clause-kept g c = (here g c).kept ∙ ap (λ e. e.kept) c.self.view_is

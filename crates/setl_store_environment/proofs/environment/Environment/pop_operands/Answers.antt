@@ -13,7 +13,7 @@ here g c =
     (left_unseen t.base.operands c.args.n t.operands c.split_off.new.self c.split_off.result c.split_off.ensures.taken c.split_off.ensures.refused c.split_off.ensures.room (omega (arith, c.if-n-self.false)) (omega (arith, count, c.requires.fewer))) c.self.invariant.0
 
 pub invariant_of-self : goal.invariant_of-self
-invariant_of-self g c = ((here g c).undoable, c.self.invariant.1)
+invariant_of-self g c = ((here g c).undoable, c.self.invariant.1, c.self.invariant.2)
 
 pub returns-else-n-self-clause-kept : goal.returns-else-n-self-clause-kept
 returns-else-n-self-clause-kept g c = (here g c).kept ∙ ap (λ e. e.kept) c.self.view_is

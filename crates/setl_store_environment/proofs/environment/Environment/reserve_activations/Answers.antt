@@ -7,4 +7,4 @@ pub invariant_of-self : goal.invariant_of-self
 invariant_of-self g c =
     let t = c.self.inside in
     let q = parts t.slots t.operands t.activations t.members t.fields in
-    (roomier q (parts t.slots t.operands c.reserve.new.self t.members t.fields) t.base (reverse t.bases.items) t.trail.items (record { slots = omega arith; operands = omega arith; activations = omega (arith, c.reserve.ensures.more); members = omega arith; fields = λ k there. there }) (ap (with_activations (contents_of q)) c.reserve.ensures.same) c.self.invariant.0, c.self.invariant.1)
+    (roomier q (parts t.slots t.operands c.reserve.new.self t.members t.fields) t.base (reverse t.bases.items) t.trail.items (record { slots = omega arith; operands = omega arith; activations = omega (arith, c.reserve.ensures.more); members = omega arith; fields = λ k there. there }) (ap (with_activations (contents_of q)) c.reserve.ensures.same) c.self.invariant.0, c.self.invariant.1, c.self.invariant.2)

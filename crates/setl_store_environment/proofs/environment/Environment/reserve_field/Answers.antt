@@ -13,4 +13,5 @@ invariant_of-self g c =
       roomier q (parts t.slots t.operands t.activations t.members c.room.new.self) t.base (reverse t.bases.items) t.trail.items (record { slots = omega arith; operands = omega arith; activations = omega arith; members = omega arith; fields = more_room c.room.result t.fields.room c.room.new.self.room p c.room.ensures.ok c.room.ensures.err })
           (ap (with_fields (contents_of q)) (fields_of c.room.new.self.bits t.fields.bits c.room.new.self.contents t.fields.contents c.room.ensures.bits c.room.ensures.contents)) c.self.invariant.0,
       c.self.invariant.1,
+      c.self.invariant.2,
     )
