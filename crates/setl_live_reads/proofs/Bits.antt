@@ -25,6 +25,12 @@ or_cases a b k h =
       | inr other ↦ inr (omega (arith, bit_at_or a b k, bit_at-lt a k, bit_at-lt b k))
     ]
 
+pub and_both : (a b k : ℕ) → bit_at a k ≡ 1 → bit_at b k ≡ 1 → bit_at (bit_and a b) k ≡ 1
+and_both a b k one two = omega (arith, bit_at_and a b k)
+
+pub and_cases : (a b k : ℕ) → bit_at (bit_and a b) k ≡ 1 → (bit_at a k ≡ 1) × (bit_at b k ≡ 1)
+and_cases a b k h = (omega (arith, bit_at_and a b k, bit_at-lt a k, bit_at-lt b k), omega (arith, bit_at_and a b k, bit_at-lt a k, bit_at-lt b k))
+
 pub without : (a b k : ℕ) → b < 2 ^ 64 → k < 64 → bit_at a k ≡ 1 → (bit_at b k ≡ 1 → ⊥) → bit_at (bit_and a (18446744073709551615 - b)) k ≡ 1
 without a b k fits small one none =
     elim (cases_eq (bit_at b k) 1) [

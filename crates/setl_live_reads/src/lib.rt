@@ -5,6 +5,10 @@ ghost use Rattle.std.specs.Prelude.{◌≡◌, ◌<◌, ◌^◌, ℕ, length, sl
 ghost use Rattle.setl_live_reads.specs.declared.node.Access.TheVariants.{Read};
 ghost use Rattle.setl_live_reads.specs.Paths.{IsRight};
 
+mod blocks;
+mod chains;
+mod fronts;
+mod marks;
 mod masks;
 mod node;
 mod ranges;
@@ -12,6 +16,8 @@ mod row;
 mod sweep;
 mod window;
 
+use crate::blocks::into_blocks;
+use crate::chains::row_chains;
 use crate::ranges::{sources, spans};
 use crate::row::mark_rows;
 pub use node::{Access, Node, Way};
@@ -36,10 +42,26 @@ pub fn last_reads(
     ensures right { IfOk result (λ marks. (at x : ℕ) (node : _) → slice_get nodes.now at ≡ Some node → node.access ≡ Read x → IsRight nodes.now back.now marks.items at x) }
 {
     let rows = slots / 64 + 1;
-    let sources = sources(alloc, nodes)?;
-    let spans = spans(alloc, nodes, rows as usize)?;
-    let mut masks = vec![in alloc; 0u64; nodes.len()]?;
+    let blocks = into_blocks(alloc, nodes)?;
+    let sources = sources(alloc, &blocks.lasts)?;
+    let spans = spans(alloc, nodes, &blocks.blocks, rows as usize)?;
+    let chains = row_chains(alloc, nodes, rows as usize)?;
+    let mut gens = vec![in alloc; 0u64; blocks.firsts.len()]?;
+    let mut passes = vec![in alloc; 0u64; blocks.firsts.len()]?;
+    let mut masks = vec![in alloc; 0u64; blocks.firsts.len()]?;
     let mut marks = vec![in alloc; false; nodes.len()]?;
-    mark_rows(nodes, back, &sources, &spans, rows, &mut masks, &mut marks);
+    mark_rows(
+        nodes,
+        back,
+        &blocks,
+        &sources,
+        &spans,
+        &chains,
+        rows,
+        &mut gens,
+        &mut passes,
+        &mut masks,
+        &mut marks,
+    );
     Ok(marks)
 }

@@ -1,4 +1,4 @@
-//! From where steps are jumped to, and where slots are named.
+//! From where blocks are jumped to, and where slots are named.
 
 ghost use Rattle.std.specs.Prelude.{◌≡◌, ◌+◌, ◌/◌, ◌<◌, ◌≤◌, ◌^◌, ℕ, List, Some, length, slice_get, IfOk};
 ghost use Rattle.setl_live_reads.specs.Paths.{target, named};
@@ -8,7 +8,7 @@ use crate::Memory;
 use crate::node::{Access, Node, Way};
 use std::alloc::Global;
 
-/// A range of steps for each of some places, from the first to the last one.
+/// A range of blocks for each of some places, from the first to the last one.
 #[derive(Drop)]
 pub(crate) struct Ranges {
     pub(crate) first: Vec<u32>,
@@ -17,7 +17,7 @@ pub(crate) struct Ranges {
 
 impl Ranges {
     /// Empty ranges.
-    pub(crate) fn new(alloc: Global, count: usize) -> Result<Ranges, Memory>
+    fn new(alloc: Global, count: usize) -> Result<Ranges, Memory>
         ensures { IfOk result (λ r. (length r.first.items ≡ count) × (length r.last.items ≡ count)) }
     {
         let first = vec![in alloc; u32::MAX; count]?;
@@ -25,8 +25,8 @@ impl Ranges {
         Ok(Ranges { first, last })
     }
 
-    /// Widens the range at a place, so that this step is in it.
-    pub(crate) fn note(&mut self, place: usize, at: u32)
+    /// Widens the range at a place, so that this block is in it.
+    fn note(&mut self, place: usize, at: u32)
         requires first { place < length self.old.first.items }
         requires last { place < length self.old.last.items }
         ensures sizes { (length self.new.first.items ≡ length self.old.first.items) × (length self.new.last.items ≡ length self.old.last.items) }
@@ -43,7 +43,7 @@ impl Ranges {
 }
 
 /// The step to which a step jumps, if it does.
-fn target_of(way: Way) -> Option<u32>
+pub(crate) fn target_of(way: Way) -> Option<u32>
     ensures { result ≡ target way }
 {
     match way {
@@ -53,7 +53,7 @@ fn target_of(way: Way) -> Option<u32>
 }
 
 /// The slot that a step names, if it names one.
-fn named_of(access: Access) -> Option<u32>
+pub(crate) fn named_of(access: Access) -> Option<u32>
     ensures { result ≡ named access }
 {
     match access {
@@ -62,7 +62,7 @@ fn named_of(access: Access) -> Option<u32>
     }
 }
 
-/// Puts a step into the range of the step to which it jumps.
+/// Puts a block into the range of the block to which it jumps.
 fn note_target(ranges: &mut Ranges, node: Node, at: u32)
     requires sizes { length ranges.old.first.items ≡ length ranges.old.last.items }
     ensures sizes { (length ranges.new.first.items ≡ length ranges.old.first.items) × (length ranges.new.last.items ≡ length ranges.old.last.items) }
@@ -79,7 +79,7 @@ fn note_target(ranges: &mut Ranges, node: Node, at: u32)
     ranges.note(place, at);
 }
 
-/// Puts a step into the range of the row of the slot that it names.
+/// Puts a block into the range of the row of the slot that a step of it names.
 fn note_slot(ranges: &mut Ranges, node: Node, at: u32)
     requires sizes { length ranges.old.first.items ≡ length ranges.old.last.items }
     ensures sizes { (length ranges.new.first.items ≡ length ranges.old.first.items) × (length ranges.new.last.items ≡ length ranges.old.last.items) }
@@ -96,28 +96,33 @@ fn note_slot(ranges: &mut Ranges, node: Node, at: u32)
     ranges.note(place, at);
 }
 
-/// Of each step, the range of the steps that jump to it.
-pub(crate) fn sources(alloc: Global, nodes: &[Node]) -> Result<Ranges, Memory>
-    requires { length nodes.now < 2 ^ 32 }
-    ensures sizes { IfOk result (λ r. (length r.first.items ≡ length nodes.now) × (length r.last.items ≡ length nodes.now)) }
-    ensures sourced { IfOk result (λ r. Sourced nodes.now r.first.items r.last.items (length nodes.now)) }
+/// Of each block, the range of the blocks that jump to it. The blocks stand as their last steps.
+pub(crate) fn sources(alloc: Global, lasts: &[Node]) -> Result<Ranges, Memory>
+    requires { length lasts.now < 2 ^ 32 }
+    ensures sizes { IfOk result (λ r. (length r.first.items ≡ length lasts.now) × (length r.last.items ≡ length lasts.now)) }
+    ensures sourced { IfOk result (λ r. Sourced lasts.now r.first.items r.last.items (length lasts.now)) }
 {
-    let mut ranges = Ranges::new(alloc, nodes.len())?;
-    'steps: for at in 0..nodes.len() {
-        note_target(&mut ranges, nodes[at], at as u32);
+    let mut ranges = Ranges::new(alloc, lasts.len())?;
+    'places: for at in 0..lasts.len() {
+        note_target(&mut ranges, lasts[at], at as u32);
     }
     Ok(ranges)
 }
 
-/// Of each row of 64 slots, the range of the steps that name one of them.
-pub(crate) fn spans(alloc: Global, nodes: &[Node], rows: usize) -> Result<Ranges, Memory>
-    requires { length nodes.now < 2 ^ 32 }
+/// Of each row of 64 slots, the range of the blocks with steps that name one of them.
+pub(crate) fn spans(
+    alloc: Global,
+    nodes: &[Node],
+    blocks: &[u32],
+    rows: usize,
+) -> Result<Ranges, Memory>
+    requires { length blocks.now ≡ length nodes.now }
     ensures sizes { IfOk result (λ r. (length r.first.items ≡ rows) × (length r.last.items ≡ rows)) }
-    ensures spanned { IfOk result (λ r. Spanned nodes.now rows r.first.items r.last.items (length nodes.now)) }
+    ensures spanned { IfOk result (λ r. Spanned nodes.now blocks.now rows r.first.items r.last.items (length nodes.now)) }
 {
     let mut ranges = Ranges::new(alloc, rows)?;
     'steps: for at in 0..nodes.len() {
-        note_slot(&mut ranges, nodes[at], at as u32);
+        note_slot(&mut ranges, nodes[at], blocks[at]);
     }
     Ok(ranges)
 }

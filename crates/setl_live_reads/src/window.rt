@@ -1,16 +1,19 @@
-//! The window of steps that matter to a row of slots.
+//! The window of blocks that matter to a row of slots.
 
 ghost use Rattle.std.specs.Prelude.{◌≡◌, ◌+◌, ◌*◌, ◌<◌, ◌≤◌, ◌^◌, ℕ, List, Bool, get_or, length};
-ghost use Rattle.setl_live_reads.specs.Masks.{IsHanded, Apart};
+ghost use Rattle.setl_live_reads.specs.Blocks.{AreBlocks};
+ghost use Rattle.setl_live_reads.specs.Chains.{IsLatest};
+ghost use Rattle.setl_live_reads.specs.Masks.{IsHanded, Apart, Covers};
 ghost use Rattle.setl_live_reads.specs.Ranges.{Sourced, Spanned};
 
+use crate::blocks::Blocks;
 use crate::node::Node;
 use crate::ranges::Ranges;
 
 /// How often a window is widened before it becomes the whole body.
 const WIDENINGS: u32 = 8;
 
-/// A window that has the steps, too, from which steps inside it are jumped to.
+/// A window that has the blocks, too, from which blocks inside it are jumped to.
 fn widened(sources: &Ranges, low: usize, high: usize) -> (usize, usize)
     requires window { low < high }
     requires first { high ≤ length sources.now.first.items }
@@ -20,7 +23,7 @@ fn widened(sources: &Ranges, low: usize, high: usize) -> (usize, usize)
 {
     let mut from = low;
     let mut to = high;
-    'steps: for at in low + 1..high {
+    'window: for at in low + 1..high {
         let first = sources.first[at] as usize;
         let last = sources.last[at] as usize;
         if first < from {
@@ -56,9 +59,10 @@ fn closed_window(sources: &Ranges, from: usize, to: usize, count: usize) -> Opti
     None
 }
 
-/// The window of a row. No slot of the row is read outside it, and from there steps lead to its first step at most.
+/// The window of a row. Each read of a slot of the row lies in it, and outside it blocks lead to its first block at most.
 pub(crate) fn window(
     nodes: &[Node],
+    blocks: &Blocks,
     sources: &Ranges,
     spans: &Ranges,
     row: usize,
@@ -66,14 +70,17 @@ pub(crate) fn window(
 ) -> (usize, usize)
     requires row { row < length spans.now.first.items }
     requires spans { length spans.now.first.items ≡ length spans.now.last.items }
-    requires first { length sources.now.first.items ≡ length nodes.now }
-    requires last { length sources.now.last.items ≡ length nodes.now }
-    requires sourced { Sourced nodes.now sources.now.first.items sources.now.last.items (length nodes.now) }
-    requires spanned { Spanned nodes.now (length spans.now.first.items) spans.now.first.items spans.now.last.items (length nodes.now) }
-    ensures within { (result.0 ≤ result.1) × (result.1 ≤ length nodes.now) }
-    ensures apart { (back : List Bool) → IsHanded back (row * 64) handed → Apart nodes.now back (row * 64) result.0 result.1 }
+    requires blocks { AreBlocks nodes.now blocks.now.firsts.items blocks.now.blocks.items blocks.now.lasts.items }
+    requires first { length sources.now.first.items ≡ length blocks.now.lasts.items }
+    requires last { length sources.now.last.items ≡ length blocks.now.lasts.items }
+    requires sourced { Sourced blocks.now.lasts.items sources.now.first.items sources.now.last.items (length blocks.now.lasts.items) }
+    requires spanned { Spanned nodes.now blocks.now.blocks.items (length spans.now.first.items) spans.now.first.items spans.now.last.items (length nodes.now) }
+    ensures within { (result.0 ≤ result.1) × (result.1 ≤ length blocks.now.firsts.items) }
+    ensures latest { (latest : ℕ) → IsLatest nodes.now row (length nodes.now) latest → IsLatest nodes.now row (get_or blocks.now.firsts.items result.1 (length nodes.now)) latest }
+    ensures covers { (back : List Bool) → IsHanded back (row * 64) handed → Covers nodes.now back row (get_or blocks.now.firsts.items result.0 (length nodes.now)) (get_or blocks.now.firsts.items result.1 (length nodes.now)) }
+    ensures apart { Apart blocks.now.lasts.items result.0 result.1 }
 {
-    let count = nodes.len();
+    let count = blocks.firsts.len();
     if handed != 0 {
         return (0, count);
     }

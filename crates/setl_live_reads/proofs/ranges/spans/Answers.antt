@@ -9,7 +9,7 @@ pub steps-preserved : goal.steps-preserved
 steps-preserved c = record {
   sizes = (c.note_slot.ensures.sizes.0 ∙ c.steps.invariant.sizes.0, c.note_slot.ensures.sizes.1 ∙ c.steps.invariant.sizes.1);
   spanned =
-      one_slot c.args.nodes.now c.steps.ranges.first.items c.steps.ranges.last.items c.note_slot.new.ranges.first.items c.note_slot.new.ranges.last.items c.steps.at _ (slice_get-get_or c.args.nodes.now c.steps.at (record { access = Nothing; way = On }) c.steps-test.true)
+      one_slot c.args.nodes.now c.args.blocks.now c.steps.ranges.first.items c.steps.ranges.last.items c.note_slot.new.ranges.first.items c.note_slot.new.ranges.last.items c.steps.at _ (slice_get-get_or c.args.nodes.now c.steps.at (record { access = Nothing; way = On }) c.steps-test.true)
       c.note_slot.ensures.kept c.args.rows c.steps.invariant.spanned (λ slot names within. c.note_slot.ensures.there slot names (omega (arith, within, c.steps.invariant.sizes)));
 }
 

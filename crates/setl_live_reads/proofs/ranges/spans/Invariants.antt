@@ -5,5 +5,5 @@ use Rattle.setl_live_reads.proofs.ranges.spans.Given as goal
 abbrev pub invariant-steps : goal.invariant-steps
 invariant-steps l = record {
   sizes : (length l.ranges.first.items ≡ l.rows) × (length l.ranges.last.items ≡ l.rows);
-  spanned : Spanned l.nodes l.rows l.ranges.first.items l.ranges.last.items l.at;
+  spanned : Spanned l.nodes l.blocks l.rows l.ranges.first.items l.ranges.last.items l.at;
 }

@@ -8,7 +8,9 @@ use Rattle.setl_live_reads.proofs.row.mark_rows.Given as goal
 
 abbrev pub invariant-rows : goal.invariant-rows
 invariant-rows l = record {
-  sizes : (length l.masks ≡ length l.fn.masks) × (length l.marks ≡ length l.fn.marks);
+  words : (length l.gens ≡ length l.fn.gens) × (length l.passes ≡ length l.fn.passes);
+  masks : length l.masks ≡ length l.fn.masks;
+  marks : length l.marks ≡ length l.fn.marks;
   empty : AllEmpty l.masks;
   right : (at x : ℕ) (node : Node) → slice_get l.nodes at ≡ Some node → node.access ≡ Read x → x / 64 < l.row → IsRight l.nodes l.back l.marks at x;
 }

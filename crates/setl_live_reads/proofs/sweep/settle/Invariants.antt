@@ -1,14 +1,14 @@
-use Rattle.std.proofs.Common.{◌≡◌, ◌+◌, List, Bool, false, length}
+use Rattle.std.proofs.Common.{◌≡◌, ◌+◌, false, length}
 use Rattle.std.specs.Prelude.{cond}
-use Rattle.setl_live_reads.specs.Masks.{IsHanded, Justified, ClosedIn, SameOutside, room_left}
+use Rattle.setl_live_reads.specs.Masks.{Justified, ClosedIn, EmptyOutside, room_left}
 use Rattle.setl_live_reads.proofs.sweep.settle.Given as goal
 
 abbrev pub invariant-sweeps : goal.invariant-sweeps
 invariant-sweeps l = record {
   sizes : length l.masks ≡ length l.fn.masks;
-  justified : (back : List Bool) → IsHanded back l.base l.handed → Justified l.nodes back l.base l.fn.masks → Justified l.nodes back l.base l.masks;
-  outside : SameOutside l.low l.high l.fn.masks l.masks;
-  closed : l.changed ≡ false → (back : List Bool) → IsHanded back l.base l.handed → ClosedIn l.nodes back l.base l.low l.high l.masks;
+  justified : Justified l.lasts l.gens l.passes l.low l.high l.masks;
+  outside : EmptyOutside l.low l.high l.masks;
+  closed : l.changed ≡ false → ClosedIn l.lasts l.gens l.passes l.low l.high l.masks;
 }
 
 -- a sweep that changes something leaves less room, and one that doesn't is the last
