@@ -1,5 +1,5 @@
 -- What is read first in a block, what is live at blocks, and what is read later.
-use Rattle.std.proofs.Common.{◌≡◌, ℕ, ◌+◌, ◌-◌, ◌*◌, ◌<◌, ◌≤◌, ◌⊎◌, inl, inr, zero, suc, [], ◌∷◌, List, Bool, true, false, length, get_or, Some, refl, sym, ap, ◌∙◌, subst, arith, w64}
+use Rattle.std.proofs.Common.{◌≡◌, ℕ, ◌+◌, ◌-◌, ◌*◌, ◌<◌, ◌≤◌, ◌⊎◌, inl, inr, zero, suc, [], ◌∷◌, List, Bool, length, get_or, Some, refl, sym, ap, ◌∙◌, subst, arith, w64}
 use Rattle.std.proofs.lemmas.Bool.{cases_eq, cases_lt}
 use Rattle.std.proofs.lemmas.List.{get_or_past, get_or_default}
 use Rattle.std.proofs.lemmas.Option.{slice_get_within}
@@ -10,12 +10,12 @@ use Rattle.std.specs.List.{Contains}
 use Rattle.setl_live_reads.specs.declared.node.Node.{Node}
 use Rattle.setl_live_reads.specs.declared.node.Way.{Way}
 use Rattle.setl_live_reads.specs.declared.node.Way.TheVariants.{On, To, Either, Nowhere}
-use Rattle.setl_live_reads.specs.Paths.{reads_slot, writes_slot, ways, target, ReadLater, reads, later}
+use Rattle.setl_live_reads.specs.Paths.{ways, target, ReadLater, reads, later}
 use Rattle.setl_live_reads.specs.Blocks.{in_blocks, block_at, AreBlocks}
 use Rattle.setl_live_reads.specs.Fronts.{ReadUntil, ends, read, passed, HasFronts, ReadBehind}
-use Rattle.setl_live_reads.specs.Masks.{Has, LiveAt, gen, pass, Justified, ClosedIn, HasBehind, TellsReads, Outside, EmptyOutside, Apart, Covers, AllEmpty}
+use Rattle.setl_live_reads.specs.Masks.{Has, LiveAt, gen, pass, Justified, ClosedIn, HasBehind, TellsReads, Outside, EmptyOutside, Apart, Covers}
 use Rattle.setl_live_reads.proofs.Straight.{no_step, step_is, none_set, split, ended, weaken, unread}
-use Rattle.setl_live_reads.proofs.Cutting.{first_up, first_within, block_within}
+use Rattle.setl_live_reads.proofs.Cutting.{first_up, block_within}
 
 -- what is read later is read from a step of the body on
 pub later_within : (nodes : List Node) (back : List Bool) (x at : ℕ) → ReadLater nodes back x at → at < length nodes

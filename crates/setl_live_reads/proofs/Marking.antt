@@ -1,5 +1,5 @@
 -- One step, one block and one row more are marked.
-use Rattle.std.proofs.Common.{◌≡◌, ◌∙◌, ℕ, ◌+◌, ◌-◌, ◌*◌, ◌/◌, ◌%◌, ◌<◌, ◌≤◌, ◌⊎◌, inl, inr, List, Bool, true, false, length, get_or, Some, refl, sym, ap, subst, arith, eq-eqb}
+use Rattle.std.proofs.Common.{◌≡◌, ◌∙◌, ℕ, ◌+◌, ◌-◌, ◌*◌, ◌/◌, ◌%◌, ◌<◌, ◌≤◌, inl, inr, List, Bool, true, false, length, get_or, Some, sym, ap, subst, arith, eq-eqb}
 use Rattle.std.proofs.lemmas.Bool.{cases_eq, cases_lt}
 use Rattle.std.specs.Prelude.{slice_get}
 use Rattle.std.specs.Int.{bit_at}
@@ -9,7 +9,7 @@ use Rattle.setl_live_reads.specs.declared.node.Access.{Access}
 use Rattle.setl_live_reads.specs.declared.node.Access.TheVariants.{Read}
 use Rattle.setl_live_reads.specs.Paths.{reads_slot, ways, named, ReadLater, IsRight}
 use Rattle.setl_live_reads.specs.Blocks.{AreBlocks}
-use Rattle.setl_live_reads.specs.Chains.{InRow, IsLatest}
+use Rattle.setl_live_reads.specs.Chains.{InRow}
 use Rattle.setl_live_reads.specs.Fronts.{ReadUntil, IsFront, ReadBehind}
 use Rattle.setl_live_reads.specs.Masks.{Has, TellsReads, Covers}
 use Rattle.setl_live_reads.proofs.Straight.{no_step, step_is, IsReached, front_back}

@@ -1,17 +1,16 @@
 -- What a window of blocks leaves out.
-use Rattle.std.proofs.Common.{◌≡◌, ℕ, zero, suc, ◌+◌, ◌-◌, ◌*◌, ◌/◌, ◌<◌, ◌≤◌, ◌⊎◌, inl, inr, List, Bool, true, false, length, get_or, Some, refl, sym, ap, ◌∙◌, subst, arith, eqb-true}
-use Rattle.std.proofs.lemmas.Bool.{cases_eq, cases_lt}
+use Rattle.std.proofs.Common.{◌≡◌, ℕ, zero, suc, ◌+◌, ◌-◌, ◌*◌, ◌<◌, ◌≤◌, ◌⊎◌, inl, inr, List, Bool, true, length, get_or, Some, refl, sym, ap, ◌∙◌, subst, arith, eqb-true}
+use Rattle.std.proofs.lemmas.Bool.{cases_lt}
 use Rattle.std.proofs.lemmas.List.{get_or_past}
 use Rattle.std.proofs.lemmas.Option.{slice_get_within, get_or_from_slice_get, slice_get_read}
 use Rattle.std.specs.Prelude.{slice_get}
-use Rattle.std.specs.Int.{bit_at}
 use Rattle.std.specs.List.{Contains}
 use Rattle.setl_live_reads.specs.declared.node.Node.{Node}
 use Rattle.setl_live_reads.specs.declared.node.Access.{Access}
 use Rattle.setl_live_reads.specs.declared.node.Access.TheVariants.{Nothing, Read, Write, HandBack}
 use Rattle.setl_live_reads.specs.declared.node.Way.{Way}
 use Rattle.setl_live_reads.specs.declared.node.Way.TheVariants.{On, To, Either, Nowhere}
-use Rattle.setl_live_reads.specs.Paths.{reads_slot, ways, target, named}
+use Rattle.setl_live_reads.specs.Paths.{reads_slot, ways, target}
 use Rattle.setl_live_reads.specs.Blocks.{AreBlocks}
 use Rattle.setl_live_reads.specs.Chains.{InRow, IsLatest}
 use Rattle.setl_live_reads.specs.Masks.{IsHanded, Outside, Apart, Covers}

@@ -1,5 +1,5 @@
 -- The steps that name a slot of a row of 64 slots.
-use Rattle.std.specs.Prelude.{◌≡◌, ℕ, ◌+◌, ◌-◌, ◌/◌, ◌<◌, ◌≤◌, List, get_or, slice_get, Some}
+use Rattle.std.specs.Prelude.{◌≡◌, ℕ, ◌-◌, ◌/◌, ◌<◌, ◌≤◌, List, get_or, slice_get, Some}
 use Rattle.setl_live_reads.specs.declared.node.Access.{Access}
 use Rattle.setl_live_reads.specs.declared.node.Node.{Node}
 use Rattle.setl_live_reads.specs.Paths.{named}

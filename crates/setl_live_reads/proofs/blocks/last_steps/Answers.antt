@@ -1,6 +1,5 @@
-use Rattle.std.proofs.Common.{◌≡◌, ◌∙◌, ◌+◌, ◌++◌, ◌∷◌, [], ℕ, List, length, ap, sym, subst, arith}
+use Rattle.std.proofs.Common.{◌≡◌, ◌∙◌, ◌+◌, ◌++◌, ◌∷◌, [], ℕ, length, ap, sym, subst}
 use Rattle.std.proofs.lemmas.List.{length_push}
-use Rattle.setl_live_reads.specs.declared.node.Node.{Node}
 use Rattle.setl_live_reads.specs.Blocks.{IsLast}
 use Rattle.setl_live_reads.proofs.Cutting.{all_more}
 use Rattle.setl_live_reads.proofs.blocks.last_steps.Goals as goal

@@ -1,4 +1,4 @@
-use Rattle.std.proofs.Common.{◌<◌, arith}
+use Rattle.std.proofs.Common.{arith}
 use Rattle.setl_live_reads.proofs.Straight.{begun, reached_next, front_next, front_first, latest_first}
 use Rattle.setl_live_reads.proofs.fronts.fronts.Goals as goal
 

@@ -1,4 +1,4 @@
-use Rattle.std.proofs.Common.{◌∙◌, ◌<◌, ◌≤◌, refl, arith}
+use Rattle.std.proofs.Common.{◌∙◌, refl, arith}
 use Rattle.setl_live_reads.proofs.Straight.{begun, reached_next, front_next, latest_first}
 use Rattle.setl_live_reads.proofs.Marking.{in_row, marked_more, marked_first, others_more}
 use Rattle.setl_live_reads.proofs.marks.mark_steps.Goals as goal

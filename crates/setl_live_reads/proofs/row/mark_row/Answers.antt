@@ -1,4 +1,4 @@
-use Rattle.std.proofs.Common.{◌≡◌, ◌*◌, length, get_or}
+use Rattle.std.proofs.Common.{length, get_or}
 use Rattle.setl_live_reads.proofs.Marking.{read_covered}
 use Rattle.setl_live_reads.proofs.row.mark_row.Goals as goal
 

@@ -1,4 +1,4 @@
-use Rattle.std.proofs.Common.{◌≡◌, ◌∙◌, ◌-◌, ◌*◌, ℕ, List, length, get_or, sym, subst, arith}
+use Rattle.std.proofs.Common.{◌≡◌, ◌∙◌, ℕ, List, length, get_or, sym, subst, arith}
 use Rattle.setl_live_reads.specs.Chains.{IsLatest}
 use Rattle.setl_live_reads.specs.Masks.{TellsReads}
 use Rattle.setl_live_reads.proofs.Bridging.{tells_all}

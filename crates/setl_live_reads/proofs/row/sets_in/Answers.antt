@@ -1,4 +1,4 @@
-use Rattle.std.proofs.Common.{ℕ, List, subst}
+use Rattle.std.proofs.Common.{List, subst}
 use Rattle.setl_live_reads.specs.declared.node.Node.{Node}
 use Rattle.setl_live_reads.specs.Masks.{Justified, ClosedIn}
 use Rattle.setl_live_reads.proofs.Bridging.{tells_settled}

@@ -1,4 +1,4 @@
-use Rattle.std.proofs.Common.{◌≡◌, ◌<◌, length, get_or, arith}
+use Rattle.std.proofs.Common.{length, get_or, arith}
 use Rattle.setl_live_reads.proofs.Windows.{apart_whole, apart_empty, apart_window, covers_whole, covers_empty, covers_window, latest_empty, latest_window, item_read}
 use Rattle.setl_live_reads.proofs.window.window.Goals as goal
 
