@@ -169,9 +169,6 @@ module _ (nodes : List Node) (firsts blocks : List ℕ) (lasts : List Node) (are
   pub block_bounds : (b : ℕ) → b < length firsts → (get_or firsts b (length nodes) < get_or firsts (b + 1) (length nodes)) × (get_or firsts (b + 1) (length nodes) ≤ length nodes)
   block_bounds b less = (are.cut.rising b less, first_within nodes firsts blocks are.cut (b + 1))
 
-  pub hands_none : (b : ℕ) → b < length firsts → (at : ℕ) (node : Node) → get_or firsts b (length nodes) ≤ at → at + 1 < get_or firsts (b + 1) (length nodes) → slice_get nodes at ≡ Some node → node.access ≡ HandBack → ⊥
-  hands_none b less at node above below is = (are.cut.straight b at node less above below is).1
-
 -- one step more is noted where it jumps to
 pub jumped_more : (nodes : List Node) (jumped jumped2 : List Bool) (n : ℕ) (node : Node) → slice_get nodes n ≡ Some node → ((to : ℕ) → get_or jumped to false ≡ true → get_or jumped2 to false ≡ true) → ((to : ℕ) → target node.way ≡ Some to → to < length nodes → get_or jumped2 to false ≡ true) → Jumped nodes jumped n → Jumped nodes jumped2 (n + 1)
 jumped_more nodes jumped jumped2 n node is kept there before at to other small here jumps within = elim (cases_lt at n) [
@@ -181,15 +178,6 @@ jumped_more nodes jumped jumped2 n node is kept there before at to other small h
   where
     one : (m : Node) → slice_get nodes n ≡ Some m → node ≡ m
     one m h = cc
-
-pub cut_none : (nodes : List Node) → IsCut nodes [] [] 0
-cut_none nodes = record {
-  few = omega arith;
-  sizes = refl;
-  rising = λ b less. absurd (omega arith);
-  inside = λ at less. absurd (omega arith);
-  straight = λ b at node less above below is. absurd (omega arith);
-}
 
 -- one step more, whether it begins a block or not
 pub cut_more : (nodes : List Node) (jumped : List Bool) (firsts firsts2 blocks blocks2 : List ℕ) (at : ℕ) (begins : Bool) → (begins ≡ false → 0 < at) → (begins ≡ false → get_or jumped at false ≡ false) → (begins ≡ false → (node : Node) → slice_get nodes (at - 1) ≡ Some node → IsPlain node) → (begins ≡ true → firsts2 ≡ firsts ++ at ∷ []) → (begins ≡ false → firsts2 ≡ firsts) → blocks2 ≡ blocks ++ (length firsts2 - 1) ∷ [] → IsCut nodes firsts blocks at → Entered jumped firsts blocks at → IsCut nodes firsts2 blocks2 (at + 1) × Entered jumped firsts2 blocks2 (at + 1)

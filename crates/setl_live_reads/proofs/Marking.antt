@@ -122,10 +122,3 @@ read_covered nodes back row from until covers at x node there reads same =
     let small : x % 64 < 64 = omega arith in
     let whole : x ≡ row * 64 + x % 64 = omega arith in
     covers at (x % 64) node small there (subst (λ (a : Access). reads_slot back a (row * 64 + x % 64) ≡ true) (sym reads) (eq-eqb x (row * 64 + x % 64) whole))
-
-pub rows_right : (nodes : List Node) (back before after : List Bool) (row : ℕ) → ((at x : ℕ) (m : Node) → slice_get nodes at ≡ Some m → m.access ≡ Read x → x / 64 ≡ row → IsRight nodes back after at x) → ((at x : ℕ) (m : Node) → slice_get nodes at ≡ Some m → m.access ≡ Read x → (x / 64 ≡ row → ⊥) → get_or after at false ≡ get_or before at false) → ((at x : ℕ) (m : Node) → slice_get nodes at ≡ Some m → m.access ≡ Read x → x / 64 < row → IsRight nodes back before at x) → (at x : ℕ) (m : Node) → slice_get nodes at ≡ Some m → m.access ≡ Read x → x / 64 < row + 1 → IsRight nodes back after at x
-rows_right nodes back before after row here others rest at x m there reads small =
-    elim (cases_eq (x / 64) row) [
-      | inl same ↦ here at x m there reads same
-      | inr other ↦ (let less : x / 64 < row = omega arith in right_kept nodes back before after at x (others at x m there reads other) (rest at x m there reads less))
-    ]
