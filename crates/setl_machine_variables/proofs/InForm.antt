@@ -6,7 +6,8 @@ use Rattle.setl_modes.specs.Modes.{Mode}
 use Rattle.setl_modes.specs.Fits.{is_taken}
 use Rattle.setl_modes_parts.specs.Parts.{combines}
 use Rattle.setl_modes_parts.specs.Laws.{CombinedFit}
-use Rattle.setl_operators_table.specs.declared.Operator.TheVariants.{With}
+use Rattle.setl_operators_table.specs.declared.Operator.{Operator}
+use Rattle.setl_operators_table.specs.Outcome.{Outcome}
 use Rattle.setl_operators_table.specs.Operators.{op_of}
 use Rattle.setl_model_runs.specs.Run.{settle}
 use Rattle.setl_model_runs.specs.Variable.{Variable, Global, Own, Bound}
@@ -49,23 +50,27 @@ over_written (Global name) h xs k = refl
 over_written (Own body name) h xs k = refl
 over_written (Bound former name) h xs k = refl
 
+-- the same given in other words
+pub given_alike : (gives also : Option Datum → ℕ → Outcome) (x : Variable) (old put : Standing) → ((whole : Option Datum) → gives whole ≡ also whole) → UpdatesFreely gives x old put true → UpdatesFreely also x old put true
+given_alike gives also x old put same u = (u.0, u.1, u.2, u.3, λ left. sym (ap (λ g. g left) (same u.0)) ∙ u.4 left, u.5)
+
 -- the value is still on top
-pub still_on_top : (old put : Standing) (x : Variable) (d : Datum) → UpdatesFreely (λ s. op_of With (s ∷ Some d ∷ [])) x old put true → old.core.now.operands ≡ Holds (Some d) ∷ drop 1 old.core.now.operands → IsSome (top_of put.core.now.operands)
-still_on_top old put x d u top =
+pub still_on_top : (o : Operator) (old put : Standing) (x : Variable) (d : Datum) → UpdatesFreely (λ s. op_of o (s ∷ Some d ∷ [])) x old put true → old.core.now.operands ≡ Holds (Some d) ∷ drop 1 old.core.now.operands → IsSome (top_of put.core.now.operands)
+still_on_top o old put x d u top =
     subst (λ xs. IsSome (top_of xs)) (sym (ap (λ (s : Standing). s.core.now.operands) u.5 ∙ operands_written x (There u.1) old.core ∙ top)) refl
 
 -- the variable was updated, and the value dropped
-pub included : CombinedFit → HeldFits → (modes : Modes) (old put dropped new : Standing) (line : ℕ) (x : Variable) (m : Mode) (what : Alteration) (bs : List Bracket) (d : Datum) → Fitting modes old.core →
-    what ≡ Combining With → bs ≡ [] → declared_mode modes x ≡ Some m → combines With m (Some d) ≡ true → old.core.now.operands ≡ Holds (Some d) ∷ drop 1 old.core.now.operands →
-    UpdatesFreely (λ s. op_of With (s ∷ Some d ∷ [])) x old put true → dropped ≡ record put { core = over (drop 1 put.core.now.operands) put.core } →
+pub combined_in_form : CombinedFit → HeldFits → (modes : Modes) (old put dropped new : Standing) (line : ℕ) (x : Variable) (m : Mode) (o : Operator) (what : Alteration) (bs : List Bracket) (d : Datum) → Fitting modes old.core →
+    what ≡ Combining o → bs ≡ [] → declared_mode modes x ≡ Some m → combines o m (Some d) ≡ true → old.core.now.operands ≡ Holds (Some d) ∷ drop 1 old.core.now.operands →
+    UpdatesFreely (λ s. op_of o (s ∷ Some d ∷ [])) x old put true → dropped ≡ record put { core = over (drop 1 put.core.now.operands) put.core } →
     new ≡ record dropped { core = at_place (suc dropped.core.now.at) dropped.core } → WorksBy modes old line (Alter what x bs) new end.Paused
-included fit holds modes old put dropped new line x m what bs d fitting is none declared sure top u off goes =
+combined_in_form fit holds modes old put dropped new line x m o what bs d fitting is none declared sure top u off goes =
     let before = u.0 in
     let after = u.1 in
     let ys = drop 1 old.core.now.operands in
     let takes : tested modes x after ≡ true =
     subst (λ o. is_taken o after ≡ true) (sym declared)
-    (fit With m before (Some d) after 0 0 sure (u.3, subst (λ o. is_taken o before ≡ true) declared (holds modes old.core x before fitting u.2)) (u.4 0)) in
+    (fit o m before (Some d) after 0 0 sure (u.3, subst (λ o. is_taken o before ≡ true) declared (holds modes old.core x before fitting u.2)) (u.4 0)) in
     let off_is : dropped ≡ record old { core = write x (There after) (over ys old.core) } =
     off
     ∙ ap (λ (s : Standing). record s { core = over (drop 1 s.core.now.operands) s.core }) u.5
@@ -76,8 +81,8 @@ included fit holds modes old put dropped new line x m what bs d fitting is none 
     ∙ ap (λ (s : Standing). record s { core = at_place (suc s.core.now.at) s.core }) off_is
     ∙ ap (λ at. record old { core = at_place (suc at) (write x (There after) (over ys old.core)) }) (at_written x (There after) (over ys old.core)) in
     subst (λ a. WorksBy modes old line (Alter a x bs) new end.Paused) (sym is)
-    (subst (λ l. WorksBy modes old line (Alter (Combining With) x l) new end.Paused) (sym none)
-    (combined_freely modes old new line x With before after d takes u.2 top u.4 new_is))
+    (subst (λ l. WorksBy modes old line (Alter (Combining o) x l) new end.Paused) (sym none)
+    (combined_freely modes old new line x o before after d takes u.2 top u.4 new_is))
 
 -- ---- loads
 

@@ -4,10 +4,11 @@
 //! is done to it that has no kernel for forms: then the variable goes on with the plain value. So what is converted costs no more
 //! than what was put in before.
 
-ghost use Rattle.std.specs.Prelude.{◌≡◌, ℕ, ◌<◌, ◌+◌, ◌^◌, true, [], length, map, Some, IfOk, IfSome};
+ghost use Rattle.std.specs.Prelude.{◌≡◌, ◌∷◌, ℕ, ◌<◌, ◌+◌, ◌^◌, true, [], length, map, Option, Some, IfOk, IfSome};
 ghost use Rattle.setl_code.specs.Code.{Load, Alter, Combining};
 ghost use Rattle.setl_model.specs.Step.{declared_mode};
-ghost use Rattle.setl_operators_table.specs.declared.Operator.TheVariants.{With};
+ghost use Rattle.setl_operators_table.specs.Operators.{op_of};
+ghost use Rattle.setl_rep_updates.specs.Changed.{given_by};
 ghost use Rattle.setl_code.specs.CodeCore.{There, held, write};
 ghost use Rattle.setl_code.specs.MayRun.{HasSlot};
 ghost use Rattle.setl_code.specs.Plain.{plain_slot, plain_bracket, plain_alteration};
@@ -19,7 +20,8 @@ ghost use Rattle.setl_modes.specs.Fits.{is_taken};
 ghost use Rattle.setl_modes.specs.Modes.{mode_of};
 ghost use Rattle.setl_store.specs.Operands.{IsThere};
 ghost use Rattle.setl_store.specs.Standing.{variables, Becomes};
-ghost use Rattle.setl_value.specs.code.DatumOf.{part};
+ghost use Rattle.setl_value.specs.Datum.{Datum};
+ghost use Rattle.setl_value.specs.code.DatumOf.{datum, part};
 
 use crate::declarations::Declarations;
 use setl_code::{Alteration, Bracket, Instr, Slot};
@@ -28,6 +30,7 @@ use setl_machine_control::{Declaration, End, go_on};
 use setl_modes::{Form, Mode};
 use setl_modes_parts::{combines, parts_decide};
 use setl_operators::Operator;
+use setl_rep_updates::Change;
 use setl_store::{Content, Store};
 use setl_store_environment::Memory;
 use setl_value::Value;
@@ -148,10 +151,10 @@ fn takes_forms(store: &Store<'_>) -> bool
     }
 }
 
-/// `s with:= x`, where the variable holds a form that takes `x` in where it stands. Its answer is whether this was so, and else all
-/// is as before. The error is want of memory.
+/// `s with:= x` and `s less:= x`, where the variable holds a form in which that is done where it stands. Its answer is whether this
+/// was so, and else all is as before. The error is want of memory.
 #[inline(never)]
-pub(crate) fn include(
+pub(crate) fn update_in_form(
     what: Alteration,
     slot: Slot,
     brackets: &[Bracket],
@@ -165,17 +168,20 @@ pub(crate) fn include(
 {
     parts_decide();
     declared_variables_fit();
-    let Some(mode) = mode_of_form(what, slot, brackets, declarations, store) else {
+    let Some((by, mode)) = combined_form(what, slot, brackets, declarations, store) else {
         return Ok(false);
     };
     let Some(top) = store.one() else {
         return Ok(false);
     };
     let value = top.copy()?;
-    if !combines(Operator::With, mode, &Some(value.copy()?)) {
+    if !combines(by, mode, &Some(value.copy()?)) {
         return Ok(false);
     }
-    if !store.include(slot, &value)? {
+    let Some(change) = change_of(by, value) else {
+        return Ok(false);
+    };
+    if !store.update(slot, &change)? {
         return Ok(false);
     }
     store.drop_top()?;
@@ -183,22 +189,30 @@ pub(crate) fn include(
     Ok(true)
 }
 
-// The mode of the variable, where an update is `s with:= x` and the variable holds a form.
-fn mode_of_form<'p>(
+// What an operator makes of a whole and a value, as a change of the whole; None where it is no such change.
+fn change_of(by: Operator, x: Value) -> Option<Change>
+    ensures { IfSome result (λ change. (whole : Option Datum) → given_by change whole ≡ op_of by (whole ∷ Some (datum x) ∷ [])) }
+{
+    match by {
+        Operator::With => Some(Change::With(x)),
+        Operator::Less => Some(Change::Less(x)),
+        _ => None,
+    }
+}
+
+// The operator of an update without selectors, and the mode of the variable, where that holds a form.
+fn combined_form<'p>(
     what: Alteration,
     slot: Slot,
     brackets: &[Bracket],
     declarations: &Declarations<'p>,
     store: &Store<'_>,
-) -> Option<&'p Mode>
+) -> Option<(Operator, &'p Mode)>
     requires there { HasSlot (length store.now.core.globals) (length store.now.core.now.own) slot }
     requires serves { Serves declarations.now store.now }
-    ensures { IfSome result (λ mode. (plain_alteration what ≡ Combining With) × (map plain_bracket brackets.now ≡ []) × (declared_mode (modes_of declarations.now) (plain_slot (variables store.now.core) slot) ≡ Some (mode_of mode.now))) }
+    ensures { IfSome result (λ c. (plain_alteration what ≡ Combining c.0) × (map plain_bracket brackets.now ≡ []) × (declared_mode (modes_of declarations.now) (plain_slot (variables store.now.core) slot) ≡ Some (mode_of c.1.now))) }
 {
     let Alteration::Combine(by) = what else {
-        return None;
-    };
-    let Operator::With = by else {
         return None;
     };
     let count = brackets.len();
@@ -212,5 +226,5 @@ fn mode_of_form<'p>(
     let Some(declaration) = declarations.of_slot(slot, store) else {
         return None;
     };
-    Some(declaration.mode)
+    Some((by, declaration.mode))
 }

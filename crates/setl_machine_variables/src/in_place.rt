@@ -13,7 +13,7 @@ ghost use Rattle.setl_code.specs.Code.{Alteration as PlainAlteration, Bracket as
 
 use crate::altering::alter;
 use crate::declarations::Declarations;
-use crate::in_form::include;
+use crate::in_form::update_in_form;
 use crate::integers::freely;
 use setl_code::{Alteration, Bracket, Slot};
 use setl_machine_control::{Control, End, go_on};
@@ -64,7 +64,7 @@ fn update_any(
     ensures did { IfOk result (λ end. DoesBy (modes_of declarations.now) store.old control.old line (Alter (plain_alteration what) (plain_slot (variables store.old.core) slot) (map plain_bracket brackets.now)) store.new control.new end) }
     ensures reader { control.new.reader ≡ control.old.reader }
 {
-    if include(what, slot, brackets, declarations, store)? {
+    if update_in_form(what, slot, brackets, declarations, store)? {
         return Ok(End::Paused);
     }
     Ok(alter(what, slot, brackets, line, declarations, store, control)?.end)

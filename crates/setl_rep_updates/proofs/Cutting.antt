@@ -52,7 +52,7 @@ append_nothing (x ∷ xs) = ap (λ l. x ∷ l) (append_nothing xs)
 with_nothing : (b : BaseState) → with_values b [] ≡ b
 with_nothing b = ap (λ l. record b { members = l }) (append_nothing b.members)
 
-abbrev no_places : Datum
+abbrev pub no_places : Datum
 no_places = bool true
 
 nothing_in : (bs : BasesState) (n : ℕ) (i : BaseId) → places_in bs n General no_places i ≡ []
@@ -62,7 +62,7 @@ nothing_in bs n i = by (is_named bs n i)
     by true = refl
     by false = refl
 
-not_lengthened : (n : ℕ) (bs : BasesState) → AreLengthened General no_places n bs bs
+pub not_lengthened : (n : ℕ) (bs : BasesState) → AreLengthened General no_places n bs bs
 not_lengthened n bs = record { count = refl; instances = λ i. by i (instance_at bs i) }
   where
     by : (i : BaseId) (o : Option Instance) → o ≡ option_map (lengthened_by (places_in bs n General no_places i)) o

@@ -132,7 +132,7 @@ other_numbers name Local c k l b ns ms h = h
 other_numbers name Remote c k l b ns ms h = h
 other_numbers name Sparse c k l b ns ms h = h
 
-alike_numbers : (l : Layout) (b : BaseId) (ns : set.FinSet nat_cmp) (g : Form) → IsAlike (numbers l b ns) g → (ms : set.FinSet nat_cmp) × (g ≡ numbers l b ms)
+pub alike_numbers : (l : Layout) (b : BaseId) (ns : set.FinSet nat_cmp) (g : Form) → IsAlike (numbers l b ns) g → (ms : set.FinSet nat_cmp) × (g ≡ numbers l b ms)
 alike_numbers l b ns om h = absurd (false≢true (sym (ap is_numbered h)))
 alike_numbers l b ns (plain d) h = absurd (false≢true (sym (ap is_numbered h)))
 alike_numbers l b ns (element c e) h = absurd (false≢true (sym (ap is_numbered h)))

@@ -4,3 +4,4 @@ pub mod Contents
 pub mod Imaging
 pub mod Cutting
 pub mod Adding
+pub mod Excluding

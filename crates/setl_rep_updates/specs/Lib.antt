@@ -1,3 +1,4 @@
 pub mod InForm
 pub mod Updates
+pub mod Changed
 pub mod code

@@ -9,8 +9,10 @@ pub mod laws;
 mod maps;
 mod members;
 mod sets;
+mod updating;
 
 pub use images::include_image;
 pub use maps::{cut, put};
-pub use sets::include;
+pub use sets::{exclude, include};
 pub use std::alloc::AllocError as Memory;
+pub use updating::{Change, update};

@@ -1,12 +1,12 @@
-//! A value comes into a set.
+//! A value comes into a set, or goes out of it.
 
 ghost use Rattle.std.specs.Prelude.{◌≡◌, ◌≤◌, ℕ, nat_lt, ◌&&◌, true, IfOk, OnOk, OnErr, Some, IsSome, [], ◌∷◌};
 ghost use Rattle.setl_value.specs.Datum.{depth, part_depth};
 ghost use Rattle.setl_value.specs.code.DatumOf.{datum};
 ghost use Rattle.setl_modes.specs.Fits.{datum_fits};
 ghost use Rattle.setl_modes.specs.declared.mode.Form.{Form as Attribute};
-ghost use Rattle.setl_modes.specs.Modes.{mode_of, Sets};
-ghost use Rattle.setl_operators_table.specs.declared.Operator.TheVariants.{With};
+ghost use Rattle.setl_modes.specs.Modes.{mode_of, Mode as ModeState, Sets};
+ghost use Rattle.setl_operators_table.specs.declared.Operator.TheVariants.{Less, With};
 ghost use Rattle.setl_operators_table.specs.Operators.{op_of};
 ghost use Rattle.setl_operators_table.specs.Outcome.{Gives};
 ghost use Rattle.setl_base.specs.Base.{find};
@@ -164,6 +164,26 @@ fn put_member(s: &mut Held, b: BaseId, x: &Value, bases: &Bases) -> Result<(), M
     let e = Held::Elt(b, handle(bases.at(b), x));
     match change(s, &e, true, bases) {
         Ok(_) => Ok(()),
+        Err(_) => Err(AllocError),
+    }
+}
+
+/// `s less x`, in place: a set that is held as numbers loses a value.
+///
+/// Ok(false) comes where the set isn't held so. After that, and after want of memory, which is the error, the set is as before.
+/// Nothing is charged, and no base changes. Where nobody else holds the set, the cost is near linear in the size of `x` alone.
+pub fn exclude(s: &mut Held, x: &Value, bases: &Bases) -> Result<bool, Memory>
+    requires over { IsOver bases.now (form s.old) }
+    requires shallow { part_depth (stands bases.now (form s.old)) ≤ 500 }
+    ensures kernel { IfOk result (λ t. t ≡ is_numbered (form s.old)) }
+    ensures update { (m : ModeState) (n : ℕ) → IsInForm bases.now n m (form s.old) → IsUpdate m n (op_of Less (stands bases.now (form s.old) ∷ Some (datum x.now) ∷ [])) bases.now bases.now (form s.old) (form s.new) result }
+{
+    setl_modes_parts::parts_decide();
+    setl_rep_entering::laws::parts_lengthen_alike();
+    let own = x.copy()?;
+    let e = Held::Plain(own);
+    match change(s, &e, false, bases) {
+        Ok(done) => Ok(done),
         Err(_) => Err(AllocError),
     }
 }

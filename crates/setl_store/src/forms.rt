@@ -6,17 +6,17 @@ ghost use Rattle.setl_code.specs.MayRun.{HasSlot};
 ghost use Rattle.setl_code.specs.Plain.{plain_slot};
 ghost use Rattle.setl_modes.specs.Fits.{datum_fits};
 ghost use Rattle.setl_modes.specs.Modes.{mode_of};
-ghost use Rattle.setl_operators_table.specs.declared.Operator.TheVariants.{With};
-ghost use Rattle.setl_operators_table.specs.Operators.{op_of};
+ghost use Rattle.setl_rep_updates.specs.Changed.{given_by};
 ghost use Rattle.setl_store.specs.Forms.{UpdatesFreely};
 ghost use Rattle.setl_store.specs.Standing.{variables, Becomes};
 ghost use Rattle.setl_value.specs.code.DatumOf.{datum};
 
-use crate::putting::{include_at, plain_at, put_formed};
+use crate::putting::{plain_at, put_formed, update_at};
 use crate::store::{Store, place};
 use setl_code::Slot;
 use setl_modes::Mode;
 use setl_rep_entering::bases_are_there;
+use setl_rep_updates::Change;
 use setl_store_environment::Memory;
 use setl_value::Value;
 
@@ -47,21 +47,27 @@ impl<'c> Store<'c> {
         )
     }
 
-    /// `s with:= x`, where a variable's slot holds a set in a form that takes `x` in: the set is updated in place, and `x` is
-    /// entered into its base first. The answer is whether this was so, and else all is as before.
+    /// Does this to the set or map that a variable's slot holds in a form, in place: values at its places are entered into their
+    /// bases first. The answer is whether there is such a way, and else all is as before.
     ///
-    /// The error is want of memory, and then all is as before. Where nobody else holds the set, the cost is near linear in the
-    /// size of `x` alone.
-    pub fn include(&mut self, slot: Slot, x: &Value) -> Result<bool, Memory>
+    /// The error is want of memory, and then all is as before. Where nobody else holds the set or map, the cost is near linear in
+    /// the size of what is put in or taken out alone.
+    pub fn update(&mut self, slot: Slot, change: &Change) -> Result<bool, Memory>
         requires { HasSlot (length self.old.core.globals) (length self.old.core.now.own) slot }
-        ensures done { IfOk result (UpdatesFreely (λ s. op_of With (s ∷ Some (datum x.now) ∷ [])) (plain_slot (variables self.old.core) slot) self.old self.new) }
+        ensures done { IfOk result (UpdatesFreely (given_by change.now) (plain_slot (variables self.old.core) slot) self.old self.new) }
         ensures refused { OnErr result (self.new ≡ self.old) }
     {
         setl_rep_bases::laws::cuts_are_exact();
         setl_rep_updates::laws::forms_of_main_stay();
         setl_store_operands::laws::operands_stay();
         let at = place(&self.environment, slot);
-        include_at(self.alloc, &mut self.environment, &mut self.bases, at, x)
+        update_at(
+            self.alloc,
+            &mut self.environment,
+            &mut self.bases,
+            at,
+            change,
+        )
     }
 
     /// Has a variable's slot hold its value as it is, in no form.

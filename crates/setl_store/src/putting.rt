@@ -1,11 +1,10 @@
 //! Changes of slots in their forms, with the memory that they take.
 
-ghost use Rattle.std.specs.Prelude.{◌≡◌, ◌∷◌, [], ◌<◌, true, length, Some, OnOk, OnErr};
+ghost use Rattle.std.specs.Prelude.{◌≡◌, ◌<◌, true, length, Some, OnOk, OnErr};
 ghost use Rattle.setl_modes.specs.Fits.{datum_fits};
 ghost use Rattle.setl_modes.specs.Modes.{mode_of};
-ghost use Rattle.setl_operators_table.specs.declared.Operator.TheVariants.{With};
-ghost use Rattle.setl_operators_table.specs.Operators.{op_of};
 ghost use Rattle.setl_rep_entering.specs.Entering.{BasesAreThere};
+ghost use Rattle.setl_rep_updates.specs.Changed.{given_by};
 ghost use Rattle.setl_store.specs.Putting.{IsPut, IsPutAgain, IsUpdatedAt};
 ghost use Rattle.setl_store_slots.specs.Slots.{AreStanding};
 ghost use Rattle.setl_store_slots.specs.Updates.{AreGrown};
@@ -16,8 +15,9 @@ use crate::store::held;
 use setl_modes::Mode;
 use setl_rep_bases::Bases;
 use setl_rep_plain::plain;
+use setl_rep_updates::Change;
 use setl_store_environment::Memory;
-use setl_store_slots::{Held, formed, include};
+use setl_store_slots::{Held, formed, update};
 use setl_value::Value;
 use std::alloc::Global;
 
@@ -44,17 +44,17 @@ pub(crate) fn put_formed(
     Ok(())
 }
 
-/// `s with:= x`, in the form of what a slot holds. The answer is whether it was done.
-pub(crate) fn include_at(
+/// Does this to what a slot holds in a form. The answer is whether it was done.
+pub(crate) fn update_at(
     alloc: Global,
     environment: &mut Contents,
     bases: &mut Bases,
     at: usize,
-    x: &Value,
+    change: &Change,
 ) -> Result<bool, Memory>
     requires slot { at < length environment.old.now.slots }
     requires standing { AreStanding bases.old environment.old.now.slots }
-    ensures updated { IsUpdatedAt (λ s. op_of With (s ∷ Some (datum x.now) ∷ [])) bases.old bases.new at environment.old.now environment.new.now result }
+    ensures updated { IsUpdatedAt (given_by change.now) bases.old bases.new at environment.old.now environment.new.now result }
     ensures kept { environment.new.kept ≡ environment.old.kept }
 {
     if !is_in_form(environment.slot(at)) {
@@ -67,7 +67,7 @@ pub(crate) fn include_at(
         Ok(slot) => slot,
         Err(refused) => return Err(refused),
     };
-    let done = include(alloc, &mut slot, x, bases);
+    let done = update(alloc, &mut slot, change, bases);
     environment.set_slot(at, slot);
     done
 }

@@ -14,4 +14,4 @@ pub use forming::formed;
 pub use handing::handed_back;
 pub use setl_store_environment::Memory;
 pub use shared::Shared;
-pub use updating::include;
+pub use updating::update;
