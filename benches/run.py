@@ -1,21 +1,33 @@
 #!/usr/bin/env python3
-"""Times the jobs of programs/ as SETL programs and as the same work in Python.
+"""Times the jobs of programs/ as SETL programs and as the same work in Python and in Lua.
 
-Each job NAME has a SETL program NAME.setl and a Python program NAME.py, which read one size from the input and write
-the same lines. For each of three sizes both run in turn, and the least time of a few rounds counts. A time is what the
-processor spent on the run, so other work on the machine matters little. A line tells the job, the size, both times in
-seconds, how many times as long the SETL program took, and by how much each time grew from the size before. Ratio and
-growth leave out what an empty program takes, and stand as `-` where too little is left to tell. The status is 1 if a
-run fails or two outputs differ.
+Each job NAME has a SETL program NAME.setl and a Python program NAME.py, and many have a Lua program NAME.lua, which
+read one size from the input and write the same lines. The Lua programs run where Lua 5.4 is installed, as lua5.4 or
+lua. For each of three sizes all run in turn, and the least time of a few rounds counts. A time is what the processor
+spent on the run, so other work on the machine matters less than by the clock.
 
-    run.py [--rounds N] [--limit SECONDS] [--program FILE] [JOB ..]
+A line tells the job, the size, the times in seconds, how many times as long the SETL program took as the one in Python
+and the one in Lua, by how much each time grew from the size before, and the machine instructions of each program in
+millions. Ratio, growth and instructions leave out what an empty program takes, which has a line of its own. A `-`
+stands where there is no such program or no count, and where too little time is left to tell. The status is 1 if a run
+fails or two outputs differ.
+
+Instructions are counted in one further run of each program: by `perf stat -e instructions:u` where perf can count them,
+which is tried on the command `true`; else by `valgrind --tool=callgrind`, and then at the smallest size only, since it
+is slow. Both count the instructions of the program itself and none of the system. Those of a Python program waver from
+run to run. --no-instructions leaves the counts out, as does a machine with neither perf nor valgrind.
+
+    run.py [--rounds N] [--limit SECONDS] [--program FILE] [--no-instructions] [JOB ..]
 
 The built program is wanted in crates/setl/out (rt ci leaves it).
 """
 import argparse
+import re
 import resource
+import shutil
 import subprocess
 import sys
+import tempfile
 from pathlib import Path
 
 FOLDER = Path(__file__).resolve().parent
@@ -31,7 +43,15 @@ SIZES = {
     'deep': (250, 500, 1_000),
     # the largest input has some 10 MB
     'reading': (375_000, 750_000, 1_500_000),
+    'components': (5_000, 10_000, 20_000),
+    'colouring': (2_500, 5_000, 10_000),
+    'join': (5_000, 10_000, 20_000),
+    'life': (30, 60, 90),
+    'scanning': (5_000, 10_000, 20_000),
+    'recursion': (2_500, 5_000, 10_000),
+    'sorting': (5_000, 10_000, 20_000),
 }
+LANGUAGES = ('setl', 'python', 'lua')
 # net seconds below this tell nothing
 LEAST = 0.005
 
@@ -68,66 +88,178 @@ def timed(command, given_input, limit):
     return seconds, done.stdout
 
 
-def least(commands, given_input, rounds, limit):
-    """The least seconds of each command over some rounds, in which they run in turn, and what each writes."""
-    times = [None] * len(commands)
-    outputs = [None] * len(commands)
-    for _ in range(rounds):
-        for i, command in enumerate(commands):
-            seconds, outputs[i] = timed(command, given_input, limit)
-            times[i] = seconds if times[i] is None else min(times[i], seconds)
-    return times, outputs
+def perf(file, command):
+    """The command that writes to a file how many instructions a command takes, by the processor's own counter."""
+    return ['perf', 'stat', '-x', ',', '-e', 'instructions:u', '-o', file, *command]
+
+
+def callgrind(file, command):
+    """The same by callgrind, which runs the command on a processor of its own."""
+    return ['valgrind', '--tool=callgrind', f'--callgrind-out-file={file}', *command]
+
+
+# how each of them writes its counts: perf has a line for each kind of core, and callgrind one in all
+COUNTS = {perf: r'^(\d+),[^,\n]*,[^,\n]*instructions', callgrind: r'^totals: (\d+)$'}
+
+
+def counted(counter, command, given_input, limit):
+    """The instructions of a run with this input, in millions, and what it writes."""
+    with tempfile.NamedTemporaryFile() as file:
+        _, output = timed(counter(file.name, command), given_input, limit)
+        counts = re.findall(COUNTS[counter], Path(file.name).read_text(errors='replace'), re.MULTILINE)
+    if not counts:
+        raise Failed('counted nothing')
+    return sum(map(int, counts)) / 1e6, output
+
+
+def find_counter():
+    """What counts instructions on this machine, or None."""
+    for counter, name in (perf, 'perf'), (callgrind, 'valgrind'):
+        if shutil.which(name):
+            try:
+                counted(counter, ['true'], b'', 60.0)
+                return counter
+            except Failed:
+                pass
+    return None
+
+
+def find_lua():
+    """The file of Lua 5.4, or None."""
+    for name in 'lua5.4', 'lua':
+        file = shutil.which(name)
+        if file and subprocess.run([file, '-v'], capture_output=True).stdout.startswith(b'Lua 5.4'):
+            return file
+    return None
 
 
 def quotient(a, b):
     """The text of one net time by another."""
-    return f'{a / b:>9.2f}' if min(a, b) >= LEAST else f'{"-":>9}'
+    return f'{a / b:>10.2f}' if None not in (a, b) and min(a, b) >= LEAST else f'{"-":>10}'
 
 
-def measure(job, program, empty, rounds, limit):
-    """Writes the lines of a job, and tells whether all went well."""
-    source = FOLDER / 'programs' / job
-    commands = [[program, 'run', f'{source}.setl'], [sys.executable, f'{source}.py']]
-    before = None
-    for size in SIZES[job]:
-        try:
-            times, outputs = least(commands, input_of(job, size), rounds, limit)
-        except Failed as failed:
-            print(f'{job:13}{size:>9}  {failed}', flush=True)
-            return False
-        if outputs[0] != outputs[1]:
-            print(f'{job:13}{size:>9}  the outputs differ', flush=True)
-            return False
-        net = [a - b for a, b in zip(times, empty)]
-        line = f'{job:13}{size:>9}{times[0]:>10.3f}{times[1]:>10.3f}{quotient(*net)}'
-        if before is not None:
+def number(x, places):
+    """The text of a time or a count."""
+    return f'{"-":>10}' if x is None else f'{x:>10.{places}f}'
+
+
+def less(xs, ys):
+    """The differences of two lists, None where one of the two is None."""
+    return [None if None in pair else pair[0] - pair[1] for pair in zip(xs, ys)]
+
+
+class Bench:
+    """The programs that are compared, with what each takes for an empty program."""
+
+    def __init__(self, given):
+        self.rounds = given.rounds
+        self.limit = given.limit
+        self.counter = find_counter() if given.instructions else None
+        setl = [given.program.resolve(), 'run']
+        lua = find_lua()
+        # how the programs with these endings are run, in the order of LANGUAGES
+        self.starts = {'.setl': setl, '.py': [sys.executable], '.lua': [lua] if lua else None}
+        empties = [[*setl, FOLDER.parent / 'examples' / 'regressions' / 'empty.setl'], [sys.executable, '-c', ''],
+                   [lua, '-e', ''] if lua else None]
+        self.empty_times, _ = self.run(empties, b'0\n', max(self.rounds, 5))
+        self.empty_counts = self.count(empties, b'0\n', None)
+
+    def run(self, commands, given_input, rounds):
+        """The least times of these commands over some rounds, in which they run in turn, and what all of them write.
+
+        None stands for a command and a time that aren't there.
+        """
+        times = [None] * len(commands)
+        wanted = None
+        for _ in range(rounds):
+            for i, command in enumerate(commands):
+                if command is None:
+                    continue
+                try:
+                    seconds, output = timed(command, given_input, self.limit)
+                except Failed as failed:
+                    raise Failed(f'{LANGUAGES[i]} {failed}')
+                if wanted is None:
+                    wanted = output
+                elif output != wanted:
+                    raise Failed(f'{LANGUAGES[i]} writes something else')
+                times[i] = seconds if times[i] is None else min(times[i], seconds)
+        return times, wanted
+
+    def count(self, commands, given_input, wanted):
+        """The millions of instructions of these commands, which write what is wanted if that is known."""
+        counts = [None] * len(commands)
+        for i, command in enumerate(commands):
+            if command is None or self.counter is None:
+                continue
+            try:
+                counts[i], output = counted(self.counter, command, given_input, self.limit)
+            except Failed as failed:
+                print(f'no count of {LANGUAGES[i]}, since it {failed}', file=sys.stderr)
+                continue
+            if wanted not in (None, output):
+                raise Failed(f'{LANGUAGES[i]} writes something else where it is counted')
+        return counts
+
+    def programs(self, job):
+        """The commands of a job, None where there is no program or nothing that runs it."""
+        commands = []
+        for ending, start in self.starts.items():
+            file = FOLDER / 'programs' / (job + ending)
+            commands.append([*start, file] if start and file.exists() else None)
+        return commands
+
+    def measure(self, job):
+        """Writes the lines of a job, and tells whether all went well."""
+        commands = self.programs(job)
+        before = [None] * len(commands)
+        for place, size in enumerate(SIZES[job]):
+            given_input = input_of(job, size)
+            try:
+                times, output = self.run(commands, given_input, self.rounds)
+                if place == 0 or self.counter is perf:
+                    counts = less(self.count(commands, given_input, output), self.empty_counts)
+                else:
+                    counts = [None] * len(commands)
+            except Failed as failed:
+                print(f'{job:13}{size:>9}  {failed}', flush=True)
+                return False
+            net = less(times, self.empty_times)
+            line = f'{job:13}{size:>9}' + ''.join(number(x, 3) for x in times)
+            line += quotient(net[0], net[1]) + quotient(net[0], net[2])
             line += ''.join(quotient(a, b) for a, b in zip(net, before))
-        print(line, flush=True)
-        before = net
-    return True
+            line += ''.join(number(x, 1) for x in counts)
+            print(line, flush=True)
+            before = net
+        return True
 
 
 def main():
-    parser = argparse.ArgumentParser(description='Times SETL programs and the same work in Python.')
+    parser = argparse.ArgumentParser(description='Times SETL programs and the same work in Python and in Lua.')
     parser.add_argument('--rounds', type=int, default=3)
     parser.add_argument('--limit', type=float, default=120.0, help='seconds after which a run is ended')
     parser.add_argument('--program', type=Path, default=FOLDER.parent / 'crates' / 'setl' / 'out' / 'setl')
+    parser.add_argument('--no-instructions', dest='instructions', action='store_false',
+                        help='count no machine instructions, which is slow without perf')
     parser.add_argument('jobs', nargs='*', metavar='JOB', help=', '.join(SIZES))
     given = parser.parse_args()
     unknown = [job for job in given.jobs if job not in SIZES]
     if unknown:
         parser.error(f'no such job: {unknown[0]}')
-    program = given.program.resolve()
-    if not program.exists():
-        sys.exit(f'run: {program} isn\'t there; rt ci leaves it')
-    empties = [[program, 'run', FOLDER.parent / 'examples' / 'regressions' / 'empty.setl'], [sys.executable, '-c', '']]
+    if not given.program.exists():
+        sys.exit(f'run: {given.program} isn\'t there; rt ci leaves it')
     try:
-        empty, _ = least(empties, b'0\n', max(given.rounds, 5), given.limit)
+        bench = Bench(given)
     except Failed as failed:
-        sys.exit(f'run: an empty program {failed}')
-    print(f'an empty program takes {empty[0]:.3f} s, in Python {empty[1]:.3f} s')
-    print(f'{"job":13}{"size":>9}{"setl s":>10}{"python s":>10}{"ratio":>9}{"setl x":>9}{"python x":>9}')
-    fine = [measure(job, program, empty, given.rounds, given.limit) for job in given.jobs or SIZES]
+        sys.exit(f'run: an empty program: {failed}')
+    counter = 'not counted' if bench.counter is None else f'by {bench.counter.__name__}'
+    print(f'instructions: {counter}')
+    print(f'{"an empty program":22}' + ''.join(number(x, 3) for x in bench.empty_times) + ' ' * 50
+          + ''.join(number(x, 1) for x in bench.empty_counts))
+    heads = [f'{name} s' for name in LANGUAGES] + ['by python', 'by lua'] + [f'{name} x' for name in LANGUAGES]
+    heads += [f'{name} M' for name in LANGUAGES]
+    print(f'{"job":13}{"size":>9}' + ''.join(f'{head:>10}' for head in heads), flush=True)
+    fine = [bench.measure(job) for job in given.jobs or SIZES]
     sys.exit(0 if all(fine) else 1)
 
 
