@@ -15,15 +15,15 @@ returns-then-branch-clause-did c =
     let old = c.args.store.now in
     let modes = modes_of c.args.declarations.now in
     let what = Alter (plain_alteration c.args.what) (plain_slot (variables old.core) c.args.slot) (map plain_bracket c.args.brackets.now) in
-    works_alone_by modes old c.include.new.store c.args.control.now c.args.line what (Ok end.Paused)
-    (subst (WorksOrLeaves modes old c.args.line what c.include.new.store) c.if-branch.true (c.in_ok-include.ensures c.args.line))
+    works_alone_by modes old c.update_in_form.new.store c.args.control.now c.args.line what (Ok end.Paused)
+    (subst (WorksOrLeaves modes old c.args.line what c.update_in_form.new.store) c.if-branch.true (c.in_ok-update_in_form.ensures c.args.line))
 
 pub alter-requires-clause-few : goal.alter-requires-clause-few
 alter-requires-clause-few c =
     let old = c.args.store.now in
     let modes = modes_of c.args.declarations.now in
     let what = Alter (plain_alteration c.args.what) (plain_slot (variables old.core) c.args.slot) (map plain_bracket c.args.brackets.now) in
-    let same : c.include.new.store ≡ old = subst (WorksOrLeaves modes old c.args.line what c.include.new.store) c.if-branch.false (c.in_ok-include.ensures c.args.line) in
+    let same : c.update_in_form.new.store ≡ old = subst (WorksOrLeaves modes old c.args.line what c.update_in_form.new.store) c.if-branch.false (c.in_ok-update_in_form.ensures c.args.line) in
     subst (λ (s : Standing). s.core.now.at + 1 < 2 ^ 64) (sym same) c.requires.few
 
 pub alter-requires-clause-there : goal.alter-requires-clause-there
@@ -31,7 +31,7 @@ alter-requires-clause-there c =
     let old = c.args.store.now in
     let modes = modes_of c.args.declarations.now in
     let what = Alter (plain_alteration c.args.what) (plain_slot (variables old.core) c.args.slot) (map plain_bracket c.args.brackets.now) in
-    let same : c.include.new.store ≡ old = subst (WorksOrLeaves modes old c.args.line what c.include.new.store) c.if-branch.false (c.in_ok-include.ensures c.args.line) in
+    let same : c.update_in_form.new.store ≡ old = subst (WorksOrLeaves modes old c.args.line what c.update_in_form.new.store) c.if-branch.false (c.in_ok-update_in_form.ensures c.args.line) in
     subst (λ (s : Standing). HasSlot (length s.core.globals) (length s.core.now.own) c.args.slot) (sym same) c.requires.there
 
 pub alter-requires-clause-serves : goal.alter-requires-clause-serves
@@ -39,7 +39,7 @@ alter-requires-clause-serves c =
     let old = c.args.store.now in
     let modes = modes_of c.args.declarations.now in
     let what = Alter (plain_alteration c.args.what) (plain_slot (variables old.core) c.args.slot) (map plain_bracket c.args.brackets.now) in
-    let same : c.include.new.store ≡ old = subst (WorksOrLeaves modes old c.args.line what c.include.new.store) c.if-branch.false (c.in_ok-include.ensures c.args.line) in
+    let same : c.update_in_form.new.store ≡ old = subst (WorksOrLeaves modes old c.args.line what c.update_in_form.new.store) c.if-branch.false (c.in_ok-update_in_form.ensures c.args.line) in
     subst (Serves c.args.declarations.now) (sym same) c.requires.serves
 
 pub returns-clause-did : goal.returns-clause-did
@@ -47,6 +47,6 @@ returns-clause-did c =
     let old = c.args.store.now in
     let modes = modes_of c.args.declarations.now in
     let what = Alter (plain_alteration c.args.what) (plain_slot (variables old.core) c.args.slot) (map plain_bracket c.args.brackets.now) in
-    let same : c.include.new.store ≡ old = subst (WorksOrLeaves modes old c.args.line what c.include.new.store) c.if-branch.false (c.in_ok-include.ensures c.args.line) in
+    let same : c.update_in_form.new.store ≡ old = subst (WorksOrLeaves modes old c.args.line what c.update_in_form.new.store) c.if-branch.false (c.in_ok-update_in_form.ensures c.args.line) in
     subst (λ (s : Standing). DoesBy modes s c.args.control.now c.args.line (Alter (plain_alteration c.args.what) (plain_slot (variables s.core) c.args.slot) (map plain_bracket c.args.brackets.now)) c.alter.new.store c.alter.new.control c.in_ok-alter.field-0.end) same
     c.in_ok-alter.ensures.did
