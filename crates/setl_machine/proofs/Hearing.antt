@@ -168,12 +168,12 @@ all_fit : (modes : Modes) (xs : List Store) → AllTaken modes xs → AllFit (te
 all_fit modes [] h = tt
 all_fit modes (x ∷ xs) h = (h.0, all_fit modes xs h.1)
 
-bindings_fit : (modes : Modes) (c : Code) → AreOfMain modes → IsBare c → (i : Instr) → BindingsFit c (tested modes) i
+pub bindings_fit : (modes : Modes) (c : Code) → AreOfMain modes → IsBare c → (i : Instr) → BindingsFit c (tested modes) i
 bindings_fit modes c main bare (CallBody n) = λ b e vs. all_fit modes (bindings n b.parameters vs) (subst (TakesAll modes n vs) e (parameters_taken modes c main bare n vs))
 bindings_fit modes c main bare i = tt
 
 -- a step that ends the run told nothing
-ends_silent : EndsTellNothing → (modes : Modes) (c : Code) (k : CodeCore) (e : run.End) (s : State CodeCore) → AreOfMain modes → IsBare c → step (machine c) (tested modes) (start k) ≡ Ends e s → s.events ≡ []
+pub ends_silent : EndsTellNothing → (modes : Modes) (c : Code) (k : CodeCore) (e : run.End) (s : State CodeCore) → AreOfMain modes → IsBare c → step (machine c) (tested modes) (start k) ≡ Ends e s → s.events ≡ []
 ends_silent nothing modes c k e s main bare h = go (fetch c k.now.body k.now.at) h
   where
     go : (f : Option Step) → settle (machine c) (tested modes) (start k) (do_step c f k) ≡ Ends e s → s.events ≡ []

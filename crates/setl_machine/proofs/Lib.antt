@@ -10,6 +10,7 @@ pub mod Components
 pub mod Stepping
 pub mod Rounds
 pub mod Ending
+pub mod SlotsKept
 pub mod Operated
 pub mod Printing
 pub mod Staying

@@ -3,14 +3,7 @@ use Rattle.std.proofs.Common.{◌≡◌, ◌∙◌, ◌+◌, ℕ, zero, suc, Boo
 use Rattle.std.proofs.lemmas.List.{append-nil}
 use Rattle.setl_model_runs.specs.Events.{Event, Stored, End}
 use Rattle.setl_model_runs.specs.Run.{Store, Move, Moves, Halts, State, Next, Goes, Ends, Machine, Test, stored, if_fits, store_all, settle, step, and_then, run}
-
--- a state behind what another one wrote and told
-abbrev pub behind : {C : Type 0} → State C → State C → State C
-behind a s = record { core = s.core; out = a.out ++ s.out; events = a.events ++ s.events }
-
-abbrev pub all_behind : {C : Type 0} → State C → Next C → Next C
-all_behind a (Goes s) = Goes (behind a s)
-all_behind a (Ends e s) = Ends e (behind a s)
+pub use Rattle.setl_machine.specs.Outcome.{behind, all_behind}
 
 -- nothing written or told yet
 abbrev begun : {C : Type 0} → C → State C
@@ -77,3 +70,7 @@ run_one {C} m test a = go (step m test a)
     go : (x : Next C) → and_then x (run m test 0) ≡ x
     go (Goes t) = refl
     go (Ends e t) = refl
+
+-- a step from a state is one from its core, behind what was written and told
+pub step_behind : {C : Type 0} (m : Machine C) (test : Test) (a : State C) → step m test a ≡ all_behind a (step m test (begun a.core))
+step_behind m test a = sym (run_one m test a) ∙ run_joined m test 0 1 a a refl ∙ ap (all_behind a) (run_one m test (begun a.core))

@@ -4,13 +4,13 @@ use Rattle.std.specs.Io.KnownBytes.{Appends, append_known}
 use Rattle.setl_io.specs.Faults.{Rose}
 use Rattle.setl_io.specs.Sink.{AppendsPart}
 use Rattle.setl_model_runs.specs.Events as run
-use Rattle.setl_model_runs.specs.Run.{State, Next, Goes, Ends, step}
+use Rattle.setl_model_runs.specs.Run.{State, Next, Goes, Ends, Test, step}
 use Rattle.setl_model_runs.specs.Run as runs
 use Rattle.setl_code.specs.Code.{Code, PrintTop, ReadOne}
 use Rattle.setl_code.specs.CodeCore.{CodeCore}
 use Rattle.setl_code.specs.Machine.{machine, fetch}
 use Rattle.setl_machine_control.specs.Control.{ControlState, stood_for}
-use Rattle.setl_machine_control.specs.Declaring.{Modes, tested}
+use Rattle.setl_machine_control.specs.Declaring.{Modes, AreOfMain, IsBare, tested}
 use Rattle.setl_machine_control.specs.declared.end.End.{End}
 use Rattle.setl_machine_control.specs.declared.end.End.TheVariants as end
 use Rattle.setl_machine_control.specs.Answers.{start, said, Answers}
@@ -23,6 +23,29 @@ last (Ends e s) = s.core
 -- a step that ends a run writes nothing
 abbrev pub EndsWriteNothing : Type 0
 EndsWriteNothing = (c : Code) (modes : Modes) (k : CodeCore) (e : run.End) (s : State CodeCore) → step (machine c) (tested modes) (start k) ≡ Ends e s → s.out ≡ []
+
+-- a state behind what another one wrote and told
+abbrev pub behind : {C : Type 0} → State C → State C → State C
+behind a s = record { core = s.core; out = a.out ++ s.out; events = a.events ++ s.events }
+
+abbrev pub all_behind : {C : Type 0} → State C → Next C → Next C
+all_behind a (Goes s) = Goes (behind a s)
+all_behind a (Ends e s) = Ends e (behind a s)
+
+-- what comes next after a state is what comes next of its core, behind what was written and told
+abbrev pub StepsAdd : Type 0
+StepsAdd = (c : Code) (test : Test) (a : State CodeCore) → step (machine c) test a ≡ all_behind a (step (machine c) test (start a.core))
+
+-- the same body is at work, with the same in its slots and in those that all bodies see
+pub record HasSameSlots (a b : CodeCore) : Type 0 where
+  pub globals : b.globals ≡ a.globals
+  pub own : b.now.own ≡ a.now.own
+  pub body : b.now.body ≡ a.now.body
+
+-- a step that ends a run writes and tells nothing and leaves every slot as it was, where the declared variables are those of
+-- the main body, which has no parameters
+abbrev pub EndsChangeNothing : Type 0
+EndsChangeNothing = (c : Code) (modes : Modes) (a s : State CodeCore) (e : run.End) → AreOfMain modes → IsBare c → step (machine c) (tested modes) a ≡ Ends e s → (s.out ≡ a.out) × (s.events ≡ a.events) × HasSameSlots a.core s.core
 
 -- What is seen of the outside: the bytes held by the output, where it tells them, its count of faults, and that of the
 -- input.

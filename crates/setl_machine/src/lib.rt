@@ -19,8 +19,9 @@ mod values;
 mod variables;
 mod watching;
 
-pub use laws::ends_write_nothing;
+pub use laws::{ends_change_nothing, ends_write_nothing, steps_add};
 pub use machine::{run, run_whole};
 pub use setl_machine_control::{Control, End, StopKind};
 pub use setl_machine_variables::Declarations;
+pub use telling::step_telling;
 pub use watching::run_watched;

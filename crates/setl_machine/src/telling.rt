@@ -33,8 +33,9 @@ use setl_store_environment::Memory;
 use setl_watch::Event;
 use std::alloc::Global;
 
-/// One step, and the events that it tells where it goes on. The error is how the run ends.
-pub(crate) fn step_telling<I: Source, O: Sink>(
+/// Does the next instruction, as `run` does, and gives the events that it tells. The error is how the run ends there, which
+/// is never `Paused`.
+pub fn step_telling<I: Source, O: Sink>(
     declarations: &Declarations<'_>,
     store: &mut Store<'_>,
     control: &mut Control,
