@@ -1,6 +1,6 @@
 -- Where the one image of a point stands, and the map after it is changed there.
 use Rattle.std.specs.Prelude.{◌≡◌, ℕ, zero, suc, ◌+◌, Bool, true, false, cond, List, [], ◌∷◌, ◌++◌, Option, Some, None, take, drop, refl, slice_get, slice_set}
-use Rattle.std.specs.List.{AllByRecursion, prefix_len}
+use Rattle.std.specs.List.{AllByRecursion, insert, prefix_len}
 use Rattle.std.specs.Option.{IfNone, unwrap_or}
 use Rattle.std.proofs.Common.{ap, sym, ◌∙◌, arith, subst}
 use Rattle.std.proofs.lemmas.List.{append_assoc, set_split}
@@ -66,6 +66,17 @@ one_image x d ds i r p b h =
       λ e. set_split ds i (pair x e) (slice_get_within ds i (pair x d) there) ∙ ap (λ n. take i ds ++ pair x e ∷ drop n ds) {x = suc i} {y = i + 1} (omega arith)
           ∙ sym (append_assoc (take i ds) (pair x e ∷ []) (drop (i + 1) ds)) ∙ put_between x e ds i (i + 1) p from to split,
     )
+
+inserted : {X : Type 0} (xs : List X) (i : ℕ) (y : X) → insert xs i y ≡ take i xs ++ y ∷ drop i xs
+inserted [] zero y = refl
+inserted [] (suc i) y = refl
+inserted (x ∷ xs) zero y = refl
+inserted (x ∷ xs) (suc i) y = ap (λ l. x ∷ l) (inserted xs i y)
+
+-- where x has no pairs, the pair of x and y is put before what comes behind x
+pub put_alone : (x y : Datum) (ds : List Datum) (i : ℕ) → AllByRecursion IsPair ds → IsBound false x ds i → IsBound true x ds i → insert ds i (pair x y) ≡ put_image x (Some y) ds
+put_alone x y ds i p from to =
+    inserted ds i (pair x y) ∙ sym (append_assoc (take i ds) (pair x y ∷ []) (drop i ds)) ∙ put_between x y ds i i p from to (split_by_bounds x ds i i p from to)
 
 -- what follows from what a clause says of a closure that wasn't called
 pub none_then : {R P Q : Type 0} (o : Option R) → (P → Q) → IfNone o P → IfNone o Q

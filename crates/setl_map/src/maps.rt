@@ -1,22 +1,23 @@
 //! The calls on maps.
 
-ghost use Rattle.std.specs.Prelude.{◌≡◌, ◌↔◌, ◌⊎◌, ◌<◌, ◌∷◌, [], true, false, map, length, Some, None, IfOk, IfNone, IfSome, OnErr, OnOk, IsTrue, Err, nat_le, nat_lt};
+ghost use Rattle.std.specs.Prelude.{◌≡◌, ◌↔◌, ◌⊎◌, ◌<◌, ◌≤◌, ◌+◌, ◌∷◌, [], true, false, map, length, Some, None, IfOk, IfNone, IfSome, OnErr, OnOk, IsTrue, Err, nat_le, nat_lt};
 ghost use Rattle.setl_value.specs.code.Body.{Members};
 ghost use Rattle.setl_value.specs.Datum.{Datum, depth, set_of};
 ghost use Rattle.setl_value.specs.code.Changing.{Grows};
 ghost use Rattle.setl_value.specs.code.DatumOf.{datum, part};
 ghost use Rattle.setl_value.specs.Pairs.{is_map, images, pair};
+ghost use Rattle.setl_value.specs.code.Places.{HasPlace, rank};
 ghost use Rattle.std.specs.List.{filter_map};
 ghost use Rattle.setl_set.specs.Sets.{insert_datum, set_from};
 ghost use Rattle.setl_map.specs.code.Changing.{ChangesImage};
-ghost use Rattle.setl_map.specs.code.Points.{part_at, pair_depth};
+ghost use Rattle.setl_map.specs.code.Points.{BeginsAt, IsBound, part_at, pair_depth};
 ghost use Rattle.setl_map.specs.Maps.{image, domain_of, range_of, without_point, put_image, put_images};
 
 use crate::MapFault;
 use crate::gather::gathered;
-use crate::pairs::{make_pair, only_image, parts_of, span};
+use crate::pairs::{count_from, image_from, make_pair, only_image, parts_of, span};
 use setl_set::laws;
-use setl_value::{Memory, SetBody, Value};
+use setl_value::{Cursor, Memory, SetBody, Value};
 use std::alloc::{AllocError, Global};
 
 /// The one image of `x`, and None where it has none or several. Kind exactly where a member is no pair. Its cost is
@@ -169,16 +170,93 @@ fn put_shallow(alloc: Global, f: &mut SetBody, x: Value, y: Option<Value>) -> Re
     }
 }
 
-// Makes `y` the one image of `x` in a map.
+// Makes `y` the one image of `x` in a map: in the pair that stands there, where that is the only one and `y` is at least
+// as deep as its second part, and else in a new pair.
 fn put_pair(alloc: Global, f: &mut SetBody, x: Value, y: Value) -> Result<(), Memory>
     requires map { IsTrue (is_map (Members f.old)) }
     requires shallow { depth (pair (datum x) (datum y)) < 500 }
     ensures put { OnOk result (Members f.new ≡ put_image (datum x) (Some (datum y)) (Members f.old)) }
     ensures refused { OnErr result (f.new ≡ f.old) }
 {
+    let from = f.search_point(&x);
+    match image_from(f, from, &x) {
+        Some(old) if old.depth() <= y.depth() => overwrite(f, from, &x, y),
+        _ => put_new_pair(alloc, f, from, x, y),
+    }
+}
+
+// Makes `y` the one image of `x`, whose pair stands at a place.
+fn overwrite(f: &mut SetBody, from: Cursor, x: &Value, y: Value) -> Result<(), Memory>
+    requires map { IsTrue (is_map (Members f.old)) }
+    requires place { HasPlace f.old from }
+    requires from { BeginsAt (datum x.now) (Members f.old) (rank f.old from) }
+    requires there { (d : Datum) × (image (datum x.now) (Members f.old) ≡ Some d) × (depth d ≤ depth (datum y)) }
+    requires shallow { depth (datum y) < 499 }
+    ensures put { OnOk result (Members f.new ≡ put_image (datum x.now) (Some (datum y)) (Members f.old)) }
+    ensures refused { OnErr result (f.new ≡ f.old) }
+{
+    change_from(f, from, x, |image| *image = y)?;
+    Ok(())
+}
+
+// Makes `y` the one image of `x`, of which the place is known where its pairs begin, or else would stand.
+fn put_new_pair(
+    alloc: Global,
+    f: &mut SetBody,
+    from: Cursor,
+    x: Value,
+    y: Value,
+) -> Result<(), Memory>
+    requires map { IsTrue (is_map (Members f.old)) }
+    requires place { HasPlace f.old from }
+    requires from { BeginsAt (datum x) (Members f.old) (rank f.old from) }
+    requires shallow { depth (pair (datum x) (datum y)) < 500 }
+    ensures put { OnOk result (Members f.new ≡ put_image (datum x) (Some (datum y)) (Members f.old)) }
+    ensures refused { OnErr result (f.new ≡ f.old) }
+{
+    let count = count_from(f, from, &x);
+    if count == 0 {
+        put_first(alloc, f, from, x, y)
+    } else {
+        replace_pairs(alloc, f, from, count, x, y)
+    }
+}
+
+// Puts the pair of `x` and `y` at a place, where `x` has no pairs.
+fn put_first(alloc: Global, f: &mut SetBody, from: Cursor, x: Value, y: Value) -> Result<(), Memory>
+    requires map { IsTrue (is_map (Members f.old)) }
+    requires place { HasPlace f.old from }
+    requires from { IsBound false (datum x) (Members f.old) (rank f.old from) }
+    requires to { IsBound true (datum x) (Members f.old) (rank f.old from) }
+    requires shallow { depth (pair (datum x) (datum y)) < 500 }
+    ensures put { OnOk result (Members f.new ≡ put_image (datum x) (Some (datum y)) (Members f.old)) }
+    ensures refused { OnErr result (f.new ≡ f.old) }
+{
     laws::operations_have_their_members();
     f.learn();
-    let (from, count) = span(f, &x);
+    let pair = make_pair(alloc, x, y)?;
+    f.put_in(alloc, from, pair)
+}
+
+// Puts the pair of `x` and `y` in the place of all pairs of `x`, which stand at a place.
+fn replace_pairs(
+    alloc: Global,
+    f: &mut SetBody,
+    from: Cursor,
+    count: usize,
+    x: Value,
+    y: Value,
+) -> Result<(), Memory>
+    requires map { IsTrue (is_map (Members f.old)) }
+    requires place { HasPlace f.old from }
+    requires from { IsBound false (datum x) (Members f.old) (rank f.old from) }
+    requires to { IsBound true (datum x) (Members f.old) (rank f.old from + count) }
+    requires shallow { depth (pair (datum x) (datum y)) < 500 }
+    ensures put { OnOk result (Members f.new ≡ put_image (datum x) (Some (datum y)) (Members f.old)) }
+    ensures refused { OnErr result (f.new ≡ f.old) }
+{
+    laws::operations_have_their_members();
+    f.learn();
     let pairs = one_pair(alloc, x, y)?;
     f.replace_in(from, count, pairs)
 }
@@ -295,7 +373,7 @@ fn add_pair(alloc: Global, f: &mut SetBody, x: Value, y: Value) -> Result<(), Me
 
 /// Lets `change` change the one image of `x` where it stands, to one that is at least as deep and at most 498 deep, and
 /// answers what `change` answers. Where a member is no pair, or `x` has no image or several, the answer is None, and
-/// `change` isn't called. Where memory is refused, neither, and the map is as before. Its cost is that of two searches.
+/// `change` isn't called. Where memory is refused, neither, and the map is as before. Its cost is that of one search.
 pub fn change_image<R, F: FnOnce(&mut Value) -> R>(
     f: &mut SetBody,
     x: &Value,
@@ -311,11 +389,31 @@ pub fn change_image<R, F: FnOnce(&mut Value) -> R>(
     if !f.is_map() {
         return Ok(None);
     }
-    let Some(_) = only_image(f, x) else {
+    let from = f.search_point(x);
+    let Some(_) = image_from(f, from, x) else {
         return Ok(None);
     };
+    change_from(f, from, x, change)
+}
+
+// Lets `change` change the one image of `x`, whose pair stands at a place.
+fn change_from<R, F: FnOnce(&mut Value) -> R>(
+    f: &mut SetBody,
+    from: Cursor,
+    x: &Value,
+    change: F,
+) -> Result<Option<R>, Memory>
+    requires map { IsTrue (is_map (Members f.old)) }
+    requires place { HasPlace f.old from }
+    requires from { BeginsAt (datum x.now) (Members f.old) (rank f.old from) }
+    requires there { (d : Datum) × (image (datum x.now) (Members f.old) ≡ Some d) }
+    requires callable { F.IsAlwaysCallable change }
+    requires grows { (d : Datum) → image (datum x.now) (Members f.old) ≡ Some d → depth d < 499 → Grows F.FnOnce change d 499 }
+    ensures changed { IfOk result (λ o. IfSome o (λ r. ChangesImage F.FnOnce change (datum x.now) (Members f.old) r (Members f.new) (f.new ≡ f.old))) }
+    ensures called { IfOk result (λ o. IfNone o ⊥) }
+    ensures refused { OnErr result (f.new ≡ f.old) }
+{
     laws::operations_have_their_members();
     f.learn();
-    let at = f.search_point(x);
-    f.change_second(at, change)
+    f.change_second(from, change)
 }

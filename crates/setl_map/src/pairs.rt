@@ -9,7 +9,7 @@ ghost use Rattle.setl_value.specs.code.DatumOf.{datum, lent};
 ghost use Rattle.setl_value.specs.Pairs.{is_map, pair, pair_parts};
 ghost use Rattle.setl_value.specs.code.Places.{HasPlace, rank};
 ghost use Rattle.setl_map.specs.Maps.{image};
-ghost use Rattle.setl_map.specs.code.Points.{begins, is_at, IsBound, part_at, pair_data};
+ghost use Rattle.setl_map.specs.code.Points.{begins, is_at, BeginsAt, IsBound, part_at, pair_data};
 
 use setl_value::{Cursor, MemberIter, Memory, SetBody, TupleBody, Value};
 use std::alloc::Global;
@@ -53,8 +53,18 @@ pub(crate) fn only_image<'a>(f: &'a SetBody, x: &Value) -> Option<&'a Value>
     requires { IsTrue (is_map (Members f.now)) }
     ensures { lent result ≡ image (datum x.now) (Members f.now) }
 {
+    image_from(f, f.search_point(x), x)
+}
+
+/// The same, of which the place is known where the pairs of `x` begin, or else would stand.
+pub(crate) fn image_from<'a>(f: &'a SetBody, from: Cursor, x: &Value) -> Option<&'a Value>
+    requires map { IsTrue (is_map (Members f.now)) }
+    requires place { HasPlace f.now from }
+    requires from { BeginsAt (datum x.now) (Members f.now) (rank f.now from) }
+    ensures { lent result ≡ image (datum x.now) (Members f.now) }
+{
     f.learn();
-    let mut rest = f.members_from(f.search_point(x));
+    let mut rest = f.members_from(from);
     let Some(first) = rest.next() else {
         return None;
     };
@@ -80,9 +90,20 @@ pub(crate) fn span(f: &SetBody, x: &Value) -> (Cursor, usize)
     ensures from { IsBound false (datum x.now) (Members f.now) (rank f.now result.0) }
     ensures to { IsBound true (datum x.now) (Members f.now) (rank f.now result.0 + result.1) }
 {
-    f.learn();
     let from = f.search_point(x);
-    (from, leading(f, from, x))
+    (from, count_from(f, from, x))
+}
+
+/// How many pairs with the first part `x` there are, where they begin at a place.
+pub(crate) fn count_from(f: &SetBody, from: Cursor, x: &Value) -> usize
+    requires map { IsTrue (is_map (Members f.now)) }
+    requires place { HasPlace f.now from }
+    requires from { BeginsAt (datum x.now) (Members f.now) (rank f.now from) }
+    ensures from { IsBound false (datum x.now) (Members f.now) (rank f.now from) }
+    ensures to { IsBound true (datum x.now) (Members f.now) (rank f.now from + result) }
+{
+    f.learn();
+    leading(f, from, x)
 }
 
 // How many pairs of `x` stand at a place, one after the other.

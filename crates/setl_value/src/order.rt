@@ -2,7 +2,7 @@
 //! by size, strings by their bytes, atoms by number, tuples component by component with `om` the least, sets as their
 //! rising lists. A proper prefix comes first.
 
-ghost use Rattle.std.specs.Prelude.{◌≡◌, refl};
+ghost use Rattle.std.specs.Prelude.{◌≡◌, refl, IfSome};
 ghost use Rattle.std.specs.Cmp.{partial_equiv_from_equiv, on_equiv, on_total, eq_by_cmp_equiv, partial_order_from_agreeing_total};
 ghost use Rattle.std.specs.Cmp.Lexicographic.{slice_cmp};
 ghost use Rattle.std.specs.Option.{option_cmp};
@@ -20,7 +20,21 @@ use std::cmp::Ordering;
 impl Value {
     /// How two values stand in the canonical order. It is `Equal` of equal values alone.
     #[cycle(comparing)]
+    #[inline(always)]
     pub fn compare(&self, other: &Value) -> Ordering
+        ensures { result ≡ datum_cmp (datum self.now) (datum other.now) }
+    {
+        match (self, other) {
+            (Value::Int(a), Value::Int(b)) => a.cmp(b),
+            (Value::Tuple(a), Value::Tuple(b)) => a.compare(b),
+            _ => self.compare_any(other),
+        }
+    }
+
+    // As `compare`, which has integers and tuples inline.
+    #[cycle(comparing)]
+    #[inline(never)]
+    fn compare_any(&self, other: &Value) -> Ordering
         ensures { result ≡ datum_cmp (datum self.now) (datum other.now) }
     {
         match (self, other) {
@@ -61,7 +75,27 @@ impl Value {
 impl TupleBody {
     /// How two tuples stand in the canonical order.
     #[cycle(comparing)]
+    #[inline(never)]
     pub fn compare(&self, other: &TupleBody) -> Ordering
+        ensures { result ≡ slice_cmp (option_cmp datum_cmp) self.now other.now }
+    {
+        let parts = &self.parts[self.start..];
+        let others = &other.parts[other.start..];
+        let shared = parts.len().min(others.len());
+        for i in 0..shared {
+            match compare_integers(&parts[i], &others[i]) {
+                Some(Ordering::Equal) => {}
+                Some(unequal) => return unequal,
+                None => return self.compare_any(other),
+            }
+        }
+        parts.len().cmp(&others.len())
+    }
+
+    // As `compare`, which comes here at the first components that aren't both integers.
+    #[cycle(comparing)]
+    #[inline(never)]
+    fn compare_any(&self, other: &TupleBody) -> Ordering
         ensures { result ≡ slice_cmp (option_cmp datum_cmp) self.now other.now }
     {
         let parts = &self.parts[self.start..];
@@ -77,9 +111,21 @@ impl TupleBody {
     }
 }
 
+// How two integers stand, and None where not both components are integers.
+#[inline(always)]
+fn compare_integers(a: &Option<Value>, b: &Option<Value>) -> Option<Ordering>
+    ensures { IfSome result (λ o. o ≡ option_cmp datum_cmp (part a.now) (part b.now)) }
+{
+    match (a, b) {
+        (Some(Value::Int(x)), Some(Value::Int(y))) => Some(x.cmp(y)),
+        _ => None,
+    }
+}
+
 impl SetBody {
     /// How two sets stand in the canonical order.
     #[cycle(comparing)]
+    #[inline(never)]
     pub fn compare(&self, other: &SetBody) -> Ordering
         ensures { result ≡ slice_cmp datum_cmp (Members self.now) (Members other.now) }
     {

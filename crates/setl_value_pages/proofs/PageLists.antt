@@ -2,12 +2,11 @@
 use Rattle.std.specs.Prelude.{◌≡◌, ℕ, suc, ◌+◌, ◌-◌, ◌<◌, ◌≤◌, List, [], ◌∷◌, ◌++◌, length, take, drop, map, slice_index_or, slice_set}
 use Rattle.std.specs.List.{AllByRecursion}
 use Rattle.std.proofs.Common.{arith, ap, sym, ◌∙◌, length-append}
-use Rattle.std.proofs.lemmas.List.{length-take, length-drop}
-use Rattle.std.proofs.Math.Seq.{take-length, drop-length}
+use Rattle.std.proofs.lemmas.List.{append-nil, length-take, length-drop}
 use Rattle.setl_value_pages.specs.Pages.{IsPage, items, joined, page_at}
 use Rattle.setl_value_pages.specs.Exchange.{Exchanges}
 use Rattle.setl_value_pages.specs.ListLaws.{map-between, none_left}
-use Rattle.setl_value_pages.specs.PageLaws.{Shared, end_rank, exchanged, joined_append, one_page, page_was, page_written}
+use Rattle.setl_value_pages.specs.PageLaws.{Shared, joined_append, one_page, page_was, page_written}
 
 -- no page in the place of a page with one member
 pub no_page : {X : Type 0} {ps new : List (List X)} {k : ℕ} → length (page_at ps k) ≡ 1 → new ≡ take k ps ++ drop (suc k) ps → Exchanges ps new k 0 k 1 []
@@ -36,10 +35,5 @@ rebuilt xs ys zs k i l j ms a w e = record {
   changed = ap (map items) e ∙ map-between items xs k (l + 1) ys ∙ ap (λ n. take k (map items xs) ++ (map items ys ++ drop n (map items xs))) {x = l + 1} {y = suc l} (omega arith);
 }
 
-pub appended : {X : Type 0} {ps new : List (List X)} {k : ℕ} {d : X} → length ps ≡ k + 1 → Exchanges ps new k (length (page_at ps k)) k (length (page_at ps k)) (d ∷ []) → joined new ≡ joined ps ++ d ∷ []
-appended {X} {ps} {new} {k} {d} h e =
-    exchanged (omega arith) (omega arith) e ∙ ap (λ n. take n (joined ps) ++ d ∷ drop n (joined ps)) (end_rank ps k h)
-    ∙ (λ i. take-length (joined ps) i ++ d ∷ drop-length (joined ps) i)
-
-pub page_added : {X : Type 0} (ps new : List (List X)) (d : X) → new ≡ ps ++ (d ∷ []) ∷ [] → joined new ≡ joined ps ++ d ∷ []
-page_added ps new d e = ap joined e ∙ joined_append ps ((d ∷ []) ∷ [])
+pub page_added : {X : Type 0} (ps new : List (List X)) (p : List X) → new ≡ ps ++ p ∷ [] → joined new ≡ joined ps ++ p
+page_added ps new p e = ap joined e ∙ joined_append ps (p ∷ []) ∙ ap (λ l. joined ps ++ l) (append-nil p)

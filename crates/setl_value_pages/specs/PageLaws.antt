@@ -9,7 +9,7 @@ use Rattle.std.specs.declared.vec.Vec.{Vec}
 use Rattle.std.specs.declared.alloc.Global.{Global}
 use Rattle.setl_value_pages.specs.Pages.{IsPage, items, joined, page_at, rank_in}
 use Rattle.setl_value_pages.specs.Exchange.{Exchanges}
-use Rattle.setl_value_pages.specs.ListLaws.{all_append, all_drop, all_take, drop_none, get_left, get_right, none_left, replaced}
+use Rattle.setl_value_pages.specs.ListLaws.{all_append, all_drop, all_take, drop_none, get_left, get_right, replaced}
 
 pub joined_append : {X : Type 0} (ps qs : List (List X)) → joined (ps ++ qs) ≡ joined ps ++ joined qs
 joined_append [] qs = refl
@@ -61,12 +61,6 @@ rank_within [] (suc k) i h = omega (arith, h)
 rank_within (p ∷ ps) zero i h = omega (arith, length-append p (joined ps))
 rank_within (p ∷ ps) (suc k) i h = omega (arith, length-append p (joined ps), length-append p (joined (take k ps)), rank_within ps k i h)
 
-pub rank_from : {X : Type 0} (ps : List (List X)) (k : ℕ) → rank_in ps k 0 + length (joined (drop k ps)) ≡ length (joined ps)
-rank_from [] zero = refl
-rank_from [] (suc k) = refl
-rank_from (p ∷ ps) zero = omega arith
-rank_from (p ∷ ps) (suc k) = omega (arith, length-append p (joined ps), length-append p (joined (take k ps)), rank_from ps k)
-
 -- an item of a page
 pub item_of : {X : Type 0} (ps : List (List X)) (k i : ℕ) → i < length (page_at ps k) → slice_get (joined ps) (rank_in ps k i) ≡ slice_get (page_at ps k) i
 item_of [] zero i h = absurd (omega arith)
@@ -86,10 +80,6 @@ size_there [] zero h = absurd (omega arith)
 size_there [] (suc k) h = absurd (omega arith)
 size_there (p ∷ ps) zero h = omega arith
 size_there (p ∷ ps) (suc k) h = omega (arith, size_there ps k h)
-
-pub end_rank : {X : Type 0} (ps : List (List X)) (k : ℕ) → length ps ≡ k + 1 → rank_in ps k (length (page_at ps k)) ≡ length (joined ps)
-end_rank ps k h =
-    omega (arith, rank_next ps k, rank_from ps (suc k), ap (λ l. length (joined l)) (none_left ps (suc k) (omega (arith, h))))
 
 -- a later page begins later
 pub rank_rises : {X : Type 0} (ps : List (List X)) (k l : ℕ) → AllByRecursion IsPage ps → k < l → l ≤ length ps → rank_in ps k 0 < rank_in ps l 0

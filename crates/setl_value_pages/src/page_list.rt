@@ -10,6 +10,7 @@ ghost use Rattle.setl_value_pages.specs.Exchange.{Exchanges, AreHalves, page_siz
 use crate::Memory;
 use crate::shared::{cut_in, extend, put_in, replace_between, replace_in};
 use std::alloc::Global;
+use std::mem;
 use std::rc::Rc;
 
 /// Some items, shared.
@@ -50,7 +51,15 @@ fn add_page<T: Drop>(alloc: Global, list: &mut Vec<Page<T>>, v: T) -> Result<(),
 {
     let mut members = Vec::with_capacity(alloc, 1)?;
     members.push_reserved(v);
-    list.push(Rc::new(alloc, members)?)?;
+    push_page(alloc, list, members)
+}
+
+// Puts a page of these items at the end.
+fn push_page<T: Drop>(alloc: Global, list: &mut Vec<Page<T>>, page: Vec<T>) -> Result<(), Memory>
+    ensures added { OnOk result (map items list.new.items ≡ map items list.old.items ++ page.items ∷ []) }
+    ensures refused { OnErr result (map items list.new.items ≡ map items list.old.items) }
+{
+    list.push(Rc::new(alloc, page)?)?;
     Ok(())
 }
 
@@ -299,32 +308,52 @@ pub fn paged<T: Clone + Drop>(
     ensures all { IfOk result (λ list. joined (map items list.items) ≡ members.items) }
 {
     let mut list = Vec::new(alloc);
-    for v in members {
-        append(alloc, most, &mut list, v)?;
+    if members.len() <= most {
+        end_page(alloc, &mut list, members)?;
+        return Ok(list);
     }
+    let mut page = Vec::with_capacity(alloc, most)?;
+    for v in members {
+        append(alloc, most, &mut list, &mut page, v)?;
+    }
+    end_page(alloc, &mut list, page)?;
     Ok(list)
 }
 
-// Puts `v` at the end, on the last page where that has fewer than `most` items.
-fn append<T: Clone + Drop>(
+// Puts `v` at the end of the page that comes next. Where that has `most` items, it goes behind the others first.
+fn append<T: Drop>(
     alloc: Global,
     most: usize,
     list: &mut Vec<Page<T>>,
+    page: &mut Vec<T>,
     v: T,
 ) -> Result<(), Memory>
-    requires exact { (x y : T) → T.is_clone x y → y ≡ x }
     requires most { (1 ≤ most) × (most ≤ 64) }
     requires pages { AllByRecursion IsPage (map items list.old.items) }
+    requires page { length page.old.items ≤ most }
     ensures pages { OnOk result (AllByRecursion IsPage (map items list.new.items)) }
-    ensures put { OnOk result (joined (map items list.new.items) ≡ joined (map items list.old.items) ++ v ∷ []) }
+    ensures page { OnOk result (length page.new.items ≤ most) }
+    ensures put { OnOk result (joined (map items list.new.items) ++ page.new.items ≡ (joined (map items list.old.items) ++ page.old.items) ++ v ∷ []) }
 {
-    let last = list.len().saturating_sub(1);
-    let size = size_at(list.as_slice(), last);
-    if 0 < size && size < most {
-        put_in_page(list, last, size, v)
-    } else {
-        add_page(alloc, list, v)
+    if page.len() == most {
+        let full = mem::replace(page, Vec::with_capacity(alloc, most)?);
+        end_page(alloc, list, full)?;
     }
+    page.push(v)?;
+    Ok(())
+}
+
+// Puts a page of these items behind the others, unless there are none.
+fn end_page<T: Drop>(alloc: Global, list: &mut Vec<Page<T>>, page: Vec<T>) -> Result<(), Memory>
+    requires pages { AllByRecursion IsPage (map items list.old.items) }
+    requires page { length page.items ≤ 64 }
+    ensures pages { OnOk result (AllByRecursion IsPage (map items list.new.items)) }
+    ensures put { OnOk result (joined (map items list.new.items) ≡ joined (map items list.old.items) ++ page.items) }
+{
+    if page.is_empty() {
+        return Ok(());
+    }
+    push_page(alloc, list, page)
 }
 
 /// The items of the k-th page, and none past the last page.

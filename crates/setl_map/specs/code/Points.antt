@@ -9,6 +9,8 @@ use Rattle.setl_value.specs.Datum.{Datum, depth}
 use Rattle.setl_value.specs.code.DatumOf.{datum}
 use Rattle.setl_value.specs.Order.{datum_cmp}
 use Rattle.setl_value.specs.Pairs.{pair, pair_parts, first_of, second_of, is_datum}
+use Rattle.setl_value.specs.code.Places as place
+use Rattle.setl_value.specs.code.Places.{point}
 
 -- the data of two values
 abbrev pub pair_data : Bor Value × Bor Value → Datum × Datum
@@ -41,6 +43,10 @@ pub record IsBound (past : Bool) (x : Datum) (ds : List Datum) (i : ℕ) : Type 
   pub within : i ≤ length ds
   pub before : AllByRecursion (λ d. comes_before past x d ≡ true) (take i ds)
   pub after : AllByRecursion (λ d. comes_before past x d ≡ false) (drop i ds)
+
+-- the pairs of x begin behind the first i members, or else would stand there
+abbrev pub BeginsAt : Datum → List Datum → ℕ → Type 0
+BeginsAt x ds i = place.IsBound (point x) ds i
 
 -- the first part of a pair, or else the second
 abbrev pub part_at : Bool → Datum → Option Datum

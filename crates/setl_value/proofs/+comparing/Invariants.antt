@@ -13,3 +13,6 @@ invariant-SetBody::compare-loop-v l =
 
 abbrev pub invariant-TupleBody::compare-loop-i : goal.invariant-TupleBody::compare-loop-i
 invariant-TupleBody::compare-loop-i l = slice_cmp (option_cmp datum_cmp) (map part l.parts) (map part l.others) ≡ slice_cmp (option_cmp datum_cmp) (map part (drop l.i l.parts)) (map part (drop l.i l.others))
+
+abbrev pub invariant-TupleBody::compare_any-loop-i : goal.invariant-TupleBody::compare_any-loop-i
+invariant-TupleBody::compare_any-loop-i l = slice_cmp (option_cmp datum_cmp) (map part l.parts) (map part l.others) ≡ slice_cmp (option_cmp datum_cmp) (map part (drop l.i l.parts)) (map part (drop l.i l.others))
