@@ -21,3 +21,4 @@ pub mod Updating
 pub mod Grown
 pub mod Entering
 pub mod Leaving
+mod SmallOnes

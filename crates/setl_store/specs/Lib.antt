@@ -7,3 +7,4 @@ pub mod HasValues
 pub mod Returning
 pub mod Forms
 pub mod Putting
+pub mod Small

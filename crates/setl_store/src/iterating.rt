@@ -13,6 +13,7 @@ ghost use Rattle.setl_store_operands.specs.declared.cells.Operand.TheVariants.{I
 ghost use Rattle.setl_store.specs.declared.iterating.Ahead.TheVariants as ahead;
 
 use crate::cells::Contents;
+use crate::changes::put_back;
 use crate::store::{Store, lowest};
 use setl_operators_table::OpFault;
 use setl_program::Collection;
@@ -112,7 +113,7 @@ fn take_item(alloc: Global, environment: &mut Contents) -> Result<Item, Memory>
     environment.reserve_operands(2)?;
     let mut iterator = iterator_in(environment.replace_operand(at, Operand::Om)?);
     let item = iterator.advance(alloc);
-    environment.set_operand(at, Operand::Iterator(iterator));
+    put_back(environment, at, Operand::Iterator(iterator));
     item
 }
 

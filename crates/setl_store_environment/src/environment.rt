@@ -1,7 +1,7 @@
 //! Slots, operands, activations, members of collections and fields of element blocks, with a trail: to keep them puts a
 //! mark on it, and each later change of what was kept notes what it replaced.
 
-ghost use Rattle.std.specs.Prelude.{◌≡◌, ◌+◌, ◌-◌, false, ◌<◌, ◌≤◌, [], ◌∷◌, ◌++◌, nat_lt, length, take, drop, reverse, Some, IfOk, IsOk, OnOk, OnErr, IfSome, IfNone, ℕ, ◌&&◌, get_or, slice_get, slice_set};
+ghost use Rattle.std.specs.Prelude.{◌≡◌, ◌+◌, ◌-◌, false, ◌<◌, ◌≤◌, [], ◌∷◌, ◌++◌, nat_lt, length, take, drop, reverse, Some, IfOk, IfErr, IsOk, OnOk, OnErr, IfSome, IfNone, ℕ, ◌&&◌, get_or, slice_get, slice_set};
 ghost use Rattle.setl_trail.specs.Trail.{mark_count};
 ghost use Rattle.std.specs.Prelude.{IsTrue, option_copied};
 ghost use Rattle.std.specs.FinSet as set;
@@ -238,6 +238,26 @@ impl<S: Drop, O: Drop, A: Drop, M: Drop, F: Drop, K: Drop> Environment<S, O, A, 
         }
     }
 
+    /// Puts a value in the place of a slot, and gives what was there, where the change isn't noted; else the error is the
+    /// value, and then all is as before. It takes no memory.
+    #[inline(always)]
+    pub fn replace_unnoted_slot(&mut self, at: usize, value: S) -> Result<S, S>
+        requires { at < length self.old.now.slots }
+        ensures value { IfOk result (λ before. Some before ≡ slice_get self.old.now.slots at) }
+        ensures now { OnOk result (self.new.now ≡ record self.old.now { slots = slice_set self.old.now.slots at value }) }
+        ensures kept { self.new.kept ≡ self.old.kept }
+        ensures ready { self.new.ready ≡ self.old.ready }
+        ensures room { self.new.room ≡ self.old.room }
+        ensures back { IfErr result (λ back. back ≡ value) }
+        ensures refused { OnErr result (self.new ≡ self.old) }
+    {
+        if is_unnoted(&self.slot_stamps, at, self.base.slots, self.base.since) {
+            Err(value)
+        } else {
+            Ok(self.slots.replace(at, value))
+        }
+    }
+
     /// Adds a slot at the end. It takes no memory.
     pub fn push_slot(&mut self, value: S)
         requires one { 1 ≤ self.old.ready }
@@ -388,6 +408,31 @@ impl<S: Drop, O: Drop, A: Drop, M: Drop, F: Drop, K: Drop> Environment<S, O, A, 
         }
     }
 
+    /// Puts a value in the place of an operand, and gives what was there, where the change isn't noted; else the error is
+    /// the value, and then all is as before. It takes no memory.
+    #[inline(always)]
+    pub fn replace_unnoted_operand(&mut self, at: usize, value: O) -> Result<O, O>
+        requires { at < length self.old.now.operands }
+        ensures value { IfOk result (λ before. Some before ≡ slice_get self.old.now.operands at) }
+        ensures now { OnOk result (self.new.now ≡ record self.old.now { operands = slice_set self.old.now.operands at value }) }
+        ensures kept { self.new.kept ≡ self.old.kept }
+        ensures ready { self.new.ready ≡ self.old.ready }
+        ensures room { self.new.room ≡ self.old.room }
+        ensures back { IfErr result (λ back. back ≡ value) }
+        ensures refused { OnErr result (self.new ≡ self.old) }
+    {
+        if is_unnoted(
+            &self.operand_stamps,
+            at,
+            self.base.operands,
+            self.base.since,
+        ) {
+            Err(value)
+        } else {
+            Ok(self.operands.replace(at, value))
+        }
+    }
+
     /// Adds an operand at the end. It takes no memory.
     #[inline(always)]
     pub fn push_operand(&mut self, value: O)
@@ -425,6 +470,26 @@ impl<S: Drop, O: Drop, A: Drop, M: Drop, F: Drop, K: Drop> Environment<S, O, A, 
             Ok(value)
         } else {
             Ok(self.operands.take_last())
+        }
+    }
+
+    /// Takes off the last operand, and gives it, where the change isn't noted; else None, and then all is as before. It
+    /// takes no memory.
+    #[inline(always)]
+    pub fn pop_unnoted_operand(&mut self) -> Option<O>
+        requires { 0 < length self.old.now.operands }
+        ensures value { IfSome result (λ value. Some value ≡ slice_get self.old.now.operands (length self.old.now.operands - 1)) }
+        ensures now { IfSome result (λ value. self.new.now ≡ record self.old.now { operands = take (length self.old.now.operands - 1) self.old.now.operands }) }
+        ensures kept { self.new.kept ≡ self.old.kept }
+        ensures ready { self.new.ready ≡ self.old.ready }
+        ensures room { IfSome result (λ value. self.new.room ≡ record self.old.room { operands = self.old.room.operands + 1 }) }
+        ensures none { IfNone result (self.new ≡ self.old) }
+    {
+        let last = self.operands() - 1;
+        if last < self.base.operands {
+            None
+        } else {
+            Some(self.operands.take_last())
         }
     }
 

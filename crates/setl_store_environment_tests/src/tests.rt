@@ -40,6 +40,16 @@ pop_operand: 2 | 11 2 3 | 12 | 1 2 | 2
 pop_operands: 12 | 11 2 3 | | 1 2 | 2
 copied_members: 2 | 11 2 3 | | 1 2 | 2";
 
+// Changes that aren't noted: where nothing is kept, and where that place was noted since.
+const UNNOTED: &str = "replace_unnoted: 1 1 | 13 2 3 | 14 2 | 1 2 | 2
+pop_unnoted: 2 | 13 2 3 | 14 | 1 2 | 2
+keep 21: | 13 2 3 | 14 | 1 2 | 2
+replace_unnoted: back 13 back 14 | 13 2 3 | 14 | 1 2 | 2
+pop_unnoted: none | 13 2 3 | 14 | 1 2 | 2
+set: | 11 2 3 | 12 | 1 2 | 2
+replace_unnoted: 11 12 | 13 2 3 | 14 | 1 2 | 2
+back: 21 | 13 2 3 | 14 | 1 2 | 2";
+
 const CHANGED: &str = "field: false | 1 2 3 | 1 2 | 1 2 | 2
 set_field 7: | 1 2 3 | 1 2 | 1 2 | 2
 keep 21: | 1 2 3 | 1 2 | 1 2 | 2
@@ -151,6 +161,31 @@ fn replace(env: &mut Env, told: &mut String) -> Result<(), Memory> {
     Ok(())
 }
 
+fn replace_unnoted(env: &mut Env, told: &mut String) -> Result<(), Memory> {
+    if env.slots() > 0 && env.operands() > 0 {
+        tell_replaced(env.replace_unnoted_slot(0, Held(13)), told)?;
+        tell_replaced(env.replace_unnoted_operand(0, Held(14)), told)?;
+    }
+    Ok(())
+}
+
+fn tell_replaced(replaced: Result<Held, Held>, told: &mut String) -> Result<(), Memory> {
+    match replaced {
+        Ok(before) => write!(told, " {}", before.0),
+        Err(value) => write!(told, " back {}", value.0),
+    }
+}
+
+fn pop_unnoted(env: &mut Env, told: &mut String) -> Result<(), Memory> {
+    if env.operands() == 0 {
+        return Ok(());
+    }
+    match env.pop_unnoted_operand() {
+        Some(operand) => write!(told, " {}", operand.0),
+        None => write!(told, " none"),
+    }
+}
+
 fn pop_operand(env: &mut Env, told: &mut String) -> Result<(), Memory> {
     env.reserve(1)?;
     if env.operands() > 0 {
@@ -215,6 +250,8 @@ fn call(alloc: Global, env: &mut Env, name: &str, n: u64, told: &mut String) -> 
         "cut" => cut(env),
         "replace" => replace(env, told),
         "pop_operand" => pop_operand(env, told),
+        "replace_unnoted" => replace_unnoted(env, told),
+        "pop_unnoted" => pop_unnoted(env, told),
         "pop_operands" => pop_operands(env, told),
         "copied_members" => copied_members(env, told),
         "set_field" => set_field(env, n),
@@ -328,6 +365,11 @@ fn what_is_taken_off_is_the_same_under_a_mark(rt: HostRuntime) -> Result<(), Fai
         run(&rt, rt.alloc(), [FILLED, start, TAKEN])?;
     }
     Ok(())
+}
+
+#[test]
+fn what_is_not_noted_is_moved_out(rt: HostRuntime) -> Result<(), Fail> {
+    run(&rt, rt.alloc(), [FILLED, UNKEPT, UNNOTED])
 }
 
 #[test]
