@@ -8,6 +8,7 @@ use Rattle.std.specs.Option.{option_map, option_map_or, is_some}
 use Rattle.std.specs.Ordering.{is_eq}
 use Rattle.setl_value.specs.Datum.{Datum}
 use Rattle.setl_value.specs.Order.{datum_cmp}
+use Rattle.setl_value.specs.code.DatumOf.{datum}
 use Rattle.setl_set.specs.Sets.{has_datum, set_from}
 use Rattle.setl_set.specs.Laws.{TestsMembership, Gathers}
 use Rattle.setl_modes.specs.Modes.{Mode}
@@ -15,12 +16,14 @@ use Rattle.setl_modes_places.specs.Places.{elements_at, names, places_of, length
 use Rattle.setl_base.specs.Base.{BaseState, Member, empty, member_at, find}
 use Rattle.setl_rep_bases.specs.declared.BaseId.{BaseId}
 use Rattle.setl_rep_bases.specs.declared.tables.Instance.{Instance}
-use Rattle.setl_rep_bases.specs.BaseId.{id, main}
+use Rattle.setl_rep_bases.specs.BaseId.{is_id, id, main}
 use Rattle.setl_rep_bases.specs.Bases.{BasesState, instance_at, base_at, is_there, named, IsThere}
 use Rattle.setl_rep_bases.specs.Keeping.{AreKept}
 use Rattle.setl_rep_bases.specs.Reading.{NamesAreExact, BasesAgree}
 use Rattle.setl_rep_entering.specs.Entering.{values_in, with_values, lengthened_by, is_named, places_in, AreLengthened}
-use Rattle.setl_rep_entering.specs.Laws.{MembersAreLengthened, OthersStay, NamesStay, PlacesAreMembers, BlocksAreKept, MembersChangeNothing}
+use Rattle.setl_rep_entering.specs.Laws.{MembersAreLengthened, OthersStay, NamesStay, PlacesAreFound, PlacesAreMembers, BlocksAreKept, MembersChangeNothing, MembersLengthenNothing}
+use Rattle.setl_rep_entering.specs.declared.places.Place.{Place}
+use Rattle.setl_rep_entering.specs.code.Finding.{has_place, is_new, Gains}
 use Rattle.setl_rep_entering.proofs.Entered.{has_append, itself, named_base, found}
 use Rattle.setl_rep_entering.proofs.Appended.{has_left, has_set, has_places_in}
 
@@ -177,16 +180,52 @@ places_are_members tests gathers no_places exact m d n bs cs there l = (λ b h. 
 pub blocks_are_kept : BlocksAreKept
 blocks_are_kept m d n bs cs l = kept m d n bs cs l
 
-pub members_change_nothing : TestsMembership → Gathers → NamesAreExact → BasesAgree → MembersChangeNothing
-members_change_nothing tests gathers exact agree m d n bs cs all l = agree cs bs l.count (λ i. l.instances i ∙ by i (instance_at bs i) refl)
-  where
-    in_base : (i : BaseId) (x : Datum) → has_datum x (places_in bs n m d i) ≡ true → has_datum x (values_in (base_at bs i)) ≡ true
-    in_base i x h =
-        let p = and_parts (is_named bs n i) (has_datum x (elements_at i.base m d)) (sym (has_places_in tests gathers bs n m d i x) ∙ h) in
-        sym (found (base_at bs i) x) ∙ ap (λ j. is_some (find (base_at bs j) x)) ((exact i (named bs n i.base)).0 p.0) ∙ all i.base x p.1
+-- where each value at a place is a member
+module _ (tests : TestsMembership) (gathers : Gathers) (exact : NamesAreExact) (m : Mode) (d : Datum) (n : ℕ) (bs : BasesState) (all : PlacesAreFound bs n m d) where
+  in_base : (i : BaseId) (x : Datum) → has_datum x (places_in bs n m d i) ≡ true → has_datum x (values_in (base_at bs i)) ≡ true
+  in_base i x h =
+      let p = and_parts (is_named bs n i) (has_datum x (elements_at i.base m d)) (sym (has_places_in tests gathers bs n m d i x) ∙ h) in
+      sym (found (base_at bs i) x) ∙ ap (λ j. is_some (find (base_at bs j) x)) ((exact i (named bs n i.base)).0 p.0) ∙ all i.base x p.1
 
-    by : (i : BaseId) (o : Option Instance) → instance_at bs i ≡ o → option_map (lengthened_by (places_in bs n m d i)) o ≡ o
-    by i None e = refl
-    by i (Some y) e =
-        let b : base_at bs i ≡ y.base = ap (λ o. option_map_or (λ x. x.base) o empty) e in
-        ap (λ c. Some (record y { base = c })) (subst (λ c. with_values c (places_in bs n m d i) ≡ c) b (all_members (base_at bs i) (places_in bs n m d i) (in_base i)))
+  same_instance : (i : BaseId) (o : Option Instance) → instance_at bs i ≡ o → option_map (lengthened_by (places_in bs n m d i)) o ≡ o
+  same_instance i None e = refl
+  same_instance i (Some y) e =
+      let b : base_at bs i ≡ y.base = ap (λ o. option_map_or (λ x. x.base) o empty) e in
+      ap (λ c. Some (record y { base = c })) (subst (λ c. with_values c (places_in bs n m d i) ≡ c) b (all_members (base_at bs i) (places_in bs n m d i) (in_base i)))
+
+pub members_change_nothing : TestsMembership → Gathers → NamesAreExact → BasesAgree → MembersChangeNothing
+members_change_nothing tests gathers exact agree m d n bs cs all l = agree cs bs l.count (λ i. l.instances i ∙ same_instance tests gathers exact m d n bs all i (instance_at bs i) refl)
+
+pub members_lengthen_nothing : TestsMembership → Gathers → NamesAreExact → MembersLengthenNothing
+members_lengthen_nothing tests gathers exact m d n bs all = record {
+  count = refl;
+  instances = λ i. sym (same_instance tests gathers exact m d n bs all i (instance_at bs i) refl);
+}
+
+-- ---- what a walk found
+
+module _ (exact : NamesAreExact) (m : Mode) (d : Datum) (n : ℕ) (bs : BasesState) (ps : List Place) (gains : Gains bs n (λ b. elements_at b m d) [] ps) where
+  pub none_new_is_found : ps ≡ [] → PlacesAreFound bs n m d
+  none_new_is_found e b x h = by (has_datum x (values_in (base_at bs (named bs n b)))) refl
+    where
+      by : (t : Bool) → has_datum x (values_in (base_at bs (named bs n b))) ≡ t → IsSome (find (base_at bs (named bs n b)) x)
+      by true q = found (base_at bs (named bs n b)) x ∙ q
+      by false q =
+          let at : has_datum x (elements_at (named bs n b).base m d) ≡ true = ap (λ k. has_datum x (elements_at k m d)) (named_base bs n b) ∙ h in
+          absurd (false≢true (ap (has_place (named bs n b) x) (sym e) ∙ gains (named bs n b) x ∙ (λ j. (names_itself exact bs n b j && not (q j)) && at j)))
+
+  pub found_is_none_new : PlacesAreFound bs n m d → ps ≡ []
+  found_is_none_new all = by ps refl
+    where
+      by : (qs : List Place) → ps ≡ qs → qs ≡ []
+      by [] e = refl
+      by (p ∷ qs) e =
+          let i = p.base in
+          let x = datum p.value in
+          let here : has_place i x (p ∷ qs) ≡ true = or_left (is_id i i && is_eq (datum_cmp x x)) (has_place i x qs) (λ j. (exact i i).1 refl j && itself x j) in
+          let both = and_parts (is_new bs n i x) (has_datum x (elements_at i.base m d)) (sym (gains i x) ∙ ap (has_place i x) e ∙ here) in
+          let new = and_parts (is_named bs n i) (not (has_datum x (values_in (base_at bs i)))) both.0 in
+          let member : has_datum x (values_in (base_at bs i)) ≡ true =
+          sym (found (base_at bs i) x) ∙ ap (λ j. is_some (find (base_at bs j) x)) ((exact i (named bs n i.base)).0 new.0) ∙ all i.base x both.1
+          in
+          absurd (false≢true (ap not (sym member) ∙ new.1))

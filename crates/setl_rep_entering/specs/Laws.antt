@@ -43,6 +43,10 @@ BlocksAreKept = (m : Mode) (d : Datum) (n : ℕ) (bs cs : BasesState) → AreLen
 abbrev pub MembersChangeNothing : Type 0
 MembersChangeNothing = (m : Mode) (d : Datum) (n : ℕ) (bs cs : BasesState) → PlacesAreFound bs n m d → AreLengthened m d n bs cs → cs ≡ bs
 
+-- and the bases are lengthened as they are
+abbrev pub MembersLengthenNothing : Type 0
+MembersLengthenNothing = (m : Mode) (d : Datum) (n : ℕ) (bs : BasesState) → PlacesAreFound bs n m d → AreLengthened m d n bs bs
+
 -- a value lengthens bases as the part of it does that has all of its places but members
 abbrev pub PartsLengthenAlike : Type 0
 PartsLengthenAlike =

@@ -53,6 +53,9 @@ pub fn enter_places(
         instance,
     };
     let places = new_places(&a, mode, v)?;
+    if places.is_empty() {
+        return Ok(());
+    }
     let marks = base_marks(alloc, mode, instance, bases)?;
     enter_or_undo(places, marks, bases)
 }

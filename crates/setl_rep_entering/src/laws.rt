@@ -1,7 +1,7 @@
 //! Laws of bases that were lengthened by the places of a value. The functions have no effect: each hands a proof the laws
 //! that it is named for.
 
-ghost use Rattle.setl_rep_entering.specs.Laws.{MembersAreLengthened, OthersStay, NamesStay, PlacesAreMembers, BlocksAreKept, MembersChangeNothing, PartsLengthenAlike};
+ghost use Rattle.setl_rep_entering.specs.Laws.{MembersAreLengthened, OthersStay, NamesStay, PlacesAreMembers, BlocksAreKept, MembersChangeNothing, MembersLengthenNothing, PartsLengthenAlike};
 
 /// Each base that the mode names has the values at its places behind its members, and all others are as before.
 pub fn bases_are_lengthened()
@@ -18,6 +18,7 @@ pub fn places_are_members()
     ensures found { PlacesAreMembers }
     ensures kept { BlocksAreKept }
     ensures nothing { MembersChangeNothing }
+    ensures already { MembersLengthenNothing }
 {
     setl_set::laws::tests_are_exact();
     setl_set::laws::operations_have_their_members();

@@ -1,6 +1,6 @@
 //! The values at the places of bases that aren't members of these.
 
-ghost use Rattle.std.specs.Prelude.{◌≡◌, [], ◌∷◌, ◌++◌, ◌==◌, cond, slice_get, OnOk, IfOk, None};
+ghost use Rattle.std.specs.Prelude.{◌≡◌, ◌↔◌, true, [], ◌∷◌, ◌++◌, ◌==◌, cond, slice_get, OnOk, IfOk, None};
 ghost use Rattle.std.specs.List.Sorted.{IsStrictlySortedBy};
 ghost use Rattle.std.specs.Option.{unwrap_or};
 ghost use Rattle.std.specs.List.{flat_map};
@@ -13,6 +13,7 @@ ghost use Rattle.setl_modes.specs.Modes.{mode_of};
 ghost use Rattle.setl_modes_places.specs.Places.{at_part, elements_at};
 ghost use Rattle.setl_rep_bases.specs.Bases.{named, IsThere};
 ghost use Rattle.setl_rep_entering.specs.Entering.{BasesAreThere};
+ghost use Rattle.setl_rep_entering.specs.Laws.{PlacesAreFound};
 ghost use Rattle.setl_rep_entering.specs.code.Finding.{Gains, HaveSamePlaces, at_firsts, at_images, at_map, at_neighbour, at_seconds, has_places, is_at_point, place_cmp};
 
 use crate::Memory;
@@ -322,6 +323,30 @@ fn in_images_of(
         Ok(s) => find_places(a, mode, &Value::Set(s), found),
         Err(_) => Err(Memory),
     }
+}
+
+/// Whether each value at a place of a value is a member of its base in an activation, so that there is nothing to enter.
+///
+/// The error is want of memory. Its time is near linear in the size of the value.
+pub fn are_entered(
+    alloc: Global,
+    mode: &Mode,
+    v: &Value,
+    instance: u64,
+    bases: &Bases,
+) -> Result<bool, Memory>
+    requires { BasesAreThere bases.now instance (mode_of mode.now) }
+    ensures { IfOk result (λ t. (t ≡ true) ↔ PlacesAreFound bases.now instance (mode_of mode.now) (datum v.now)) }
+{
+    setl_rep_bases::laws::instances_are_read();
+    let a = Activation {
+        alloc,
+        bases,
+        instance,
+    };
+    let mut found = Vec::new(alloc);
+    find_places(&a, mode, v, &mut found)?;
+    Ok(found.is_empty())
 }
 
 /// The values at the places of a value that aren't members of their bases yet: by instances, and in each in canonical

@@ -1,6 +1,6 @@
 -- One more image comes to a point of a map.
-use Rattle.std.proofs.Common.{◌≡◌, ◌∙◌, ℕ, ◌-◌, ◌≤◌, ◌<◌, ◌==◌, Bool, true, false, ◌&&◌, ◌||◌, ◌⊎◌, inl, inr, cond, List, [], ◌∷◌, ◌++◌, Option, None, Some, IsSome, Ok, Result, OnErr, refl, sym, ap, subst, arith, eq-eqb, option_and_then}
-use Rattle.std.specs.Bool.{nat_lt, if◌then◌else◌}
+use Rattle.std.proofs.Common.{◌≡◌, ◌∙◌, ℕ, ◌-◌, ◌≤◌, ◌<◌, ◌==◌, Bool, true, false, ◌&&◌, ◌⊎◌, inl, inr, cond, List, [], ◌∷◌, ◌++◌, Option, None, Some, IsSome, Ok, refl, sym, ap, subst, arith, eq-eqb, option_and_then}
+use Rattle.std.specs.Bool.{if◌then◌else◌}
 use Rattle.std.specs.List.{filter_map, flat_map, list_all}
 use Rattle.std.specs.List.Sorted.{IsStrictlySortedBy}
 use Rattle.std.specs.Option.{is_some}
@@ -10,7 +10,7 @@ use Rattle.std.specs.declared.alloc.Global.{Global}
 use Rattle.std.specs.declared.cmp.Ordering.{Ordering}
 use Rattle.std.specs.declared.cmp.Ordering.TheVariants.{Less, Equal, Greater}
 use Rattle.std.specs.Ordering.{nat_cmp, is_eq}
-use Rattle.std.proofs.lemmas.Bool.{false≢true, or_left, or_right, and_parts}
+use Rattle.std.proofs.lemmas.Bool.{false≢true, or_left, or_right}
 use Rattle.setl_value.specs.Datum.{Datum, depth, set_of, elements_of, element_list, element_list-elements_of}
 use Rattle.setl_value.specs.Datum as datum
 use Rattle.setl_value.specs.WellFormed.{ElementsAreWellFormed, IsValue}
@@ -30,7 +30,7 @@ use Rattle.setl_modes.specs.Fits.{datum_fits, multi_fits}
 use Rattle.setl_modes_places.specs.Places.{elements_at, at_point, names as mode_names}
 use Rattle.setl_modes_parts.specs.Laws.{ImagesFit, SetPutsFit}
 use Rattle.setl_operators_table.specs.declared.Operator.TheVariants.{Images, PutImages, With}
-use Rattle.setl_operators_table.specs.Outcome.{Outcome, Gives, Fails, KindFault, within_depth, set_value, adding, then_with}
+use Rattle.setl_operators_table.specs.Outcome.{Gives, Fails, KindFault, within_depth, set_value, adding, then_with}
 use Rattle.setl_operators_table.specs.OutcomeLaws.{shallow}
 use Rattle.setl_operators_table.specs.Collections.{on_map}
 use Rattle.setl_operators_table.specs.Operators.{op_of}
@@ -41,14 +41,14 @@ use Rattle.setl_rep_bases.specs.Bases.{BasesState, base_at, named, IsThere}
 use Rattle.setl_rep_forms.specs.declared.held.Held.TheVariants as code
 use Rattle.setl_rep_forms.specs.Form.{Form, Layout, remote, sparse, Entries, no_entry, entry_then, om, plain, element, numbers, table, handles}
 use Rattle.setl_rep_forms.specs.FormOf.{form, of_plain, of_remote, of_sparse}
-use Rattle.setl_rep_forms.specs.Stands.{stands, value_at, members_at, pairs_in, AreLiving, IsOver, AreOver, IsImages, IsContent}
+use Rattle.setl_rep_forms.specs.Stands.{stands, value_at, members_at, pairs_in, IsOver, AreOver, IsContent}
 use Rattle.setl_rep_forms.specs.Laws.{FormsStay}
 use Rattle.setl_rep_tables.specs.Tables.{content_in, images_of, table_pairs}
 use Rattle.setl_rep_building.specs.HasForm.{layout_of, placed, place_of, HaveForms, IsMapForm, IsSetForm, HasForm, HasFormOrOm}
-use Rattle.setl_rep_maps.specs.Contents.{table_of, content_of, map_pairs, images_from, IsKeyedForm, HasBase, IsPoint, MayHave, PutsContent}
+use Rattle.setl_rep_maps.specs.Contents.{table_of, content_of, IsKeyedForm, HasBase, IsPoint, MayHave, PutsContent}
 use Rattle.setl_rep_maps.specs.Laws.{ContentsStandForImages, PutsAreImages, ImagesMakePairs}
 use Rattle.setl_rep_entering.specs.Entering.{AreLengthened, BasesAreThere}
-use Rattle.setl_rep_entering.specs.Laws.{NamesStay, PlacesAreFound, PlacesAreMembers, PartsLengthenAlike, BlocksAreKept}
+use Rattle.setl_rep_entering.specs.Laws.{NamesStay, PlacesAreFound, PlacesAreMembers, PartsLengthenAlike, BlocksAreKept, MembersLengthenNothing}
 use Rattle.setl_rep_updates.specs.InForm.{ArePlacesFound, IsInForm, FormsOfModesStay}
 use Rattle.setl_rep_updates.specs.Updates.{is_part, with_image, IsUpdate}
 use Rattle.setl_rep_updates.specs.code.Added.{TakesMember, AreSetsAlike, AreNumbersWith, IsWithMember, IsImageAdded}
@@ -590,6 +590,14 @@ module _ (names : NamesStay) (members : PlacesAreMembers) (a g : Attribute) (d k
       by (element b v) h over is = let no : ⊥ = cc in absurd no
       by (numbers l b ns) h over is = let no : ⊥ = cc in absurd no
       by (handles b es) h over is = let no : ⊥ = cc in absurd no
+
+-- a pair whose values at places are members
+pub added_is_entered : MembersLengthenNothing → (m s : Mode) (a g : Attribute) (d k : Mode) (n : ℕ) (bs : BasesState) (x y : Datum) → m ≡ MultiMaps a d s → s ≡ Sets g k → PlacesAreFound bs n d x → PlacesAreFound bs n k y → AreLengthened m (set_of (pair x y ∷ [])) n bs bs
+added_is_entered already m s a g d k n bs x y is_map_mode is_set fx fy = already m (set_of (pair x y ∷ [])) n bs found
+  where
+    found : PlacesAreFound bs n m (set_of (pair x y ∷ []))
+    found b z h =
+        elim (of_part a g d k x y b z (sym (ap (λ t. has_datum z (elements_at b t (set_of (pair x y ∷ [])))) (is_map_mode ∙ ap (MultiMaps a d) is_set)) ∙ h)) [ inl q ↦ fx b z q | inr q ↦ fy b z q ]
 
 pub first_image_fits : (s : Mode) (g : Attribute) (k : Mode) (y : Datum) → s ≡ Sets g k → is_part k y ≡ true → datum_fits s (set_of (y ∷ [])) ≡ true
 first_image_fits s g k y is p = ap (λ z. datum_fits z (set_of (y ∷ []))) is ∙ (λ i. (part_tests k y p).1 i && true)

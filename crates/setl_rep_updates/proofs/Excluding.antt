@@ -1,26 +1,23 @@
 -- A value goes out of a set of numbers.
-use Rattle.std.proofs.Common.{◌≡◌, ◌∙◌, ℕ, ◌≤◌, Bool, true, false, not, inr, List, [], ◌∷◌, Option, None, Some, Result, Ok, IfOk, refl, sym, ap, subst, arith}
+use Rattle.std.proofs.Common.{◌≡◌, ◌∙◌, ℕ, ◌≤◌, Bool, true, false, not, inr, List, [], ◌∷◌, Option, None, Some, Ok, refl, sym, ap, subst, arith}
 use Rattle.std.specs.List.{filter, flat_map}
 use Rattle.std.specs.FinSet as set
 use Rattle.std.specs.Ordering.{nat_cmp, is_eq}
 use Rattle.std.proofs.lemmas.Bool.{false≢true}
 use Rattle.std.proofs.lemmas.List.Kept.{IsStrictlySortedBy-filter}
-use Rattle.setl_value.specs.Datum.{Datum, depth, set_of, elements_of, element_list-elements_of}
+use Rattle.setl_value.specs.Datum.{Datum, depth, set_of, element_list-elements_of}
 use Rattle.setl_value.specs.WellFormed.{IsValue}
 use Rattle.setl_value.specs.Order.{datum_cmp, IsRising}
 use Rattle.setl_set.specs.Sets.{has_datum, remove_datum}
-use Rattle.setl_modes.specs.declared.mode.Form.{Form as Attribute}
 use Rattle.setl_modes.specs.Modes.{Mode, General, Integers, Strings, Booleans, Atoms, Elements, Sets, Tuples, SingleMaps, MultiMaps}
-use Rattle.setl_modes.specs.Fits.{fits}
 use Rattle.setl_modes_places.specs.Places.{elements_at}
 use Rattle.setl_modes_parts.specs.Laws.{CombinedFit}
-use Rattle.setl_operators_table.specs.declared.OpFault.{OpFault}
 use Rattle.setl_operators_table.specs.declared.Operator.TheVariants.{Less}
-use Rattle.setl_operators_table.specs.Outcome.{Outcome, Gives, Fails, Overspends, set_value}
+use Rattle.setl_operators_table.specs.Outcome.{Outcome, Gives, Fails, Overspends}
 use Rattle.setl_operators_table.specs.Operators.{op_of}
 use Rattle.setl_rep_bases.specs.declared.BaseId.{BaseId}
 use Rattle.setl_rep_bases.specs.Bases.{BasesState, base_at, named}
-use Rattle.setl_rep_forms.specs.Form.{Form, Layout, Entries, om, plain, element, numbers, table, handles}
+use Rattle.setl_rep_forms.specs.Form.{Form, Layout, om, plain, element, numbers, table, handles}
 use Rattle.setl_rep_forms.specs.Stands.{stands, members_at, IsOver}
 use Rattle.setl_rep_kernels.specs.Kernels.{is_numbered, has_change, ChangeTells, IsAlike}
 use Rattle.setl_rep_building.specs.HasForm.{base_of, place_of, HasForm, HasFormOrOm, IsMapForm, IsSetForm, IsTupleForm}

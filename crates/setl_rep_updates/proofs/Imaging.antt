@@ -37,7 +37,7 @@ use Rattle.setl_rep_building.specs.HasForm.{layout_of, placed, place_of, HaveFor
 use Rattle.setl_rep_maps.specs.Contents.{table_of, MayHave}
 use Rattle.setl_rep_maps.specs.Laws.{PutsAreImages, SinglePutsAreImages}
 use Rattle.setl_rep_entering.specs.Entering.{AreLengthened, BasesAreThere}
-use Rattle.setl_rep_entering.specs.Laws.{NamesStay, PlacesAreFound, PlacesAreMembers, PartsLengthenAlike, BlocksAreKept}
+use Rattle.setl_rep_entering.specs.Laws.{NamesStay, PlacesAreFound, PlacesAreMembers, PartsLengthenAlike, BlocksAreKept, MembersLengthenNothing}
 use Rattle.setl_rep_updates.specs.InForm.{ArePlacesFound, IsInForm, FormsOfModesStay}
 use Rattle.setl_rep_updates.specs.Updates.{is_part, puts, IsUpdate}
 use Rattle.setl_rep_updates.specs.code.Imaged.{IsImagePut}
@@ -214,6 +214,14 @@ point_is_found names members m a d r x y n bs cs b e on there l =
 pub image_is_found : PlacesAreMembers → (m : Mode) (a : Attribute) (d r : Mode) (x y : Datum) (n : ℕ) (bs cs : BasesState) → m ≡ SingleMaps a d r → BasesAreThere bs n m → AreLengthened m (pair_set x y) n bs cs
     → (b : ℕ) (z : Datum) → has_datum z (elements_at b r y) ≡ true → IsSome (find (base_at cs (named cs n b)) z)
 image_is_found members m a d r x y n bs cs e there l b z h = (members m (pair_set x y) n bs cs there l).1 b z (ap (λ k. has_datum z (elements_at b k (pair_set x y))) e ∙ at_image a d r x y b z h)
+
+-- ---- a pair whose values at places are members
+
+pub pair_is_entered : MembersLengthenNothing → (m : Mode) (a : Attribute) (d r : Mode) (n : ℕ) (bs : BasesState) (x y : Datum) → m ≡ SingleMaps a d r → PlacesAreFound bs n d x → PlacesAreFound bs n r y → AreLengthened m (pair_set x y) n bs bs
+pair_is_entered already m a d r n bs x y e fx fy = already m (pair_set x y) n bs (λ b z h. elim (of_both z (at d r b (pair x y)) [] (sym (ap (λ k. has_datum z (elements_at b k (pair_set x y))) e) ∙ h)) [
+  | inl q ↦ elim (of_both z (elements_at b d x) (elements_at b r y) q) [ inl s ↦ fx b z s | inr s ↦ fy b z s ]
+  | inr q ↦ absurd (false≢true q)
+])
 
 -- ---- the update
 

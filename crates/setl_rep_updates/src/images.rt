@@ -27,7 +27,7 @@ use setl_modes::Mode;
 use setl_rep_based::handle;
 use setl_rep_bases::{BaseId, Bases};
 use setl_rep_building::in_form;
-use setl_rep_entering::{base_marks, enter_places, take_back};
+use setl_rep_entering::{are_entered, base_marks, enter_places, take_back};
 use setl_rep_forms::Held;
 use setl_rep_maps::{change_content, learn, put_content, table_of};
 use setl_set::with;
@@ -120,13 +120,44 @@ fn include_in(
     }
     x.learn();
     y.learn();
-    include_pair(alloc, mode, s, b, f, x, y, bases, instance)?;
+    include_pair(alloc, mode, d, s, k, b, f, x, y, bases, instance)?;
     Ok(true)
 }
 
 // Enters the values at the places of a pair into their bases, and the second part comes to the images of the first in a map on
-// the base `b`. After an error, which is want of memory, the bases and the map are as before.
+// the base `b`. Where they all are members, the pair itself isn't made. After an error, which is want of memory, the bases and the
+// map are as before.
 fn include_pair(
+    alloc: Global,
+    mode: &Mode,
+    d: &Mode,
+    s: &Mode,
+    k: &Mode,
+    b: BaseId,
+    f: &mut Held,
+    x: &Value,
+    y: &Value,
+    bases: &mut Bases,
+    instance: u64,
+) -> Result<(), Memory>
+    requires mode { (a : Attribute) × (mode_of mode.now ≡ MultiMaps a (mode_of d.now) (mode_of s.now)) × (is_part (mode_of d.now) (datum x.now) ≡ true) }
+    requires images { (a : Attribute) × (mode_of s.now ≡ Sets a (mode_of k.now)) × (is_part (mode_of k.now) (datum y.now) ≡ true) }
+    requires held { IsInForm bases.old instance (mode_of mode.now) (form f.old) }
+    requires table { (many : Bool) × (table_of (form f.old) ≡ Some (b, many)) }
+    ensures lengthened { OnOk result (AreLengthened (mode_of mode.now) (set_of (pair (datum x.now) (datum y.now) ∷ [])) instance bases.old bases.new) }
+    ensures added { OnOk result (IsImageAdded bases.new instance (mode_of s.now) (datum x.now) (datum y.now) (form f.old) (form f.new)) }
+    ensures refused { OnErr result ((bases.new ≡ bases.old) × (form f.new ≡ form f.old)) }
+{
+    setl_rep_entering::laws::places_are_members();
+    setl_rep_entering::laws::bases_are_lengthened();
+    if are_entered(alloc, d, x, instance, bases)? && are_entered(alloc, k, y, instance, bases)? {
+        return add_image(alloc, s, b, f, x, y, bases, instance);
+    }
+    enter_pair(alloc, mode, s, b, f, x, y, bases, instance)
+}
+
+// The same, where they may be no members yet.
+fn enter_pair(
     alloc: Global,
     mode: &Mode,
     s: &Mode,

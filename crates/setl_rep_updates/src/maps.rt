@@ -27,7 +27,7 @@ use setl_modes_fit::fits;
 use setl_rep_based::handle;
 use setl_rep_bases::{BaseId, Bases};
 use setl_rep_building::in_form;
-use setl_rep_entering::{base_marks, enter_places, take_back};
+use setl_rep_entering::{are_entered, base_marks, enter_places, take_back};
 use setl_rep_forms::Held;
 use setl_rep_maps::{learn, put_content, table_of};
 use setl_value::{SetBody, Value};
@@ -91,7 +91,7 @@ fn put_in(
     }
     x.learn();
     y.learn();
-    put_pair(alloc, mode, r, b, f, x, y, bases, instance)?;
+    put_pair(alloc, mode, d, r, b, f, x, y, bases, instance)?;
     Ok(true)
 }
 
@@ -105,9 +105,38 @@ pub(crate) fn is_part(m: &Mode, x: &Value) -> Result<bool, Memory>
     Ok(false)
 }
 
-// Enters the values at the places of a pair into their bases, and puts the pair into a map on the base `b`. After an error,
-// which is want of memory, the bases and the map are as before.
+// Enters the values at the places of a pair into their bases, and puts the pair into a map on the base `b`. Where they all are
+// members, the pair itself isn't made. After an error, which is want of memory, the bases and the map are as before.
 fn put_pair(
+    alloc: Global,
+    mode: &Mode,
+    d: &Mode,
+    r: &Mode,
+    b: BaseId,
+    f: &mut Held,
+    x: &Value,
+    y: &Value,
+    bases: &mut Bases,
+    instance: u64,
+) -> Result<(), Memory>
+    requires mode { (a : Attribute) × (mode_of mode.now ≡ SingleMaps a (mode_of d.now) (mode_of r.now)) }
+    requires held { IsInForm bases.old instance (mode_of mode.now) (form f.old) }
+    requires taken { puts (mode_of mode.now) (form f.old) (datum x.now) (datum y.now) ≡ true }
+    requires table { (many : Bool) × (table_of (form f.old) ≡ Some (b, many)) }
+    ensures lengthened { OnOk result (AreLengthened (mode_of mode.now) (set_of (pair (datum x.now) (datum y.now) ∷ [])) instance bases.old bases.new) }
+    ensures put { OnOk result (IsImagePut bases.new instance (mode_of r.now) (datum x.now) (datum y.now) (form f.old) (form f.new)) }
+    ensures refused { OnErr result ((bases.new ≡ bases.old) × (form f.new ≡ form f.old)) }
+{
+    setl_rep_entering::laws::places_are_members();
+    setl_rep_entering::laws::bases_are_lengthened();
+    if are_entered(alloc, d, x, instance, bases)? && are_entered(alloc, r, y, instance, bases)? {
+        return put_image(alloc, r, b, f, x, y, bases, instance);
+    }
+    enter_pair(alloc, mode, r, b, f, x, y, bases, instance)
+}
+
+// The same, where they may be no members yet.
+fn enter_pair(
     alloc: Global,
     mode: &Mode,
     r: &Mode,

@@ -25,7 +25,7 @@ use setl_modes::Mode;
 use setl_modes_fit::fits;
 use setl_rep_based::handle;
 use setl_rep_bases::{BaseId, Bases};
-use setl_rep_entering::{base_marks, enter_places, take_back};
+use setl_rep_entering::{are_entered, base_marks, enter_places, take_back};
 use setl_rep_forms::Held;
 use setl_rep_kernels::change;
 use setl_value::Value;
@@ -114,9 +114,36 @@ fn is_numbered(s: &Held) -> bool
     }
 }
 
-// Enters a value into its base, and puts it into a set of numbers of that base. After an error, which is want of memory, the
-// bases and the set are as before.
+// Enters a value into its base, where it is no member yet, and puts it into a set of numbers of that base. After an error, which
+// is want of memory, the bases and the set are as before.
 fn put_in(
+    alloc: Global,
+    m: &Mode,
+    b: BaseId,
+    s: &mut Held,
+    x: &Value,
+    bases: &mut Bases,
+    instance: u64,
+) -> Result<(), Memory>
+    requires element { IsElementOn (named bases.old instance) b (mode_of m.now) }
+    requires there { BasesAreThere bases.old instance (mode_of m.now) }
+    requires fits { datum_fits (mode_of m.now) (datum x.now) ≡ true }
+    requires numbers { HasNumbersOf b (form s.old) }
+    requires over { IsOver bases.old (form s.old) }
+    requires shallow { part_depth (stands bases.old (form s.old)) ≤ 500 }
+    ensures put { OnOk result (IsPutIn (mode_of m.now) instance (datum x.now) bases.old bases.new (form s.old) (form s.new)) }
+    ensures refused { OnErr result ((bases.new ≡ bases.old) × (form s.new ≡ form s.old)) }
+{
+    setl_rep_entering::laws::places_are_members();
+    setl_rep_entering::laws::bases_are_lengthened();
+    if are_entered(alloc, m, x, instance, bases)? {
+        return put_member(s, b, x, bases);
+    }
+    enter_and_put(alloc, m, b, s, x, bases, instance)
+}
+
+// The same, where it may be no member yet.
+fn enter_and_put(
     alloc: Global,
     m: &Mode,
     b: BaseId,

@@ -1,5 +1,5 @@
 -- A value that comes into a set in its form, and one more image of a point of a map.
-use Rattle.std.specs.Prelude.{◌≡◌, ◌⊎◌, ℕ, true, [], ◌∷◌, Option, Some, None, IsSome, option_and_then}
+use Rattle.std.specs.Prelude.{◌≡◌, ◌⊎◌, ℕ, true, Some, IsSome, option_and_then}
 use Rattle.std.specs.Ordering.{nat_cmp}
 use Rattle.std.specs.FinSet as set
 use Rattle.setl_value.specs.Datum.{Datum, set_of}
@@ -14,7 +14,7 @@ use Rattle.setl_rep_forms.specs.Form.{Form, plain, numbers}
 use Rattle.setl_rep_forms.specs.Stands.{members_at, stands, AreLiving, IsOver}
 use Rattle.setl_rep_tables.specs.Tables.{images_of}
 use Rattle.setl_rep_building.specs.HasForm.{HasForm}
-use Rattle.setl_rep_maps.specs.Contents.{content_of, images_from, IsKeyedForm, HasBase, IsPoint, PutsContent}
+use Rattle.setl_rep_maps.specs.Contents.{content_of, IsKeyedForm, HasBase, IsPoint, PutsContent}
 
 -- a set on a base of which y is a member, or a plain set
 abbrev pub TakesMember : BasesState → Form → Datum → Type 0

@@ -1,10 +1,12 @@
-use Rattle.std.proofs.Common.{◌∙◌, sym, subst}
+use Rattle.std.proofs.Common.{◌∙◌, sym, subst, eqb-true}
+use Rattle.std.proofs.lemmas.List.{nil_from_length}
 use Rattle.std.proofs.lemmas.Result.{on_ok_weaker}
 use Rattle.setl_value.specs.code.DatumOf.{datum}
 use Rattle.setl_modes.specs.Modes.{mode_of}
 use Rattle.setl_rep_entering.specs.Entering.{AreLengthened}
 use Rattle.setl_rep_entering.specs.code.Finding.{place_cmp}
 use Rattle.setl_rep_entering.proofs.Appended.{are_lengthened, places_there, places_marked, values_rise}
+use Rattle.setl_rep_entering.proofs.Lengthened.{none_new_is_found, members_lengthen_nothing}
 use Rattle.setl_rep_entering.proofs.Sorting.{goes_by_value}
 use Rattle.setl_rep_entering.proofs.enter.enter_places.Goals as goal
 
@@ -39,3 +41,14 @@ returns-clause-lengthened c =
     (λ e. subst (AreLengthened m d n bs) (sym e) (are_lengthened agree tests gathers m d n bs ps found put exact (λ i. values_rise exact place_cmp goes_by_value i ps c.in_ok-places.ensures.rising)
     (places_there agree tests gathers m d n bs ps found c.places_are_named.ensures exact c.requires.there)))
     c.enter_or_undo.ensures.entered
+
+pub returns-then-is_empty-clause-lengthened : goal.returns-then-is_empty-clause-lengthened
+returns-then-is_empty-clause-lengthened c =
+    let bs = c.args.bases.now in
+    let n = c.args.instance in
+    let m = mode_of c.args.mode.now in
+    let d = datum c.args.v.now in
+    let ps = c.in_ok-places.places in
+    let exact = c.instances_are_read.ensures.names in
+    members_lengthen_nothing c.tests_are_exact.ensures.membership c.operations_have_their_members.ensures.gather exact m d n bs
+    (none_new_is_found exact m d n bs ps.items c.in_ok-places.ensures.found (nil_from_length ps.items (sym ps.ok.0 ∙ eqb-true ps.len 0 (sym c.if-is_empty.ensures))))

@@ -1,8 +1,8 @@
-use Rattle.std.proofs.Common.{◌∙◌, ap, sym, subst}
+use Rattle.std.proofs.Common.{◌∙◌, ap}
 use Rattle.setl_value.specs.code.DatumOf.{datum}
 use Rattle.setl_rep_forms.specs.Form.{plain}
 use Rattle.setl_rep_forms.specs.FormOf.{form, of_plain}
-use Rattle.setl_rep_updates.proofs.Excluding.{excluded, plain_goes_out}
+use Rattle.setl_rep_updates.proofs.Excluding.{excluded}
 use Rattle.setl_rep_updates.proofs.sets.exclude.Goals as goal
 
 pub returns-in-Ok-clause-update : goal.returns-in-Ok-clause-update
