@@ -1,15 +1,15 @@
 -- The component at a place of a tuple that a closure changed in place.
 use Rattle.std.proofs.Common.{◌≡◌, ◌∙◌, ap, sym, subst, refl, ℕ, ℤ, pos, ◌+◌, ◌-◌, ◌<◌, true, List, [], ◌∷◌, ◌++◌, Option, Some, None, length, take, drop, replicate, arith}
-use Rattle.std.specs.Prelude.{Ok, Err, nat_le, int_le, slice_get, slice_set}
+use Rattle.std.specs.Prelude.{Ok, Err, zero, suc, ◌≤◌, max, nat_le, int_le, slice_get, slice_set}
 use Rattle.std.specs.Borrow.{MutBor}
 use Rattle.std.specs.Fn.{Once}
 use Rattle.std.specs.Bool.{if◌then◌else◌}
 use Rattle.std.specs.Option.{option_flatten, unwrap_or}
 use Rattle.std.proofs.lemmas.Bool.Decides.{nat_tests}
 use Rattle.std.proofs.lemmas.List.{append-nil, take-append-drop, take-set, drop-set, set-get_or}
-use Rattle.std.proofs.lemmas.Option.{slice_get_within, get_or_from_slice_get}
+use Rattle.std.proofs.lemmas.Option.{none-some, slice_get_within, get_or_from_slice_get}
 use Rattle.setl_value.specs.declared.Value.{Value}
-use Rattle.setl_value.specs.Datum.{Datum, int, depth, tuple_of, part_list-parts_of}
+use Rattle.setl_value.specs.Datum.{Datum, int, depth, part_depth, parts_depth, parts_of, tuple_of, part_list-parts_of}
 use Rattle.setl_value.specs.WellFormed.{IsTrimmed, IsTupleList, trim}
 use Rattle.setl_value.specs.code.Changing.{Leaves}
 use Rattle.setl_tuple.specs.declared.TupleFault.TheVariants.{Range}
@@ -20,7 +20,7 @@ use Rattle.setl_operators_table.specs.Puts.{put_part}
 use Rattle.setl_operators_table.specs.Selections.{component}
 use Rattle.setl_model.specs.Core.{Round}
 use Rattle.setl_model.specs.Places.{part_of, with_part_at}
-use Rattle.setl_machine_updates.specs.Changing.{ChangesPart, IsShallowAt}
+use Rattle.setl_machine_updates.specs.Changing.{ChangesPart, Deepens, IsShallowAt}
 use Rattle.setl_machine_updates.proofs.Takings.{trim_ends}
 
 component_is : (t : List (Option Datum)) (place : ℤ) (i left : ℕ) (d : Datum) → int_le (pos 1) place ≡ true → index_of place ≡ i → slice_get t i ≡ Some (Some d)
@@ -61,6 +61,41 @@ tuple_with t place i left e h at within k =
 -- the component there is not very deep
 pub shallow_there : (t : List (Option Datum)) (place : ℤ) (i : ℕ) (d : Datum) → IsShallowAt t place i → slice_get t i ≡ Some (Some d) → depth d < 499
 shallow_there t place i d a there = subst (λ x. depth x < 499) (ap (λ o. unwrap_or (unwrap_or o None) d) (sym a.there ∙ there)) a.shallow
+
+-- ---- depths
+
+pub parts_cons : (p : Option Datum) (ps : List (Option Datum)) → parts_depth (parts_of (p ∷ ps)) ≡ max (part_depth p) (parts_depth (parts_of ps))
+parts_cons None ps = omega arith
+parts_cons (Some d) ps = omega arith
+
+part_inside : (ps : List (Option Datum)) (i : ℕ) (d : Datum) → slice_get ps i ≡ Some (Some d) → depth d ≤ parts_depth (parts_of ps)
+part_inside [] i d h = absurd (none-some (Some d) h)
+part_inside (q ∷ ps) zero d h = omega (arith, parts_cons q ps, ap (λ o. part_depth (unwrap_or o q)) h)
+part_inside (q ∷ ps) (suc i) d h = omega (arith, parts_cons q ps, part_inside ps i d h)
+
+parts_deepen : (ps : List (Option Datum)) (i : ℕ) (d e : Datum) → slice_get ps i ≡ Some (Some d) → depth d ≤ depth e → parts_depth (parts_of ps) ≤ parts_depth (parts_of (slice_set ps i (Some e)))
+parts_deepen [] i d e h le = absurd (none-some (Some d) h)
+parts_deepen (q ∷ ps) zero d e h le = omega (arith, le, parts_cons q ps, parts_cons (Some e) ps, ap (λ o. part_depth (unwrap_or o q)) h)
+parts_deepen (q ∷ ps) (suc i) d e h le = omega (arith, parts_cons q ps, parts_cons q (slice_set ps i (Some e)), parts_deepen ps i d e h le)
+
+parts_bound : (ps : List (Option Datum)) (i : ℕ) (e : Datum) → parts_depth (parts_of (slice_set ps i (Some e))) ≤ max (parts_depth (parts_of ps)) (depth e)
+parts_bound [] i e = omega arith
+parts_bound (q ∷ ps) zero e = omega (arith, parts_cons q ps, parts_cons (Some e) ps)
+parts_bound (q ∷ ps) (suc i) e = omega (arith, parts_cons q ps, parts_cons q (slice_set ps i (Some e)), parts_bound ps i e)
+
+-- a tuple with a deeper component in the place of one
+pub component_deepens : {F R : Type 0} (g : Once F (MutBor Value × Unit {0}) (R × (MutBor Value × Unit {0}))) (change : F) (t now : List (Option Datum)) (i : ℕ) (d e : Datum) (r : R)
+    → slice_get t i ≡ Some (Some d) → Leaves g change d r e → now ≡ slice_set t i (Some e) → depth d ≤ depth e → Deepens g change (tuple_of t) r (tuple_of now)
+component_deepens g change t now i d e r there l w le =
+    let same : depth (tuple_of now) ≡ depth (tuple_of (slice_set t i (Some e))) = ap (λ ps. depth (tuple_of ps)) w in
+    record {
+      old = d;
+      new = e;
+      left = l;
+      inside = omega (arith, part_inside t i d there);
+      deeper = omega (arith, same, parts_deepen t i d e there le);
+      bound = omega (arith, same, parts_bound t i e);
+    }
 
 -- the component is the part at the place
 pub component_changed : {F R : Type 0} (g : Once F (MutBor Value × Unit {0}) (R × (MutBor Value × Unit {0}))) (change : F) (t now : List (Option Datum)) (place : ℤ) (i : ℕ) (d e : Datum) (r : R)

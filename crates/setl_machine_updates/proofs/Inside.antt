@@ -4,6 +4,8 @@ use Rattle.std.proofs.lemmas.List.{take_all}
 use Rattle.std.specs.Prelude.{Result, Err}
 use Rattle.setl_value.specs.Datum.{Datum}
 use Rattle.setl_operators_table.specs.declared.OpFault.{OpFault}
+use Rattle.setl_operators_table.specs.declared.Operator.{Operator}
+use Rattle.setl_operators_table.specs.Operators.{op_of}
 use Rattle.setl_operators_table.specs.Outcome.{Outcome, then_with}
 use Rattle.setl_operators_table.specs.code.Answers.{Tells}
 use Rattle.setl_model.specs.Core.{Selected}
@@ -44,6 +46,39 @@ pub combine_only : (at : List Selector) (s : Selector) (whole : Option Datum) (f
 combine_only [] s whole f left h e = absurd (omega arith)
 combine_only (x ∷ []) s whole f left h e = ap (λ r. combined (selected r ∷ []) whole f left) e
 combine_only (x ∷ y ∷ ys) s whole f left h e = absurd (omega arith)
+
+-- a put at two selectors is a put at the second one in the part at the first one
+pub put_in_two : (at : List Selector) (s r : Selector) (whole v : Option Datum) (left : ℕ) → length at ≡ 2 → s ≡ get_or at 0 s → r ≡ get_or at 1 r
+    → combined (selected s ∷ []) whole (λ p now. with_part_at (selected r) p v now) left ≡ with_part_at_all (map selected at) whole v left
+put_in_two [] s r whole v left h e f = absurd (omega arith)
+put_in_two (x ∷ []) s r whole v left h e f = absurd (omega arith)
+put_in_two (x ∷ y ∷ []) s r whole v left h e f =
+    ap (λ q. combined (selected q ∷ []) whole (λ p now. with_part_at (selected r) p v now) left) e
+    ∙ ap (λ q. combined (selected x ∷ []) whole (λ p now. with_part_at (selected q) p v now) left) f
+put_in_two (x ∷ y ∷ z ∷ zs) s r whole v left h e f = absurd (omega arith)
+
+-- the same at selectors that are these
+pub at_these : (a b s r : Selected) (old v now : Option Datum) (turns : ℕ) (res : Result ℕ OpFault) → s ≡ a → r ≡ b
+    → Updates (combined (a ∷ []) old (λ p left. with_part_at b p v left) turns) turns now res → Updates (combined (s ∷ []) old (λ p left. with_part_at r p v left) turns) turns now res
+at_these a b s r old v now turns res e f h =
+    subst (λ q. Updates (combined (q ∷ []) old (λ p left. with_part_at r p v left) turns) turns now res) (sym e)
+    (subst (λ q. Updates (combined (a ∷ []) old (λ p left. with_part_at q p v left) turns) turns now res) (sym f) h)
+
+pub combined_at_these : (a b s r : Selected) (old old' v v' now : Option Datum) (o : Operator) (turns : ℕ) (res : Result ℕ OpFault) → s ≡ a → r ≡ b → old ≡ old' → v ≡ v'
+    → Updates (combined (a ∷ b ∷ []) old' (λ p left. op_of o (p ∷ v' ∷ []) left) turns) turns now res → Updates (combined (s ∷ r ∷ []) old (λ p left. op_of o (p ∷ v ∷ []) left) turns) turns now res
+combined_at_these a b s r old old' v v' now o turns res e f i j h =
+    subst (λ q. Updates (combined (q ∷ r ∷ []) old (λ p left. op_of o (p ∷ v ∷ []) left) turns) turns now res) (sym e)
+    (subst (λ q. Updates (combined (a ∷ q ∷ []) old (λ p left. op_of o (p ∷ v ∷ []) left) turns) turns now res) (sym f)
+    (subst (λ q. Updates (combined (a ∷ b ∷ []) q (λ p left. op_of o (p ∷ v ∷ []) left) turns) turns now res) (sym i)
+    (subst (λ q. Updates (combined (a ∷ b ∷ []) old' (λ p left. op_of o (p ∷ q ∷ []) left) turns) turns now res) (sym j) h)))
+
+pub combine_two : (at : List Selector) (s r : Selector) (whole : Option Datum) (f : Option Datum → ℕ → Outcome) (left : ℕ) → length at ≡ 2 → s ≡ get_or at 0 s → r ≡ get_or at 1 r
+    → combined (selected s ∷ selected r ∷ []) whole f left ≡ combined (map selected at) whole f left
+combine_two [] s r whole f left h e g = absurd (omega arith)
+combine_two (x ∷ []) s r whole f left h e g = absurd (omega arith)
+combine_two (x ∷ y ∷ []) s r whole f left h e g =
+    ap (λ q. combined (selected q ∷ selected r ∷ []) whole f left) e ∙ ap (λ q. combined (selected x ∷ selected q ∷ []) whole f left) g
+combine_two (x ∷ y ∷ z ∷ zs) s r whole f left h e g = absurd (omega arith)
 
 pub read_inside : (at : List Selector) (s : Selector) (whole : Option Datum) (left : ℕ) → 1 ≤ length at → s ≡ get_or at 0 s
     → then_with (part_of (selected s) whole left) left (λ p now. part_at_all (map selected (behind at)) p now) ≡ part_at_all (map selected at) whole left

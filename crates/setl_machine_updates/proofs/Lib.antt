@@ -5,4 +5,6 @@ pub mod Images
 pub mod Removing
 pub mod Image
 pub mod Component
+pub mod Flat
+pub mod Flattened
 pub mod Parts

@@ -1,6 +1,6 @@
 -- `whole(x) with:= y` and `whole(x) +:= y`: the part is read, combined with y, and put.
 use Rattle.std.proofs.Common.{◌≡◌, ◌∙◌, ap, sym, subst, refl, ℕ, [], ◌∷◌, Option, Some, arith}
-use Rattle.std.specs.Prelude.{Result, Ok, Err, None, IfSome}
+use Rattle.std.specs.Prelude.{Result, Ok, Err, None, IfOk, IfSome}
 use Rattle.std.specs.Option.{unwrap_or}
 use Rattle.std.proofs.lemmas.Option.{none-some}
 use Rattle.std.specs.Borrow.{MutBor}
@@ -26,6 +26,10 @@ part_changed whole now x d e g turns (Err fault) there written k =
     let read : Leaves (part_of (Round (Some x)) (Some whole) turns) turns (Some d) turns = subst (λ o. Leaves o turns (Some d) turns) (sym (there turns)) (refl, omega arith) in
     fails_inside (Round (Some x)) (Some whole) g turns (combined (Round (Some x) ∷ []) (Some whole) g turns) refl (Some d) turns fault (Err fault) refl read k
 
+-- what a value without a charge tells
+pub given_free : (o : Outcome) (turns : ℕ) (d : Datum) → o ≡ value d → Updates o turns (Some d) (Ok turns)
+given_free o turns d h = subst (λ x. Updates x turns (Some d) (Ok turns)) (sym h) (refl, omega arith)
+
 -- the same of a value in which the whole stands
 pub handed_on : {F R A B : Type 0} (g : Once F (MutBor Value × Unit {0}) (R × (MutBor Value × Unit {0}))) (change : F) (x whole now w n : Datum) (r : R)
     → w ≡ whole → n ≡ now → (A → B) → ChangesPart g change x w r n A → ChangesPart g change x whole r now B
@@ -42,3 +46,7 @@ handed_on g change x whole now w n r e f h k = record {
 pub answered : {R : Type 0} (P : R → Type 0) (o : Option R) (r : R) → o ≡ Some r → IfSome o P → P r
 answered P None r e h = absurd (none-some r e)
 answered P (Some q) r e h = subst P (ap (λ o. unwrap_or o q) e) h
+
+-- what a clause says of an answer without an error
+pub when_ok : {E V : Type 0} (P : V → Type 0) (o : Result V E) (v : V) → o ≡ Ok v → IfOk o P → P v
+when_ok P o v e h = subst (λ r. IfOk r P) e h

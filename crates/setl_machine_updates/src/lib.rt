@@ -9,6 +9,7 @@ mod one_image;
 mod one_part;
 mod selectors;
 mod taking;
+mod two_parts;
 mod updates;
 
 pub use selectors::Selector;

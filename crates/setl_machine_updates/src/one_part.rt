@@ -1,15 +1,15 @@
 //! The part at one selector, combined with a value where it stands.
 
-ghost use Rattle.std.specs.Prelude.{◌≡◌, ◌<◌, ◌∷◌, [], Some, IfOk, IfNone, IfSome, OnErr};
+ghost use Rattle.std.specs.Prelude.{◌≡◌, ◌<◌, ◌≤◌, max, true, false, ◌∷◌, [], Some, IfOk, IfNone, IfSome, OnErr};
 ghost use Rattle.setl_value.specs.Datum.{Datum, int, depth, set_of, tuple_of};
 ghost use Rattle.setl_value.specs.code.Body.{Members};
 ghost use Rattle.setl_value.specs.code.Changing.{Grows};
 ghost use Rattle.setl_value.specs.code.DatumOf.{datum, part};
-ghost use Rattle.setl_operators_table.specs.declared.Operator.TheVariants.{Add, With};
+ghost use Rattle.setl_operators_table.specs.declared.Operator.TheVariants.{Add, Less, With};
 ghost use Rattle.setl_operators_table.specs.Operators.{op_of};
 ghost use Rattle.setl_model.specs.Core.{Round};
 ghost use Rattle.setl_model.specs.Places.{combined};
-ghost use Rattle.setl_machine_updates.specs.Changing.{ChangesPart, IsShallowAt};
+ghost use Rattle.setl_machine_updates.specs.Changing.{ChangesPart, Deepens, IsLessened, IsShallowAt};
 ghost use Rattle.setl_machine_updates.specs.Updates.{Updates};
 
 use crate::updates::{add_value, append_value};
@@ -19,9 +19,9 @@ use setl_operators_table::{OpFault, Operator};
 use setl_value::{Memory, SetBody, TupleBody, Value};
 use std::alloc::Global;
 
-/// `whole(x) with:= value` and `whole(x) +:= value` where the part stands, and what that answers. None for another operator
-/// or a whole that is no map or tuple, where x has not one value there, and for values that are very deep; then nothing
-/// changed.
+/// `whole(x) with:= value` and `whole(x) +:= value` where the part stands, and `whole(x) less:= value` where it is a set of
+/// members that are neither sets nor tuples, and what that answers. None for another operator or a whole that is no map or
+/// tuple, where x has not one value there, and for values that are very deep; then nothing changed.
 pub(crate) fn combine_there(
     alloc: Global,
     what: Operator,
@@ -60,6 +60,7 @@ fn combine_in(
     match what {
         Operator::With => add_to_part(alloc, whole, x, value, turns),
         Operator::Add => append_to_part(alloc, whole, x, value, turns),
+        Operator::Less => remove_from_part(whole, x, value, turns),
         _ => Ok(None),
     }
 }
@@ -100,10 +101,62 @@ fn append_to_part(
     change_part(whole, x, |part| append_value(alloc, part, value, turns))
 }
 
+// `whole(x) less:= value` where the part stands, if it is a flat set.
+fn remove_from_part(
+    whole: &mut Value,
+    x: &Value,
+    value: &Value,
+    turns: u64,
+) -> Result<Option<Result<u64, OpFault>>, Memory>
+    ensures updated { IfOk result (λ o. IfSome o (λ r. Updates (combined (Round (Some (datum x.now)) ∷ []) (Some (datum whole.old)) (λ p now. op_of Less (p ∷ Some (datum value.now) ∷ []) now) turns) turns (Some (datum whole.new)) r)) }
+    ensures fault { IfOk result (λ o. IfSome o (λ r. OnErr r (whole.new ≡ whole.old))) }
+    ensures unchanged { IfOk result (λ o. IfNone o (whole.new ≡ whole.old)) }
+    ensures refused { OnErr result (whole.new ≡ whole.old) }
+{
+    let Some(answer) = change_part(whole, x, |part| remove_if_flat(part, value))? else {
+        return Ok(None);
+    };
+    if answer? {
+        Ok(Some(Ok(turns)))
+    } else {
+        Ok(None)
+    }
+}
+
+// `part less value`, in place, where the part is a set of members that are neither sets nor tuples. Its answer is whether this was
+// so, and else nothing changed.
+fn remove_if_flat(part: &mut Value, value: &Value) -> Result<bool, Memory>
+    ensures removed { IfOk result (λ done. done ≡ true → IsLessened (datum value.now) (datum part.old) (datum part.new)) }
+    ensures deeper { depth (datum part.old) ≤ depth (datum part.new) }
+    ensures bound { depth (datum part.new) ≤ max (depth (datum part.old)) 1 }
+    ensures unchanged { IfOk result (λ done. done ≡ false → part.new ≡ part.old) }
+    ensures refused { OnErr result (part.new ≡ part.old) }
+{
+    match part {
+        Value::Set(s) => remove_from_flat(s, value),
+        _ => Ok(false),
+    }
+}
+
+// The same of a set.
+fn remove_from_flat(s: &mut SetBody, value: &Value) -> Result<bool, Memory>
+    ensures removed { IfOk result (λ done. done ≡ true → IsLessened (datum value.now) (set_of (Members s.old)) (set_of (Members s.new))) }
+    ensures deeper { depth (set_of (Members s.old)) ≤ depth (set_of (Members s.new)) }
+    ensures bound { depth (set_of (Members s.new)) ≤ max (depth (set_of (Members s.old))) 1 }
+    ensures unchanged { IfOk result (λ done. done ≡ false → s.new ≡ s.old) }
+    ensures refused { OnErr result (s.new ≡ s.old) }
+{
+    if s.depth() > 1 {
+        return Ok(false);
+    }
+    setl_set::less(s, value)?;
+    Ok(true)
+}
+
 /// Lets `change` change the value at a point of a map or a place of a tuple where it stands, to one that is at least as deep
 /// and at most 498 deep, and answers what `change` answers. Where there is none, or not one, or a deeper one, the answer is
 /// None, and `change` isn't called. Where memory is refused, neither, and the whole is as before.
-fn change_part<R, F: FnOnce(&mut Value) -> R>(
+pub(crate) fn change_part<R, F: FnOnce(&mut Value) -> R>(
     whole: &mut Value,
     x: &Value,
     change: F,
@@ -142,8 +195,8 @@ fn change_in_map<R, F: FnOnce(&mut Value) -> R>(
     }
 }
 
-// The same for the component at a place.
-fn change_in_tuple<R, F: FnOnce(&mut Value) -> R>(
+/// The same for the component at a place. The tuple is then at least as deep as before.
+pub(crate) fn change_in_tuple<R, F: FnOnce(&mut Value) -> R>(
     t: &mut TupleBody,
     x: &Value,
     change: F,
@@ -151,6 +204,7 @@ fn change_in_tuple<R, F: FnOnce(&mut Value) -> R>(
     requires callable { F.IsAlwaysCallable change }
     requires grows { (d : Datum) → depth d < 499 → Grows F.FnOnce change d 499 }
     ensures changed { IfOk result (λ o. IfSome o (λ r. ChangesPart F.FnOnce change (datum x.now) (tuple_of t.old) r (tuple_of t.new) (t.new ≡ t.old))) }
+    ensures deeper { IfOk result (λ o. IfSome o (λ r. Deepens F.FnOnce change (tuple_of t.old) r (tuple_of t.new))) }
     ensures unchanged { IfOk result (λ o. IfNone o (t.new ≡ t.old)) }
     ensures refused { OnErr result (t.new ≡ t.old) }
 {
@@ -188,6 +242,7 @@ fn change_component<R, F: FnOnce(&mut Value) -> R>(
     requires grows { (d : Datum) → depth d < 499 → Grows F.FnOnce change d 499 }
     requires there { IsShallowAt t.old place i }
     ensures changed { IfOk result (λ o. IfSome o (λ r. ChangesPart F.FnOnce change (int place) (tuple_of t.old) r (tuple_of t.new) (t.new ≡ t.old))) }
+    ensures deeper { IfOk result (λ o. IfSome o (λ r. Deepens F.FnOnce change (tuple_of t.old) r (tuple_of t.new))) }
     ensures unchanged { IfOk result (λ o. IfNone o (t.new ≡ t.old)) }
     ensures refused { OnErr result (t.new ≡ t.old) }
 {

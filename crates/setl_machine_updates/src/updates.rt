@@ -13,6 +13,7 @@ ghost use Rattle.setl_machine_updates.specs.Updates.{Updates};
 use crate::one_image::remove_image;
 use crate::one_part::combine_there;
 use crate::selectors::{Selector, apply, part_at, put_part};
+use crate::two_parts::{combine_inside, put_there};
 use setl_map::laws::images_are_shallower;
 use setl_operators_arithmetic::{minus_in_place, plus_in_place};
 use setl_operators_collections::{
@@ -40,6 +41,24 @@ pub fn put_at(
     ensures updated { Updates (with_part_at_all (map selected at.now) (part whole.old) (part value) turns) turns (part whole.new) result }
     ensures refused { OnErr result (whole.new ≡ whole.old) }
 {
+    if put_there(whole, at, &value)? {
+        Ok(turns)
+    } else {
+        put_by_parts(alloc, whole, at, value, turns)
+    }
+}
+
+// The same by copies of the parts that the selectors but the last lead to.
+fn put_by_parts(
+    alloc: Global,
+    whole: &mut Option<Value>,
+    at: &[Selector],
+    value: Option<Value>,
+    turns: u64,
+) -> Result<u64, OpFault>
+    ensures updated { Updates (with_part_at_all (map selected at.now) (part whole.old) (part value) turns) turns (part whole.new) result }
+    ensures refused { OnErr result (whole.new ≡ whole.old) }
+{
     match at {
         [] => {
             *whole = value;
@@ -48,7 +67,7 @@ pub fn put_at(
         [only] => put_part(alloc, whole, only, value, turns),
         [first, inner @ ..] => {
             let mut part = part_at(alloc, whole, first, turns)?;
-            let left = put_at(alloc, &mut part.value, inner, value, part.left)?;
+            let left = put_by_parts(alloc, &mut part.value, inner, value, part.left)?;
             put_part(alloc, whole, first, part.value, left)
         }
     }
@@ -72,12 +91,31 @@ pub fn combine_at(
     ensures updated { Updates (combined (map selected at.now) (part whole.old) (λ p now. op_of what (p ∷ part value ∷ []) now) turns) turns (part whole.new) result }
     ensures refused { OnErr result (whole.new ≡ whole.old) }
 {
+    match combine_inside(alloc, what, whole, at, &value, turns)? {
+        Some(answer) => answer,
+        None => combine_by_parts(alloc, what, whole, at, value, turns),
+    }
+}
+
+// The same by copies of the parts that the selectors but the last lead to.
+fn combine_by_parts(
+    alloc: Global,
+    what: Operator,
+    whole: &mut Option<Value>,
+    at: &[Selector],
+    value: Option<Value>,
+    turns: u64,
+) -> Result<u64, OpFault>
+    requires { operand_count what ≡ Some 2 }
+    ensures updated { Updates (combined (map selected at.now) (part whole.old) (λ p now. op_of what (p ∷ part value ∷ []) now) turns) turns (part whole.new) result }
+    ensures refused { OnErr result (whole.new ≡ whole.old) }
+{
     match at {
         [] => combine(alloc, what, whole, &value, turns),
         [only] => combine_part(alloc, what, whole, only, &value, turns),
         [first, inner @ ..] => {
             let mut part = part_at(alloc, whole, first, turns)?;
-            let left = combine_at(alloc, what, &mut part.value, inner, value, part.left)?;
+            let left = combine_by_parts(alloc, what, &mut part.value, inner, value, part.left)?;
             put_part(alloc, whole, first, part.value, left)
         }
     }

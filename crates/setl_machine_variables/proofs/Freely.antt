@@ -10,7 +10,6 @@ use Rattle.setl_operators_table.specs.Operators.{op_of}
 use Rattle.setl_operators_table.specs.Outcome.{Gives}
 use Rattle.setl_model_runs.specs.Run.{Move, settle}
 use Rattle.setl_model_runs.specs.Variable.{Variable}
-use Rattle.setl_model.specs.Step.{declared_mode}
 use Rattle.setl_code.specs.declared.code.Bracket as declared
 use Rattle.setl_code.specs.declared.code.Slot.{Slot}
 use Rattle.setl_code.specs.Code.{Alteration, Bracket, Alter, Combining}
@@ -26,7 +25,6 @@ use Rattle.setl_machine_control.specs.Answers.{start, Quiet}
 use Rattle.setl_machine_control.specs.Working.{WorksBy}
 use Rattle.setl_machine_control.specs.declared.end.End.TheVariants as end
 use Rattle.setl_machine_variables.proofs.Altered.{held_in_world}
-use Rattle.setl_machine_control.specs.Laws.{takes_any}
 use Rattle.setl_machine_variables.proofs.Storing.{stored_is, goes_stored}
 use Rattle.setl_machine_control.specs.Laws.{write_in_world}
 
@@ -64,7 +62,7 @@ altered_freely modes old dropped put new line slot what bs d h off stored goes =
     let new_is = stored_is old dropped put new slot (Some d) (drop 1 old.core.now.operands) off stored goes in
     subst (λ a. WorksBy modes old line (Alter a x bs) new end.Paused) (sym h.2.1)
     (subst (λ l. WorksBy modes old line (Alter (Combining h.2.0) x l) new end.Paused) (sym h.1)
-    (combined_freely modes old new line x h.2.0 (Some h.2.2.0) (Some d) h.2.2.1 (takes_any modes x (Some d) h.0) h.2.2.2 h.2.2.3 h.2.2.4.1 new_is))
+    (combined_freely modes old new line x h.2.0 (Some h.2.2.0) (Some d) h.2.2.1 h.0 h.2.2.2 h.2.2.3 h.2.2.4.1 new_is))
 
 held_is : (h : Held) (v : Bor Value) → IsHeld h (content.Value v) → h ≡ There (Some (datum v.now))
 held_is Gone v h = absurd h
@@ -75,9 +73,8 @@ pub no_brackets : (bs : List declared.Bracket) → length bs ≡ 0 → map plain
 no_brackets [] none = refl
 no_brackets (b ∷ bs) none = absurd (omega (arith, none))
 
--- what an update makes of the two integers
-pub altering : (modes : Modes) (what : Alteration) (x : Variable) (bs : List declared.Bracket) (k : CodeCore) (o : Operator) (whole value : Bor Value) (r : Option Value) → declared_mode modes x ≡ None → length bs ≡ 0 → what ≡ Combining o → IsHeld (held x k) (content.Value whole) →
-    k.now.operands ≡ Holds (Some (datum value.now)) ∷ drop 1 k.now.operands → IfSome r (λ v. GivesFreely o (datum whole.now) (datum value.now) (datum v)) → IfSome r (λ v. AltersFreely modes what x (map plain_bracket bs) k (datum v))
-altering modes what x bs k o whole value None undeclared none combines was top gives = tt
-altering modes what x bs k o whole value (Some v) undeclared none combines was top gives =
-    (undeclared, no_brackets bs none, (o, combines, (datum whole.now, datum value.now, held_is (held x k) whole was, top, gives)))
+-- what an update makes of the two integers, where the variable takes it
+pub altering : (modes : Modes) (what : Alteration) (x : Variable) (bs : List declared.Bracket) (k : CodeCore) (o : Operator) (whole value : Bor Value) (d : Datum) → tested modes x (Some d) ≡ true → length bs ≡ 0 → what ≡ Combining o → IsHeld (held x k) (content.Value whole) →
+    k.now.operands ≡ Holds (Some (datum value.now)) ∷ drop 1 k.now.operands → GivesFreely o (datum whole.now) (datum value.now) d → AltersFreely modes what x (map plain_bracket bs) k d
+altering modes what x bs k o whole value d takes none combines was top gives =
+    (takes, no_brackets bs none, (o, combines, (datum whole.now, datum value.now, held_is (held x k) whole was, top, gives)))

@@ -1,15 +1,16 @@
 //! Whether a variable takes the new whole of an update, as the new part alone tells.
 
-ghost use Rattle.std.specs.Prelude.{◌≡◌, true, map, Option, option_map, IfOk};
+ghost use Rattle.std.specs.Prelude.{◌≡◌, true, map, Option, Some, option_map, IfOk, IsTrue};
 ghost use Rattle.setl_code_declared.specs.Laws.{HeldFits};
 ghost use Rattle.setl_machine_control.specs.Declaring.{Modes, tested, Keeps};
 ghost use Rattle.setl_machine_updates.specs.Selectors.{selected};
 ghost use Rattle.setl_machine_variables.specs.Deciding.{mode_by, mode_at, part_mode, decides_put, decides_combined, decides_taken, PartLaws};
 ghost use Rattle.setl_model_runs.specs.Variable.{Variable};
+ghost use Rattle.setl_modes.specs.Fits.{datum_fits, is_taken};
 ghost use Rattle.setl_modes.specs.Modes.{mode_of};
 ghost use Rattle.setl_value.specs.Datum.{Datum};
 ghost use Rattle.setl_value.specs.WellFormed.{PartIsWellFormed};
-ghost use Rattle.setl_value.specs.code.DatumOf.{part};
+ghost use Rattle.setl_value.specs.code.DatumOf.{datum, part};
 
 use setl_code_declared::declared_variables_fit;
 use setl_machine_control::{Declaration, copied};
@@ -19,6 +20,42 @@ use setl_modes_fit::fits;
 use setl_modes_parts::{combines, images_mode, parts_decide, value_mode};
 use setl_store_environment::Memory;
 use setl_value::Value;
+
+/// Whether it is plain to see, of an integer or a truth value as of any other, that a variable takes it: where the variable isn't
+/// declared, or its mode asks for no more than the kind.
+#[inline(always)]
+pub(crate) fn surely_takes(declared: Option<Declaration<'_>>, value: &Value) -> bool
+    ensures { IsTrue result → is_taken (mode_by declared.entry) (Some (datum value.now)) ≡ true }
+{
+    match declared {
+        None => true,
+        Some(declaration) => surely_fits(declaration.mode, value),
+    }
+}
+
+/// Whether it is plain to see that a value fits a mode; an element of a base fits where it has the kind of the base's members.
+#[inline(always)]
+fn surely_fits(mode: &Mode, value: &Value) -> bool
+    ensures { IsTrue result → datum_fits (mode_of mode.now) (datum value.now) ≡ true }
+{
+    match mode {
+        Mode::Elmt(_, members) => is_of_kind(members.get(), value),
+        _ => is_of_kind(mode, value),
+    }
+}
+
+/// Whether a mode asks for no more than the kind that a value has.
+#[inline(always)]
+fn is_of_kind(mode: &Mode, value: &Value) -> bool
+    ensures { IsTrue result → datum_fits (mode_of mode.now) (datum value.now) ≡ true }
+{
+    match (mode, value) {
+        (Mode::General, _) => true,
+        (Mode::Int, Value::Int(_)) => true,
+        (Mode::Boolean, Value::Bool(_)) => true,
+        _ => false,
+    }
+}
 
 /// Whether a variable takes the whole that gets a new part, where it took the old one: the part fits the mode that it has
 /// there. It costs the test of the selectors' operands and of the part.

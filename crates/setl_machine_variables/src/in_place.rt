@@ -12,6 +12,7 @@ ghost use Rattle.setl_machine_control.specs.Working.{DoesBy, WorksBy};
 ghost use Rattle.setl_code.specs.Code.{Alteration as PlainAlteration, Bracket as PlainBracket};
 
 use crate::altering::alter;
+use crate::deciding::surely_takes;
 use crate::declarations::Declarations;
 use crate::in_form::update_in_form;
 use crate::integers::freely;
@@ -21,7 +22,8 @@ use setl_store::{Content, Store};
 use setl_store_environment::Memory;
 use setl_value::Value;
 
-/// Does an update: an integer of an undeclared variable is combined with an integer at once, and else it is `alter`.
+/// Does an update: an integer of a variable that surely takes the new one is combined with an integer at once, and else it is
+/// `alter`.
 /// The error is want of memory.
 #[inline(always)]
 pub fn update(
@@ -70,8 +72,8 @@ fn update_any(
     Ok(alter(what, slot, brackets, line, declarations, store, control)?.end)
 }
 
-/// The integer that an update without selectors makes of an undeclared variable's integer and the one on top; None where
-/// it is another update.
+/// The integer that an update without selectors makes of a variable's integer and the one on top; None where it is another
+/// update, or it isn't sure at once that the variable takes it.
 #[inline(always)]
 fn new_integer(
     what: Alteration,
@@ -91,9 +93,6 @@ fn new_integer(
     if count > 0 {
         return None;
     }
-    let None = declarations.of_slot(slot, store) else {
-        return None;
-    };
     let whole = match store.slot(slot) {
         Content::Value(whole) => whole,
         Content::Om | Content::Taken | Content::Based => return None,
@@ -101,7 +100,14 @@ fn new_integer(
     let Some(value) = store.one() else {
         return None;
     };
-    freely(by, whole, value)
+    let Some(new) = freely(by, whole, value) else {
+        return None;
+    };
+    if surely_takes(declarations.of_slot(slot, store), &new) {
+        Some(new)
+    } else {
+        None
+    }
 }
 
 /// Drops the top, and puts a value in a variable's slot.

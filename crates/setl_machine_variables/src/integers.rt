@@ -1,14 +1,14 @@
-//! Operators on two integers, which are answered without a list of operands.
+//! Operators on one or two integers, which are answered without a list of operands.
 
 ghost use Rattle.std.specs.Prelude.{IfSome, ◌≡◌};
 ghost use Rattle.setl_operators_table.specs.Numbers.{whole};
 ghost use Rattle.setl_operators_table.specs.Outcome.{value};
 ghost use Rattle.setl_value.specs.Datum.{int};
 ghost use Rattle.setl_value.specs.code.DatumOf.{datum};
-ghost use Rattle.setl_machine_variables.specs.Freely.{GivesFreely, OnTop};
+ghost use Rattle.setl_machine_variables.specs.Freely.{GivesAlone, GivesFreely, OnTop, OnTopAlone};
 
 use setl_operators::Operator;
-use setl_scalar::{ScalarFault, add, div, modulo, mul, sub};
+use setl_scalar::{ScalarFault, abs, add, div, modulo, mul, neg, sub};
 use setl_store::Store;
 use setl_value::Value;
 
@@ -21,6 +21,33 @@ pub fn freely_of_top(what: Operator, store: &Store<'_>) -> Option<Value>
         return None;
     };
     freely(what, a, b)
+}
+
+/// What an operator with one operand gives of the value on top, where this is an integer or a truth value and it charges
+/// nothing.
+#[inline(always)]
+pub fn freely_of_one(what: Operator, store: &Store<'_>) -> Option<Value>
+    ensures { IfSome result (λ v. OnTopAlone what store.now.core.now.operands (datum v)) }
+{
+    let Some(a) = store.one() else {
+        return None;
+    };
+    freely_alone(what, a)
+}
+
+/// What an operator with one operand gives of a value, where this is an integer or a truth value and it charges nothing.
+#[inline(always)]
+fn freely_alone(what: Operator, a: &Value) -> Option<Value>
+    ensures { IfSome result (λ v. GivesAlone what (datum a.now) (datum v)) }
+{
+    match (what, a) {
+        (Operator::Negate, Value::Int(z)) => whole(neg(*z)),
+        (Operator::Abs, Value::Int(z)) => whole(abs(*z)),
+        (Operator::Even, Value::Int(z)) => Some(Value::Bool(z.unsigned_abs() % 2 == 0)),
+        (Operator::Odd, Value::Int(z)) => Some(Value::Bool(z.unsigned_abs() % 2 == 1)),
+        (Operator::Not, Value::Bool(truth)) => Some(Value::Bool(!*truth)),
+        _ => None,
+    }
 }
 
 /// What an operator gives of two values, where these are integers and it charges nothing.

@@ -12,6 +12,7 @@ ghost use Rattle.setl_machine_control.specs.Declaring.{modes_of, Serves};
 ghost use Rattle.setl_machine_control.specs.Working.{Works, WorksBy};
 ghost use Rattle.setl_machine_variables.specs.Freely.{WorksOrLeaves};
 
+use crate::deciding::surely_takes;
 use crate::declarations::Declarations;
 use crate::in_form::{load_form, put};
 use setl_code::{Literal, Slot};
@@ -123,8 +124,8 @@ pub fn store_in(
     }
 }
 
-/// Pops an integer or a truth value into a variable that isn't declared. Its answer is whether such a value was on top and
-/// the variable isn't declared, and else all is as before. The error is want of memory.
+/// Pops an integer or a truth value into a variable that surely takes it. Its answer is whether this was so, and else all is as
+/// before. The error is want of memory.
 #[inline(always)]
 pub fn store_at_once(
     slot: Slot,
@@ -136,12 +137,12 @@ pub fn store_at_once(
     requires serves { Serves declarations.now store.old }
     ensures { (line : ℕ) → IfOk result (λ done. WorksOrLeaves (modes_of declarations.now) store.old line (StoreIn (plain_slot (variables store.old.core) slot)) store.new done) }
 {
-    let None = declarations.of_slot(slot, store) else {
-        return Ok(false);
-    };
     let Some(value) = small_on_top(store) else {
         return Ok(false);
     };
+    if !surely_takes(declarations.of_slot(slot, store), &value) {
+        return Ok(false);
+    }
     store.drop_top()?;
     store.set_slot(slot, Some(value))?;
     go_on(store);

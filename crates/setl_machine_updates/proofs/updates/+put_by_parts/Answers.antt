@@ -7,7 +7,7 @@ use Rattle.setl_operators_table.specs.Outcome.{Outcome}
 use Rattle.setl_model.specs.Places.{with_part_at_all}
 use Rattle.setl_machine_updates.specs.Selectors.{selected}
 use Rattle.setl_machine_updates.proofs.Inside.{behind, put_inside, puts_back, fails_inside, fails_reading}
-use Rattle.setl_machine_updates.proofs.updates.+put_at.Goals as goal
+use Rattle.setl_machine_updates.proofs.updates.+put_by_parts.Goals as goal
 
 pub returns-in_err-part-in-len1-up-clause-updated : goal.returns-in_err-part-in-len1-up-clause-updated
 returns-in_err-part-in-len1-up-clause-updated t c =
@@ -40,5 +40,5 @@ returns-in_ok-left-in-len1-up-clause-updated t c =
     let f : Option Datum → ℕ → Outcome = λ p now. with_part_at_all (map selected (behind at)) p v now in
     let is = put_inside at c.first-item.result whole v c.args.turns c.in-len1-up.len_at_least c.first-item.is in
     let read = c.in_ok-part-in-len1-up.part in
-    puts_back (selected c.first-item.result) whole f c.args.turns (with_part_at_all (map selected at) whole v c.args.turns) is (part read.value) (part c.put_at.new.whole) read.left c.in_ok-left-in-len1-up.left (part c.put_part-in-len1-up.new.whole) c.put_part-in-len1-up.result
+    puts_back (selected c.first-item.result) whole f c.args.turns (with_part_at_all (map selected at) whole v c.args.turns) is (part read.value) (part c.put_by_parts.new.whole) read.left c.in_ok-left-in-len1-up.left (part c.put_part-in-len1-up.new.whole) c.put_part-in-len1-up.result
     c.in_ok-part-in-len1-up.ensures c.in_ok-left-in-len1-up.ensures.updated c.put_part-in-len1-up.ensures.updated

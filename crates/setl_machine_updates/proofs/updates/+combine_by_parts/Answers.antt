@@ -9,7 +9,7 @@ use Rattle.setl_model.specs.Places.{combined}
 use Rattle.setl_machine_updates.specs.Selectors.{selected}
 use Rattle.setl_machine_updates.specs.Updates.{Updates}
 use Rattle.setl_machine_updates.proofs.Inside.{behind, combine_inside, combine_only, puts_back, fails_inside, fails_reading}
-use Rattle.setl_machine_updates.proofs.updates.+combine_at.Goals as goal
+use Rattle.setl_machine_updates.proofs.updates.+combine_by_parts.Goals as goal
 
 pub returns-in-len1-clause-updated : goal.returns-in-len1-clause-updated
 returns-in-len1-clause-updated t c =
@@ -48,5 +48,5 @@ returns-in_ok-left-in-len1-up-clause-updated t c =
     let f : Option Datum → ℕ → Outcome = λ p now. combined (map selected (behind at)) p g now in
     let is = combine_inside at c.first-item.result whole g c.args.turns (omega (arith, c.in-len1-up.len_at_least)) c.first-item.is in
     let read = c.in_ok-part-in-len1-up.part in
-    puts_back (selected c.first-item.result) whole f c.args.turns (combined (map selected at) whole g c.args.turns) is (part read.value) (part c.combine_at.new.whole) read.left c.in_ok-left-in-len1-up.left (part c.put_part.new.whole) c.put_part.result
+    puts_back (selected c.first-item.result) whole f c.args.turns (combined (map selected at) whole g c.args.turns) is (part read.value) (part c.combine_by_parts.new.whole) read.left c.in_ok-left-in-len1-up.left (part c.put_part.new.whole) c.put_part.result
     c.in_ok-part-in-len1-up.ensures c.in_ok-left-in-len1-up.ensures.updated c.put_part.ensures.updated
