@@ -17,7 +17,7 @@ use Rattle.setl_store.specs.Operands.{IsPlainTop}
 use Rattle.setl_store.specs.Standing.{Standing, over, at_place, top_of}
 use Rattle.setl_machine_control.specs.Control.{ControlState, stood_for}
 use Rattle.setl_machine_control.specs.Declaring.{tested}
-use Rattle.setl_machine_variables.specs.Freely.{OnTop}
+use Rattle.setl_machine_variables.specs.Freely.{OnTop, OnTopAlone}
 use Rattle.setl_machine.specs.Operating.{AreTwo, PutsForTwo, PutsForOne}
 use Rattle.setl_machine_control.specs.Answers.{start, Quiet}
 use Rattle.setl_machine_control.specs.Working.{Does, EndsBy, Halted}
@@ -54,6 +54,9 @@ two_on_top o xs d h = two_there xs (drop 2 xs) (Some h.0) (Some h.1) h.2
 
 pub plain_on_top : (xs ys : List Operand) (v : Option Datum) → xs ≡ Holds v ∷ ys → IsPlainTop xs
 plain_on_top xs ys v top = subst IsPlainTop (sym top) tt
+
+pub plain_on_top_alone : (o : Operator) (xs : List Operand) (d : Datum) → OnTopAlone o xs d → IsPlainTop xs
+plain_on_top_alone o xs d h = plain_on_top xs (drop 1 xs) (Some h.0) h.1
 
 two_off : (xs : List Operand) → drop 1 (drop 1 xs) ≡ drop 2 xs
 two_off [] = refl
@@ -114,6 +117,11 @@ pub operated_freely : (old new : Standing) (from : ControlState) (line n : ℕ) 
 operated_freely old new from line n o d e takes h put =
     let left : from.turns ≡ from.turns - 0 = omega arith in
     operated_two old new from from line n 0 o (Some h.0) (Some h.1) (Some d) e h.3.0 takes h.2 (h.3.1 from.turns) (ap (λ t. record from { turns = t }) left) put
+
+pub operated_freely_alone : (old new : Standing) (from : ControlState) (line n : ℕ) (o : Operator) (d : Datum) (e : End) → TakesOperands o n → OnTopAlone o old.core.now.operands d → PutsForOne old (Some d) new e → Does old from line (Operate o n) new from e
+operated_freely_alone old new from line n o d e takes h put =
+    let left : from.turns ≡ from.turns - 0 = omega arith in
+    operated_one old new from from line n 0 o (Some h.0) (Some d) e h.2.0 takes h.1 (h.2.1 from.turns) (ap (λ t. record from { turns = t }) left) put
 
 -- ---- faults
 

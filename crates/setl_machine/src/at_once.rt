@@ -11,17 +11,19 @@ ghost use Rattle.setl_machine_control.specs.Declaring.{Modes, modes_of, Serves, 
 ghost use Rattle.setl_machine.specs.Working.{went_on, DoesOrLeaves};
 
 use crate::calling::{call, leave_body};
-use crate::conditions::{decide, jump, test, unless};
-use crate::iterating::{next, round};
-use crate::operating::{operate_any, put_for_two};
+use crate::conditions::{decide, discard, duplicate, jump, test, unless};
+use crate::iterating::{add, begin_over, collect, leave, next, round};
+use crate::operating::{operate_any, put_for_one, put_for_two};
 use setl_code::{Alteration, Bracket, Instr, Slot};
 use setl_machine_control::{Control, End};
 use setl_machine_variables::{
-    Declarations, freely_of_top, load, push_integer, store_at_once, take, update,
+    Declarations, freely_of_one, freely_of_top, load, push, push_integer, store_at_once, take,
+    update,
 };
 use setl_operators::Operator;
 use setl_store::Store;
 use setl_store_environment::Memory;
+use setl_value::Value;
 
 /// Does one of the common instructions. Its answer is whether it did so and the run goes on, and else all is as before. The
 /// error is how the run ended, which is never `Paused`.
@@ -62,6 +64,32 @@ pub(crate) fn at_once(
         Instr::Round => went_on(round(store, control)),
         Instr::Call(body) => call_at_once(*body, line, store, control),
         Instr::Return => return_at_once(store),
+        _ => others_at_once(what, line, store, control),
+    }
+}
+
+/// The same of the instructions that push a constant, change the top, or build a collection.
+#[inline(always)]
+fn others_at_once(
+    what: &Instr,
+    line: u32,
+    store: &mut Store<'_>,
+    control: &Control,
+) -> Result<bool, End>
+    requires few { store.old.core.now.at + 1 < 2 ^ 64 }
+    ensures { (modes : Modes) → DoesOrLeaves modes store.old control.now line (plain_instr (variables store.old.core) what.now) store.new control.now result }
+{
+    match what {
+        Instr::Truth(truth) => went_on(push(Some(Value::Bool(*truth)), store)),
+        Instr::Undefined => went_on(push(None, store)),
+        Instr::Discard => went_on(discard(store)),
+        Instr::Duplicate => went_on(duplicate(store)),
+        Instr::Begin(how, count) => {
+            went_on(begin_over(control.alloc(), *how, *count, line, store))
+        }
+        Instr::Collect(what) => went_on(collect(*what, store)),
+        Instr::Add(count) => went_on(add(*count, line, store)),
+        Instr::Leave(count) => went_on(leave(*count, store)),
         _ => Ok(false),
     }
 }
@@ -98,7 +126,7 @@ fn operate_at_once(
     }
 }
 
-/// The same of any operands.
+/// The same of other operands, first of one integer or truth value where it charges nothing.
 #[inline(always)]
 fn operate_else(
     what: Operator,
@@ -112,7 +140,10 @@ fn operate_else(
     ensures did { (modes : Modes) → DoesOrLeaves modes store.old control.old line (Operate what count) store.new control.new result }
     ensures reader { control.new.reader ≡ control.old.reader }
 {
-    went_on(operate_any(what, count, line, store, control))
+    match freely_of_one(what, store) {
+        Some(value) => went_on(put_for_one(Some(value), store)),
+        None => went_on(operate_any(what, count, line, store, control)),
+    }
 }
 
 /// Does an update.

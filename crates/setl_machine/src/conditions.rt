@@ -117,7 +117,8 @@ pub(crate) fn jump(to: u32, store: &mut Store<'_>) -> Result<End, Memory>
 }
 
 /// Pops the top.
-fn discard(store: &mut Store<'_>) -> Result<End, Memory>
+#[inline(never)]
+pub(crate) fn discard(store: &mut Store<'_>) -> Result<End, Memory>
     requires { store.old.core.now.at + 1 < 2 ^ 64 }
     ensures { (line : ℕ) → IfOk result (λ end. Works store.old line DropTop store.new end) }
 {
@@ -130,7 +131,21 @@ fn discard(store: &mut Store<'_>) -> Result<End, Memory>
 
 /// Pushes the top again.
 #[inline(never)]
-fn duplicate(store: &mut Store<'_>) -> Result<End, Memory>
+pub(crate) fn duplicate(store: &mut Store<'_>) -> Result<End, Memory>
+    requires { store.old.core.now.at + 1 < 2 ^ 64 }
+    ensures { (line : ℕ) → IfOk result (λ end. Works store.old line DupTop store.new end) }
+{
+    let Some(value) = store.one() else {
+        return duplicate_any(store);
+    };
+    let other = value.copy()?;
+    store.push(Some(other))?;
+    go_on(store);
+    Ok(End::Paused)
+}
+
+/// The same, whatever the top is.
+fn duplicate_any(store: &mut Store<'_>) -> Result<End, Memory>
     requires { store.old.core.now.at + 1 < 2 ^ 64 }
     ensures { (line : ℕ) → IfOk result (λ end. Works store.old line DupTop store.new end) }
 {

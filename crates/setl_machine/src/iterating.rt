@@ -84,7 +84,7 @@ fn component(tuple: &TupleBody, at: usize) -> Result<Option<Value>, Memory>
 
 /// Pops the parts of a source, so many, and pushes the iterator over its items.
 #[inline(never)]
-fn begin_over(
+pub(crate) fn begin_over(
     alloc: Global,
     how: Begin,
     count: u32,
@@ -137,7 +137,7 @@ pub(crate) fn next(to: u32, store: &mut Store<'_>, control: &mut Control) -> Res
 
 /// Pushes an empty collection.
 #[inline(never)]
-fn collect(what: Collection, store: &mut Store<'_>) -> Result<End, Memory>
+pub(crate) fn collect(what: Collection, store: &mut Store<'_>) -> Result<End, Memory>
     requires { store.old.core.now.at + 1 < 2 ^ 64 }
     ensures { (line : ℕ) → IfOk result (λ end. Works store.old line (BeginOf what) store.new end) }
 {
@@ -148,7 +148,7 @@ fn collect(what: Collection, store: &mut Store<'_>) -> Result<End, Memory>
 
 /// Pops a value, and adds it to the collection below so many iterators.
 #[inline(never)]
-fn add(count: u32, line: u32, store: &mut Store<'_>) -> Result<End, Memory>
+pub(crate) fn add(count: u32, line: u32, store: &mut Store<'_>) -> Result<End, Memory>
     requires { store.old.core.now.at + 1 < 2 ^ 64 }
     ensures { IfOk result (λ end. Works store.old line (AddBelow count) store.new end) }
 {
@@ -167,7 +167,7 @@ fn add(count: u32, line: u32, store: &mut Store<'_>) -> Result<End, Memory>
 
 /// Drops so many iterators.
 #[inline(never)]
-fn leave(count: u32, store: &mut Store<'_>) -> Result<End, Memory>
+pub(crate) fn leave(count: u32, store: &mut Store<'_>) -> Result<End, Memory>
     requires { store.old.core.now.at + 1 < 2 ^ 64 }
     ensures { (line : ℕ) → IfOk result (λ end. Works store.old line (LeaveAll count) store.new end) }
 {

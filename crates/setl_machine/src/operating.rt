@@ -76,7 +76,8 @@ pub(crate) fn put_for_two(value: Option<Value>, store: &mut Store<'_>) -> Result
 }
 
 /// Puts a value in the place of the one on top.
-fn put_for_one(value: Option<Value>, store: &mut Store<'_>) -> Result<End, Memory>
+#[inline(always)]
+pub(crate) fn put_for_one(value: Option<Value>, store: &mut Store<'_>) -> Result<End, Memory>
     requires few { store.old.core.now.at + 1 < 2 ^ 64 }
     requires one { IsPlainTop store.old.core.now.operands }
     ensures { IfOk result (λ end. PutsForOne store.old (part value) store.new end) }

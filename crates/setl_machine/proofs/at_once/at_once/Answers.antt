@@ -1,4 +1,4 @@
-use Rattle.std.proofs.Common.{Ok, sym, subst}
+use Rattle.std.proofs.Common.{refl, Ok, sym, subst}
 use Rattle.setl_code.specs.declared.code.Instr.{Instr}
 use Rattle.setl_code.specs.declared.code.Instr.TheVariants.{Integer, Load, Take, Store, Decide, TestTruth, Unless, Jump, Round}
 use Rattle.setl_code.specs.Plain.{plain_instr}
@@ -110,3 +110,6 @@ returns-in-Return-clause-did c =
     let modes = modes_of c.args.declarations.now in
     let k = c.args.control.now in
     subst (λ (what : Instr). DoesOrLeaves modes s k c.args.line (plain_instr (variables s.core) what) c.return_at_once.new.store k c.return_at_once.result) (sym c.in-Return.is) (c.return_at_once.ensures modes k c.args.line)
+
+pub returns-in_default : goal.returns-in_default
+returns-in_default c = record { did = c.others_at_once.ensures (modes_of c.args.declarations.now); reader = refl }
