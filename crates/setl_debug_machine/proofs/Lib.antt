@@ -1,0 +1,14 @@
+mod Counting
+mod Reaching
+mod Stepping
+mod Starting
+mod Coming
+mod Walking
+mod Cutting
+mod Screening
+mod Bodies
+mod Seen
+mod Slots
+mod Shown
+mod Adding
+mod Told

@@ -1,0 +1,4 @@
+pub mod Screens
+pub mod Runs
+pub mod Growing
+pub mod code
