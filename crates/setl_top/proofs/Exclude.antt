@@ -12,7 +12,7 @@ use Rattle.setl_program.specs.Program.{Program}
 use Rattle.setl_program.specs.ProgramOf.{program_of}
 use Rattle.setl_tree.specs.declared.tree.Tree.{Tree}
 use Rattle.setl_top.specs.Accepted.{IsProgram, Accepted, Refusal, IsRefusedFor}
-use Rattle.setl_top.specs.Headline.{AnyRose, ReadCause, load_failed, read_failed, InputLeft, untouched, read_from, WriteCause, print_failed, out_failed, err_failed, faulty_words, no_such_watcher, refused, checked, listed, advised, has_repr, code_refused, built, too_long_built, explained, no_fault, stop_told, run_ended, trial_refused, trial_ended, Answers, Job, IsInput, IsToRun, IsTried, TellsRefusal, trial_output}
+use Rattle.setl_top.specs.Headline.{AnyRose, ReadCause, load_failed, script_failed, read_failed, InputLeft, untouched, script_taken, read_from, WriteCause, print_failed, session_failed, out_failed, err_failed, faulty_words, no_such_watcher, refused, checked, listed, advised, has_repr, code_refused, built, too_long_built, explained, no_fault, stop_told, script_refused, debugged, run_ended, trial_refused, trial_ended, Answers, Job, IsInput, IsToRun, IsToDebug, IsTried, TellsRefusal, trial_output}
 use Rattle.setl_top.specs.Laws.{IsComplete, FaultyWordsReadNothing, WordsExactly, RefusesExactly, RefusesCodeExactly, ChecksExactly, ListsExactly, AdvisesExactly, ExplainsExactly, TrialsReadNothing, TriesExactly, EndsExactly, TellsTexts}
 use Rattle.setl_top.specs.Explained.{IsExplained}
 use Rattle.setl_top.specs.Listings.{IsListing}
@@ -24,7 +24,7 @@ use Rattle.setl_top_status.specs.Ends.{status_of, error_line}
 use Rattle.setl_top_status.specs.Reasons.{reason_line}
 use Rattle.setl_top_status.specs.declared.status.Status.{Status}
 use Rattle.setl_top_status.specs.declared.status.Status.TheVariants.{Done, Refused, Words, Stopped, Spent, ReadFault, WriteFault, NoMemory}
-use Rattle.setl_top_words.specs.Words.{Options, Command, Run, Check, Code, Build, Advise, Explain, TellStop, Trial, Spells, HasFile, RunsFile, watched_by, OneCommand}
+use Rattle.setl_top_words.specs.Words.{Options, Command, Run, Check, Code, Build, Advise, Explain, TellStop, Debug, Trial, Spells, HasFile, RunsFile, watched_by, OneCommand}
 use Rattle.setl_top_words.specs.declared.reading.FileKind.{FileKind}
 use Rattle.setl_top_words.specs.declared.reading.FileKind.TheVariants.{Source, CodeFile}
 use Rattle.setl_code.specs.CodeCore.{CodeCore}
@@ -38,11 +38,13 @@ use Rattle.setl_top.proofs.OneReason.{FrontLaws, one_reason, one_program_tree, n
 
 write_rose : (words : List (List ℕ)) (before after : Outside) (out telling : List ℕ) → WriteCause words before after out telling → AnyRose before after
 write_rose words before after _ _ (print_failed out line n h) = inr (inl h.rose)
+write_rose words before after _ _ (session_failed told n h) = inr (inl h.rose)
 write_rose words before after _ _ (out_failed out h) = inr (inl h.rose)
 write_rose words before after _ _ (err_failed out err h) = inr (inr h.rose)
 
 read_rose : (words : List (List ℕ)) (before after : Outside) (out : List ℕ) → ReadCause words before after out → AnyRose before after
 read_rose words before after _ (load_failed h) = inl (inl h.rose)
+read_rose words before after _ (script_failed h) = inl (inr h.rose)
 read_rose words before after _ (read_failed out h) = inl (inr h.rose)
 
 pub complete : IsComplete
@@ -59,10 +61,12 @@ complete words before after NoMemory h = inl (inr refl)
 
 no_read : (words : List (List ℕ)) (before after : Outside) (out : List ℕ) → IsNoRequest words before.watchers → ReadCause words before after out → ⊥
 no_read words before after _ faulty (load_failed h) = faulty h.asked.command h.asked.spelled h.asked.there
+no_read words before after _ faulty (script_failed h) = faulty (Debug h.based h.asked.name) h.asked.spelled tt
 no_read words before after _ faulty (read_failed out h) = faulty h.reading.asked.command h.reading.asked.spelled h.reading.asked.there
 
 no_input : (words : List (List ℕ)) (before after : Outside) → IsNoRequest words before.watchers → InputLeft words before after → after.input.held ≡ before.input.held
 no_input words before after faulty (untouched e) = e
+no_input words before after faulty (script_taken p b taken a k) = absurd (faulty (Debug b a.name) a.spelled tt)
 no_input words before after faulty (read_from out more taken h gained k) = absurd (faulty h.asked.command h.asked.spelled h.asked.there)
 
 pub faulty_reads_nothing : FaultyWordsReadNothing
@@ -108,6 +112,7 @@ input_for (Build n) = []
 input_for (Advise n) = []
 input_for (Explain n) = []
 input_for (TellStop k) = []
+input_for (Debug b n) = []
 input_for (Trial a b) = trial_input a b
 
 abbrev line_for : Command → List ℕ → List ℕ
@@ -118,6 +123,7 @@ line_for (Build n) printed = []
 line_for (Advise n) printed = []
 line_for (Explain n) printed = []
 line_for (TellStop k) printed = []
+line_for (Debug b n) printed = []
 line_for (Trial a b) printed = trial_line a b printed
 
 -- commands by numbers
@@ -129,7 +135,8 @@ number_of (Build name) = 4
 number_of (Advise name) = 5
 number_of (Explain name) = 6
 number_of (TellStop stop) = 7
-number_of (Trial seed nodes) = 8
+number_of (Debug based name) = 8
+number_of (Trial seed nodes) = 9
 
 module _ (one_command : OneCommand) where
   one_file : (c : Command) (n m : List ℕ) → HasFile c n → HasFile c m → n ≡ m
@@ -140,6 +147,7 @@ module _ (one_command : OneCommand) where
   one_file (Advise a) n m f g = f ∙ sym g
   one_file (Explain a) n m f g = f ∙ sym g
   one_file (TellStop k) n m f g = absurd f
+  one_file (Debug b a) n m f g = f ∙ sym g
   one_file (Trial a b) n m f g = absurd f
 
   -- a run's file is its command's
@@ -151,6 +159,7 @@ module _ (one_command : OneCommand) where
   run_file (Advise a) kind n turns based h = absurd h
   run_file (Explain a) kind n turns based h = absurd h
   run_file (TellStop k) kind n turns based h = absurd h
+  run_file (Debug b a) kind n turns based h = absurd h
   run_file (Trial a b) kind n turns based h = absurd h
 
   -- what is to be run is what the command runs
@@ -199,6 +208,8 @@ module _ (one_command : OneCommand) where
   number_by (explained text a) = number_of (Explain a.name)
   number_by (no_fault n x tree s t p) = number_of (Explain n)
   number_by (stop_told k s) = number_of (TellStop k)
+  number_by (script_refused p b x l left a taken why) = number_of (Debug b a.name)
+  number_by (debugged told left a taken) = number_of (Debug a.session.based a.asked.asked.name)
   number_by (run_ended out err end status left r how) = number_of r.asked.command
   number_by (trial_refused a b l s r) = number_of (Trial a b)
   number_by (trial_ended line end status a how) = number_of (Trial a.seed a.nodes)
@@ -218,6 +229,8 @@ module _ (one_command : OneCommand) where
   answers_it words before _ _ _ _ (explained text a) c s = ap number_of (one_command words (Explain a.name) c a.spelled s)
   answers_it words before _ _ _ _ (no_fault n x tree t h p) c s = ap number_of (one_command words (Explain n) c t s)
   answers_it words before _ _ _ _ (stop_told k t) c s = ap number_of (one_command words (TellStop k) c t s)
+  answers_it words before _ _ _ _ (script_refused p b x l left a taken why) c s = ap number_of (one_command words (Debug b a.name) c a.spelled s)
+  answers_it words before _ _ _ _ (debugged told left a taken) c s = ap number_of (one_command words (Debug a.session.based a.asked.asked.name) c a.asked.asked.spelled s)
   answers_it words before _ _ _ _ (run_ended out err end status left r how) c s = ap number_of (one_command words r.asked.command c r.asked.spelled s)
   answers_it words before _ _ _ _ (trial_refused a b l t r) c s = ap number_of (one_command words (Trial a b) c t s)
   answers_it words before _ _ _ _ (trial_ended line end status a how) c s = ap number_of (one_command words (Trial a.seed a.nodes) c a.spelled s)
@@ -248,6 +261,8 @@ module _ (one_command : OneCommand) where
   words_only words before _ _ _ _ (explained text a) = is_words Refused (λ e. absurd (cc)) (λ no. no (Explain a.name) a.spelled tt)
   words_only words before _ _ _ _ (no_fault n x tree s t p) = is_words Done (λ e. absurd (cc)) (λ no. no (Explain n) s tt)
   words_only words before _ _ _ _ (stop_told k s) = is_words Done (λ e. absurd (cc)) (λ no. no (TellStop k) s tt)
+  words_only words before _ _ _ _ (script_refused p b x l left a taken why) = is_words Refused (λ e. absurd (cc)) (λ no. no (Debug b a.name) a.spelled tt)
+  words_only words before _ _ _ _ (debugged told left a taken) = is_words Done (λ e. absurd (cc)) (λ no. no (Debug a.session.based a.asked.asked.name) a.asked.asked.spelled tt)
   words_only words before _ _ _ _ (run_ended out err end status left r how) = is_words status (not_words end status how) (λ no. no r.asked.command r.asked.spelled r.asked.there)
   words_only words before _ _ _ _ (trial_refused a b line s r) = is_words Refused (λ e. absurd (cc)) (λ no. no (Trial a b) s tt)
   words_only words before _ _ _ _ (trial_ended line end status a how) = is_words status (not_words end status how) (λ no. no (Trial a.seed a.nodes) a.spelled tt)
@@ -266,6 +281,7 @@ module _ (one_command : OneCommand) where
   refused_not_held laws (Advise a) kind n bytes line turns based r tells runs holds why = runs
   refused_not_held laws (Explain a) kind n bytes line turns based r tells runs holds why = runs
   refused_not_held laws (TellStop k) kind n bytes line turns based r tells runs holds why = runs
+  refused_not_held laws (Debug b a) kind n bytes line turns based r tells runs holds why = runs
   refused_not_held laws (Trial a b) kind n bytes line turns based r tells runs holds why = runs
 
   refused_not_run : FrontLaws → (words : List (List ℕ)) (before : Outside) (texts : List ℕ → Option (List ℕ)) → TellsTexts before texts → (job : Job) → IsToRun words before job → (c : Command) (name source line : List ℕ) → Spells words c → HasFile c name → TellsRefusal c → IsText before.files.held name source → Refusal source line → ⊥
@@ -286,6 +302,12 @@ module _ (one_command : OneCommand) where
   one_line laws source other line told f r q =
       let same = one_reason laws source r.reason q.reason r.refused (subst (λ x. IsRefusedFor x q.reason) (sym f) q.refused) in
       r.tells ∙ ap reason_line same ∙ sym q.tells
+
+  -- nor is there a session over it
+  refused_not_debugged : FrontLaws → (words : List (List ℕ)) (before : Outside) (texts : List ℕ → Option (List ℕ)) → TellsTexts before texts → (p : Program) (b : Bool) → IsToDebug words before p b → (c : Command) (name source line : List ℕ) → Spells words c → HasFile c name → IsText before.files.held name source → Refusal source line → ⊥
+  refused_not_debugged laws words before texts t p b a c name source line s f h r =
+      let sources = one_source words before texts t (Debug b a.name) c a.name name a.source source a.spelled refl a.text s f h in
+      not_refused laws source r.reason r.refused a.accepted.tree (subst (λ y. IsProgram y a.accepted.tree) sources a.accepted.is_program)
 
   pub refused_only : FrontLaws → RefusesExactly
   refused_only laws words before texts c name source line _ _ _ _ t s f w y h r (faulty_words told n tells) = absurd (n c s)
@@ -315,6 +337,10 @@ module _ (one_command : OneCommand) where
   refused_only laws words before texts c name source line _ _ _ _ t s f w y h r (explained text a) = absurd (subst TellsRefusal (one_command words c (Explain a.name) s a.spelled) y)
   refused_only laws words before texts c name source line _ _ _ _ t s f w y h r (no_fault n x tree s' t' p) = absurd (subst TellsRefusal (one_command words c (Explain n) s s') y)
   refused_only laws words before texts c name source line _ _ _ _ t s f w y h r (stop_told k s') = absurd (subst TellsRefusal (one_command words c (TellStop k) s s') y)
+  refused_only laws words before texts c name source line _ _ _ _ t s f w y h r (script_refused p b x l left a taken why) =
+      absurd (refused_not_debugged laws words before texts t p b a c name source line s f (told_text before texts t name source h) r)
+  refused_only laws words before texts c name source line _ _ _ _ t s f w y h r (debugged told left a taken) =
+      absurd (refused_not_debugged laws words before texts t a.session.program a.session.based a.asked.asked c name source line s f (told_text before texts t name source h) r)
   refused_only laws words before texts c name source line _ _ _ _ t s f w y h r (run_ended out err end status left q how) =
       absurd (refused_not_run laws words before texts t q.job q.asked c name source line s f y (told_text before texts t name source h) r)
   refused_only laws words before texts c name source line _ _ _ _ t s f w y h r (trial_refused a b l q x) = absurd (no_file words c name a b q s f)
@@ -445,6 +471,7 @@ module _ (one_command : OneCommand) where
   one_turns (Advise x) k l n m s t a b h i = absurd h
   one_turns (Explain x) k l n m s t a b h i = absurd h
   one_turns (TellStop x) k l n m s t a b h i = absurd h
+  one_turns (Debug d x) k l n m s t a b h i = absurd h
   one_turns (Trial x y) k l n m s t a b h i = absurd h
 
   -- bytes hold one thing
@@ -485,6 +512,8 @@ module _ (one_command : OneCommand) where
   ends_only laws images not_both words before texts input job said end _ _ _ _ t i a m (explained text l) = absurd (runs_so words before job (Explain l.name) a l.spelled)
   ends_only laws images not_both words before texts input job said end _ _ _ _ t i a m (no_fault n x tree s' t' p) = absurd (runs_so words before job (Explain n) a s')
   ends_only laws images not_both words before texts input job said end _ _ _ _ t i a m (stop_told k s') = absurd (runs_so words before job (TellStop k) a s')
+  ends_only laws images not_both words before texts input job said end _ _ _ _ t i a m (script_refused p b x l left q taken why) = absurd (runs_so words before job (Debug b q.name) a q.spelled)
+  ends_only laws images not_both words before texts input job said end _ _ _ _ t i a m (debugged told left q taken) = absurd (runs_so words before job (Debug q.session.based q.asked.asked.name) a q.asked.asked.spelled)
   ends_only laws images not_both words before texts input job said end _ _ _ _ t i a m (trial_refused n k l q r) = absurd (runs_so words before job (Trial n k) a q)
   ends_only laws images not_both words before texts input job said end _ _ _ _ t i a m (trial_ended l last how b e) = absurd (runs_so words before job (Trial b.seed b.nodes) a b.spelled)
   ends_only laws images not_both words before texts input job said end _ _ _ _ t i a m (run_ended out err last status left r how) =
@@ -500,6 +529,7 @@ module _ (one_command : OneCommand) where
 
   no_trial_read : (words : List (List ℕ)) (before after : Outside) (out : List ℕ) (a b : ℕ) → Spells words (Trial a b) → ReadCause words before after out → ⊥
   no_trial_read words before after _ a b s (load_failed h) = no_file words h.asked.command h.name a b s h.asked.spelled h.asked.file
+  no_trial_read words before after _ a b s (script_failed h) = no_file words (Debug h.based h.asked.name) h.asked.name a b s h.asked.spelled refl
   no_trial_read words before after _ a b s (read_failed out h) = runs_so words before h.reading.job (Trial a b) h.reading.asked s
 
   pub trial_reads_nothing : TrialsReadNothing

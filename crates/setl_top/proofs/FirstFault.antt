@@ -1,6 +1,6 @@
 -- The first fault of a call ends it.
 use Rattle.std.proofs.Common.{◌≡◌, ◌<◌, ℕ, List, refl, arith}
-use Rattle.setl_top.specs.Headline.{ReadCause, load_failed, read_failed, WriteCause, print_failed, out_failed, err_failed}
+use Rattle.setl_top.specs.Headline.{ReadCause, load_failed, script_failed, read_failed, WriteCause, print_failed, session_failed, out_failed, err_failed}
 use Rattle.setl_top.specs.Laws.{FailedLoadEnds, FailedReadEnds, FailedWriteEnds}
 use Rattle.setl_top.specs.Outside.{Outside}
 use Rattle.setl_top.proofs.Ends.{count_same}
@@ -15,10 +15,12 @@ steady {A = A} a b same more = omega (arith, same, more)
 
 load_read : (words : List (List ℕ)) (before after : Outside) (out : List ℕ) → ReadCause words before after out → before.files.faults < after.files.faults → (after.input ≡ before.input) × (after.output ≡ before.output)
 load_read words before after _ (load_failed h) more = (h.input, h.output)
+load_read words before after _ (script_failed h) more = absurd (steady before.files after.files h.files more)
 load_read words before after _ (read_failed out h) more = absurd (steady before.files after.files h.files more)
 
 load_write : (words : List (List ℕ)) (before after : Outside) (out telling : List ℕ) → WriteCause words before after out telling → CountStays before.files after.files
 load_write words before after _ _ (print_failed out line n h) = h.files
+load_write words before after _ _ (session_failed told n h) = h.files
 load_write words before after _ _ (out_failed out h) = h.files
 load_write words before after _ _ (err_failed out err h) = h.quiet.files
 
@@ -38,10 +40,12 @@ failed_load_ends words before after NoMemory h more = absurd (steady before.file
 
 read_read : (words : List (List ℕ)) (before after : Outside) (out : List ℕ) → ReadCause words before after out → before.input.faults < after.input.faults → CountStays before.files after.files × CountStays before.output after.output
 read_read words before after _ (load_failed h) more = absurd (steady before.input after.input (count_same before.input after.input h.input) more)
+read_read words before after _ (script_failed h) more = (h.files, count_same before.output after.output h.output)
 read_read words before after _ (read_failed out h) more = (h.files, h.output)
 
 read_write : (words : List (List ℕ)) (before after : Outside) (out telling : List ℕ) → WriteCause words before after out telling → CountStays before.input after.input
 read_write words before after _ _ (print_failed out line n h) = h.input
+read_write words before after _ _ (session_failed told n h) = h.input
 read_write words before after _ _ (out_failed out h) = count_same before.input after.input h.input
 read_write words before after _ _ (err_failed out err h) = h.quiet.input
 
@@ -61,10 +65,12 @@ failed_read_ends words before after NoMemory h more = absurd (steady before.inpu
 
 write_read : (words : List (List ℕ)) (before after : Outside) (out : List ℕ) → ReadCause words before after out → CountStays before.output after.output
 write_read words before after _ (load_failed h) = count_same before.output after.output h.output
+write_read words before after _ (script_failed h) = count_same before.output after.output h.output
 write_read words before after _ (read_failed out h) = h.output
 
 write_write : (words : List (List ℕ)) (before after : Outside) (out telling : List ℕ) → WriteCause words before after out telling → before.output.faults < after.output.faults → CountStays before.files after.files × CountStays before.input after.input
 write_write words before after _ _ (print_failed out line n h) more = (h.files, h.input)
+write_write words before after _ _ (session_failed told n h) more = (h.files, h.input)
 write_write words before after _ _ (out_failed out h) more = (h.files, count_same before.input after.input h.input)
 write_write words before after _ _ (err_failed out err h) more = absurd (steady before.output after.output h.quiet.output more)
 

@@ -4,8 +4,11 @@ pub mod Marking
 pub mod Images
 pub mod Ends
 pub mod OneReason
+pub mod Sessions
+pub mod SessionEnds
 pub mod Exclude
 pub mod Builds
+pub mod DebugsExactly
 pub mod FirstFault
 pub mod Parsing
 pub mod Stopping

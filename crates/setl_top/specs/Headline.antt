@@ -1,9 +1,10 @@
 -- What a call of the program answers, and what it does to the outside.
-use Rattle.std.specs.Prelude.{◌≡◌, ◌⊎◌, ◌<◌, ℕ, List, [], ◌∷◌, ◌++◌, length, take, Option, None, Some, ⊤}
+use Rattle.std.specs.Prelude.{◌≡◌, ◌⊎◌, ◌<◌, ◌≤◌, ℕ, Bool, List, [], ◌∷◌, ◌++◌, length, take, Option, None, Some, ⊤}
 use Rattle.std.specs.Io.KnownBytes.{Appends, Consumes, prepend_known}
 use Rattle.setl_io.specs.Files.{IsText}
 use Rattle.setl_model_runs.specs.Events.{End}
 use Rattle.setl_model_runs.specs.Events as run
+use Rattle.setl_program.specs.Program.{Program}
 use Rattle.setl_tree.specs.declared.tree.Tree.{Tree}
 use Rattle.setl_explain_words.specs.Texts.{stop_text}
 use Rattle.setl_explain_words.specs.declared.stop.Stop.{Stop}
@@ -11,12 +12,13 @@ use Rattle.setl_top.specs.Accepted.{IsProgram, Refusal}
 use Rattle.setl_top_advice.specs.Advised.{HasRepr}
 use Rattle.setl_top.specs.Built.{IsLongCode, CodeRefusal}
 use Rattle.setl_top.specs.Outside.{Outside}
-pub use Rattle.setl_top.specs.Requests.{IsToLoad, Job, IsInput, IsToRun, IsToList, IsToBuild, IsToAdvise, TellsRefusal, IsToExplain, IsTried}
+pub use Rattle.setl_top.specs.Requests.{IsToLoad, Job, IsInput, IsToRun, IsToList, IsToBuild, IsToAdvise, TellsRefusal, IsToExplain, IsToDebug, IsDebugged, IsDebuggedUpTo, IsTried}
 use Rattle.setl_top.specs.Runnable.{Meant, IsAt, Printing, Reading}
 use Rattle.setl_top.specs.Trials.{trial_source}
 use Rattle.setl_top.specs.Watching.{IsThere, no_watcher_line, reports_of}
 use Rattle.setl_top_images.specs.CodeFiles.{flaw_line}
 use Rattle.setl_top_images.specs.declared.images.Flaw.TheVariants.{TooLong}
+use Rattle.setl_top_session.specs.Sessions.{ScriptRefusal, TakesScript}
 use Rattle.setl_top_status.specs.Ends.{status_of, error_line}
 use Rattle.setl_top_status.specs.Lines.{AppendsFronts, fault_line}
 use Rattle.setl_top_status.specs.Seen.{CountRose, CountStays}
@@ -87,6 +89,8 @@ pub data Answers (words : List (List ℕ)) (before : Outside) : Status → List 
   explained : (text : List ℕ) → IsToExplain words before text → Answers words before Refused text [] before.input.held
   no_fault : (name source : List ℕ) (tree : Tree) → Spells words (Explain name) → IsText before.files.held name source → IsProgram source tree → Answers words before Done [] [] before.input.held
   stop_told : (stop : Stop) → Spells words (TellStop stop) → Answers words before Done (stop_text stop) [] before.input.held
+  script_refused : (program : Program) (based : Bool) (bytes line : List ℕ) (left : Option (List ℕ)) → IsToDebug words before program based → TakesScript before.input.held left bytes → ScriptRefusal bytes line → Answers words before Refused [] (line ++ 10 ∷ []) left
+  debugged : (told : List ℕ) (left : Option (List ℕ)) → (a : IsDebugged words before told) → Consumes before.input.held left a.asked.bytes → Answers words before Done told [] left
   run_ended : (out err : List ℕ) (end : End) (status : Status) (left : Option (List ℕ)) → IsRun words before out err end left → status_of end ≡ Some status → Answers words before status out err left
   trial_refused : (seed nodes : ℕ) (line : List ℕ) → Spells words (Trial seed nodes) → Refusal trial_source line → Answers words before Refused [] (line ++ 10 ∷ []) before.input.held
   trial_ended : (line : List ℕ) (end : End) (status : Status) → IsTried words line end → status_of end ≡ Some status → Answers words before status (trial_output end line) (error_line end) before.input.held
@@ -118,12 +122,13 @@ pub data UpToWrite (words : List (List ℕ)) (before : Outside) : List ℕ → T
   in_stop : (stop : Stop) (n : ℕ) → Spells words (TellStop stop) → n < length (stop_text stop) → UpToWrite words before (take n (stop_text stop))
   in_trial : (line : List ℕ) (n : ℕ) → IsTried words line run.Done → n < length line → UpToWrite words before (take n line)
 
--- anywhere: nothing, the output of a state, the output up to a print with some of its line, and not all of it, or what
--- stands where a text is being written
+-- anywhere: nothing, the output of a state, the output up to a print with some of its line, and not all of it, a front of
+-- what the first commands of a session tell, or what stands where a text is being written
 pub data UpToAny (words : List (List ℕ)) (before : Outside) : List ℕ → Type 0 where
   no_program : UpToAny words before []
   at_state : (out : List ℕ) → IsAtState words before out → UpToAny words before out
   in_print : (out line : List ℕ) (n : ℕ) → IsAtPrint words before out line → n < length line → UpToAny words before (out ++ take n line)
+  in_session : (told : List ℕ) (n : ℕ) → IsDebuggedUpTo words before told → n ≤ length told → UpToAny words before (take n told)
   in_write : (out : List ℕ) → UpToWrite words before out → UpToAny words before out
 
 -- What the error output gains when a call is broken off: a front of what was being told, and then a front of the fault's
@@ -146,9 +151,19 @@ pub record InputFailed (words : List (List ℕ)) (before after : Outside) (out :
   pub files : CountStays before.files after.files
   pub output : CountStays before.output after.output
 
+-- a read of a session's script failed, nothing else did, and the output is as before
+pub record ScriptFailed (words : List (List ℕ)) (before after : Outside) : Type 0 where
+  pub program : Program
+  pub based : Bool
+  pub asked : IsToDebug words before program based
+  pub rose : CountRose before.input after.input
+  pub files : CountStays before.files after.files
+  pub output : after.output ≡ before.output
+
 -- what couldn't be read, with what the output has gained then
 pub data ReadCause (words : List (List ℕ)) (before after : Outside) : (out : List ℕ) → Type 0 where
   load_failed : LoadFailed words before after → ReadCause words before after []
+  script_failed : ScriptFailed words before after → ReadCause words before after []
   read_failed : (out : List ℕ) → InputFailed words before after out → ReadCause words before after out
 
 -- nothing but the fault is told
@@ -175,6 +190,16 @@ pub record TextFailed (words : List (List ℕ)) (before after : Outside) (out : 
   pub files : CountStays before.files after.files
   pub input : after.input ≡ before.input
 
+-- The output failed in what the first commands of a session tell, of which it has gained some, and not all, and nothing else
+-- did. The script was taken off the input.
+pub record SessionFailed (words : List (List ℕ)) (before after : Outside) (told : List ℕ) (n : ℕ) : Type 0 where
+  pub rose : CountRose before.output after.output
+  pub telling : IsDebuggedUpTo words before told
+  pub part : n < length told
+  pub taken : Consumes before.input.held after.input.held telling.asked.bytes
+  pub files : CountStays before.files after.files
+  pub input : CountStays before.input after.input
+
 -- the error output failed at what an answer tells, after the whole output, and nothing failed before
 pub record TellingFailed (words : List (List ℕ)) (before after : Outside) (out err : List ℕ) : Type 0 where
   pub status : Status
@@ -185,6 +210,7 @@ pub record TellingFailed (words : List (List ℕ)) (before after : Outside) (out
 -- what couldn't be written, with what the output has gained then, and what was being told: nothing, or what an answer tells
 pub data WriteCause (words : List (List ℕ)) (before after : Outside) : (out telling : List ℕ) → Type 0 where
   print_failed : (out line : List ℕ) (n : ℕ) → PrintFailed words before after out line n → WriteCause words before after (out ++ take n line) []
+  session_failed : (told : List ℕ) (n : ℕ) → SessionFailed words before after told n → WriteCause words before after (take n told) []
   out_failed : (out : List ℕ) → TextFailed words before after out → WriteCause words before after out []
   err_failed : (out err : List ℕ) → TellingFailed words before after out err → WriteCause words before after out err
 
@@ -222,10 +248,11 @@ Headline words before after ReadFault = ReadFailed words before after
 Headline words before after WriteFault = WriteFailed words before after
 Headline words before after NoMemory = MemoryFailed words before after
 
--- What became of the input: it is as it was, or a run took bytes off its front, which has a `read` in hand at one of its
--- states, and the output has gained all that the run had written there.
+-- What became of the input: it is as it was, a session over an accepted program took bytes off its front as its script, or a
+-- run did, which has a `read` in hand at one of its states, and the output has gained all that the run had written there.
 pub data InputLeft (words : List (List ℕ)) (before after : Outside) : Type 0 where
   untouched : after.input.held ≡ before.input.held → InputLeft words before after
+  script_taken : (program : Program) (based : Bool) (taken : List ℕ) → IsToDebug words before program based → Consumes before.input.held after.input.held taken → InputLeft words before after
   read_from : (out more taken : List ℕ) → IsAtRead words before out → Appends before.output.held after.output.held (out ++ more) → Consumes before.input.held after.input.held taken → InputLeft words before after
 
 -- a check writes nothing to the output and leaves the input as it was, however it ends

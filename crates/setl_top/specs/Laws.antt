@@ -20,13 +20,15 @@ use Rattle.setl_top.specs.Explained.{IsExplained}
 use Rattle.setl_top.specs.Listings.{IsListing}
 use Rattle.setl_top.specs.Outside.{Outside}
 use Rattle.setl_top.specs.Watching.{IsThere, IsNoRequest, reports_of}
+use Rattle.setl_debug_script.specs.declared.command.Command.{Command as ScriptCommand}
+use Rattle.setl_top_session.specs.Sessions.{IsTold, IsScript, ScriptRefusal}
 use Rattle.setl_top_status.specs.Ends.{status_of, error_line}
 use Rattle.setl_top_status.specs.Seen.{CountStays}
 use Rattle.setl_top_status.specs.declared.reason.Reason.{Reason}
 use Rattle.setl_top_status.specs.declared.status.Status.{Status}
 use Rattle.setl_top_status.specs.declared.status.Status.TheVariants.{NoMemory, ReadFault, Refused, WriteFault}
 use Rattle.setl_top_status.specs.declared.status.Status.TheVariants as ended
-use Rattle.setl_top_words.specs.Words.{Options, Command, Run, Check, Code, Build, Advise, Explain, Trial, Spells, HasFile, watched_by}
+use Rattle.setl_top_words.specs.Words.{Options, Command, Run, Check, Code, Build, Advise, Explain, Debug, Trial, Spells, HasFile, watched_by}
 use Rattle.setl_top_words.specs.declared.reading.FileKind.TheVariants.{CodeFile}
 
 -- ---- sources
@@ -150,6 +152,13 @@ abbrev pub ExplainsExactly : Type 0
 ExplainsExactly = (words : List (List ℕ)) (before : Outside) (texts : List ℕ → Option (List ℕ)) (name source : List ℕ) (status : Status) (out err : List ℕ) (left : Option (List ℕ)) →
     TellsTexts before texts → Spells words (Explain name) → texts name ≡ Some source → Answers words before status out err left →
     ((tree : Tree) → IsProgram source tree → (status ≡ ended.Done) × (out ≡ [])) × ((reason : Reason) → IsRefusedFor source reason → (status ≡ Refused) × IsExplained source reason out) × (err ≡ []) × (left ≡ before.input.held)
+
+-- A session over a program is done exactly where the input is a script, and what is written is then what its commands tell; other
+-- input is refused by its one line, and nothing is written.
+abbrev pub DebugsExactly : Type 0
+DebugsExactly = (words : List (List ℕ)) (before : Outside) (texts : List ℕ → Option (List ℕ)) (input : List ℕ) (based : Bool) (name source : List ℕ) (tree : Tree) (status : Status) (out err : List ℕ) (left : Option (List ℕ)) →
+    TellsTexts before texts → before.input.held ≡ Some input → Spells words (Debug based name) → texts name ≡ Some source → IsProgram source tree → Answers words before status out err left →
+    ((status ≡ ended.Done) ↔ ((script : List ScriptCommand) × IsScript input script)) × (status ≡ ended.Done → (script : List ScriptCommand) × IsScript input script × IsTold (record { program = program_of tree; based = based; script = script }) script out × (err ≡ [])) × ((line : List ℕ) → ScriptRefusal input line → (status ≡ Refused) × (out ≡ []) × (err ≡ line ++ 10 ∷ []))
 
 -- a trial never answers a read fault
 abbrev pub TrialsReadNothing : Type 0

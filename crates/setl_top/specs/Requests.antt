@@ -1,5 +1,5 @@
 -- What the words of a call ask for, where the outside is so before it.
-use Rattle.std.specs.Prelude.{◌≡◌, ◌-◌, ◌^◌, ℕ, Bool, true, List, Option, None, Some, ⊤}
+use Rattle.std.specs.Prelude.{◌≡◌, ◌-◌, ◌^◌, ℕ, Bool, true, List, take, Option, None, Some, ⊤}
 use Rattle.setl_io.specs.Files.{IsText}
 use Rattle.setl_model_runs.specs.Events.{End}
 use Rattle.setl_model.specs.Means.{Means}
@@ -14,9 +14,10 @@ use Rattle.setl_top.specs.Outside.{Outside}
 use Rattle.setl_top.specs.Runnable.{Runnable, Holds}
 use Rattle.setl_top.specs.Trials.{trial_source, trial_input, trial_line}
 use Rattle.setl_top.specs.Watching.{asked_for, IsThere}
+use Rattle.setl_top_session.specs.Sessions.{Session, IsTold, IsScript, IsAll}
 use Rattle.setl_top_status.specs.declared.reason.Reason.{Reason}
 use Rattle.setl_watch.specs.Watches.{Watch}
-use Rattle.setl_top_words.specs.Words.{Command, Run, Check, Code, Build, Advise, Explain, TellStop, Trial, Spells, HasFile, RunsFile, watched_by}
+use Rattle.setl_top_words.specs.Words.{Command, Run, Check, Code, Build, Advise, Explain, TellStop, Debug, Trial, Spells, HasFile, RunsFile, watched_by}
 use Rattle.setl_top_words.specs.declared.reading.FileKind.{FileKind}
 use Rattle.setl_top_words.specs.declared.reading.FileKind.TheVariants.{Source, CodeFile}
 
@@ -95,6 +96,7 @@ TellsRefusal (Build name) = ⊤
 TellsRefusal (Advise name) = ⊤
 TellsRefusal (Explain name) = ⊥
 TellsRefusal (TellStop stop) = ⊥
+TellsRefusal (Debug based name) = ⊤
 TellsRefusal (Trial seed nodes) = ⊤
 
 -- the words ask for the explanation of a source that is refused, and this is it
@@ -117,3 +119,33 @@ pub record IsTried (words : List (List ℕ)) (line : List ℕ) (end : End) : Typ
   pub accepted : Accepted trial_source program
   pub means : Means program (trial_input seed nodes) (2 ^ 63 - 1) true printed end
   pub is_line : line ≡ trial_line seed nodes printed
+
+-- ---- sessions of the debugger
+
+-- the words ask for a session over this program, in which its declarations count or not
+pub record IsToDebug (words : List (List ℕ)) (before : Outside) (program : Program) (based : Bool) : Type 0 where
+  pub name : List ℕ
+  pub source : List ℕ
+  pub spelled : Spells words (Debug based name)
+  pub text : IsText before.files.held name source
+  pub accepted : Accepted source program
+
+-- the words ask for this session, whose script the input has
+pub record IsToFollow (words : List (List ℕ)) (before : Outside) (s : Session) : Type 0 where
+  pub asked : IsToDebug words before s.program s.based
+  pub bytes : List ℕ
+  pub input : IsAll before.input.held bytes
+  pub is_script : IsScript bytes s.script
+
+-- and this is what its script tells
+pub record IsDebugged (words : List (List ℕ)) (before : Outside) (told : List ℕ) : Type 0 where
+  pub session : Session
+  pub asked : IsToFollow words before session
+  pub tells : IsTold session session.script told
+
+-- or what the first commands of its script tell
+pub record IsDebuggedUpTo (words : List (List ℕ)) (before : Outside) (told : List ℕ) : Type 0 where
+  pub session : Session
+  pub asked : IsToFollow words before session
+  pub count : ℕ
+  pub tells : IsTold session (take count session.script) told

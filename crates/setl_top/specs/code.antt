@@ -8,3 +8,4 @@ pub mod Builds
 pub mod Explains
 pub mod Advises
 pub mod Tries
+pub mod Debugs

@@ -1,5 +1,5 @@
 //! What follows from the headline and the definitions alone. The functions have no effect: each states a law.
-ghost use Rattle.setl_top.specs.Laws.{IsComplete, FaultyWordsReadNothing, WordsExactly, RefusesExactly, RefusesCodeExactly, ChecksExactly, ListsExactly, BuildsExactly, CodeFilesRunAlike, OneListing, ExplainsExactly, TrialsReadNothing, TriesExactly, EndsExactly, AcceptedRunsEnd, NoAcceptedRunIsStuck, EitherProgramOrRefused, NotProgramAndRefused, OneTree, OneReason, AdvisedSourcesFit, AdvisesExactly, FailedLoadEnds, FailedReadEnds, FailedWriteEnds};
+ghost use Rattle.setl_top.specs.Laws.{IsComplete, FaultyWordsReadNothing, WordsExactly, RefusesExactly, RefusesCodeExactly, ChecksExactly, ListsExactly, BuildsExactly, CodeFilesRunAlike, OneListing, ExplainsExactly, DebugsExactly, TrialsReadNothing, TriesExactly, EndsExactly, AcceptedRunsEnd, NoAcceptedRunIsStuck, EitherProgramOrRefused, NotProgramAndRefused, OneTree, OneReason, AdvisedSourcesFit, AdvisesExactly, FailedLoadEnds, FailedReadEnds, FailedWriteEnds};
 
 /// Where the texts are told, an `exec` of bytes that are no code file is refused by the line of their first flaw by length,
 /// spelling and soundness, the output has gained nothing, and the input is left as it was.
@@ -142,6 +142,19 @@ pub fn advises_exactly()
 pub fn advised_sources_fit()
     ensures { AdvisedSourcesFit }
 {}
+
+/// Where the texts and the input are told and the source is a program, a session that came to its end is done exactly where
+/// the input is a script, and the output has then gained what its commands tell. It is refused otherwise, by the line of the
+/// input's fault, and then the output has gained nothing.
+pub fn debugs_exactly()
+    ensures { DebugsExactly }
+{
+    setl_top_words::one_command();
+    setl_token::lexing_is_determined();
+    setl_parse_reading::tree_is_unique();
+    setl_parse::one_fault();
+    setl_top_session::script_or_refusal();
+}
 
 /// A trial never answers that a read failed.
 pub fn trials_read_nothing()

@@ -68,7 +68,7 @@ fn run_code<I: Source, O: Sink>(
 }
 
 /// How many bases there are where these variables are declared: one more than the greatest number of one that is named.
-fn bases_named(declared: &[Declared]) -> u32 {
+pub fn bases_named(declared: &[Declared]) -> u32 {
     let mut count = 0;
     for variable in declared {
         count = count.max(bases_of(&variable.mode));

@@ -11,6 +11,7 @@ ghost use Rattle.setl_top_words.specs.Words.{Run, Spells};
 use crate::Status;
 use crate::advising::advise_file;
 use crate::building::build_file;
+use crate::debugging::debug_file;
 use crate::explaining::{explain_file, tell_stop};
 use crate::listing::list_file;
 use crate::load::{check_file, load_ready};
@@ -28,12 +29,12 @@ use std::alloc::Global;
 /// Does what the words of the command line ask for, and tells how that ended.
 ///
 /// `words` are those after the program's own name: `run [--unbased] [--turns N] [--watch NAME] FILE`, `exec` with the same
-/// options, `check FILE`, `code FILE`, `build FILE`, `advise FILE`, `explain FILE`, `explain --stop NAME` or `trial SEED N`.
-/// `run` runs the program of a source and `exec` the code of a code file. With `--unbased` its declarations don't count, and
-/// N from 0 to 2^63 - 1 bounds its turns, which are 2^63 - 1 otherwise. `--watch trace` asks for the watchers with the name 1,
-/// `--watch cover` for those with the name 2 and `--watch profile` for those with the name 3; the others are dropped, and
-/// where none has that name the words are refused before the file is read. `files` has the sources and the code files by
-/// name, and `input` is what a run reads.
+/// options, `check FILE`, `code FILE`, `build FILE`, `advise FILE`, `explain FILE`, `explain --stop NAME`, `debug [--unbased]
+/// FILE` or `trial SEED N`. `run` runs the program of a source and `exec` the code of a code file. With `--unbased` its
+/// declarations don't count, and N from 0 to 2^63 - 1 bounds its turns, which are 2^63 - 1 otherwise. `--watch trace` asks for
+/// the watchers with the name 1, `--watch cover` for those with the name 2 and `--watch profile` for those with the name 3; the
+/// others are dropped, and where none has that name the words are refused before the file is read. `files` has the sources and
+/// the code files by name, and `input` is what a run reads.
 ///
 /// A build of a file writes to `out` a code file of its program, which `exec` runs as `run` runs the source; one with more
 /// than 2^26 bytes is refused. So is a code file with more, one that spells no image, and one whose code isn't sound, in this
@@ -45,6 +46,10 @@ use std::alloc::Global;
 /// An explanation of a file writes to `out` the line that a check tells, and below it the place and what it means, and
 /// ends refused; of a program it writes nothing. `explain --stop NAME` writes what a stop means.
 ///
+/// A session of the debugger over the program of a file reads `input` up to its end, as a script. One with more than 2^20
+/// bytes is refused, and then one with a line that is of no form, with the number of the first. `out` gains what its commands
+/// tell, by the states of the program's meaning, on an input that the script has.
+///
 /// A trial draws an input from SEED, which is from 0 to 2^63 - 1, with N nodes, which are from 1 to 2000, and runs one fixed
 /// program on it twice, each time with 2^63 - 1 turns: with its declarations, and without. `out` gains one line with what
 /// the run with declarations printed, where that is done, and otherwise nothing; the call ends as that run.
@@ -53,15 +58,15 @@ use std::alloc::Global;
 /// code. Where a run ended as its program does, `err` gains the reports of the watchers, first of those that had
 /// enough, in the order in which they had, and then of the others in their order. It gains then the last line of a call
 /// that wasn't done, if it has one, or what is told of words that are of no such form. Bytes are taken off the front of
-/// `input` only by a run that comes to a `read`, and `out` has then gained what the run had printed there. Where a
-/// `print` failed, `input` has what the run had left at it, but for bytes that were taken ahead. A check leaves `input`
-/// and `out` as they were, however it ends, a listing, a build, advice and an explanation leave `input` as it was, and a trial
-/// `files` and `input`.
+/// `input` only by a session over an accepted program, and by a run that comes to a `read`, and `out` has then gained what
+/// the run had printed there. Where a `print` failed, `input` has what the run had left at it, but for bytes that were taken
+/// ahead. A check leaves `input` and `out` as they were, however it ends, a listing, a build, advice and an explanation leave
+/// `input` as it was, and a trial `files` and `input`.
 ///
 /// `ReadFault` comes only where the words name a file and the count of faults of `files` rose in the call, or that of
-/// `input` at a `read`, and `WriteFault` only where the count of `out` or `err` rose. `NoMemory` is the answer to want of
-/// memory and to a count that passes the greatest number that it has room for; no clause says when it comes. After these
-/// the error line is tried once.
+/// `input` at a `read` or in a script, and `WriteFault` only where the count of `out` or `err` rose. `NoMemory` is the answer
+/// to want of memory and to a count that passes the greatest number that it has room for; no clause says when it comes. After
+/// these the error line is tried once.
 pub fn setl<F: Files, I: Source, O: Sink, E: Sink>(
     alloc: Global,
     words: &[String],
@@ -106,6 +111,7 @@ pub fn setl<F: Files, I: Source, O: Sink, E: Sink>(
         Some(Command::Advise(name)) => advise_file(alloc, name, files, out, err),
         Some(Command::Explain(name)) => explain_file(alloc, name, files, out, err),
         Some(Command::TellStop(stop)) => tell_stop(stop, out, err),
+        Some(Command::Debug(based, name)) => debug_file(alloc, based, name, files, input, out, err),
         Some(Command::Trial(seed, nodes)) => run_trial(alloc, seed, nodes, out, err),
         None => tell_faulty(alloc, words, err),
     }

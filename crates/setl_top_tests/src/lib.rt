@@ -32,6 +32,8 @@ mod rows;
 #[cfg(test)]
 mod searches;
 #[cfg(test)]
+mod sessions;
+#[cfg(test)]
 mod stops;
 #[cfg(test)]
 mod swept;

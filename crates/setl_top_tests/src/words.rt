@@ -30,7 +30,8 @@ fn word_of(kind: FileKind) -> &'static str {
 }
 
 /// The command of a line as a text: of a run what its file holds, its bound on turns, whether declarations count, the name of
-/// the watcher that is asked for, and its file; of a stop and of a trial the numbers.
+/// the watcher that is asked for, and its file; of a session whether declarations count, and its file; of a stop and of a trial
+/// the numbers.
 fn asked(alloc: Global, line: &str) -> Result<String, Fail> {
     let words = words_of(alloc, line)?;
     let text = match read_words(words.as_slice()) {
@@ -48,6 +49,7 @@ fn asked(alloc: Global, line: &str) -> Result<String, Fail> {
         Some(Command::Advise(file)) => format!(in alloc; "advise {file}")?,
         Some(Command::Explain(file)) => format!(in alloc; "explain {file}")?,
         Some(Command::TellStop(stop)) => format!(in alloc; "stop {}", stop as u8)?,
+        Some(Command::Debug(based, file)) => format!(in alloc; "debug {based} {file}")?,
         Some(Command::Trial(seed, nodes)) => format!(in alloc; "trial {seed} {nodes}")?,
         None => String::from_str(alloc, "faulty")?,
     };
@@ -76,6 +78,8 @@ explain q.setl: explain q.setl
 stop 0: explain --stop om
 stop 1: explain --stop kind
 stop 8: explain --stop value
+debug true q.setl: debug q.setl
+debug false q.setl: debug --unbased q.setl
 trial 0 1: trial 0 1
 trial 9223372036854775807 2000: trial 9223372036854775807 2000
 faulty: run --turns 9223372036854775808 q.setl
@@ -139,6 +143,12 @@ faulty: explain --stop om q.setl
 faulty: explain --stop om --stop om
 faulty: explain --stop=om
 faulty: explain q.setl q.setl
+faulty: debug
+faulty: debug --unbased
+faulty: debug --unbased --unbased q.setl
+faulty: debug --turns 5 q.setl
+faulty: debug q.setl --unbased
+faulty: debug -q
 faulty: trial
 faulty: trial 7
 faulty: trial 7 0

@@ -1,8 +1,8 @@
 -- The words of a command in parts: the first, those between, and the last.
-use Rattle.std.proofs.Common.{subst, bytes_eq, if◌then◌else◌, ◌≡◌, ◌≢◌, ◌<◌, ◌≤◌, ◌∙◌, ℕ, List, [], ◌∷◌, ◌++◌, length, codes, decimal, refl, sym, ap, ap₂, rules, arith}
+use Rattle.std.proofs.Common.{subst, bytes_eq, if◌then◌else◌, Bool, true, false, ◌≡◌, ◌≢◌, ◌<◌, ◌≤◌, ◌∙◌, ℕ, List, [], ◌∷◌, ◌++◌, length, codes, decimal, refl, sym, ap, ap₂, rules, arith}
 use Rattle.std.proofs.lemmas.Fmt.{decimal_injective}
 use Rattle.std.specs.List.{flat_map}
-use Rattle.setl_top_words.specs.Words.{Command, Run, Check, Code, Build, Advise, Explain, TellStop, Trial, run_word, Options, option_words, options_of, Spells, SpellsRun, SpellsTrial, IsFile, IsFaulty}
+use Rattle.setl_top_words.specs.Words.{Command, Run, Check, Code, Build, Advise, Explain, TellStop, Debug, Trial, run_word, Options, option_words, options_of, based_words, Spells, SpellsRun, SpellsTrial, IsFile, IsFaulty}
 use Rattle.setl_top_words.specs.code.Reading.{Leads, LeadsNowhere}
 use Rattle.setl_top_words.specs.declared.reading.FileKind.{FileKind}
 use Rattle.setl_top_words.specs.declared.reading.FileKind.TheVariants.{Source, CodeFile}
@@ -40,13 +40,14 @@ number_of (Build name) = 4
 number_of (Advise name) = 5
 number_of (Explain name) = 6
 number_of (TellStop stop) = 6
-number_of (Trial seed nodes) = 7
+number_of (Debug based name) = 7
+number_of (Trial seed nodes) = 8
 
 abbrev word_number : List ℕ → ℕ
 word_number w =
     if bytes_eq w (codes "run") then 0 else if bytes_eq w (codes "exec") then 1 else if bytes_eq w (codes "check") then 2
     else if bytes_eq w (codes "code") then 3 else if bytes_eq w (codes "build") then 4 else if bytes_eq w (codes "advise") then 5
-    else if bytes_eq w (codes "explain") then 6 else 7
+    else if bytes_eq w (codes "explain") then 6 else if bytes_eq w (codes "debug") then 7 else 8
 
 few_kinds : (kind : FileKind) → kind_number kind < 2
 few_kinds Source = omega arith
@@ -71,6 +72,7 @@ numbered word rest (Build name) s = ap word_number (head_of word (codes "build")
 numbered word rest (Advise name) s = ap word_number (head_of word (codes "advise") _ _ s.0)
 numbered word rest (Explain name) s = ap word_number (head_of word (codes "explain") _ _ s.0)
 numbered word rest (TellStop stop) s = ap word_number (head_of word (codes "explain") _ _ s)
+numbered word rest (Debug based name) s = ap word_number (head_of word (codes "debug") _ _ s.0)
 numbered word rest (Trial seed nodes) s = ap word_number (head_of word (codes "trial") _ _ s.spelled)
 
 of_run : (kind : FileKind) (rest : List (List ℕ)) (c : Command) → Spells (run_word kind ∷ rest) c → kind_number kind ≡ number_of c
@@ -79,7 +81,7 @@ of_run kind rest c s = sym (kind_word kind) ∙ numbered (run_word kind) rest c 
 of_explain : (rest : List (List ℕ)) (c : Command) → Spells (codes "explain" ∷ rest) c → 6 ≡ number_of c
 of_explain rest c s = numbered (codes "explain") rest c s
 
-of_trial : (words : List (List ℕ)) (word : List ℕ) (rest : List (List ℕ)) (c : Command) → words ≡ word ∷ rest → word ≡ codes "trial" → Spells words c → 7 ≡ number_of c
+of_trial : (words : List (List ℕ)) (word : List ℕ) (rest : List (List ℕ)) (c : Command) → words ≡ word ∷ rest → word ≡ codes "trial" → Spells words c → 8 ≡ number_of c
 of_trial words word rest c e w s = numbered (codes "trial") rest c (subst (λ ws. Spells ws c) (e ∙ ap (λ x. x ∷ rest) w) s)
 
 -- ---- faulty words
@@ -92,6 +94,7 @@ few_are_faulty words few (Build name) s = few (codes "build") [] name s.0
 few_are_faulty words few (Advise name) s = few (codes "advise") [] name s.0
 few_are_faulty words few (Explain name) s = few (codes "explain") [] name s.0
 few_are_faulty words few (TellStop stop) s = few (codes "explain") (codes "--stop" ∷ []) (stop_name stop) s
+few_are_faulty words few (Debug based name) s = few (codes "debug") (based_words based) name s.0
 few_are_faulty words few (Trial seed nodes) s = few (codes "trial") (decimal seed ∷ []) (decimal nodes) s.spelled
 
 -- the last word is a file, but for a trial and a stop
@@ -113,6 +116,9 @@ dash_is_faulty words word between name e other another none (Advise n) s =
     none (subst IsFile (sym parts.1) s.1)
 dash_is_faulty words word between name e other another none (Explain n) s = another (head_of _ _ _ _ (sym e ∙ s.0))
 dash_is_faulty words word between name e other another none (TellStop stop) s = another (head_of _ _ _ _ (sym e ∙ s))
+dash_is_faulty words word between name e other another none (Debug based n) s =
+    let parts = one_last between (based_words based) name n (tail_of _ _ _ _ (sym e ∙ s.0)) in
+    none (subst IsFile (sym parts.1) s.1)
 dash_is_faulty words word between name e other another none (Trial seed nodes) s = other (head_of _ _ _ _ (sym e ∙ s.spelled))
 
 pub run_is_faulty : (kind : FileKind) (between : List (List ℕ)) (name : List ℕ) (given : Given) → given ≡ is_nothing → LeadsNowhere given between → IsFaulty (run_word kind ∷ between ++ name ∷ [])
@@ -125,6 +131,7 @@ run_is_faulty kind between name given is none (Build n) s = absurd (omega (arith
 run_is_faulty kind between name given is none (Advise n) s = absurd (omega (arith, few_kinds kind, of_run kind _ (Advise n) s))
 run_is_faulty kind between name given is none (Explain n) s = absurd (omega (arith, few_kinds kind, of_run kind _ (Explain n) s))
 run_is_faulty kind between name given is none (TellStop stop) s = absurd (omega (arith, few_kinds kind, of_run kind _ (TellStop stop) s))
+run_is_faulty kind between name given is none (Debug based n) s = absurd (omega (arith, few_kinds kind, of_run kind _ (Debug based n) s))
 run_is_faulty kind between name given is none (Trial seed nodes) s = absurd (omega (arith, few_kinds kind, of_run kind _ (Trial seed nodes) s))
 
 -- ---- the words of a trial
@@ -149,6 +156,7 @@ trial_is_faulty words word between last e w none (Build n) s = absurd (omega (ar
 trial_is_faulty words word between last e w none (Advise n) s = absurd (omega (arith, of_trial words word _ (Advise n) e w s))
 trial_is_faulty words word between last e w none (Explain n) s = absurd (omega (arith, of_trial words word _ (Explain n) e w s))
 trial_is_faulty words word between last e w none (TellStop stop) s = absurd (omega (arith, of_trial words word _ (TellStop stop) e w s))
+trial_is_faulty words word between last e w none (Debug based n) s = absurd (omega (arith, of_trial words word _ (Debug based n) e w s))
 trial_is_faulty words word between last e w none (Trial seed nodes) s =
     none seed nodes (subst (λ ws. SpellsTrial ws seed nodes) (as_trial words word between last e w) s)
 
@@ -201,7 +209,26 @@ explain_is_faulty between last no_file no_stop (Explain n) s =
 explain_is_faulty between last no_file no_stop (TellStop j) s =
     let parts = one_last between (codes "--stop" ∷ []) last (stop_name j) (tail_of _ _ _ _ s) in
     no_stop j parts.0 parts.1
+explain_is_faulty between last no_file no_stop (Debug based n) s = absurd (omega (arith, of_explain _ (Debug based n) s))
 explain_is_faulty between last no_file no_stop (Trial seed nodes) s = absurd (omega (arith, of_explain _ (Trial seed nodes) s))
+
+-- ---- the words of a session of the debugger
+
+of_debug : (rest : List (List ℕ)) (c : Command) → Spells (codes "debug" ∷ rest) c → 7 ≡ number_of c
+of_debug rest c s = numbered (codes "debug") rest c s
+
+-- between the word of a session and its file stands neither nothing nor `--unbased`
+pub debug_is_faulty : (between : List (List ℕ)) (last : List ℕ) → (between ≡ [] → ⊥) → (between ≡ codes "--unbased" ∷ [] → ⊥) → IsFaulty (codes "debug" ∷ between ++ last ∷ [])
+debug_is_faulty between last some other (Run kind options n) s = absurd (omega (arith, few_kinds kind, of_debug _ (Run kind options n) s))
+debug_is_faulty between last some other (Check n) s = absurd (omega (arith, of_debug _ (Check n) s))
+debug_is_faulty between last some other (Code n) s = absurd (omega (arith, of_debug _ (Code n) s))
+debug_is_faulty between last some other (Build n) s = absurd (omega (arith, of_debug _ (Build n) s))
+debug_is_faulty between last some other (Advise n) s = absurd (omega (arith, of_debug _ (Advise n) s))
+debug_is_faulty between last some other (Explain n) s = absurd (omega (arith, of_debug _ (Explain n) s))
+debug_is_faulty between last some other (TellStop stop) s = absurd (omega (arith, of_debug _ (TellStop stop) s))
+debug_is_faulty between last some other (Debug true n) s = some (one_last between [] last n (tail_of _ _ _ _ s.0)).0
+debug_is_faulty between last some other (Debug false n) s = other (one_last between (codes "--unbased" ∷ []) last n (tail_of _ _ _ _ s.0)).0
+debug_is_faulty between last some other (Trial seed nodes) s = absurd (omega (arith, of_debug _ (Trial seed nodes) s))
 
 -- ---- the words of a run
 
@@ -235,6 +262,7 @@ number_is [] (Build name) s = absurd (omega (arith, ap length s.0))
 number_is [] (Advise name) s = absurd (omega (arith, ap length s.0))
 number_is [] (Explain name) s = absurd (omega (arith, ap length s.0))
 number_is [] (TellStop stop) s = absurd (omega (arith, ap length s))
+number_is [] (Debug based name) s = absurd (omega (arith, ap length s.0))
 number_is [] (Trial seed nodes) s = absurd (omega (arith, ap length s.spelled))
 number_is (w ∷ ws) c s = numbered w ws c s
 
@@ -257,6 +285,10 @@ same_by words (Explain n) (Explain m) s t e = ap Explain (named words _ _ n m s.
 same_by words (Explain n) (TellStop k) s t e = absurd (omega (arith, ap length (sym s.0 ∙ t)))
 same_by words (TellStop j) (Explain m) s t e = absurd (omega (arith, ap length (sym s ∙ t.0)))
 same_by words (TellStop j) (TellStop k) s t e = ap TellStop (one_stop j k (head_of _ _ _ _ (tail_of _ _ _ _ (tail_of _ _ _ _ (sym s ∙ t)))))
+same_by words (Debug true n) (Debug true m) s t e = ap (Debug true) (named words _ _ n m s.0 t.0)
+same_by words (Debug false n) (Debug false m) s t e = ap (Debug false) (head_of _ _ _ _ (tail_of _ _ _ _ (tail_of _ _ _ _ (sym s.0 ∙ t.0))))
+same_by words (Debug true n) (Debug false m) s t e = absurd (omega (arith, ap length (sym s.0 ∙ t.0)))
+same_by words (Debug false n) (Debug true m) s t e = absurd (omega (arith, ap length (sym s.0 ∙ t.0)))
 same_by words (Trial a b) (Trial c d) s t e = one_trial words a b c d s t
 same_by words (Run k o n) b s t e = absurd (omega (arith, few_kinds k, e))
 same_by words a (Run k o n) s t e = absurd (omega (arith, few_kinds k, e))

@@ -42,6 +42,9 @@ told_app = let a = new_app (codes "explain") in record a { top = record a.top { 
 abbrev pub explain_app : App
 explain_app = with_rule (with_rule told_app stop_rule) explained_rule
 
+abbrev pub debug_app : App
+debug_app = with_rule (with_rule (new_app (codes "debug")) unbased_rule) file_rule
+
 abbrev pub trial_app : App
 trial_app = with_rule (with_rule (new_app (codes "trial")) seed_rule) nodes_rule
 
@@ -50,4 +53,4 @@ abbrev pub empty_app : App
 empty_app = let a = new_app (codes "setl") in record a { top = record a.top { no_binary_name = true; subcommand_required = true } }
 
 abbrev pub setl_app : App
-setl_app = with_subcommand (with_subcommand (with_subcommand (with_subcommand (with_subcommand (with_subcommand (with_subcommand (with_subcommand empty_app (run_app (codes "run")).top) (run_app (codes "exec")).top) (file_app (codes "check")).top) (file_app (codes "code")).top) (file_app (codes "build")).top) (file_app (codes "advise")).top) explain_app.top) trial_app.top
+setl_app = with_subcommand (with_subcommand (with_subcommand (with_subcommand (with_subcommand (with_subcommand (with_subcommand (with_subcommand (with_subcommand empty_app (run_app (codes "run")).top) (run_app (codes "exec")).top) (file_app (codes "check")).top) (file_app (codes "code")).top) (file_app (codes "build")).top) (file_app (codes "advise")).top) explain_app.top) debug_app.top) trial_app.top

@@ -79,8 +79,8 @@ run_word Source = codes "run"
 run_word CodeFile = codes "exec"
 
 -- what the words ask for: to run a source or a code file, to check a source, to list its code, to build its code file, to
--- advise declarations for it, to explain why it is refused, to tell what a stop means, or to try the program of a trial on
--- an input that is drawn from a seed, with so many nodes
+-- advise declarations for it, to explain why it is refused, to tell what a stop means, to follow a script over the states of
+-- its run, or to try the program of a trial on an input that is drawn from a seed, with so many nodes
 pub data Command : Type 0 where
   Run : (kind : FileKind) → (options : Options) → (name : List ℕ) → Command
   Check : (name : List ℕ) → Command
@@ -89,6 +89,7 @@ pub data Command : Type 0 where
   Advise : (name : List ℕ) → Command
   Explain : (name : List ℕ) → Command
   TellStop : (stop : Stop) → Command
+  Debug : (based : Bool) → (name : List ℕ) → Command
   Trial : (seed nodes : ℕ) → Command
 
 -- the words of a run: its options in any order, and last the file
@@ -98,6 +99,11 @@ pub record SpellsRun (words : List (List ℕ)) (kind : FileKind) (options : Opti
   pub valid : AreOptions given
   pub file : IsFile name
   pub means : options ≡ options_of given
+
+-- the words before the file by which declarations count or not
+abbrev pub based_words : Bool → List (List ℕ)
+based_words true = []
+based_words false = codes "--unbased" ∷ []
 
 -- the words of a trial: the seed and the number of nodes in decimal digits, without sign and without a leading zero
 pub record SpellsTrial (words : List (List ℕ)) (seed nodes : ℕ) : Type 0 where
@@ -115,6 +121,7 @@ Spells words (Build name) = (words ≡ codes "build" ∷ name ∷ []) × IsFile 
 Spells words (Advise name) = (words ≡ codes "advise" ∷ name ∷ []) × IsFile name
 Spells words (Explain name) = (words ≡ codes "explain" ∷ name ∷ []) × IsFile name
 Spells words (TellStop stop) = words ≡ codes "explain" ∷ codes "--stop" ∷ stop_name stop ∷ []
+Spells words (Debug based name) = (words ≡ codes "debug" ∷ based_words based ++ name ∷ []) × IsFile name
 Spells words (Trial seed nodes) = SpellsTrial words seed nodes
 
 -- the file that a command reads, if it reads one
@@ -126,6 +133,7 @@ HasFile (Build name) file = file ≡ name
 HasFile (Advise name) file = file ≡ name
 HasFile (Explain name) file = file ≡ name
 HasFile (TellStop stop) file = ⊥
+HasFile (Debug based name) file = file ≡ name
 HasFile (Trial seed nodes) file = ⊥
 
 -- A command runs what this file holds, a source or code. `turns` bounds the turns of the run, and `based` says whether
@@ -138,6 +146,7 @@ RunsFile (Build name) what file turns based = ⊥
 RunsFile (Advise name) what file turns based = ⊥
 RunsFile (Explain name) what file turns based = ⊥
 RunsFile (TellStop stop) what file turns based = ⊥
+RunsFile (Debug counts name) what file turns based = ⊥
 RunsFile (Trial seed nodes) what file turns based = ⊥
 
 -- the watcher that a command asks for, if it asks for one
@@ -149,6 +158,7 @@ watched_by (Build name) = None
 watched_by (Advise name) = None
 watched_by (Explain name) = None
 watched_by (TellStop stop) = None
+watched_by (Debug based name) = None
 watched_by (Trial seed nodes) = None
 
 -- the words are of no plain form

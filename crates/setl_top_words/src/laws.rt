@@ -1,6 +1,6 @@
 //! What follows from the definitions alone. The functions have no effect: each states a law.
 ghost use Rattle.std.specs.Prelude.{◌∷◌, ◌-◌, ◌^◌, [], codes, true, false, Some, None};
-ghost use Rattle.setl_top_words.specs.Words.{OneCommand, Run, Check, Trial, Spells, IsFaulty};
+ghost use Rattle.setl_top_words.specs.Words.{OneCommand, Run, Check, Debug, Trial, Spells, IsFaulty};
 ghost use Rattle.setl_top_words.specs.declared.reading.FileKind.TheVariants.{Source, CodeFile};
 ghost use Rattle.setl_top_options.specs.declared.watching.Asked.TheVariants.{Trace, Cover, Profile};
 
@@ -19,6 +19,8 @@ pub fn plain_words()
     ensures cover { Spells (codes "run" ∷ codes "--unbased" ∷ codes "--watch" ∷ codes "cover" ∷ codes "q" ∷ []) (Run Source (record { turns = 2 ^ 63 - 1; based = false; watch = Some Cover }) (codes "q")) }
     ensures code_file { Spells (codes "exec" ∷ codes "--turns" ∷ codes "50" ∷ codes "q" ∷ []) (Run CodeFile (record { turns = 50; based = true; watch = None }) (codes "q")) }
     ensures check { Spells (codes "check" ∷ codes "q" ∷ []) (Check (codes "q")) }
+    ensures debug { Spells (codes "debug" ∷ codes "q" ∷ []) (Debug true (codes "q")) }
+    ensures unbased { Spells (codes "debug" ∷ codes "--unbased" ∷ codes "q" ∷ []) (Debug false (codes "q")) }
     ensures trial { Spells (codes "trial" ∷ codes "7" ∷ codes "2000" ∷ []) (Trial 7 2000) }
 {}
 
@@ -34,6 +36,7 @@ pub fn faulty_words()
     ensures two_watchers { IsFaulty (codes "run" ∷ codes "--watch" ∷ codes "trace" ∷ codes "--watch" ∷ codes "cover" ∷ codes "q" ∷ []) }
     ensures leading_zero { IsFaulty (codes "run" ∷ codes "--turns" ∷ codes "07" ∷ codes "q" ∷ []) }
     ensures too_great { IsFaulty (codes "run" ∷ codes "--turns" ∷ codes "9223372036854775808" ∷ codes "q" ∷ []) }
+    ensures other_option { IsFaulty (codes "debug" ∷ codes "--turns" ∷ codes "q" ∷ []) }
     ensures no_nodes { IsFaulty (codes "trial" ∷ codes "7" ∷ []) }
     ensures too_few_nodes { IsFaulty (codes "trial" ∷ codes "7" ∷ codes "0" ∷ []) }
     ensures too_many_nodes { IsFaulty (codes "trial" ∷ codes "7" ∷ codes "2001" ∷ []) }

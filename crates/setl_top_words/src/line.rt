@@ -1,7 +1,7 @@
 //! The command line as `clap` is told of it.
 ghost use Rattle.std.specs.Prelude.{◌≡◌, false, IfOk};
 ghost use Rattle.clap.specs.Words.{App, Rule, app_of, rule_of, with_rule, with_subcommand};
-ghost use Rattle.setl_top_words.specs.Line.{unbased_rule, turns_rule, watch_rule, file_rule, seed_rule, nodes_rule, stop_rule, explained_rule, run_app, file_app, told_app, explain_app, trial_app, empty_app, setl_app};
+ghost use Rattle.setl_top_words.specs.Line.{unbased_rule, turns_rule, watch_rule, file_rule, seed_rule, nodes_rule, stop_rule, explained_rule, run_app, file_app, told_app, explain_app, debug_app, trial_app, empty_app, setl_app};
 ghost use Rattle.setl_top_words.specs.code.Builds.{Builds};
 
 use clap::{Arg, ArgAction, Command, value_parser};
@@ -164,6 +164,17 @@ fn explain<'a>(alloc: Global) -> Result<Command<'a>, AllocError>
     with_arg(command, explained(alloc))
 }
 
+/// The command `debug`.
+fn debug<'a>(alloc: Global) -> Result<Command<'a>, AllocError>
+    ensures { Builds debug_app result }
+{
+    let command = Command::new(alloc, "debug").about(
+        "Follow a script over the states of a program",
+    );
+    let command = with_arg(Ok(command), unbased(alloc));
+    with_arg(command, file(alloc, "The source"))
+}
+
 /// The command `trial`.
 fn trial<'a>(alloc: Global) -> Result<Command<'a>, AllocError>
     ensures { Builds trial_app result }
@@ -209,5 +220,6 @@ pub(crate) fn commands<'a>(alloc: Global) -> Result<Command<'a>, AllocError>
         with_file(alloc, "advise", "Advise declarations for a program"),
     );
     let command = with_command(command, explain(alloc));
+    let command = with_command(command, debug(alloc));
     with_command(command, trial(alloc))
 }

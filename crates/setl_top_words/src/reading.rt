@@ -3,10 +3,12 @@ ghost use Rattle.std.specs.Prelude.{◌≡◌, ◌≢◌, ◌∷◌, ◌++◌, [
 ghost use Rattle.setl_top_words.specs.code.Commands.{command_of};
 ghost use Rattle.setl_top_words.specs.Words.{Spells, IsFaulty, IsFile, run_word};
 
+use crate::debug::read_debug;
 use crate::explain::read_explain;
 use crate::given::read_options;
 use crate::single::{
-    is_advise, is_build, is_check, is_code, is_exec, is_explain, is_file, is_run, is_trial,
+    is_advise, is_build, is_check, is_code, is_debug, is_exec, is_explain, is_file, is_run,
+    is_trial,
 };
 use crate::trial::read_trial;
 use setl_explain_words::Stop;
@@ -38,6 +40,8 @@ pub enum Command<'a> {
     Explain(&'a str),
     /// What a stop means is to be told.
     TellStop(Stop),
+    /// A script is to be followed over the states of the program of the file, where its declarations count or not.
+    Debug(bool, &'a str),
     /// The program of a trial is to be run on an input that is drawn from a seed below 2^63, with 1 to 2000 nodes.
     Trial(u64, u64),
 }
@@ -83,6 +87,9 @@ pub fn read_words(words: &[String]) -> Option<Command<'_>>
     }
     if is_exec(word) {
         return read_run(FileKind::CodeFile, between, name);
+    }
+    if is_debug(word) {
+        return read_debug(between, name);
     }
     if !between.is_empty() {
         return None;

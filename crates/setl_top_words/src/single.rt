@@ -58,6 +58,13 @@ pub(crate) fn is_stop(word: &str) -> bool
     word == "--stop"
 }
 
+/// Whether a word is that of a session of the debugger.
+pub(crate) fn is_debug(word: &str) -> bool
+    ensures { IsTrue result ↔ (word.now ≡ codes "debug") }
+{
+    word == "debug"
+}
+
 /// Whether a word is that of a trial.
 pub(crate) fn is_trial(word: &str) -> bool
     ensures { IsTrue result ↔ (word.now ≡ codes "trial") }

@@ -15,4 +15,5 @@ command_of (asked.Build name) = words.Build name.now
 command_of (asked.Advise name) = words.Advise name.now
 command_of (asked.Explain name) = words.Explain name.now
 command_of (asked.TellStop stop) = words.TellStop stop
+command_of (asked.Debug based name) = words.Debug based name.now
 command_of (asked.Trial seed nodes) = words.Trial seed nodes

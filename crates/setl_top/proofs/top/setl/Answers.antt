@@ -2,6 +2,7 @@ use Rattle.std.proofs.Common.{refl}
 use Rattle.setl_top.specs.Headline.{untouched}
 use Rattle.setl_top.proofs.Ends.{faulty_ends, check_ends, list_ends, build_ends, explain_ends, stop_ends}
 use Rattle.setl_top.proofs.AdvisedFiles.{advise_ends}
+use Rattle.setl_top.proofs.SessionEnds.{debug_ends, debug_takes}
 use Rattle.setl_top.proofs.Asked.{turns_asked}
 use Rattle.setl_top.proofs.Trying.{trial_ends}
 use Rattle.setl_top.proofs.top.setl.Goals as goal
@@ -46,6 +47,10 @@ pub returns-in-Some-TellStop-clause-headline : goal.returns-in-Some-TellStop-cla
 returns-in-Some-TellStop-clause-headline g c =
     stop_ends _ _ _ _ (rw c.in-Some-TellStop.field-0-is at c.in-Some-TellStop.ensures.plain) refl refl _ c.tell_stop.ensures
 
+pub returns-in-Some-Debug-clause-headline : goal.returns-in-Some-Debug-clause-headline
+returns-in-Some-Debug-clause-headline g c =
+    debug_ends _ _ _ _ _ (rw c.in-Some-Debug.field-0-is at c.in-Some-Debug.ensures.plain) _ c.debug_file.ensures
+
 pub returns-in-Some-Trial-clause-headline : goal.returns-in-Some-Trial-clause-headline
 returns-in-Some-Trial-clause-headline g c =
     trial_ends _ _ _ _ _ (rw c.in-Some-Trial.field-0-is at c.in-Some-Trial.ensures.plain) (record { files = refl; input = refl }) _ c.run_trial.ensures
@@ -73,6 +78,10 @@ returns-in-Some-Explain-clause-input g c = untouched refl
 
 pub returns-in-Some-TellStop-clause-input : goal.returns-in-Some-TellStop-clause-input
 returns-in-Some-TellStop-clause-input g c = untouched refl
+
+pub returns-in-Some-Debug-clause-input : goal.returns-in-Some-Debug-clause-input
+returns-in-Some-Debug-clause-input g c =
+    debug_takes _ _ _ _ _ (rw c.in-Some-Debug.field-0-is at c.in-Some-Debug.ensures.plain) _ c.debug_file.ensures
 
 pub returns-in-Some-Trial-clause-input : goal.returns-in-Some-Trial-clause-input
 returns-in-Some-Trial-clause-input g c = untouched refl

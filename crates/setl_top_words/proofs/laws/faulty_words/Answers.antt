@@ -11,7 +11,7 @@ use Rattle.setl_top_options.specs.declared.watching.Asked.{Asked}
 use Rattle.setl_top_options.specs.declared.watching.Asked.TheVariants.{Trace, Cover, Profile}
 use Rattle.setl_top_words.specs.code.Reading.{LeadsNowhere}
 use Rattle.setl_top_words.proofs.Order.{turns_or_watch, head_of, tail_of, nowhere_on, nowhere_again, nowhere_else}
-use Rattle.setl_top_words.proofs.Commands.{no_end, few_are_faulty, run_is_faulty, dash_is_faulty, trial_is_faulty, two_numbers}
+use Rattle.setl_top_words.proofs.Commands.{no_end, few_are_faulty, run_is_faulty, dash_is_faulty, debug_is_faulty, trial_is_faulty, two_numbers}
 use Rattle.setl_top_words.proofs.laws.faulty_words.Goals as goal
 
 run_with : (between : List (List ℕ)) → LeadsNowhere is_nothing between → IsFaulty (codes "run" ∷ between ++ codes "q" ∷ [])
@@ -120,6 +120,7 @@ returns c = record {
   two_watchers = run_with _ two_watchers;
   leading_zero = run_with _ (no_turns _ leading_zero);
   too_great = run_with _ (no_turns _ too_great);
+  other_option = debug_is_faulty (codes "--turns" ∷ []) (codes "q") (λ e. absurd (omega (arith, ap length e))) (λ e. unbased_or_turns (head_of _ _ _ _ e));
   no_nodes = trial_with [] (codes "7") no_nodes;
   too_few_nodes = trial_with (codes "7" ∷ []) (codes "0") too_few_nodes;
   too_many_nodes = trial_with (codes "7" ∷ []) (codes "2001") too_many_nodes;

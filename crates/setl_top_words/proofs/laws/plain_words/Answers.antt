@@ -35,5 +35,7 @@ returns c = record {
   cover = record { given = Unbased ∷ Watch Cover ∷ []; spelled = refl; valid = (tt, (λ x. x, tt), (tt, tt, tt)); file = is_file; means = refl };
   code_file = record { given = Turns 50 ∷ []; spelled = code_file; valid = (omega arith, tt, tt); file = is_file; means = refl };
   check = (refl, is_file);
+  debug = (refl, is_file);
+  unbased = (refl, is_file);
   trial = record { spelled = trial; seed_in_range = omega arith; some_nodes = omega arith; few_nodes = omega arith };
 }

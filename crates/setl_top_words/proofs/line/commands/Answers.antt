@@ -10,4 +10,5 @@ returns c =
     let fifth = c.with_command-command-5.ensures _ _ fourth c.with_file-3.ensures in
     let sixth = c.with_command-command-6.ensures _ _ fifth c.with_file-4.ensures in
     let seventh = c.with_command-command-7.ensures _ _ sixth c.explain.ensures in
-    IfOk-weaker c.with_command.result _ _ (λ m h. h.0) (c.with_command.ensures _ _ seventh c.trial.ensures)
+    let eighth = c.with_command-command-8.ensures _ _ seventh c.debug.ensures in
+    IfOk-weaker c.with_command.result _ _ (λ m h. h.0) (c.with_command.ensures _ _ eighth c.trial.ensures)

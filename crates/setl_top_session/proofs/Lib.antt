@@ -1,0 +1,4 @@
+pub mod Screens
+pub mod Followed
+pub mod Taken
+pub mod Refusals
