@@ -26,7 +26,6 @@ use Rattle.setl_top_status.specs.declared.reason.Reason.{Reason}
 use Rattle.setl_top_status.specs.declared.reason.Reason.TheVariants as reason
 use Rattle.setl_top.specs.Accepted.{IsRefusedFor}
 use Rattle.setl_top.specs.Explained.{IsExplained}
-use Rattle.setl_top.specs.Listings.{IsListing}
 use Rattle.setl_top.specs.code.Explains.{WritesExplanation, explained_so, starved_of, ExplainsText, no_fault_in, refused_for, not_known, Explains, of_text, of_long, not_there, refused_if_done}
 use Rattle.setl_top.specs.code.Lists.{Lists, listed_so, not_listed}
 use Rattle.setl_top.specs.code.Loads.{Loaded, NotLoaded, not_accepted, not_read, no_room, Checks, checked_so, not_checked}
@@ -34,14 +33,13 @@ use Rattle.setl_top.specs.code.Runs.{Streams, streams, counted, RunsTo, RunsInto
 use Rattle.setl_top.specs.code.Builds.{code_written, code_too_long, code_starved, Builds, built_so, not_built}
 use Rattle.setl_top.specs.code.Ready.{LoadedReady, NotReady, NotCode, flawed_so, unread_so}
 use Rattle.setl_top.specs.declared.ready.Ready.{Ready}
-use Rattle.setl_top.specs.Built.{IsBuilt}
 use Rattle.setl_top.specs.Runnable.{Runnable}
 use Rattle.setl_top_images.specs.CodeFiles.{flaw_line}
 use Rattle.setl_top_images.specs.declared.images.Flaw.TheVariants.{TooLong}
 use Rattle.setl_top_words.specs.declared.reading.FileKind.{FileKind}
 use Rattle.setl_top_words.specs.declared.reading.FileKind.TheVariants.{Source, CodeFile}
 use Rattle.setl_top.specs.code.Tells.{TellsEnd}
-use Rattle.setl_top.specs.Headline.{Job, IsInput, IsToLoad, IsToRun, IsToList, IsToBuild, IsToExplain, TellsRefusal, Answers, faulty_words, refused, code_refused, checked, listed, built, too_long_built, explained, no_fault, stop_told, run_ended, UpToWrite, no_program, at_state, in_print, in_write, in_listing, in_code_file, in_explanation, in_stop, load_failed, read_failed, no_such_watcher, TellsFault, LeavesRest, IsQuiet, at_work, at_end, Ended, ReadFailed, WriteFailed, MemoryFailed, print_failed, out_failed, err_failed, InputLeft, untouched, read_from, Headline}
+use Rattle.setl_top.specs.Headline.{Job, IsInput, IsToLoad, IsToRun, IsOfProgram, IsToList, IsToBuild, IsToExplain, IsAtRead, TellsRefusal, Answers, faulty_words, refused, code_refused, checked, listed, built, too_long_built, explained, no_fault, stop_told, run_ended, UpToWrite, no_program, at_state, in_print, in_write, in_listing, in_code_file, in_explanation, in_stop, load_failed, read_failed, no_such_watcher, TellsFault, LeavesRest, IsQuiet, at_work, at_end, Ended, ReadFailed, WriteFailed, MemoryFailed, print_failed, out_failed, err_failed, InputLeft, untouched, read_from, Headline}
 use Rattle.setl_top.specs.Outside.{Outside}
 use Rattle.setl_top.specs.Watching.{asked_for, IsThere, no_watcher_line, all_told, reports_of}
 use Rattle.setl_watch.specs.Watches.{Watched, watched}
@@ -120,7 +118,7 @@ pub not_loaded : (words : List (List ℕ)) (before after : Outside) (command : C
 not_loaded words before after command name s f told_there there rest _ (not_accepted source reason r t why e h) =
     let line : List ℕ = reason_line reason in
     let load : IsToLoad words before name = record { command = command; spelled = s; file = f; there = there } in
-    told_alone words before after Refused (line ++ 10 ∷ []) (λ e. e) (refused name source line load told_there t (record { reason = reason; refused = why; tells = refl })) e rest r h
+    told_alone words before after Refused (line ++ 10 ∷ []) (λ e. e) (refused line (record { name = name; source = source; asked = load; tells = told_there; text = t; refusal = record { reason = reason; refused = why; tells = refl } })) e rest r h
 not_loaded words before after command name s f told_there there rest _ (not_read rose h) = record {
   out = [];
   cause = load_failed (record { name = name; asked = record { command = command; spelled = s; file = f; there = there }; rose = rose; input = rest.input; output = rest.output });
@@ -176,7 +174,7 @@ module _ (words : List (List ℕ)) (before after : Outside) (heard : Watched) (k
       let a = to_be_run x.input x.known in
       let line : List ℕ = reports_of (job x.input).watchers x.means.events ++ error_line end in
       let same = subst (λ h. Tells status (all_told h ++ error_line end) before.error_output after.error_output r) x.told t in
-      told words before after status x.out line ends (run_ended x.out line end status after.input.held (record { job = job x.input; asked = a; means = x.means; leaves = x.left; tells = refl }) how) x.gained (record { files = f; input = x.input_count; output = x.out_count }) r same
+      told words before after status x.out line ends (run_ended status x.out line after.input.held (record { job = job x.input; asked = a; end = end; ends = how; means = x.means; leaves = x.left; tells = refl })) x.gained (record { files = f; input = x.input_count; output = x.out_count }) r same
 
   -- it was broken off
   run_unread : RunsToRead l.runnable asked from to → CountRose before.input after.input → CountStays before.output after.output → CountStays before.files after.files → AppendsFront before.error_output.held after.error_output.held (fault_line fault.Read) → ReadFailed words before after
@@ -230,12 +228,14 @@ module _ (words : List (List ℕ)) (before after : Outside) (heard : Watched) (k
   -- what it took of the input
   pub run_takes : TakesInput l.runnable asked from to → InputLeft words before after
   run_takes (inl same) = untouched same
-  run_takes (inr x) = read_from x.out x.more x.taken (record { job = job x.input; asked = to_be_run x.input x.known; at = x.at }) x.gained x.consumed
+  run_takes (inr x) =
+      let reading : IsAtRead words before x.out = record { job = job x.input; asked = to_be_run x.input x.known; at = x.at } in
+      read_from (record { out = x.out; more = x.more; taken = x.taken; reading = reading; gained = x.gained; takes = x.consumed })
 
 -- a code file wasn't made ready
 not_code : (words : List (List ℕ)) (before after : Outside) (asked : Options) (name : List ℕ) → Spells words (Run CodeFile asked name) → IsThere asked.watch before.watchers → LeavesRest before after → (r : Status) → NotCode name before.files after.files before.error_output after.error_output r → Headline words before after r
 not_code words before after asked name s there rest _ (flawed_so bytes flaw r t why e h) =
-    told_alone words before after Refused (flaw_line flaw ++ 10 ∷ []) (λ x. x) (code_refused asked name bytes (flaw_line flaw) s there t (record { flaw = flaw; flawed = why; tells = refl })) e rest r h
+    told_alone words before after Refused (flaw_line flaw ++ 10 ∷ []) (λ x. x) (code_refused (flaw_line flaw) (record { options = asked; name = name; bytes = bytes; spelled = s; there = there; text = t; refusal = record { flaw = flaw; flawed = why; tells = refl } })) e rest r h
 not_code words before after asked name s there rest _ (unread_so _ (failed_read rose h)) = record {
   out = [];
   cause = load_failed (record { name = name; asked = record { command = Run CodeFile asked name; spelled = s; file = refl; there = there }; rose = rose; input = rest.input; output = rest.output });
@@ -251,22 +251,22 @@ not_ready words before after CodeFile asked name s there rest r h = not_code wor
 
 -- ---- checks, listings, builds and trials
 
+-- the words ask this of the file of a program that was loaded
+abbrev of_program : (words : List (List ℕ)) (before : Outside) (asks : List ℕ → Command) (name : List ℕ) (tree : Tree) → Spells words (asks name) → Loaded before.files.held name tree → IsOfProgram words before asks
+of_program words before asks name tree s l = record { name = name; source = l.source; tree = tree; spelled = s; text = l.text; is_program = l.is_program }
+
 -- a check of a file, which leaves the input and the output alone
 pub check_ends : (words : List (List ℕ)) (before after : Outside) (name : List ℕ) → Spells words (Check name) → LeavesRest before after → (r : Status) → Checks name before.files after.files before.error_output after.error_output r → Headline words before after r
 check_ends words before after name s rest _ (checked_so tree l still) = record {
   out = [];
   err = [];
-  answer = subst (Answers words before Done [] []) (sym (held_same before.input after.input rest.input)) (checked name l.source tree s l.text l.is_program);
+  answer = subst (Answers words before Done [] []) (sym (held_same before.input after.input rest.input)) (checked (of_program words before Check name tree s l));
   out_gained = appends_same before.output after.output rest.output;
   err_gained = appends_same before.error_output after.error_output still.same;
   quiet = quiet_where before after still.count rest;
   told = count_same before.error_output after.error_output still.same;
 }
 check_ends words before after name s rest r (not_checked _ h) = not_loaded words before after (Check name) name s refl tt tt rest r h
-
--- the program of a file is to be listed
-to_list : (words : List (List ℕ)) (before : Outside) (name : List ℕ) (tree : Tree) (text : List ℕ) → Spells words (Code name) → Loaded before.files.held name tree → IsListing tree text → IsToList words before text
-to_list words before name tree text s l is = record { name = name; source = l.source; tree = tree; spelled = s; text = l.text; is_program = l.is_program; is_listing = is }
 
 -- a text that the answer is was written, or not
 pub written_ends : (words : List (List ℕ)) (before after : Outside) (text : List ℕ) → Answers words before Done text [] before.input.held → ((n : ℕ) → n < length text → UpToWrite words before (take n text)) → after.input ≡ before.input → CountStays before.files after.files → (r : Status) → Written text before.output after.output before.error_output after.error_output r → Headline words before after r
@@ -299,21 +299,17 @@ written_ends words before after text a part_of same files _ (no_text none h) = s
 -- a listing of a file, which leaves the input alone
 pub list_ends : (words : List (List ℕ)) (before after : Outside) (name : List ℕ) → Spells words (Code name) → after.input ≡ before.input → (r : Status) → Lists name before.files after.files before.output after.output before.error_output after.error_output r → Headline words before after r
 list_ends words before after name s same r (listed_so tree _ l files w) =
-    let a = to_list words before name tree w.text s l w.is_listing in
+    let a : IsToList words before w.text = record { asked = of_program words before Code name tree s l; is_listing = w.is_listing } in
     written_ends words before after w.text (listed w.text a) (λ n. in_listing w.text n a) same files r w.written
 list_ends words before after name s same r (not_listed _ h still) = not_loaded words before after (Code name) name s refl tt tt (record { input = same; output = still }) r h
-
--- the code file of the program of a file is to be built
-to_build : (words : List (List ℕ)) (before : Outside) (name : List ℕ) (tree : Tree) (bytes : List ℕ) → Spells words (Build name) → Loaded before.files.held name tree → IsBuilt tree bytes → IsToBuild words before bytes
-to_build words before name tree bytes s l is = record { name = name; source = l.source; tree = tree; spelled = s; text = l.text; is_program = l.is_program; is_built = is }
 
 -- a build of a file, which leaves the input alone
 pub build_ends : (words : List (List ℕ)) (before after : Outside) (name : List ℕ) → Spells words (Build name) → after.input ≡ before.input → (r : Status) → Builds name before.files after.files before.output after.output before.error_output after.error_output r → Headline words before after r
 build_ends words before after name s same r (built_so tree _ l files (code_written bytes _ is w)) =
-    let a = to_build words before name tree bytes s l is in
+    let a : IsToBuild words before bytes = record { asked = of_program words before Build name tree s l; is_built = is } in
     written_ends words before after bytes (built bytes a) (λ n. in_code_file bytes n a) same files r w
 build_ends words before after name s same r (built_so tree _ l files (code_too_long _ long still t)) =
-    told_alone words before after Refused (flaw_line TooLong ++ 10 ∷ []) (λ x. x) (too_long_built name l.source tree s l.text l.is_program long) files (record { input = same; output = still }) r t
+    told_alone words before after Refused (flaw_line TooLong ++ 10 ∷ []) (λ x. x) (too_long_built (of_program words before Build name tree s l) long) files (record { input = same; output = still }) r t
 build_ends words before after name s same _ (built_so tree _ l files (code_starved still h)) = starved words before after files (record { input = same; output = still }) h
 build_ends words before after name s same r (not_built _ h still) = not_loaded words before after (Build name) name s refl tt tt (record { input = same; output = still }) r h
 
@@ -361,7 +357,7 @@ module _ (words : List (List ℕ)) (before after : Outside) (name : List ℕ) (s
   text_ends source t files _ (no_fault_in tree p none still) = record {
     out = [];
     err = [];
-    answer = subst (Answers words before Done [] []) (sym (held_same before.input after.input same)) (no_fault name source tree s t p);
+    answer = subst (Answers words before Done [] []) (sym (held_same before.input after.input same)) (no_fault (record { name = name; source = source; tree = tree; spelled = s; text = t; is_program = p }));
     out_gained = appends_same before.output after.output none;
     err_gained = appends_same before.error_output after.error_output still;
     quiet = quiet_where before after files (record { input = same; output = none });

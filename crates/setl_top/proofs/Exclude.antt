@@ -12,8 +12,8 @@ use Rattle.setl_program.specs.Program.{Program}
 use Rattle.setl_program.specs.ProgramOf.{program_of}
 use Rattle.setl_tree.specs.declared.tree.Tree.{Tree}
 use Rattle.setl_top.specs.Accepted.{IsProgram, Accepted, Refusal, IsRefusedFor}
-use Rattle.setl_top.specs.Headline.{AnyRose, ReadCause, load_failed, script_failed, read_failed, InputLeft, untouched, script_taken, read_from, WriteCause, print_failed, session_failed, out_failed, err_failed, faulty_words, no_such_watcher, refused, checked, listed, advised, has_repr, code_refused, built, too_long_built, explained, no_fault, stop_told, script_refused, debugged, run_ended, trial_refused, trial_ended, Answers, Job, IsInput, IsToRun, IsToDebug, IsTried, TellsRefusal, trial_output}
-use Rattle.setl_top.specs.Laws.{IsComplete, FaultyWordsReadNothing, WordsExactly, RefusesExactly, RefusesCodeExactly, ChecksExactly, ListsExactly, AdvisesExactly, ExplainsExactly, TrialsReadNothing, TriesExactly, EndsExactly, TellsTexts}
+use Rattle.setl_top.specs.Headline.{AnyRose, ReadCause, load_failed, script_failed, read_failed, InputLeft, untouched, script_taken, read_from, WriteCause, print_failed, session_failed, out_failed, err_failed, faulty_words, no_such_watcher, refused, checked, listed, advised, has_repr, code_refused, built, too_long_built, explained, no_fault, stop_told, script_refused, debugged, run_ended, trial_refused, trial_ended, Answers, Job, IsInput, IsToLoad, IsToRun, IsOfProgram, IsToRefuse, IsToDebug, IsTried, TellsRefusal, trial_output}
+use Rattle.setl_top.specs.Laws.{IsComplete, FaultyWordsReadNothing, WordsExactly, RefusesExactly, RefusesCodeExactly, ChecksExactly, ListsExactly, AdvisesExactly, ExplainsExactly, TrialsReadNothing, TriesExactly, EndsExactly, TellsTexts, TellsText, AsksOf}
 use Rattle.setl_top.specs.Explained.{IsExplained}
 use Rattle.setl_top.specs.Listings.{IsListing}
 use Rattle.setl_top_advice.specs.Advised.{IsAdvised, HasRepr, first_line, has_repr_line}
@@ -67,7 +67,7 @@ no_read words before after _ faulty (read_failed out h) = faulty h.reading.asked
 no_input : (words : List (List ℕ)) (before after : Outside) → IsNoRequest words before.watchers → InputLeft words before after → after.input.held ≡ before.input.held
 no_input words before after faulty (untouched e) = e
 no_input words before after faulty (script_taken p b taken a k) = absurd (faulty (Debug b a.name) a.spelled tt)
-no_input words before after faulty (read_from out more taken h gained k) = absurd (faulty h.asked.command h.asked.spelled h.asked.there)
+no_input words before after faulty (read_from h) = absurd (faulty h.reading.asked.command h.reading.asked.spelled h.reading.asked.there)
 
 pub faulty_reads_nothing : FaultyWordsReadNothing
 faulty_reads_nothing words before after faulty = ((λ h. no_read words before after h.out faulty h.cause), no_input words before after faulty)
@@ -197,43 +197,43 @@ module _ (one_command : OneCommand) where
   abbrev number_by : {words : List (List ℕ)} {before : Outside} {status : Status} {out err : List ℕ} {left : Option (List ℕ)} → Answers words before status out err left → ℕ
   number_by (faulty_words told n tells) = 0
   number_by (no_such_watcher c s none) = number_of c
-  number_by (refused n x l q tells t r) = number_of q.command
-  number_by (code_refused o n x l s there t r) = number_of (Run CodeFile o n)
-  number_by (checked n x tree s t p) = number_of (Check n)
-  number_by (listed text a) = number_of (Code a.name)
-  number_by (built bytes a) = number_of (Build a.name)
-  number_by (too_long_built n x tree s t p long) = number_of (Build n)
-  number_by (advised text a) = number_of (Advise a.name)
-  number_by (has_repr n x l tree s t p has) = number_of (Advise n)
+  number_by (refused l it) = number_of it.asked.command
+  number_by (code_refused l it) = number_of (Run CodeFile it.options it.name)
+  number_by (checked it) = number_of (Check it.name)
+  number_by (listed text a) = number_of (Code a.asked.name)
+  number_by (built bytes a) = number_of (Build a.asked.name)
+  number_by (too_long_built it long) = number_of (Build it.name)
+  number_by (advised text a) = number_of (Advise a.asked.name)
+  number_by (has_repr l it has) = number_of (Advise it.name)
   number_by (explained text a) = number_of (Explain a.name)
-  number_by (no_fault n x tree s t p) = number_of (Explain n)
+  number_by (no_fault it) = number_of (Explain it.name)
   number_by (stop_told k s) = number_of (TellStop k)
-  number_by (script_refused p b x l left a taken why) = number_of (Debug b a.name)
+  number_by (script_refused l left it) = number_of (Debug it.based it.asked.name)
   number_by (debugged told left a taken) = number_of (Debug a.session.based a.asked.asked.name)
-  number_by (run_ended out err end status left r how) = number_of r.asked.command
+  number_by (run_ended status out err left r) = number_of r.asked.command
   number_by (trial_refused a b l s r) = number_of (Trial a b)
-  number_by (trial_ended line end status a how) = number_of (Trial a.seed a.nodes)
+  number_by (trial_ended status line end a) = number_of (Trial a.tried.seed a.tried.nodes)
 
   -- words of a command are answered as it
   pub answers_it : (words : List (List ℕ)) (before : Outside) (status : Status) (out err : List ℕ) (left : Option (List ℕ)) (a : Answers words before status out err left) (c : Command) → Spells words c → number_by a ≡ number_of c
   answers_it words before _ _ _ _ (faulty_words told n tells) c s = absurd (n c s)
   answers_it words before _ _ _ _ (no_such_watcher d t none) c s = ap number_of (one_command words d c t s)
-  answers_it words before _ _ _ _ (refused n x l q tells t r) c s = ap number_of (one_command words q.command c q.spelled s)
-  answers_it words before _ _ _ _ (code_refused o n x l t there h r) c s = ap number_of (one_command words (Run CodeFile o n) c t s)
-  answers_it words before _ _ _ _ (checked n x tree t h p) c s = ap number_of (one_command words (Check n) c t s)
-  answers_it words before _ _ _ _ (listed text a) c s = ap number_of (one_command words (Code a.name) c a.spelled s)
-  answers_it words before _ _ _ _ (built bytes a) c s = ap number_of (one_command words (Build a.name) c a.spelled s)
-  answers_it words before _ _ _ _ (too_long_built n x tree t h p long) c s = ap number_of (one_command words (Build n) c t s)
-  answers_it words before _ _ _ _ (advised text a) c s = ap number_of (one_command words (Advise a.name) c a.spelled s)
-  answers_it words before _ _ _ _ (has_repr n x l tree t h p has) c s = ap number_of (one_command words (Advise n) c t s)
+  answers_it words before _ _ _ _ (refused l it) c s = ap number_of (one_command words it.asked.command c it.asked.spelled s)
+  answers_it words before _ _ _ _ (code_refused l it) c s = ap number_of (one_command words (Run CodeFile it.options it.name) c it.spelled s)
+  answers_it words before _ _ _ _ (checked it) c s = ap number_of (one_command words (Check it.name) c it.spelled s)
+  answers_it words before _ _ _ _ (listed text a) c s = ap number_of (one_command words (Code a.asked.name) c a.asked.spelled s)
+  answers_it words before _ _ _ _ (built bytes a) c s = ap number_of (one_command words (Build a.asked.name) c a.asked.spelled s)
+  answers_it words before _ _ _ _ (too_long_built it long) c s = ap number_of (one_command words (Build it.name) c it.spelled s)
+  answers_it words before _ _ _ _ (advised text a) c s = ap number_of (one_command words (Advise a.asked.name) c a.asked.spelled s)
+  answers_it words before _ _ _ _ (has_repr l it has) c s = ap number_of (one_command words (Advise it.name) c it.spelled s)
   answers_it words before _ _ _ _ (explained text a) c s = ap number_of (one_command words (Explain a.name) c a.spelled s)
-  answers_it words before _ _ _ _ (no_fault n x tree t h p) c s = ap number_of (one_command words (Explain n) c t s)
+  answers_it words before _ _ _ _ (no_fault it) c s = ap number_of (one_command words (Explain it.name) c it.spelled s)
   answers_it words before _ _ _ _ (stop_told k t) c s = ap number_of (one_command words (TellStop k) c t s)
-  answers_it words before _ _ _ _ (script_refused p b x l left a taken why) c s = ap number_of (one_command words (Debug b a.name) c a.spelled s)
+  answers_it words before _ _ _ _ (script_refused l left it) c s = ap number_of (one_command words (Debug it.based it.asked.name) c it.asked.spelled s)
   answers_it words before _ _ _ _ (debugged told left a taken) c s = ap number_of (one_command words (Debug a.session.based a.asked.asked.name) c a.asked.asked.spelled s)
-  answers_it words before _ _ _ _ (run_ended out err end status left r how) c s = ap number_of (one_command words r.asked.command c r.asked.spelled s)
+  answers_it words before _ _ _ _ (run_ended status out err left r) c s = ap number_of (one_command words r.asked.command c r.asked.spelled s)
   answers_it words before _ _ _ _ (trial_refused a b l t r) c s = ap number_of (one_command words (Trial a b) c t s)
-  answers_it words before _ _ _ _ (trial_ended line end status a how) c s = ap number_of (one_command words (Trial a.seed a.nodes) c a.spelled s)
+  answers_it words before _ _ _ _ (trial_ended status line end a) c s = ap number_of (one_command words (Trial a.tried.seed a.tried.nodes) c a.tried.spelled s)
 
   -- ---- faulty words
 
@@ -250,22 +250,22 @@ module _ (one_command : OneCommand) where
   pub words_only : WordsExactly
   words_only words before _ _ _ _ (faulty_words told n tells) = ((λ _ c s t. n c s), λ _. refl)
   words_only words before _ _ _ _ (no_such_watcher c s none) = ((λ _ d s' there. not_there words before c d s s' none there), λ _. refl)
-  words_only words before _ _ _ _ (refused n x l q tells t r) = is_words Refused (λ e. absurd (cc)) (λ no. no q.command q.spelled q.there)
-  words_only words before _ _ _ _ (checked n x tree s t p) = is_words Done (λ e. absurd (cc)) (λ no. no (Check n) s tt)
-  words_only words before _ _ _ _ (listed text a) = is_words Done (λ e. absurd (cc)) (λ no. no (Code a.name) a.spelled tt)
-  words_only words before _ _ _ _ (code_refused o n x l s there t r) = is_words Refused (λ e. absurd (cc)) (λ no. no (Run CodeFile o n) s there)
-  words_only words before _ _ _ _ (built bytes a) = is_words Done (λ e. absurd (cc)) (λ no. no (Build a.name) a.spelled tt)
-  words_only words before _ _ _ _ (too_long_built n x tree s t p long) = is_words Refused (λ e. absurd (cc)) (λ no. no (Build n) s tt)
-  words_only words before _ _ _ _ (advised text a) = is_words Done (λ e. absurd (cc)) (λ no. no (Advise a.name) a.spelled tt)
-  words_only words before _ _ _ _ (has_repr n x l tree s t p has) = is_words Refused (λ e. absurd (cc)) (λ no. no (Advise n) s tt)
+  words_only words before _ _ _ _ (refused l it) = is_words Refused (λ e. absurd (cc)) (λ no. no it.asked.command it.asked.spelled it.asked.there)
+  words_only words before _ _ _ _ (checked it) = is_words Done (λ e. absurd (cc)) (λ no. no (Check it.name) it.spelled tt)
+  words_only words before _ _ _ _ (listed text a) = is_words Done (λ e. absurd (cc)) (λ no. no (Code a.asked.name) a.asked.spelled tt)
+  words_only words before _ _ _ _ (code_refused l it) = is_words Refused (λ e. absurd (cc)) (λ no. no (Run CodeFile it.options it.name) it.spelled it.there)
+  words_only words before _ _ _ _ (built bytes a) = is_words Done (λ e. absurd (cc)) (λ no. no (Build a.asked.name) a.asked.spelled tt)
+  words_only words before _ _ _ _ (too_long_built it long) = is_words Refused (λ e. absurd (cc)) (λ no. no (Build it.name) it.spelled tt)
+  words_only words before _ _ _ _ (advised text a) = is_words Done (λ e. absurd (cc)) (λ no. no (Advise a.asked.name) a.asked.spelled tt)
+  words_only words before _ _ _ _ (has_repr l it has) = is_words Refused (λ e. absurd (cc)) (λ no. no (Advise it.name) it.spelled tt)
   words_only words before _ _ _ _ (explained text a) = is_words Refused (λ e. absurd (cc)) (λ no. no (Explain a.name) a.spelled tt)
-  words_only words before _ _ _ _ (no_fault n x tree s t p) = is_words Done (λ e. absurd (cc)) (λ no. no (Explain n) s tt)
+  words_only words before _ _ _ _ (no_fault it) = is_words Done (λ e. absurd (cc)) (λ no. no (Explain it.name) it.spelled tt)
   words_only words before _ _ _ _ (stop_told k s) = is_words Done (λ e. absurd (cc)) (λ no. no (TellStop k) s tt)
-  words_only words before _ _ _ _ (script_refused p b x l left a taken why) = is_words Refused (λ e. absurd (cc)) (λ no. no (Debug b a.name) a.spelled tt)
+  words_only words before _ _ _ _ (script_refused l left it) = is_words Refused (λ e. absurd (cc)) (λ no. no (Debug it.based it.asked.name) it.asked.spelled tt)
   words_only words before _ _ _ _ (debugged told left a taken) = is_words Done (λ e. absurd (cc)) (λ no. no (Debug a.session.based a.asked.asked.name) a.asked.asked.spelled tt)
-  words_only words before _ _ _ _ (run_ended out err end status left r how) = is_words status (not_words end status how) (λ no. no r.asked.command r.asked.spelled r.asked.there)
+  words_only words before _ _ _ _ (run_ended status out err left r) = is_words status (not_words r.end status r.ends) (λ no. no r.asked.command r.asked.spelled r.asked.there)
   words_only words before _ _ _ _ (trial_refused a b line s r) = is_words Refused (λ e. absurd (cc)) (λ no. no (Trial a b) s tt)
-  words_only words before _ _ _ _ (trial_ended line end status a how) = is_words status (not_words end status how) (λ no. no (Trial a.seed a.nodes) a.spelled tt)
+  words_only words before _ _ _ _ (trial_ended status line end a) = is_words status (not_words end status a.ends) (λ no. no (Trial a.tried.seed a.tried.nodes) a.tried.spelled tt)
 
   -- ---- refusals
 
@@ -303,48 +303,45 @@ module _ (one_command : OneCommand) where
       let same = one_reason laws source r.reason q.reason r.refused (subst (λ x. IsRefusedFor x q.reason) (sym f) q.refused) in
       r.tells ∙ ap reason_line same ∙ sym q.tells
 
-  -- nor is there a session over it
-  refused_not_debugged : FrontLaws → (words : List (List ℕ)) (before : Outside) (texts : List ℕ → Option (List ℕ)) → TellsTexts before texts → (p : Program) (b : Bool) → IsToDebug words before p b → (c : Command) (name source line : List ℕ) → Spells words c → HasFile c name → IsText before.files.held name source → Refusal source line → ⊥
-  refused_not_debugged laws words before texts t p b a c name source line s f h r =
-      let sources = one_source words before texts t (Debug b a.name) c a.name name a.source source a.spelled refl a.text s f h in
-      not_refused laws source r.reason r.refused a.accepted.tree (subst (λ y. IsProgram y a.accepted.tree) sources a.accepted.is_program)
+  -- words that ask this of a text, which is told, ask for no other
+  pub one_loaded : (words : List (List ℕ)) (before : Outside) (c : Command) (name source : List ℕ) → Spells words c → HasFile c name → TellsText before name source → (d : Command) (n x : List ℕ) → Spells words d → HasFile d n → IsText before.files.held n x → x ≡ source
+  one_loaded words before c name source s f text d n x t g h = one_source words before text.texts text.told d c n name x source t g h s f (told_text before text.texts text.told name source text.there)
+
+  module _ (laws : FrontLaws) (words : List (List ℕ)) (before : Outside) (name source line : List ℕ) (load : IsToLoad words before name) (text : TellsText before name source) (r : Refusal source line) where
+    -- a source that is refused is no program's
+    no_program : (asks : List ℕ → Command) (it : IsOfProgram words before asks) → HasFile (asks it.name) it.name → ⊥
+    no_program asks it f =
+        let sources = one_loaded words before load.command name source load.spelled load.file text (asks it.name) it.name it.source it.spelled f it.text in
+        not_refused laws source r.reason r.refused it.tree (subst (λ y. IsProgram y it.tree) sources it.is_program)
+
+    -- nor is there a session over it
+    no_session : (program : Program) (based : Bool) → IsToDebug words before program based → ⊥
+    no_session program based a =
+        let sources = one_loaded words before load.command name source load.spelled load.file text (Debug based a.name) a.name a.source a.spelled refl a.text in
+        not_refused laws source r.reason r.refused a.accepted.tree (subst (λ y. IsProgram y a.accepted.tree) sources a.accepted.is_program)
 
   pub refused_only : FrontLaws → RefusesExactly
-  refused_only laws words before texts c name source line _ _ _ _ t s f w y h r (faulty_words told n tells) = absurd (n c s)
-  refused_only laws words before texts c name source line _ _ _ _ t s f w y h r (no_such_watcher d s' none) = absurd (not_there words before d c s' s none w)
-  refused_only laws words before texts c name source line _ _ _ _ t s f w y h r (refused n x l q tells t' r') =
-      let sources = one_source words before texts t q.command c n name x source q.spelled q.file t' s f (told_text before texts t name source h) in
-      (refl, refl, ap (λ z. z ++ 10 ∷ []) (one_line laws x source l line sources r' r), refl)
-  refused_only laws words before texts c name source line _ _ _ _ t s f w y h r (checked n x tree s' t' p) =
-      let sources = one_source words before texts t (Check n) c n name x source s' refl t' s f (told_text before texts t name source h) in
-      absurd (not_refused laws source r.reason r.refused tree (subst (λ z. IsProgram z tree) sources p))
-  refused_only laws words before texts c name source line _ _ _ _ t s f w y h r (listed text a) =
-      let sources = one_source words before texts t (Code a.name) c a.name name a.source source a.spelled refl a.text s f (told_text before texts t name source h) in
-      absurd (not_refused laws source r.reason r.refused a.tree (subst (λ y. IsProgram y a.tree) sources a.is_program))
-  refused_only laws words before texts c name source line _ _ _ _ t s f w y h r (code_refused o n x l s' there t' r') = absurd (subst TellsRefusal (one_command words c (Run CodeFile o n) s s') y)
-  refused_only laws words before texts c name source line _ _ _ _ t s f w y h r (built bytes a) =
-      let sources = one_source words before texts t (Build a.name) c a.name name a.source source a.spelled refl a.text s f (told_text before texts t name source h) in
-      absurd (not_refused laws source r.reason r.refused a.tree (subst (λ y. IsProgram y a.tree) sources a.is_program))
-  refused_only laws words before texts c name source line _ _ _ _ t s f w y h r (too_long_built n x tree s' t' p long) =
-      let sources = one_source words before texts t (Build n) c n name x source s' refl t' s f (told_text before texts t name source h) in
-      absurd (not_refused laws source r.reason r.refused tree (subst (λ z. IsProgram z tree) sources p))
-  refused_only laws words before texts c name source line _ _ _ _ t s f w y h r (advised text a) =
-      let sources = one_source words before texts t (Advise a.name) c a.name name a.source source a.spelled refl a.text_of s f (told_text before texts t name source h) in
-      absurd (not_refused laws source r.reason r.refused a.tree (subst (λ y. IsProgram y a.tree) sources a.is_program))
-  refused_only laws words before texts c name source line _ _ _ _ t s f w y h r (has_repr n x l tree s' t' p has) =
-      let sources = one_source words before texts t (Advise n) c n name x source s' refl t' s f (told_text before texts t name source h) in
-      absurd (not_refused laws source r.reason r.refused tree (subst (λ z. IsProgram z tree) sources p))
-  refused_only laws words before texts c name source line _ _ _ _ t s f w y h r (explained text a) = absurd (subst TellsRefusal (one_command words c (Explain a.name) s a.spelled) y)
-  refused_only laws words before texts c name source line _ _ _ _ t s f w y h r (no_fault n x tree s' t' p) = absurd (subst TellsRefusal (one_command words c (Explain n) s s') y)
-  refused_only laws words before texts c name source line _ _ _ _ t s f w y h r (stop_told k s') = absurd (subst TellsRefusal (one_command words c (TellStop k) s s') y)
-  refused_only laws words before texts c name source line _ _ _ _ t s f w y h r (script_refused p b x l left a taken why) =
-      absurd (refused_not_debugged laws words before texts t p b a c name source line s f (told_text before texts t name source h) r)
-  refused_only laws words before texts c name source line _ _ _ _ t s f w y h r (debugged told left a taken) =
-      absurd (refused_not_debugged laws words before texts t a.session.program a.session.based a.asked.asked c name source line s f (told_text before texts t name source h) r)
-  refused_only laws words before texts c name source line _ _ _ _ t s f w y h r (run_ended out err end status left q how) =
-      absurd (refused_not_run laws words before texts t q.job q.asked c name source line s f y (told_text before texts t name source h) r)
-  refused_only laws words before texts c name source line _ _ _ _ t s f w y h r (trial_refused a b l q x) = absurd (no_file words c name a b q s f)
-  refused_only laws words before texts c name source line _ _ _ _ t s f w y h r (trial_ended l end status a x) = absurd (no_file words c name a.seed a.nodes a.spelled s f)
+  refused_only laws words before name source line _ _ _ _ load y text r (faulty_words told n tells) = absurd (n load.command load.spelled)
+  refused_only laws words before name source line _ _ _ _ load y text r (no_such_watcher d s none) = absurd (not_there words before d load.command s load.spelled none load.there)
+  refused_only laws words before name source line _ _ _ _ load y text r (refused l it) =
+      let sources = one_loaded words before load.command name source load.spelled load.file text it.asked.command it.name it.source it.asked.spelled it.asked.file it.text in
+      (refl, refl, ap (λ z. z ++ 10 ∷ []) (one_line laws it.source source l line sources it.refusal r), refl)
+  refused_only laws words before name source line _ _ _ _ load y text r (checked it) = absurd (no_program laws words before name source line load text r Check it refl)
+  refused_only laws words before name source line _ _ _ _ load y text r (listed told a) = absurd (no_program laws words before name source line load text r Code a.asked refl)
+  refused_only laws words before name source line _ _ _ _ load y text r (code_refused l it) = absurd (subst TellsRefusal (one_command words load.command (Run CodeFile it.options it.name) load.spelled it.spelled) y)
+  refused_only laws words before name source line _ _ _ _ load y text r (built bytes a) = absurd (no_program laws words before name source line load text r Build a.asked refl)
+  refused_only laws words before name source line _ _ _ _ load y text r (too_long_built it long) = absurd (no_program laws words before name source line load text r Build it refl)
+  refused_only laws words before name source line _ _ _ _ load y text r (advised told a) = absurd (no_program laws words before name source line load text r Advise a.asked refl)
+  refused_only laws words before name source line _ _ _ _ load y text r (has_repr l it has) = absurd (no_program laws words before name source line load text r Advise it refl)
+  refused_only laws words before name source line _ _ _ _ load y text r (explained told a) = absurd (subst TellsRefusal (one_command words load.command (Explain a.name) load.spelled a.spelled) y)
+  refused_only laws words before name source line _ _ _ _ load y text r (no_fault it) = absurd (no_program laws words before name source line load text r Explain it refl)
+  refused_only laws words before name source line _ _ _ _ load y text r (stop_told k s) = absurd (subst TellsRefusal (one_command words load.command (TellStop k) load.spelled s) y)
+  refused_only laws words before name source line _ _ _ _ load y text r (script_refused l left it) = absurd (no_session laws words before name source line load text r it.program it.based it.asked)
+  refused_only laws words before name source line _ _ _ _ load y text r (debugged told left a taken) = absurd (no_session laws words before name source line load text r a.session.program a.session.based a.asked.asked)
+  refused_only laws words before name source line _ _ _ _ load y text r (run_ended status out err left q) =
+      absurd (refused_not_run laws words before text.texts text.told q.job q.asked load.command name source line load.spelled load.file y (told_text before text.texts text.told name source text.there) r)
+  refused_only laws words before name source line _ _ _ _ load y text r (trial_refused a b l q x) = absurd (no_file words load.command name a b q load.spelled load.file)
+  refused_only laws words before name source line _ _ _ _ load y text r (trial_ended status l end a) = absurd (no_file words load.command name a.tried.seed a.tried.nodes a.tried.spelled load.spelled load.file)
 
   -- bytes are refused by one line
   one_flaw_line : OneFlaw → (bytes other line told : List ℕ) → bytes ≡ other → CodeRefusal bytes line → CodeRefusal other told → line ≡ told
@@ -353,43 +350,57 @@ module _ (one_command : OneCommand) where
       r.tells ∙ ap flaw_line flaw ∙ sym q.tells
 
   pub code_refused_only : OneFlaw → NotCodeAndFlawed → RefusesCodeExactly
-  code_refused_only one not_both words before texts o name bytes line _ _ _ _ t s there h r (no_such_watcher d s' none) = absurd (not_there words before d (Run CodeFile o name) s' s none there)
-  code_refused_only one not_both words before texts o name bytes line _ _ _ _ t s there h r (refused n x l q tells t' r') = absurd (subst TellsRefusal (one_command words q.command (Run CodeFile o name) q.spelled s) tells)
-  code_refused_only one not_both words before texts o name bytes line _ _ _ _ t s there h r (code_refused p n x l s' w t' r') =
-      let sources = one_source words before texts t (Run CodeFile p n) (Run CodeFile o name) n name x bytes s' refl t' s refl (told_text before texts t name bytes h) in
-      (refl, refl, ap (λ z. z ++ 10 ∷ []) (one_flaw_line one x bytes l line sources r' r), refl)
-  code_refused_only one not_both words before texts o name bytes line _ _ _ _ t s there h r (run_ended out err end status left q how) =
-      absurd (code_not_run not_both words before texts t q.job q.asked o name bytes line s (told_text before texts t name bytes h) r)
-  code_refused_only one not_both words before texts o name bytes line st out e left t s there h r a = let number = answers_it words before st out e left a (Run CodeFile o name) s in absurd (omega (arith, number))
+  code_refused_only one not_both words before o bytes line _ _ _ _ ask there r (no_such_watcher d s none) = absurd (not_there words before d (Run CodeFile o ask.name) s ask.spelled none there)
+  code_refused_only one not_both words before o bytes line _ _ _ _ ask there r (refused l it) = absurd (subst TellsRefusal (one_command words it.asked.command (Run CodeFile o ask.name) it.asked.spelled ask.spelled) it.tells)
+  code_refused_only one not_both words before o bytes line _ _ _ _ ask there r (code_refused l it) =
+      let sources = one_loaded words before (Run CodeFile o ask.name) ask.name bytes ask.spelled refl ask.text (Run CodeFile it.options it.name) it.name it.bytes it.spelled refl it.text in
+      (refl, refl, ap (λ z. z ++ 10 ∷ []) (one_flaw_line one it.bytes bytes l line sources it.refusal r), refl)
+  code_refused_only one not_both words before o bytes line _ _ _ _ ask there r (run_ended status out err left q) =
+      absurd (code_not_run not_both words before ask.text.texts ask.text.told q.job q.asked o ask.name bytes line ask.spelled (told_text before ask.text.texts ask.text.told ask.name bytes ask.text.there) r)
+  code_refused_only one not_both words before o bytes line st out e left ask there r a = let number = answers_it words before st out e left a (Run CodeFile o ask.name) ask.spelled in absurd (omega (arith, number))
+
+  -- ---- what is asked of a source
+
+  module _ (words : List (List ℕ)) (before : Outside) (asks : List ℕ → Command) (source : List ℕ) (ask : AsksOf words before asks source) (file : HasFile (asks ask.name) ask.name) where
+    -- another request of these words has this source
+    pub same_source : (d : Command) (n x : List ℕ) → Spells words d → HasFile d n → IsText before.files.held n x → x ≡ source
+    same_source d n x s f h = one_loaded words before (asks ask.name) ask.name source ask.spelled file ask.text d n x s f h
+
+    -- a refusal is one of this source
+    pub refused_so : (line : List ℕ) (it : IsToRefuse words before line) → IsRefusedFor source it.refusal.reason
+    refused_so line it =
+        subst (λ y. IsRefusedFor y it.refusal.reason) (same_source it.asked.command it.name it.source it.asked.spelled it.asked.file it.text) it.refusal.refused
+
+    -- and a program has this source
+    pub program_so : (others : List ℕ → Command) (it : IsOfProgram words before others) → HasFile (others it.name) it.name → IsProgram source it.tree
+    program_so others it f = subst (λ y. IsProgram y it.tree) (same_source (others it.name) it.name it.source it.spelled f it.text) it.is_program
 
   -- ---- checks
 
   pub checks_only : FrontLaws → ChecksExactly
-  checks_only laws words before texts name source _ _ _ _ t s h (no_such_watcher d s' none) = absurd (not_there words before d (Check name) s' s none tt)
-  checks_only laws words before texts name source _ _ _ _ t s h (refused n x l q tells t' r) =
-      let sources = one_source words before texts t q.command (Check name) n name x source q.spelled q.file t' s refl (told_text before texts t name source h) in
-      let moved = subst (λ y. IsRefusedFor y r.reason) sources r.refused in
-      (((λ (e : Refused ≡ Done). absurd (cc)), λ p. absurd (not_refused laws source r.reason moved p.0 p.1)), refl, (λ (e : Refused ≡ Done). absurd (cc)), refl)
-  checks_only laws words before texts name source _ _ _ _ t s h (checked n x tree s' t' p) =
-      let sources = one_source words before texts t (Check n) (Check name) n name x source s' refl t' s refl (told_text before texts t name source h) in
-      (((λ _. (tree, subst (λ y. IsProgram y tree) sources p)), (λ _. refl)), refl, (λ _. refl), refl)
-  checks_only laws words before texts name source _ _ _ _ t s h (run_ended out err end status left q how) = absurd (runs_so words before q.job (Check name) q.asked s)
-  checks_only laws words before texts name source st out e left t s h a = let number = answers_it words before st out e left a (Check name) s in absurd (omega (arith, number))
+  checks_only laws words before source _ _ _ _ ask (no_such_watcher d s none) = absurd (not_there words before d (Check ask.name) s ask.spelled none tt)
+  checks_only laws words before source _ _ _ _ ask (refused l it) =
+      let why = refused_so words before Check source ask refl l it in
+      (((λ (e : Refused ≡ Done). absurd (cc)), λ p. absurd (not_refused laws source it.refusal.reason why p.0 p.1)), refl, (λ (e : Refused ≡ Done). absurd (cc)), refl)
+  checks_only laws words before source _ _ _ _ ask (checked it) =
+      (((λ _. (it.tree, program_so words before Check source ask refl Check it refl)), (λ _. refl)), refl, (λ _. refl), refl)
+  checks_only laws words before source _ _ _ _ ask (run_ended status out err left q) = absurd (runs_so words before q.job (Check ask.name) q.asked ask.spelled)
+  checks_only laws words before source st out e left ask a = let number = answers_it words before st out e left a (Check ask.name) ask.spelled in absurd (omega (arith, number))
 
   -- ---- listings
 
   pub lists_only : FrontLaws → ListsExactly
-  lists_only laws words before texts name source _ _ _ _ t s h (no_such_watcher d s' none) = absurd (not_there words before d (Code name) s' s none tt)
-  lists_only laws words before texts name source _ _ _ _ t s h (refused n x l q tells t' r) =
-      let sources = one_source words before texts t q.command (Code name) n name x source q.spelled q.file t' s refl (told_text before texts t name source h) in
-      let moved = subst (λ y. IsRefusedFor y r.reason) sources r.refused in
-      (((λ (e : Refused ≡ Done). absurd (cc)), λ p. absurd (not_refused laws source r.reason moved p.0 p.1)), (λ tree p. absurd (not_refused laws source r.reason moved tree p)), inr (refl, refl), refl)
-  lists_only laws words before texts name source _ _ _ _ t s h (listed text a) =
-      let sources = one_source words before texts t (Code a.name) (Code name) a.name name a.source source a.spelled refl a.text s refl (told_text before texts t name source h) in
-      let program = subst (λ y. IsProgram y a.tree) sources a.is_program in
-      (((λ _. (a.tree, program)), (λ _. refl)), (λ tree p. (subst (λ y. IsListing y text) (one_program_tree laws source a.tree tree program p) a.is_listing, refl)), inl refl, refl)
-  lists_only laws words before texts name source _ _ _ _ t s h (run_ended out err end status left q how) = absurd (runs_so words before q.job (Code name) q.asked s)
-  lists_only laws words before texts name source st out e left t s h a = let number = answers_it words before st out e left a (Code name) s in absurd (omega (arith, number))
+  lists_only laws words before source _ _ _ _ ask (no_such_watcher d s none) = absurd (not_there words before d (Code ask.name) s ask.spelled none tt)
+  lists_only laws words before source _ _ _ _ ask (refused l it) =
+      let why = refused_so words before Code source ask refl l it in
+      let none = not_refused laws source it.refusal.reason why in
+      (((λ (e : Refused ≡ Done). absurd (cc)), λ p. absurd (none p.0 p.1)), (λ tree p. absurd (none tree p)), inr (refl, refl), refl)
+  lists_only laws words before source _ _ _ _ ask (listed text a) =
+      let it = a.asked in
+      let program = program_so words before Code source ask refl Code it refl in
+      (((λ _. (it.tree, program)), (λ _. refl)), (λ tree p. (subst (λ y. IsListing y text) (one_program_tree laws source it.tree tree program p) a.is_listing, refl)), inl refl, refl)
+  lists_only laws words before source _ _ _ _ ask (run_ended status out err left q) = absurd (runs_so words before q.job (Code ask.name) q.asked ask.spelled)
+  lists_only laws words before source st out e left ask a = let number = answers_it words before st out e left a (Code ask.name) ask.spelled in absurd (omega (arith, number))
 
   -- ---- advice
 
@@ -405,50 +416,49 @@ module _ (one_command : OneCommand) where
       h.tells ∙ ap has_repr_line at ∙ sym k.tells
 
   pub advises_only : FrontLaws → AdvisesExactly
-  advises_only laws words before texts name source _ _ _ _ t s h (no_such_watcher d s' none) = absurd (not_there words before d (Advise name) s' s none tt)
-  advises_only laws words before texts name source _ _ _ _ t s h (refused n x l q tells t' r) =
-      let sources = one_source words before texts t q.command (Advise name) n name x source q.spelled q.file t' s refl (told_text before texts t name source h) in
-      let moved = subst (λ y. IsRefusedFor y r.reason) sources r.refused in
-      (((λ (e : Refused ≡ Done). absurd (cc)), λ p. absurd (not_refused laws source r.reason moved p.0 p.1)), (λ tree p bare. absurd (not_refused laws source r.reason moved tree p)), (λ tree line p has. absurd (not_refused laws source r.reason moved tree p)), refl)
-  advises_only laws words before texts name source _ _ _ _ t s h (advised text a) =
-      let sources = one_source words before texts t (Advise a.name) (Advise name) a.name name a.source source a.spelled refl a.text_of s refl (told_text before texts t name source h) in
-      let program = subst (λ y. IsProgram y a.tree) sources a.is_program in
-      let is = subst (λ y. IsAdvised y a.tree text) sources a.is_advised in
-      let one = one_program_tree laws source a.tree in (
-        ((λ _. (a.tree, program, is.bare)), (λ _. refl)),
+  advises_only laws words before source _ _ _ _ ask (no_such_watcher d s none) = absurd (not_there words before d (Advise ask.name) s ask.spelled none tt)
+  advises_only laws words before source _ _ _ _ ask (refused l it) =
+      let why = refused_so words before Advise source ask refl l it in
+      let none = not_refused laws source it.refusal.reason why in
+      (((λ (e : Refused ≡ Done). absurd (cc)), λ p. absurd (none p.0 p.1)), (λ tree p bare. absurd (none tree p)), (λ tree line p has. absurd (none tree p)), refl)
+  advises_only laws words before source _ _ _ _ ask (advised text a) =
+      let it = a.asked in
+      let sources = same_source words before Advise source ask refl (Advise it.name) it.name it.source it.spelled refl it.text in
+      let program = program_so words before Advise source ask refl Advise it refl in
+      let is = subst (λ y. IsAdvised y it.tree text) sources a.is_advised in
+      let one = one_program_tree laws source it.tree in (
+        ((λ _. (it.tree, program, is.bare)), (λ _. refl)),
         (λ tree p bare. (subst (λ y. IsAdvised source y text) (one tree program p) is, refl)),
         (λ tree line p has. absurd (has_none tree line (ap (λ (y : Tree). y.modes) (sym (one tree program p)) ∙ is.bare) has)),
         refl,
       )
-  advises_only laws words before texts name source _ _ _ _ t s h (has_repr n x l tree s' t' p has) =
-      let sources = one_source words before texts t (Advise n) (Advise name) n name x source s' refl t' s refl (told_text before texts t name source h) in
-      let program = subst (λ y. IsProgram y tree) sources p in
+  advises_only laws words before source _ _ _ _ ask (has_repr l it has) =
+      let program = program_so words before Advise source ask refl Advise it refl in
       let none : (other : Tree) → IsProgram source other → other.modes ≡ [] → ⊥ =
-      λ other q bare. has_none tree l (ap (λ (y : Tree). y.modes) (one_program_tree laws source tree other program q) ∙ bare) has in (
+      λ other q bare. has_none it.tree l (ap (λ (y : Tree). y.modes) (one_program_tree laws source it.tree other program q) ∙ bare) has in (
         ((λ (e : Refused ≡ Done). absurd (cc)), λ q. absurd (none q.0 q.1 q.2)),
         (λ other q bare. absurd (none other q bare)),
-        (λ other line q k. (refl, refl, ap (λ z. z ++ 10 ∷ []) (one_repr tree other l line (one_program_tree laws source tree other program q) has k))),
+        (λ other line q k. (refl, refl, ap (λ z. z ++ 10 ∷ []) (one_repr it.tree other l line (one_program_tree laws source it.tree other program q) has k))),
         refl,
       )
-  advises_only laws words before texts name source _ _ _ _ t s h (run_ended out err end status left q how) = absurd (runs_so words before q.job (Advise name) q.asked s)
-  advises_only laws words before texts name source st out e left t s h a = let number = answers_it words before st out e left a (Advise name) s in absurd (omega (arith, number))
+  advises_only laws words before source _ _ _ _ ask (run_ended status out err left q) = absurd (runs_so words before q.job (Advise ask.name) q.asked ask.spelled)
+  advises_only laws words before source st out e left ask a = let number = answers_it words before st out e left a (Advise ask.name) ask.spelled in absurd (omega (arith, number))
 
   -- ---- explanations
 
   pub explains_only : FrontLaws → ExplainsExactly
-  explains_only laws words before texts name source _ _ _ _ t s h (no_such_watcher d s' none) = absurd (not_there words before d (Explain name) s' s none tt)
-  explains_only laws words before texts name source _ _ _ _ t s h (refused n x l q tells t' r) = absurd (subst TellsRefusal (one_command words q.command (Explain name) q.spelled s) tells)
-  explains_only laws words before texts name source _ _ _ _ t s h (explained text a) =
-      let sources = one_source words before texts t (Explain a.name) (Explain name) a.name name a.source source a.spelled refl a.text_of s refl (told_text before texts t name source h) in
-      let refused_so = subst (λ z. IsRefusedFor z a.reason) sources a.refused_for in
+  explains_only laws words before source _ _ _ _ ask (no_such_watcher d s none) = absurd (not_there words before d (Explain ask.name) s ask.spelled none tt)
+  explains_only laws words before source _ _ _ _ ask (refused l it) = absurd (subst TellsRefusal (one_command words it.asked.command (Explain ask.name) it.asked.spelled ask.spelled) it.tells)
+  explains_only laws words before source _ _ _ _ ask (explained text a) =
+      let sources = same_source words before Explain source ask refl (Explain a.name) a.name a.source a.spelled refl a.text_of in
+      let why = subst (λ z. IsRefusedFor z a.reason) sources a.refused_for in
       let is = subst (λ z. IsExplained z a.reason text) sources a.is_explained in
-      ((λ tree p. absurd (not_refused laws source a.reason refused_so tree p)), (λ why q. (refl, subst (λ z. IsExplained source z text) (one_reason laws source a.reason why refused_so q) is)), refl, refl)
-  explains_only laws words before texts name source _ _ _ _ t s h (no_fault n x tree s' t' p) =
-      let sources = one_source words before texts t (Explain n) (Explain name) n name x source s' refl t' s refl (told_text before texts t name source h) in
-      let program = subst (λ z. IsProgram z tree) sources p in
-      ((λ _ _. (refl, refl)), (λ why q. absurd (not_refused laws source why q tree program)), refl, refl)
-  explains_only laws words before texts name source _ _ _ _ t s h (run_ended out err end status left q how) = absurd (runs_so words before q.job (Explain name) q.asked s)
-  explains_only laws words before texts name source st out e left t s h a = let number = answers_it words before st out e left a (Explain name) s in absurd (omega (arith, number))
+      ((λ tree p. absurd (not_refused laws source a.reason why tree p)), (λ other q. (refl, subst (λ z. IsExplained source z text) (one_reason laws source a.reason other why q) is)), refl, refl)
+  explains_only laws words before source _ _ _ _ ask (no_fault it) =
+      let program = program_so words before Explain source ask refl Explain it refl in
+      ((λ _ _. (refl, refl)), (λ why q. absurd (not_refused laws source why q it.tree program)), refl, refl)
+  explains_only laws words before source _ _ _ _ ask (run_ended status out err left q) = absurd (runs_so words before q.job (Explain ask.name) q.asked ask.spelled)
+  explains_only laws words before source st out e left ask a = let number = answers_it words before st out e left a (Explain ask.name) ask.spelled in absurd (omega (arith, number))
 
   -- ---- runs
 
@@ -499,28 +509,28 @@ module _ (one_command : OneCommand) where
     pub told : means.events ≡ events
 
   pub ends_only : FrontLaws → OneImage → NotCodeAndFlawed → EndsExactly
-  ends_only laws images not_both words before texts input job said end _ _ _ _ t i a m (faulty_words told n tells) = absurd (n a.command a.spelled)
-  ends_only laws images not_both words before texts input job said end _ _ _ _ t i a m (no_such_watcher d s' none) = absurd (not_there words before d a.command s' a.spelled none a.there)
-  ends_only laws images not_both words before texts input job said end _ _ _ _ t i a m (refused name source line q tells h r) = absurd (refused_not_run laws words before texts t job a q.command name source line q.spelled q.file tells h r)
-  ends_only laws images not_both words before texts input job said end _ _ _ _ t i a m (code_refused o n x l s' there t' r) = absurd (code_not_run not_both words before texts t job a o n x l s' t' r)
-  ends_only laws images not_both words before texts input job said end _ _ _ _ t i a m (checked n x tree s' t' p) = absurd (runs_so words before job (Check n) a s')
-  ends_only laws images not_both words before texts input job said end _ _ _ _ t i a m (listed text l) = absurd (runs_so words before job (Code l.name) a l.spelled)
-  ends_only laws images not_both words before texts input job said end _ _ _ _ t i a m (built bytes l) = absurd (runs_so words before job (Build l.name) a l.spelled)
-  ends_only laws images not_both words before texts input job said end _ _ _ _ t i a m (too_long_built n x tree s' t' p long) = absurd (runs_so words before job (Build n) a s')
-  ends_only laws images not_both words before texts input job said end _ _ _ _ t i a m (advised text l) = absurd (runs_so words before job (Advise l.name) a l.spelled)
-  ends_only laws images not_both words before texts input job said end _ _ _ _ t i a m (has_repr n x k tree s' t' p has) = absurd (runs_so words before job (Advise n) a s')
-  ends_only laws images not_both words before texts input job said end _ _ _ _ t i a m (explained text l) = absurd (runs_so words before job (Explain l.name) a l.spelled)
-  ends_only laws images not_both words before texts input job said end _ _ _ _ t i a m (no_fault n x tree s' t' p) = absurd (runs_so words before job (Explain n) a s')
-  ends_only laws images not_both words before texts input job said end _ _ _ _ t i a m (stop_told k s') = absurd (runs_so words before job (TellStop k) a s')
-  ends_only laws images not_both words before texts input job said end _ _ _ _ t i a m (script_refused p b x l left q taken why) = absurd (runs_so words before job (Debug b q.name) a q.spelled)
-  ends_only laws images not_both words before texts input job said end _ _ _ _ t i a m (debugged told left q taken) = absurd (runs_so words before job (Debug q.session.based q.asked.asked.name) a q.asked.asked.spelled)
-  ends_only laws images not_both words before texts input job said end _ _ _ _ t i a m (trial_refused n k l q r) = absurd (runs_so words before job (Trial n k) a q)
-  ends_only laws images not_both words before texts input job said end _ _ _ _ t i a m (trial_ended l last how b e) = absurd (runs_so words before job (Trial b.seed b.nodes) a b.spelled)
-  ends_only laws images not_both words before texts input job said end _ _ _ _ t i a m (run_ended out err last status left r how) =
-      let same = one_job laws images words before texts input t i r.job job r.asked a in
-      let moved = subst (λ (j : Job). Ended j out last r.means.events) same (record { means = r.means; told = refl }) in
-      let both = one_meant job.runnable job.input job.turns job.based out said last end moved.means m in (
-        sym (ap status_of both.1) ∙ how,
+  ends_only laws images not_both words before input job said end _ _ _ _ t i a m (faulty_words told n tells) = absurd (n a.command a.spelled)
+  ends_only laws images not_both words before input job said end _ _ _ _ t i a m (no_such_watcher d s' none) = absurd (not_there words before d a.command s' a.spelled none a.there)
+  ends_only laws images not_both words before input job said end _ _ _ _ t i a m (refused l it) = absurd (refused_not_run laws words before t.0 t.1 job a it.asked.command it.name it.source l it.asked.spelled it.asked.file it.tells it.text it.refusal)
+  ends_only laws images not_both words before input job said end _ _ _ _ t i a m (code_refused l it) = absurd (code_not_run not_both words before t.0 t.1 job a it.options it.name it.bytes l it.spelled it.text it.refusal)
+  ends_only laws images not_both words before input job said end _ _ _ _ t i a m (checked it) = absurd (runs_so words before job (Check it.name) a it.spelled)
+  ends_only laws images not_both words before input job said end _ _ _ _ t i a m (listed text l) = absurd (runs_so words before job (Code l.asked.name) a l.asked.spelled)
+  ends_only laws images not_both words before input job said end _ _ _ _ t i a m (built bytes l) = absurd (runs_so words before job (Build l.asked.name) a l.asked.spelled)
+  ends_only laws images not_both words before input job said end _ _ _ _ t i a m (too_long_built it long) = absurd (runs_so words before job (Build it.name) a it.spelled)
+  ends_only laws images not_both words before input job said end _ _ _ _ t i a m (advised text l) = absurd (runs_so words before job (Advise l.asked.name) a l.asked.spelled)
+  ends_only laws images not_both words before input job said end _ _ _ _ t i a m (has_repr k it has) = absurd (runs_so words before job (Advise it.name) a it.spelled)
+  ends_only laws images not_both words before input job said end _ _ _ _ t i a m (explained text l) = absurd (runs_so words before job (Explain l.name) a l.spelled)
+  ends_only laws images not_both words before input job said end _ _ _ _ t i a m (no_fault it) = absurd (runs_so words before job (Explain it.name) a it.spelled)
+  ends_only laws images not_both words before input job said end _ _ _ _ t i a m (stop_told k s') = absurd (runs_so words before job (TellStop k) a s')
+  ends_only laws images not_both words before input job said end _ _ _ _ t i a m (script_refused l left it) = absurd (runs_so words before job (Debug it.based it.asked.name) a it.asked.spelled)
+  ends_only laws images not_both words before input job said end _ _ _ _ t i a m (debugged told left q taken) = absurd (runs_so words before job (Debug q.session.based q.asked.asked.name) a q.asked.asked.spelled)
+  ends_only laws images not_both words before input job said end _ _ _ _ t i a m (trial_refused n k l q r) = absurd (runs_so words before job (Trial n k) a q)
+  ends_only laws images not_both words before input job said end _ _ _ _ t i a m (trial_ended status l last b) = absurd (runs_so words before job (Trial b.tried.seed b.tried.nodes) a b.tried.spelled)
+  ends_only laws images not_both words before input job said end _ _ _ _ t i a m (run_ended status out err left r) =
+      let same = one_job laws images words before t.0 input t.1 i r.job job r.asked a in
+      let moved = subst (λ (j : Job). Ended j out r.end r.means.events) same (record { means = r.means; told = refl }) in
+      let both = one_meant job.runnable job.input job.turns job.based out said r.end end moved.means m in (
+        sym (ap status_of both.1) ∙ r.ends,
         both.0,
         r.tells ∙ (λ x. reports_of ((ap (λ (j : Job). j.watchers) same) x) ((sym moved.told ∙ both.2) x) ++ error_line (both.1 x)),
       )
@@ -547,10 +557,10 @@ module _ (one_command : OneCommand) where
 
   pub tries_only : FrontLaws → OneMeaning → TriesExactly
   tries_only laws meaning words before line end _ _ _ _ a (no_such_watcher d s none) = absurd (not_there words before d (Trial a.seed a.nodes) s a.spelled none tt)
-  tries_only laws meaning words before line end _ _ _ _ a (refused name source l q tells t r) = absurd (no_file words q.command name a.seed a.nodes a.spelled q.spelled q.file)
-  tries_only laws meaning words before line end _ _ _ _ a (run_ended out err last status left q how) = absurd (runs_so words before q.job (Trial a.seed a.nodes) q.asked a.spelled)
+  tries_only laws meaning words before line end _ _ _ _ a (refused l it) = absurd (no_file words it.asked.command it.name a.seed a.nodes a.spelled it.asked.spelled it.asked.file)
+  tries_only laws meaning words before line end _ _ _ _ a (run_ended status out err left q) = absurd (runs_so words before q.job (Trial a.seed a.nodes) q.asked a.spelled)
   tries_only laws meaning words before line end _ _ _ _ a (trial_refused n k l s r) = absurd (not_refused laws trial_source r.reason r.refused a.accepted.tree a.accepted.is_program)
-  tries_only laws meaning words before line end _ _ _ _ a (trial_ended l last status b how) =
-      let same = one_trial laws meaning words l line last end b a in
-      (sym (ap status_of same.1) ∙ how, ap₂ trial_output same.1 same.0, ap error_line same.1, refl)
+  tries_only laws meaning words before line end _ _ _ _ a (trial_ended status l last b) =
+      let same = one_trial laws meaning words l line last end b.tried a in
+      (sym (ap status_of same.1) ∙ b.ends, ap₂ trial_output same.1 same.0, ap error_line same.1, refl)
   tries_only laws meaning words before line end st out e left a b = let number = answers_it words before st out e left b (Trial a.seed a.nodes) a.spelled in absurd (omega (arith, number))

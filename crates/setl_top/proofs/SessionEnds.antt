@@ -76,7 +76,7 @@ module _ (words : List (List ℕ)) (before after : Outside) (based : Bool) (name
 
       script_ends : (r : Status) → NoScript before.input after.input before.error_output after.error_output r → Headline words before after r
       script_ends r (not_spelled bytes _ taken count (refused_bytes line _ why t)) =
-          told words before after Refused [] (line ++ 10 ∷ []) (λ e. e) (script_refused (program_of tree) based bytes line after.input.held (to_debug tree l) taken why) (appends_same before.output after.output none) (record { files = files; input = count; output = count_same before.output after.output none }) r t
+          told words before after Refused [] (line ++ 10 ∷ []) (λ e. e) (script_refused line after.input.held (record { program = program_of tree; based = based; bytes = bytes; asked = to_debug tree l; taken = taken; refusal = why })) (appends_same before.output after.output none) (record { files = files; input = count; output = count_same before.output after.output none }) r t
       script_ends _ (not_spelled bytes _ taken count (starved_of_script h)) = starved_of count h
       script_ends _ (unread_script taken c rose h) = record {
         out = [];

@@ -87,7 +87,7 @@ module _ (words : List (List ℕ)) (before after : Outside) (seed nodes : ℕ) (
   tried printed e m = record { seed = seed; nodes = nodes; program = m.program; printed = printed; spelled = s; accepted = m.accepted; means = m.means; is_line = refl }
 
   answer : (printed : List ℕ) (e : run.End) (status : Status) → TrialRuns seed nodes printed e → status_of e ≡ Some status → Answers words before status (trial_output e (trial_line seed nodes printed)) (error_line e) before.input.held
-  answer printed e status m how = trial_ended (trial_line seed nodes printed) e status (tried printed e m) how
+  answer printed e status m how = trial_ended status (trial_line seed nodes printed) e (record { tried = tried printed e m; ends = how })
 
   no_load : CountStays before.files after.files
   no_load = count_same before.files after.files rest.files

@@ -1,24 +1,21 @@
 -- What a call of the program answers, and what it does to the outside.
 use Rattle.std.specs.Prelude.{◌≡◌, ◌⊎◌, ◌<◌, ◌≤◌, ℕ, Bool, List, [], ◌∷◌, ◌++◌, length, take, Option, None, Some, ⊤}
 use Rattle.std.specs.Io.KnownBytes.{Appends, Consumes, prepend_known}
-use Rattle.setl_io.specs.Files.{IsText}
 use Rattle.setl_model_runs.specs.Events.{End}
 use Rattle.setl_model_runs.specs.Events as run
 use Rattle.setl_program.specs.Program.{Program}
-use Rattle.setl_tree.specs.declared.tree.Tree.{Tree}
 use Rattle.setl_explain_words.specs.Texts.{stop_text}
 use Rattle.setl_explain_words.specs.declared.stop.Stop.{Stop}
-use Rattle.setl_top.specs.Accepted.{IsProgram, Refusal}
+use Rattle.setl_top.specs.Accepted.{Refusal}
 use Rattle.setl_top_advice.specs.Advised.{HasRepr}
-use Rattle.setl_top.specs.Built.{IsLongCode, CodeRefusal}
+use Rattle.setl_top.specs.Built.{IsLongCode}
 use Rattle.setl_top.specs.Outside.{Outside}
-pub use Rattle.setl_top.specs.Requests.{IsToLoad, Job, IsInput, IsToRun, IsToList, IsToBuild, IsToAdvise, TellsRefusal, IsToExplain, IsToDebug, IsDebugged, IsDebuggedUpTo, IsTried}
+pub use Rattle.setl_top.specs.Requests.{IsToLoad, Job, IsInput, IsToRun, IsOfProgram, IsToList, IsToBuild, IsToAdvise, TellsRefusal, IsToRefuse, IsNoCode, IsToExplain, IsToDebug, IsNoScript, IsDebugged, IsDebuggedUpTo, IsTried}
 use Rattle.setl_top.specs.Runnable.{Meant, IsAt, Printing, Reading}
 use Rattle.setl_top.specs.Trials.{trial_source}
 use Rattle.setl_top.specs.Watching.{IsThere, no_watcher_line, reports_of}
 use Rattle.setl_top_images.specs.CodeFiles.{flaw_line}
 use Rattle.setl_top_images.specs.declared.images.Flaw.TheVariants.{TooLong}
-use Rattle.setl_top_session.specs.Sessions.{ScriptRefusal, TakesScript}
 use Rattle.setl_top_status.specs.Ends.{status_of, error_line}
 use Rattle.setl_top_status.specs.Lines.{AppendsFronts, fault_line}
 use Rattle.setl_top_status.specs.Seen.{CountRose, CountStays}
@@ -26,9 +23,8 @@ use Rattle.setl_top_status.specs.declared.fault.Fault.{Fault}
 use Rattle.setl_top_status.specs.declared.fault.Fault.TheVariants as fault
 use Rattle.setl_top_status.specs.declared.status.Status.{Status}
 use Rattle.setl_top_status.specs.declared.status.Status.TheVariants.{Done, Refused, Words, Stopped, Spent, ReadFault, WriteFault, NoMemory}
-use Rattle.setl_top_words.specs.Words.{Options, Command, Run, Check, Code, Build, Advise, Explain, TellStop, Trial, Spells, watched_by, IsFaulty}
+use Rattle.setl_top_words.specs.Words.{Command, Check, Code, Build, Advise, Explain, TellStop, Trial, Spells, watched_by, IsFaulty}
 use Rattle.setl_top_words.specs.Told.{TellsFaulty}
-use Rattle.setl_top_words.specs.declared.reading.FileKind.TheVariants.{CodeFile}
 
 -- ---- what a run does that the words ask for
 
@@ -37,11 +33,13 @@ abbrev pub IsLeft : Option (List ℕ) → Option (List ℕ) → List ℕ → Typ
 IsLeft None left bytes = ⊤
 IsLeft (Some input) left bytes = (kept : List ℕ) × (prepend_known kept left ≡ Some bytes)
 
--- It comes to this end with this output. It leaves what its last state has of the input, but for bytes that were taken
--- ahead, and its watchers report what they were told of its events before the error line.
-pub record IsRun (words : List (List ℕ)) (before : Outside) (out err : List ℕ) (end : End) (left : Option (List ℕ)) : Type 0 where
+-- It comes to its end, which has this status, with this output. It leaves what its last state has of the input, but for bytes
+-- that were taken ahead, and its watchers report what they were told of its events before the error line.
+pub record IsRun (words : List (List ℕ)) (before : Outside) (status : Status) (out err : List ℕ) (left : Option (List ℕ)) : Type 0 where
   pub job : Job
   pub asked : IsToRun words before job
+  pub end : End
+  pub ends : status_of end ≡ Some status
   pub means : Meant job.runnable job.input job.turns job.based out end
   pub leaves : IsLeft before.input.held left means.left
   pub tells : err ≡ reports_of job.watchers means.events ++ error_line end
@@ -74,26 +72,31 @@ trial_output (run.Stopped why at) line = []
 trial_output run.Spent line = []
 trial_output run.Stuck line = []
 
+-- the words ask for a trial with this line, whose run ends so, with this status
+pub record TrialEnds (words : List (List ℕ)) (status : Status) (line : List ℕ) (end : End) : Type 0 where
+  pub tried : IsTried words line end
+  pub ends : status_of end ≡ Some status
+
 -- Where nothing fails: the status, what is added to the output and to the error output, and what is left of the input.
 pub data Answers (words : List (List ℕ)) (before : Outside) : Status → List ℕ → List ℕ → Option (List ℕ) → Type 0 where
   faulty_words : (told : List ℕ) → IsFaulty words → TellsFaulty words told → Answers words before Words [] told before.input.held
   no_such_watcher : (command : Command) → Spells words command → (IsThere (watched_by command) before.watchers → ⊥) → Answers words before Words [] no_watcher_line before.input.held
-  refused : (name source line : List ℕ) → (asked : IsToLoad words before name) → TellsRefusal asked.command → IsText before.files.held name source → Refusal source line → Answers words before Refused [] (line ++ 10 ∷ []) before.input.held
-  checked : (name source : List ℕ) (tree : Tree) → Spells words (Check name) → IsText before.files.held name source → IsProgram source tree → Answers words before Done [] [] before.input.held
-  code_refused : (options : Options) (name bytes line : List ℕ) → Spells words (Run CodeFile options name) → IsThere options.watch before.watchers → IsText before.files.held name bytes → CodeRefusal bytes line → Answers words before Refused [] (line ++ 10 ∷ []) before.input.held
+  refused : (line : List ℕ) → IsToRefuse words before line → Answers words before Refused [] (line ++ 10 ∷ []) before.input.held
+  checked : IsOfProgram words before Check → Answers words before Done [] [] before.input.held
+  code_refused : (line : List ℕ) → IsNoCode words before line → Answers words before Refused [] (line ++ 10 ∷ []) before.input.held
   listed : (text : List ℕ) → IsToList words before text → Answers words before Done text [] before.input.held
   built : (bytes : List ℕ) → IsToBuild words before bytes → Answers words before Done bytes [] before.input.held
-  too_long_built : (name source : List ℕ) (tree : Tree) → Spells words (Build name) → IsText before.files.held name source → IsProgram source tree → IsLongCode tree → Answers words before Refused [] (flaw_line TooLong ++ 10 ∷ []) before.input.held
+  too_long_built : (a : IsOfProgram words before Build) → IsLongCode a.tree → Answers words before Refused [] (flaw_line TooLong ++ 10 ∷ []) before.input.held
   advised : (text : List ℕ) → IsToAdvise words before text → Answers words before Done text [] before.input.held
-  has_repr : (name source line : List ℕ) (tree : Tree) → Spells words (Advise name) → IsText before.files.held name source → IsProgram source tree → HasRepr tree line → Answers words before Refused [] (line ++ 10 ∷ []) before.input.held
+  has_repr : (line : List ℕ) (a : IsOfProgram words before Advise) → HasRepr a.tree line → Answers words before Refused [] (line ++ 10 ∷ []) before.input.held
   explained : (text : List ℕ) → IsToExplain words before text → Answers words before Refused text [] before.input.held
-  no_fault : (name source : List ℕ) (tree : Tree) → Spells words (Explain name) → IsText before.files.held name source → IsProgram source tree → Answers words before Done [] [] before.input.held
+  no_fault : IsOfProgram words before Explain → Answers words before Done [] [] before.input.held
   stop_told : (stop : Stop) → Spells words (TellStop stop) → Answers words before Done (stop_text stop) [] before.input.held
-  script_refused : (program : Program) (based : Bool) (bytes line : List ℕ) (left : Option (List ℕ)) → IsToDebug words before program based → TakesScript before.input.held left bytes → ScriptRefusal bytes line → Answers words before Refused [] (line ++ 10 ∷ []) left
+  script_refused : (line : List ℕ) (left : Option (List ℕ)) → IsNoScript words before line left → Answers words before Refused [] (line ++ 10 ∷ []) left
   debugged : (told : List ℕ) (left : Option (List ℕ)) → (a : IsDebugged words before told) → Consumes before.input.held left a.asked.bytes → Answers words before Done told [] left
-  run_ended : (out err : List ℕ) (end : End) (status : Status) (left : Option (List ℕ)) → IsRun words before out err end left → status_of end ≡ Some status → Answers words before status out err left
+  run_ended : (status : Status) (out err : List ℕ) (left : Option (List ℕ)) → IsRun words before status out err left → Answers words before status out err left
   trial_refused : (seed nodes : ℕ) (line : List ℕ) → Spells words (Trial seed nodes) → Refusal trial_source line → Answers words before Refused [] (line ++ 10 ∷ []) before.input.held
-  trial_ended : (line : List ℕ) (end : End) (status : Status) → IsTried words line end → status_of end ≡ Some status → Answers words before status (trial_output end line) (error_line end) before.input.held
+  trial_ended : (status : Status) (line : List ℕ) (end : End) → TrialEnds words status line end → Answers words before status (trial_output end line) (error_line end) before.input.held
 
 -- no count of faults rose before the last line was tried on the error output
 pub record IsQuiet (before after : Outside) : Type 0 where
@@ -248,12 +251,22 @@ Headline words before after ReadFault = ReadFailed words before after
 Headline words before after WriteFault = WriteFailed words before after
 Headline words before after NoMemory = MemoryFailed words before after
 
+-- a run took bytes off the input's front, which has a `read` in hand at one of its states, and the output has gained all that
+-- the run had written there
+pub record ReadsOff (words : List (List ℕ)) (before after : Outside) : Type 0 where
+  pub out : List ℕ
+  pub more : List ℕ
+  pub taken : List ℕ
+  pub reading : IsAtRead words before out
+  pub gained : Appends before.output.held after.output.held (out ++ more)
+  pub takes : Consumes before.input.held after.input.held taken
+
 -- What became of the input: it is as it was, a session over an accepted program took bytes off its front as its script, or a
--- run did, which has a `read` in hand at one of its states, and the output has gained all that the run had written there.
+-- run read some of it.
 pub data InputLeft (words : List (List ℕ)) (before after : Outside) : Type 0 where
   untouched : after.input.held ≡ before.input.held → InputLeft words before after
   script_taken : (program : Program) (based : Bool) (taken : List ℕ) → IsToDebug words before program based → Consumes before.input.held after.input.held taken → InputLeft words before after
-  read_from : (out more taken : List ℕ) → IsAtRead words before out → Appends before.output.held after.output.held (out ++ more) → Consumes before.input.held after.input.held taken → InputLeft words before after
+  read_from : ReadsOff words before after → InputLeft words before after
 
 -- a check writes nothing to the output and leaves the input as it was, however it ends
 pub record LeavesRest (before after : Outside) : Type 0 where

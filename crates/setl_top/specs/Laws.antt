@@ -8,7 +8,7 @@ use Rattle.setl_program.specs.Program.{Program}
 use Rattle.setl_program.specs.ProgramOf.{program_of}
 use Rattle.setl_tree.specs.declared.tree.Tree.{Tree}
 use Rattle.setl_top.specs.Accepted.{IsProgram, Accepted, IsRefusedFor, Refusal}
-use Rattle.setl_top.specs.Headline.{Headline, InputLeft, Ended, AnyRose, Answers, Job, IsToRun, IsTried, TellsRefusal, trial_output}
+use Rattle.setl_top.specs.Headline.{Headline, InputLeft, Ended, AnyRose, Answers, Job, IsToLoad, IsToRun, IsTried, TellsRefusal, trial_output}
 use Rattle.setl_top.specs.Built.{IsBuilt, IsLongCode, CodeRefusal}
 use Rattle.setl_top.specs.Runnable.{Meant, OfProgram, of_image, RunsAlike}
 use Rattle.setl_image_format.specs.ImageCodec.{Image}
@@ -28,7 +28,7 @@ use Rattle.setl_top_status.specs.declared.reason.Reason.{Reason}
 use Rattle.setl_top_status.specs.declared.status.Status.{Status}
 use Rattle.setl_top_status.specs.declared.status.Status.TheVariants.{NoMemory, ReadFault, Refused, WriteFault}
 use Rattle.setl_top_status.specs.declared.status.Status.TheVariants as ended
-use Rattle.setl_top_words.specs.Words.{Options, Command, Run, Check, Code, Build, Advise, Explain, Debug, Trial, Spells, HasFile, watched_by}
+use Rattle.setl_top_words.specs.Words.{Options, Command, Run, Check, Code, Build, Advise, Explain, Debug, Trial, Spells}
 use Rattle.setl_top_words.specs.declared.reading.FileKind.TheVariants.{CodeFile}
 
 -- ---- sources
@@ -89,23 +89,38 @@ WordsExactly = (words : List (List ℕ)) (before : Outside) (status : Status) (o
 abbrev pub TellsTexts : Outside → (List ℕ → Option (List ℕ)) → Type 0
 TellsTexts before texts = before.files.held ≡ Some texts
 
+-- and that of this name is this
+pub record TellsText (before : Outside) (name source : List ℕ) : Type 0 where
+  pub texts : List ℕ → Option (List ℕ)
+  pub told : TellsTexts before texts
+  pub there : texts name ≡ Some source
+
+-- the words ask this of a file, whose text is told, and it is this
+pub record AsksOf (words : List (List ℕ)) (before : Outside) (asks : List ℕ → Command) (source : List ℕ) : Type 0 where
+  pub name : List ℕ
+  pub spelled : Spells words (asks name)
+  pub text : TellsText before name source
+
+-- a source that is refused is answered by its line, and nothing is written
 abbrev pub RefusesExactly : Type 0
-RefusesExactly = (words : List (List ℕ)) (before : Outside) (texts : List ℕ → Option (List ℕ)) (command : Command) (name source line : List ℕ) (status : Status) (out err : List ℕ) (left : Option (List ℕ)) →
-    TellsTexts before texts → Spells words command → HasFile command name → IsThere (watched_by command) before.watchers → TellsRefusal command → texts name ≡ Some source → Refusal source line → Answers words before status out err left →
+RefusesExactly = (words : List (List ℕ)) (before : Outside) (name source line : List ℕ) (status : Status) (out err : List ℕ) (left : Option (List ℕ)) →
+    (asked : IsToLoad words before name) → TellsRefusal asked.command → TellsText before name source → Refusal source line → Answers words before status out err left →
     (status ≡ Refused) × (out ≡ []) × (err ≡ line ++ 10 ∷ []) × (left ≡ before.input.held)
 
 -- a check is done exactly where the source is a program, and then nothing is told
 abbrev pub ChecksExactly : Type 0
-ChecksExactly = (words : List (List ℕ)) (before : Outside) (texts : List ℕ → Option (List ℕ)) (name source : List ℕ) (status : Status) (out err : List ℕ) (left : Option (List ℕ)) →
-    TellsTexts before texts → Spells words (Check name) → texts name ≡ Some source → Answers words before status out err left →
+ChecksExactly = (words : List (List ℕ)) (before : Outside) (source : List ℕ) (status : Status) (out err : List ℕ) (left : Option (List ℕ)) →
+    AsksOf words before Check source → Answers words before status out err left →
     ((status ≡ ended.Done) ↔ ((tree : Tree) × IsProgram source tree)) × (out ≡ []) × (status ≡ ended.Done → err ≡ []) × (left ≡ before.input.held)
 
 -- A listing is done exactly where the source is a program, and what is written is the listing
 -- of that program; otherwise it is refused and writes nothing.
 abbrev pub ListsExactly : Type 0
-ListsExactly = (words : List (List ℕ)) (before : Outside) (texts : List ℕ → Option (List ℕ)) (name source : List ℕ) (status : Status) (out err : List ℕ) (left : Option (List ℕ)) →
-    TellsTexts before texts → Spells words (Code name) → texts name ≡ Some source → Answers words before status out err left →
-    ((status ≡ ended.Done) ↔ ((tree : Tree) × IsProgram source tree)) × ((tree : Tree) → IsProgram source tree → IsListing tree out × (err ≡ [])) × ((status ≡ ended.Done) ⊎ ((status ≡ ended.Refused) × (out ≡ []))) × (left ≡ before.input.held)
+ListsExactly = (words : List (List ℕ)) (before : Outside) (source : List ℕ) (status : Status) (out err : List ℕ) (left : Option (List ℕ)) →
+    AsksOf words before Code source → Answers words before status out err left →
+    ((status ≡ ended.Done) ↔ ((tree : Tree) × IsProgram source tree))
+    × ((tree : Tree) → IsProgram source tree → IsListing tree out × (err ≡ []))
+    × ((status ≡ ended.Done) ⊎ ((status ≡ ended.Refused) × (out ≡ []))) × (left ≡ before.input.held)
 
 -- each program has a listing, and only one
 abbrev pub OneListing : Type 0
@@ -113,16 +128,18 @@ OneListing = (tree : Tree) → (text : List ℕ) × IsListing tree text × ((oth
 
 -- Bytes that are no code file are refused by the line of their flaw, and write nothing.
 abbrev pub RefusesCodeExactly : Type 0
-RefusesCodeExactly = (words : List (List ℕ)) (before : Outside) (texts : List ℕ → Option (List ℕ)) (options : Options) (name bytes line : List ℕ) (status : Status) (out err : List ℕ) (left : Option (List ℕ)) →
-    TellsTexts before texts → Spells words (Run CodeFile options name) → IsThere options.watch before.watchers → texts name ≡ Some bytes → CodeRefusal bytes line → Answers words before status out err left →
+RefusesCodeExactly = (words : List (List ℕ)) (before : Outside) (options : Options) (bytes line : List ℕ) (status : Status) (out err : List ℕ) (left : Option (List ℕ)) →
+    AsksOf words before (Run CodeFile options) bytes → IsThere options.watch before.watchers → CodeRefusal bytes line → Answers words before status out err left →
     (status ≡ Refused) × (out ≡ []) × (err ≡ line ++ 10 ∷ []) × (left ≡ before.input.held)
 
 -- A code file is built only where the source is a program, and what is written is then a code file of that program, unless
 -- its spelling is too long, which is refused; any other source is refused and writes nothing.
 abbrev pub BuildsExactly : Type 0
-BuildsExactly = (words : List (List ℕ)) (before : Outside) (texts : List ℕ → Option (List ℕ)) (name source : List ℕ) (status : Status) (out err : List ℕ) (left : Option (List ℕ)) →
-    TellsTexts before texts → Spells words (Build name) → texts name ≡ Some source → Answers words before status out err left →
-    (status ≡ ended.Done → (tree : Tree) × IsProgram source tree) × ((tree : Tree) → IsProgram source tree → ((status ≡ ended.Done) × IsBuilt tree out × (err ≡ [])) ⊎ ((status ≡ Refused) × (out ≡ []) × IsLongCode tree × (err ≡ flaw_line TooLong ++ 10 ∷ []))) × ((status ≡ ended.Done) ⊎ ((status ≡ Refused) × (out ≡ []))) × (left ≡ before.input.held)
+BuildsExactly = (words : List (List ℕ)) (before : Outside) (source : List ℕ) (status : Status) (out err : List ℕ) (left : Option (List ℕ)) →
+    AsksOf words before Build source → Answers words before status out err left →
+    (status ≡ ended.Done → (tree : Tree) × IsProgram source tree)
+    × ((tree : Tree) → IsProgram source tree → ((status ≡ ended.Done) × IsBuilt tree out × (err ≡ [])) ⊎ ((status ≡ Refused) × (out ≡ []) × IsLongCode tree × (err ≡ flaw_line TooLong ++ 10 ∷ [])))
+    × ((status ≡ ended.Done) ⊎ ((status ≡ Refused) × (out ≡ []))) × (left ≡ before.input.held)
 
 -- The code file that is built of a source runs as the source does: each run of the one ends as that of the other, with the
 -- same output and the same events, and leaves the same of its input.
@@ -133,9 +150,12 @@ CodeFilesRunAlike = (source bytes : List ℕ) (tree : Tree) (i : Image) → IsPr
 -- Advice is done exactly where the source is a program without declarations, and what is written is then advice for it; a
 -- program with declarations is refused by the line of the first of them.
 abbrev pub AdvisesExactly : Type 0
-AdvisesExactly = (words : List (List ℕ)) (before : Outside) (texts : List ℕ → Option (List ℕ)) (name source : List ℕ) (status : Status) (out err : List ℕ) (left : Option (List ℕ)) →
-    TellsTexts before texts → Spells words (Advise name) → texts name ≡ Some source → Answers words before status out err left →
-    ((status ≡ ended.Done) ↔ ((tree : Tree) × IsProgram source tree × (tree.modes ≡ []))) × ((tree : Tree) → IsProgram source tree → tree.modes ≡ [] → IsAdvised source tree out × (err ≡ [])) × ((tree : Tree) (line : List ℕ) → IsProgram source tree → HasRepr tree line → (status ≡ Refused) × (out ≡ []) × (err ≡ line ++ 10 ∷ [])) × (left ≡ before.input.held)
+AdvisesExactly = (words : List (List ℕ)) (before : Outside) (source : List ℕ) (status : Status) (out err : List ℕ) (left : Option (List ℕ)) →
+    AsksOf words before Advise source → Answers words before status out err left →
+    ((status ≡ ended.Done) ↔ ((tree : Tree) × IsProgram source tree × (tree.modes ≡ [])))
+    × ((tree : Tree) → IsProgram source tree → tree.modes ≡ [] → IsAdvised source tree out × (err ≡ []))
+    × ((tree : Tree) (line : List ℕ) → IsProgram source tree → HasRepr tree line → (status ≡ Refused) × (out ≡ []) × (err ≡ line ++ 10 ∷ []))
+    × (left ≡ before.input.held)
 
 -- no run of the program in which its declarations count ends for a value that doesn't fit
 abbrev pub NeverUnfit : Program → Type 0
@@ -149,16 +169,20 @@ AdvisedSourcesFit = (source : List ℕ) (tree : Tree) (text : List ℕ) → (a :
 -- An explanation is done exactly where the source is a program, and then writes nothing; otherwise the source is refused, and
 -- what is written is the explanation of its reason. Nothing is told on the error output.
 abbrev pub ExplainsExactly : Type 0
-ExplainsExactly = (words : List (List ℕ)) (before : Outside) (texts : List ℕ → Option (List ℕ)) (name source : List ℕ) (status : Status) (out err : List ℕ) (left : Option (List ℕ)) →
-    TellsTexts before texts → Spells words (Explain name) → texts name ≡ Some source → Answers words before status out err left →
-    ((tree : Tree) → IsProgram source tree → (status ≡ ended.Done) × (out ≡ [])) × ((reason : Reason) → IsRefusedFor source reason → (status ≡ Refused) × IsExplained source reason out) × (err ≡ []) × (left ≡ before.input.held)
+ExplainsExactly = (words : List (List ℕ)) (before : Outside) (source : List ℕ) (status : Status) (out err : List ℕ) (left : Option (List ℕ)) →
+    AsksOf words before Explain source → Answers words before status out err left →
+    ((tree : Tree) → IsProgram source tree → (status ≡ ended.Done) × (out ≡ []))
+    × ((reason : Reason) → IsRefusedFor source reason → (status ≡ Refused) × IsExplained source reason out)
+    × (err ≡ []) × (left ≡ before.input.held)
 
 -- A session over a program is done exactly where the input is a script, and what is written is then what its commands tell; other
 -- input is refused by its one line, and nothing is written.
 abbrev pub DebugsExactly : Type 0
-DebugsExactly = (words : List (List ℕ)) (before : Outside) (texts : List ℕ → Option (List ℕ)) (input : List ℕ) (based : Bool) (name source : List ℕ) (tree : Tree) (status : Status) (out err : List ℕ) (left : Option (List ℕ)) →
-    TellsTexts before texts → before.input.held ≡ Some input → Spells words (Debug based name) → texts name ≡ Some source → IsProgram source tree → Answers words before status out err left →
-    ((status ≡ ended.Done) ↔ ((script : List ScriptCommand) × IsScript input script)) × (status ≡ ended.Done → (script : List ScriptCommand) × IsScript input script × IsTold (record { program = program_of tree; based = based; script = script }) script out × (err ≡ [])) × ((line : List ℕ) → ScriptRefusal input line → (status ≡ Refused) × (out ≡ []) × (err ≡ line ++ 10 ∷ []))
+DebugsExactly = (words : List (List ℕ)) (before : Outside) (input : List ℕ) (based : Bool) (source : List ℕ) (tree : Tree) (status : Status) (out err : List ℕ) (left : Option (List ℕ)) →
+    AsksOf words before (Debug based) source → before.input.held ≡ Some input → IsProgram source tree → Answers words before status out err left →
+    ((status ≡ ended.Done) ↔ ((script : List ScriptCommand) × IsScript input script))
+    × (status ≡ ended.Done → (script : List ScriptCommand) × IsScript input script × IsTold (record { program = program_of tree; based = based; script = script }) script out × (err ≡ []))
+    × ((line : List ℕ) → ScriptRefusal input line → (status ≡ Refused) × (out ≡ []) × (err ≡ line ++ 10 ∷ []))
 
 -- a trial never answers a read fault
 abbrev pub TrialsReadNothing : Type 0
@@ -171,9 +195,11 @@ TriesExactly = (words : List (List ℕ)) (before : Outside) (line : List ℕ) (e
     IsTried words line end → Answers words before status out err left →
     (status_of end ≡ Some status) × (out ≡ trial_output end line) × (err ≡ error_line end) × (left ≡ before.input.held)
 
+-- a run of which texts and input are told is answered as it ends
 abbrev pub EndsExactly : Type 0
-EndsExactly = (words : List (List ℕ)) (before : Outside) (texts : List ℕ → Option (List ℕ)) (input : List ℕ) (job : Job) (said : List ℕ) (end : End) (status : Status) (out err : List ℕ) (left : Option (List ℕ)) →
-    TellsTexts before texts → before.input.held ≡ Some input → IsToRun words before job → (means : Meant job.runnable job.input job.turns job.based said end) → Answers words before status out err left →
+EndsExactly = (words : List (List ℕ)) (before : Outside) (input : List ℕ) (job : Job) (said : List ℕ) (end : End) (status : Status) (out err : List ℕ) (left : Option (List ℕ)) →
+    ((texts : List ℕ → Option (List ℕ)) × TellsTexts before texts) → before.input.held ≡ Some input →
+    IsToRun words before job → (means : Meant job.runnable job.input job.turns job.based said end) → Answers words before status out err left →
     (status_of end ≡ Some status) × (out ≡ said) × (err ≡ reports_of job.watchers means.events ++ error_line end)
 
 -- every run of an accepted program ends, for every input and bound on turns, whether declarations count or not
