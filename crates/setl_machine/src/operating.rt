@@ -142,7 +142,7 @@ fn operate_on_one(
     }
 }
 
-/// The same of an operator with two operands, which it is lent where both are values.
+/// The same of an operator with two operands, which it is lent where both are values or `om`.
 fn operate_on_two(
     what: Operator,
     count: u32,
@@ -156,10 +156,10 @@ fn operate_on_two(
     ensures did { IfOk result (λ end. Does store.old control.old line (Operate what count) store.new control.new end) }
     ensures reader { control.new.reader ≡ control.old.reader }
 {
-    let Some((a, b)) = store.two() else {
+    let Some((a, b)) = store.two_parts() else {
         return operate_on_two_held(what, count, line, store, control);
     };
-    match op_two(control.alloc(), what, Some(a), Some(b), control.turns()) {
+    match op_two(control.alloc(), what, a, b, control.turns()) {
         Ok(answer) => {
             control.charge(answer.charged);
             put_for_two(answer.value, store)

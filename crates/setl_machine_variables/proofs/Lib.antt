@@ -6,3 +6,4 @@ pub mod Places
 pub mod Finding
 pub mod Freely
 pub mod InForm
+pub mod Members

@@ -1,4 +1,4 @@
-//! Operators on one or two integers, which are answered without a list of operands.
+//! Operators on one or two values, which are answered without a list of operands and for no charge.
 
 ghost use Rattle.std.specs.Prelude.{IfSome, ◌≡◌};
 ghost use Rattle.setl_operators_table.specs.Numbers.{whole};
@@ -7,12 +7,14 @@ ghost use Rattle.setl_value.specs.Datum.{int};
 ghost use Rattle.setl_value.specs.code.DatumOf.{datum};
 ghost use Rattle.setl_machine_variables.specs.Freely.{GivesAlone, GivesFreely, OnTop, OnTopAlone};
 
+use crate::reading::{read_two, size};
 use setl_operators::Operator;
 use setl_scalar::{ScalarFault, abs, add, div, modulo, mul, neg, sub};
 use setl_store::Store;
 use setl_value::Value;
 
-/// What an operator gives of the two values on top, where these are integers and it charges nothing.
+/// What an operator gives of the two values on top, where these are integers and it charges nothing, or where it reads the
+/// component of a tuple at a place, or whether a value is a member of a set.
 #[inline(always)]
 pub fn freely_of_top(what: Operator, store: &Store<'_>) -> Option<Value>
     ensures { IfSome result (λ v. OnTop what store.now.core.now.operands (datum v)) }
@@ -20,11 +22,14 @@ pub fn freely_of_top(what: Operator, store: &Store<'_>) -> Option<Value>
     let Some((a, b)) = store.two() else {
         return None;
     };
-    freely(what, a, b)
+    match freely(what, a, b) {
+        Some(value) => Some(value),
+        None => read_two(what, a, b),
+    }
 }
 
 /// What an operator with one operand gives of the value on top, where this is an integer or a truth value and it charges
-/// nothing.
+/// nothing, or where it counts the members, components or bytes.
 #[inline(always)]
 pub fn freely_of_one(what: Operator, store: &Store<'_>) -> Option<Value>
     ensures { IfSome result (λ v. OnTopAlone what store.now.core.now.operands (datum v)) }
@@ -35,7 +40,8 @@ pub fn freely_of_one(what: Operator, store: &Store<'_>) -> Option<Value>
     freely_alone(what, a)
 }
 
-/// What an operator with one operand gives of a value, where this is an integer or a truth value and it charges nothing.
+/// What an operator with one operand gives of a value, where this is an integer or a truth value and it charges nothing, or where
+/// it counts.
 #[inline(always)]
 fn freely_alone(what: Operator, a: &Value) -> Option<Value>
     ensures { IfSome result (λ v. GivesAlone what (datum a.now) (datum v)) }
@@ -46,6 +52,7 @@ fn freely_alone(what: Operator, a: &Value) -> Option<Value>
         (Operator::Even, Value::Int(z)) => Some(Value::Bool(z.unsigned_abs() % 2 == 0)),
         (Operator::Odd, Value::Int(z)) => Some(Value::Bool(z.unsigned_abs() % 2 == 1)),
         (Operator::Not, Value::Bool(truth)) => Some(Value::Bool(!*truth)),
+        (Operator::Size, _) => size(a),
         _ => None,
     }
 }

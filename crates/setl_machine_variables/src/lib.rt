@@ -7,6 +7,7 @@ mod declarations;
 mod in_form;
 mod in_place;
 mod integers;
+mod reading;
 mod variables;
 
 pub use altering::{Updated, alter};

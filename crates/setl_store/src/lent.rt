@@ -2,8 +2,8 @@
 
 ghost use Rattle.std.specs.Prelude.{◌≡◌, ◌<◌, ◌≤◌, ◌∷◌, ◌+◌, drop, length, reverse, Some, IsSome, IfSome};
 ghost use Rattle.setl_code.specs.CodeCore.{Result as Holds};
-ghost use Rattle.setl_value.specs.code.DatumOf.{datum, part};
-ghost use Rattle.setl_store_operands.specs.Operands.{members_below};
+ghost use Rattle.setl_value.specs.code.DatumOf.{datum, lent, part};
+ghost use Rattle.setl_store_operands.specs.Operands.{members_below, operand_of, IsOperandOver};
 ghost use Rattle.setl_store.specs.Flat.{lowest_in, IsHeldBelow};
 ghost use Rattle.setl_store.specs.Operands.{IsPlainTop};
 ghost use Rattle.setl_store_operands.specs.Lending.{value_as, IsOverAs};
@@ -37,6 +37,20 @@ impl<'c> Store<'c> {
             return None;
         };
         let Some(lower) = self.value_below(1) else {
+            return None;
+        };
+        Some((lower, upper))
+    }
+
+    /// The two results on top, the upper one last, where None is `om`; None where one of the two isn't there, or is a
+    /// collection, an iterator, or a set or a tuple in a form. It takes no memory.
+    pub fn two_parts(&self) -> Option<(Option<&Value>, Option<&Value>)>
+        ensures { IfSome result (λ both. self.now.core.now.operands ≡ Holds (lent both.1) ∷ Holds (lent both.0) ∷ drop 2 self.now.core.now.operands) }
+    {
+        let Some(upper) = self.part_below(0) else {
+            return None;
+        };
+        let Some(lower) = self.part_below(1) else {
             return None;
         };
         Some((lower, upper))
@@ -87,6 +101,21 @@ impl<'c> Store<'c> {
         Some(value)
     }
 
+    // The same of a result that may be `om`.
+    fn part_below(&self, count: usize) -> Option<Option<&Value>>
+        ensures { IfSome result (λ value. drop count self.now.core.now.operands ≡ Holds (lent value) ∷ drop (count + 1) self.now.core.now.operands) }
+    {
+        let operands = self.environment.operands();
+        if operands - lowest(&self.environment) <= count {
+            return None;
+        }
+        let operand = self.environment.operand(operands - 1 - count);
+        let Some(value) = part_in(operand, &self.bases) else {
+            return None;
+        };
+        Some(value)
+    }
+
     /// Drops the top: a result, or a collection with its members.
     ///
     /// The error is want of memory, and then all is as before.
@@ -122,6 +151,21 @@ pub(crate) fn members_below(operand: &Operand, members: usize) -> usize
     match operand {
         Operand::Collection(_, lowest, _) => *lowest,
         _ => members,
+    }
+}
+
+// The result that an operand is, where None is `om`; None where its value lies nowhere plain, or the operand is an iterator or
+// a collection.
+fn part_in<'a>(operand: &'a Operand, bases: &'a Bases) -> Option<Option<&'a Value>>
+    requires { IsOperandOver bases.now operand.now }
+    ensures { IfSome result (λ value. (members : _) → operand_of bases.now members operand.now ≡ Holds (lent value)) }
+{
+    match operand {
+        Operand::Om => Some(None),
+        _ => match plain_in(operand, bases) {
+            Some(value) => Some(Some(value)),
+            None => None,
+        },
     }
 }
 
