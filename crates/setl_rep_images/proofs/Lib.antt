@@ -1,2 +1,3 @@
 mod Shallow
 mod Selected
+mod Points

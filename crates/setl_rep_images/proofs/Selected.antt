@@ -11,8 +11,8 @@ use Rattle.setl_value.specs.Datum.{Datum, bool, int, text, atom, tuple, set, set
 use Rattle.setl_value.specs.Order.{datum_cmp}
 use Rattle.setl_value.specs.Pairs.{pair, pair_parts, is_map, images}
 use Rattle.setl_set.specs.Sets.{insert_datum, insert_by, set_from}
-use Rattle.setl_map.specs.Maps.{only, image}
-use Rattle.setl_operators_table.specs.declared.Operator.TheVariants.{Get, Images}
+use Rattle.setl_map.specs.Maps.{only, image, domain_of}
+use Rattle.setl_operators_table.specs.declared.Operator.TheVariants.{Domain, Get, Images}
 use Rattle.setl_operators_table.specs.Collections.{on_map}
 use Rattle.setl_operators_table.specs.Operators.{op_of}
 use Rattle.setl_operators_table.specs.Outcome.{Gives, Fails, KindFault, set_value}
@@ -160,3 +160,10 @@ module _ (bs : BasesState) (f : Form) (b : BaseId) (many : Bool) (t : table_of f
       ∙ ap (on_map (λ g. set_value (images x g))) (element_list-elements_of pairs)
       ∙ ap (λ u. if u then set_value (images x pairs) else Fails KindFault) are_pairs
       ∙ ap (λ u. Gives (Some u) 0) (sym (is ∙ ap (λ g. set_of (images x (map_pairs bs g))) to.is))
+
+  pub tells_domain : (left : ℕ) → op_of Domain (stands bs f ∷ []) left ≡ Gives (Some (set_of (domain_of (map_pairs bs f)))) 0
+  tells_domain left =
+      ap (λ g. op_of Domain (stands bs g ∷ []) left) to.is
+      ∙ ap (on_map (λ g. set_value (domain_of g))) (element_list-elements_of pairs)
+      ∙ ap (λ u. if u then set_value (domain_of pairs) else Fails KindFault) are_pairs
+      ∙ ap (λ u. Gives (Some u) 0) (sym (ap (λ g. set_of (domain_of (map_pairs bs g))) to.is))

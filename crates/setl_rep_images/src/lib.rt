@@ -1,8 +1,10 @@
-//! The images of points in maps that are held as tables, as the operators give them.
+//! The images of points in maps that are held as tables, and their domains, as the operators give them.
 #![tactic(auto)]
 
 mod contents;
+mod domains;
 mod selecting;
 
+pub use domains::domain;
 pub use selecting::{image, images};
 pub use std::alloc::AllocError as Memory;
