@@ -16,8 +16,8 @@ struct Operand<'r, R> {
     item: &'r R,
 }
 
-impl<'r, R: Rule<Out = Expr>> Rule for Operand<'r, R> {
-    type Out = (BinaryOp, Expr);
+impl<'r, R: Rule<Out = Boxed<Expr>>> Rule for Operand<'r, R> {
+    type Out = (BinaryOp, Boxed<Expr>);
 
     ghost use Rattle.setl_parse_reading.specs.code.ReadExpressions.{operand};
 
@@ -26,7 +26,7 @@ impl<'r, R: Rule<Out = Expr>> Rule for Operand<'r, R> {
     ghost reader = { λ s. operand s.level (R.reader s.item.now) };
 
     #[tactic(auto, unfolding(setl_parse_reading::specs::code::Reading::one_of))]
-    fn read(&self, tokens: &mut Cursor<'_>) -> Result<(BinaryOp, Expr), Fault> {
+    fn read(&self, tokens: &mut Cursor<'_>) -> Result<(BinaryOp, Boxed<Expr>), Fault> {
         let Some(op) = op_at(self.level, tokens.kind()) else {
             return Err(tokens.refuse());
         };
@@ -36,7 +36,7 @@ impl<'r, R: Rule<Out = Expr>> Rule for Operand<'r, R> {
     }
 }
 
-impl<'r, R: Rule<Out = Expr>> Repeated for Operand<'r, R> {
+impl<'r, R: Rule<Out = Boxed<Expr>>> Repeated for Operand<'r, R> {
     ghost use Rattle.setl_tree.specs.Operators.{op_at};
     ghost use Rattle.setl_parse_reading.specs.code.Reading.{begins_as};
 
@@ -50,12 +50,12 @@ impl<'r, R: Rule<Out = Expr>> Repeated for Operand<'r, R> {
 /// What goes on from the first operand of a level.
 #[inline(never)]
 #[tactic(auto, using(crate::proofs::Many::none_begins), unfolding(setl_parse_reading::specs::code::ReadExpressions::operands))]
-pub fn chain_from<R: Rule<Out = Expr>>(
+pub fn chain_from<R: Rule<Out = Boxed<Expr>>>(
     level: u8,
     item: &R,
-    first: Expr,
+    first: Boxed<Expr>,
     tokens: &mut Cursor<'_>,
-) -> Result<Expr, Fault>
+) -> Result<Boxed<Expr>, Fault>
     requires { R.can_read item.now }
     ensures { Reads (spec.chain_from level (R.reader item.now) first tokens.old) result tokens.new }
 {
@@ -63,9 +63,8 @@ pub fn chain_from<R: Rule<Out = Expr>>(
     if !operand.begins(tokens.kind()) {
         return Ok(first);
     }
-    let first = Boxed::new(tokens.alloc(), first)?;
     let (first, others) = with_many(first, &operand, tokens)?;
-    Ok(chain_of(first, others))
+    chain_of(tokens.alloc(), first, others)
 }
 
 /// A level of operators that group to the left.
@@ -75,8 +74,8 @@ pub struct Chain<R> {
     pub item: R,
 }
 
-impl<R: Rule<Out = Expr>> Rule for Chain<R> {
-    type Out = Expr;
+impl<R: Rule<Out = Boxed<Expr>>> Rule for Chain<R> {
+    type Out = Boxed<Expr>;
 
     ghost use Rattle.setl_parse_reading.specs.code.ReadExpressions.{chain};
 
@@ -84,7 +83,7 @@ impl<R: Rule<Out = Expr>> Rule for Chain<R> {
 
     ghost reader = { λ s. chain s.level (R.reader s.item) };
 
-    fn read(&self, tokens: &mut Cursor<'_>) -> Result<Expr, Fault> {
+    fn read(&self, tokens: &mut Cursor<'_>) -> Result<Boxed<Expr>, Fault> {
         let first = self.item.read(tokens)?;
         chain_from(self.level, &self.item, first, tokens)
     }

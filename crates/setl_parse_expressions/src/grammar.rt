@@ -19,7 +19,7 @@ pub enum Part {
     /// The source of an iterator.
     Source,
     /// What goes on from a finished comparison.
-    After(Expr),
+    After(Boxed<Expr>),
 }
 
 /// The rules of expressions where so many nestings may still open. Each takes what stands one nesting deeper from
@@ -30,22 +30,21 @@ pub struct Grammar<F> {
     pub inside: F,
 }
 
-impl<F: Fn(&mut Cursor<'_>, usize, Part) -> Result<Expr, Fault>> Grammar<F> {
-    /// An expression one nesting deeper.
-    pub fn expr(&self, tokens: &mut Cursor<'_>) -> Result<Expr, Fault>
+impl<F: Fn(&mut Cursor<'_>, usize, Part) -> Result<Boxed<Expr>, Fault>> Grammar<F> {
+    /// An expression one nesting deeper, in a box.
+    pub fn boxed(&self, tokens: &mut Cursor<'_>) -> Result<Boxed<Expr>, Fault>
         requires { Nests self.now.room (F.pre self.now.inside) (F.post self.now.inside) }
         ensures { Reads ((nested self.now.room).expr tokens.old) result tokens.new }
     {
         (self.inside)(tokens, self.room, Part::Whole)
     }
 
-    /// An expression one nesting deeper, in a box.
-    pub fn boxed(&self, tokens: &mut Cursor<'_>) -> Result<Boxed<Expr>, Fault>
+    /// An expression one nesting deeper.
+    pub fn expr(&self, tokens: &mut Cursor<'_>) -> Result<Expr, Fault>
         requires { Nests self.now.room (F.pre self.now.inside) (F.post self.now.inside) }
         ensures { Reads ((nested self.now.room).expr tokens.old) result tokens.new }
     {
-        let x = self.expr(tokens)?;
-        Ok(Boxed::new(tokens.alloc(), x)?)
+        Ok(self.boxed(tokens)?.into_inner())
     }
 
     /// An expression one nesting deeper, in a box, behind which a token of this kind stands.
@@ -55,21 +54,6 @@ impl<F: Fn(&mut Cursor<'_>, usize, Part) -> Result<Expr, Fault>> Grammar<F> {
     {
         let x = self.boxed(tokens)?;
         followed(x, kind, tokens)
-    }
-
-    /// What was read, and behind a token of this kind an expression one nesting deeper.
-    pub fn expr_behind<T: Drop>(
-        &self,
-        head: T,
-        kind: Kind,
-        tokens: &mut Cursor<'_>,
-    ) -> Result<(T, Expr), Fault>
-        requires { Nests self.now.room (F.pre self.now.inside) (F.post self.now.inside) }
-        ensures { Reads (behind.behind head kind (nested self.now.room).expr tokens.old) result tokens.new }
-    {
-        let head = followed(head, kind, tokens)?;
-        let x = self.expr(tokens)?;
-        Ok((head, x))
     }
 
     /// What was read, and behind a token of this kind an expression one nesting deeper, in a box.
@@ -88,7 +72,7 @@ impl<F: Fn(&mut Cursor<'_>, usize, Part) -> Result<Expr, Fault>> Grammar<F> {
     }
 
     /// The source of an iterator one nesting deeper.
-    pub fn source(&self, tokens: &mut Cursor<'_>) -> Result<Expr, Fault>
+    pub fn source(&self, tokens: &mut Cursor<'_>) -> Result<Boxed<Expr>, Fault>
         requires { Nests self.now.room (F.pre self.now.inside) (F.post self.now.inside) }
         ensures { Reads ((nested self.now.room).source tokens.old) result tokens.new }
     {
@@ -96,7 +80,11 @@ impl<F: Fn(&mut Cursor<'_>, usize, Part) -> Result<Expr, Fault>> Grammar<F> {
     }
 
     /// What an iterator binds, and behind `in` its source one nesting deeper.
-    pub fn over<T: Drop>(&self, bound: T, tokens: &mut Cursor<'_>) -> Result<(T, Expr), Fault>
+    pub fn over<T: Drop>(
+        &self,
+        bound: T,
+        tokens: &mut Cursor<'_>,
+    ) -> Result<(T, Boxed<Expr>), Fault>
         requires { Nests self.now.room (F.pre self.now.inside) (F.post self.now.inside) }
         ensures { Reads (behind.behind bound k.In (nested self.now.room).source tokens.old) result tokens.new }
     {
@@ -106,7 +94,7 @@ impl<F: Fn(&mut Cursor<'_>, usize, Part) -> Result<Expr, Fault>> Grammar<F> {
     }
 
     /// What goes on from a comparison one nesting deeper.
-    pub fn after(&self, a: Expr, tokens: &mut Cursor<'_>) -> Result<Expr, Fault>
+    pub fn after(&self, a: Boxed<Expr>, tokens: &mut Cursor<'_>) -> Result<Boxed<Expr>, Fault>
         requires { Nests self.now.room (F.pre self.now.inside) (F.post self.now.inside) }
         ensures { Reads ((nested self.now.room).after a tokens.old) result tokens.new }
     {

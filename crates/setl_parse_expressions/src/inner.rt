@@ -8,10 +8,10 @@ ghost use Rattle.setl_parse_expressions.specs.code.Nests.{Nests};
 ghost use Rattle.setl_parse_expressions.specs.code.Parts as parts;
 
 use crate::grammar::{Grammar, Part};
-use crate::made::{membership, range, stepped};
+use crate::made::membership;
 use setl_parse_cursor::{
-    Cursor, Repeated, Rule, ahead, bound, boxed_second, closes, followed, more_onto, one,
-    same_kind, two, with_optional,
+    Cursor, Repeated, Rule, ahead, bound, closes, followed, more_onto, one, same_kind, two,
+    with_optional,
 };
 use setl_parse_reading::{Ahead, Fault};
 use setl_tree::{Bound, Boxed, Expr, Inner, Items, Iter, Kind};
@@ -22,7 +22,8 @@ pub struct ExprRule<'g, F> {
     pub grammar: &'g Grammar<F>,
 }
 
-impl<'g, F: Fn(&mut Cursor<'_>, usize, Part) -> Result<Expr, Fault>> Rule for ExprRule<'g, F> {
+impl<'g, F: Fn(&mut Cursor<'_>, usize, Part) -> Result<Boxed<Expr>, Fault>> Rule
+    for ExprRule<'g, F> {
     type Out = Expr;
 
     ghost use Rattle.std.specs.Prelude.{◌-◌};
@@ -38,13 +39,37 @@ impl<'g, F: Fn(&mut Cursor<'_>, usize, Part) -> Result<Expr, Fault>> Rule for Ex
     }
 }
 
+/// The same in a box.
+#[derive(Drop)]
+pub struct BoxedRule<'g, F> {
+    pub grammar: &'g Grammar<F>,
+}
+
+impl<'g, F: Fn(&mut Cursor<'_>, usize, Part) -> Result<Boxed<Expr>, Fault>> Rule
+    for BoxedRule<'g, F> {
+    type Out = Boxed<Expr>;
+
+    ghost use Rattle.std.specs.Prelude.{◌-◌};
+    ghost use Rattle.setl_parse_reading.specs.code.ReadExpressions.{nested};
+    ghost use Rattle.setl_parse_expressions.specs.code.Nests.{Nests};
+
+    ghost can_read = { λ s. Nests s.grammar.now.room (F.pre s.grammar.now.inside) (F.post s.grammar.now.inside) };
+
+    ghost reader = { λ s. (nested s.grammar.now.room).expr };
+
+    fn read(&self, tokens: &mut Cursor<'_>) -> Result<Boxed<Expr>, Fault> {
+        self.grammar.boxed(tokens)
+    }
+}
+
 /// A condition behind a bar.
 #[derive(Drop)]
 pub struct ConditionRule<'g, F> {
     pub grammar: &'g Grammar<F>,
 }
 
-impl<'g, F: Fn(&mut Cursor<'_>, usize, Part) -> Result<Expr, Fault>> Rule for ConditionRule<'g, F> {
+impl<'g, F: Fn(&mut Cursor<'_>, usize, Part) -> Result<Boxed<Expr>, Fault>> Rule
+    for ConditionRule<'g, F> {
     type Out = Boxed<Expr>;
 
     ghost use Rattle.std.specs.Prelude.{◌-◌};
@@ -62,7 +87,7 @@ impl<'g, F: Fn(&mut Cursor<'_>, usize, Part) -> Result<Expr, Fault>> Rule for Co
     }
 }
 
-impl<'g, F: Fn(&mut Cursor<'_>, usize, Part) -> Result<Expr, Fault>> Repeated
+impl<'g, F: Fn(&mut Cursor<'_>, usize, Part) -> Result<Boxed<Expr>, Fault>> Repeated
     for ConditionRule<'g, F> {
     ghost use Rattle.setl_tree.specs.declared.kind.Kind.TheVariants as k;
     ghost use Rattle.setl_parse_reading.specs.code.Reading.{is};
@@ -74,7 +99,7 @@ impl<'g, F: Fn(&mut Cursor<'_>, usize, Part) -> Result<Expr, Fault>> Repeated
     }
 }
 
-impl<F: Fn(&mut Cursor<'_>, usize, Part) -> Result<Expr, Fault>> Grammar<F> {
+impl<F: Fn(&mut Cursor<'_>, usize, Part) -> Result<Boxed<Expr>, Fault>> Grammar<F> {
     /// The iterators of a former, and its condition.
     fn clauses(&self, tokens: &mut Cursor<'_>) -> Result<(Items<Iter>, Option<Boxed<Expr>>), Fault>
         requires { Nests self.now.room (F.pre self.now.inside) (F.post self.now.inside) }
@@ -85,54 +110,59 @@ impl<F: Fn(&mut Cursor<'_>, usize, Part) -> Result<Expr, Fault>> Grammar<F> {
     }
 
     /// A former behind `value :`.
+    #[inline(never)]
     #[tactic(auto, unfolding(setl_parse_reading::specs::code::ReadExpressions::former))]
-    fn former(&self, value: Expr, tokens: &mut Cursor<'_>) -> Result<Inner, Fault>
+    fn former(&self, value: Boxed<Expr>, tokens: &mut Cursor<'_>) -> Result<Inner, Fault>
         requires { Nests self.now.room (F.pre self.now.inside) (F.post self.now.inside) }
         ensures { Reads (spec.former (self.now.room - 1) (nested self.now.room) value tokens.old) result tokens.new }
     {
-        let value = Boxed::new(tokens.alloc(), value)?;
         let (over, condition) = self.clauses(tokens)?;
         Ok(Inner::Former(value, over, condition))
     }
 
     /// What stands behind `a, b`, where no `..` does.
-    fn two_and_more(&self, a: Expr, b: Expr, tokens: &mut Cursor<'_>) -> Result<Items<Expr>, Fault>
+    fn two_and_more(
+        &self,
+        a: Boxed<Expr>,
+        b: Boxed<Expr>,
+        tokens: &mut Cursor<'_>,
+    ) -> Result<Items<Expr>, Fault>
         requires { Nests self.now.room (F.pre self.now.inside) (F.post self.now.inside) }
         ensures { Reads (parts.two_and_more a b (nested self.now.room).expr tokens.old) result tokens.new }
     {
-        let front = two(tokens.alloc(), a, b)?;
+        let front = two(tokens.alloc(), a.into_inner(), b.into_inner())?;
         more_onto(front, &ExprRule { grammar: self }, tokens)
     }
 
     /// What stands behind `a, b`.
     #[tactic(auto, unfolding(setl_parse_reading::specs::code::ReadExpressions::third))]
-    fn third(&self, a: Expr, b: Expr, tokens: &mut Cursor<'_>) -> Result<Inner, Fault>
+    fn third(&self, a: Boxed<Expr>, b: Boxed<Expr>, tokens: &mut Cursor<'_>) -> Result<Inner, Fault>
         requires { Nests self.now.room (F.pre self.now.inside) (F.post self.now.inside) }
         ensures { Reads (spec.third (self.now.room - 1) (nested self.now.room) a b tokens.old) result tokens.new }
     {
         if same_kind(tokens.kind(), Kind::Dots) {
             let (between, last) = self.boxed_behind((a, b), Kind::Dots, tokens)?;
-            return stepped(tokens.alloc(), between, last);
+            return Ok(Inner::Range(between.0, Some(between.1), last));
         }
         Ok(Inner::List(self.two_and_more(a, b, tokens)?))
     }
 
     /// What stands behind `a`, where no `:` or `..` does.
     #[tactic(auto, unfolding(setl_parse_reading::specs::code::ReadExpressions::second))]
-    fn second(&self, a: Expr, tokens: &mut Cursor<'_>) -> Result<Inner, Fault>
+    fn second(&self, a: Boxed<Expr>, tokens: &mut Cursor<'_>) -> Result<Inner, Fault>
         requires { Nests self.now.room (F.pre self.now.inside) (F.post self.now.inside) }
         ensures { Reads (spec.second (self.now.room - 1) (nested self.now.room) a tokens.old) result tokens.new }
     {
         if same_kind(tokens.kind(), Kind::Comma) {
-            let (a, b) = self.expr_behind(a, Kind::Comma, tokens)?;
+            let (a, b) = self.boxed_behind(a, Kind::Comma, tokens)?;
             return self.third(a, b, tokens);
         }
-        Ok(Inner::List(one(tokens.alloc(), a)?))
+        Ok(Inner::List(one(tokens.alloc(), a.into_inner())?))
     }
 
     /// What stands behind the first expression, where no `..` does.
     #[tactic(auto, unfolding(setl_parse_reading::specs::code::ReadExpressions::unranged))]
-    fn unranged(&self, a: Expr, tokens: &mut Cursor<'_>) -> Result<Inner, Fault>
+    fn unranged(&self, a: Boxed<Expr>, tokens: &mut Cursor<'_>) -> Result<Inner, Fault>
         requires { Nests self.now.room (F.pre self.now.inside) (F.post self.now.inside) }
         ensures { Reads (spec.unranged (self.now.room - 1) (nested self.now.room) a tokens.old) result tokens.new }
     {
@@ -146,13 +176,13 @@ impl<F: Fn(&mut Cursor<'_>, usize, Part) -> Result<Expr, Fault>> Grammar<F> {
     /// What stands behind the first expression.
     #[inline(never)]
     #[tactic(auto, unfolding(setl_parse_reading::specs::code::ReadExpressions::rest_of_inner))]
-    fn rest_of_inner(&self, a: Expr, tokens: &mut Cursor<'_>) -> Result<Inner, Fault>
+    fn rest_of_inner(&self, a: Boxed<Expr>, tokens: &mut Cursor<'_>) -> Result<Inner, Fault>
         requires { Nests self.now.room (F.pre self.now.inside) (F.post self.now.inside) }
         ensures { Reads (spec.rest_of_inner (self.now.room - 1) (nested self.now.room) a tokens.old) result tokens.new }
     {
         if same_kind(tokens.kind(), Kind::Dots) {
             let (a, last) = self.boxed_behind(a, Kind::Dots, tokens)?;
-            return range(tokens.alloc(), a, last);
+            return Ok(Inner::Range(a, None, last));
         }
         self.unranged(a, tokens)
     }
@@ -166,7 +196,7 @@ impl<F: Fn(&mut Cursor<'_>, usize, Part) -> Result<Expr, Fault>> Grammar<F> {
         if closes(tokens.kind()) {
             return Ok(Inner::List(Items::new(tokens.alloc())));
         }
-        let a = self.expr(tokens)?;
+        let a = self.boxed(tokens)?;
         self.rest_of_inner(a, tokens)
     }
 
@@ -212,8 +242,7 @@ impl<F: Fn(&mut Cursor<'_>, usize, Part) -> Result<Expr, Fault>> Grammar<F> {
         ensures { Reads (parts.bound_in (self.now.room - 1) (nested self.now.room).source tokens.old) result tokens.new }
     {
         let bound = bound(self.room.saturating_sub(1), tokens)?;
-        let (bound, source) = self.over(bound, tokens)?;
-        boxed_second(tokens.alloc(), bound, source)
+        self.over(bound, tokens)
     }
 
     /// `bound in source`, and what goes on from them, where the bound may be an expression.
@@ -245,7 +274,8 @@ pub struct InnerRule<'g, F> {
     pub grammar: &'g Grammar<F>,
 }
 
-impl<'g, F: Fn(&mut Cursor<'_>, usize, Part) -> Result<Expr, Fault>> Rule for InnerRule<'g, F> {
+impl<'g, F: Fn(&mut Cursor<'_>, usize, Part) -> Result<Boxed<Expr>, Fault>> Rule
+    for InnerRule<'g, F> {
     type Out = Inner;
 
     ghost use Rattle.std.specs.Prelude.{◌-◌};

@@ -7,9 +7,10 @@ ghost use Rattle.setl_parse_reading.specs.code.ReadExpressions.{nested};
 ghost use Rattle.setl_parse_expressions.specs.code.Nests.{Nests};
 
 use crate::grammar::{Grammar, Part};
+use crate::made::over;
 use setl_parse_cursor::{Cursor, Rule, argument, pattern, same_kind, separated};
 use setl_parse_reading::Fault;
-use setl_tree::{Bound, Expr, Items, Iter, Kind, Text};
+use setl_tree::{Bound, Boxed, Expr, Items, Iter, Kind, Text};
 
 /// The map and its argument behind `value =`.
 #[tactic(auto, unfolding(setl_parse_reading::specs::code::ReadExpressions::image))]
@@ -27,7 +28,8 @@ struct IterRule<'g, F> {
     grammar: &'g Grammar<F>,
 }
 
-impl<'g, F: Fn(&mut Cursor<'_>, usize, Part) -> Result<Expr, Fault>> Rule for IterRule<'g, F> {
+impl<'g, F: Fn(&mut Cursor<'_>, usize, Part) -> Result<Boxed<Expr>, Fault>> Rule
+    for IterRule<'g, F> {
     type Out = Iter;
 
     ghost use Rattle.std.specs.Prelude.{◌-◌};
@@ -48,7 +50,7 @@ impl<'g, F: Fn(&mut Cursor<'_>, usize, Part) -> Result<Expr, Fault>> Rule for It
     }
 }
 
-impl<F: Fn(&mut Cursor<'_>, usize, Part) -> Result<Expr, Fault>> Grammar<F> {
+impl<F: Fn(&mut Cursor<'_>, usize, Part) -> Result<Boxed<Expr>, Fault>> Grammar<F> {
     /// An iterator behind its name.
     #[tactic(auto, unfolding(setl_parse_reading::specs::code::ReadExpressions::named_iter))]
     fn named_iter(&self, name: Text, tokens: &mut Cursor<'_>) -> Result<Iter, Fault>
@@ -60,7 +62,7 @@ impl<F: Fn(&mut Cursor<'_>, usize, Part) -> Result<Expr, Fault>> Grammar<F> {
             return image(self.room.saturating_sub(1), name, tokens);
         }
         let (name, source) = self.over(name, tokens)?;
-        Ok(Iter::Over(Bound::Name(name), source))
+        Ok(over(Bound::Name(name), source))
     }
 
     /// An iterator that binds the components of a pattern.
@@ -71,10 +73,11 @@ impl<F: Fn(&mut Cursor<'_>, usize, Part) -> Result<Expr, Fault>> Grammar<F> {
     {
         let slots = pattern(self.room.saturating_sub(1), tokens)?;
         let (slots, source) = self.over(slots, tokens)?;
-        Ok(Iter::Over(Bound::Pattern(slots), source))
+        Ok(over(Bound::Pattern(slots), source))
     }
 
     /// Iterators one nesting deeper, with commas between.
+    #[inline(never)]
     #[tactic(auto, unfolding(setl_parse_reading::specs::code::ReadExpressions::iters))]
     pub fn iters(&self, tokens: &mut Cursor<'_>) -> Result<Items<Iter>, Fault>
         requires { Nests self.now.room (F.pre self.now.inside) (F.post self.now.inside) }

@@ -4,10 +4,9 @@ ghost use Rattle.std.specs.Prelude.{◌≡◌, IfOk, IfErr};
 ghost use Rattle.setl_tree.specs.Operators as table;
 ghost use Rattle.setl_parse_reading.specs.code.Scan as scan;
 
-use setl_parse_cursor::boxed_second;
 use setl_parse_reading::Fault;
 use setl_tree::{
-    BinaryOp, Bound, Boxed, Expr, Inner, Items, Kind, Prefix, Relation, Selector, Slot,
+    BinaryOp, Bound, Boxed, Expr, Inner, Items, Iter, Kind, Prefix, Relation, Selector, Slot,
 };
 use std::alloc::{AllocError, Global};
 
@@ -27,52 +26,73 @@ pub fn constant(kind: Kind) -> Option<Expr>
     }
 }
 
+/// Operators with their right operands, taken out of their boxes.
+fn unboxed(
+    alloc: Global,
+    others: Items<(BinaryOp, Boxed<Expr>)>,
+) -> Result<Items<(BinaryOp, Expr)>, AllocError>
+    ensures { IfOk result (λ all. all ≡ others) }
+{
+    let mut found = Items::from_vec(Vec::with_capacity(alloc, others.len())?);
+    for (op, right) in others.into_vec() {
+        found.push((op, right.into_inner()))?;
+    }
+    Ok(found)
+}
+
 /// A chain of operators of one level, or its one operand alone.
-pub fn chain_of(first: Boxed<Expr>, others: Items<(BinaryOp, Expr)>) -> Expr
-    ensures { result ≡ table.chain_of first others }
+#[inline(never)]
+pub fn chain_of(
+    alloc: Global,
+    first: Boxed<Expr>,
+    others: Items<(BinaryOp, Boxed<Expr>)>,
+) -> Result<Boxed<Expr>, Fault>
+    ensures ok { IfOk result (λ e. e ≡ table.chain_of first others) }
+    ensures err { IfErr result (λ e. e ≡ Fault.Memory) }
 {
     if others.is_empty() {
-        return first.into_inner();
+        return Ok(first);
     }
-    Expr::Chain(first, others)
+    let others = unboxed(alloc, others)?;
+    Ok(Boxed::new(alloc, Expr::Chain(first, others))?)
 }
 
 /// An operand with its prefixes.
-pub fn prefixed(alloc: Global, prefixes: Items<Prefix>, operand: Expr) -> Result<Expr, Fault>
+pub fn prefixed(
+    alloc: Global,
+    prefixes: Items<Prefix>,
+    operand: Boxed<Expr>,
+) -> Result<Boxed<Expr>, Fault>
     ensures ok { IfOk result (λ e. e ≡ table.prefixed prefixes operand) }
     ensures err { IfErr result (λ e. e ≡ Fault.Memory) }
 {
     if prefixes.is_empty() {
         return Ok(operand);
     }
-    Ok(Expr::Prefixed(prefixes, Boxed::new(alloc, operand)?))
+    Ok(Boxed::new(alloc, Expr::Prefixed(prefixes, operand))?)
 }
 
 /// A primary expression with its selectors.
-pub fn selected(primary: Boxed<Expr>, selectors: Items<Selector>) -> Expr
-    ensures { result ≡ table.selected primary selectors }
+pub fn selected(
+    alloc: Global,
+    primary: Boxed<Expr>,
+    selectors: Items<Selector>,
+) -> Result<Boxed<Expr>, Fault>
+    ensures ok { IfOk result (λ e. e ≡ table.selected primary selectors) }
+    ensures err { IfErr result (λ e. e ≡ Fault.Memory) }
 {
     if selectors.is_empty() {
-        return primary.into_inner();
+        return Ok(primary);
     }
-    Expr::Selected(primary, selectors)
+    Ok(Boxed::new(alloc, Expr::Selected(primary, selectors))?)
 }
 
-/// `first .. last`
-pub fn range(alloc: Global, first: Expr, last: Boxed<Expr>) -> Result<Inner, Fault>
-    ensures ok { IfOk result (λ i. i ≡ Inner.Range first None last) }
-    ensures err { IfErr result (λ e. e ≡ Fault.Memory) }
+/// An iterator over the members of a source.
+#[inline(never)]
+pub fn over(bound: Bound, source: Boxed<Expr>) -> Iter
+    ensures { result ≡ Iter.Over bound source }
 {
-    Ok(Inner::Range(Boxed::new(alloc, first)?, None, last))
-}
-
-/// `first, second .. last`
-pub fn stepped(alloc: Global, between: (Expr, Expr), last: Boxed<Expr>) -> Result<Inner, Fault>
-    ensures ok { IfOk result (λ i. i ≡ Inner.Range between.0 (Some between.1) last) }
-    ensures err { IfErr result (λ e. e ≡ Fault.Memory) }
-{
-    let (first, second) = boxed_second(alloc, between.0, between.1)?;
-    Ok(Inner::Range(Boxed::new(alloc, first)?, Some(second), last))
+    Iter::Over(bound, source.into_inner())
 }
 
 /// A slot as the expression that has the same tokens.
@@ -108,10 +128,11 @@ fn bound_as_expr(alloc: Global, bound: Bound) -> Result<Expr, AllocError>
 }
 
 /// What a filter binds, as the expression that has the same tokens, compared by `in`.
-pub fn membership(alloc: Global, bound: Bound, source: Boxed<Expr>) -> Result<Expr, Fault>
+pub fn membership(alloc: Global, bound: Bound, source: Boxed<Expr>) -> Result<Boxed<Expr>, Fault>
     ensures ok { IfOk result (λ e. e ≡ Expr.Compare (scan.bound_expr bound) Relation.In source) }
     ensures err { IfErr result (λ e. e ≡ Fault.Memory) }
 {
     let left = bound_as_expr(alloc, bound)?;
-    Ok(Expr::Compare(Boxed::new(alloc, left)?, Relation::In, source))
+    let left = Boxed::new(alloc, left)?;
+    Ok(Boxed::new(alloc, Expr::Compare(left, Relation::In, source))?)
 }

@@ -8,22 +8,22 @@ ghost use Rattle.setl_parse_expressions.specs.code.Nests.{Nests, reader_of};
 use crate::grammar::{Grammar, Part};
 use setl_parse_cursor::{Cursor, Repeated, Rule, same_kind};
 use setl_parse_reading::Fault;
-use setl_tree::{Expr, Items, Iter, Kind, Selector};
+use setl_tree::{Boxed, Expr, Items, Iter, Kind, Selector};
 
 /// The fault of what may not be read, which is let go.
-fn refused<T: Drop>(_part: T, tokens: &mut Cursor<'_>) -> Result<Expr, Fault>
+fn refused<T: Drop>(_part: T, tokens: &mut Cursor<'_>) -> Result<Boxed<Expr>, Fault>
     ensures { Reads (refuse tokens.old) result tokens.new }
 {
     Err(tokens.refuse())
 }
 
 /// A part of expressions, by what reads the parts one nesting deeper.
-fn part_with<F: Fn(&mut Cursor<'_>, usize, Part) -> Result<Expr, Fault>>(
+fn part_with<F: Fn(&mut Cursor<'_>, usize, Part) -> Result<Boxed<Expr>, Fault>>(
     room: usize,
     inside: F,
     part: Part,
     tokens: &mut Cursor<'_>,
-) -> Result<Expr, Fault>
+) -> Result<Boxed<Expr>, Fault>
     requires { Nests room (F.pre inside) (F.post inside) }
     ensures { Reads (reader_of (spec.nested (suc room)) part tokens.old) result tokens.new }
 {
@@ -31,7 +31,7 @@ fn part_with<F: Fn(&mut Cursor<'_>, usize, Part) -> Result<Expr, Fault>>(
 }
 
 /// A part of expressions where so many nestings may still open around it.
-fn nested(tokens: &mut Cursor<'_>, room: usize, part: Part) -> Result<Expr, Fault>
+fn nested(tokens: &mut Cursor<'_>, room: usize, part: Part) -> Result<Boxed<Expr>, Fault>
     ensures { Reads (reader_of (spec.nested room) part tokens.old) result tokens.new }
 {
     if room == 0 {
@@ -45,18 +45,18 @@ fn nested(tokens: &mut Cursor<'_>, room: usize, part: Part) -> Result<Expr, Faul
 pub fn expr(room: usize, tokens: &mut Cursor<'_>) -> Result<Expr, Fault>
     ensures { Reads (spec.expr room tokens.old) result tokens.new }
 {
-    Grammar {
+    let grammar = Grammar {
         room,
         inside: nested,
-    }
-    .whole(tokens)
+    };
+    Ok(grammar.whole(tokens)?.into_inner())
 }
 
 /// Reads an expression inside a nesting that `room` still counts; at 0 always a syntax fault.
 pub fn nested_expr(room: usize, tokens: &mut Cursor<'_>) -> Result<Expr, Fault>
     ensures { Reads ((spec.nested room).expr tokens.old) result tokens.new }
 {
-    nested(tokens, room, Part::Whole)
+    Ok(nested(tokens, room, Part::Whole)?.into_inner())
 }
 
 /// `nested_expr` as a rule.

@@ -14,12 +14,11 @@ ghost use Rattle.setl_parse_expressions.specs.code.Parts as parts;
 
 use crate::chain::{Chain, chain_from};
 use crate::grammar::{Grammar, Part};
-use crate::inner::{ExprRule, InnerRule};
+use crate::inner::{BoxedRule, ExprRule, InnerRule};
 use crate::made::{constant, prefixed, selected};
 use setl_parse_cursor::{
-    Cursor, NotRule, PrefixRule, Repeated, Rule, SeparatedRule, begins_selector, boxed_second,
-    enclosed, followed, many, more_onto, one, open_quantifier, quantifier, relation_op, same_kind,
-    with_many,
+    Cursor, NotRule, PrefixRule, Repeated, Rule, SeparatedRule, begins_selector, enclosed,
+    followed, many, more_onto, one, open_quantifier, quantifier, relation_op, same_kind, with_many,
 };
 use setl_parse_reading::Fault;
 use setl_tree::{Boxed, Expr, Items, Kind, Prefix, Selector};
@@ -30,7 +29,8 @@ struct SelectorRule<'g, F> {
     grammar: &'g Grammar<F>,
 }
 
-impl<'g, F: Fn(&mut Cursor<'_>, usize, Part) -> Result<Expr, Fault>> Rule for SelectorRule<'g, F> {
+impl<'g, F: Fn(&mut Cursor<'_>, usize, Part) -> Result<Boxed<Expr>, Fault>> Rule
+    for SelectorRule<'g, F> {
     type Out = Selector;
 
     ghost use Rattle.std.specs.Prelude.{◌-◌};
@@ -51,7 +51,7 @@ impl<'g, F: Fn(&mut Cursor<'_>, usize, Part) -> Result<Expr, Fault>> Rule for Se
     }
 }
 
-impl<'g, F: Fn(&mut Cursor<'_>, usize, Part) -> Result<Expr, Fault>> Repeated
+impl<'g, F: Fn(&mut Cursor<'_>, usize, Part) -> Result<Boxed<Expr>, Fault>> Repeated
     for SelectorRule<'g, F> {
     ghost use Rattle.setl_parse_reading.specs.code.ReadExpressions.{begins_selector};
 
@@ -77,8 +77,9 @@ struct PrefixedRule<'g, F> {
     grammar: &'g Grammar<F>,
 }
 
-impl<'g, F: Fn(&mut Cursor<'_>, usize, Part) -> Result<Expr, Fault>> Rule for PrefixedRule<'g, F> {
-    type Out = Expr;
+impl<'g, F: Fn(&mut Cursor<'_>, usize, Part) -> Result<Boxed<Expr>, Fault>> Rule
+    for PrefixedRule<'g, F> {
+    type Out = Boxed<Expr>;
 
     ghost use Rattle.std.specs.Prelude.{◌-◌};
     ghost use Rattle.setl_parse_reading.specs.code.ReadExpressions.{nested, e11};
@@ -89,7 +90,7 @@ impl<'g, F: Fn(&mut Cursor<'_>, usize, Part) -> Result<Expr, Fault>> Rule for Pr
     ghost reader = { λ s. e11 s.grammar.now.room (nested s.grammar.now.room) };
 
     #[tactic(auto, unfolding(setl_parse_reading::specs::code::ReadExpressions::e11, setl_parse_reading::specs::code::ReadExpressions::e12))]
-    fn read(&self, tokens: &mut Cursor<'_>) -> Result<Expr, Fault> {
+    fn read(&self, tokens: &mut Cursor<'_>) -> Result<Boxed<Expr>, Fault> {
         let prefixes = read_prefixes(tokens)?;
         let primary = self.grammar.primary(tokens)?;
         self.grammar.operand_from(prefixes, primary, tokens)
@@ -109,8 +110,9 @@ struct ComparedRule<'g, F> {
     grammar: &'g Grammar<F>,
 }
 
-impl<'g, F: Fn(&mut Cursor<'_>, usize, Part) -> Result<Expr, Fault>> Rule for ComparedRule<'g, F> {
-    type Out = Expr;
+impl<'g, F: Fn(&mut Cursor<'_>, usize, Part) -> Result<Boxed<Expr>, Fault>> Rule
+    for ComparedRule<'g, F> {
+    type Out = Boxed<Expr>;
 
     ghost use Rattle.std.specs.Prelude.{◌-◌};
     ghost use Rattle.setl_parse_reading.specs.code.ReadExpressions.{nested, e5};
@@ -121,21 +123,20 @@ impl<'g, F: Fn(&mut Cursor<'_>, usize, Part) -> Result<Expr, Fault>> Rule for Co
     ghost reader = { λ s. e5 s.grammar.now.room (nested s.grammar.now.room) };
 
     #[tactic(auto, unfolding(setl_parse_reading::specs::code::ReadExpressions::e5, setl_parse_reading::specs::code::ReadExpressions::nots))]
-    fn read(&self, tokens: &mut Cursor<'_>) -> Result<Expr, Fault> {
+    fn read(&self, tokens: &mut Cursor<'_>) -> Result<Boxed<Expr>, Fault> {
         let nots = many(&NotRule, tokens)?;
         let operand = self.grammar.e6(tokens)?;
         prefixed(tokens.alloc(), nots, operand)
     }
 }
 
-impl<F: Fn(&mut Cursor<'_>, usize, Part) -> Result<Expr, Fault>> Grammar<F> {
+impl<F: Fn(&mut Cursor<'_>, usize, Part) -> Result<Boxed<Expr>, Fault>> Grammar<F> {
     /// A slice behind `( expr ..`.
     #[tactic(auto, unfolding(setl_parse_reading::specs::code::ReadExpressions::slice))]
-    fn slice(&self, from: Expr, tokens: &mut Cursor<'_>) -> Result<Selector, Fault>
+    fn slice(&self, from: Boxed<Expr>, tokens: &mut Cursor<'_>) -> Result<Selector, Fault>
         requires { Nests self.now.room (F.pre self.now.inside) (F.post self.now.inside) }
         ensures { Reads (spec.slice self.now.room (nested self.now.room) from tokens.old) result tokens.new }
     {
-        let from = Boxed::new(tokens.alloc(), from)?;
         if same_kind(tokens.kind(), Kind::RightParen) {
             let from = followed(from, Kind::RightParen, tokens)?;
             return Ok(Selector::Slice(from, None));
@@ -146,7 +147,7 @@ impl<F: Fn(&mut Cursor<'_>, usize, Part) -> Result<Expr, Fault>> Grammar<F> {
 
     /// What stands behind `( expr`.
     #[tactic(auto, unfolding(setl_parse_reading::specs::code::ReadExpressions::arguments))]
-    fn arguments(&self, first: Expr, tokens: &mut Cursor<'_>) -> Result<Selector, Fault>
+    fn arguments(&self, first: Boxed<Expr>, tokens: &mut Cursor<'_>) -> Result<Selector, Fault>
         requires { Nests self.now.room (F.pre self.now.inside) (F.post self.now.inside) }
         ensures { Reads (spec.arguments self.now.room (nested self.now.room) first tokens.old) result tokens.new }
     {
@@ -154,7 +155,7 @@ impl<F: Fn(&mut Cursor<'_>, usize, Part) -> Result<Expr, Fault>> Grammar<F> {
             let first = followed(first, Kind::Dots, tokens)?;
             return self.slice(first, tokens);
         }
-        let first = one(tokens.alloc(), first)?;
+        let first = one(tokens.alloc(), first.into_inner())?;
         let all = more_onto(first, &ExprRule { grammar: self }, tokens)?;
         Ok(Selector::Round(followed(all, Kind::RightParen, tokens)?))
     }
@@ -169,7 +170,7 @@ impl<F: Fn(&mut Cursor<'_>, usize, Part) -> Result<Expr, Fault>> Grammar<F> {
             tokens.expect(Kind::RightParen)?;
             return Ok(Selector::Round(Items::new(tokens.alloc())));
         }
-        let first = self.expr(tokens)?;
+        let first = self.boxed(tokens)?;
         self.arguments(first, tokens)
     }
 
@@ -188,11 +189,11 @@ impl<F: Fn(&mut Cursor<'_>, usize, Part) -> Result<Expr, Fault>> Grammar<F> {
 
     /// An expression in round brackets.
     #[tactic(auto, unfolding(setl_parse_reading::specs::code::ReadExpressions::parenthesized))]
-    fn parenthesized(&self, tokens: &mut Cursor<'_>) -> Result<Expr, Fault>
+    fn parenthesized(&self, tokens: &mut Cursor<'_>) -> Result<Boxed<Expr>, Fault>
         requires { Nests self.now.room (F.pre self.now.inside) (F.post self.now.inside) }
         ensures { Reads (spec.parenthesized self.now.room (nested self.now.room) tokens.old) result tokens.new }
     {
-        let inside = ExprRule { grammar: self };
+        let inside = BoxedRule { grammar: self };
         enclosed(
             self.room,
             Kind::LeftParen,
@@ -214,30 +215,30 @@ impl<F: Fn(&mut Cursor<'_>, usize, Part) -> Result<Expr, Fault>> Grammar<F> {
 
     /// `if condition then value else other end`
     #[tactic(auto, unfolding(setl_parse_reading::specs::code::ReadExpressions::if_expr))]
-    fn if_expr(&self, tokens: &mut Cursor<'_>) -> Result<Expr, Fault>
+    fn if_expr(&self, tokens: &mut Cursor<'_>) -> Result<Boxed<Expr>, Fault>
         requires { Nests self.now.room (F.pre self.now.inside) (F.post self.now.inside) }
         ensures { Reads (spec.if_expr self.now.room (nested self.now.room) tokens.old) result tokens.new }
     {
         tokens.open(self.room, Kind::If)?;
         let condition = self.boxed_before(Kind::Then, tokens)?;
         let (value, other) = self.branches(tokens)?;
-        Ok(Expr::If(condition, value, other))
+        Ok(Boxed::new(tokens.alloc(), Expr::If(condition, value, other))?)
     }
 
     /// A set in its brackets.
     #[tactic(auto, unfolding(setl_parse_reading::specs::code::ReadExpressions::set))]
-    fn set(&self, tokens: &mut Cursor<'_>) -> Result<Expr, Fault>
+    fn set(&self, tokens: &mut Cursor<'_>) -> Result<Boxed<Expr>, Fault>
         requires { Nests self.now.room (F.pre self.now.inside) (F.post self.now.inside) }
         ensures { Reads (spec.set self.now.room (nested self.now.room) tokens.old) result tokens.new }
     {
         let inner = InnerRule { grammar: self };
         let inner = enclosed(self.room, Kind::LeftBrace, &inner, Kind::RightBrace, tokens)?;
-        Ok(Expr::Set(inner))
+        Ok(Boxed::new(tokens.alloc(), Expr::Set(inner))?)
     }
 
     /// A tuple in its brackets.
     #[tactic(auto, unfolding(setl_parse_reading::specs::code::ReadExpressions::tuple))]
-    fn tuple(&self, tokens: &mut Cursor<'_>) -> Result<Expr, Fault>
+    fn tuple(&self, tokens: &mut Cursor<'_>) -> Result<Boxed<Expr>, Fault>
         requires { Nests self.now.room (F.pre self.now.inside) (F.post self.now.inside) }
         ensures { Reads (spec.tuple self.now.room (nested self.now.room) tokens.old) result tokens.new }
     {
@@ -249,40 +250,41 @@ impl<F: Fn(&mut Cursor<'_>, usize, Part) -> Result<Expr, Fault>> Grammar<F> {
             Kind::RightBracket,
             tokens,
         )?;
-        Ok(Expr::Tuple(inner))
+        Ok(Boxed::new(tokens.alloc(), Expr::Tuple(inner))?)
     }
 
     /// A number.
-    fn number(&self, tokens: &mut Cursor<'_>) -> Result<Expr, Fault>
+    fn number(&self, tokens: &mut Cursor<'_>) -> Result<Boxed<Expr>, Fault>
         requires { Nests self.now.room (F.pre self.now.inside) (F.post self.now.inside) }
         ensures { Reads (spec.primary_by self.now.room (nested self.now.room) k.Number tokens.old) result tokens.new }
     {
         let value = tokens.value();
         tokens.expect(Kind::Number)?;
-        Ok(Expr::Number(value))
+        Ok(Boxed::new(tokens.alloc(), Expr::Number(value))?)
     }
 
     /// A string.
-    fn string(&self, tokens: &mut Cursor<'_>) -> Result<Expr, Fault>
+    fn string(&self, tokens: &mut Cursor<'_>) -> Result<Boxed<Expr>, Fault>
         requires { Nests self.now.room (F.pre self.now.inside) (F.post self.now.inside) }
         ensures { Reads (spec.primary_by self.now.room (nested self.now.room) k.StringLiteral tokens.old) result tokens.new }
     {
         let text = tokens.text()?;
         tokens.expect(Kind::StringLiteral)?;
-        Ok(Expr::Text(text))
+        Ok(Boxed::new(tokens.alloc(), Expr::Text(text))?)
     }
 
     /// A name.
-    fn name(&self, tokens: &mut Cursor<'_>) -> Result<Expr, Fault>
+    fn name(&self, tokens: &mut Cursor<'_>) -> Result<Boxed<Expr>, Fault>
         requires { Nests self.now.room (F.pre self.now.inside) (F.post self.now.inside) }
         ensures { Reads (spec.primary_by self.now.room (nested self.now.room) k.Name tokens.old) result tokens.new }
     {
-        Ok(Expr::Name(tokens.name()?))
+        let name = tokens.name()?;
+        Ok(Boxed::new(tokens.alloc(), Expr::Name(name))?)
     }
 
     /// A primary expression.
     #[tactic(auto, unfolding(setl_parse_reading::specs::code::ReadExpressions::primary, setl_parse_reading::specs::code::Reading::one_of))]
-    fn primary(&self, tokens: &mut Cursor<'_>) -> Result<Expr, Fault>
+    fn primary(&self, tokens: &mut Cursor<'_>) -> Result<Boxed<Expr>, Fault>
         requires { Nests self.now.room (F.pre self.now.inside) (F.post self.now.inside) }
         ensures { Reads (spec.primary self.now.room (nested self.now.room) tokens.old) result tokens.new }
     {
@@ -299,7 +301,7 @@ impl<F: Fn(&mut Cursor<'_>, usize, Part) -> Result<Expr, Fault>> Grammar<F> {
                     return Err(tokens.refuse());
                 };
                 tokens.pass();
-                Ok(word)
+                Ok(Boxed::new(tokens.alloc(), word)?)
             }
         }
     }
@@ -307,16 +309,15 @@ impl<F: Fn(&mut Cursor<'_>, usize, Part) -> Result<Expr, Fault>> Grammar<F> {
     /// A primary expression, from which the selectors behind it select.
     #[inline(never)]
     #[tactic(auto, using(crate::proofs::Many::none_begins), unfolding(setl_parse_reading::specs::code::ReadExpressions::selectors))]
-    fn selection(&self, primary: Expr, tokens: &mut Cursor<'_>) -> Result<Expr, Fault>
+    fn selection(&self, primary: Boxed<Expr>, tokens: &mut Cursor<'_>) -> Result<Boxed<Expr>, Fault>
         requires { Nests self.now.room (F.pre self.now.inside) (F.post self.now.inside) }
         ensures { Reads (parts.selection self.now.room (nested self.now.room) primary tokens.old) result tokens.new }
     {
         if !begins_selector(tokens.kind()) {
             return Ok(primary);
         }
-        let primary = Boxed::new(tokens.alloc(), primary)?;
         let (primary, selectors) = with_many(primary, &SelectorRule { grammar: self }, tokens)?;
-        Ok(selected(primary, selectors))
+        selected(tokens.alloc(), primary, selectors)
     }
 
     /// An operand from its primary expression on.
@@ -324,9 +325,9 @@ impl<F: Fn(&mut Cursor<'_>, usize, Part) -> Result<Expr, Fault>> Grammar<F> {
     fn operand_from(
         &self,
         prefixes: Items<Prefix>,
-        primary: Expr,
+        primary: Boxed<Expr>,
         tokens: &mut Cursor<'_>,
-    ) -> Result<Expr, Fault>
+    ) -> Result<Boxed<Expr>, Fault>
         requires { Nests self.now.room (F.pre self.now.inside) (F.post self.now.inside) }
         ensures { Reads (parts.operand_from self.now.room (nested self.now.room) prefixes primary tokens.old) result tokens.new }
     {
@@ -336,7 +337,7 @@ impl<F: Fn(&mut Cursor<'_>, usize, Part) -> Result<Expr, Fault>> Grammar<F> {
 
     /// What comparisons compare.
     #[tactic(auto, unfolding(setl_parse_reading::specs::code::ReadExpressions::e7, setl_parse_reading::specs::code::ReadExpressions::e11, setl_parse_reading::specs::code::ReadExpressions::e12))]
-    pub fn e7(&self, tokens: &mut Cursor<'_>) -> Result<Expr, Fault>
+    pub fn e7(&self, tokens: &mut Cursor<'_>) -> Result<Boxed<Expr>, Fault>
         requires { Nests self.now.room (F.pre self.now.inside) (F.post self.now.inside) }
         ensures { Reads (spec.e7 self.now.room (nested self.now.room) tokens.old) result tokens.new }
     {
@@ -350,9 +351,9 @@ impl<F: Fn(&mut Cursor<'_>, usize, Part) -> Result<Expr, Fault>> Grammar<F> {
     fn sum_from(
         &self,
         prefixes: Items<Prefix>,
-        primary: Expr,
+        primary: Boxed<Expr>,
         tokens: &mut Cursor<'_>,
-    ) -> Result<Expr, Fault>
+    ) -> Result<Boxed<Expr>, Fault>
         requires { Nests self.now.room (F.pre self.now.inside) (F.post self.now.inside) }
         ensures { Reads (parts.sum_from self.now.room (nested self.now.room) prefixes primary tokens.old) result tokens.new }
     {
@@ -362,7 +363,7 @@ impl<F: Fn(&mut Cursor<'_>, usize, Part) -> Result<Expr, Fault>> Grammar<F> {
 
     /// What goes on from an operand of `**` with operators that bind as `*` or more tightly.
     #[inline(never)]
-    fn after_product(&self, a: Expr, tokens: &mut Cursor<'_>) -> Result<Expr, Fault>
+    fn after_product(&self, a: Boxed<Expr>, tokens: &mut Cursor<'_>) -> Result<Boxed<Expr>, Fault>
         requires { Nests self.now.room (F.pre self.now.inside) (F.post self.now.inside) }
         ensures { Reads (spec.levels_from 10 (spec.e11 self.now.room (nested self.now.room)) 2 a tokens.old) result tokens.new }
     {
@@ -376,7 +377,7 @@ impl<F: Fn(&mut Cursor<'_>, usize, Part) -> Result<Expr, Fault>> Grammar<F> {
 
     /// What goes on from an operand of `**` with operators that bind as `+` or more tightly.
     #[inline(never)]
-    fn after_sum(&self, a: Expr, tokens: &mut Cursor<'_>) -> Result<Expr, Fault>
+    fn after_sum(&self, a: Boxed<Expr>, tokens: &mut Cursor<'_>) -> Result<Boxed<Expr>, Fault>
         requires { Nests self.now.room (F.pre self.now.inside) (F.post self.now.inside) }
         ensures { Reads (spec.levels_from 10 (spec.e11 self.now.room (nested self.now.room)) 3 a tokens.old) result tokens.new }
     {
@@ -394,7 +395,7 @@ impl<F: Fn(&mut Cursor<'_>, usize, Part) -> Result<Expr, Fault>> Grammar<F> {
 
     /// What goes on from an operand of `**`.
     #[inline(never)]
-    fn after_operand(&self, a: Expr, tokens: &mut Cursor<'_>) -> Result<Expr, Fault>
+    fn after_operand(&self, a: Boxed<Expr>, tokens: &mut Cursor<'_>) -> Result<Boxed<Expr>, Fault>
         requires { Nests self.now.room (F.pre self.now.inside) (F.post self.now.inside) }
         ensures { Reads (spec.levels_from 10 (spec.e11 self.now.room (nested self.now.room)) 4 a tokens.old) result tokens.new }
     {
@@ -424,13 +425,13 @@ impl<F: Fn(&mut Cursor<'_>, usize, Part) -> Result<Expr, Fault>> Grammar<F> {
         ensures { Reads (behind.beside left (spec.e7 self.now.room (nested self.now.room)) tokens.old) result tokens.new }
     {
         let right = self.e7(tokens)?;
-        boxed_second(tokens.alloc(), left, right)
+        Ok((left, right))
     }
 
     /// What goes on from the left side of a comparison.
     #[inline(never)]
     #[tactic(auto, unfolding(setl_parse_reading::specs::code::ReadExpressions::compared, setl_parse_reading::specs::code::Reading::one_of))]
-    fn compared(&self, a: Expr, tokens: &mut Cursor<'_>) -> Result<Expr, Fault>
+    fn compared(&self, a: Boxed<Expr>, tokens: &mut Cursor<'_>) -> Result<Boxed<Expr>, Fault>
         requires { Nests self.now.room (F.pre self.now.inside) (F.post self.now.inside) }
         ensures { Reads (spec.compared self.now.room (nested self.now.room) a tokens.old) result tokens.new }
     {
@@ -438,14 +439,13 @@ impl<F: Fn(&mut Cursor<'_>, usize, Part) -> Result<Expr, Fault>> Grammar<F> {
             return Ok(a);
         };
         tokens.pass();
-        let a = Boxed::new(tokens.alloc(), a)?;
         let (a, b) = self.compared_with(a, tokens)?;
-        Ok(Expr::Compare(a, op, b))
+        Ok(Boxed::new(tokens.alloc(), Expr::Compare(a, op, b))?)
     }
 
     /// A comparison, or what comparisons compare.
     #[tactic(auto, unfolding(setl_parse_reading::specs::code::ReadExpressions::e6))]
-    fn e6(&self, tokens: &mut Cursor<'_>) -> Result<Expr, Fault>
+    fn e6(&self, tokens: &mut Cursor<'_>) -> Result<Boxed<Expr>, Fault>
         requires { Nests self.now.room (F.pre self.now.inside) (F.post self.now.inside) }
         ensures { Reads (spec.e6 self.now.room (nested self.now.room) tokens.old) result tokens.new }
     {
@@ -469,9 +469,9 @@ impl<F: Fn(&mut Cursor<'_>, usize, Part) -> Result<Expr, Fault>> Grammar<F> {
     fn after_primary(
         &self,
         before: Before,
-        primary: Expr,
+        primary: Boxed<Expr>,
         tokens: &mut Cursor<'_>,
-    ) -> Result<Expr, Fault>
+    ) -> Result<Boxed<Expr>, Fault>
         requires { Nests self.now.room (F.pre self.now.inside) (F.post self.now.inside) }
         ensures { Reads (parts.comparison_from self.now.room (nested self.now.room) before primary tokens.old) result tokens.new }
     {
@@ -483,7 +483,12 @@ impl<F: Fn(&mut Cursor<'_>, usize, Part) -> Result<Expr, Fault>> Grammar<F> {
 
     /// What goes on from a primary expression.
     #[inline(never)]
-    fn go_on(&self, before: Before, primary: Expr, tokens: &mut Cursor<'_>) -> Result<Expr, Fault>
+    fn go_on(
+        &self,
+        before: Before,
+        primary: Boxed<Expr>,
+        tokens: &mut Cursor<'_>,
+    ) -> Result<Boxed<Expr>, Fault>
         requires { Nests self.now.room (F.pre self.now.inside) (F.post self.now.inside) }
         ensures { Reads (parts.go_on self.now.room (nested self.now.room) before primary tokens.old) result tokens.new }
     {
@@ -493,7 +498,7 @@ impl<F: Fn(&mut Cursor<'_>, usize, Part) -> Result<Expr, Fault>> Grammar<F> {
 
     /// An expression that is no quantifier, whose primary expression has words or signs before it.
     #[inline(never)]
-    fn prefixed_expression(&self, tokens: &mut Cursor<'_>) -> Result<Expr, Fault>
+    fn prefixed_expression(&self, tokens: &mut Cursor<'_>) -> Result<Boxed<Expr>, Fault>
         requires { Nests self.now.room (F.pre self.now.inside) (F.post self.now.inside) }
         ensures { Reads (parts.expression self.now.room (nested self.now.room) tokens.old) result tokens.new }
     {
@@ -503,7 +508,7 @@ impl<F: Fn(&mut Cursor<'_>, usize, Part) -> Result<Expr, Fault>> Grammar<F> {
     }
 
     /// An expression that is no quantifier, whose primary expression stands in front.
-    fn bare_expression(&self, tokens: &mut Cursor<'_>) -> Result<Expr, Fault>
+    fn bare_expression(&self, tokens: &mut Cursor<'_>) -> Result<Boxed<Expr>, Fault>
         requires { Nests self.now.room (F.pre self.now.inside) (F.post self.now.inside) }
         ensures { Reads (parts.bare_expression self.now.room (nested self.now.room) tokens.old) result tokens.new }
     {
@@ -513,7 +518,11 @@ impl<F: Fn(&mut Cursor<'_>, usize, Part) -> Result<Expr, Fault>> Grammar<F> {
 
     /// What goes on from a primary expression that stands in front.
     #[inline(never)]
-    fn go_on_bare(&self, primary: Expr, tokens: &mut Cursor<'_>) -> Result<Expr, Fault>
+    fn go_on_bare(
+        &self,
+        primary: Boxed<Expr>,
+        tokens: &mut Cursor<'_>,
+    ) -> Result<Boxed<Expr>, Fault>
         requires { Nests self.now.room (F.pre self.now.inside) (F.post self.now.inside) }
         ensures { Reads (parts.go_on self.now.room (nested self.now.room) (record { nots = []; prefixes = [] }) primary tokens.old) result tokens.new }
     {
@@ -528,7 +537,7 @@ impl<F: Fn(&mut Cursor<'_>, usize, Part) -> Result<Expr, Fault>> Grammar<F> {
     /// An expression that is no quantifier. While its primary expression is read, nothing else is kept than what stands
     /// before it.
     #[tactic(auto, using(crate::proofs::Many::bare_is))]
-    fn expression(&self, tokens: &mut Cursor<'_>) -> Result<Expr, Fault>
+    fn expression(&self, tokens: &mut Cursor<'_>) -> Result<Boxed<Expr>, Fault>
         requires { Nests self.now.room (F.pre self.now.inside) (F.post self.now.inside) }
         ensures { Reads (parts.expression self.now.room (nested self.now.room) tokens.old) result tokens.new }
     {
@@ -540,7 +549,7 @@ impl<F: Fn(&mut Cursor<'_>, usize, Part) -> Result<Expr, Fault>> Grammar<F> {
 
     /// An expression that is no quantifier.
     #[tactic(auto, unfolding(setl_parse_reading::specs::code::ReadExpressions::e2, setl_parse_reading::specs::code::ReadExpressions::e5, setl_parse_reading::specs::code::ReadExpressions::e6, setl_parse_reading::specs::code::ReadExpressions::e7, setl_parse_reading::specs::code::ReadExpressions::e11, setl_parse_reading::specs::code::ReadExpressions::e12, setl_parse_reading::specs::code::ReadExpressions::after))]
-    fn e2(&self, tokens: &mut Cursor<'_>) -> Result<Expr, Fault>
+    fn e2(&self, tokens: &mut Cursor<'_>) -> Result<Boxed<Expr>, Fault>
         requires { Nests self.now.room (F.pre self.now.inside) (F.post self.now.inside) }
         ensures { Reads (spec.e2 self.now.room (nested self.now.room) tokens.old) result tokens.new }
     {
@@ -549,7 +558,7 @@ impl<F: Fn(&mut Cursor<'_>, usize, Part) -> Result<Expr, Fault>> Grammar<F> {
 
     /// What goes on from an operand of `and` with operators that bind as `or` or more tightly.
     #[inline(never)]
-    fn after_either(&self, a: Expr, tokens: &mut Cursor<'_>) -> Result<Expr, Fault>
+    fn after_either(&self, a: Boxed<Expr>, tokens: &mut Cursor<'_>) -> Result<Boxed<Expr>, Fault>
         requires { Nests self.now.room (F.pre self.now.inside) (F.post self.now.inside) }
         ensures { Reads (spec.levels_from 4 (spec.e5 self.now.room (nested self.now.room)) 2 a tokens.old) result tokens.new }
     {
@@ -564,7 +573,11 @@ impl<F: Fn(&mut Cursor<'_>, usize, Part) -> Result<Expr, Fault>> Grammar<F> {
     /// What goes on from an operand of `and`.
     #[inline(never)]
     #[tactic(auto, unfolding(setl_parse_reading::specs::code::ReadExpressions::after))]
-    pub fn after_comparison(&self, a: Expr, tokens: &mut Cursor<'_>) -> Result<Expr, Fault>
+    pub fn after_comparison(
+        &self,
+        a: Boxed<Expr>,
+        tokens: &mut Cursor<'_>,
+    ) -> Result<Boxed<Expr>, Fault>
         requires { Nests self.now.room (F.pre self.now.inside) (F.post self.now.inside) }
         ensures { Reads (spec.after self.now.room (nested self.now.room) a tokens.old) result tokens.new }
     {
@@ -583,19 +596,20 @@ impl<F: Fn(&mut Cursor<'_>, usize, Part) -> Result<Expr, Fault>> Grammar<F> {
     /// `exists iterators | condition` and the like.
     #[inline(never)]
     #[tactic(auto, unfolding(setl_parse_reading::specs::code::ReadExpressions::quantified, setl_parse_reading::specs::code::Reading::opening_one_of))]
-    fn quantified(&self, tokens: &mut Cursor<'_>) -> Result<Expr, Fault>
+    fn quantified(&self, tokens: &mut Cursor<'_>) -> Result<Boxed<Expr>, Fault>
         requires { Nests self.now.room (F.pre self.now.inside) (F.post self.now.inside) }
         ensures { Reads (spec.quantified self.now.room (nested self.now.room) tokens.old) result tokens.new }
     {
         let quantifier = open_quantifier(self.room, tokens)?;
         let over = self.iters(tokens)?;
         let (over, condition) = self.boxed_behind(over, Kind::Bar, tokens)?;
-        Ok(Expr::Quantified(quantifier, over, condition))
+        let made = Expr::Quantified(quantifier, over, condition);
+        Ok(Boxed::new(tokens.alloc(), made)?)
     }
 
     /// An expression.
     #[tactic(auto, unfolding(setl_parse_reading::specs::code::ReadExpressions::whole))]
-    pub fn whole(&self, tokens: &mut Cursor<'_>) -> Result<Expr, Fault>
+    pub fn whole(&self, tokens: &mut Cursor<'_>) -> Result<Boxed<Expr>, Fault>
         requires { Nests self.now.room (F.pre self.now.inside) (F.post self.now.inside) }
         ensures { Reads (spec.whole self.now.room (nested self.now.room) tokens.old) result tokens.new }
     {
@@ -607,7 +621,7 @@ impl<F: Fn(&mut Cursor<'_>, usize, Part) -> Result<Expr, Fault>> Grammar<F> {
 
     /// A part of expressions.
     #[tactic(auto, unfolding(setl_parse_reading::specs::code::ReadExpressions::nested))]
-    pub fn part(&self, part: Part, tokens: &mut Cursor<'_>) -> Result<Expr, Fault>
+    pub fn part(&self, part: Part, tokens: &mut Cursor<'_>) -> Result<Boxed<Expr>, Fault>
         requires { Nests self.now.room (F.pre self.now.inside) (F.post self.now.inside) }
         ensures { Reads (reader_of (nested (suc self.now.room)) part tokens.old) result tokens.new }
     {
