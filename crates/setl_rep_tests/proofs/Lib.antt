@@ -1,0 +1,3 @@
+mod Keeping
+mod Walking
+mod Changing
