@@ -41,4 +41,4 @@ at_end reach stops nothing c modes input turns d n t u e main bare r within g = 
     go (Ends f v) h =
         let same = nothing c modes s.0 v f main bare h in
         let j = step_more (machine c) (tested modes) n (code_first c input turns) s.0 (Ends f v) s.1 h in
-        record { steps = j.0; end = f; last = v; ends = j.1; written = same.0 ∙ sym (ap (λ (x : State CodeCore). x.out) s.2); told = same.1 ∙ sym (ap (λ (x : State CodeCore). x.events) s.2) }
+        record { steps = suc n; end = f; last = v; ends = j; written = same.0 ∙ sym (ap (λ (x : State CodeCore). x.out) s.2); told = same.1 ∙ sym (ap (λ (x : State CodeCore). x.events) s.2) }

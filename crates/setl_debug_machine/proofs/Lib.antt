@@ -1,4 +1,5 @@
 mod Counting
+mod Turns
 mod Reaching
 mod Stepping
 mod Starting
@@ -8,6 +9,7 @@ mod Cutting
 mod Screening
 mod Bodies
 mod Seen
+mod Lasting
 mod Slots
 mod Shown
 mod Adding

@@ -23,6 +23,7 @@ use Rattle.setl_debug_machine.specs.declared.walk.Walk.{Walk}
 use Rattle.setl_debug_machine.proofs.Counting.{stores_counted}
 use Rattle.setl_debug_machine.proofs.Cutting.{CutThere, out_of_turns, at_end}
 use Rattle.setl_debug_machine.proofs.Screening.{screen_with, cut_screen}
+use Rattle.setl_debug_machine.proofs.Turns.{difference, enough_left, too_few_left}
 
 pub record Laws : Type 0 where
   pub ends : CodeEndsAlike
@@ -33,19 +34,6 @@ pub record Laws : Type 0 where
   pub left : TurnsNeverGrow
   pub nothing : EndsChangeNothing
   pub body : BodyIsInHand
-
--- ---- turns
-
-difference : (most turns : ℕ) → turns ≤ most → most ≡ turns + (most - turns)
-difference most turns h = omega arith
-
--- as many are left as there are more, where no more were taken than there are
-enough_left : (most turns left taken : ℕ) → turns ≤ most → left ≤ most → taken ≡ most - left → taken ≤ turns → most - turns ≤ left
-enough_left most turns left taken a b c d = omega arith
-
--- fewer are left where more were taken than there are
-too_few_left : (most turns left control : ℕ) → left ≡ control → turns < most - control → left < most - turns
-too_few_left most turns left control a b = omega arith
 
 -- ---- the run with so many turns
 
@@ -74,10 +62,9 @@ module _ (laws : Laws) (s : Subject) (ready : IsReady s) where
   -- it ends after what a walk has counted
   walk_cut : (turns : ℕ) (w : Walk) → turns ≤ most_turns → (is : IsWalk s.declarations input w) → IsAtTurns turns w → CutThere code modes input turns is.at.out is.at.events
   walk_cut turns w within is here =
-      let n = is.reached.0 in
-      let left : is.at.core.world.left ≤ most_turns = laws.left code (tested modes) n (code_first code input most_turns) is.at is.reached.1 in
-      let reached : code_run s.declarations input (turns + (most_turns - turns)) n ≡ Goes is.at = subst (λ k. code_run s.declarations input k n ≡ Goes is.at) (difference most_turns turns within) is.reached.1 in
-      cut_by turns n is.at w.machine w.ahead reached (enough_left most_turns turns is.at.core.world.left w.tally.turns within left is.counted.turns here.within) is.next here.last
+      let left : is.at.core.world.left ≤ most_turns = laws.left code (tested modes) w.steps (code_first code input most_turns) is.at is.reached in
+      let reached : code_run s.declarations input (turns + (most_turns - turns)) w.steps ≡ Goes is.at = subst (λ k. code_run s.declarations input k w.steps ≡ Goes is.at) (difference most_turns turns within) is.reached in
+      cut_by turns w.steps is.at w.machine w.ahead reached (enough_left most_turns turns is.at.core.world.left w.tally.turns within left is.counted.turns here.within) is.next here.last
 
   -- ---- what is seen
 

@@ -21,7 +21,7 @@ use Rattle.setl_debug_screen.specs.Shown.{IsShown, procedure_in_hand}
 use Rattle.setl_debug_screen.specs.code.Standing.{held_lines, state_by}
 use Rattle.setl_debug_machine.specs.code.Machines.{EndsIn, end_by}
 use Rattle.setl_debug_machine.specs.code.Walks.{AddsPart, IsReady, run_by}
-use Rattle.setl_debug_machine.specs.declared.finishing.Finished.{Finished}
+use Rattle.setl_debug_machine.specs.declared.follower.Ending.{Ending}
 use Rattle.setl_debug_machine.specs.declared.subject.Subject.{Subject}
 use Rattle.setl_debug_machine.proofs.Screening.{EndsBoth, ends_both, screen_with, is_screen}
 use Rattle.setl_debug_machine.proofs.Slots.{same_held, same_shown}
@@ -48,7 +48,7 @@ state_same modes end.Stuck = refl
 abbrev pub all_lines : CodeCore → List ℕ
 all_lines k = held_lines (variables k).global k ++ held_lines (variables k).own k
 
-module _ (laws : Laws) (s : Subject) (ready : IsReady s) (turns : ℕ) (f : Finished) (is : EndsIn s.declarations s.input.items turns f) where
+module _ (laws : Laws) (s : Subject) (ready : IsReady s) (turns : ℕ) (ending : Ending) (k : CodeCore) (is : EndsIn s.declarations s.input.items turns ending k) where
   abbrev program : Program
   program = plain_program s.program.now
 
@@ -56,7 +56,7 @@ module _ (laws : Laws) (s : Subject) (ready : IsReady s) (turns : ℕ) (f : Fini
   modes = modes_of s.declarations
 
   abbrev ended : run.End
-  ended = end_by modes f.end
+  ended = end_by modes ending.end
 
   of_program : plain_code s.declarations.code ≡ code_of program
   of_program = ap plain_code ready.table ∙ ready.code
@@ -70,39 +70,39 @@ module _ (laws : Laws) (s : Subject) (ready : IsReady s) (turns : ℕ) (f : Fini
   abbrev procedure : Option (List ℕ)
   procedure = procedure_in_hand core.work
 
-  pub nothing_taken : (x : Variable) → IsThere (held x f.machine.store.core)
-  nothing_taken x = subst IsThere (sym (same_held is.last.core f.machine.store.core is.same x)) (laws.there program is.last.core core meant.same x)
+  pub nothing_taken : (x : Variable) → IsThere (held x k)
+  nothing_taken x = subst IsThere (sym (same_held is.last.core k is.same x)) (laws.there program is.last.core core meant.same x)
 
   -- the body's number is that of the procedure in hand
-  number : IsBody (plain_code s.code.now) f.body procedure
+  number : IsBody (plain_code s.code.now) ending.body procedure
   number =
-      let there : IsBody (code_of program) f.body procedure = subst (λ n. IsBody (code_of program) n procedure) (sym is.body) (laws.body program is.last.core core meant.same) in
-      subst (λ c. IsBody c f.body procedure) (sym ready.code) there
+      let there : IsBody (code_of program) ending.body procedure = subst (λ n. IsBody (code_of program) n procedure) (sym is.body) (laws.body program is.last.core core meant.same) in
+      subst (λ c. IsBody c ending.body procedure) (sym ready.code) there
 
   names : variables is.last.core ≡ variables_in (code_of program) is.last.core.now.body
-  names = is.names ∙ ap (λ c. variables_in c f.body) of_program ∙ ap (variables_in (code_of program)) is.body
+  names = is.names ∙ ap (λ c. variables_in c ending.body) of_program ∙ ap (variables_in (code_of program)) is.body
 
   lines : IsShown program turns ended core (place_line turns procedure ended ++ all_lines is.last.core)
   lines = laws.shown program is.last.core core turns ended names meant.same
 
-  adds : (name before between after : List ℕ) (declared : Modes) → declared ≡ modes → ((p : Option (List ℕ)) → IsBody (plain_code s.code.now) f.body p → name ≡ place_name p) →
-      between ≡ before ++ place_text turns name (state_by declared f.end) → after ≡ between ++ all_lines f.machine.store.core → AddsPart (run_by s) turns (λ x. x.shown) before after
+  adds : (name before between after : List ℕ) (declared : Modes) → declared ≡ modes → ((p : Option (List ℕ)) → IsBody (plain_code s.code.now) ending.body p → name ≡ place_name p) →
+      between ≡ before ++ place_text turns name (state_by declared ending.end) → after ≡ between ++ all_lines k → AddsPart (run_by s) turns (λ x. x.shown) before after
   adds name before between after declared counted named place slots =
       let text = place_line turns procedure ended ++ all_lines is.last.core in
-      let held = all_lines f.machine.store.core in (
+      let held = all_lines k in (
         screen_with text is.last.out is.last.events,
         is_screen program s.input.items turns s.based is.last.out is.last.events ended is.last text meant lines,
         slots
             ∙ ap (λ x. x ++ held) place
-            ∙ append_assoc before (place_text turns name (state_by declared f.end)) held
-            ∙ ap (λ n. before ++ (place_text turns n (state_by declared f.end) ++ held)) (named procedure number)
-            ∙ ap (λ ms. before ++ (place_text turns (place_name procedure) (state_by ms f.end) ++ held)) counted
-            ∙ ap (λ x. before ++ (place_text turns (place_name procedure) x ++ held)) (state_same modes f.end)
-            ∙ ap (λ x. before ++ (place_line turns procedure ended ++ x)) (same_shown is.last.core f.machine.store.core is.same),
+            ∙ append_assoc before (place_text turns name (state_by declared ending.end)) held
+            ∙ ap (λ n. before ++ (place_text turns n (state_by declared ending.end) ++ held)) (named procedure number)
+            ∙ ap (λ ms. before ++ (place_text turns (place_name procedure) (state_by ms ending.end) ++ held)) counted
+            ∙ ap (λ x. before ++ (place_text turns (place_name procedure) x ++ held)) (state_same modes ending.end)
+            ∙ ap (λ x. before ++ (place_line turns procedure ended ++ x)) (same_shown is.last.core k is.same),
       )
 
   -- where the variables could be added
-  pub adds_all : {A E : Type 0} (r : Result A E) (name before between after : List ℕ) (declared : Modes) → declared ≡ modes → ((p : Option (List ℕ)) → IsBody (plain_code s.code.now) f.body p → name ≡ place_name p) →
-      between ≡ before ++ place_text turns name (state_by declared f.end) → OnOk r (after ≡ between ++ all_lines f.machine.store.core) → OnOk r (AddsPart (run_by s) turns (λ x. x.shown) before after)
+  pub adds_all : {A E : Type 0} (r : Result A E) (name before between after : List ℕ) (declared : Modes) → declared ≡ modes → ((p : Option (List ℕ)) → IsBody (plain_code s.code.now) ending.body p → name ≡ place_name p) →
+      between ≡ before ++ place_text turns name (state_by declared ending.end) → OnOk r (after ≡ between ++ all_lines k) → OnOk r (AddsPart (run_by s) turns (λ x. x.shown) before after)
   adds_all (Ok x) name before between after declared counted named place slots = adds name before between after declared counted named place slots
   adds_all (Err e) name before between after declared counted named place slots = tt

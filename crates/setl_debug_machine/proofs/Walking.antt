@@ -1,5 +1,5 @@
 -- Walks over the states of a run.
-use Rattle.std.proofs.Common.{◌≡◌, ◌∙◌, refl, sym, ap, subst, arith, ℕ, List, [], ◌∷◌, ◌++◌, length, map, take}
+use Rattle.std.proofs.Common.{◌≡◌, ◌∙◌, refl, sym, ap, subst, arith, ℕ, suc, List, [], ◌∷◌, ◌++◌, length, map, take}
 use Rattle.std.specs.Prelude.{◌-◌, ◌^◌}
 use Rattle.std.specs.Global.{Vec}
 use Rattle.setl_model_runs.specs.Run.{State, Goes}
@@ -15,7 +15,7 @@ use Rattle.setl_code.specs.Machine.{machine}
 use Rattle.setl_code.specs.Plain.{plain_code}
 use Rattle.setl_machine_control.specs.Declaring.{DeclarationTable, modes_of, tested}
 use Rattle.setl_debug_machine.specs.Screens.{after_all}
-use Rattle.setl_debug_machine.specs.code.Machines.{StandsAt, StepsTo, Writes}
+use Rattle.setl_debug_machine.specs.code.Machines.{code_run, StandsAt, StepsTo, Writes}
 use Rattle.setl_debug_machine.specs.code.Walks.{most_turns, NothingCounted, IsWalk, GoesOn}
 use Rattle.setl_debug_machine.specs.declared.machine.Machine.{Machine}
 use Rattle.setl_debug_machine.specs.declared.machine.Stepped.{Stepped}
@@ -27,12 +27,12 @@ use Rattle.setl_debug_machine.proofs.Reaching.{step_more}
 
 -- ---- at the first state
 
-pub walks_first : (d : DeclarationTable) (input : List ℕ) (line : ℕ) (m : Machine) (t : Tally) (ahead : Stepped) → NothingCounted line t → StepsTo d (code_first (plain_code d.code) input most_turns) m ahead → IsWalk d input (record { machine = m; tally = t; ahead = ahead })
+pub walks_first : (d : DeclarationTable) (input : List ℕ) (line : ℕ) (m : Machine) (t : Tally) (ahead : Stepped) → NothingCounted line t → StepsTo d (code_first (plain_code d.code) input most_turns) m ahead → IsWalk d input (record { machine = m; steps = 0; tally = t; ahead = ahead })
 walks_first d input line m t ahead none steps =
     let all_left : 0 ≡ most_turns - most_turns = omega arith in
     record {
       at = code_first (plain_code d.code) input most_turns;
-      reached = (0, refl);
+      reached = refl;
       counted = record {
         turns = none.turns ∙ all_left;
         written = ap (λ n. take n m.output) none.written;
@@ -70,12 +70,12 @@ pub record CountsMore (w : Walk) (events : List Event) (t : Tally) : Type 0 wher
   pub at_line : t.line ≡ w.tally.line
 
 pub walks_on : (d : DeclarationTable) (input : List ℕ) (w : Walk) (events : Vec Event) (m : Machine) (t : Tally) (ahead : Stepped) → IsWalk d input w → w.ahead ≡ Went events → CountsMore w events.items t → Writes w.machine.output m.output →
-    ((s : State CodeCore) → StandsAt d s w.machine → StepsTo d s m ahead) → IsWalk d input (record { machine = m; tally = t; ahead = ahead })
-walks_on d input w events m t ahead is went more writes steps =
+    ((s : State CodeCore) → StandsAt d s w.machine → StepsTo d s m ahead) → (next : ℕ) → next ≡ suc w.steps → IsWalk d input (record { machine = m; steps = next; tally = t; ahead = ahead })
+walks_on d input w events m t ahead is went more writes does next one_more =
     let x : StepsTo d is.at w.machine (Went events) = subst (StepsTo d is.at w.machine) went is.next in
     record {
       at = x.0;
-      reached = step_more (machine (plain_code d.code)) (tested (modes_of d)) is.reached.0 (code_first (plain_code d.code) input most_turns) is.at (Goes x.0) is.reached.1 x.1;
+      reached = subst (λ n. code_run d input most_turns n ≡ Goes x.0) (sym one_more) (step_more (machine (plain_code d.code)) (tested (modes_of d)) w.steps (code_first (plain_code d.code) input most_turns) is.at (Goes x.0) is.reached x.1);
       counted = record {
         turns = more.turns ∙ ap (λ (k : CodeCore). most_turns - k.world.left) (sym x.2.core);
         written = ap (λ n. take n m.output) more.written ∙ ap (take (length w.machine.output)) writes.1 ∙ take_all w.machine.output writes.0 ∙ sym x.2.out;
@@ -84,5 +84,5 @@ walks_on d input w events m t ahead is went more writes steps =
             told_more (hits w.tally.line 0) (hits w.tally.hits.line w.tally.hits.stores) (hits t.hits.line t.hits.stores) (map noticed is.at.events) (map notice_of events.items) (map noticed x.0.events) is.counted.stores more.stores x.3
             ∙ ap (λ n. after_all (hits n 0) (map noticed x.0.events)) (sym more.at_line);
       };
-      next = steps x.0 x.2;
+      next = does x.0 x.2;
     }

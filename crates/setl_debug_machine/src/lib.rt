@@ -4,7 +4,8 @@
 #![tactic(auto)]
 
 mod body;
-mod finishing;
+mod ending;
+mod follower;
 mod machine;
 mod parts;
 mod run;

@@ -12,9 +12,10 @@ ghost use Rattle.setl_debug_machine.specs.Runs.{run_of};
 ghost use Rattle.setl_debug_machine.specs.Screens.{PlainRun};
 
 use crate::Memory;
+use crate::follower::Follower;
 use crate::parts::{push_profile, push_written};
 use crate::seeing::walk_seeing;
-use crate::showing::push_state;
+use crate::showing::push_shown;
 use crate::subject::{Subject, counted};
 use crate::walk::{Place, Walk, place_of};
 use setl_code::Code;
@@ -27,12 +28,14 @@ use std::marker::Model;
 /// The run of a program on an input in memory, of which one state at a time is looked at.
 ///
 /// `go` goes on from the state at which the run stands, where it counts at the same line and is to have as many turns or
-/// more; else it starts anew. `show` does a run of its own with so many turns.
+/// more; else it starts anew. `show` goes on in the same way, with a machine of its own, from the last state that it showed.
 #[derive(Drop)]
 pub struct ProgramRun<'p> {
     subject: Subject<'p>,
     // it stands at the place, or memory was refused on the way elsewhere
     walk: Option<Walk<'p>>,
+    // at the state that was shown last
+    follower: Option<Follower<'p>>,
     place: Option<Place>,
 }
 
@@ -50,7 +53,7 @@ impl<'p> Model for ProgramRun<'p> {
 
     ghost view = { λ r. record { program = r.subject.program.now; input = r.subject.input.items; based = r.subject.based; stand = stand_of r.place } };
 
-    ghost invariant = { λ r. Stands r.subject r.walk r.place };
+    ghost invariant = { λ r. Stands r.subject r.walk r.follower r.place };
 }
 
 impl<'p> ProgramRun<'p> {
@@ -84,6 +87,7 @@ impl<'p> ProgramRun<'p> {
                 declarations,
             },
             walk: None,
+            follower: None,
             place: None,
         })
     }
@@ -115,12 +119,18 @@ impl<'p> Target for ProgramRun<'p> {
         }
     }
 
-    fn show(&self, into: &mut Vec<u8>) -> Result<(), Memory> {
+    fn show(&mut self, into: &mut Vec<u8>) -> Result<(), Memory> {
         let Some(place) = self.place else {
             unreachable!()
         };
         let mut shown = Vec::new(self.subject.alloc);
-        push_state(&self.subject, place.turns, &mut shown)?;
+        push_shown(
+            &self.subject,
+            &mut self.walk,
+            &mut self.follower,
+            place,
+            &mut shown,
+        )?;
         into.extend_from_slice(&shown)
     }
 

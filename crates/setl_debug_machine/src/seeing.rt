@@ -20,6 +20,7 @@ pub(crate) fn walk_seeing<'p>(
     requires walk { IfSome walk (IsWalk subject.now.declarations subject.now.input.items) }
     requires turns { turns < 2 ^ 63 }
     ensures walk { IfOk result (IsWalk subject.now.declarations subject.now.input.items) }
+    ensures there { IfOk result (IsAtTurns turns) }
     ensures sees { IfOk result (Sees (run_by subject.now) turns) }
     ensures line { IfOk result (λ w. w.tally.line ≡ line) }
 {

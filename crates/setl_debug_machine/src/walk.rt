@@ -15,7 +15,7 @@ use setl_watch::{Event, Hits, Profile, Watcher};
 use std::alloc::{AllocError, Global};
 
 /// The greatest number of turns.
-const MOST_TURNS: u64 = (1 << 63) - 1;
+pub(crate) const MOST_TURNS: u64 = (1 << 63) - 1;
 
 /// What was counted up to a state: its turns, the bytes written, the calls, and the stores at a line.
 #[derive(Drop)]
@@ -32,6 +32,8 @@ pub(crate) struct Tally {
 #[derive(Drop)]
 pub(crate) struct Walk<'p> {
     pub machine: Machine<'p>,
+    /// How many steps led to the state at which the walk stands.
+    pub steps: u64,
     /// What was counted up to the state at which the walk stands.
     pub tally: Tally,
     /// What the step ahead did.
@@ -90,6 +92,7 @@ fn walk_from_start<'p>(subject: &Subject<'p>, line: u32) -> Result<Walk<'p>, Mem
     let ahead = step(&mut machine, &subject.declarations)?;
     Ok(Walk {
         machine,
+        steps: 0,
         tally,
         ahead,
     })
@@ -117,7 +120,7 @@ fn is_before(walk: &Walk<'_>, turns: u64) -> bool
 }
 
 /// Goes on to the state ahead, and does the step behind it. The error is want of memory, and then nothing is known of the
-/// walk.
+/// walk; a state behind 2^64 - 1 steps is answered so, too.
 fn advance<'p>(walk: &mut Walk<'p>, subject: &Subject<'p>) -> Result<(), Memory>
     requires some { GoesOn walk.old.ahead }
     requires walk { IsWalk subject.now.declarations subject.now.input.items walk.old }
@@ -125,10 +128,14 @@ fn advance<'p>(walk: &mut Walk<'p>, subject: &Subject<'p>) -> Result<(), Memory>
     ensures turns { OnOk result (walk.new.tally.turns ≡ MOST_TURNS - walk.old.machine.control.turns) }
     ensures line { walk.new.tally.line ≡ walk.old.tally.line }
 {
+    if walk.steps == u64::MAX {
+        return Err(AllocError);
+    }
     match &walk.ahead {
         Stepped::Went(events) => count(&mut walk.tally, events)?,
         Stepped::Ended(_) => unreachable!(),
     }
+    walk.steps += 1;
     walk.tally.turns = turns_taken(&walk.machine);
     walk.tally.written = walk.machine.output.held().len();
     walk.ahead = step(&mut walk.machine, &subject.declarations)?;

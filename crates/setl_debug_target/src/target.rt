@@ -33,10 +33,12 @@ pub trait Target {
         ensures { Sees (shows (run self.now)) (stand self.now) (λ place s. result ≡ s.hits place.line) };
 
     /// Adds where the program is and what its variables hold. The error is want of memory, and then `into` is as before.
-    fn show(&self, into: &mut Vec<u8>) -> Result<(), Memory>
-        requires { IsSome (stand self.now) }
-        ensures ok { OnOk result (Sees (shows (run self.now)) (stand self.now) (λ _ s. into.new.items ≡ into.old.items ++ s.shown)) }
-        ensures err { OnErr result (into.new.items ≡ into.old.items) };
+    fn show(&mut self, into: &mut Vec<u8>) -> Result<(), Memory>
+        requires { IsSome (stand self.old) }
+        ensures ok { OnOk result (Sees (shows (run self.old)) (stand self.old) (λ _ s. into.new.items ≡ into.old.items ++ s.shown)) }
+        ensures err { OnErr result (into.new.items ≡ into.old.items) }
+        ensures run { run self.new ≡ run self.old }
+        ensures stand { stand self.new ≡ stand self.old };
 
     /// Adds what the program has written. The error is want of memory, and then `into` is as before.
     fn output(&self, into: &mut Vec<u8>) -> Result<(), Memory>

@@ -1,12 +1,16 @@
 -- How a session ends, by the screens of the meaning.
-use Rattle.std.proofs.Common.{◌≡◌, ◌+◌, ◌⊎◌, inl, inr, ℕ, suc, List, [], ◌++◌, length, take, refl, sym, subst, arith}
+use Rattle.std.proofs.Common.{◌≡◌, ◌+◌, ◌⊎◌, inl, inr, ℕ, suc, List, [], ◌++◌, length, take, Result, Ok, Err, IfOk, OnErr, refl, sym, subst, arith}
 use Rattle.std.proofs.Math.Seq.{take-append-add, take-length}
 use Rattle.std.proofs.lemmas.List.{length-append}
 use Rattle.std.specs.Io.KnownBytes.{Appends}
 use Rattle.std.proofs.KnownBytes.{Appends-nil}
 use Rattle.setl_debug.specs.Sessions.{Follows}
-use Rattle.setl_debug.specs.Ends.{IsDone, IsCut, IsCutInside}
+use Rattle.std.specs.declared.alloc.AllocError.{AllocError}
+use Rattle.setl_debug.specs.Ends.{Ends, IsDone, IsCut, IsCutInside}
+use Rattle.setl_debug.specs.declared.sessions.Ended.{Ended}
+use Rattle.setl_debug.specs.declared.sessions.Ended.TheVariants as ended
 use Rattle.setl_debug_machine.specs.Growing.{HasScreen}
+use Rattle.setl_debug_machine.specs.Runs.{RunState, run_of}
 use Rattle.setl_debug_machine.specs.Screens.{PlainRun, IsScreen}
 use Rattle.setl_debug_script.specs.declared.command.Command.{Command}
 use Rattle.setl_debug_target.specs.Screens.{Screen}
@@ -27,7 +31,7 @@ module _ (s : Session) (r : PlainRun) (same : r ≡ run_in s) where
   told_so cs told next f = record { next = next; follows = subst (λ q. Follows (IsScreen q) cs 0 told next) same (follows_so r cs 0 told next f) }
 
   module _ (out out' err err' : Seen (List ℕ)) where
-    pub done_so : IsDone shows s.script out.held out'.held → CountStays out out' → err' ≡ err → FollowsScript s out out' err err' status.Done
+    done_so : IsDone shows s.script out.held out'.held → CountStays out out' → err' ≡ err → FollowsScript s out out' err err' status.Done
     done_so d count still = followed d.told (told_so s.script d.told d.next d.follows) d.gained count still
 
     -- some of what a command tells, behind what those before it tell
@@ -37,10 +41,10 @@ module _ (s : Session) (r : PlainRun) (same : r ≡ run_in s) where
     cut_told : (c : IsCutInside shows s.script out.held out'.held) → IsTold s (take (suc c.n) s.script) (c.told ++ c.more)
     cut_told c = told_so (take (suc c.n) s.script) (c.told ++ c.more) c.next (follows_more shows s.script c.n c.c 0 c.told c.k c.more c.next c.there c.follows c.does)
 
-    pub unwritten_so : IsCutInside shows s.script out.held out'.held → CountRose out out' → AppendsFront err.held err'.held (fault_line fault.Write) → FollowsScript s out out' err err' status.WriteFault
+    unwritten_so : IsCutInside shows s.script out.held out'.held → CountRose out out' → AppendsFront err.held err'.held (fault_line fault.Write) → FollowsScript s out out' err err' status.WriteFault
     unwritten_so c rose h = unwritten (suc c.n) (c.told ++ c.more) (length c.told + c.m) (cut_told c) (omega (arith, c.part, length-append c.told c.more)) (part_of c.told c.more c.m c.gained) rose h
 
-    pub starved_so : IsCut shows s.script out.held out'.held ⊎ IsCutInside shows s.script out.held out'.held → CountStays out out' → AppendsFront err.held err'.held (fault_line fault.NoMemory) → FollowsScript s out out' err err' status.NoMemory
+    starved_so : IsCut shows s.script out.held out'.held ⊎ IsCutInside shows s.script out.held out'.held → CountStays out out' → AppendsFront err.held err'.held (fault_line fault.NoMemory) → FollowsScript s out out' err err' status.NoMemory
     starved_so (inl c) count h =
         let d = c.done in
         starved c.n d.told (length d.told) (told_so (take c.n s.script) d.told d.next d.follows) (omega arith) (subst (λ l. Appends out.held out'.held l) (sym (take-length d.told)) d.gained) count h
@@ -48,5 +52,30 @@ module _ (s : Session) (r : PlainRun) (same : r ≡ run_in s) where
         starved (suc c.n) (c.told ++ c.more) (length c.told + c.m) (cut_told c) (omega (arith, c.part, length-append c.told c.more)) (part_of c.told c.more c.m c.gained) count h
 
 -- no run was made
-pub starved_before : (s : Session) (out err err' : Seen (List ℕ)) → AppendsFront err.held err'.held (fault_line fault.NoMemory) → FollowsScript s out out err err' status.NoMemory
+starved_before : (s : Session) (out err err' : Seen (List ℕ)) → AppendsFront err.held err'.held (fault_line fault.NoMemory) → FollowsScript s out out err err' status.NoMemory
 starved_before s out err err' h = starved 0 [] 0 (record { next = 0; follows = (refl, refl) }) (omega arith) (Appends-nil out.held) refl h
+
+-- ---- by the run, where one was made
+
+module _ (s : Session) (out out' err err' : Seen (List ℕ)) where
+  abbrev Made : Result RunState AllocError → Type 0
+  Made r = IfOk r (λ x. run_of x ≡ run_in s)
+
+  -- so the session ended
+  abbrev EndsSo : Result RunState AllocError → Ended → Type 0
+  EndsSo r e = IfOk r (λ x. Ends (HasScreen (run_of x)) s.script out.held out'.held out.faults out'.faults e)
+
+  abbrev EndsWithout : Result RunState AllocError → Ended → Type 0
+  EndsWithout r e = OnErr r ((e ≡ ended.NoMemory) × (out' ≡ out))
+
+  pub done_by : (r : Result RunState AllocError) → Made r → EndsSo r ended.Done → EndsWithout r ended.Done → err' ≡ err → FollowsScript s out out' err err' status.Done
+  done_by (Ok x) made e none still = done_so s (run_of x) made out out' err err' e.0 e.1 still
+  done_by (Err x) made e none still = let other : ended.Done ≡ ended.NoMemory = none.0 in absurd (cc)
+
+  pub unwritten_by : (r : Result RunState AllocError) → Made r → EndsSo r ended.WriteFault → EndsWithout r ended.WriteFault → AppendsFront err.held err'.held (fault_line fault.Write) → FollowsScript s out out' err err' status.WriteFault
+  unwritten_by (Ok x) made e none h = unwritten_so s (run_of x) made out out' err err' e.0 e.1 h
+  unwritten_by (Err x) made e none h = let other : ended.WriteFault ≡ ended.NoMemory = none.0 in absurd (cc)
+
+  pub starved_by : (r : Result RunState AllocError) → Made r → EndsSo r ended.NoMemory → EndsWithout r ended.NoMemory → AppendsFront err.held err'.held (fault_line fault.NoMemory) → FollowsScript s out out' err err' status.NoMemory
+  starved_by (Ok x) made e none h = starved_so s (run_of x) made out out' err err' e.0 e.1 h
+  starved_by (Err x) made e none h = subst (λ o. FollowsScript s out o err err' status.NoMemory) (sym none.1) (starved_before s out err err' h)

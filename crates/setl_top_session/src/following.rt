@@ -1,8 +1,10 @@
 //! A script that is followed over the states of a program's run.
-ghost use Rattle.std.specs.Prelude.{◌≡◌, IfOk};
+ghost use Rattle.std.specs.Prelude.{◌≡◌, IfOk, OnErr};
 ghost use Rattle.setl_code.specs.CodeOf.{code_of};
 ghost use Rattle.setl_code.specs.MayRun.{MayRun};
 ghost use Rattle.setl_code.specs.Plain.{plain_code};
+ghost use Rattle.setl_debug.specs.Ends.{Ends};
+ghost use Rattle.setl_debug.specs.declared.sessions.Ended.TheVariants as ended;
 ghost use Rattle.setl_debug_machine.specs.Runs.{run_of};
 ghost use Rattle.setl_machine_control.specs.Declaring.{AreOfMain, IsBare};
 ghost use Rattle.setl_program.specs.Formed.{Formed};
@@ -15,6 +17,7 @@ use setl_code::Code;
 use setl_debug::{Ended, session};
 use setl_debug_machine::ProgramRun;
 use setl_debug_script::Script;
+use setl_debug_target::Target;
 use setl_io::Sink;
 use setl_program::Program;
 use setl_top_status::{Fault, Status, break_off};
@@ -41,6 +44,23 @@ fn run_on_script<'p>(
     ProgramRun::new(alloc, program, code, input, based, bases)
 }
 
+/// Follows a script over the states of a run, as `session` does, and lets the run go. Where memory for the run was refused,
+/// nothing is added.
+fn follow_run<T: Target + Drop, O: Sink>(
+    alloc: Global,
+    script: &Script,
+    run: Result<T, AllocError>,
+    out: &mut O,
+) -> Ended
+    ensures ends { IfOk run (λ r. Ends (T.shows (T.run r)) script.now (O.held out.old) (O.held out.new) (O.faults out.old) (O.faults out.new) result) }
+    ensures none { OnErr run ((result ≡ ended.NoMemory) × (seen O.held O.faults out.new ≡ seen O.held O.faults out.old)) }
+{
+    let Ok(mut run) = run else {
+        return Ended::NoMemory;
+    };
+    session(alloc, script, &mut run, out)
+}
+
 /// Follows a script over the states of the run of a program, whose code this is, where its declarations count or not; they
 /// name so many bases. What the script tells is added to the output: all of it at `Done`, and otherwise the fault's line was
 /// tried.
@@ -61,10 +81,8 @@ pub fn follow<O: Sink, E: Sink>(
     requires code { plain_code code.now ≡ code_of (plain_program program.now) }
     ensures { FollowsScript (record { program = plain_program program.now; based = based; script = script.now }) (seen O.held O.faults out.old) (seen O.held O.faults out.new) (seen E.held E.faults err.old) (seen E.held E.faults err.new) result }
 {
-    let Ok(mut run) = run_on_script(alloc, program, code, based, bases, script) else {
-        return break_off(err, Fault::NoMemory);
-    };
-    match session(alloc, script, &mut run, out) {
+    let run = run_on_script(alloc, program, code, based, bases, script);
+    match follow_run(alloc, script, run, out) {
         Ended::Done => Status::Done,
         Ended::WriteFault => break_off(err, Fault::Write),
         Ended::NoMemory => break_off(err, Fault::NoMemory),

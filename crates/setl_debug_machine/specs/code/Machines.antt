@@ -22,7 +22,7 @@ use Rattle.setl_machine_control.specs.declared.end.End.TheVariants as end
 use Rattle.setl_debug_machine.specs.declared.machine.Machine.{Machine}
 use Rattle.setl_debug_machine.specs.declared.machine.Stepped.{Stepped}
 use Rattle.setl_debug_machine.specs.declared.machine.Stepped.TheVariants.{Went, Ended}
-use Rattle.setl_debug_machine.specs.declared.finishing.Finished.{Finished}
+use Rattle.setl_debug_machine.specs.declared.follower.Ending.{Ending}
 
 -- ---- states of the run
 
@@ -33,10 +33,6 @@ next_of d s = step (machine (plain_code d.code)) (tested (modes_of d)) s
 -- so many steps from the first state, with so many turns
 abbrev pub code_run : DeclarationTable → List ℕ → (turns steps : ℕ) → Next CodeCore
 code_run d input turns steps = runs.run (machine (plain_code d.code)) (tested (modes_of d)) steps (code_first (plain_code d.code) input turns)
-
--- the run comes to this state
-abbrev pub Reaches : DeclarationTable → List ℕ → (turns : ℕ) → State CodeCore → Type 0
-Reaches d input turns s = (n : ℕ) × (code_run d input turns n ≡ Goes s)
 
 -- ---- the machine
 
@@ -56,10 +52,10 @@ pub record StandsAt (d : DeclarationTable) (s : State CodeCore) (m : Machine) : 
   pub core : s.core ≡ core_of m
   pub out : s.out ≡ m.output
 
--- it stands at a state that the run reaches
-pub record StandsOn (d : DeclarationTable) (input : List ℕ) (turns : ℕ) (m : Machine) : Type 0 where
+-- it stands at the state of the run after so many steps
+pub record StandsAfter (d : DeclarationTable) (input : List ℕ) (turns steps : ℕ) (m : Machine) : Type 0 where
   pub at : State CodeCore
-  pub reached : Reaches d input turns at
+  pub reached : code_run d input turns steps ≡ Goes at
   pub stands : StandsAt d at m
 
 -- how the run ended by an answer of the machine
@@ -91,11 +87,12 @@ StepsTo d s m (Ended e) = (u : State CodeCore) × (next_of d s ≡ Ends (end_by 
 abbrev pub Writes : (old new : List ℕ) → Type 0
 Writes old new = (more : List ℕ) × (new ≡ old ++ more)
 
--- The run of the code ends so in a state whose slots the machine has, and these stand for the variables of this body.
-pub record EndsIn (d : DeclarationTable) (input : List ℕ) (turns : ℕ) (f : Finished) : Type 0 where
+-- The run of the code with so many turns ends so in a state whose slots this core has, and these stand for the variables of
+-- this body.
+pub record EndsIn (d : DeclarationTable) (input : List ℕ) (turns : ℕ) (ending : Ending) (k : CodeCore) : Type 0 where
   pub steps : ℕ
   pub last : State CodeCore
-  pub ends : code_run d input turns steps ≡ Ends (end_by (modes_of d) f.end) last
-  pub same : HasSameSlots last.core f.machine.store.core
-  pub body : f.body ≡ last.core.now.body
-  pub names : variables last.core ≡ variables_in (plain_code d.code) f.body
+  pub ends : code_run d input turns steps ≡ Ends (end_by (modes_of d) ending.end) last
+  pub same : HasSameSlots last.core k
+  pub body : ending.body ≡ last.core.now.body
+  pub names : variables last.core ≡ variables_in (plain_code d.code) ending.body

@@ -1,6 +1,6 @@
 -- A walk over the states of the run of a code with the most turns.
 use Rattle.std.specs.Prelude.{◌≡◌, ℕ, ◌-◌, ◌^◌, ◌≤◌, ◌<◌, List, [], ◌++◌, map, min, take, Option, Some, None, IfSome, if◌then◌else◌}
-use Rattle.setl_model_runs.specs.Run.{State}
+use Rattle.setl_model_runs.specs.Run.{State, Goes}
 use Rattle.setl_model_turns.specs.Laws.{TurnsOnlyCut}
 use Rattle.setl_program.specs.Formed.{Formed}
 use Rattle.setl_program.specs.code.Plain.{plain_program}
@@ -14,7 +14,12 @@ use Rattle.setl_code.specs.MayRun.{MayRun}
 use Rattle.setl_code.specs.Plain.{plain_code}
 use Rattle.setl_machine_control.specs.Declaring.{DeclarationTable, modes_of, AreOfMain, IsBare}
 use Rattle.setl_debug_machine.specs.Screens.{PlainRun, IsScreen, after_all}
-use Rattle.setl_debug_machine.specs.code.Machines.{Reaches, StepsTo}
+use Rattle.setl_debug_machine.specs.code.Machines.{code_run, EndsIn, StandsAfter, StepsTo}
+use Rattle.setl_debug_machine.specs.declared.ending.Last.{Last}
+use Rattle.setl_debug_machine.specs.declared.follower.Follower.{Follower}
+use Rattle.setl_debug_machine.specs.declared.follower.Standing.{Standing}
+use Rattle.setl_debug_machine.specs.declared.follower.Standing.TheVariants.{After, AtEnd}
+use Rattle.setl_debug_machine.specs.declared.machine.Machine.{Machine}
 use Rattle.setl_debug_machine.specs.declared.machine.Stepped.{Stepped}
 use Rattle.setl_debug_machine.specs.declared.machine.Stepped.TheVariants.{Went, Ended}
 use Rattle.setl_debug_machine.specs.declared.walk.Place.{Place}
@@ -63,7 +68,7 @@ pub record NothingCounted (line : ℕ) (t : Tally) : Type 0 where
 -- It stands at a state of the run, up to which was counted, and its machine is a step ahead.
 pub record IsWalk (d : DeclarationTable) (input : List ℕ) (w : Walk) : Type 0 where
   pub at : State CodeCore
-  pub reached : Reaches d input most_turns at
+  pub reached : code_run d input most_turns w.steps ≡ Goes at
   pub counted : IsCounted at w.machine.output w.tally
   pub next : StepsTo d at w.machine w.ahead
 
@@ -71,6 +76,11 @@ pub record IsWalk (d : DeclarationTable) (input : List ℕ) (w : Walk) : Type 0 
 abbrev pub GoesOn : Stepped → Type 0
 GoesOn (Went events) = Unit {0}
 GoesOn (Ended e) = ⊥
+
+-- it ends the run
+abbrev pub EndsAhead : Stepped → Type 0
+EndsAhead (Went events) = ⊥
+EndsAhead (Ended e) = Unit {0}
 
 -- the step ahead, which leaves so many turns, goes beyond this number of turns, or it ends the run
 abbrev pub GoesBeyond : (turns left : ℕ) → Stepped → Type 0
@@ -89,6 +99,31 @@ written_by w = take w.tally.written w.machine.output
 -- how many stores were counted, up to 2^64 - 1
 abbrev pub stores_by : Walk → ℕ
 stores_by w = min (counted_by (hits w.tally.hits.line w.tally.hits.stores)) (2 ^ 64 - 1)
+
+-- ---- followers
+
+-- the run with the most turns goes on for so many steps
+abbrev pub GoesSoFar : DeclarationTable → List ℕ → (steps : ℕ) → Type 0
+GoesSoFar d input steps = (at : State CodeCore) × (code_run d input most_turns steps ≡ Goes at)
+
+-- a machine stands so: at a state of the run with the most turns, or it has the slots of the last state of the run
+-- with so many
+abbrev pub StandsSo : DeclarationTable → List ℕ → Machine → Standing → Type 0
+StandsSo d input m (After steps) = StandsAfter d input most_turns steps m
+StandsSo d input m (AtEnd turns ending) = EndsIn d input turns ending m.store.core
+
+abbrev pub IsFollower : DeclarationTable → List ℕ → Follower → Type 0
+IsFollower d input f = StandsSo d input f.machine f.standing
+
+-- at the state after so many steps, or before it
+abbrev pub IsStandingBefore : (steps : ℕ) → Standing → Type 0
+IsStandingBefore steps (After n) = n ≤ steps
+IsStandingBefore steps (AtEnd turns ending) = ⊥
+
+-- a follower that has the slots of the last state of the run with so many turns, which ends so
+pub record IsLast (d : DeclarationTable) (input : List ℕ) (turns : ℕ) (l : Last) : Type 0 where
+  pub follower : IsFollower d input l.follower
+  pub ends : EndsIn d input turns l.ending l.follower.machine.store.core
 
 -- ---- where a run stands
 
@@ -117,12 +152,13 @@ abbrev pub stand_of : Option Place → Option Stand
 stand_of None = None
 stand_of (Some p) = Some (record { turns = p.turns; line = p.line })
 
--- What is looked at is ready, its walk is one over its run, and where the run stands so many stores were counted; and a
--- bound on turns only cuts a run.
-pub record Stands (s : Subject) (walk : Option Walk) (place : Option Place) : Type 0 where
+-- What is looked at is ready, its walk and its follower are over its run, and where the run stands so many stores were
+-- counted; and a bound on turns only cuts a run.
+pub record Stands (s : Subject) (walk : Option Walk) (follower : Option Follower) (place : Option Place) : Type 0 where
   pub ready : IsReady s
   pub cut : TurnsOnlyCut
   pub walks : IfSome walk (IsWalk s.declarations s.input.items)
+  pub follows : IfSome follower (IsFollower s.declarations s.input.items)
   pub few : IfSome place (λ p. p.turns < 2 ^ 63)
   pub counted : IfSome place (HasHits (run_by s))
   pub there : IfSome place (StandsThere (run_by s) walk)

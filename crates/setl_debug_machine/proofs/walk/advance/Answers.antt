@@ -1,4 +1,4 @@
-use Rattle.std.proofs.Common.{◌∙◌, ap, length, map}
+use Rattle.std.proofs.Common.{◌∙◌, ◌+◌, ap, length, map, arith}
 use Rattle.setl_watch.specs.HitCounts.{hits}
 use Rattle.setl_watch.specs.Profiles.{profile}
 use Rattle.setl_watch.specs.code.NoticeOf.{notice_of}
@@ -23,3 +23,4 @@ returns-clause-walk c =
     })
     c.in_ok-walk.ensures.writes
     c.in_ok-walk.ensures.steps
+    (w.steps + 1) (omega arith)

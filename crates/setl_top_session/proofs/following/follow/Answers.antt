@@ -1,24 +1,16 @@
 use Rattle.std.proofs.Common.{refl}
-use Rattle.setl_debug_machine.specs.Runs.{run_of}
-use Rattle.setl_top_session.proofs.Followed.{done_so, unwritten_so, starved_so, starved_before}
+use Rattle.setl_top_session.proofs.Followed.{done_by, unwritten_by, starved_by}
 use Rattle.setl_top_session.proofs.following.follow.Goals as goal
 
-pub returns-in_default : goal.returns-in_default
-returns-in_default g c = rw c.break_off.ensures.tried.0 (starved_before _ _ _ _ c.break_off.ensures.tried.1)
-
 pub returns-in-Done : goal.returns-in-Done
-returns-in-Done g c =
-    let e = c.in-Done.ensures.ends in
-    done_so _ (run_of c.in-Ok.run') c.in-Ok.ensures _ _ _ _ e.0 e.1 refl
+returns-in-Done g c = done_by _ _ _ _ _ c.run_on_script-run.result c.run_on_script-run.ensures c.in-Done.ensures.ends c.in-Done.ensures.none refl
 
 pub returns-in-WriteFault : goal.returns-in-WriteFault
 returns-in-WriteFault g c =
-    let e = c.in-WriteFault.ensures.ends in
-    let tried = c.break_off-in-WriteFault.ensures.tried in
-    rw tried.0 (unwritten_so _ (run_of c.in-Ok.run') c.in-Ok.ensures _ _ _ _ e.0 e.1 tried.1)
+    let tried = c.break_off.ensures.tried in
+    rw tried.0 (unwritten_by _ _ _ _ _ c.run_on_script-run.result c.run_on_script-run.ensures c.in-WriteFault.ensures.ends c.in-WriteFault.ensures.none tried.1)
 
-pub returns : goal.returns
-returns g c =
-    let e = c.in-NoMemory.ensures.ends in
+pub returns-in-NoMemory : goal.returns-in-NoMemory
+returns-in-NoMemory g c =
     let tried = c.break_off-in-NoMemory.ensures.tried in
-    rw tried.0 (starved_so _ (run_of c.in-Ok.run') c.in-Ok.ensures _ _ _ _ e.0 e.1 tried.1)
+    rw tried.0 (starved_by _ _ _ _ _ c.run_on_script-run.result c.run_on_script-run.ensures c.in-NoMemory.ensures.ends c.in-NoMemory.ensures.none tried.1)

@@ -10,7 +10,7 @@ returns-clause-ok c =
     let r = c.args.self.now in
     let p = c.in-Some.place in
     let none = c.new-shown.result.items in
-    let text = c.push_state.new.into.items in
+    let text = c.push_shown.new.into.items in
     let before = c.args.into.now.items in
     let after = c.extend_from_slice.new.self.items in
     let there : r.stand ≡ Some (record { turns = p.turns; line = p.line }) = cc (ap (λ (v : RunState). v.stand) c.self.view_is, ap stand_of c.in-Some.is) in
@@ -18,4 +18,4 @@ returns-clause-ok c =
     let more : OnOk c.extend_from_slice.result (after ≡ before ++ text) = search rules in
     adds_there c.extend_from_slice.result (run_of r) p.turns p.line r.stand (λ (s : Screen). s.shown) before after c.self.invariant.cut there
     (adds_apart c.extend_from_slice.result (run_of r) p.turns (λ (s : Screen). s.shown) none text before after c.new-shown.ensures.items
-    (subst (λ x. AddsPart x p.turns (λ (s : Screen). s.shown) none text) same c.in_ok-push_state.ensures) more)
+    (subst (λ x. AddsPart x p.turns (λ (s : Screen). s.shown) none text) same c.in_ok-push_shown.ensures.shown) more)
